@@ -1,14 +1,15 @@
 -- Numbers behind accesses, while lists of expressions and commands are walked over.
-use Rattle.std.proofs.Common.{◌≡◌, ℕ, suc, ◌+◌, ◌-◌, ◌^◌, ◌<◌, ◌≤◌, min, List, length, get_or, drop, map, inl, inr, refl, ap, sym, subst, ◌∙◌, arith}
+use Rattle.std.proofs.Common.{◌≡◌, ℕ, suc, [], ◌+◌, ◌-◌, ◌^◌, ◌<◌, ◌≤◌, min, List, length, get_or, drop, map, inl, inr, refl, ap, sym, subst, ◌∙◌, arith}
 use Rattle.std.specs.Prelude.{Vec}
 use Rattle.std.specs.Global.{Global}
 use Rattle.std.proofs.lemmas.Bool.{cases_lt}
 use Rattle.std.proofs.Math.Nat.{add_assoc, add-zero, min-eq_left, min-eq_right, min-le_right}
 use Rattle.dh_base.proofs.ListItems.{at_item}
-use Rattle.dh_meaning.specs.AccessNumbers.{term_accesses, terms_accesses, accesses_of, part_accesses, groups_accesses}
+use Rattle.dh_meaning.specs.AccessNumbers.{term_accesses, terms_accesses, plan_accesses, accesses_of, part_accesses, groups_accesses}
 use Rattle.dh_tree.specs.declared.trees.commands.Command.{Command}
 use Rattle.dh_tree.specs.declared.trees.expressions.Expr.{Expr}
-use Rattle.dh_tree.specs.Seen.{term_seen, all_terms_seen, action_seen, actions, all_parts_seen}
+use Rattle.dh_tree.specs.PlainTrees.{suffixes}
+use Rattle.dh_tree.specs.Seen.{term_seen, all_terms_seen, factor_seen, action_seen, actions, all_parts_seen}
 use Rattle.dh_accesses.specs.Counted.{behind}
 
 -- sums up to a greatest number
@@ -62,6 +63,15 @@ pub next_term : (now next first all : ℕ) (es : List Expr) (i : ℕ) (e : Expr)
 next_term now next first all es i e within is told l =
     left_turn now next (term_accesses (term_seen e)) (terms_accesses (all_terms_seen (drop (i + 1) es))) first all (terms_accesses (all_terms_seen (drop i es))) told
     (ap (λ xs. terms_accesses (all_terms_seen xs)) (at_item es i e within is)) l
+
+-- those of the offsets of a suffix
+abbrev pub suffixes_left : List (ℕ × Expr) → ℕ
+suffixes_left by = plan_accesses (suffixes (map factor_seen by) [])
+
+pub next_pair : (now next first all : ℕ) (by : List (ℕ × Expr)) (i : ℕ) (p : ℕ × Expr) → i < length by → p ≡ get_or by i p → next ≡ behind now (term_accesses (term_seen p.1))
+    → Left now (suffixes_left (drop i by)) first all → Left next (suffixes_left (drop (i + 1) by)) first all
+next_pair now next first all by i p within is told l =
+    left_turn now next (term_accesses (term_seen p.1)) (suffixes_left (drop (i + 1) by)) first all (suffixes_left (drop i by)) told (ap suffixes_left (at_item by i p within is)) l
 
 -- what is left of a part, and of the parts behind it
 abbrev pub left_of : List Command → ℕ → List (Vec Command Global) → ℕ → ℕ

@@ -1,12 +1,13 @@
 //! How many accesses commands make: the number of the access behind theirs. A number stays below 2^32; a tree of a
 //! text has fewer accesses, since it has fewer tokens.
 
-ghost use Rattle.std.specs.Prelude.{◌≡◌, option_map};
-ghost use Rattle.dh_meaning.specs.AccessNumbers.{term_accesses, terms_accesses, maybe_accesses, accesses_of, other_accesses, groups_accesses};
-ghost use Rattle.dh_tree.specs.Seen.{term_seen, all_terms_seen, action_seen, maybe_block_seen, all_parts_seen};
+ghost use Rattle.std.specs.Prelude.{◌≡◌, [], map, option_map};
+ghost use Rattle.dh_meaning.specs.AccessNumbers.{term_accesses, terms_accesses, maybe_accesses, plan_accesses, accesses_of, other_accesses, groups_accesses};
+ghost use Rattle.dh_tree.specs.PlainTrees.{suffixes};
+ghost use Rattle.dh_tree.specs.Seen.{term_seen, all_terms_seen, factor_seen, plan_seen, action_seen, maybe_block_seen, all_parts_seen};
 ghost use Rattle.dh_accesses.specs.Counted.{behind};
 
-use dh_tree::{Command, CommandForm, Expr, ExprForm};
+use dh_tree::{Command, CommandForm, Expr, ExprForm, ViewForm};
 
 /// The number behind those of the accesses of an expression, which are numbered from `first` on.
 #[cycle(counting_terms)]
@@ -52,6 +53,29 @@ fn behind_value(first: u32, value: &Option<Expr>) -> u32
     }
 }
 
+/// Behind those of the offsets of a suffix.
+fn behind_suffixes(first: u32, by: &[(u64, Expr)]) -> u32
+    ensures { result ≡ behind first (plan_accesses (suffixes (map factor_seen by.now) [])) }
+{
+    let mut next = first;
+    for pair in by {
+        next = behind_term(next, &pair.1);
+    }
+    next
+}
+
+/// Behind those of the offsets of a view.
+fn behind_offsets(first: u32, form: &ViewForm) -> u32
+    ensures { result ≡ behind first (plan_accesses (plan_seen form.now)) }
+{
+    match form {
+        ViewForm::Shrink { .. } => first,
+        ViewForm::Split { .. } => first,
+        ViewForm::Suffix { by, .. } => behind_suffixes(first, by.as_slice()),
+        ViewForm::Shift { by } => behind_terms(first, by.as_slice()),
+    }
+}
+
 /// The number behind those of the accesses of a command and of the commands inside it.
 #[cycle(counting)]
 #[tactic(auto, using(dh_tree::proofs::SeenActions::actions_are))]
@@ -81,7 +105,7 @@ pub fn behind_command(first: u32, command: &Command) -> u32
         }
         CommandForm::Block { body } => behind_parts(first, body.as_slice()),
         CommandForm::LetMemory { .. } => first,
-        CommandForm::View { .. } => first,
+        CommandForm::View { form, .. } => behind_offsets(first, form),
         CommandForm::Call { .. } => first,
     }
 }

@@ -88,8 +88,8 @@ fn meet(alloc: Global, unrolled: bool, first: u32, command: &Command) -> Result<
         CommandForm::Assign { .. } => met_row(alloc, first, behind_command(first, command)),
         CommandForm::Store { .. } => met_row(alloc, first, behind_command(first, command)),
         CommandForm::Reduce { .. } => met_row(alloc, first, behind_command(first, command)),
+        CommandForm::View { .. } => met_row(alloc, first, behind_command(first, command)),
         CommandForm::LetMemory { .. } => met_row(alloc, first, first),
-        CommandForm::View { .. } => met_row(alloc, first, first),
         CommandForm::Call { .. } => met_row(alloc, first, first),
         CommandForm::If { test, then, other } => {
             let tests = met_row(alloc, first, behind_term(first, test))?;

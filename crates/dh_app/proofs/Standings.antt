@@ -1,7 +1,7 @@
 -- How the checked run of a program stands: no logical step counts as more than one, a run that does not go
 -- on stays as it is, and memories that fit a table go on to fit it, since a write leaves a value of its
 -- memory's kind.
-use Rattle.std.proofs.Common.{◌≡◌, ℕ, ◌^◌, ◌<◌, ◌≤◌, zero, suc, Bool, true, false, if◌then◌else◌, List, [], ◌∷◌, ◌++◌, map, slice_set, get_or, Option, Some, None, refl, ap, ◌∙◌, arith, inl, inr, unsigned_abs}
+use Rattle.std.proofs.Common.{◌≡◌, ℕ, ◌^◌, ◌<◌, ◌≤◌, zero, suc, Bool, true, false, if◌then◌else◌, List, [], ◌∷◌, ◌++◌, map, take, drop, slice_set, get_or, Option, Some, None, refl, ap, ◌∙◌, arith, inl, inr, ℤ, unsigned_abs}
 use Rattle.std.specs.List.{AllByRecursion}
 use Rattle.std.proofs.lemmas.Bool.{cases_lt}
 use Rattle.std.proofs.lemmas.List.{length-set}
@@ -14,9 +14,9 @@ use Rattle.dh_value.specs.Words.{width_of}
 use Rattle.dh_tree.specs.declared.tables.MemEntry.{MemEntry}
 use Rattle.dh_tree.specs.Elements.{Spot, spot_of, spot_in_bank, dims_at}
 use Rattle.dh_tree.specs.Tables.{Fits}
-use Rattle.dh_meaning.specs.Core.{Reach, CoreTerm, literal, truth_literal, variable, read, binary, convert, Target, by_indices, by_row, CoreTerms, no_terms, term_and, CoreCommand, store, assign, choose, CoreCommands, no_commands, command_and, CoreProgram}
+use Rattle.dh_meaning.specs.Core.{Reach, CoreTerm, literal, truth_literal, variable, read, binary, convert, Target, by_indices, by_views, by_row, CoreTerms, no_terms, term_and, CoreCommand, store, assign, keep, choose, CoreCommands, no_commands, command_and, CoreProgram}
 use Rattle.dh_meaning.specs.Effects as effects
-use Rattle.dh_meaning.specs.Effects.{Begun, Variables, Event, reads, writes, faults, kind_in, is_inside, is_row, value_of, values_of, spot_reached, term_events, target_events, terms_events, read_made, write_made, kept_bits, Effect, store_events, stored_at, assigned_at, tested_at, at_each, paths_where, holds_at, command_run, commands_run, Block, commands, tests, block_run, written}
+use Rattle.dh_meaning.specs.Effects.{Begun, Variables, Event, reads, writes, faults, kind_in, is_inside, is_row, indices_through, spot_if_inside, value_of, values_of, spot_reached, term_events, target_events, terms_events, read_made, write_made, kept_bits, Effect, store_events, stored_at, assigned_at, kept_at, tested_at, at_each, paths_where, holds_at, command_run, commands_run, Block, commands, tests, block_run, written}
 use Rattle.dh_meaning.specs.Paths.{Path}
 use Rattle.dh_meaning.specs.Runs.{Place, ended, at, place_run, RunState, begun_at, step_effect, state_after, step_from, next_state, run_state}
 
@@ -78,6 +78,12 @@ made_small : (table : List MemEntry) (r : Reach) (path : Path) (value : ℕ) (s 
 made_small table r path value s l true = (l, tt)
 made_small table r path value s l false = (tt, tt)
 
+led_small : (table : List MemEntry) (r : Reach) (path : Path) (value : ℕ) → value < 2 ^ width_of (kind_in table r.memory) → (led : Option (List ℤ))
+    → AreSmall table (write_made r path value (spot_if_inside table r.memory led) ∷ [])
+led_small table r path value l None = (tt, tt)
+led_small table r path value l (Some indices) =
+    made_small table r path value (spot_of table r.memory (map unsigned_abs indices)) l (is_inside (dims_at table r.memory) indices)
+
 module _ (b : Begun) where
   mutual
     term_small : (variables : Variables) (path : Path) (t : CoreTerm) → AreSmall b.table (term_events b variables path t)
@@ -92,6 +98,7 @@ module _ (b : Begun) where
 
     target_small : (variables : Variables) (path : Path) (target : Target) → AreSmall b.table (target_events b variables path target)
     target_small variables path (by_indices indices) = terms_small variables path indices
+    target_small variables path (by_views steps count indices) = terms_small variables path indices
     target_small variables path (by_row bank row) = term_small variables path row
 
     terms_small : (variables : Variables) (path : Path) (ts : CoreTerms) → AreSmall b.table (terms_events b variables path ts)
@@ -103,6 +110,8 @@ module _ (b : Begun) where
   write_small variables path r (by_indices indices) value l =
       made_small b.table r path value (spot_of b.table r.memory (map unsigned_abs (values_of b variables path indices))) l
       (is_inside (dims_at b.table r.memory) (values_of b variables path indices))
+  write_small variables path r (by_views steps count indices) value l =
+      led_small b.table r path value l (indices_through steps (take count (values_of b variables path indices)) (drop count (values_of b variables path indices)))
   write_small variables path r (by_row bank row) value l =
       made_small b.table r path value (spot_in_bank b.table r.memory bank (unsigned_abs (words.value_of (value_of b variables path row)))) l
       (is_row (dims_at b.table r.memory) (words.value_of (value_of b variables path row)))
@@ -128,6 +137,8 @@ module _ (b : Begun) where
     command_small paths (store r target value) e h = each_small (stored_at b r target value) (store_small r target value) paths e h
     command_small paths (assign depth entity value) e h =
         each_small (assigned_at b depth entity value) (λ path e k. joined b.table e.events _ k (term_small e.variables path value)) paths e h
+    command_small paths (keep depth first values) e h =
+        each_small (kept_at b depth first values) (λ path e k. joined b.table e.events _ k (terms_small e.variables path values)) paths e h
     command_small paths (choose test chosen other) e h =
         commands_small (paths_where false (holds_at b e.variables test) paths) other
         (commands_run b (paths_where true (holds_at b e.variables test) paths) chosen (at_each (tested_at b test) paths e))

@@ -5,6 +5,8 @@ use Rattle.std.proofs.lemmas.Bool.Decides.{nat_tests}
 use Rattle.std.specs.List.{AllByRecursion}
 use Rattle.dh_tree.specs.declared.trees.counters.Counter.{Counter}
 use Rattle.dh_tree.specs.PlainTrees.{Term, term, number, truth_value, named, accessed, in_bank, applied, converted, Terms, no_terms, term_then, Action, action, ActionForm, lets, lets_memory, views, assigns, stores, reduces, calls, blocks, decides, repeats, counts, MaybeAction, no_action, one_action, Actions, no_actions, action_then, Groups, no_groups, group_then, Program}
+use Rattle.dh_tree.specs.Seen.{terms}
+use Rattle.dh_tree.specs.ViewOffsets.{offsets_of}
 use Rattle.dh_meaning.specs.AccessNumbers.{accesses_of}
 use Rattle.dh_meaning.specs.Paths.{Path, outer_paths, copies_of, all_copies, paths_from}
 use Rattle.dh_meaning.specs.Sites.{Around, nothing_around, in_arm, in_loop, loop_of}
@@ -72,7 +74,7 @@ mutual
   form_has : (r : Around) → HaveCopies r.loops → (site : Site) → HaveCopies site.loops → (f : ActionForm) → AllHaveCopies (command_events r site f)
   form_has r h site have (lets name declared value) = both_have (maybe_events site value) _ (maybe_has site have value) tt
   form_has r h site have (lets_memory name shape shape_places value) = tt
-  form_has r h site have (views name parent form) = tt
+  form_has r h site have (views name parent form) = terms_have site have (terms (offsets_of form))
   form_has r h site have (assigns target value) = both_have (term_events site value) _ (term_has site have value) tt
   form_has r h site have (stores target value) = both_have (term_events site value) (write_events site target) (term_has site have value) (write_has site have target)
   form_has r h site have (reduces target o value) = both_have (term_events site value) _ (term_has site have value) tt

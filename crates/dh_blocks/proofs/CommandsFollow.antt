@@ -16,7 +16,7 @@ use Rattle.dh_tree.specs.Memories.{table_of}
 use Rattle.dh_tree.specs.Seen.{program_seen}
 use Rattle.dh_tree.specs.PlainTrees as plain
 use Rattle.dh_tree.specs.PlainTrees.{Term, term, Terms, Action, action, ActionForm, lets, lets_memory, views, assigns, stores, reduces, calls, blocks, decides, repeats, counts, MaybeAction, no_action, one_action, Actions, no_actions, action_then, Groups, no_groups, group_then}
-use Rattle.dh_meaning.specs.AccessNumbers.{accesses_of, groups_accesses, other_accesses, part_accesses, term_accesses, terms_accesses}
+use Rattle.dh_meaning.specs.AccessNumbers.{accesses_of, groups_accesses, other_accesses, part_accesses, plan_accesses, term_accesses, terms_accesses}
 use Rattle.dh_meaning.specs.Bindings.{kind_found}
 use Rattle.dh_meaning.specs.Core.{CoreTerm, CoreCommands, no_commands, command_and, variable}
 use Rattle.dh_meaning.specs.CoreOf.{core_action, core_groups, core_other, core_part, core_term, entity_number, kind_of, memory_of, operation_of, store_to}
@@ -35,6 +35,7 @@ use Rattle.dh_expressions.specs.Drafted.{Step}
 use Rattle.dh_expressions.specs.Evaluated.{IsSited, Reads, begun_of, known_in}
 use Rattle.dh_expressions.specs.Levels.{path_at, rank_number}
 use Rattle.dh_expressions.specs.Shown.{guard_of, held_shown}
+use Rattle.dh_commands.proofs.CoreRuns.{view_rest}
 use Rattle.dh_commands.specs.LanesRun.{IsArm, is_on_at, lane_of, lanes_run, path_in, paths_counted, paths_on, run_if}
 use Rattle.dh_commands.specs.ShownVariables.{ArePlaced, IsOwn, IsSeen, IsTarget, depth_in, factors_of, register_in, seen_path}
 use Rattle.dh_commands.specs.Followed.{Along, Arms, arms_of, arms_then, no_arms, Follows, FollowsAssigned, FollowsGroups, FollowsIndices, FollowsOther, FollowsPart, FollowsReduced, FollowsStored, FollowsTarget, FitGroups, FitOther, FitPart, FitArms, IsFollowed, IsFollowedBy, KeptWord, Sets, SetsOther, assign_run, effect_of, memory_aimed, part_effect, reduced_term, store_run, term_in, test_out, test_run, tested, value_at, view_of}
@@ -113,7 +114,7 @@ module _ (scene : Scene) (x : Step) (table : List MemEntry) (Name : Ref → Kind
         ∙ both _ _ _ _ (found_long one inside levels (λ entity. ⊥) (n + term_accesses t) chosen _ s.1.0 h.0) (other_long two behind levels (λ entity. ⊥) (n + term_accesses t + accesses_of chosen) other _ s.1.1 h.1))
     found_long around arms levels Folds n (action id place (blocks body)) e s h = groups_long around arms levels Folds n body e s h ∙ none_and (groups_accesses body)
     found_long around arms levels Folds n (action id place (lets_memory name shape shape_places value)) e s h = refl
-    found_long around arms levels Folds n (action id place (views name parent form)) e s h = refl
+    found_long around arms levels Folds n (action id place (views name parent form)) e s h = idle_long (plan_accesses form + 0)
     found_long around arms levels Folds n (action id place (calls function arguments)) e s h = refl
     found_long around arms levels Folds n (action id place (repeats test body)) e s h = idle_long (term_accesses test + accesses_of body)
     found_long around arms levels Folds n (action id place (counts iterator declared low high factor body combine combine_place)) e s h = idle_long (accesses_of body + other_accesses combine) ∙ none_and (accesses_of body + other_accesses combine)
@@ -221,7 +222,7 @@ module _ (scene : Scene) (levels : List Level) (table : List MemEntry) (Name : R
         ]
     may_assign Folds entity n (action id place (blocks body)) rest s h = groups_own Folds entity n body rest s h
     may_assign Folds entity n (action id place (lets_memory name shape shape_places value)) rest s h = inr h
-    may_assign Folds entity n (action id place (views name parent form)) rest s h = inr h
+    may_assign Folds entity n (action id place (views name parent form)) rest s h = inr (sym (ap (λ cs. any_assigns entity cs) (view_rest scene n name parent form rest)) ∙ h)
     may_assign Folds entity n (action id place (calls function arguments)) rest s h = inr h
     may_assign Folds entity n (action id place (repeats test body)) rest s h = inr h
     may_assign Folds entity n (action id place (counts iterator declared low high factor body combine combine_place)) rest s h = inr h

@@ -1,12 +1,15 @@
 -- The commands of a part in front of others are its own, and then those.
-use Rattle.std.proofs.Common.{◌≡◌, ℕ, ◌+◌, ◌||◌, Bool, true, false, List, refl, ap, sym, ◌∙◌}
+use Rattle.std.proofs.Common.{◌≡◌, ℕ, ◌+◌, ◌||◌, Bool, true, false, List, [], ◌∷◌, refl, ap, sym, ◌∙◌}
 use Rattle.dh_tree.specs.PlainTrees.{Action, action, lets, lets_memory, views, assigns, stores, reduces, calls, blocks, decides, repeats, counts, Actions, no_actions, action_then, Groups, no_groups, group_then}
+use Rattle.dh_tree.specs.Seen.{terms}
+use Rattle.dh_tree.specs.ViewOffsets.{offsets_of}
 use Rattle.dh_meaning.specs.AccessNumbers.{accesses_of, part_accesses}
-use Rattle.dh_meaning.specs.Core.{CoreCommands, no_commands, command_and}
-use Rattle.dh_meaning.specs.CoreOf.{Known, core_action, core_part, core_groups}
+use Rattle.dh_meaning.specs.Core.{CoreTerms, no_terms, term_and, CoreCommands, no_commands, command_and}
+use Rattle.dh_meaning.specs.CoreOf.{Known, core_action, core_part, core_groups, core_terms, kept_by, way_of}
 use Rattle.dh_meaning.specs.Effects.{Begun, Effect, command_run, commands_run}
 use Rattle.dh_meaning.specs.Levels.{any_assigns, assigns_to}
 use Rattle.dh_meaning.specs.Paths.{Path}
+use Rattle.dh_meaning.specs.Ways.{Hidden, hidden_in}
 
 abbrev pub joined : CoreCommands → CoreCommands → CoreCommands
 joined no_commands ds = ds
@@ -15,6 +18,11 @@ joined (command_and c cs) ds = command_and c (joined cs ds)
 joined_twice : (bs cs ds : CoreCommands) → joined (joined bs cs) ds ≡ joined bs (joined cs ds)
 joined_twice no_commands cs ds = refl
 joined_twice (command_and b bs) cs ds = ap (λ l. command_and b l) (joined_twice bs cs ds)
+
+kept_joined : (hidden : List Hidden) (ts : CoreTerms) (rest : CoreCommands) → kept_by hidden ts rest ≡ joined (kept_by hidden ts no_commands) rest
+kept_joined hidden no_terms rest = refl
+kept_joined [] (term_and t ts) rest = refl
+kept_joined (h ∷ hs) (term_and t ts) rest = refl
 
 mutual
   pub action_joined : (known : Known) (n : ℕ) (a : Action) (rest : CoreCommands) → core_action known n a rest ≡ joined (core_action known n a no_commands) rest
@@ -25,7 +33,7 @@ mutual
   action_joined known n (action id place (decides t chosen other)) rest = refl
   action_joined known n (action id place (blocks body)) rest = groups_joined known n body rest
   action_joined known n (action id place (lets_memory name shape shape_places value)) rest = refl
-  action_joined known n (action id place (views name parent form)) rest = refl
+  action_joined known n (action id place (views name parent form)) rest = kept_joined (hidden_in (way_of known name)) (core_terms known n (terms (offsets_of form))) rest
   action_joined known n (action id place (calls function arguments)) rest = refl
   action_joined known n (action id place (repeats test body)) rest = refl
   action_joined known n (action id place (counts iterator declared low high factor body combine combine_place)) rest = refl

@@ -12,15 +12,16 @@ use Rattle.dh_tree.specs.declared.trees.expressions.Ref.{Ref}
 use Rattle.dh_tree.specs.Numbers.{commands_in, commands_in_other, commands_in_part, IsNumbered, IsNumberedOther, AreNumbered, AreNumberedGroups}
 use Rattle.dh_tree.specs.PlainTrees as plain
 use Rattle.dh_tree.specs.PlainTrees.{Program, Term, term, Action, action, ActionForm, lets, lets_memory, views, assigns, stores, reduces, calls, blocks, decides, repeats, counts, MaybeAction, no_action, one_action, Actions, no_actions, action_then, Groups, no_groups, group_then}
-use Rattle.dh_tree.specs.Seen.{program_seen}
+use Rattle.dh_tree.specs.Seen.{program_seen, terms}
 use Rattle.dh_meaning.specs.AccessNumbers.{accesses_of, groups_accesses, other_accesses, part_accesses, term_accesses, terms_accesses}
 use Rattle.dh_meaning.specs.Core.{CoreTerm, CoreCommands, no_commands, command_and}
-use Rattle.dh_meaning.specs.CoreOf.{Known, core_action, core_groups, core_other, core_part, core_term, entity_number, store_to}
+use Rattle.dh_meaning.specs.CoreOf.{Known, core_action, core_groups, core_other, core_part, core_term, core_terms, entity_number, kept_by, store_to, way_of}
 use Rattle.dh_value.specs.Words as words
 use Rattle.dh_meaning.specs.Effects.{Begun, Effect, Variables, commands_run, value_of}
 use Rattle.dh_meaning.specs.Levels.{any_assigns}
 use Rattle.dh_meaning.specs.OnePhase.{form_makes, groups_make, in_one_phase, is_within, makes, other_makes, part_makes}
 use Rattle.dh_meaning.specs.Paths.{Path, copies_in, same_path}
+use Rattle.dh_meaning.specs.Ways.{hidden_in}
 use Rattle.dh_meaning.specs.Sites as sites
 use Rattle.dh_meaning.specs.Sites.{Arm, in_arm}
 use Rattle.dh_meets.specs.Sharing.{all_arms_of, same_arm, same_truth, shared}
@@ -142,7 +143,8 @@ module _ (known : Known) (m : ℕ) where
             ]))
     events_assign r n (action id place (blocks body)) rest names h = groups_assign r n body rest names h
     events_assign r n (action id place (lets_memory name shape shape_places value)) rest names h = inr h
-    events_assign r n (action id place (views name parent form)) rest names h = inr h
+    events_assign r n (action id place (views name parent form)) rest names h =
+        inr (subst (λ (l : List Term). any_assigns m (kept_by (hidden_in (way_of known name)) (core_terms known n (terms l)) rest) ≡ true) names.1 h)
     events_assign r n (action id place (calls function arguments)) rest names h = inr h
     events_assign r n (action id place (repeats test body)) rest names h = inr h
     events_assign r n (action id place (counts iterator declared low high factor body combine combine_place)) rest names h = inr h

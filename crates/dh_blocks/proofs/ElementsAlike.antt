@@ -12,8 +12,10 @@ use Rattle.dh_meets.specs.Sharing.{alike, alike_elements, alike_forms, all_alike
 use Rattle.dh_meets.specs.SourceEvents.{Element, with_indices, in_row, SourceEvent, accesses, assigned}
 use Rattle.dh_sound.specs.SameKeys.{EachName, EachNameIn, EachNameOf, IsSettled}
 use Rattle.dh_sound.specs.Straight.{AreNamedTerms, IsNamedTerm}
+use Rattle.dh_sound.specs.Unled.{IsUnled}
 use Rattle.dh_sound.proofs.SameKeys.{settled_spot}
 use Rattle.dh_sound.proofs.SourceValues.{IsNamedElement, entity_is, source_spot}
+use Rattle.dh_blocks.proofs.Unled.{still_unled}
 
 both_so : (a b : Bool) → (a && b) ≡ true → (a ≡ true) × (b ≡ true)
 both_so true b e = (refl, e)
@@ -32,7 +34,10 @@ module _ (b : Begun) (known : Known) where
     forms_alike l (number s m) (number t n) e = refl
     forms_alike l (truth_value a) (truth_value c) e = refl
     forms_alike l (named r) (named q) e = ap (λ o. entity_depends known.bindings l o) (entity_is b known r.entity q.entity e)
-    forms_alike l (accessed r ts) (accessed q us) e = terms_alike l ts us (both_so (same_entity r.entity q.entity) (all_alike ts us) e).1
+    forms_alike l (accessed r ts) (accessed q us) e =
+        let h = both_so (same_entity r.entity q.entity) (all_alike ts us) e in
+        ap (λ o. entity_depends known.bindings l o || terms_depend known.bindings l ts) (entity_is b known r.entity q.entity h.0)
+        ∙ ap (λ x. entity_depends known.bindings l q.entity || x) (terms_alike l ts us h.1)
     forms_alike l (in_bank r x at t) (in_bank q y other u) e =
         term_alike l t u (both_so (nat_eq x y) (alike t u) (both_so (same_entity r.entity q.entity) (nat_eq x y && alike t u) e).1).1
     forms_alike l (applied o a c) (applied p d f) e =
@@ -155,14 +160,14 @@ module _ (b : Begun) (known : Known) where
   clear_element Q es all (in_row x t) names h = clear_term Q es all t names (not_reassigned (in_row x t) es h)
 
   -- variables that agree as they are seen at a path
-  pub spot_seen : (v w : Variables) (p : Path) (of : Option ℕ) (e : Element) → ((entity d : ℕ) → v entity (take d p) ≡ w entity (take d p)) → source_spot b known v p of e ≡ source_spot b known w p of e
-  spot_seen v w p of e agree =
-      settled_spot b known v w p p of e (each_at (IsSettled known v w p p) (λ r same. agree (entity_number r.entity) (depth_of known r)) e) (λ l small is. refl)
+  pub spot_seen : IsUnled known → (v w : Variables) (p : Path) (of : Option ℕ) (e : Element) → ((entity d : ℕ) → v entity (take d p) ≡ w entity (take d p)) → source_spot b known v p of e ≡ source_spot b known w p of e
+  spot_seen unled v w p of e agree =
+      settled_spot b known v w p p (still_unled known b v w p p unled) of e (λ l small is. refl) (each_at (IsSettled known v w p p) (λ r same. agree (entity_number r.entity) (depth_of known r)) e) (λ l small is. refl)
 
   -- variables that agree where nothing is assigned among events
-  pub spot_kept : (v w : Variables) (p : Path) (of : Option ℕ) (e : Element) (es : List SourceEvent) → ((entity : ℕ) → IsFree entity es → (q : Path) → v entity q ≡ w entity q)
+  pub spot_kept : IsUnled known → (v w : Variables) (p : Path) (of : Option ℕ) (e : Element) (es : List SourceEvent) → ((entity : ℕ) → IsFree entity es → (q : Path) → v entity q ≡ w entity q)
       → IsNamedElement b known e → reassigned e es ≡ false → source_spot b known v p of e ≡ source_spot b known w p of e
-  spot_kept v w p of e es agree names h =
-      settled_spot b known v w p p of e
+  spot_kept unled v w p of e es agree names h =
+      settled_spot b known v w p p (still_unled known b v w p p unled) of e (λ l small is. refl)
       (clear_element (IsSettled known v w p p) es (λ r m is free same. subst (λ (n : ℕ). v n (take (depth_of known r) p) ≡ w n (take (depth_of known r) p)) (sym (ap entity_number is)) (agree m free (take (depth_of known r) p))) e names h)
       (λ l small is. refl)

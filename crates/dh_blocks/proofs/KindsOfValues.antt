@@ -121,7 +121,7 @@ module _ (b : Begun) (v : Variables) (path : Path) where
     value_kind n (term place k (truth_value t)) h = sym h
     value_kind n (term place k (named r)) h = refl
     value_kind n (term place k (accessed r ts)) h = sym h.1.1
-    value_kind n (term place k (in_bank r bank at row)) h = sym h.1.1.1
+    value_kind n (term place k (in_bank r bank at row)) h = sym h.1.1.1.0
     value_kind n (term place k (applied o left right)) h = (word_of_parts n (kind_or_first k) o left right h.1 (value_kind n left h.0.0)).kind_is
     value_kind n (term place k (converted inner to)) h = sym h.1.1
 

@@ -1,5 +1,7 @@
 pub mod PathNumbers
 pub mod KindsOfValues
+pub mod Unled
+pub mod MemoriesUnbound
 pub mod TermsFollow
 pub mod CommandsJoined
 pub mod HeldWords

@@ -10,7 +10,7 @@ use Rattle.dh_meaning.specs.Effects.{Begun, Variables}
 use Rattle.dh_meaning.specs.Paths.{Path}
 use Rattle.dh_meaning.specs.Sites as sites
 use Rattle.dh_meaning.specs.Sites.{Arm, in_arm}
-use Rattle.dh_meets.specs.Charges.{element_depends}
+use Rattle.dh_meets.specs.Charges.{element_depends, entity_depends}
 use Rattle.dh_meets.specs.Sharing.{all_arms_of, alike_elements, reassigned}
 use Rattle.dh_meets.specs.SourceEvents.{Element, SourceAccess, SourceEvent, accesses, assigned}
 use Rattle.dh_plan.specs.Blocks.{is_on}
@@ -27,6 +27,7 @@ use Rattle.dh_expressions.specs.Shown.{guard_of}
 use Rattle.dh_commands.specs.LanesRun.{is_on_at}
 use Rattle.dh_blocks.specs.FoundAccesses.{Found}
 use Rattle.dh_blocks.proofs.ElementsAlike.{IsFree, element_alike, spot_kept, spot_seen}
+use Rattle.dh_blocks.proofs.Unled.{unled_in}
 
 or_false : (a b : Bool) → (a || b) ≡ false → (a ≡ false) × (b ≡ false)
 or_false true b e = cc
@@ -73,7 +74,7 @@ module _ (scene : Scene) (x : Step) (find : ℕ → Option Found) (levels : List
     pub found : Found
     pub at : find number ≡ Some found
     pub long : length found.standing.guards ≡ size
-    pub leads : (i : ℕ) → found.standing.leader i ≡ leader_number levels (λ l. element_depends known.bindings l e) i
+    pub leads : (i : ℕ) → found.standing.leader i ≡ leader_number levels (λ l. entity_depends known.bindings l entity || element_depends known.bindings l e) i
     pub on : (i : ℕ) → i < size → is_on_at x around i ≡ true → is_on x.first x.words (guard_of found.standing.guards i) ≡ true
     pub word : (i : ℕ) → i < size → found.word i ≡ read_value begun known entity (source_spot begun known (V i) (path_at levels i) entity e)
 
@@ -106,7 +107,7 @@ module _ (scene : Scene) (x : Step) (find : ℕ → Option Found) (levels : List
             found = h.found;
             at = h.at;
             long = h.long;
-            leads = λ j. h.leads j ∙ ap (λ (f : ℕ → Bool). leader_number levels f j) (fun_ext (λ l. element_alike begun known l b.element e s));
+            leads = λ j. h.leads j ∙ ap (λ (f : ℕ → Bool). leader_number levels f j) (fun_ext (λ l. ap (λ d. entity_depends known.bindings l b.entity || d) (element_alike begun known l b.element e s)));
             on = h.on;
             word = λ j l. h.word j l ∙ ap (λ z. read_value begun known b.entity z) (spot_alike begun known (V j) (path_at levels j) b.entity b.entity b.element e y s);
           }
@@ -171,7 +172,7 @@ module _ (scene : Scene) (x : Step) (find : ℕ → Option Found) (levels : List
         on = g.on;
         word = λ j l.
             g.word j l ∙ ap (λ z. read_value begun known a.entity z)
-            (spot_kept begun known (V j) (W j) (path_at levels j) a.entity e part (agree j l) n (or_false (reassigned e less) (reassigned e part) (sym (reassigned_joined e less part) ∙ h)).1);
+            (spot_kept begun known (unled_in scene) (V j) (W j) (path_at levels j) a.entity e part (agree j l) n (or_false (reassigned e less) (reassigned e part) (sym (reassigned_joined e less part) ∙ h)).1);
       }
 
       never : (more : List SourceEvent) → pre ≡ before ++ more → (in_block (count before + count more) ≡ false) ⊎ (all_arms_of a.site.arms r.arms ≡ false) → ⊥
@@ -201,7 +202,7 @@ module _ (scene : Scene) (x : Step) (find : ℕ → Option Found) (levels : List
         long = g.long;
         leads = g.leads;
         on = g.on;
-        word = λ j l. g.word j l ∙ ap (λ z. read_value begun known a.entity z) (spot_seen begun known (V j) (W j) (path_at levels j) a.entity e (agree j l));
+        word = λ j l. g.word j l ∙ ap (λ z. read_value begun known a.entity z) (spot_seen begun known (unled_in scene) (V j) (W j) (path_at levels j) a.entity e (agree j l));
       }
 
   -- into an arm, of which nothing before this place is

@@ -1,5 +1,5 @@
 -- A read that shares an earlier one means the same: along the trace of the program, expressions first, then commands.
-use Rattle.std.proofs.Common.{◌≡◌, ℕ, zero, suc, ◌+◌, ◌<◌, ◌≤◌, ◌&&◌, not, Bool, true, false, List, [], ◌∷◌, ◌++◌, length, Option, Some, None, refl, sym, ◌∙◌, ap, subst, arith}
+use Rattle.std.proofs.Common.{◌≡◌, ℕ, zero, suc, ◌+◌, ◌<◌, ◌≤◌, ◌&&◌, ◌||◌, not, Bool, true, false, List, [], ◌∷◌, ◌++◌, length, Option, Some, None, refl, sym, ◌∙◌, ap, subst, arith}
 use Rattle.std.specs.Prelude.{slice_get}
 use mathlib.Core.Path.{fun_ext}
 use Rattle.dh_expressions.proofs.ListPlaces.{some_same}
@@ -15,17 +15,17 @@ use Rattle.dh_tree.specs.Seen.{program_seen}
 use Rattle.dh_meaning.specs.AccessNumbers.{term_accesses, terms_accesses}
 use Rattle.dh_meaning.specs.Bindings.{kind_or_first}
 use Rattle.dh_meaning.specs.CoreOf.{Known, core_form, memory_of}
-use Rattle.dh_meaning.specs.Effects.{Begun, Variables, spot_by_indices, spot_by_row, value_of}
+use Rattle.dh_meaning.specs.Effects.{Begun, Variables, spot_by_row, value_of}
 use Rattle.dh_meaning.specs.OnePhase.{in_one_phase}
 use Rattle.dh_meaning.specs.Sites as sites
 use Rattle.dh_meaning.specs.Sites.{Arm, in_arm}
-use Rattle.dh_meets.specs.Charges.{element_depends}
+use Rattle.dh_meets.specs.Charges.{element_depends, entity_depends}
 use Rattle.dh_meets.specs.Sharing.{all_arms_of, alike_elements, reassigned, shared, shares_with}
 use Rattle.dh_meets.specs.SourceEvents.{Element, with_indices, in_row, SourceAccess, SourceEvent, one_access, site_of, term_events, terms_events, trace}
 use Rattle.dh_sound.specs.Straight.{AreNamedTerms, IsNamedTerm}
 use Rattle.dh_sound.specs.Trails.{count}
 use Rattle.dh_sound.proofs.KnownReads.{Shares, count_joined, shared_found}
-use Rattle.dh_sound.proofs.SourceValues.{IsNamedElement, all_numbers_aside, entity_is, memory_at, numbers_aside, read_value, source_spot}
+use Rattle.dh_sound.proofs.SourceValues.{IsNamedElement, accessed_is, all_numbers_aside, entity_is, memory_at, numbers_aside, read_value, source_spot, spot_named}
 use Rattle.dh_sound.proofs.TermWalks.{term_counted, terms_counted}
 use Rattle.dh_expressions.specs.declared.paths.Level.{Level}
 use Rattle.dh_expressions.specs.declared.scenes.Around.{Around}
@@ -94,12 +94,12 @@ module _ (scene : Scene) (x : Step) (find : ℕ → Option Found) (levels : List
 
   -- a read by its own form
   module _ (around : Around) (here : IsHere around) (V : ℕ → Variables) (n : ℕ) (place : Place) (k : Kind) (entity : Option ℕ) (form : TermForm) (element : Element)
-      (depends : (l : ℕ) → depends_at scene form false l ≡ element_depends known.bindings l element)
+      (depends : (l : ℕ) → depends_at scene form false l ≡ (entity_depends known.bindings l entity || element_depends known.bindings l element))
       (word_is : (i : ℕ) → value_of begun (V i) (path_in around i) (core_form known n place k form) ≡ read_value begun known entity (source_spot begun known (V i) (path_in around i) entity element)) (memory : ℕ) where
     abbrev own : Found
     own = read_found scene around x V n place k memory form
 
-    own_leads : (i : ℕ) → own.standing.leader i ≡ leader_number levels (λ l. element_depends known.bindings l element) i
+    own_leads : (i : ℕ) → own.standing.leader i ≡ leader_number levels (λ l. entity_depends known.bindings l entity || element_depends known.bindings l element) i
     own_leads i =
         ap (λ (ls : List Level). leader_number ls (depends_at scene form false) i) here.levels_are
         ∙ ap (λ (f : ℕ → Bool). leader_number levels f i) (fun_ext (λ l. depends l))
@@ -139,6 +139,11 @@ module _ (scene : Scene) (x : Step) (find : ℕ → Option Found) (levels : List
             (subst (λ (n : ℕ). in_block n ≡ true) s.number (share earlier (count before) facts.1.1.1.0 (subst (λ (n : ℕ). in_block n ≡ true) here_is inside)))
             facts.1.1.1.1.0 (self s.of.entity entity facts.1.0) facts.1.1.0 names facts.1.1.1.1.1
 
+        leads : (i : ℕ) → g.found.standing.leader i ≡ leader_number levels (λ l. entity_depends known.bindings l entity || element_depends known.bindings l element) i
+        leads i =
+            g.leads i
+            ∙ ap (λ o. leader_number levels (λ l. entity_depends known.bindings l o || element_depends known.bindings l element) i) (entity_is begun known s.of.entity entity facts.1.0)
+
         at : find earlier ≡ Some g.found
         at = ap find s.number ∙ g.at
 
@@ -152,7 +157,7 @@ module _ (scene : Scene) (x : Step) (find : ℕ → Option Found) (levels : List
         done =
             ap (λ o. done_of x o path) at
             ∙ done_led x g.found.standing (g.found.standing.leader path) (length g.found.standing.guards) d.path (subst (λ (n : ℕ). d.path < n) (sym g.long) below)
-            (g.leads d.path ∙ (sym (own_leads d.path) ∙ (d.leads ∙ (own_leads path ∙ sym (g.leads path))))) (g.on d.path below d.on)
+            (leads d.path ∙ (sym (own_leads d.path) ∙ (d.leads ∙ (own_leads path ∙ sym (leads path))))) (g.on d.path below d.on)
 
         word : word_found (find earlier) path ≡ own.word path
         word =
@@ -182,7 +187,9 @@ module _ (scene : Scene) (x : Step) (find : ℕ → Option Found) (levels : List
 
   indices_word : (around : Around) (V : ℕ → Variables) (n : ℕ) (place : Place) (k : Kind) (r : Ref) (ts : Terms) (i : ℕ)
       → value_of begun (V i) (path_in around i) (core_form known n place k (accessed r ts)) ≡ read_value begun known r.entity (source_spot begun known (V i) (path_in around i) r.entity (with_indices ts))
-  indices_word around V n place k r ts i = ap (λ zs. read_value begun known r.entity (spot_by_indices begun.table (memory_at begun known r.entity) zs)) (all_numbers_aside begun known (V i) (path_in around i) n 0 ts)
+  indices_word around V n place k r ts i =
+      accessed_is begun known (V i) (path_in around i) n place (Some k) r ts
+      ∙ ap (λ zs. read_value begun known r.entity (spot_named begun known (V i) (path_in around i) r.entity zs)) (all_numbers_aside begun known (V i) (path_in around i) n 0 ts)
 
   row_word : (around : Around) (V : ℕ → Variables) (n : ℕ) (place : Place) (k : Kind) (r : Ref) (bank : ℕ) (at : Place) (t : Term) (i : ℕ)
       → value_of begun (V i) (path_in around i) (core_form known n place k (in_bank r bank at t)) ≡ read_value begun known r.entity (source_spot begun known (V i) (path_in around i) r.entity (in_row bank t))
@@ -194,7 +201,7 @@ module _ (scene : Scene) (x : Step) (find : ℕ → Option Found) (levels : List
 
     -- a read behind its indices
     read_here : (before : List SourceEvent) (n : ℕ) (place : Place) (k : Option Kind) (q : Ref) (form : TermForm) (element : Element) (front : List SourceEvent) (fs : List Found) (count_of : ℕ)
-        → length fs ≡ count_of → count front ≡ count_of → ((l : ℕ) → depends_at scene form false l ≡ element_depends known.bindings l element)
+        → length fs ≡ count_of → count front ≡ count_of → ((l : ℕ) → depends_at scene form false l ≡ (entity_depends known.bindings l q.entity || element_depends known.bindings l element))
         → ((i : ℕ) → value_of begun (V i) (path_in around i) (core_form known n place (kind_or_first k) form) ≡ read_value begun known q.entity (source_spot begun known (V i) (path_in around i) q.entity element))
         → IsNamedElement begun known element → IsCut before (front ++ one_access place q.entity element false (site_of r id)) n → Inside n (suc count_of)
         → AreFoundAt find n (fs ++ read_found scene around x V n place (kind_or_first k) (memory_of known q) form ∷ [])

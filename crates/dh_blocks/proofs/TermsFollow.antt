@@ -18,7 +18,7 @@ use Rattle.dh_meaning.specs.CoreOf.{core_form, depth_of, entity_number, memory_o
 use Rattle.dh_meaning.specs.Effects.{Variables, value_of}
 use Rattle.dh_meaning.specs.Paths.{Path, copies_in}
 use Rattle.dh_meaning.specs.Runs.{iterator_value}
-use Rattle.dh_meets.specs.Charges.{term_depends, terms_depend}
+use Rattle.dh_meets.specs.Charges.{entity_depends, term_depends, terms_depend}
 use Rattle.dh_code.specs.Slots.{held_at}
 use Rattle.dh_code.specs.Extended.{extension_of}
 use Rattle.dh_plan.specs.Blocks.{is_on}
@@ -45,6 +45,7 @@ use Rattle.dh_blocks.specs.NamedVariables.{IsNamed, IsTurned}
 use Rattle.dh_blocks.specs.SoundTerms.{AreSound, IsSound}
 use Rattle.dh_blocks.proofs.PathNumbers.{agree_leaders, leader_leads, leader_within, leaders_agree, number_is, numbered}
 use Rattle.dh_blocks.proofs.KindsOfValues.{kept_word}
+use Rattle.dh_blocks.proofs.Unled.{row_depends, still_unled, unled_in}
 
 -- What is led.
 
@@ -324,7 +325,8 @@ module _ (scene : Scene) (around : Around) (x : Step) (find : ℕ → Option Fou
       agree l small e = leaders_agree around.levels.now ground.spread (counts form) ((own n place k memory form).standing.leader i) i (inside ((own n place k memory form).standing.leader i) low) (inside i h) itself l small (sym (depends l) ∙ e)
 
       same : word n place k form ((own n place k memory form).standing.leader i) ≡ word n place k form i
-      same = settled_value (begun_of x) (known_in scene) (V ((own n place k memory form).standing.leader i)) (V i) (path ((own n place k memory form).standing.leader i)) (path i) n (term place (Some k) form) (each_settled ((own n place k memory form).standing.leader i) i low h (term place (Some k) form) s) agree
+      same = settled_value (begun_of x) (known_in scene) (V ((own n place k memory form).standing.leader i)) (V i) (path ((own n place k memory form).standing.leader i)) (path i)
+          (still_unled (known_in scene) (begun_of x) (V ((own n place k memory form).standing.leader i)) (V i) (path ((own n place k memory form).standing.leader i)) (path i) (unled_in scene)) n (term place (Some k) form) (each_settled ((own n place k memory form).standing.leader i) i low h (term place (Some k) form) s) agree
 
       by : (o : Option (Option ℕ)) → slice_get scene.shares.now m ≡ o → SourceMeans reads (source_at o m i ((own n place k memory form).standing.leader i)) (word n place k form i)
       by None e = tt
@@ -351,6 +353,15 @@ module _ (scene : Scene) (around : Around) (x : Step) (find : ℕ → Option Fou
       done_led x (standing_at scene around memory place form false) ((standing_at scene around memory place form false).leader i) (paths_counted around) q g
       (sym (agree_leaders around.levels.now ground.spread (counts form) i q (inside i h) (inside q g) (λ l small e. agree l small (depends l ∙ e)))) on
 
+  -- paths that agree where an access depends do where its indices do, or its row
+  of_indices : (r : Ref) (ts : Terms) (p q : Path) → CopiesAgree (λ l. entity_depends (known_in scene).bindings l r.entity || terms_depend (known_in scene).bindings l ts) p q
+      → CopiesAgree (λ l. terms_depend (known_in scene).bindings l ts) p q
+  of_indices r ts p q = agree_right (λ l. entity_depends (known_in scene).bindings l r.entity) (λ l. terms_depend (known_in scene).bindings l ts) p q
+
+  of_row : (r : Ref) (row : Term) (p q : Path) → CopiesAgree (λ l. entity_depends (known_in scene).bindings l r.entity || term_depends (known_in scene).bindings l row) p q
+      → CopiesAgree (λ l. term_depends (known_in scene).bindings l row) p q
+  of_row r row p q = agree_right (λ l. entity_depends (known_in scene).bindings l r.entity) (λ l. term_depends (known_in scene).bindings l row) p q
+
   mutual
     pub sees : (i q : ℕ) → i < paths_counted around → q < paths_counted around → is_on_at x around q ≡ true → (current : List (Option ℕ)) → Shows scene around x current (V i)
         → (n : ℕ) (t : Term) → Sound t → AreReadAt scene x find n (term_found scene around x V n t) → CopiesAgree (λ l. term_depends (known_in scene).bindings l t) (path i) (path q)
@@ -359,16 +370,16 @@ module _ (scene : Scene) (around : Around) (x : Step) (find : ℕ → Option Fou
     sees i q h g on current sh n (term place k (truth_value b)) s f agree = tt
     sees i q h g on current sh n (term place k (named r)) s f agree = shown_named i q h g on current sh r (kind_or_first k) s.0 agree
     sees i q h g on current sh n (term place k (accessed r ts)) s f agree = (
-      sees_all i q h g on current sh n ts s.0 (found_first (IsReadAt scene x find) n (terms_found scene around x V n ts) _ f) agree,
+      sees_all i q h g on current sh n ts s.0 (found_first (IsReadAt scene x find) n (terms_found scene around x V n ts) _ f) (of_indices r ts (path i) (path q) agree),
       read_done i n (n + terms_accesses ts) h place (kind_or_first k) (memory_of (known_in scene) r) (accessed r ts) s s.1.0 tt (λ l. refl)
           (found_here (IsReadAt scene x find) n (n + terms_accesses ts) (terms_found scene around x V n ts) _ (ap (λ m. n + m) (sym (terms_long scene around x V n ts))) f)
           (read_led i q n h g on place (kind_or_first k) (memory_of (known_in scene) r) (accessed r ts) (λ l. refl) agree),
     )
     sees i q h g on current sh n (term place k (in_bank r bank at row)) s f agree = (
       sees i q h g on current sh n row s.0 (found_first (IsReadAt scene x find) n (term_found scene around x V n row) _ f) agree,
-      read_done i n (n + term_accesses row) h place (kind_or_first k) (memory_of (known_in scene) r) (in_bank r bank at row) s s.1.0 s.1.1.0 (λ l. refl)
+      read_done i n (n + term_accesses row) h place (kind_or_first k) (memory_of (known_in scene) r) (in_bank r bank at row) s s.1.0 s.1.1.0 (row_depends (known_in scene) r row s.1.1.1.1)
           (found_here (IsReadAt scene x find) n (n + term_accesses row) (term_found scene around x V n row) _ (ap (λ m. n + m) (sym (term_long scene around x V n row))) f)
-          (read_led i q n h g on place (kind_or_first k) (memory_of (known_in scene) r) (in_bank r bank at row) (λ l. refl) agree),
+          (read_led i q n h g on place (kind_or_first k) (memory_of (known_in scene) r) (in_bank r bank at row) (row_depends (known_in scene) r row s.1.1.1.1) agree),
     )
     sees i q h g on current sh n (term place k (applied o a b)) s f agree = (
       (
@@ -415,7 +426,7 @@ module _ (scene : Scene) (around : Around) (x : Step) (find : ℕ → Option Fou
           λ done.
               let led : done_of x (Some (read_found scene around x V n place (kind_or_first k) (memory_of (known_in scene) r) (accessed r ts))) i ≡ true = sym (ap (λ o. done_of x o i) here.0) ∙ done in
               let (q, (g, (on, agree))) = led_from i n h place (kind_or_first k) (memory_of (known_in scene) r) (accessed r ts) led in
-              (sees_all i q h g on current sh n ts s.0 part agree, read_done i n (n + terms_accesses ts) h place (kind_or_first k) (memory_of (known_in scene) r) (accessed r ts) s s.1.0 tt (λ l. refl) here led),
+              (sees_all i q h g on current sh n ts s.0 part (of_indices r ts (path i) (path q) agree), read_done i n (n + terms_accesses ts) h place (kind_or_first k) (memory_of (known_in scene) r) (accessed r ts) s s.1.0 tt (λ l. refl) here led),
         )
     fair i h current sh n (term place k (in_bank r bank at row)) s f =
         let here : IsReadAt scene x find (n + term_accesses row) (read_found scene around x V n place (kind_or_first k) (memory_of (known_in scene) r) (in_bank r bank at row)) =
@@ -424,8 +435,10 @@ module _ (scene : Scene) (around : Around) (x : Step) (find : ℕ → Option Fou
           (fair i h current sh n row s.0 part, read_sited i n (n + term_accesses row) h place (kind_or_first k) (memory_of (known_in scene) r) (in_bank r bank at row) here.0),
           λ done.
               let led : done_of x (Some (read_found scene around x V n place (kind_or_first k) (memory_of (known_in scene) r) (in_bank r bank at row))) i ≡ true = sym (ap (λ o. done_of x o i) here.0) ∙ done in
-              let (q, (g, (on, agree))) = led_from i n h place (kind_or_first k) (memory_of (known_in scene) r) (in_bank r bank at row) led in
-              (sees i q h g on current sh n row s.0 part agree, read_done i n (n + term_accesses row) h place (kind_or_first k) (memory_of (known_in scene) r) (in_bank r bank at row) s s.1.0 s.1.1.0 (λ l. refl) here led),
+              let (q, (g, (on, agree))) = led_from i n h place (kind_or_first k) (memory_of (known_in scene) r) (in_bank r bank at row) led in (
+                sees i q h g on current sh n row s.0 part (of_row r row (path i) (path q) agree),
+                read_done i n (n + term_accesses row) h place (kind_or_first k) (memory_of (known_in scene) r) (in_bank r bank at row) s s.1.0 s.1.1.0 (row_depends (known_in scene) r row s.1.1.1.1) here led,
+              ),
         )
     fair i h current sh n (term place k (applied o a b)) s f = (
       fair i h current sh n a s.0.0 (found_first (IsReadAt scene x find) n (term_found scene around x V n a) _ f),

@@ -6,7 +6,7 @@ use Rattle.dh_value.specs.declared.kinds.Kind.{Kind}
 use Rattle.dh_value.specs.declared.words.Word.{Word}
 use Rattle.dh_tree.specs.PlainTrees as plain
 use Rattle.dh_tree.specs.PlainTrees.{Action, action, ActionForm, lets, lets_memory, views, assigns, stores, reduces, calls, blocks, decides, repeats, counts, MaybeAction, no_action, one_action, Actions, no_actions, action_then, Groups, no_groups, group_then}
-use Rattle.dh_meaning.specs.AccessNumbers.{accesses_of, other_accesses, part_accesses, term_accesses}
+use Rattle.dh_meaning.specs.AccessNumbers.{accesses_of, other_accesses, part_accesses, plan_accesses, term_accesses}
 use Rattle.dh_meaning.specs.Bindings.{kind_or_first}
 use Rattle.dh_meaning.specs.CoreOf.{core_form, memory_of}
 use Rattle.dh_meaning.specs.Effects.{Effect, Variables, value_of}
@@ -65,7 +65,7 @@ module _ (scene : Scene) (around : Around) (x : Step) (variables : ℕ → Varia
   target_found n (plain.term place k (plain.applied op left right)) = []
   target_found n (plain.term place k (plain.converted inner to)) = []
 
--- accesses that are nowhere done: those of a loop without turns
+-- accesses that are nowhere done: those of a loop without turns, or of a view that moves, which is refused
 abbrev pub idle_found : (count : ℕ) → List Found
 idle_found zero = []
 idle_found (suc n) = record { standing = record { place = record { line = 0; column = 0 }; leader = λ path. path; bank = λ path. 0; guards = [] }; word = λ path. no_word } ∷ idle_found n
@@ -107,7 +107,7 @@ module _ (scene : Scene) (x : Step) where
         ++ other_found two behind (n + term_accesses t + accesses_of chosen) other (effect_of scene x (paths_on x one) (n + term_accesses t) chosen (tested scene x around n t e)))
     form_of_found around arms n (blocks body) e = groups_found around arms n body e
     form_of_found around arms n (lets_memory name shape shape_places value) e = []
-    form_of_found around arms n (views name parent form) e = []
+    form_of_found around arms n (views name parent form) e = idle_found (plan_accesses form + 0)
     form_of_found around arms n (calls function arguments) e = []
     form_of_found around arms n (repeats test body) e = idle_found (term_accesses test + accesses_of body)
     form_of_found around arms n (counts iterator declared low high factor body combine combine_place) e = idle_found (accesses_of body + other_accesses combine)

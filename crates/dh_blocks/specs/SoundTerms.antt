@@ -1,6 +1,6 @@
 -- What is to be known of the expressions of a block: names, memories and kinds are as they should. All of it holds of a
 -- typed program.
-use Rattle.std.specs.Prelude.{◌≡◌, ◌<◌, ◌^◌, List}
+use Rattle.std.specs.Prelude.{◌≡◌, ℕ, ◌<◌, ◌^◌, false, List}
 use Rattle.dh_value.specs.declared.kinds.Kind.{Kind}
 use Rattle.dh_value.specs.declared.kinds.Kind.TheVariants.{Bool}
 use Rattle.dh_value.specs.declared.operators.Op.{Op}
@@ -13,6 +13,7 @@ use Rattle.dh_tree.specs.PlainTrees as plain
 use Rattle.dh_meaning.specs.Bindings.{kind_or_first}
 use Rattle.dh_meaning.specs.CoreOf.{Known, memory_of}
 use Rattle.dh_meaning.specs.Effects.{kind_in}
+use Rattle.dh_meets.specs.Charges.{entity_depends}
 use Rattle.dh_expressions.specs.Shown.{kind_written}
 
 -- the kind of what an operator gives, by the kinds of its operands
@@ -34,6 +35,10 @@ GivesKind op.Ne j k r = r ≡ Bool
 GivesKind op.Both j k r = r ≡ Bool
 GivesKind op.Either j k r = r ≡ Bool
 
+-- a name is no variable, and so depends on no loop
+abbrev pub IsUnbound : Known → Ref → Type 0
+IsUnbound known r = (level : ℕ) → entity_depends known.bindings level r.entity ≡ false
+
 module _ (known : Known) (table : List MemEntry) (Name : Ref → Kind → Type 0) where
   abbrev mutual
     pub IsSound : plain.Term → Type 0
@@ -44,7 +49,8 @@ module _ (known : Known) (table : List MemEntry) (Name : Ref → Kind → Type 0
     IsSoundForm k (plain.truth_value b) = k ≡ Bool
     IsSoundForm k (plain.named r) = Name r k × IsKind k
     IsSoundForm k (plain.accessed r ts) = AreSound ts × ((memory_of known r < 2 ^ 32) × (k ≡ kind_in table (memory_of known r)))
-    IsSoundForm k (plain.in_bank r bank at row) = IsSound row × ((memory_of known r < 2 ^ 32) × ((bank < 2 ^ 32) × (k ≡ kind_in table (memory_of known r))))
+    IsSoundForm k (plain.in_bank r bank at row) =
+        IsSound row × ((memory_of known r < 2 ^ 32) × ((bank < 2 ^ 32) × ((k ≡ kind_in table (memory_of known r)) × IsUnbound known r)))
     IsSoundForm k (plain.applied o left right) = (IsSound left × IsSound right) × GivesKind o (kind_written left) (kind_written right) k
     IsSoundForm k (plain.converted inner to) = IsSound inner × (IsInteger to × (k ≡ to))
 

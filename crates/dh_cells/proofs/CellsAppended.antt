@@ -170,7 +170,7 @@ fits_later table registers old new i width (Zero a) e h = (h.0, (operand_later o
 fits_later table registers old new i width (Sign a) e h = (h.0, (operand_later old new i a h.0 e h.1.0, h.1.1))
 fits_later table registers old new i width (Low a) e h = (h.0, (operand_later old new i a h.0 e h.1.0, h.1.1))
 
-cell_later : (table : List MemEntry) (registers : List Register) (old new : List Cell) (i : ℕ) (c : Cell) → BeginsWith new old
+pub cell_later : (table : List MemEntry) (registers : List Register) (old new : List Cell) (i : ℕ) (c : Cell) → BeginsWith new old
     → IsCell table registers old i c → IsCell table registers new i c
 cell_later table registers old new i c e h =
     record { least = h.least; greatest = h.greatest; form = fits_later table registers old new i c.width c.form e h.form }

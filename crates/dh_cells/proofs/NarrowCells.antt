@@ -15,12 +15,12 @@ use Rattle.dh_cells.specs.PlainCircuits.{PlainCircuit, with_cell, blank_register
 use Rattle.dh_cells.specs.Settled.{Signals, shown, IsMeasured, IsSettled, BeginsWith}
 use Rattle.dh_cells.proofs.CellsAppended.{get_either, begins_longer, cells_more}
 
-below_later : (old new : List Cell) (wire bound wide : ℕ) → BeginsWith new old → HasWidth old wire wide → IsBelow old wire bound → IsBelow new wire bound
+pub below_later : (old new : List Cell) (wire bound wide : ℕ) → BeginsWith new old → HasWidth old wire wide → IsBelow old wire bound → IsBelow new wire bound
 below_later old new wire bound wide e h below =
     let c = cell_of old wire wide h in
     subst (λ (o : Option Cell). IfSome (cell_bits o) (λ (bits : ℕ). bits < bound)) (c.1.0 ∙ sym (e wire c.0 c.1.0)) below
 
-shifts_later : (table : List MemEntry) (registers : List Register) (old new : List Cell) (i width : ℕ) (f : CellForm) → BeginsWith new old
+pub shifts_later : (table : List MemEntry) (registers : List Register) (old new : List Cell) (i width : ℕ) (f : CellForm) → BeginsWith new old
     → FormFits table registers old i width f → ShiftsLess old width f → ShiftsLess new width f
 shifts_later table registers old new i width (Const bits) e h s = tt
 shifts_later table registers old new i width (Reg register) e h s = tt

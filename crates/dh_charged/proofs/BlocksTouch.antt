@@ -7,7 +7,7 @@ use Rattle.dh_value.specs.declared.kinds.Kind.{Kind}
 use Rattle.dh_tree.specs.declared.trees.counters.Counter.{Counter}
 use Rattle.dh_tree.specs.declared.trees.expressions.Ref.{Ref}
 use Rattle.dh_tree.specs.PlainTrees.{Term}
-use Rattle.dh_meaning.specs.Core.{CoreCommand, CoreCommands, assign, choose, command_and, no_commands, store}
+use Rattle.dh_meaning.specs.Core.{CoreCommand, CoreCommands, assign, choose, command_and, keep, no_commands, store}
 use Rattle.dh_meaning.specs.CoreOf.{core_commands, core_term, entity_number}
 use Rattle.dh_meaning.specs.Effects.{commands, tests}
 use Rattle.dh_meaning.specs.Levels.{any_assigns, assigns_to}
@@ -18,7 +18,7 @@ use Rattle.dh_plan.specs.declared.operations.OperationForm.{OperationForm}
 use Rattle.dh_plan.specs.declared.operations.OperationForm.TheVariants.{Check, Compute, Constant, Convert, Old, Probe, Read, Select, Set, Write}
 use Rattle.dh_plan.specs.Correspondence.{Round}
 use Rattle.dh_plan.specs.PlainPlans.{PlainPlan, operations_in}
-use Rattle.dh_plan.specs.PlanPhases.{IsCounterOf, IsIteratorOf, IsRegisterOf, Touches, command_mentions, commands_mention, term_mentions}
+use Rattle.dh_plan.specs.PlanPhases.{IsCounterOf, IsIteratorOf, IsRegisterOf, Touches, command_mentions, commands_mention, term_mentions, terms_mention}
 use Rattle.dh_expressions.specs.declared.scenes.Around.{Around}
 use Rattle.dh_expressions.specs.declared.scenes.Scene.{Scene}
 use Rattle.dh_expressions.specs.Evaluated.{counter_of, known_in}
@@ -66,6 +66,7 @@ mutual
   command_assigned : (e : ℕ) (c : CoreCommand) → assigns_to e c ≡ true → command_mentions e c ≡ true
   command_assigned e (store reach target value) h = absurd (cc)
   command_assigned e (assign depth other value) h = first_of (e == other) (term_mentions e value) h
+  command_assigned e (keep depth first values) h = first_of (assigns_to e (keep depth first values)) (terms_mention e values) h
   command_assigned e (choose test chosen other) h =
       second_of (term_mentions e test) _
       (elim (either_of (any_assigns e chosen) (any_assigns e other) h) [

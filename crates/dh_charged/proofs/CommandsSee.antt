@@ -42,7 +42,7 @@ use Rattle.dh_commands.proofs.ChangesBack.{logs_again, logs_none, logs_one}
 use Rattle.dh_commands.proofs.JoinedArms.{first_has}
 use Rattle.dh_laid.specs.LaidCommands.{AreLogged}
 use Rattle.dh_laid.specs.LaidQuiet.{StandsIn}
-use Rattle.dh_laid.proofs.ValuesLogged.{IsBack, arm_back, arm_long, logged_ready, tests_same}
+use Rattle.dh_laid.proofs.ValuesLogged.{IsBack, arm_back, arm_long, logged_ready, stands_arm, tests_same}
 use Rattle.dh_charged.specs.SeenRegisters.{AddsSeeing, NamesAction, NamesActions, NamesAim, NamesCommand, NamesGroups, NamesOther, NamesTerm, SeesAndGives, TellsRegisters}
 use Rattle.dh_charged.proofs.TermsSee.{aim_sees, converted_sees, held_sees, number_sees, seeing_again, seeing_none, seeing_pushed, shown_sees, storing_sees, term_sees}
 
@@ -89,14 +89,6 @@ logs_same P old new s = record {
   each = tt;
   room = tt;
   given = tt;
-}
-
-stands_arm : (scene : Scene) (Inner : Commanding) (around : Around) (holds : Truth) (tests : List ℕ) (old new : Building) (first next : ℕ) (lefts : List Left) (m : MadeArm Inner around holds tests old new first next lefts)
-    → StandsIn scene around → length tests ≡ paths_counted around → StandsIn scene m.arm
-stands_arm scene Inner around holds tests old new first next lefts m s many = record {
-  scopes = s.scopes;
-  low = subst (λ levels. length levels < 2 ^ 63) (sym m.levels) s.low;
-  few = subst (λ (n : ℕ). n < 2 ^ 64) (sym (arm_long holds around.guards.now tests (length tests) old.draft m.guarded m.arm.guards.now m.guards ∙ many)) s.few;
 }
 
 module _ (scene : Scene) (Sees Target : ℕ → Type 0) (Named : Ref → Type 0) (Goal : ℕ → Type 0) where

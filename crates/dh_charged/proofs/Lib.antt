@@ -5,6 +5,5 @@ pub mod BlocksTouch
 pub mod KeysLed
 pub mod MeetsInRange
 pub mod UsesCharge
-pub mod SitesTold
 pub mod BlocksCharged
 pub mod MemoriesHad

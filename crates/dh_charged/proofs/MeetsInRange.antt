@@ -93,7 +93,7 @@ mutual
   command_in : (unrolled : Bool) (n : ℕ) (a : Action) → StandInRange (meets unrolled n a) n (accesses_of a)
   command_in unrolled n (action id place (lets name declared value)) = own_in _ n _ (row_in n (own_accesses (lets name declared value)))
   command_in unrolled n (action id place (lets_memory name shape shape_places value)) = own_in nothing n 0 (none_in n)
-  command_in unrolled n (action id place (views name parent form)) = own_in nothing n 0 (none_in n)
+  command_in unrolled n (action id place (views name parent form)) = own_in _ n _ (row_in n (own_accesses (views name parent form)))
   command_in unrolled n (action id place (assigns target value)) = own_in _ n _ (row_in n (own_accesses (assigns target value)))
   command_in unrolled n (action id place (stores target value)) = own_in _ n _ (row_in n (own_accesses (stores target value)))
   command_in unrolled n (action id place (reduces target op value)) = own_in _ n _ (row_in n (own_accesses (reduces target op value)))

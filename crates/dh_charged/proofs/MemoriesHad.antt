@@ -22,7 +22,7 @@ use Rattle.dh_sound.proofs.PortsKept.{typed_program}
 use Rattle.dh_sound.proofs.SortsOfPrograms.{accesses_declared}
 use Rattle.dh_expressions.proofs.ListPlaces.{place_within}
 use Rattle.dh_charged.specs.ChargedUses.{IsOfSmallMemory}
-use Rattle.dh_charged.specs.TracedSites.{HaveMemories, ReadyHaveMemories}
+use Rattle.dh_charged.specs.AccessMemories.{HaveMemories, ReadyHaveMemories}
 
 banks_some : (dims : List Dim) → AllByRecursion IsDim dims → 1 ≤ banks_of dims
 banks_some [] h = omega arith
@@ -49,7 +49,7 @@ module _ (p : Program) (ready : IsReady p) (few : length (table_of p) ≤ 2 ^ 32
   of_small a k at m =
       let place = numbered (memories_of p) (Some m.entity) m.memory m.declared in
       let here : memory_in (memories_of p) a.entity ≡ Some m.memory = subst (λ (o : Option ℕ). memory_in (memories_of p) o ≡ Some m.memory) (sym m.is) m.declared in
-      let keeps = access_keeps p ready.indices k a at m.memory here in
+      let keeps = access_keeps p ready.indices ready.views k a at m.memory here in
       let small : banks_of m.memory.shape.dims ≤ 2 ^ 32 =
       subst (λ (ds : List Dim). banks_of ds ≤ 2 ^ 32) (declared_dims (memories_of p) (Some m.entity) m.memory m.declared) (banks (entity_number (number_in (memories_of p) (Some m.entity))))
       in

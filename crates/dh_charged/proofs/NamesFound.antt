@@ -1,7 +1,7 @@
 -- The names of sound commands: each is mentioned by the commands of the core, and is known; what is assigned to is assigned
 -- to by them, and is a variable that is seen.
-use Rattle.std.proofs.Common.{◌≡◌, ◌⊎◌, inl, inr, ◌+◌, ℕ, List, Some, None, refl, sym, ◌∙◌, subst}
-use Rattle.std.specs.Prelude.{Bool as Truth, true, false, ◌||◌, ◌==◌}
+use Rattle.std.proofs.Common.{◌≡◌, ◌⊎◌, inl, inr, ◌+◌, ℕ, List, Some, None, refl, ap, sym, ◌∙◌, subst}
+use Rattle.std.specs.Prelude.{Bool as Truth, true, false, ◌||◌, ◌==◌, Option}
 use Rattle.std.proofs.lemmas.Bool.{eq-eqb, eqb-true}
 use Rattle.dh_value.specs.declared.kinds.Kind.{Kind}
 use Rattle.dh_tree.specs.declared.tables.MemEntry.{MemEntry}
@@ -11,15 +11,17 @@ use Rattle.dh_tree.specs.PlainTrees as plain
 use Rattle.dh_tree.specs.PlainTrees.{Action, action, lets, lets_memory, views, assigns, stores, reduces, calls, blocks, decides, repeats, counts, MaybeAction, no_action, one_action, Actions, no_actions, action_then, Groups, no_groups, group_then}
 use Rattle.dh_meaning.specs.AccessNumbers.{accesses_of, part_accesses, term_accesses}
 use Rattle.dh_meaning.specs.Bindings.{kind_found, kind_or_first}
-use Rattle.dh_meaning.specs.Core.{CoreCommands, CoreTerm, command_and, no_commands, variable}
-use Rattle.dh_meaning.specs.CoreOf.{Known, assigned, core_action, core_groups, core_other, core_part, core_term, core_terms, depth_of, entity_number, kind_of, operation_of, store_to}
+use Rattle.dh_meaning.specs.Core.{CoreCommands, CoreTerm, CoreTerms, command_and, no_commands, no_terms, term_and, variable}
+use Rattle.dh_meaning.specs.CoreOf.{Known, assigned, core_action, core_groups, core_other, core_part, core_term, core_terms, depth_of, entity_number, kept_terms, kind_of, operation_of, store_to, target_to, terms_both, way_of}
 use Rattle.dh_meaning.specs.Levels.{any_assigns, assigns_to}
-use Rattle.dh_plan.specs.PlanPhases.{command_mentions, commands_mention, term_mentions, terms_mention}
+use Rattle.dh_meaning.specs.Ways.{Way}
+use Rattle.dh_plan.specs.PlanPhases.{command_mentions, commands_mention, target_mentions, term_mentions, terms_mention}
 use Rattle.dh_expressions.specs.declared.paths.Level.{Level}
 use Rattle.dh_expressions.specs.declared.scenes.Scene.{Scene}
 use Rattle.dh_expressions.specs.Evaluated.{known_in}
 use Rattle.dh_formed.proofs.TermsCounted.{operation_mentions}
 use Rattle.dh_commands.specs.ShownVariables.{IsSeen}
+use Rattle.dh_commands.proofs.CoreRuns.{view_rest}
 use Rattle.dh_blocks.specs.SoundTerms.{AreSound, IsSound, IsSoundTarget}
 use Rattle.dh_blocks.specs.SoundCommands.{SoundAction, SoundGroups, SoundOther, SoundPart}
 use Rattle.dh_charged.specs.SeenRegisters.{NamesActions, NamesAim, NamesCommand, NamesGroups, NamesOther, NamesTerm, NamesTerms}
@@ -39,6 +41,18 @@ pub either_of : (a b : Truth) → (a || b) ≡ true → (a ≡ true) ⊎ (b ≡ 
 either_of true b e = inl refl
 either_of false b e = inr e
 
+-- what indices mention is mentioned by an access, whatever its way
+mentions_front : (e : ℕ) (ts more : CoreTerms) → terms_mention e ts ≡ true → terms_mention e (terms_both ts more) ≡ true
+mentions_front e no_terms more m = absurd (cc)
+mentions_front e (term_and t ts) more m = elim (either_of (term_mentions e t) (terms_mention e ts) m) [
+  | inl f ↦ first_of (term_mentions e t) _ f
+  | inr g ↦ second_of (term_mentions e t) _ (mentions_front e ts more g)
+]
+
+way_mentions : (e : ℕ) (w : Option Way) (ts : CoreTerms) → terms_mention e ts ≡ true → target_mentions e (target_to w ts) ≡ true
+way_mentions e None ts m = m
+way_mentions e (Some w) ts m = mentions_front e ts (kept_terms w.hidden) m
+
 -- Expressions.
 
 module _ (known : Known) (table : List MemEntry) (Name : Ref → Kind → Type 0) (P : ℕ → Type 0) where
@@ -51,7 +65,7 @@ module _ (known : Known) (table : List MemEntry) (Name : Ref → Kind → Type 0
     term_named n (plain.term place k (plain.number negative z)) s h = tt
     term_named n (plain.term place k (plain.truth_value b)) s h = tt
     term_named n (plain.term place k (plain.named r)) s h = (h (entity_number r.entity) (itself (entity_number r.entity)), (kind_or_first k, s.0))
-    term_named n (plain.term place k (plain.accessed r ts)) s h = terms_named n ts s.0 h
+    term_named n (plain.term place k (plain.accessed r ts)) s h = terms_named n ts s.0 (λ e m. h e (way_mentions e (way_of known r) (core_terms known n ts) m))
     term_named n (plain.term place k (plain.in_bank r bank at row)) s h = term_named n row s.0 h
     term_named n (plain.term place k (plain.applied op left right)) s h = (
       term_named n left s.0.0 (λ e m. h e (sym (mention e) ∙ first_of (term_mentions e (core_term known n left)) _ m)),
@@ -72,7 +86,7 @@ module _ (known : Known) (table : List MemEntry) (Name : Ref → Kind → Type 0
   pub aim_named : (n : ℕ) (target : plain.Term) (value : CoreTerm) → IsSoundTarget known table Name target → ((e : ℕ) → command_mentions e (store_to known n target value) ≡ true → P e)
       → NamesAim Both (form_of target) × ((e : ℕ) → term_mentions e value ≡ true → P e)
   aim_named n (plain.term place k (plain.accessed r ts)) value s h = (
-    terms_named n ts s.0 (λ e m. h e (second_of (term_mentions e value) _ m)),
+    terms_named n ts s.0 (λ e m. h e (second_of (term_mentions e value) _ (way_mentions e (way_of known r) (core_terms known n ts) m))),
     λ e m. h e (first_of (term_mentions e value) _ m),
   )
   aim_named n (plain.term place k (plain.in_bank r bank at row)) value s h = (
@@ -165,7 +179,7 @@ module _ (scene : Scene) (levels : List Level) (table : List MemEntry) (Name : R
         }
     action_named Folds seen n (action id place (blocks body)) rest s h = groups_named Folds seen n body rest s h
     action_named Folds seen n (action id place (lets_memory name shape shape_places value)) rest s h = (tt, h)
-    action_named Folds seen n (action id place (views name parent form)) rest s h = (tt, h)
+    action_named Folds seen n (action id place (views name parent form)) rest s h = (tt, subst (λ (cs : CoreCommands). Holds P Q cs) (view_rest scene n name parent form rest) h)
     action_named Folds seen n (action id place (calls function arguments)) rest s h = (tt, h)
     action_named Folds seen n (action id place (repeats test body)) rest s h = (tt, h)
     action_named Folds seen n (action id place (counts iterator declared low high factor body combine combine_place)) rest s h = (tt, h)
@@ -249,7 +263,7 @@ module _ (scene : Scene) (levels : List Level) (table : List MemEntry) (Name : R
         by one two (inr m) = inr m
     assigned_seen Folds seen n (action id place (blocks body)) rest s h = groups_seen Folds seen n body rest s h
     assigned_seen Folds seen n (action id place (lets_memory name shape shape_places value)) rest s h = inr h
-    assigned_seen Folds seen n (action id place (views name parent form)) rest s h = inr h
+    assigned_seen Folds seen n (action id place (views name parent form)) rest s h = inr (sym (ap (λ cs. any_assigns e cs) (view_rest scene n name parent form rest)) ∙ h)
     assigned_seen Folds seen n (action id place (calls function arguments)) rest s h = inr h
     assigned_seen Folds seen n (action id place (repeats test body)) rest s h = inr h
     assigned_seen Folds seen n (action id place (counts iterator declared low high factor body combine combine_place)) rest s h = inr h

@@ -15,13 +15,14 @@ use Rattle.dh_tree.specs.Indices.{IndexKind, constant, iterator, dynamic, index_
 use Rattle.dh_tree.specs.Memories.{Memory, memory_in, memories_of, number_in, same_entity, table_of}
 use Rattle.dh_tree.specs.PlainTrees.{Program, term, TermForm, number, truth_value, named, accessed, in_bank, applied, converted, Terms, no_terms, term_then}
 use Rattle.dh_tree.specs.Seen.{program_seen}
-use Rattle.dh_meaning.specs.Bindings.{bindings_of}
 use Rattle.dh_meaning.specs.CoreOf.{entity_number}
 use Rattle.dh_meaning.specs.Paths.{Path, copies_in, paths_in, same_path}
-use Rattle.dh_meets.specs.Charges.{bank_reached, charge, charge_of, depends, index_in, indices_in, keys_reaching, level_of_loop, paths_of, picked, reaches, reaches_in}
+use Rattle.dh_meaning.specs.Ways.{Way, all_bindings_of, way_to}
+use Rattle.dh_meets.specs.Charges.{bank_reached, charge, charge_by, charge_of, depends, index_in, indices_in, keys_reaching, level_of_loop, paths_of, picked, reaches, reaches_by, reaches_in}
 use Rattle.dh_meets.specs.Sharing.{shared}
 use Rattle.dh_meets.specs.SourceEvents.{SourceAccess}
 use Rattle.dh_events.specs.Accesses.{element_in}
+use Rattle.dh_ways.proofs.NoWays.{memory_unled}
 use Rattle.dh_sound.proofs.BanksReached.{declared_dims}
 use Rattle.dh_plan.specs.declared.operations.Reach.{Reach}
 use Rattle.dh_plan.specs.SoundPlans.{place_charge, use_charge, use_in}
@@ -150,10 +151,14 @@ module _ (scene : Scene) (levels : List Level) (sites : ℕ → Option Site) (sp
   a = its.access
 
   abbrev picks : ℕ → Bool
-  picks = depends (bindings_of p) a
+  picks = depends (all_bindings_of p) a
 
   abbrev copies : ℕ
   copies = copies_in (factors_of levels)
+
+  -- what is a memory has no way
+  unled : way_to p a.entity ≡ None
+  unled = ap (λ (o : Option ℕ). way_to p o) its.memory.is ∙ memory_unled p (Some its.memory.entity) its.memory.memory its.memory.declared
 
   memory_is : u.site.memory ≡ its.memory.number
   memory_is = its.tells.memory_is ∙ ap (λ (o : Option ℕ). entity_number o) (ap (λ (o : Option ℕ). number_in (memories_of p) o) its.memory.is ∙ its.memory.number_is)
@@ -188,7 +193,8 @@ module _ (scene : Scene) (levels : List Level) (sites : ℕ → Option Site) (sp
     reaches_told k h =
         ap (λ (n : ℕ). n == bank) (bank_reaches k)
         ∙ (sym (ap (λ (o : Option Memory). reaches_in (counters_of p) o a (path_at levels k) bank) memory_there)
-        ∙ sym (ap (λ (t : Bool). t && reaches_in (counters_of p) (memory_in (memories_of p) (Some entity)) a (path_at levels k) bank) itself))
+        ∙ (sym (ap (λ (t : Bool). t && reaches_in (counters_of p) (memory_in (memories_of p) (Some entity)) a (path_at levels k) bank) itself)
+        ∙ sym (ap (λ (w : Option Way). reaches_by p w a (path_at levels k) entity bank) unled)))
       where
         itself : same_entity a.entity (Some entity) ≡ true
         itself = ap (λ (o : Option ℕ). same_entity o (Some entity)) entity_is ∙ eq-eqb entity entity refl
@@ -212,7 +218,9 @@ module _ (scene : Scene) (levels : List Level) (sites : ℕ → Option Site) (sp
         paths_same = ap (λ (fs : List ℕ). paths_in fs) its.tells.loops.factors
 
     charged : charge p entity bank r.access ≡ distinct_count same_path (keys_reaching p a entity bank)
-    charged = ap (λ (o : Option SourceAccess). charge_of p entity bank r.access o) its.at ∙ by (shared p r.access) refl
+    charged =
+        ap (λ (o : Option SourceAccess). charge_of p entity bank r.access o) its.at
+        ∙ (ap (λ (w : Option Way). if is_some (shared p r.access) then 0 else charge_by p w a entity bank) unled ∙ by (shared p r.access) refl)
       where
         by : (o : Option ℕ) → shared p r.access ≡ o → (if is_some (shared p r.access) then 0 else distinct_count same_path (keys_reaching p a entity bank)) ≡ distinct_count same_path (keys_reaching p a entity bank)
         by None e = ap (λ (q : Option ℕ). if is_some q then 0 else distinct_count same_path (keys_reaching p a entity bank)) e

@@ -6,9 +6,9 @@ use Rattle.dh_tree.specs.Counters.{counters_of}
 use Rattle.dh_tree.specs.Memories.{Memory, memory_in, memories_of, number_in}
 use Rattle.dh_tree.specs.PlainTrees.{Program, TermForm}
 use Rattle.dh_tree.specs.Seen.{program_seen}
-use Rattle.dh_meaning.specs.Bindings.{bindings_of}
 use Rattle.dh_meaning.specs.CoreOf.{entity_number}
 use Rattle.dh_meaning.specs.Paths.{Path, copies_in}
+use Rattle.dh_meaning.specs.Ways.{all_bindings_of}
 use Rattle.dh_meets.specs.Charges.{bank_reached, charge, depends}
 use Rattle.dh_meets.specs.Sharing.{shared}
 use Rattle.dh_meets.specs.SourceEvents.{SourceAccess, accesses_in, trace}
@@ -37,7 +37,7 @@ pub record TellsAccess (scene : Scene) (levels : List Level) (site : Site) (a : 
   pub form : TermForm
   pub memory_is : site.memory ≡ entity_number (number_in (memories_of (program_seen scene.program.now)) a.entity)
   pub element_is : element_in form ≡ a.element
-  pub leader_is : (path : ℕ) → site.standing.leader path ≡ leader_number levels (depends (bindings_of (program_seen scene.program.now)) a) path
+  pub leader_is : (path : ℕ) → site.standing.leader path ≡ leader_number levels (depends (all_bindings_of (program_seen scene.program.now)) a) path
   pub bank_is : (path : ℕ) → site.standing.bank path ≡ narrowed (bank_by (program_seen scene.program.now) levels site.memory form path)
   pub long : length site.standing.guards ≡ copies_in (factors_of levels)
   pub loops : AreLevelsOf levels a.site.loops

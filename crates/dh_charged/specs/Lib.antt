@@ -8,7 +8,7 @@ pub mod LeadersCounted
 pub mod MetAccesses
 -- charges of reads and writes
 pub mod ChargedUses
--- sites of blocks, and the accesses of the program
-pub mod TracedSites
+-- memories of accesses
+pub mod AccessMemories
 -- charges of blocks and of plans
 pub mod ChargedBlocks

@@ -1,11 +1,11 @@
 //! Laws on the blocks of a plan, stated on functions that do nothing.
 
+ghost use Rattle.dh_charged.specs.AccessMemories.{ReadyHaveMemories};
 ghost use Rattle.dh_charged.specs.ChargedBlocks.{BlocksCharge, PlansCharge, TestsCharge};
 ghost use Rattle.dh_charged.specs.ChargedUses.{LedUsesCharge};
 ghost use Rattle.dh_charged.specs.LeadersCounted.{AllLeadersAreKeys};
 ghost use Rattle.dh_charged.specs.MetAccesses.{CommandsMeetInRange, PlansMeet};
 ghost use Rattle.dh_charged.specs.TouchedBlocks.{StraightsTouch, TestsTouch};
-ghost use Rattle.dh_charged.specs.TracedSites.{BlocksAreTraced, ReadyHaveMemories, TestSitesAreTraced};
 
 /// A block sees registers of variables that it mentions, and counters of loops round it; it sets registers of what it
 /// assigns to, or the flag of its test.
@@ -29,12 +29,6 @@ pub fn plans_meet_as_programs()
 /// Reads and writes charge a bank no more than their accesses do in the program.
 pub fn led_uses_charge()
     ensures { LedUsesCharge }
-{}
-
-/// The sites of a block are those of the program's accesses of their numbers.
-pub fn sites_are_traced()
-    ensures straight { BlocksAreTraced }
-    ensures tests { TestSitesAreTraced }
 {}
 
 /// Each access of a ready program is of a memory, where memories and banks are few.

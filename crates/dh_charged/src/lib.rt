@@ -8,5 +8,5 @@ mod laws;
 
 pub use laws::{
     accesses_have_memories, blocks_charge_less, leaders_are_keys, led_uses_charge,
-    made_blocks_touch, plans_meet_as_programs, sites_are_traced,
+    made_blocks_touch, plans_meet_as_programs,
 };

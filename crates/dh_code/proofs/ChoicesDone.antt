@@ -3,7 +3,7 @@ use Rattle.std.proofs.Common.{◌≡◌, ℕ, zero, suc, ◌<◌, ◌≤◌, Boo
 use Rattle.std.specs.Prelude.{Result, slice_index_or}
 use Rattle.std.proofs.lemmas.List.{map-append, take-append-drop}
 use Rattle.dh_meaning.specs.Paths.{Path}
-use Rattle.dh_meaning.specs.Core.{CoreTerm, CoreCommand, store, assign, choose, CoreCommands, no_commands, command_and}
+use Rattle.dh_meaning.specs.Core.{CoreTerm, CoreCommand, store, assign, choose, keep, CoreCommands, no_commands, command_and}
 use Rattle.dh_meaning.specs.Effects.{Begun, Effect, Variables, at_each, command_run, commands_run, holds_at, paths_where, tested_at}
 use Rattle.dh_code.specs.declared.codes.Flat.{Flat}
 use Rattle.dh_code.specs.declared.evaluating.Scene.{Scene}
@@ -22,6 +22,7 @@ mutual
   pub nowhere : (b : Begun) (c : CoreCommand) (e : Effect) → command_run b [] c e ≡ e
   nowhere b (store r target value) e = refl
   nowhere b (assign depth entity value) e = refl
+  nowhere b (keep depth first values) e = refl
   nowhere b (choose test chosen other) e = ap (λ x. commands_run b [] other x) (all_nowhere b chosen e) ∙ all_nowhere b other e
 
   pub all_nowhere : (b : Begun) (cs : CoreCommands) (e : Effect) → commands_run b [] cs e ≡ e

@@ -5,7 +5,7 @@ use Rattle.std.specs.List.{AllByRecursion}
 use Rattle.std.proofs.lemmas.List.{length-append, length-drop, take-append-le}
 use Rattle.std.proofs.lemmas.Option.{slice_get_within}
 use Rattle.dh_tree.specs.declared.tables.MemEntry.{MemEntry}
-use Rattle.dh_meaning.specs.Core.{Reach, CoreTerm, CoreCommand, store, assign, choose, CoreCommands, no_commands, command_and}
+use Rattle.dh_meaning.specs.Core.{Reach, CoreTerm, CoreCommand, store, assign, choose, keep, CoreCommands, no_commands, command_and}
 use Rattle.dh_meaning.specs.Core as core
 use Rattle.dh_code.specs.declared.codes.Access.{Access}
 use Rattle.dh_code.specs.declared.codes.Action.{Action}
@@ -110,11 +110,14 @@ module _ (held : List Held) (table : List MemEntry) (a b : Code) (h : Extends a 
     one_stays (Store f y) (store r target value) i = store_stays r target value f y i
     one_stays (Store f y) (assign depth entity value) i = absurd i
     one_stays (Store f y) (choose test chosen other) i = absurd i
+    one_stays (Store f y) (keep depth first values) i = absurd i
     one_stays (Assign f first depth) (store r target value) i = absurd i
     one_stays (Assign f first depth) (assign deep entity value) i = (flat_stays value f i.0, i.1)
     one_stays (Assign f first depth) (choose test chosen other) i = absurd i
+    one_stays (Assign f first depth) (keep deep entity values) i = absurd i
     one_stays (Choose f one two) (store r target value) i = absurd i
     one_stays (Choose f one two) (assign depth entity value) i = absurd i
+    one_stays (Choose f one two) (keep depth first values) i = absurd i
     one_stays (Choose f one two) (choose test chosen other) i = (flat_stays test f i.0, (coded_stays one chosen i.1.0, coded_stays two other i.1.1))
 
 -- a list of commands that is there begins before the number of the next one

@@ -11,13 +11,17 @@ use Rattle.dh_tree.specs.declared.tables.MemEntry.{MemEntry}
 use Rattle.dh_tree.specs.declared.trees.expressions.Ref.{Ref}
 use Rattle.dh_tree.specs.declared.trees.commands.Command.{Command}
 use Rattle.dh_tree.specs.PlainTrees as plain
-use Rattle.dh_tree.specs.PlainTrees.{Action as PlainAction, ActionForm, Actions, Groups}
+use Rattle.dh_tree.specs.PlainTrees.{Action as PlainAction, ActionForm, Actions, Groups, ViewPlan}
 use Rattle.dh_tree.specs.Seen.{action_form_seen, action_seen, actions, groups, part_seen}
-use Rattle.dh_meaning.specs.AccessNumbers.{accesses_of, part_accesses}
-use Rattle.dh_meaning.specs.Core.{Reach, by_indices, by_row, CoreTerm, variable, truth_literal, CoreCommand, store, assign, choose, CoreCommands, no_commands, command_and}
+use Rattle.dh_tree.specs.Memories.{Memory, memory_in}
+use Rattle.dh_tree.specs.Seen.{terms}
+use Rattle.dh_tree.specs.ViewOffsets.{offsets_of}
+use Rattle.dh_meaning.specs.AccessNumbers.{accesses_of, part_accesses, terms_accesses}
+use Rattle.dh_meaning.specs.Core.{Reach, by_indices, by_row, CoreTerm, variable, truth_literal, CoreTerms, no_terms, term_and, CoreCommand, store, assign, choose, CoreCommands, no_commands, command_and}
 use Rattle.dh_meaning.specs.Core as core
 use Rattle.dh_meaning.specs.Phases.{Located}
-use Rattle.dh_meaning.specs.CoreOf.{Known, core_action, core_action_form, core_commands, core_groups, core_part, core_term, core_terms, depth_of, entity_number, folded_into, kind_of, memory_of, operation_of, store_to}
+use Rattle.dh_meaning.specs.CoreOf.{Known, core_action, core_action_form, core_commands, core_groups, core_part, core_term, core_terms, depth_of, entity_number, folded_into, kept_by, kind_of, memory_of, operation_of, reach_of, store_to, target_to, way_of}
+use Rattle.dh_meaning.specs.Ways.{Hidden, Way, base_of, hidden_in, way_at, way_unless}
 use Rattle.dh_code.specs.declared.codes.Access.{Access}
 use Rattle.dh_code.specs.declared.codes.Action.TheVariants.{Store, Assign, Choose}
 use Rattle.dh_code.specs.declared.codes.Code.{Code}
@@ -54,15 +58,28 @@ store_by known n (plain.term at kind (plain.named r)) value = refl
 store_by known n (plain.term at kind (plain.applied o left right)) value = refl
 store_by known n (plain.term at kind (plain.converted inner to)) value = refl
 
+-- Code knows no views yet.
+
+pub no_way : (ms : List Memory) (entity : Option ℕ) → way_at ms [] entity ≡ None
+no_way ms entity = by (memory_in ms entity)
+  where
+    by : (m : Option Memory) → way_unless m None ≡ None
+    by (Some m) = refl
+    by None = refl
+
+pub own_base : (ms : List Memory) (entity : Option ℕ) → base_of (way_at ms [] entity) entity ≡ entity
+own_base ms entity = ap (λ w. base_of w entity) (no_way ms entity)
+
 -- an access by indices, and in a row of a bank
-pub aimed_by_indices : (names : Names) (old new : Code) (n : ℕ) (target : plain.Term) (place : _) (kind : Option Kind) (r : Ref) (indices : List plain.Term) (terms : List plain.Term → plain.Terms) (memory : ℕ) (os : List Operand) → target ≡ plain.term place kind (plain.accessed r (terms indices)) → memory ≡ memory_of (known_in names) r
+pub aimed_by_indices : (names : Names) (old new : Code) (n : ℕ) (target : plain.Term) (place : _) (kind : Option Kind) (r : Ref) (indices : List plain.Term) (memory : ℕ) (os : List Operand) → target ≡ plain.term place kind (plain.accessed r (terms indices)) → memory ≡ memory_of (known_in names) r
     → ((n : ℕ) → AreSuited (table_in names) (core_terms (known_in names) n (terms indices)) → AreMade old new os (terms_made names.places.now (table_in names) (length old.operations) (core_terms (known_in names) n (terms indices))))
     → IsAimed names old new (aimed_at (known_in names) n target) (Some (record { place = place; memory = memory; target = Indices os }))
-aimed_by_indices names old new n target place kind r indices terms memory os is number_is flat =
+aimed_by_indices names old new n target place kind r indices memory os is number_is flat =
     subst (λ (t : plain.Term). IsAimed names old new (aimed_at (known_in names) n t) (Some (record { place = place; memory = memory; target = Indices os }))) (sym is)
-    (λ suits.
+    (subst (λ (w : Option Way). IsAimed names old new (Some (reach_of (known_in names) (n + terms_accesses (terms indices)) place r, target_to w (core_terms (known_in names) n (terms indices)))) (Some (record { place = place; memory = memory; target = Indices os })))
+    (sym (no_way (known_in names).memories r.entity)) (λ suits.
     let m = flat n suits.1 in
-    (m.adds, ap (λ x. record { place = place; memory = x; target = Indices os }) number_is ∙ ap (λ x. record { place = place; memory = memory_of (known_in names) r; target = Indices x }) m.values))
+    (m.adds, ap (λ x. record { place = place; memory = x; target = Indices os }) number_is ∙ ap (λ x. record { place = place; memory = memory_of (known_in names) r; target = Indices x }) m.values)))
 
 pub aimed_by_row : (names : Names) (old new : Code) (n : ℕ) (target : plain.Term) (place : _) (kind : Option Kind) (r : Ref) (bank : ℕ) (bank_place : _) (row : plain.Term) (memory : ℕ) (o : Operand) → target ≡ plain.term place kind (plain.in_bank r bank bank_place row) → memory ≡ memory_of (known_in names) r
     → ((n : ℕ) → IsSuited (table_in names) (core_term (known_in names) n row) → IsMade old new o (term_made names.places.now (table_in names) (length old.operations) (core_term (known_in names) n row)))
@@ -235,7 +252,24 @@ front_then names a b c x y z cs ds es h k = record {
   sound = λ entries i s. k.sound entries (h.coded i) (h.sound entries i s);
 }
 
+-- a view stands in front of nothing
+pub view_front : (names : Names) (c : Code) (next : Option ℕ) (n : ℕ) (name parent : Ref) (form : ViewPlan) (rest : CoreCommands) → IsInFront names c c next next (core_action_form (known_in names) n (plain.views name parent form) rest) rest
+view_front names c next n name parent form rest =
+    subst (λ (cs : CoreCommands). IsInFront names c c next next cs rest) (sym (ap (λ w. kept_by (hidden_in w) offsets rest) (no_way (known_in names).memories name.entity) ∙ none offsets)) (front_none names c next rest)
+  where
+    offsets : CoreTerms
+    offsets = core_terms (known_in names) n (terms (offsets_of form))
+
+    none : (ts : CoreTerms) → kept_by [] ts rest ≡ rest
+    none no_terms = refl
+    none (term_and t ts) = refl
+
 module _ (known : Known) (table : List MemEntry) (p : Placing) (loops : List ℕ) where
+  behind_kept : (hidden : List Hidden) (ts : CoreTerms) (rest : CoreCommands) → CanDoAll table p loops (kept_by hidden ts rest) → CanDoAll table p loops rest
+  behind_kept hidden no_terms rest h = h
+  behind_kept [] (term_and t ts) rest h = h
+  behind_kept (x ∷ hidden) (term_and t ts) rest h = h.1
+
   mutual
     -- what stands behind a command that can be done can be done
     pub can_behind : (n : ℕ) (a : PlainAction) (rest : CoreCommands) → CanDoAll table p loops (core_action known n a rest) → CanDoAll table p loops rest
@@ -249,7 +283,7 @@ module _ (known : Known) (table : List MemEntry) (p : Placing) (loops : List ℕ
     can_behind_form n (plain.decides test chosen other) rest h = h.1
     can_behind_form n (plain.blocks body) rest h = can_behind_groups n body rest h
     can_behind_form n (plain.lets_memory name shape shape_places value) rest h = h
-    can_behind_form n (plain.views name parent form) rest h = h
+    can_behind_form n (plain.views name parent form) rest h = behind_kept (hidden_in (way_of known name)) (core_terms known n (terms (offsets_of form))) rest h
     can_behind_form n (plain.calls function arguments) rest h = h
     can_behind_form n (plain.repeats test body) rest h = h
     can_behind_form n (plain.counts iterator declared low high factor body combine combine_place) rest h = h

@@ -5,7 +5,7 @@ use Rattle.dh_code.proofs.Ranges.{length_range}
 use Rattle.dh_tree.specs.declared.tables.MemEntry.{MemEntry}
 use Rattle.dh_tree.specs.Elements.{Spot}
 use Rattle.dh_meaning.specs.Paths.{Path}
-use Rattle.dh_meaning.specs.Core.{Reach, CoreTerm, literal, truth_literal, variable, read, binary, convert, by_indices, by_row, CoreTerms, no_terms, term_and}
+use Rattle.dh_meaning.specs.Core.{Reach, CoreTerm, literal, truth_literal, variable, read, binary, convert, by_indices, by_row, by_views, CoreTerms, no_terms, term_and}
 use Rattle.dh_meaning.specs.Core as core
 use Rattle.dh_meaning.specs.Effects.{Begun, Effect, Event, Variables, reads, writes, faults, read_made, spot_reached, stop_after, target_events, term_events, terms_events, value_of}
 use Rattle.dh_code.specs.declared.codes.Flat.{Flat}
@@ -56,6 +56,7 @@ mutual
 
   pub none_aimed : (b : Begun) (v : Variables) (path : Path) (target : core.Target) → writes_in (target_events b v path target) ≡ []
   none_aimed b v path (by_indices indices) = none_in b v path indices
+  none_aimed b v path (by_views steps n terms) = none_in b v path terms
   none_aimed b v path (by_row bank row) = none_written b v path row
 
   none_in : (b : Begun) (v : Variables) (path : Path) (ts : CoreTerms) → writes_in (terms_events b v path ts) ≡ []

@@ -4,7 +4,7 @@ use Rattle.std.specs.Prelude.{Option, Result, slice_get, slice_index_or}
 use Rattle.std.proofs.lemmas.Option.{slice_get-get_or, slice_get_past}
 use Rattle.dh_tree.specs.declared.tables.MemEntry.{MemEntry}
 use Rattle.dh_meaning.specs.Paths.{Path}
-use Rattle.dh_meaning.specs.Core.{CoreTerm, store, assign, choose, CoreCommands, no_commands, command_and}
+use Rattle.dh_meaning.specs.Core.{CoreTerm, store, assign, choose, keep, CoreCommands, no_commands, command_and}
 use Rattle.dh_meaning.specs.Effects.{Begun, Effect, at_each, command_run, commands_run, holds_at, paths_where, tested_at}
 use Rattle.dh_code.specs.declared.codes.Action.{Action}
 use Rattle.dh_code.specs.declared.codes.Action.TheVariants.{Store, Assign, Choose}
@@ -49,6 +49,7 @@ module _ (s : Scene) (old : State) (rows : List (List ℕ)) (n : ℕ) (f : Flat)
   pub choose_one : {A : Type 0} (b : Bool) (middle new : State) (result : Result A Stop) → Decides s old (Ok b) middle ranks f → DoesAll s middle result new rows (n ∷ []) (if b then one else two) → DoesOne s old result new rows (n ∷ []) (Choose f one two)
   choose_one b middle new result d does p factors paths (store r target value) are coded can e k = absurd coded
   choose_one b middle new result d does p factors paths (assign deep entity t) are coded can e k = absurd coded
+  choose_one b middle new result d does p factors paths (keep deep entity values) are coded can e k = absurd coded
   choose_one {A} b middle new result d does p factors paths (choose test chosen other) are coded can e k = by (one_path factors rows n paths are)
     where
       goal_at : List Path → Type 0
@@ -78,6 +79,7 @@ module _ (s : Scene) (old : State) (rows : List (List ℕ)) (n : ℕ) (f : Flat)
       → DoesOne s old result new rows (n ∷ []) (Choose f one two)
   choose_stop_one A B x middle new result stopped d p factors paths (store r target value) are coded can e k = absurd coded
   choose_stop_one A B x middle new result stopped d p factors paths (assign deep entity t) are coded can e k = absurd coded
+  choose_stop_one A B x middle new result stopped d p factors paths (keep deep entity values) are coded can e k = absurd coded
   choose_stop_one A B x middle new result stopped d p factors paths (choose test chosen other) are coded can e k = by (one_path factors rows n paths are)
     where
       by : (path : Path) × (paths ≡ path ∷ []) → Ends {A = B} p s.entries.now (command_run (begun_in s) paths (choose test chosen other) e) s.step result new
@@ -96,6 +98,7 @@ module _ (s : Scene) (old : State) (rows : List (List ℕ)) (numbers : List ℕ)
       → DoesOne s old result new rows numbers (Choose f one two)
   choose_stop A B x middle new result stopped d p factors paths (store r target value) are coded can e k = absurd coded
   choose_stop A B x middle new result stopped d p factors paths (assign deep entity t) are coded can e k = absurd coded
+  choose_stop A B x middle new result stopped d p factors paths (keep deep entity values) are coded can e k = absurd coded
   choose_stop A B x middle new result stopped d p factors paths (choose test chosen other) are coded can e k =
       ends_later A B p s.entries.now s.step (at_each (tested_at (begun_in s) test) paths e) (command_run (begun_in s) paths (choose test chosen other) e) middle new x result
       (arms_grow (begun_in s) (paths_where true (holds_at (begun_in s) e.variables test) paths) (paths_where false (holds_at (begun_in s) e.variables test) paths) chosen other (at_each (tested_at (begun_in s) test) paths e)) stopped
@@ -107,6 +110,7 @@ module _ (s : Scene) (old : State) (rows : List (List ℕ)) (numbers : List ℕ)
     pub choose_stop_first : (A B : Type 0) (x : Stop) (middle new : State) (result : Result B Stop) → result ≡ Err x → DoesAll {A = A} s tested (Err x) middle rows first one → DoesOne s old result new rows numbers (Choose f one two)
     choose_stop_first A B x middle new result stopped does p factors paths (store r target value) are coded can e k = absurd coded
     choose_stop_first A B x middle new result stopped does p factors paths (assign deep entity t) are coded can e k = absurd coded
+    choose_stop_first A B x middle new result stopped does p factors paths (keep deep entity values) are coded can e k = absurd coded
     choose_stop_first A B x middle new result stopped does p factors paths (choose test chosen other) are coded can e k =
         let h = d p factors paths test are coded.0 can.0.1 e k in
         ends_later A B p s.entries.now s.step (commands_run (begun_in s) (paths_where true (holds_at (begun_in s) e.variables test) paths) chosen (at_each (tested_at (begun_in s) test) paths e)) _ middle new x result
@@ -116,6 +120,7 @@ module _ (s : Scene) (old : State) (rows : List (List ℕ)) (numbers : List ℕ)
     pub choose_both : {A B : Type 0} (a : A) (middle new : State) (result : Result B Stop) → DoesAll {A = A} s tested (Ok a) middle rows first one → DoesAll s middle result new rows second two → DoesOne s old result new rows numbers (Choose f one two)
     choose_both a middle new result does does' p factors paths (store r target value) are coded can e k = absurd coded
     choose_both a middle new result does does' p factors paths (assign deep entity t) are coded can e k = absurd coded
+    choose_both a middle new result does does' p factors paths (keep deep entity values) are coded can e k = absurd coded
     choose_both a middle new result does does' p factors paths (choose test chosen other) are coded can e k =
         let h = d p factors paths test are coded.0 can.0.1 e k in
         let k' = does p factors (paths_where true (holds_at (begun_in s) e.variables test) paths) chosen h.1.0 coded.1.0 can.1.0 (at_each (tested_at (begun_in s) test) paths e) h.0 in

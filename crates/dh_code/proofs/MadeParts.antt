@@ -12,7 +12,7 @@ use Rattle.dh_value.proofs.WordLaws.{truth_is_word}
 use Rattle.dh_tree.specs.declared.tables.MemEntry.{MemEntry}
 use Rattle.dh_tree.specs.WiderKinds.{wider}
 use Rattle.dh_tree.specs.Shapes.{IsMemory}
-use Rattle.dh_meaning.specs.Core.{Reach, CoreTerm, literal, truth_literal, variable, read, binary, convert, by_indices, by_row, CoreTerms, no_terms, term_and}
+use Rattle.dh_meaning.specs.Core.{Reach, CoreTerm, literal, truth_literal, variable, read, binary, convert, by_indices, by_row, by_views, CoreTerms, no_terms, term_and}
 use Rattle.dh_meaning.specs.Core as core
 use Rattle.dh_meaning.specs.CoreOf.{extended, operation_of}
 use Rattle.dh_meaning.specs.Effects.{kind_in}
@@ -108,6 +108,7 @@ module _ (held : List Held) (table : List MemEntry) (entries : AllByRecursion Is
   kind_sized (truth_literal value) h = (omega arith, omega arith)
   kind_sized (variable kind depth entity) h = h
   kind_sized (read r (by_indices indices)) h = sized_at table r.memory entries h.0
+  kind_sized (read r (by_views steps n terms)) h = absurd h
   kind_sized (read r (by_row bank row)) h = sized_at table r.memory entries h.0.0
   kind_sized (binary o left right) h = of_result o (term_kind table left) (kind_sized left h.1.0)
     where
@@ -165,6 +166,7 @@ module _ (held : List Held) (table : List MemEntry) (entries : AllByRecursion Is
 
     pub target_done : (at memory : ℕ) (target : core.Target) → IsSuitedTarget table memory target → AllByRecursion (IsOperation table) (target_made held table at target).operations × IsTarget table memory (target_made held table at target).target
     target_done at memory (by_indices indices) h = let a = all_done at indices h.1 in (a.0, (h.0, a.1))
+    target_done at memory (by_views steps n terms) h = absurd h
     target_done at memory (by_row bank row) h = let a = made_done at row h.1 in (a.operations, (h.0, a.value))
 
     all_done : (at : ℕ) (ts : CoreTerms) → AreSuited table ts → AllByRecursion (IsOperation table) (terms_made held table at ts).operations × AllByRecursion IsOperand (terms_made held table at ts).values

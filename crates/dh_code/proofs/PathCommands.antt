@@ -2,8 +2,8 @@
 use Rattle.std.proofs.Common.{◌≡◌, ℕ, suc, ◌<◌, ◌≤◌, List, [], length, get_or, Ok, Err, refl, ap, sym, ◌∙◌, subst}
 use Rattle.std.specs.Prelude.{Result, slice_index_or}
 use Rattle.dh_meaning.specs.Paths.{Path}
-use Rattle.dh_meaning.specs.Core.{CoreCommand, store, assign, choose}
-use Rattle.dh_meaning.specs.Effects.{Begun, Effect, assigned_at, at_each, stored_at, tested_at}
+use Rattle.dh_meaning.specs.Core.{CoreCommand, store, assign, choose, keep}
+use Rattle.dh_meaning.specs.Effects.{Begun, Effect, assigned_at, at_each, kept_at, stored_at, tested_at}
 use Rattle.dh_code.specs.declared.codes.Access.{Access}
 use Rattle.dh_code.specs.declared.codes.Action.{Action}
 use Rattle.dh_code.specs.declared.codes.Action.TheVariants.{Store, Assign}
@@ -22,11 +22,13 @@ use Rattle.dh_code.proofs.PathLoops.{Going, Grows, go_end, go_first, go_stop, go
 abbrev pub at_one : Begun → CoreCommand → Path → Effect → Effect
 at_one b (store r target value) path e = stored_at b r target value path e
 at_one b (assign depth entity value) path e = assigned_at b depth entity value path e
+at_one b (keep depth first values) path e = kept_at b depth first values path e
 at_one b (choose test chosen other) path e = tested_at b test path e
 
 pub one_grows : (b : Begun) (c : CoreCommand) (path : Path) (e : Effect) → Grows e (at_one b c path e)
 one_grows b (store r target value) path e = record { more = _; is = refl }
 one_grows b (assign depth entity value) path e = record { more = _; is = refl }
+one_grows b (keep depth first values) path e = record { more = _; is = refl }
 one_grows b (choose test chosen other) path e = record { more = _; is = refl }
 
 -- a command was done at the paths up to one
@@ -88,12 +90,14 @@ pub assigns_one : {A : Type 0} (s : Scene) (now new : State) (result : Result A 
 assigns_one s now new result ranks f first depth h p factors path (store r target value) at coded can = absurd coded
 assigns_one s now new result ranks f first depth h p factors path (assign deep entity t) at coded can = h p factors path deep entity t at coded.0 coded.1 can.0 can.1
 assigns_one s now new result ranks f first depth h p factors path (choose test chosen other) at coded can = absurd coded
+assigns_one s now new result ranks f first depth h p factors path (keep deep entity values) at coded can = absurd coded
 
 pub stores_one : {A : Type 0} (s : Scene) (now new : State) (result : Result A Stop) (ranks : List ℕ) (f : Flat) (a : Access) → Stores s now result new ranks f a
     → (p : Placing) (factors : List ℕ) (path : Path) (c : CoreCommand) → AreRanks factors ranks path → IsCoded p.held s.entries.now s.code.now (Store f a) c → CanDo s.entries.now p factors c → Runs p s now result new (at_one (begun_in s) c path)
 stores_one s now new result ranks f a h p factors path (store r target value) at coded can = h p factors path r target value at coded can.0.0 can.0.1 can.1
 stores_one s now new result ranks f a h p factors path (assign deep entity t) at coded can = absurd coded
 stores_one s now new result ranks f a h p factors path (choose test chosen other) at coded can = absurd coded
+stores_one s now new result ranks f a h p factors path (keep deep entity values) at coded can = absurd coded
 
 -- and so the whole command
 pub assigns_all : {A : Type 0} (s : Scene) (old new : State) (result : Result A Stop) (rows : List (List ℕ)) (numbers : List ℕ) (f : Flat) (first depth : ℕ)
@@ -103,6 +107,7 @@ pub assigns_all : {A : Type 0} (s : Scene) (old new : State) (result : Result A 
 assigns_all s old new result rows numbers f first depth h p factors paths (store r target value) are coded can e k = absurd coded
 assigns_all s old new result rows numbers f first depth h p factors paths (assign deep entity t) are coded can e k = h p factors paths (assign deep entity t) are coded can e k
 assigns_all s old new result rows numbers f first depth h p factors paths (choose test chosen other) are coded can e k = absurd coded
+assigns_all s old new result rows numbers f first depth h p factors paths (keep deep entity values) are coded can e k = absurd coded
 
 pub stores_all : {A : Type 0} (s : Scene) (old new : State) (result : Result A Stop) (rows : List (List ℕ)) (numbers : List ℕ) (f : Flat) (a : Access)
     → ((p : Placing) (factors : List ℕ) (paths : List Path) (c : CoreCommand) → AreRows factors rows numbers paths → IsCoded p.held s.entries.now s.code.now (Store f a) c → CanDo s.entries.now p factors c
@@ -111,3 +116,4 @@ pub stores_all : {A : Type 0} (s : Scene) (old new : State) (result : Result A S
 stores_all s old new result rows numbers f a h p factors paths (store r target value) are coded can e k = h p factors paths (store r target value) are coded can e k
 stores_all s old new result rows numbers f a h p factors paths (assign deep entity t) are coded can e k = absurd coded
 stores_all s old new result rows numbers f a h p factors paths (choose test chosen other) are coded can e k = absurd coded
+stores_all s old new result rows numbers f a h p factors paths (keep deep entity values) are coded can e k = absurd coded

@@ -4,8 +4,8 @@ use Rattle.std.specs.Prelude.{Result, slice_index_or}
 use Rattle.std.proofs.lemmas.List.{map-append}
 use Rattle.dh_tree.specs.declared.tables.MemEntry.{MemEntry}
 use Rattle.dh_meaning.specs.Paths.{Path}
-use Rattle.dh_meaning.specs.Core.{CoreCommand, store, assign, choose, CoreCommands, no_commands, command_and}
-use Rattle.dh_meaning.specs.Effects.{Begun, Effect, Event, assigned_at, at_each, command_run, commands_run, holds_at, paths_where, stop_after, stored_at, tested_at}
+use Rattle.dh_meaning.specs.Core.{CoreCommand, store, assign, choose, keep, CoreCommands, no_commands, command_and}
+use Rattle.dh_meaning.specs.Effects.{Begun, Effect, Event, assigned_at, at_each, command_run, commands_run, holds_at, kept_at, paths_where, stop_after, stored_at, tested_at}
 use Rattle.dh_code.specs.declared.evaluating.Scene.{Scene}
 use Rattle.dh_code.specs.declared.evaluating.Stop.{Stop}
 use Rattle.dh_code.specs.declared.evaluating.Stop.TheVariants as stop
@@ -36,6 +36,7 @@ module _ (b : Begun) where
     pub command_grows : (paths : List Path) (c : CoreCommand) (e : Effect) → Grows e (command_run b paths c e)
     command_grows paths (store r target value) e = each_grows (stored_at b r target value) (λ path e. record { more = _; is = refl }) paths e
     command_grows paths (assign depth entity value) e = each_grows (assigned_at b depth entity value) (λ path e. record { more = _; is = refl }) paths e
+    command_grows paths (keep depth first values) e = each_grows (kept_at b depth first values) (λ path e. record { more = _; is = refl }) paths e
     command_grows paths (choose test chosen other) e =
         let tested = at_each (tested_at b test) paths e in
         let first = each_grows (tested_at b test) (λ path e. record { more = _; is = refl }) paths e in

@@ -18,7 +18,7 @@ use Rattle.dh_tree.specs.declared.tables.MemEntry.{MemEntry}
 use Rattle.dh_tree.specs.Elements.{Spot}
 use Rattle.dh_tree.specs.Shapes.{IsMemory}
 use Rattle.dh_meaning.specs.Paths.{Path}
-use Rattle.dh_meaning.specs.Core.{Reach, CoreTerm, literal, truth_literal, variable, read, binary, convert, by_indices, by_row, CoreTerms, no_terms, term_and}
+use Rattle.dh_meaning.specs.Core.{Reach, CoreTerm, literal, truth_literal, variable, read, binary, convert, by_indices, by_row, by_views, CoreTerms, no_terms, term_and}
 use Rattle.dh_meaning.specs.Core as core
 use Rattle.dh_meaning.specs.Effects.{Begun, Event, Variables, bits_at, kind_in, read_made, spot_by_indices, spot_by_row, spot_reached, target_events, term_events, terms_events, value_of, values_of}
 use Rattle.dh_code.specs.declared.codes.Operand.{Operand}
@@ -291,6 +291,7 @@ module _ (p : Placing) (b : Begun) (v : Variables) (factors : List ℕ) (path : 
     leads w at r (by_indices indices) s h i room =
         let g = gives_all w at indices s h.1 i room in
         record { spot = ap (λ l. spot_by_indices b.table r.memory l) g.values; events = g.events }
+    leads w at r (by_views steps n terms) s h i room = absurd h
     leads w at r (by_row bank row) s h i room =
         let g = gives w at row s h.1 i room in
         record { spot = ap (λ (x : Word). spot_by_row b.table r.memory bank (words.value_of x)) g.value; events = g.events }

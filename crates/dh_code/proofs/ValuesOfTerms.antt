@@ -1,5 +1,5 @@
 -- The values of expressions: their kinds, and that they are words.
-use Rattle.std.proofs.Common.{◌≡◌, ℕ, ◌-◌, ◌%◌, ◌^◌, ◌<◌, Bool, true, false, if◌then◌else◌, List, length, Some, None, refl, ap, sym, ◌∙◌, subst}
+use Rattle.std.proofs.Common.{◌≡◌, ℕ, ◌-◌, ◌%◌, ◌^◌, ◌<◌, Bool, true, false, if◌then◌else◌, List, length, take, drop, Some, None, ℤ, refl, ap, sym, ◌∙◌, subst}
 use Rattle.std.specs.Prelude.{Option}
 use Rattle.std.specs.List.{AllByRecursion}
 use Rattle.std.proofs.lemmas.Nat.{pow_pos}
@@ -14,8 +14,8 @@ use Rattle.dh_tree.specs.declared.tables.MemEntry.{MemEntry}
 use Rattle.dh_tree.specs.Elements.{Spot}
 use Rattle.dh_tree.specs.Shapes.{IsMemory}
 use Rattle.dh_meaning.specs.Paths.{Path}
-use Rattle.dh_meaning.specs.Core.{Reach, CoreTerm, literal, truth_literal, variable, read, binary, convert, Target, by_indices, by_row}
-use Rattle.dh_meaning.specs.Effects.{Begun, Variables, bits_at, bits_of, kind_in, spot_reached, value_of}
+use Rattle.dh_meaning.specs.Core.{Reach, CoreTerm, literal, truth_literal, variable, read, binary, convert, Target, by_indices, by_row, by_views}
+use Rattle.dh_meaning.specs.Effects.{Begun, Variables, bits_at, bits_of, indices_through, kind_in, spot_if_inside, spot_reached, value_of, values_of}
 use Rattle.dh_code.specs.Scenes.{AreSmall}
 use Rattle.dh_code.specs.Suited.{IsSuited, IsSuitedTarget, term_kind}
 use Rattle.dh_code.proofs.Entries.{entry_at, kind_is, no_entry}
@@ -51,6 +51,18 @@ module _ (b : Begun) (variables : Variables) (path : Path) where
       chosen : (t : Bool) (x s : Spot) → (if t then Some x else None) ≡ Some s → s.memory ≡ x.memory
       chosen true x s e = let f : x ≡ s = cc in ap (λ (y : Spot). y.memory) (sym f)
       chosen false x s e = absurd cc
+  of_memory r (by_views steps n terms) s e = through (indices_through steps (take n values) (drop n values)) e
+    where
+      values : List ℤ
+      values = values_of b variables path terms
+
+      chosen : (t : Bool) (x s : Spot) → (if t then Some x else None) ≡ Some s → s.memory ≡ x.memory
+      chosen true x s e = let f : x ≡ s = cc in ap (λ (y : Spot). y.memory) (sym f)
+      chosen false x s e = absurd cc
+
+      through : (o : Option (List ℤ)) → spot_if_inside b.table r.memory o ≡ Some s → s.memory ≡ r.memory
+      through None e = absurd cc
+      through (Some is) e = chosen _ _ _ e
   of_memory r (by_row bank row) s e = chosen _ _ _ e
     where
       chosen : (t : Bool) (x s : Spot) → (if t then Some x else None) ≡ Some s → s.memory ≡ x.memory
@@ -59,6 +71,7 @@ module _ (b : Begun) (variables : Variables) (path : Path) where
 
   memory_there : (r : Reach) (target : Target) → IsSuitedTarget b.table r.memory target → r.memory < length b.table
   memory_there r (by_indices indices) h = h.0
+  memory_there r (by_views steps n terms) h = absurd h
   memory_there r (by_row bank row) h = h.0.0
 
   -- an expression that suits has a word for its value

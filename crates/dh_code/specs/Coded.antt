@@ -1,7 +1,7 @@
 -- The code of commands: lists that lead from one to the next, of the expressions' operations and values.
 use Rattle.std.specs.Prelude.{◌≡◌, ℕ, ◌+◌, ◌≤◌, List, ◌++◌, length, slice_get, slice_range, Option, Some, None}
 use Rattle.dh_tree.specs.declared.tables.MemEntry.{MemEntry}
-use Rattle.dh_meaning.specs.Core.{Reach, CoreTerm, CoreTerms, CoreCommand, store, assign, choose, CoreCommands, no_commands, command_and}
+use Rattle.dh_meaning.specs.Core.{Reach, CoreTerm, CoreTerms, CoreCommand, store, assign, choose, keep, CoreCommands, no_commands, command_and}
 use Rattle.dh_meaning.specs.Core as core
 use Rattle.dh_code.specs.declared.codes.Access.{Access}
 use Rattle.dh_code.specs.declared.codes.Operation.{Operation}
@@ -56,11 +56,14 @@ abbrev mutual
   IsCoded held table code (Store f a) (store reach target value) = IsFlatStore held table code reach target value f a
   IsCoded held table code (Store f a) (assign depth entity value) = ⊥
   IsCoded held table code (Store f a) (choose test chosen other) = ⊥
+  IsCoded held table code (Store f a) (keep depth first values) = ⊥
   IsCoded held table code (Assign f first depth) (store reach target value) = ⊥
   IsCoded held table code (Assign f first depth) (assign deep entity value) = IsFlat held table code value f × AreSlotsOf held entity first depth
   IsCoded held table code (Assign f first depth) (choose test chosen other) = ⊥
+  IsCoded held table code (Assign f first depth) (keep deep entity values) = ⊥
   IsCoded held table code (Choose f one two) (store reach target value) = ⊥
   IsCoded held table code (Choose f one two) (assign depth entity value) = ⊥
+  IsCoded held table code (Choose f one two) (keep depth first values) = ⊥
   IsCoded held table code (Choose f one two) (choose test chosen other) =
       IsFlat held table code test f
       × (AreCoded held table code one chosen × AreCoded held table code two other)

@@ -9,18 +9,18 @@ use Rattle.dh_tree.specs.declared.trees.expressions.Expr.{Expr}
 use Rattle.dh_tree.specs.declared.trees.expressions.Ref.{Ref}
 use Rattle.std.specs.Global.{Global}
 use Rattle.std.specs.List.{AllByRecursion}
-use Rattle.dh_tree.specs.Memories.{table_of}
+use Rattle.dh_tree.specs.Memories.{memories_of, table_of}
 use Rattle.dh_tree.specs.Shapes.{IsMemory}
 use Rattle.dh_tree.specs.PlainTrees as plain
 use Rattle.dh_tree.specs.Seen.{action_seen, maybe_seen, program_seen, term_seen, terms}
 use denote.Ref.{Bor}
 use Rattle.dh_meaning.specs.AccessNumbers.{term_accesses, terms_accesses}
-use Rattle.dh_meaning.specs.Bindings.{binding_in, kind_bound, kind_found}
+use Rattle.dh_meaning.specs.Bindings.{binding_in, bindings_of, kind_bound, kind_found}
 use Rattle.dh_value.specs.Operations.{truth}
 use Rattle.dh_meaning.specs.Phases.{Located}
 use Rattle.dh_meaning.specs.Core as core
-use Rattle.dh_meaning.specs.Core.{Reach, by_indices, by_row, CoreTerm, CoreTerms, CoreCommands, command_and, no_commands}
-use Rattle.dh_meaning.specs.CoreOf.{Known, core_action, core_commands, core_other, core_term, core_terms, entity_number, first_value, folded_into, known_of, reach_of, store_to}
+use Rattle.dh_meaning.specs.Core.{Reach, by_row, CoreTerm, CoreTerms, CoreCommands, command_and, no_commands}
+use Rattle.dh_meaning.specs.CoreOf.{Known, core_action, core_commands, core_other, core_term, core_terms, entity_number, first_value, folded_into, reach_of, store_to, target_to, way_of}
 use Rattle.dh_code.specs.declared.codes.Access.{Access}
 use Rattle.dh_code.specs.declared.codes.Action.{Action}
 use Rattle.dh_code.specs.declared.codes.Action.TheVariants.{Assign, Choose}
@@ -37,8 +37,9 @@ use Rattle.dh_code.specs.Scenes.{IsSoundCode}
 use Rattle.dh_code.specs.Slots.{Placing, held_at}
 use Rattle.dh_code.specs.Suited.{AreSuited, CanDoAll, IsSuited, IsSuitedTarget}
 
+-- what code knows of the names of a program: its memories and its variables, and no views yet
 abbrev pub known_in : Names → Known
-known_in names = known_of (program_seen names.program.now)
+known_in names = record { memories = memories_of (program_seen names.program.now); bindings = bindings_of (program_seen names.program.now); ways = [] }
 
 abbrev pub table_in : Names → List MemEntry
 table_in names = table_of (program_seen names.program.now)
@@ -174,7 +175,7 @@ IsStoredIn names old new target value next first =
 
 -- the access that a target is, or that it is none
 abbrev pub aimed_at : Known → (n : ℕ) → plain.Term → Option (Reach × core.Target)
-aimed_at known n (plain.term at kind (plain.accessed r indices)) = Some (reach_of known (n + terms_accesses indices) at r, by_indices (core_terms known n indices))
+aimed_at known n (plain.term at kind (plain.accessed r indices)) = Some (reach_of known (n + terms_accesses indices) at r, target_to (way_of known r) (core_terms known n indices))
 aimed_at known n (plain.term at kind (plain.in_bank r bank bank_place row)) = Some (reach_of known (n + term_accesses row) at r, by_row bank (core_term known n row))
 aimed_at known n (plain.term at kind (plain.number negative v)) = None
 aimed_at known n (plain.term at kind (plain.truth_value v)) = None

@@ -7,7 +7,7 @@ use Rattle.dh_value.specs.Words.{with_bits}
 use Rattle.dh_value.specs.Operations as operations
 use Rattle.dh_value.specs.Operations.{result_of}
 use Rattle.dh_tree.specs.declared.tables.MemEntry.{MemEntry}
-use Rattle.dh_meaning.specs.Core.{Reach, CoreTerm, literal, truth_literal, variable, read, binary, convert, by_indices, by_row, CoreTerms, no_terms, term_and}
+use Rattle.dh_meaning.specs.Core.{Reach, CoreTerm, literal, truth_literal, variable, read, binary, convert, by_indices, by_row, by_views, CoreTerms, no_terms, term_and}
 use Rattle.dh_meaning.specs.Core as core
 use Rattle.dh_meaning.specs.Effects.{bits_of, kind_in}
 use Rattle.dh_code.specs.declared.codes.Operand.{Operand}
@@ -89,6 +89,8 @@ abbrev mutual
 
   pub target_made : List Held → List MemEntry → (at : ℕ) → core.Target → Aimed
   target_made held table at (by_indices indices) = aimed (terms_made held table at indices).operations (Indices (terms_made held table at indices).values)
+  -- (of a view no code is made yet: see IsSuitedTarget)
+  target_made held table at (by_views steps n terms) = aimed (terms_made held table at terms).operations (Indices (terms_made held table at terms).values)
   target_made held table at (by_row bank row) = aimed (term_made held table at row).operations (Row bank (term_made held table at row).value)
 
   pub terms_made : List Held → List MemEntry → (at : ℕ) → CoreTerms → AllMade

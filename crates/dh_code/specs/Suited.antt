@@ -6,7 +6,7 @@ use Rattle.dh_value.specs.declared.kinds.Kind.TheVariants as kind
 use Rattle.dh_value.specs.Words.{IsKind, IsInteger}
 use Rattle.dh_value.specs.Operations.{Suits, result_of}
 use Rattle.dh_tree.specs.declared.tables.MemEntry.{MemEntry}
-use Rattle.dh_meaning.specs.Core.{CoreTerm, literal, truth_literal, variable, read, binary, convert, Target, by_indices, by_row, CoreTerms, no_terms, term_and, CoreCommand, store, assign, choose, CoreCommands, no_commands, command_and}
+use Rattle.dh_meaning.specs.Core.{CoreTerm, literal, truth_literal, variable, read, binary, convert, Target, by_indices, by_row, by_views, CoreTerms, no_terms, term_and, CoreCommand, store, assign, choose, keep, CoreCommands, no_commands, command_and}
 use Rattle.dh_meaning.specs.Effects.{kind_in}
 use Rattle.dh_code.specs.Banks.{HasBank}
 use Rattle.dh_code.specs.Slots.{Placing, held_at}
@@ -32,6 +32,8 @@ abbrev mutual
 
   pub IsSuitedTarget : List MemEntry → (memory : ℕ) → Target → Type 0
   IsSuitedTarget table memory (by_indices indices) = (memory < length table) × AreSuited table indices
+  -- (accesses through views have no code yet)
+  IsSuitedTarget table memory (by_views steps n terms) = ⊥
   IsSuitedTarget table memory (by_row bank row) = HasBank table memory bank × IsSuited table row
 
   pub AreSuited : List MemEntry → CoreTerms → Type 0
@@ -57,6 +59,7 @@ abbrev mutual
 
   pub TargetInside : Placing → (loops : List ℕ) → Target → Type 0
   TargetInside p loops (by_indices indices) = AllInside p loops indices
+  TargetInside p loops (by_views steps n terms) = AllInside p loops terms
   TargetInside p loops (by_row bank row) = AreInside p loops row
 
   pub AllInside : Placing → (loops : List ℕ) → CoreTerms → Type 0
@@ -76,6 +79,8 @@ abbrev mutual
   pub CanDo : List MemEntry → Placing → (loops : List ℕ) → CoreCommand → Type 0
   CanDo table p loops (store reach target value) = (IsSuitedTarget table reach.memory target × TargetInside p loops target) × CanEvaluate table p loops value
   CanDo table p loops (assign depth entity value) = IsInside p loops depth entity × CanEvaluate table p loops value
+  -- (views that move have no code yet)
+  CanDo table p loops (keep depth first values) = ⊥
   CanDo table p loops (choose test chosen other) = CanTest table p loops test × (CanDoAll table p loops chosen × CanDoAll table p loops other)
 
   pub CanDoAll : List MemEntry → Placing → (loops : List ℕ) → CoreCommands → Type 0

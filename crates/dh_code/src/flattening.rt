@@ -1,6 +1,7 @@
 //! Code from expressions and commands.
 
 ghost use Rattle.std.specs.Prelude.{◌≡◌, IfOk};
+ghost use Rattle.dh_tree.specs.Memories.{number_in};
 ghost use Rattle.dh_tree.specs.Seen.{term_seen};
 ghost use Rattle.dh_meaning.specs.CoreOf.{entity_number, memory_of};
 ghost use Rattle.dh_meaning.specs.Effects.{kind_in};
@@ -27,17 +28,24 @@ pub struct Names<'a> {
     pub places: &'a [Held],
 }
 
-/// The number of the memory that a name stands for; every access of a typed program has one.
-fn memory_of(names: &Names<'_>, of: &Ref) -> usize
-    ensures { result ≡ memory_of (known_in names.now) of.now }
+/// The number of the memory that an entity is; that of every access of a typed program is one.
+fn number_of(names: &Names<'_>, of: Option<u32>) -> usize
+    ensures { result ≡ entity_number (number_in (known_in names.now).memories of) }
 {
-    let Some(entity) = of.entity else {
+    let Some(entity) = of else {
         return 0;
     };
     match names.program.memory_number(entity) {
         Some(number) => number,
         None => 0,
     }
+}
+
+/// The number of the memory that a name stands for.
+fn memory_of(names: &Names<'_>, of: &Ref) -> usize
+    ensures { result ≡ memory_of (known_in names.now) of.now }
+{
+    number_of(names, of.entity)
 }
 
 /// What a variable holds, as a value of a kind.

@@ -186,4 +186,4 @@ module _ (scene : Scene) (around : Around) (tests : List ℕ) (holds : Bool) (a 
           (is_arm.on j l ∙ (ap (λ (b : Bool). b && comes_out holds (truths (path_in around j))) on ∙ comes_other holds (truths (path_in around j)) is))
           (core_action (known_in scene) first a no_commands) (action_deep scene first a no_commands tt)
           (λ other sets. own_in_arm scene around arm.arm x holds truths is_arm other
-          (own other (action_any (known_in scene) other 0 a ∙ (sym (action_any (known_in scene) other first a) ∙ sets))))))
+          (own other (action_any scene other 0 a ∙ (sym (action_any scene other first a) ∙ sets))))))

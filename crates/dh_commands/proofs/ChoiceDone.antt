@@ -298,8 +298,8 @@ module _ (scene : Scene) (around : Around) (first n1 n2 n3 : ℕ) (t : plain.Ter
   choice_sets id place entity may = or_none _ ∙ either_true _ _ (by may)
     where
       by : May entity → (any_assigns entity (core_action (known_in scene) (0 + term_accesses t) chosen no_commands) ≡ true) ⊎ (any_assigns entity (core_other (known_in scene) (0 + term_accesses t + accesses_of chosen) other) ≡ true)
-      by (inl sets) = inl (action_any (known_in scene) entity (0 + term_accesses t) chosen ∙ (sym (action_any (known_in scene) entity 0 chosen) ∙ sets))
-      by (inr sets) = inr (sets_other (known_in scene) entity (0 + term_accesses t + accesses_of chosen) other ∙ (sym (sets_other (known_in scene) entity 0 other) ∙ sets))
+      by (inl sets) = inl (action_any scene entity (0 + term_accesses t) chosen ∙ (sym (action_any scene entity 0 chosen) ∙ sets))
+      by (inr sets) = inr (sets_other scene entity (0 + term_accesses t + accesses_of chosen) other ∙ (sym (sets_other scene entity 0 other) ∙ sets))
 
   pub choice_done : (id : ℕ) (place : Place) → DoesCommand scene around (action id place (decides t chosen other)) first n3 old new
   choice_done id place = record {

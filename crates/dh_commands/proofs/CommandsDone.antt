@@ -10,11 +10,13 @@ use Rattle.dh_value.specs.declared.operators.Op.{Op}
 use Rattle.dh_tree.specs.declared.trees.expressions.Ref.{Ref}
 use Rattle.dh_tree.specs.PlainTrees as plain
 use Rattle.dh_tree.specs.PlainTrees.{Action, action, ActionForm, lets, lets_memory, views, assigns, stores, reduces, calls, blocks, decides, repeats, counts, Actions, no_actions, action_then, Groups, no_groups, group_then}
-use Rattle.dh_meaning.specs.AccessNumbers.{accesses_of, groups_accesses, part_accesses, term_accesses}
-use Rattle.dh_meaning.specs.Core.{CoreCommands, no_commands, literal, truth_literal}
-use Rattle.dh_meaning.specs.CoreOf.{core_action, core_groups, core_part, core_term, entity_number, store_to}
+use Rattle.dh_meaning.specs.AccessNumbers.{accesses_of, groups_accesses, part_accesses, term_accesses, terms_accesses}
+use Rattle.dh_meaning.specs.Core.{CoreCommands, no_commands, literal, store, truth_literal}
+use Rattle.dh_meaning.specs.CoreOf.{core_action, core_groups, core_part, core_term, core_terms, entity_number, reach_of, store_to, target_to}
 use Rattle.dh_meaning.specs.Effects.{Effect, Event, Variables, assigned_at, at_each, command_run, commands_run, tested_at}
 use Rattle.dh_meaning.specs.Paths.{Path}
+use Rattle.dh_meaning.specs.Ways.{Way}
+use Rattle.dh_code.proofs.CommandsFlattened.{no_way}
 use Rattle.dh_code.specs.Slots.{held_at}
 use Rattle.dh_expressions.specs.declared.scenes.Around.{Around}
 use Rattle.dh_expressions.specs.declared.scenes.Scene.{Scene}
@@ -80,7 +82,10 @@ module _ (scene : Scene) (around : Around) (id : ℕ) (place : Place) (first nex
       (λ e same. sets_one e (entity_number r.entity) same) (λ x reads e p. p) (λ x e. refl)
 
   store_runs : (target t : plain.Term) (x : Step) (e : Effect) → at_each (store_run scene x first target t) (paths_on x around) e ≡ command_run (begun_of x) (paths_on x around) (store_to (known_in scene) (first + term_accesses t) target (core_term (known_in scene) first t)) e
-  store_runs (plain.term at k (plain.accessed r ts)) t x e = refl
+  store_runs (plain.term at k (plain.accessed r ts)) t x e =
+      ap (λ (w : Option Way). command_run (begun_of x) (paths_on x around)
+      (store (reach_of (known_in scene) (first + term_accesses t + terms_accesses ts) at r) (target_to w (core_terms (known_in scene) (first + term_accesses t) ts)) (core_term (known_in scene) first t)) e)
+      (sym (no_way (known_in scene).memories r.entity))
   store_runs (plain.term at k (plain.in_bank r bank at_bank row)) t x e = refl
   store_runs (plain.term at k (plain.number negative z)) t x e = each_same _ (tested_at (begun_of x) (truth_literal false)) (λ p f. no_events f) (paths_on x around) e
   store_runs (plain.term at k (plain.truth_value b)) t x e = each_same _ (tested_at (begun_of x) (truth_literal false)) (λ p f. no_events f) (paths_on x around) e
@@ -158,7 +163,7 @@ module _ (scene : Scene) (around : Around) where
     so = λ some few. let k = d.so some (fewer few) in record {
       extends = k.extends;
       changes = λ ready. changes_wider scene around (SetsGroups scene gs) (SetsGroups scene (group_then no_actions gs)) old.values new.values
-          (λ e sets. groups_any (known_in scene) e 0 (group_then no_actions gs) ∙ (sym (groups_any (known_in scene) e 0 gs) ∙ sets)) (k.changes ready);
+          (λ e sets. groups_any scene e 0 (group_then no_actions gs) ∙ (sym (groups_any scene e 0 gs) ∙ sets)) (k.changes ready);
       so = λ x reads e fits begun p stands.
           subst (λ (n : ℕ). Stands scene around x reads new (groups_effect scene x (paths_on x around) n gs e)) (sym (add-zero first))
           (k.so x reads e fits begun (subst (λ (n : ℕ). FollowsGroups scene x reads around d.arms n gs e) (add-zero first) p.1) stands);
@@ -211,14 +216,14 @@ module _ (scene : Scene) (around : Around) where
       where
         sets_first : (e : ℕ) → Sets scene a e → SetsGroups scene All e
         sets_first e sets =
-            groups_any (known_in scene) e 0 All
-            ∙ or_either (action_sets e a || part_sets e cs) (groups_set e gs) (inl (or_either (action_sets e a) (part_sets e cs) (inl (sym (action_any (known_in scene) e 0 a) ∙ sets))))
+            groups_any scene e 0 All
+            ∙ or_either (action_sets e a || part_sets e cs) (groups_set e gs) (inl (or_either (action_sets e a) (part_sets e cs) (inl (sym (action_any scene e 0 a) ∙ sets))))
 
         sets_rest : (e : ℕ) → SetsGroups scene (group_then cs gs) e → SetsGroups scene All e
         sets_rest e sets =
-            groups_any (known_in scene) e 0 All
+            groups_any scene e 0 All
             ∙ (sym (or_same (action_sets e a) (part_sets e cs) (groups_set e gs))
-            ∙ or_either (action_sets e a) (part_sets e cs || groups_set e gs) (inr (sym (groups_any (known_in scene) e 0 (group_then cs gs)) ∙ sets)))
+            ∙ or_either (action_sets e a) (part_sets e cs || groups_set e gs) (inr (sym (groups_any scene e 0 (group_then cs gs)) ∙ sets)))
 
         rest_follows : (x : Step) (reads : Reads) (e : Effect) → n1 ≡ now + accesses_of a → FollowsGroups scene x reads around (arms_then (arms_then c.arms p) g) now All e
             → FollowsGroups scene x reads around (arms_then p g) n1 (group_then cs gs) (effect_of scene x (paths_on x around) now a e)

@@ -6,7 +6,7 @@ use Rattle.std.specs.Prelude.{◌&&◌, ◌||◌}
 use Rattle.std.specs.List.{AllByRecursion}
 use Rattle.std.proofs.lemmas.Bool.{eq-eqb, eqb-true}
 use Rattle.dh_value.specs.Words as words
-use Rattle.dh_meaning.specs.Core.{CoreCommand, store, assign, choose, CoreCommands, no_commands, command_and}
+use Rattle.dh_meaning.specs.Core.{CoreCommand, store, assign, choose, keep, CoreCommands, no_commands, command_and}
 use Rattle.dh_meaning.specs.Effects.{Begun, Effect, assigned_at, at_each, command_run, commands_run, holds_at, paths_where, stored_at, tested_at, value_of}
 use Rattle.dh_meaning.specs.Levels.{any_assigns, assigns_to}
 use Rattle.dh_meaning.specs.Paths.{Path, same_path}
@@ -22,9 +22,11 @@ abbrev pub IsOther : (e : ℕ) → (p : Path) → (depth entity : ℕ) → Path 
 IsOther e p depth entity q = ((e == entity) && same_path p (take depth q)) ≡ false
 
 abbrev mutual
+  -- views are refused, and no command keeps offsets
   pub KeepsAt : (e : ℕ) → (p : Path) → List Path → CoreCommand → Type 0
   KeepsAt e p paths (store r target value) = Unit {0}
   KeepsAt e p paths (assign depth entity value) = AllByRecursion (IsOther e p depth entity) paths
+  KeepsAt e p paths (keep depth first values) = ⊥
   KeepsAt e p paths (choose test chosen other) = KeepsAll e p paths chosen × KeepsAll e p paths other
 
   pub KeepsAll : (e : ℕ) → (p : Path) → List Path → CoreCommands → Type 0
@@ -58,6 +60,7 @@ mutual
   keeps_where : (e : ℕ) (p : Path) (paths : List Path) (holds : Bool) (test : Path → Bool) (c : CoreCommand) → KeepsAt e p paths c → KeepsAt e p (paths_where holds test paths) c
   keeps_where e p paths holds test (store r target value) h = tt
   keeps_where e p paths holds test (assign depth entity value) h = all_where (IsOther e p depth entity) holds test paths h
+  keeps_where e p paths holds test (keep depth first values) h = absurd h
   keeps_where e p paths holds test (choose t chosen other) h = (all_keep_where e p paths holds test chosen h.0, all_keep_where e p paths holds test other h.1)
 
   all_keep_where : (e : ℕ) (p : Path) (paths : List Path) (holds : Bool) (test : Path → Bool) (cs : CoreCommands) → KeepsAll e p paths cs → KeepsAll e p (paths_where holds test paths) cs
@@ -69,6 +72,7 @@ mutual
   command_keeps b e p paths (store r target value) f h = each_keeps (stored_at b r target value) e p (λ q g. refl) paths f
   command_keeps b e p paths (assign depth entity value) f h =
       each_keeps_on (assigned_at b depth entity value) e p (IsOther e p depth entity) (λ q g other. ap (λ (t : Bool). if t then words.value_of (value_of b g.variables q value) else g.variables e p) other) paths f h
+  command_keeps b e p paths (keep depth first values) f h = absurd h
   command_keeps b e p paths (choose t chosen other) f h =
       commands_keep b e p (paths_where false (holds_at b f.variables t) paths) other _ (all_keep_where e p paths false (holds_at b f.variables t) other h.1)
       ∙ (commands_keep b e p (paths_where true (holds_at b f.variables t) paths) chosen _ (all_keep_where e p paths true (holds_at b f.variables t) chosen h.0)
@@ -122,10 +126,11 @@ others_at scene around x e entity j there inside off own =
 -- Of commands that set only what is another at each path.
 
 abbrev mutual
-  -- each variable is set at its depth
+  -- each variable is set at its depth, and no offsets are kept
   pub IsDeep : Scene → CoreCommand → Type 0
   IsDeep scene (store r target value) = Unit {0}
   IsDeep scene (assign depth entity value) = depth ≡ depth_in scene entity
+  IsDeep scene (keep depth first values) = ⊥
   IsDeep scene (choose test chosen other) = AreDeep scene chosen × AreDeep scene other
 
   pub AreDeep : Scene → CoreCommands → Type 0
@@ -146,6 +151,7 @@ module _ (scene : Scene) (around : Around) (x : Step) (e j : ℕ) (there : IsSee
     keeps_one (store r target value) deep own = tt
     keeps_one (assign depth entity value) deep own =
         subst (λ (d : ℕ). AllByRecursion (IsOther e (seen_path scene around e j) d entity) (paths_on x around)) (sym deep) (others_at scene around x e entity j there inside off (own entity (eq-eqb entity entity refl)))
+    keeps_one (keep depth first values) deep own = absurd deep
     keeps_one (choose test chosen other) deep own = (
       keeps_own chosen deep.0 (λ entity sets. own entity (or_first (any_assigns entity chosen) (any_assigns entity other) sets)),
       keeps_own other deep.1 (λ entity sets. own entity (or_second (any_assigns entity chosen) (any_assigns entity other) sets)),

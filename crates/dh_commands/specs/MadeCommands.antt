@@ -11,7 +11,7 @@ use Rattle.dh_tree.specs.Memories.{table_of}
 use Rattle.dh_tree.specs.PlainTrees as plain
 use Rattle.dh_tree.specs.PlainTrees.{Action, action, ActionForm, lets, lets_memory, views, assigns, stores, reduces, calls, blocks, decides, repeats, counts, MaybeAction, no_action, one_action, Actions, no_actions, action_then, Groups, no_groups, group_then}
 use Rattle.dh_tree.specs.Seen.{program_seen}
-use Rattle.dh_meaning.specs.AccessNumbers.{accesses_of, other_accesses, term_accesses}
+use Rattle.dh_meaning.specs.AccessNumbers.{accesses_of, other_accesses, plan_accesses, term_accesses}
 use Rattle.dh_meaning.specs.CoreOf.{entity_number, memory_of}
 use Rattle.dh_meaning.specs.Effects.{entry_kind}
 use Rattle.dh_code.specs.Extended.{extension_of}
@@ -266,7 +266,8 @@ pub record MadeIf (scene : Scene) (Chosen Other : Around → (tests : List ℕ) 
   pub other : Other around tests after_chosen after_other behind next other_left
   pub joined : MadeJoined tests chosen_left other_left after_other new
 
--- a loop, which has no phase in a straight command, puts nothing down; its accesses have their numbers all the same
+-- A loop, which has no phase in a straight command, puts nothing down, nor does a view: those that move are refused.
+-- Their accesses have their numbers all the same.
 pub record MadeIdle (count : ℕ) (around : Around) (old new : Building) (first next : ℕ) : Type 0 where
   pub still : new ≡ old
   pub next_is : next ≡ behind first count
@@ -298,7 +299,7 @@ module _ (scene : Scene) where
     MadeActionForm (decides test chosen other) = λ around old new first next. MadeIf scene (λ a ts b d n m ls. MadeArm (MadeCommand chosen) a true ts b d n m ls) (MadeOther other) test around old new first next
     MadeActionForm (blocks body) = MadeGroups body
     MadeActionForm (lets_memory name shape shape_places value) = MadeNothing
-    MadeActionForm (views name parent form) = MadeNothing
+    MadeActionForm (views name parent form) = MadeIdle (plan_accesses form + 0)
     MadeActionForm (calls function arguments) = MadeNothing
     MadeActionForm (repeats test body) = MadeIdle (term_accesses test + accesses_of body)
     MadeActionForm (counts iterator declared low high factor body combine combine_place) = MadeIdle (0 + (accesses_of body + other_accesses combine))

@@ -239,7 +239,8 @@ pub fn reduce_all(
         building.new next) }
 {
     let mut next = first;
-    for i in 0..around.guards.len() {
+    let copies = around.guards.len();
+    for i in 0..copies {
         let lane = Lane {
             around,
             number: i as u64,

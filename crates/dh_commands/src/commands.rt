@@ -97,11 +97,12 @@ pub fn push_command(
         }
         CommandForm::Block { body } => push_parts(scene, around, building, first, body.as_slice()),
         CommandForm::LetMemory { .. } => Ok(first),
-        CommandForm::View { .. } => Ok(first),
         CommandForm::Call { .. } => Ok(first),
-        // in a straight command a loop has no turn; its accesses have their numbers all the same
+        // in a straight command a loop has no turn, and views that move are refused; the accesses of both have their
+        // numbers all the same
         CommandForm::While { .. } => Ok(behind_command(first, command)),
         CommandForm::For { .. } => Ok(behind_command(first, command)),
+        CommandForm::View { .. } => Ok(behind_command(first, command)),
     }
 }
 

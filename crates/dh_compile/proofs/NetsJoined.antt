@@ -1,23 +1,21 @@
 -- What plays a plan still plays it when the drivers of its ports are joined.
 -- That a net plays a run needs only that it shows and keeps the same. That its writes come last needs that a driver that
 -- writes is active only where one of the net before is.
-use Rattle.std.proofs.Common.{◌≡◌, ℕ, ◌<◌, zero, suc, Bool, true, false, Some, None, inl, inr, List, [], ◌∷◌, length, refl, sym, ap, subst, ◌∙◌, arith}
-use Rattle.std.specs.Prelude.{Option, IfSome, slice_get, ◌||◌, ◌&&◌}
+use Rattle.std.proofs.Common.{◌≡◌, ℕ, zero, suc, Bool, true, false, Some, None, inl, inr, List, [], ◌∷◌, refl, sym, ap, subst, ◌∙◌, arith}
+use Rattle.std.specs.Prelude.{slice_get, ◌||◌, ◌&&◌}
 use Rattle.std.proofs.lemmas.Option.{slice_get_cases, slice_get_within}
 use Rattle.dh_tree.specs.Tables.{Fits}
 use Rattle.dh_tree.specs.declared.tables.MemEntry.{MemEntry}
 use Rattle.dh_net.specs.Clock.{is_active}
 use Rattle.dh_net.specs.Plays.{Run, Plays}
-use Rattle.dh_net.specs.Valid.{HasWidth, FormFits, IsValid}
+use Rattle.dh_net.specs.Valid.{IsValid}
 use Rattle.dh_net.specs.declared.nets.Cell.{Cell}
 use Rattle.dh_net.specs.declared.nets.CellForm.{CellForm}
 use Rattle.dh_net.specs.declared.nets.CellForm.TheVariants.{Const, Reg, Data, Add, Sub, Mul, And, Or, Xor, Shl, ShrU, ShrS, LtU, LtS, Eq, Mux, Zero, Sign, Low}
 use Rattle.dh_net.specs.declared.nets.Driver.{Driver}
 use Rattle.dh_net.specs.declared.nets.Net.{Net}
-use Rattle.dh_net.specs.declared.nets.Register.{Register}
-use Rattle.dh_net.proofs.Valuations.{cell_of}
-use Rattle.dh_cells.specs.NarrowShifts.{cell_bits, IsBelow, ShiftsLess, HasNarrowShifts}
-use Rattle.dh_cells.specs.Settled.{BeginsWith}
+use Rattle.dh_cells.specs.NarrowShifts.{ShiftsLess, HasNarrowShifts}
+use Rattle.dh_cells.proofs.NarrowCells.{shifts_later}
 use Rattle.dh_plan.specs.PlainPlans.{PlainPlan}
 use Rattle.dh_plan.specs.PlayedPlans.{plan_run, WritesLast, PlaysPlan}
 use Rattle.dh_build.specs.BuiltPlans.{IsBuiltNet}
@@ -83,33 +81,6 @@ plays_joined plan lengths whole net h j =
     }
 
 -- Shifts by constants stay narrow: the amount of an old shift is a wire of an old cell, and a new cell shifts nothing.
-
-below_later : (old new : List Cell) (wire bound wide : ℕ) → BeginsWith new old → HasWidth old wire wide → IsBelow old wire bound → IsBelow new wire bound
-below_later old new wire bound wide e h below =
-    let c = cell_of old wire wide h in
-    subst (λ (o : Option Cell). IfSome (cell_bits o) (λ (bits : ℕ). bits < bound)) (c.1.0 ∙ sym (e wire c.0 c.1.0)) below
-
-shifts_later : (table : List MemEntry) (registers : List Register) (old new : List Cell) (i width : ℕ) (f : CellForm) → BeginsWith new old
-    → FormFits table registers old i width f → ShiftsLess old width f → ShiftsLess new width f
-shifts_later table registers old new i width (Const bits) e h s = tt
-shifts_later table registers old new i width (Reg register) e h s = tt
-shifts_later table registers old new i width (Data memory bank port) e h s = tt
-shifts_later table registers old new i width (Add a b) e h s = tt
-shifts_later table registers old new i width (Sub a b) e h s = tt
-shifts_later table registers old new i width (Mul a b) e h s = tt
-shifts_later table registers old new i width (And a b) e h s = tt
-shifts_later table registers old new i width (Or a b) e h s = tt
-shifts_later table registers old new i width (Xor a b) e h s = tt
-shifts_later table registers old new i width (Shl a b) e h s = below_later old new b width h.1.0 e h.1.1.wide s
-shifts_later table registers old new i width (ShrU a b) e h s = below_later old new b width h.1.0 e h.1.1.wide s
-shifts_later table registers old new i width (ShrS a b) e h s = below_later old new b width h.1.0 e h.1.1.wide s
-shifts_later table registers old new i width (LtU a b) e h s = tt
-shifts_later table registers old new i width (LtS a b) e h s = tt
-shifts_later table registers old new i width (Eq a b) e h s = tt
-shifts_later table registers old new i width (Mux c a b) e h s = tt
-shifts_later table registers old new i width (Zero a) e h s = tt
-shifts_later table registers old new i width (Sign a) e h s = tt
-shifts_later table registers old new i width (Low a) e h s = tt
 
 choice_shifts_none : (cells : List Cell) (width : ℕ) (f : CellForm) → IsChoice f → ShiftsLess cells width f
 choice_shifts_none cells width (Const bits) h = tt

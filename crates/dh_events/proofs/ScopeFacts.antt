@@ -1,5 +1,5 @@
 -- Where variables are declared, one behind the other.
-use Rattle.std.proofs.Common.{◌≡◌, ℕ, zero, suc, ◌+◌, ◌<◌, ◌==◌, nat_lt, min, Bool, true, false, if◌then◌else◌, List, [], ◌∷◌, ◌++◌, length, refl, ap, sym, ◌∙◌, arith}
+use Rattle.std.proofs.Common.{◌≡◌, ℕ, zero, suc, ◌+◌, ◌<◌, ◌==◌, nat_lt, min, Bool, true, false, if◌then◌else◌, List, [], ◌∷◌, ◌++◌, length, map, refl, ap, sym, ◌∙◌, arith}
 use mathlib.Core.Path.{fun_ext}
 use Rattle.std.specs.Prelude.{Option, Some, None, slice_get, slice_set}
 use Rattle.std.proofs.lemmas.Bool.{ne_eqb, eqb-true}
@@ -7,8 +7,12 @@ use Rattle.std.proofs.lemmas.Bool.Decides.{nat_tests}
 use Rattle.dh_tree.specs.Memories.{same_entity}
 use Rattle.dh_tree.specs.PlainTrees.{Action, action, ActionForm, lets, lets_memory, views, assigns, stores, reduces, calls, blocks, decides, repeats, counts, MaybeAction, no_action, one_action, Actions, no_actions, action_then, Groups, no_groups, group_then}
 use Rattle.dh_meaning.specs.Bindings.{Binding, binding_in, depth_inside, bindings, form_bindings, other_bindings, groups_bindings, part_bindings}
+use Rattle.dh_meaning.specs.Ways.{hidden_binding, led_binding}
+use Rattle.dh_ways.specs.declared.ways.Hidden.{Hidden}
+use Rattle.dh_ways.specs.declared.ways.Led.{Led}
+use Rattle.dh_ways.specs.Seen.{hidden_seen, led_seen}
 use Rattle.dh_events.specs.declared.dependence.Scope.{Scope}
-use Rattle.dh_events.specs.Scopes.{most_depth, scope, scope_of, scope_found, scope_at, or_scope, with_scope, told_inside, scopes_in, form_scopes, other_scopes, groups_scopes, part_scopes, AreScopes, IsDepth}
+use Rattle.dh_events.specs.Scopes.{most_depth, scope, scope_of, scope_found, scope_at, or_scope, with_scope, told_inside, hidden_scopes, led_scopes, scopes_in, form_scopes, other_scopes, groups_scopes, part_scopes, AreScopes, IsDepth}
 
 absurd : {A : Type 0} → ⊥ → A
 absurd e = elim e [ ]
@@ -146,10 +150,42 @@ nothing : (o : Option Scope) → over None o ≡ o
 unfolding over
 nothing o = refl
 
--- what is noted of a body from nothing
-pub are_scopes : (a : Action) (none scopes : List (Option Scope)) → none ≡ [] → scope_at scopes ≡ scopes_in 0 a (scope_at none) → AreScopes (bindings 0 a) scopes
-are_scopes a none scopes empty noted e =
-    sym (ap (λ f. f e) (noted ∙ (ap (λ l. scopes_in 0 a (scope_at l)) empty ∙ scoped 0 0 a (scope_at []) refl)) ∙ (declared_is (bindings 0 a) (scope_at []) e ∙ nothing (scope_of (binding_in (bindings 0 a) e))))
+led_declared : (ls : List Led) (f : ℕ → Option Scope) → led_scopes ls f ≡ declared (map led_binding (map led_seen ls)) f
+led_declared [] f = refl
+led_declared (l ∷ ls) f = led_declared ls (with_scope f l.entity (scope (min l.way.deepest most_depth) None))
+
+hidden_declared : (hs : List Hidden) (f : ℕ → Option Scope) → hidden_scopes hs f ≡ declared (map hidden_binding (map hidden_seen hs)) f
+hidden_declared [] f = refl
+hidden_declared (h ∷ hs) f = hidden_declared hs (with_scope f (Some h.entity) (scope (min h.depth most_depth) None))
+
+-- one more view, and one more of what they keep
+pub led_turn : (rest all : List Led) (l : Led) (f g : ℕ → Option Scope) (depth : ℕ) (total : ℕ → Option Scope) → rest ≡ l ∷ all → depth ≡ min l.way.deepest most_depth → g ≡ with_scope f l.entity (scope depth None) → led_scopes rest f ≡ total
+    → led_scopes all g ≡ total
+led_turn rest all l f g depth total is told noted before = ap (led_scopes all) (noted ∙ ap (λ n. with_scope f l.entity (scope n None)) told) ∙ (ap (λ ls. led_scopes ls f) (sym is) ∙ before)
+
+pub hidden_turn : (rest all : List Hidden) (h : Hidden) (f g : ℕ → Option Scope) (depth : ℕ) (total : ℕ → Option Scope) → rest ≡ h ∷ all → depth ≡ min h.depth most_depth → g ≡ with_scope f (Some h.entity) (scope depth None)
+    → hidden_scopes rest f ≡ total → hidden_scopes all g ≡ total
+hidden_turn rest all h f g depth total is told noted before = ap (hidden_scopes all) (noted ∙ ap (λ n. with_scope f (Some h.entity) (scope n None)) told) ∙ (ap (λ hs. hidden_scopes hs f) (sym is) ∙ before)
+
+-- what is noted of a body from nothing, and of views and what they keep behind it
+module _ (a : Action) (ls : List Led) (hs : List Hidden) (none s1 s2 s3 : List (Option Scope)) (empty : none ≡ []) (first : scope_at s1 ≡ scopes_in 0 a (scope_at none)) (second : scope_at s2 ≡ led_scopes ls (scope_at s1))
+    (third : scope_at s3 ≡ hidden_scopes hs (scope_at s2)) where
+  abbrev of_led : List Binding
+  of_led = map led_binding (map led_seen ls)
+
+  abbrev of_hidden : List Binding
+  of_hidden = map hidden_binding (map hidden_seen hs)
+
+  all_declared : scope_at s3 ≡ declared (bindings 0 a ++ (of_led ++ of_hidden)) (scope_at [])
+  all_declared =
+      third
+      ∙ (ap (hidden_scopes hs) (second ∙ (ap (led_scopes ls) (first ∙ (ap (λ l. scopes_in 0 a (scope_at l)) empty ∙ scoped 0 0 a (scope_at []) refl)) ∙ led_declared ls (declared (bindings 0 a) (scope_at []))))
+      ∙ (hidden_declared hs (declared of_led (declared (bindings 0 a) (scope_at [])))
+      ∙ sym (declared_append (bindings 0 a) (of_led ++ of_hidden) (scope_at []) ∙ declared_append of_led of_hidden (declared (bindings 0 a) (scope_at [])))))
+
+  pub are_scopes : AreScopes (bindings 0 a ++ (of_led ++ of_hidden)) s3
+  are_scopes e =
+      sym (ap (λ f. f e) all_declared ∙ (declared_is (bindings 0 a ++ (of_led ++ of_hidden)) (scope_at []) e ∙ nothing (scope_of (binding_in (bindings 0 a ++ (of_led ++ of_hidden)) e))))
 
 -- what is noted in a loop
 pub loop_noted : (told inside factor : ℕ) (entity : Option ℕ) (body : Action) (combine : MaybeAction) (f g h w : ℕ → Option Scope) → inside ≡ told_inside told factor

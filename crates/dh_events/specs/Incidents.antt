@@ -7,6 +7,8 @@ use Rattle.std.specs.Option.{is_none}
 use Rattle.dh_base.specs.declared.places.Place.{Place}
 use Rattle.dh_value.specs.declared.kinds.Kind.{Kind}
 use Rattle.dh_tree.specs.PlainTrees.{Term, term, TermForm, number, truth_value, named, accessed, in_bank, applied, converted, Terms, no_terms, term_then, Action, action, ActionForm, lets, lets_memory, views, assigns, stores, reduces, calls, blocks, decides, repeats, counts, MaybeAction, no_action, one_action, Actions, no_actions, action_then, Groups, no_groups, group_then}
+use Rattle.dh_tree.specs.Seen.{terms}
+use Rattle.dh_tree.specs.ViewOffsets.{moves, offsets_of}
 use Rattle.dh_events.specs.declared.events.Site.{Site}
 use Rattle.dh_events.specs.declared.noting.Open.{Open}
 
@@ -140,7 +142,7 @@ abbrev mutual
   pub form_open : (ℕ → ℕ) → Open → ℕ → ActionForm → Open
   form_open stages behind id (lets name declared value) = open_at (Some (phase_of behind id))
   form_open stages behind id (lets_memory name shape shape_places value) = behind
-  form_open stages behind id (views name parent form) = behind
+  form_open stages behind id (views name parent form) = if moves form then open_at (Some (phase_of behind id)) else behind
   form_open stages behind id (assigns target value) = open_at (Some (phase_of behind id))
   form_open stages behind id (stores target value) = open_at (Some (phase_of behind id))
   form_open stages behind id (reduces target op value) = open_at (Some (phase_of behind id))
@@ -172,7 +174,7 @@ abbrev mutual
   pub command_incidents : (ℕ → ℕ) → (round : Option ℕ) → Open → ℕ → ActionForm → List Incident
   command_incidents stages round behind id (lets name declared value) = maybe_incidents (site_at (phase_of behind id) round) value ++ assigned name.entity ∷ []
   command_incidents stages round behind id (lets_memory name shape shape_places value) = []
-  command_incidents stages round behind id (views name parent form) = []
+  command_incidents stages round behind id (views name parent form) = terms_incidents (site_at (phase_of behind id) round) (terms (offsets_of form))
   command_incidents stages round behind id (assigns target value) = term_incidents (site_at (phase_of behind id) round) value ++ assigned target.entity ∷ []
   command_incidents stages round behind id (stores target value) =
       term_incidents (site_at (phase_of behind id) round) value ++ target_incidents (site_at (phase_of behind id) round) target

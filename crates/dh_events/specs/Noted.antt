@@ -1,17 +1,19 @@
 -- What the code notes of what happens.
-use Rattle.std.specs.Prelude.{◌≡◌, ℕ, ◌++◌, ◌∷◌, [], Bool, List, map, Option, None, option_map, Vec}
+use Rattle.std.specs.Prelude.{◌≡◌, ℕ, ◌++◌, ◌∷◌, [], Bool, if◌then◌else◌, List, map, Option, Some, None, option_map, Vec}
 use Rattle.std.specs.Global.{Global, Box}
 use Rattle.dh_tree.specs.declared.trees.commands.Command.{Command}
 use Rattle.dh_tree.specs.declared.trees.expressions.Expr.{Expr}
 use Rattle.dh_tree.specs.declared.trees.expressions.Ref.{Ref}
-use Rattle.dh_tree.specs.Seen.{term_seen, terms, action_seen, part_seen, groups, maybe_seen}
+use Rattle.dh_tree.specs.declared.trees.commands.ViewForm.{ViewForm}
+use Rattle.dh_tree.specs.Seen.{term_seen, terms, factor_seen, plan_seen, action_seen, part_seen, groups, maybe_seen}
+use Rattle.dh_tree.specs.ViewOffsets.{moves, offsets_of}
 use Rattle.dh_events.specs.declared.events.Event.{Event}
 use Rattle.dh_events.specs.declared.events.Event.TheVariants as event
 use Rattle.dh_events.specs.declared.events.Notes.{Notes}
 use Rattle.dh_events.specs.declared.events.Site.{Site}
 use Rattle.dh_events.specs.declared.noting.Around.{Around}
 use Rattle.dh_events.specs.declared.noting.Open.{Open}
-use Rattle.dh_events.specs.Incidents.{Incident, touches, assigned, arm_begins, arm_ends, begins, next, ends, site_at, term_incidents, terms_incidents, maybe_incidents, target_incidents, incidents, open_after, other_incidents, combine_incidents, open_combine, groups_incidents, groups_open, closed}
+use Rattle.dh_events.specs.Incidents.{Incident, touches, assigned, arm_begins, arm_ends, begins, next, ends, site_at, term_incidents, terms_incidents, maybe_incidents, target_incidents, incidents, open_after, other_incidents, combine_incidents, open_combine, groups_incidents, groups_open, closed, open_at}
 use Rattle.dh_events.specs.Tables.{numbered}
 
 abbrev pub event_seen : Event → Incident
@@ -56,6 +58,17 @@ assigned_by site target value = read_by site value ++ assigned target.entity ∷
 
 abbrev pub stored_by : Site → (target value : Expr) → List Incident
 stored_by site target value = read_by site value ++ written_by site target
+
+-- what the offsets of a suffix and of any view read
+abbrev pub suffixes_read_by : Site → List (ℕ × Expr) → List Incident
+suffixes_read_by site by = terms_incidents site (terms (map (λ s. s.offset) (map factor_seen by)))
+
+abbrev pub offsets_read_by : Site → ViewForm → List Incident
+offsets_read_by site form = terms_incidents site (terms (offsets_of (plan_seen form)))
+
+-- which phases are open after a view in this one
+abbrev pub view_opened_by : Open → (phase : ℕ) → ViewForm → Open
+view_opened_by behind phase form = if moves (plan_seen form) then open_at (Some phase) else behind
 
 -- how many phases each command has, as the walk knows it
 abbrev pub stages_known : Around → ℕ → ℕ

@@ -1,9 +1,11 @@
 -- Where variables are declared, by their entities. Depths are told as far as a machine word counts: no loop
 -- stands so deep.
-use Rattle.std.specs.Prelude.{◌≡◌, ℕ, ◌+◌, ◌-◌, ◌<◌, ◌^◌, ◌==◌, if◌then◌else◌, min, nat_lt, List, Option, Some, None, slice_get, Vec}
+use Rattle.std.specs.Prelude.{◌≡◌, ℕ, ◌+◌, ◌-◌, ◌<◌, ◌^◌, ◌==◌, if◌then◌else◌, min, nat_lt, List, [], ◌∷◌, Option, Some, None, slice_get, Vec}
 use Rattle.std.specs.Global.{Global}
 use Rattle.dh_meaning.specs.Bindings.{Binding, binding_in}
 use Rattle.dh_tree.specs.PlainTrees.{Action, action, ActionForm, lets, lets_memory, views, assigns, stores, reduces, calls, blocks, decides, repeats, counts, MaybeAction, no_action, one_action, Actions, no_actions, action_then, Groups, no_groups, group_then}
+use Rattle.dh_ways.specs.declared.ways.Hidden.{Hidden}
+use Rattle.dh_ways.specs.declared.ways.Led.{Led}
 use Rattle.dh_events.specs.declared.dependence.Scope.{Scope}
 
 abbrev pub most_depth : ℕ
@@ -79,6 +81,15 @@ abbrev mutual
   pub part_scopes : (told : ℕ) → Actions → (ℕ → Option Scope) → ℕ → Option Scope
   part_scopes told no_actions f = f
   part_scopes told (action_then a rest) f = part_scopes told rest (scopes_in told a f)
+
+-- what is noted of views with their ways, and of the variables that keep their offsets
+abbrev pub led_scopes : List Led → (ℕ → Option Scope) → ℕ → Option Scope
+led_scopes [] f = f
+led_scopes (l ∷ ls) f = led_scopes ls (with_scope f l.entity (scope (min l.way.deepest most_depth) None))
+
+abbrev pub hidden_scopes : List Hidden → (ℕ → Option Scope) → ℕ → Option Scope
+hidden_scopes [] f = f
+hidden_scopes (h ∷ hs) f = hidden_scopes hs (with_scope f (Some h.entity) (scope (min h.depth most_depth) None))
 
 -- the scopes are those that this change makes of the ones before
 abbrev pub MakeScopes : (old new : Vec (Option Scope) Global) → ((ℕ → Option Scope) → ℕ → Option Scope) → Type 0

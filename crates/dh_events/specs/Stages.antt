@@ -1,7 +1,8 @@
--- How many phases commands have: none, one Straight phase, or others (2).
+-- How many phases commands have: none, one Straight phase, or others (2). A view has one where it moves.
 use Rattle.std.specs.Prelude.{ℕ, ◌+◌, ◌==◌, ◌&&◌, ◌||◌, nat_le, if◌then◌else◌, max, min}
 use Rattle.dh_meaning.specs.Phases.{turn_count}
 use Rattle.dh_tree.specs.PlainTrees.{Action, action, ActionForm, lets, lets_memory, views, assigns, stores, reduces, calls, blocks, decides, repeats, counts, MaybeAction, no_action, one_action, Actions, no_actions, action_then, Groups, no_groups, group_then}
+use Rattle.dh_tree.specs.ViewOffsets.{moves}
 use Rattle.dh_events.specs.Tables.{with_number}
 
 -- of a loop, by those of its body and of the block that joins its copies
@@ -19,7 +20,7 @@ abbrev mutual
   pub form_stage : ActionForm → ℕ
   form_stage (lets name declared value) = 1
   form_stage (lets_memory name shape shape_places value) = 0
-  form_stage (views name parent form) = 0
+  form_stage (views name parent form) = if moves form then 1 else 0
   form_stage (assigns target value) = 1
   form_stage (stores target value) = 1
   form_stage (reduces target op value) = 1

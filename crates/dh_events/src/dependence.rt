@@ -1,14 +1,17 @@
 //! On the copies of which loops the value of an expression depends.
 
-ghost use Rattle.std.specs.Prelude.{◌≡◌, ◌||◌, ◌+◌, ◌<◌, ◌≤◌, ℕ, List, Some, IfOk, OnOk, length, map, option_map};
+ghost use Rattle.std.specs.Prelude.{◌≡◌, ◌||◌, ◌+◌, ◌++◌, ◌<◌, ◌≤◌, ℕ, List, Some, IfOk, OnOk, length, map, min, option_map};
 ghost use Rattle.dh_tree.specs.Seen.{action_seen, form_seen, part_seen, groups, maybe_seen, term_seen, terms};
 ghost use Rattle.dh_meaning.specs.Bindings.{bindings, Binding};
+ghost use Rattle.dh_meaning.specs.Ways.{hidden_binding, led_binding};
 ghost use Rattle.dh_meets.specs.Charges as charges;
-ghost use Rattle.dh_events.specs.Accesses.{element_in};
-ghost use Rattle.dh_events.specs.Scopes.{groups_scopes, other_scopes, scope, scope_at, scopes_in, told_inside, with_scope, AreScopes, IsDepth, IsLow, MakeScopes};
+ghost use Rattle.dh_ways.specs.Seen.{hidden_seen, led_seen};
+ghost use Rattle.dh_events.specs.Accesses.{element_in, entity_in};
+ghost use Rattle.dh_events.specs.Scopes.{groups_scopes, hidden_scopes, led_scopes, most_depth, other_scopes, scope, scope_at, scopes_in, told_inside, with_scope, AreScopes, IsDepth, IsLow, MakeScopes};
 
 use dh_base::NoMemory;
 use dh_tree::{Command, CommandForm, Expr, ExprForm, Ref};
+use dh_ways::{Hidden, Led};
 use std::alloc::Global;
 
 /// Where a variable is declared.
@@ -42,15 +45,69 @@ fn put(scopes: &mut Vec<Option<Scope>>, place: usize, scope: Scope)
     }
 }
 
+/// Notes where what an entity is is declared, where that is its first declaration.
+fn declare_entity(
+    scopes: &mut Vec<Option<Scope>>,
+    entity: Option<u32>,
+    scope: Scope,
+) -> Result<(), NoMemory>
+    ensures { OnOk result (MakeScopes scopes.old scopes.new (λ f. with_scope f entity scope)) }
+{
+    if let Some(entity) = entity {
+        let place = entity as usize;
+        grow(scopes, place + 1)?;
+        put(scopes, place, scope);
+    }
+    Ok(())
+}
+
 /// Notes where a variable is declared, where that is its first declaration.
 fn declare(scopes: &mut Vec<Option<Scope>>, name: &Ref, scope: Scope) -> Result<(), NoMemory>
     ensures { OnOk result (MakeScopes scopes.old scopes.new
         (λ f. with_scope f name.now.entity scope)) }
 {
-    if let Some(entity) = name.entity {
-        let place = entity as usize;
-        grow(scopes, place + 1)?;
-        put(scopes, place, scope);
+    declare_entity(scopes, name.entity, scope)
+}
+
+/// A depth that ways tell, as scopes tell it.
+fn told_depth(depth: u32) -> usize
+    ensures { result ≡ min depth most_depth }
+{
+    depth as usize
+}
+
+/// Notes views that lead to memories: each has the depth of the deepest command on its way.
+fn note_led(scopes: &mut Vec<Option<Scope>>, led: &[Led]) -> Result<(), NoMemory>
+    ensures { OnOk result (MakeScopes scopes.old scopes.new (led_scopes led.now)) }
+{
+    for one in led {
+        let depth = told_depth(one.way.deepest);
+        declare_entity(
+            scopes,
+            one.entity,
+            Scope {
+                depth,
+                iterates: None,
+            },
+        )?;
+    }
+    Ok(())
+}
+
+/// Notes the variables that keep offsets.
+fn note_hidden(scopes: &mut Vec<Option<Scope>>, hidden: &[Hidden]) -> Result<(), NoMemory>
+    ensures { OnOk result (MakeScopes scopes.old scopes.new (hidden_scopes hidden.now)) }
+{
+    for one in hidden {
+        let depth = told_depth(one.depth);
+        declare_entity(
+            scopes,
+            Some(one.entity),
+            Scope {
+                depth,
+                iterates: None,
+            },
+        )?;
     }
     Ok(())
 }
@@ -164,12 +221,22 @@ fn note_parts(
     Ok(())
 }
 
-/// By its entity where each variable of a program's body is declared.
-pub fn scopes_of(alloc: Global, body: &Command) -> Result<Vec<Option<Scope>>, NoMemory>
-    ensures { IfOk result (λ scopes. AreScopes (bindings 0 (action_seen body.now)) scopes.items) }
+/// By its entity where each variable of a program's body is declared, and behind them each of
+/// these views and of the variables that keep their offsets.
+pub fn scopes_of(
+    alloc: Global,
+    body: &Command,
+    led: &[Led],
+    hidden: &[Hidden],
+) -> Result<Vec<Option<Scope>>, NoMemory>
+    ensures { IfOk result (λ scopes. AreScopes (bindings 0 (action_seen body.now)
+        ++ (map led_binding (map led_seen led.now)
+        ++ map hidden_binding (map hidden_seen hidden.now))) scopes.items) }
 {
     let mut scopes = Vec::new(alloc);
     note_scopes(&mut scopes, 0, body)?;
+    note_led(&mut scopes, led)?;
+    note_hidden(&mut scopes, hidden)?;
     Ok(scopes)
 }
 
@@ -215,7 +282,10 @@ fn depends(scopes: &[Option<Scope>], level: usize, expr: &Expr) -> bool
     match &expr.form {
         ExprForm::Number { .. } | ExprForm::Truth { .. } => false,
         ExprForm::Variable { of } => entity_depends(scopes, level, of.entity),
-        ExprForm::Access { indices, .. } => any_depends(scopes, level, indices.as_slice()),
+        ExprForm::Access { of, indices } => {
+            entity_depends(scopes, level, of.entity)
+                || any_depends(scopes, level, indices.as_slice())
+        }
         ExprForm::Physical { row, .. } => depends(scopes, level, row),
         ExprForm::Binary { left, right, .. } => {
             depends(scopes, level, left) || depends(scopes, level, right)
@@ -238,18 +308,25 @@ fn any_depends(scopes: &[Option<Scope>], level: usize, exprs: &[Expr]) -> bool
     false
 }
 
-/// Whether an access depends on the loop of a level; a write on every one.
+/// Whether an access depends on the loop of a level; a write on every one, a read through views on
+/// those of the commands on its way.
 #[tactic(auto, using(dh_tree::proofs::SeenTerms::terms_are))]
 pub fn access_depends(scopes: &[Option<Scope>], level: usize, access: &Expr, writes: bool) -> bool
     ensures { (bs : List Binding) → IsLow level → AreScopes bs scopes.now → result
-        ≡ (writes || charges.element_depends bs level (element_in (form_seen access.now.form))) }
+        ≡ (writes || (charges.entity_depends bs level (entity_in (form_seen access.now.form))
+        || charges.element_depends bs level (element_in (form_seen access.now.form)))) }
 {
     if writes {
         return true;
     }
     match &access.form {
-        ExprForm::Access { indices, .. } => any_depends(scopes, level, indices.as_slice()),
-        ExprForm::Physical { row, .. } => depends(scopes, level, row),
+        ExprForm::Access { of, indices } => {
+            entity_depends(scopes, level, of.entity)
+                || any_depends(scopes, level, indices.as_slice())
+        }
+        ExprForm::Physical { of, row, .. } => {
+            entity_depends(scopes, level, of.entity) || depends(scopes, level, row)
+        }
         ExprForm::Number { .. }
         | ExprForm::Truth { .. }
         | ExprForm::Variable { .. }

@@ -1,6 +1,7 @@
 //! What happens in a program in order of evaluation, for the rules on ports: each access with its
 //! Straight phase, the innermost unrolled loop round it and the structure of its indices. Stands on
-//! `dh_meets`, `dh_meaning`, `dh_tree`, `dh_value` and `dh_base`. docs/LANGUAGE.md tells the rules.
+//! `dh_meets`, `dh_ways`, `dh_meaning`, `dh_viewing`, `dh_tree`, `dh_value` and `dh_base`.
+//! docs/LANGUAGE.md tells the rules.
 //!
 //! `note_stages` counts the phases of commands, and `note_body` notes the events of a body with
 //! them, in one walk. `note_rounds` and `scopes_of` tell which loops stand round what, and where
@@ -25,4 +26,4 @@ pub use noting::{Around, Open, note_body};
 pub use rounds::{loops_round, note_rounds};
 pub use stages::note_stages;
 pub use structures::{Form, Sort, Structure, Structures};
-pub use tables::{get_at, set_at};
+pub use tables::{get_at, get_number, set_at, set_number};

@@ -5,7 +5,7 @@ ghost use Rattle.dh_tree.specs.Seen.{action_seen, groups, maybe_seen, part_seen,
 ghost use Rattle.dh_events.specs.Elements.{AreKnown, IsKnown, IsStep, StaysNoted, StaysRead};
 ghost use Rattle.dh_events.specs.Incidents as incidents;
 ghost use Rattle.dh_events.specs.Incidents.{is_stepped, phase_of as phase_of_open, released, when_parted};
-ghost use Rattle.dh_events.specs.Noted.{all_read_by, assigned_by, body_done_by, combine_done_by, done_by, event_seen, let_by, maybe_read_by, opened_by, other_done_by, parts_done_by, parts_opened_by, read_by, stages_known, stored_by, written_by, Adds};
+ghost use Rattle.dh_events.specs.Noted.{all_read_by, assigned_by, body_done_by, combine_done_by, done_by, event_seen, let_by, maybe_read_by, offsets_read_by, opened_by, other_done_by, parts_done_by, parts_opened_by, read_by, stages_known, stored_by, suffixes_read_by, view_opened_by, written_by, Adds};
 ghost use Rattle.dh_events.specs.Tables.{numbered};
 
 use crate::events::{Event, Notes, Site};
@@ -15,7 +15,8 @@ use crate::known::{
 use crate::structures::sort_found;
 use crate::tables::get_at;
 use dh_base::NoMemory;
-use dh_tree::{Command, CommandForm, Expr, ExprForm, Ref};
+use dh_tree::{Command, CommandForm, Expr, ExprForm, Ref, ViewForm};
+use dh_viewing::moves;
 
 /// Notes what an expression in an index reads, and answers what is known of it.
 #[cycle(reading)]
@@ -110,8 +111,8 @@ fn note_reads<'a>(notes: &mut Notes<'a>, site: Site, expr: &'a Expr) -> Result<(
     }
 }
 
-/// Notes what the indices of a write read. No number is wanted of their structure, since writes
-/// share nothing.
+/// Notes what the indices of a write or the offsets of a view read. No number is wanted of their
+/// structure, since neither shares anything.
 fn note_all_reads<'a>(
     notes: &mut Notes<'a>,
     site: Site,
@@ -209,6 +210,34 @@ fn note_store<'a>(
     note_write(notes, site, target)
 }
 
+/// Notes what the offsets of a suffix read.
+fn note_suffixes<'a>(
+    notes: &mut Notes<'a>,
+    site: Site,
+    by: &'a [(u64, Expr)],
+) -> Result<(), NoMemory>
+    ensures adds { OnOk result (Adds notes.old notes.new (suffixes_read_by site by.now)) }
+    ensures noted { OnOk result (StaysRead notes.old notes.new) }
+{
+    for pair in by {
+        note_reads(notes, site, &pair.1)?;
+    }
+    Ok(())
+}
+
+/// Notes what the offsets of a view read.
+fn note_offsets<'a>(notes: &mut Notes<'a>, site: Site, form: &'a ViewForm) -> Result<(), NoMemory>
+    ensures adds { OnOk result (Adds notes.old notes.new (offsets_read_by site form.now)) }
+    ensures noted { OnOk result (StaysRead notes.old notes.new) }
+{
+    match form {
+        ViewForm::Shrink { .. } => Ok(()),
+        ViewForm::Split { .. } => Ok(()),
+        ViewForm::Suffix { by, .. } => note_suffixes(notes, site, by.as_slice()),
+        ViewForm::Shift { by } => note_all_reads(notes, site, by.as_slice()),
+    }
+}
+
 /// How the phases of a list stand behind some of its commands.
 #[derive(Clone, Copy)]
 pub struct Open {
@@ -247,6 +276,17 @@ fn into(stepped: bool, behind: Open) -> Open
             going: None,
             last: behind.last,
         }
+    } else {
+        behind
+    }
+}
+
+/// What is open behind a view that stands in a phase: that, where the view moves.
+fn behind_view(behind: Open, phase: u32, form: &ViewForm) -> Open
+    ensures { result ≡ view_opened_by behind phase form.now }
+{
+    if moves(form) {
+        open_at(Some(phase))
     } else {
         behind
     }
@@ -407,9 +447,11 @@ fn note_command<'a>(
             note_parted(notes, parted, Event::Ends)?;
             Ok(into(stepped, last))
         }
-        CommandForm::LetMemory { .. } | CommandForm::View { .. } | CommandForm::Call { .. } => {
-            Ok(behind)
+        CommandForm::View { form, .. } => {
+            note_offsets(notes, site, form)?;
+            Ok(behind_view(behind, site.phase, form))
         }
+        CommandForm::LetMemory { .. } | CommandForm::Call { .. } => Ok(behind),
     }
 }
 

@@ -1,14 +1,16 @@
 //! How many phases the commands of a program have, by their numbers.
 
-ghost use Rattle.std.specs.Prelude.{◌≡◌, ◌+◌, IfOk, OnOk, map, min, option_map};
-ghost use Rattle.dh_tree.specs.Seen.{action_form_seen, action_seen, part_seen, groups, maybe_seen};
+ghost use Rattle.std.specs.Prelude.{◌≡◌, ◌+◌, if◌then◌else◌, IfOk, OnOk, map, min, option_map};
+ghost use Rattle.dh_tree.specs.Seen.{action_form_seen, action_seen, part_seen, plan_seen, groups, maybe_seen};
+ghost use Rattle.dh_tree.specs.ViewOffsets as offsets;
 ghost use Rattle.dh_events.specs.Stages.{choice_stage, form_stage, form_stages, groups_stage, groups_stages, loop_stage, other_stage, other_stages, stage_of, stages_in};
 ghost use Rattle.dh_events.specs.Tables.{AreNumbers};
 
 use crate::tables::set_at;
 use dh_base::NoMemory;
 use dh_meaning::turn_count;
-use dh_tree::{Command, CommandForm};
+use dh_tree::{Command, CommandForm, ViewForm};
+use dh_viewing::moves;
 
 /// How many phases a loop has, by those of its body and of the block that joins its copies: none,
 /// where it has no turn or its turns none; else its turns are one that is not Straight (2).
@@ -27,6 +29,13 @@ fn choice_stages(chosen: usize, other: usize) -> usize
     ensures { result ≡ choice_stage chosen other }
 {
     if chosen.max(other) >= 2 { 2 } else { 1 }
+}
+
+/// How many phases a view has: one where it moves.
+fn view_stages(form: &ViewForm) -> usize
+    ensures { result ≡ (if offsets.moves (plan_seen form.now) then 1 else 0) }
+{
+    if moves(form) { 1 } else { 0 }
 }
 
 /// How many phases there are with those of a part behind others (2 for more).
@@ -88,9 +97,8 @@ fn note_inside(stages: &mut Vec<usize>, form: &CommandForm) -> Result<usize, NoM
             let joins = note_other(stages, combine)?;
             Ok(loop_stages(turn_count(*low, *high, *factor), inner, joins))
         }
-        CommandForm::LetMemory { .. } | CommandForm::View { .. } | CommandForm::Call { .. } => Ok(
-            0,
-        ),
+        CommandForm::View { form, .. } => Ok(view_stages(form)),
+        CommandForm::LetMemory { .. } | CommandForm::Call { .. } => Ok(0),
     }
 }
 

@@ -17,22 +17,34 @@ fn grow(numbers: &mut Vec<usize>, to: usize) -> Result<(), NoMemory>
     Ok(())
 }
 
-/// Puts a number at a place.
+/// Puts a number at a place, which memory may lack.
 #[tactic(auto, using(crate::proofs::Turns::number_set))]
+pub fn set_number(numbers: &mut Vec<usize>, place: usize, number: usize) -> Result<(), NoMemory>
+    ensures { OnOk result (AreNumbers numbers.old numbers.new (λ f. with_number f place number)) }
+{
+    grow(numbers, place.saturating_add(1))?;
+    numbers[place] = number;
+    Ok(())
+}
+
+/// Puts a number at a place.
 pub fn set_at(numbers: &mut Vec<usize>, place: u32, number: usize) -> Result<(), NoMemory>
     ensures { OnOk result (AreNumbers numbers.old numbers.new (λ f. with_number f place number)) }
 {
-    let place = place as usize;
-    grow(numbers, place + 1)?;
-    numbers[place] = number;
-    Ok(())
+    set_number(numbers, place as usize, number)
 }
 
 /// The number at a place.
 pub fn get_at(numbers: &[usize], place: u32) -> usize
     ensures { result ≡ slice_index numbers.now place }
 {
-    let place = place as usize;
+    get_number(numbers, place as usize)
+}
+
+/// The number at a place that may be beyond.
+pub fn get_number(numbers: &[usize], place: usize) -> usize
+    ensures { result ≡ slice_index numbers.now place }
+{
     if place < numbers.len() {
         numbers[place]
     } else {

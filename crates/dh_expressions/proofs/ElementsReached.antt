@@ -14,7 +14,7 @@ use Rattle.dh_tree.specs.declared.trees.expressions.Ref.{Ref}
 use Rattle.dh_tree.specs.Elements.{Spot, dims_at, spot_in_bank}
 use Rattle.dh_tree.specs.PlainTrees as plain
 use Rattle.dh_tree.specs.Seen.{program_seen}
-use Rattle.dh_meaning.specs.Core.{CoreTerm, CoreTerms, Target, by_indices, by_row, read}
+use Rattle.dh_meaning.specs.Core.{CoreTerm, CoreTerms, Target, by_indices, by_row, by_views, read}
 use Rattle.dh_meaning.specs.Effects.{bits_at, is_row, kind_in, read_made, spot_by_indices, spot_by_row, spot_reached, value_of, write_made}
 use Rattle.dh_meaning.specs.Paths.{Path}
 use Rattle.dh_plan.specs.declared.operations.OperationForm.{OperationForm}
@@ -133,7 +133,9 @@ read_led lane v aim memory own at place (plain.number negative value) target has
 read_led lane v aim memory own at place (plain.truth_value value) target has small aims banked = elim has [ ]
 read_led lane v aim memory own at place (plain.named of) target has small aims banked = elim has [ ]
 read_led lane v aim memory own at place (plain.accessed r indices) (by_row other t) has small aims banked = elim has [ ]
+read_led lane v aim memory own at place (plain.accessed r indices) (by_views steps n ts) has small aims banked = elim has [ ]
 read_led lane v aim memory own at place (plain.in_bank r bank p row) (by_indices ts) has small aims banked = elim has [ ]
+read_led lane v aim memory own at place (plain.in_bank r bank p row) (by_views steps n ts) has small aims banked = elim has [ ]
 read_led lane v aim memory own at place (plain.applied op left right) target has small aims banked = elim has [ ]
 read_led lane v aim memory own at place (plain.converted inner to) target has small aims banked = elim has [ ]
 
@@ -156,7 +158,9 @@ probe_led lane v aim memory fault place (plain.number negative value) target has
 probe_led lane v aim memory fault place (plain.truth_value value) target has small aims = elim has [ ]
 probe_led lane v aim memory fault place (plain.named of) target has small aims = elim has [ ]
 probe_led lane v aim memory fault place (plain.accessed r indices) (by_row other t) has small aims = elim has [ ]
+probe_led lane v aim memory fault place (plain.accessed r indices) (by_views steps n ts) has small aims = elim has [ ]
 probe_led lane v aim memory fault place (plain.in_bank r bank p row) (by_indices ts) has small aims = elim has [ ]
+probe_led lane v aim memory fault place (plain.in_bank r bank p row) (by_views steps n ts) has small aims = elim has [ ]
 probe_led lane v aim memory fault place (plain.applied op left right) target has small aims = elim has [ ]
 probe_led lane v aim memory fault place (plain.converted inner to) target has small aims = elim has [ ]
 

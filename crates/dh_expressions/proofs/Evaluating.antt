@@ -22,11 +22,13 @@ use Rattle.dh_tree.specs.declared.trees.expressions.Ref.{Ref}
 use Rattle.dh_meaning.specs.AccessNumbers.{term_accesses, terms_accesses}
 use Rattle.dh_meaning.specs.Bindings.{kind_found, kind_or_first}
 use Rattle.dh_meaning.specs.Core.{CoreTerm, Target, binary, by_indices, by_row, read}
-use Rattle.dh_meaning.specs.CoreOf.{core_term, core_terms, entity_number, extended, memory_of, operation_of}
+use Rattle.dh_meaning.specs.CoreOf.{core_term, core_terms, entity_number, extended, memory_of, operation_of, target_to}
 use Rattle.dh_meaning.specs.Effects as meaning
-use Rattle.dh_meaning.specs.Effects.{Event, Variables, bits_of, read_made, reads, writes, faults, spot_reached, term_events, value_of}
+use Rattle.dh_meaning.specs.Effects.{Event, Variables, bits_of, read_made, reads, writes, faults, spot_reached, target_events, term_events, value_of}
 use Rattle.dh_meaning.specs.Paths.{Path}
+use Rattle.dh_meaning.specs.Ways.{Way}
 use Rattle.dh_code.specs.Extended.{extension_of}
+use Rattle.dh_code.proofs.CommandsFlattened.{no_way}
 use Rattle.dh_expressions.specs.declared.accesses.Accesses.{Accesses}
 use Rattle.dh_expressions.specs.declared.drafts.Draft.{Draft}
 use Rattle.dh_expressions.specs.declared.scenes.Lane.{Lane}
@@ -352,6 +354,13 @@ module _ (scene : Scene) (lane : Lane) (current : List (Option ℕ)) where
   next_is : (number own : ℕ) → number ≡ own → own + 1 < 2 ^ 32 → min (number + 1) (2 ^ 32 - 1) ≡ own + 1
   next_is number own is few = grind (arith, is, few)
 
+  -- the same by indices, of what a name stands for that has this way
+  abbrev ReadNamed : (d0 d2 : Draft) (a0 a2 : Accesses) (n : ℕ) (ts : plain.Terms) (m : ℕ) → Place → Ref → Option Way → Type 0
+  ReadNamed d0 d2 a0 a2 n ts m place r way =
+      ReadBehind d0 d2 a0 a2 (λ v. FairAll scene lane current v n ts) (λ v. SeesAll scene lane current v n ts)
+      (λ v. target_events (begun_of v.step) v.variables (lane_path lane) (target_to way (core_terms (known_in scene) n ts)))
+      (target_to way (core_terms (known_in scene) n ts)) m place (plain.accessed r ts) (memory_of (known_in scene) r) (n + terms_accesses ts)
+
   pub access_done : (d0 d1 d2 : Draft) (a0 a1 a2 : Accesses) (n : ℕ) (place : Place) (k : Option Kind) (r : Ref) (ts : plain.Terms) (aim : Aim) (memory m : ℕ)
       → memory ≡ memory_of (known_in scene) r → AimsByIndices scene lane current d0 d1 a0 a1 n ts aim
       → ReadsAt scene lane d1 d2 a1 a2 (plain.term place k (plain.accessed r ts)) memory aim m
@@ -359,10 +368,11 @@ module _ (scene : Scene) (lane : Lane) (current : List (Option ℕ)) where
   access_done d0 d1 d2 a0 a1 a2 n place k r ts aim memory m is e h = record {
     next = λ few. next_is aim.number (n + terms_accesses ts) (e.indices.next (omega (arith, few))) (omega (arith, few)) ∙ omega arith;
     so = λ few.
-        read_moved d0 d2 a0 a2 (λ v. FairAll scene lane current v n ts) (λ v. SeesAll scene lane current v n ts) (λ v. terms_told scene lane v n ts) (by_indices (core_terms (known_in scene) n ts)) m place (plain.accessed r ts) memory (memory_of (known_in scene) r) aim.number (n + terms_accesses ts)
+        subst (λ (w : Option Way). ReadNamed d0 d2 a0 a2 n ts m place r w) (sym (no_way (known_in scene).memories r.entity))
+        (read_moved d0 d2 a0 a2 (λ v. FairAll scene lane current v n ts) (λ v. SeesAll scene lane current v n ts) (λ v. terms_told scene lane v n ts) (by_indices (core_terms (known_in scene) n ts)) m place (plain.accessed r ts) memory (memory_of (known_in scene) r) aim.number (n + terms_accesses ts)
         is (e.indices.next (omega (arith, few)))
         (read_behind d0 d1 d2 a0 a1 a2 aim.indices _ _ (λ v. terms_values scene lane v n ts) _ (by_indices (core_terms (known_in scene) n ts)) aim m place (plain.accessed r ts) memory
-        (e.indices.so (omega (arith, few))) (λ v same. (same, e.row)) (h (by_indices (core_terms (known_in scene) n ts)) tt));
+        (e.indices.so (omega (arith, few))) (λ v same. (same, e.row)) (h (by_indices (core_terms (known_in scene) n ts)) tt)));
   }
 
   -- a value alone, as whole numbers

@@ -4,9 +4,9 @@ use Rattle.std.specs.Prelude.{◌≡◌, ◌⊎◌, ℕ, zero, suc, ◌+◌, ◌
 use Rattle.dh_value.specs.declared.operators.Op.TheVariants.{Either}
 use Rattle.dh_tree.specs.PlainTrees.{TermForm}
 use Rattle.dh_tree.specs.Seen.{program_seen}
-use Rattle.dh_meaning.specs.Bindings.{bindings_of}
-use Rattle.dh_meets.specs.Charges.{element_depends}
-use Rattle.dh_events.specs.Accesses.{element_in}
+use Rattle.dh_meaning.specs.Ways.{all_bindings_of}
+use Rattle.dh_meets.specs.Charges.{element_depends, entity_depends}
+use Rattle.dh_events.specs.Accesses.{element_in, entity_in}
 use Rattle.dh_events.specs.Scopes.{AreScopes, IsLow}
 use Rattle.dh_events.specs.Tables.{numbered, with_number}
 use Rattle.dh_plan.specs.declared.operations.OperationForm.TheVariants.{Compute}
@@ -25,11 +25,12 @@ use Rattle.dh_expressions.specs.Shown.{guard_of}
 
 -- an access depends on the loop of this level; a write on every one
 abbrev pub depends_at : Scene → TermForm → (writes : Bool) → (level : ℕ) → Bool
-depends_at scene form writes level = writes || element_depends (bindings_of (program_seen scene.program.now)) level (element_in form)
+depends_at scene form writes level =
+    writes || (entity_depends (all_bindings_of (program_seen scene.program.now)) level (entity_in form) || element_depends (all_bindings_of (program_seen scene.program.now)) level (element_in form))
 
 -- the scene tells where each variable of its program is declared
 abbrev pub HasScopes : Scene → Type 0
-HasScopes scene = AreScopes (bindings_of (program_seen scene.program.now)) scene.scopes.now
+HasScopes scene = AreScopes (all_bindings_of (program_seen scene.program.now)) scene.scopes.now
 
 -- flags of so many loops that say so
 pub record Counts (scene : Scene) (levels : ℕ) (form : TermForm) (writes : Bool) (counts : List Bool) : Type 0 where

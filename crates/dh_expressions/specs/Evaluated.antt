@@ -2,7 +2,7 @@
 -- What reads give is a parameter of all facts (`Reads`): which of them are done at which path, and what they then
 -- give. So a builder needs to know of sharing and of keys only that reads that are one give one value; that the
 -- program's run is so is shown apart, where a block is whole.
-use Rattle.std.specs.Prelude.{◌≡◌, ℕ, ◌+◌, ◌*◌, ◌<◌, ◌^◌, nat_le, Bool as Truth, true, false, if◌then◌else◌, List, ◌++◌, length, take, map, slice_get, slice_index, Option, Some, None, ℤ, pos}
+use Rattle.std.specs.Prelude.{◌≡◌, ℕ, ◌+◌, ◌*◌, ◌<◌, ◌^◌, nat_le, Bool as Truth, true, false, if◌then◌else◌, List, [], ◌++◌, length, take, map, slice_get, slice_index, Option, Some, None, ℤ, pos}
 use Rattle.dh_base.specs.declared.places.Place.{Place}
 use Rattle.dh_value.specs.declared.kinds.Kind.{Kind}
 use Rattle.dh_value.specs.declared.kinds.Kind.TheVariants.{Unsigned}
@@ -12,15 +12,17 @@ use Rattle.dh_value.specs.Words.{IsInteger, IsKind, word_of}
 use Rattle.dh_tree.specs.declared.trees.counters.Counter.{Counter}
 use Rattle.dh_tree.specs.declared.trees.expressions.Ref.{Ref}
 use Rattle.dh_tree.specs.Counters.{counter_in, counters_of}
+use Rattle.dh_tree.specs.Memories.{memories_of}
 use Rattle.dh_tree.specs.PlainTrees as plain
 use Rattle.dh_tree.specs.Seen.{program_seen}
 use Rattle.dh_meaning.specs.AccessNumbers.{term_accesses, terms_accesses}
 use Rattle.dh_meaning.specs.Bindings.{kind_or_first}
-use Rattle.dh_meaning.specs.CoreOf.{Known, core_form, core_term, core_terms, depth_of, entity_number, known_of, memory_of}
+use Rattle.dh_meaning.specs.CoreOf.{Known, core_form, core_term, core_terms, depth_of, entity_number, memory_of}
 use Rattle.dh_meaning.specs.Effects as meaning
 use Rattle.dh_meaning.specs.Effects.{Event, Variables, term_events, terms_events, value_of, values_of}
 use Rattle.dh_meaning.specs.Paths.{Path}
 use Rattle.dh_meaning.specs.Phases.{turn_count}
+use Rattle.dh_meaning.specs.Ways.{all_bindings_of}
 use Rattle.dh_plan.specs.Blocks.{kind_at}
 use Rattle.dh_code.specs.Extended.{extension_of}
 use Rattle.dh_code.specs.declared.places.Held.{Held}
@@ -92,8 +94,9 @@ pub record GivesWhere (old new : Draft) (value : ℕ) (Where : Step → Type 0) 
 
 -- Variables.
 
+-- what is known of its names; views are refused, and no name has a way
 abbrev pub known_in : Scene → Known
-known_in scene = known_of (program_seen scene.program.now)
+known_in scene = record { memories = memories_of (program_seen scene.program.now); bindings = all_bindings_of (program_seen scene.program.now); ways = [] }
 
 abbrev pub copy_in_turn : Counter → Held → Lane → ℕ
 copy_in_turn c held lane = if nat_le c.factor 1 then 0 else last_number lane.around.levels.now held.depth lane.number

@@ -6,7 +6,7 @@ use Rattle.dh_tree.specs.declared.trees.expressions.Ref.{Ref}
 use Rattle.dh_tree.specs.Indices.{form_of}
 use Rattle.dh_tree.specs.PlainTrees as plain
 use Rattle.dh_meaning.specs.CoreOf.{memory_of}
-use Rattle.dh_meaning.specs.Core.{Reach, Target, by_indices, by_row, read}
+use Rattle.dh_meaning.specs.Core.{Reach, Target, by_indices, by_row, by_views, read}
 use Rattle.dh_meaning.specs.Effects.{Event, read_made, spot_reached, value_of, values_of, write_made}
 use Rattle.dh_plan.specs.declared.operations.OperationForm.TheVariants.{Read}
 use Rattle.dh_plan.specs.declared.operations.Reach as plans
@@ -49,6 +49,7 @@ RowIs v (Some row) z = words.value_of (shown v.step row) ≡ z
 
 abbrev pub AimsAt : Lane → View → Aim → Target → Type 0
 AimsAt lane v aim (by_indices ts) = (numbers_shown v.step aim.indices ≡ values_of (begun_of v.step) v.variables (lane_path lane) ts) × (aim.row ≡ None)
+AimsAt lane v aim (by_views steps n ts) = ⊥
 AimsAt lane v aim (by_row bank t) = RowIs v aim.row (words.value_of (value_of (begun_of v.step) v.variables (lane_path lane) t))
 
 -- an access names its element by indices, or by a row of this bank

@@ -1,9 +1,10 @@
 //! Operations from expressions, at one path at a time: faults of an earlier path come first.
 
 ghost use Rattle.std.specs.Prelude.{◌≡◌, IfOk, map};
-ghost use Rattle.dh_tree.specs.Seen.{program_seen, term_seen, terms};
-ghost use Rattle.dh_meaning.specs.CoreOf.{entity_number, known_of, memory_of as memory_found};
-ghost use Rattle.dh_expressions.specs.Evaluated.{AimsByIndices, AimsByRow, EvaluatesTerm, ShowsVariable};
+ghost use Rattle.dh_tree.specs.Memories.{number_in};
+ghost use Rattle.dh_tree.specs.Seen.{term_seen, terms};
+ghost use Rattle.dh_meaning.specs.CoreOf.{entity_number, memory_of as memory_found};
+ghost use Rattle.dh_expressions.specs.Evaluated.{AimsByIndices, AimsByRow, EvaluatesTerm, ShowsVariable, known_in};
 ghost use Rattle.dh_expressions.specs.Drafted.{Gives, shown};
 ghost use Rattle.dh_expressions.specs.MadeTerms.{MadeIndices, MadeNext, MadeRow, MadeTerm};
 ghost use Rattle.dh_expressions.specs.MadeValues.{MadeConverted, MadeExtended, MadeHeld, MadeLowestBit, MadeOperation, MadeShown, MadeVariable};
@@ -31,17 +32,24 @@ pub struct Valued {
     pub next: u32,
 }
 
-/// The number of the memory that a name stands for; every access of a typed program has one.
-pub fn memory_of(scene: &Scene<'_>, of: &Ref) -> usize
-    ensures { result ≡ memory_found (known_of (program_seen scene.now.program.now)) of.now }
+/// The number of the memory that an entity is; that of every access of a typed program is one.
+fn number_of(scene: &Scene<'_>, of: Option<u32>) -> usize
+    ensures { result ≡ entity_number (number_in (known_in scene.now).memories of) }
 {
-    let Some(entity) = of.entity else {
+    let Some(entity) = of else {
         return 0;
     };
     match scene.program.memory_number(entity) {
         Some(number) => number,
         None => 0,
     }
+}
+
+/// The number of the memory that a name stands for.
+pub fn memory_of(scene: &Scene<'_>, of: &Ref) -> usize
+    ensures { result ≡ memory_found (known_in scene.now) of.now }
+{
+    number_of(scene, of.entity)
 }
 
 /// The register of a variable at a path.

@@ -17,6 +17,7 @@ use Rattle.dh_meaning.specs.Levels.{Leveled, Levels, greatest, read_at, read_lev
 use Rattle.dh_expressions.specs.declared.scenes.Scene.{Scene}
 use Rattle.dh_expressions.specs.Evaluated.{known_in}
 use Rattle.dh_formed.specs.Timed.{AreBounded, LevelsThen, all_leveled, leveled}
+use Rattle.dh_formed.proofs.Unled.{unled_leveled}
 
 -- Conversions have no level of their own.
 
@@ -214,7 +215,9 @@ module _ (scene : Scene) (shared : ℕ → Option ℕ) (outer : ℕ) where
     levels_behind (plain.term place k (plain.number negative z)) = λ n l. levels_none n 0 l (begin l)
     levels_behind (plain.term place k (plain.truth_value b)) = λ n l. levels_none n 0 l (begin l)
     levels_behind (plain.term place k (plain.named r)) = λ n l. levels_none n _ l (λ b. b.variables _)
-    levels_behind (plain.term place k (plain.accessed r ts)) = λ n l. levels_read n (terms_accesses ts) l _ (reach_of (known_in scene) (n + terms_accesses ts) place r) refl (all_levels_behind ts n l)
+    levels_behind (plain.term place k (plain.accessed r ts)) = λ n l.
+        levels_same n (suc (terms_accesses ts)) l _ _ (sym (unled_leveled scene n place k r ts shared outer l))
+        (levels_read n (terms_accesses ts) l _ (reach_of (known_in scene) (n + terms_accesses ts) place r) refl (all_levels_behind ts n l))
     levels_behind (plain.term place k (plain.in_bank r bank at t)) = λ n l. levels_read n (term_accesses t) l _ (reach_of (known_in scene) (n + term_accesses t) place r) refl (levels_behind t n l)
     levels_behind (plain.term place k (plain.applied o x y)) = behind_two place k o x y (levels_behind x) (levels_behind y)
     levels_behind (plain.term place k (plain.converted inner to)) = λ n l. levels_behind inner n l

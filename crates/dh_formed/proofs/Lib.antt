@@ -1,3 +1,4 @@
+pub mod Unled
 pub mod ValuesFormed
 pub mod IteratorsFormed
 pub mod CopiesFormed

@@ -35,6 +35,7 @@ use Rattle.dh_formed.proofs.AccessesFormed.{scope_later}
 use Rattle.dh_formed.proofs.PartsCounted.{counts_again, counts_none, counts_same, ranged_none, ranged_sum}
 use Rattle.dh_formed.proofs.ReadsCounted.{IsOne, read_counts, read_gives}
 use Rattle.dh_formed.proofs.TermsFormed.{all_formed, all_numbered, formed, numbered}
+use Rattle.dh_formed.proofs.Unled.{unled_mentions, unled_products}
 use Rattle.dh_formed.proofs.ValuesCounted.{converted_counts, number_counts, operation_counts, variable_counts, word_counts}
 use Rattle.dh_formed.proofs.ValuesFormed.{agrees_before, converted_forms, operation_forms, started_later}
 use Rattle.dh_formed.proofs.ElementsFormed.{read_forms}
@@ -371,11 +372,16 @@ module _ (x : Block) (scene : Scene) (lane : Lane) (current : List (Option ℕ))
   counted_access : (place : Place) (k : Option Kind) (r : Ref) (ts : plain.Terms) → AllCounted ts → Counted (plain.term place k (plain.accessed r ts))
   counted_access place k r ts all old new before after n next v m few s w = record {
     counts =
-        read_behind place k (plain.accessed r ts) (memory_of (known_in scene) r) old m.middle new before m.between after n (terms_accesses ts) (AllMention n ts) (Mentions n (plain.term place k (plain.accessed r ts))) (terms_products (core_terms (known_in scene) n ts)) m.aim v own (λ e q. q) m.reads behind w.1.1 f.counts f.given;
+        subst (λ (p : ℕ). Counts old new (IsOfTerm x scene lane n (plain.term place k (plain.accessed r ts))) p (ranged n (suc (terms_accesses ts)) one_each) (ranged n (suc (terms_accesses ts)) (use_of x scene lane.number)))
+        (sym (unled_products scene n place k r ts))
+        (read_behind place k (plain.accessed r ts) (memory_of (known_in scene) r) old m.middle new before m.between after n (terms_accesses ts) (AllMention n ts) (Mentions n (plain.term place k (plain.accessed r ts))) (terms_products (core_terms (known_in scene) n ts)) m.aim v own mentioned m.reads behind w.1.1 f.counts f.given);
     given =
-        given_behind place k (plain.accessed r ts) (memory_of (known_in scene) r) old m.middle new before m.between after n (terms_accesses ts) (AllMention n ts) (Mentions n (plain.term place k (plain.accessed r ts))) (terms_products (core_terms (known_in scene) n ts)) m.aim v own (λ e q. q) m.reads behind w.1.1 f.counts f.given;
+        given_behind place k (plain.accessed r ts) (memory_of (known_in scene) r) old m.middle new before m.between after n (terms_accesses ts) (AllMention n ts) (Mentions n (plain.term place k (plain.accessed r ts))) (terms_products (core_terms (known_in scene) n ts)) m.aim v own mentioned m.reads behind w.1.1 f.counts f.given;
   }
     where
+      mentioned : (e : ℕ) → AllMention n ts e → Mentions n (plain.term place k (plain.accessed r ts)) e
+      mentioned e q = unled_mentions scene n place k r ts e ∙ q
+
       own : m.aim.number ≡ n + terms_accesses ts
       own = all_numbered scene lane current ts old m.middle before m.between n m.aim.number m.aim.indices m.indices (omega (arith, few))
 

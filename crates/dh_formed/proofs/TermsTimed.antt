@@ -31,6 +31,7 @@ use Rattle.dh_formed.proofs.LevelsBehind.{all_levels_behind, levels_behind, oper
 use Rattle.dh_formed.proofs.ReadsTimed.{greatest_append, read_timed}
 use Rattle.dh_formed.proofs.TermsCounted.{AllMention, Mentions, all_counted, counted, itself, left_of, operation_mentions, right_of, stands_behind, stands_first}
 use Rattle.dh_formed.proofs.TermsFormed.{all_formed, all_numbered, formed, numbered}
+use Rattle.dh_formed.proofs.Unled.{unled_leveled, unled_mentions}
 use Rattle.dh_formed.proofs.ValuesFormed.{agrees_before}
 use Rattle.dh_formed.proofs.ValuesTimed.{agree_before, converted_timed, number_timed, operation_timed, time_later, variable_timed, within_again, within_more, word_timed}
 
@@ -331,8 +332,16 @@ module _ (c : Clocks) (scene : Scene) (lane : Lane) (current : List (Option ℕ)
 
   timed_access : (place : Place) (k : Option Kind) (r : Ref) (ts : plain.Terms) → AllTimed ts → Timed (plain.term place k (plain.accessed r ts))
   timed_access place k r ts all old new before after n next v m few l s w vars reads =
-      read_behind place k (plain.accessed r ts) r old m.middle new before m.between after n (terms_accesses ts) l first m.aim v own behind m.reads following w.1.1 (indices_clock (memory_of (known_in scene) r) first.level m.aim m.row f.at) f.within s.bounded reads
+      subst (λ (j : Leveled). TimesTerm c old new after j v) (sym (unled_leveled scene n place k r ts shared outer l))
+      (read_behind place k (plain.accessed r ts) r old m.middle new before m.between after n (terms_accesses ts) l first m.aim v own behind m.reads following w.1.1 (indices_clock (memory_of (known_in scene) r) first.level m.aim m.row f.at) f.within s.bounded read)
     where
+      -- no name has a way
+      read : ReadsAgree c (read_leveled shared outer (reach_of (known_in scene) (n + terms_accesses ts) place r) (all_leveled scene shared outer n ts l)).levels (n + suc (terms_accesses ts))
+      read = subst (λ (j : Leveled). ReadsAgree c j.levels (n + suc (terms_accesses ts))) (unled_leveled scene n place k r ts shared outer l) reads
+
+      named : Variables (AllMention c.block scene lane current n ts) l
+      named e q = vars e (unled_mentions scene n place k r ts e ∙ q)
+
       first : Leveled
       first = all_leveled scene shared outer n ts l
 
@@ -358,13 +367,13 @@ module _ (c : Clocks) (scene : Scene) (lane : Lane) (current : List (Option ℕ)
       here = time_first old m.middle new before n (terms_accesses ts) 1 l at_middle (agree_before c m.middle new more s.agree) whole
 
       kept : ReadsAgree c first.levels (n + terms_accesses ts)
-      kept = λ i o site less. sym (read_keeps shared outer (reach_of (known_in scene) (n + terms_accesses ts) place r) first i (λ e. never i e less)) ∙ reads i o site (omega (arith, less))
+      kept = λ i o site less. sym (read_keeps shared outer (reach_of (known_in scene) (n + terms_accesses ts) place r) first i (λ e. never i e less)) ∙ read i o site (omega (arith, less))
         where
           never : (i : ℕ) → i ≡ n + terms_accesses ts → i < n + terms_accesses ts → ⊥
           never i e less = omega (arith, e, less)
 
       f : TimesTerms c old m.middle m.between first m.aim.indices
-      f = all old m.middle before m.between n m.aim.number m.aim.indices m.indices (omega (arith, few)) l here w.0 vars kept
+      f = all old m.middle before m.between n m.aim.number m.aim.indices m.indices (omega (arith, few)) l here w.0 named kept
 
       following : InTime m.middle new m.between (n + terms_accesses ts) 1 first.levels
       following = time_behind old m.middle new before m.between n (terms_accesses ts) 1 l first _ part w.0 at_middle

@@ -10,7 +10,7 @@ use Rattle.dh_plan.specs.SoundPlans.{blocks_of, node_blocks}
 use Rattle.dh_gathering.specs.declared.blocks.Made.{Made}
 use Rattle.dh_gathering.specs.declared.joining.Loose.{Loose}
 use Rattle.dh_gathering.specs.KeptPhases.{Joined, Kept, another, at_once, done_at_once, ended_all, ended_at, folded_with, joined_at, joined_with}
-use Rattle.dh_gathering.specs.Gathered.{EndsBlock, all_kept, kept_of}
+use Rattle.dh_gathering.specs.Gathered.{EndsBlock, all_kept, kept_of, view_kept}
 use Rattle.dh_gathering.specs.NamedOnce.{NamesOnce, begun, kept_blocks, listed}
 use Rattle.dh_gathering.specs.OpenAccesses.{Numbered}
 
@@ -232,6 +232,11 @@ once_turns old new turn forms counter count nodes h is =
 
 pub once_alone : (m : Made) (forms : Forms) (cs : List Numbered) → forms ≡ done_at_once cs ∷ [] → NamesOnce m m [] (kept_blocks forms)
 once_alone m forms cs is = subst (λ (l : Forms). NamesOnce m m [] (kept_blocks l)) (sym is) (once_none m [])
+
+-- a view, alone or without a phase
+pub once_view : (m : Made) (forms : Forms) (moves : Bool) (c : Numbered) → forms ≡ view_kept moves c → NamesOnce m m [] (kept_blocks forms)
+once_view m forms true c is = once_alone m forms (c ∷ []) is
+once_view m forms false c is = subst (λ (l : Forms). NamesOnce m m [] (kept_blocks l)) (sym is) (once_none m [])
 
 pub once_nothing : (m : Made) (forms : List Loose) → forms ≡ [] → NamesOnce m m [] (kept_blocks (all_kept forms))
 once_nothing m forms is = subst (λ (l : List Loose). NamesOnce m m [] (kept_blocks (all_kept l))) (sym is) (once_none m [])

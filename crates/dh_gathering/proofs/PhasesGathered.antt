@@ -11,7 +11,8 @@ use Rattle.dh_tree.specs.declared.trees.commands.Command.{Command}
 use Rattle.dh_tree.specs.declared.trees.expressions.Ref.{Ref}
 use Rattle.dh_tree.specs.Seen.{action_seen, all_parts_seen, maybe_block_seen, program_seen}
 use Rattle.dh_tree.specs.PlainTrees as tree
-use Rattle.dh_tree.specs.PlainTrees.{Action, ActionForm, action, blocks, counts, decides, repeats, MaybeAction, Placed, Program, Unrolled, one_action}
+use Rattle.dh_tree.specs.PlainTrees.{Action, ActionForm, action, blocks, counts, decides, repeats, views, MaybeAction, Placed, Program, Unrolled, ViewPlan, one_action}
+use Rattle.dh_tree.specs.ViewOffsets.{moves}
 use Rattle.dh_meaning.specs.AccessNumbers.{accesses_of, groups_accesses, other_accesses, term_accesses}
 use Rattle.dh_meaning.specs.Core.{Turning}
 use Rattle.dh_meaning.specs.CoreOf.{Known, core_phases, entity_number, form_of, test_of, turning_of}
@@ -35,7 +36,7 @@ use Rattle.dh_gathering.specs.Growing.{IsAtRest}
 use Rattle.dh_gathering.specs.OpenAccesses.{AreOpen, AreUntouched, Numbered, TouchesWithin, numbered}
 use Rattle.dh_gathering.specs.PlacedPhases.{AreInner, ArePlaced, loops_round}
 use Rattle.dh_gathering.specs.MadeBlocks.{AreInside, ArePathsOf, AreWithin, count_inside, made_tie}
-use Rattle.dh_gathering.specs.Gathered.{Chooses, ChoosesBy, ChoosesNodes, Counts, CountsTurns, Gathers, GathersCommand, GathersGroups, GathersOf, IsLocated, IsMadeAs, MakesBody, MakesNodesIn, Opens, Repeats}
+use Rattle.dh_gathering.specs.Gathered.{Chooses, ChoosesBy, ChoosesNodes, Counts, CountsTurns, Gathers, GathersCommand, GathersGroups, GathersOf, IsLocated, IsMadeAs, MakesBody, MakesNodesIn, Opens, Repeats, view_kept}
 use Rattle.dh_gathering.proofs.AccessesOpen.{open_append, open_later, open_within, untouched_later, untouched_part, within_more, within_none, within_then}
 use Rattle.dh_gathering.proofs.KeptCommands.{at_once_none, commands_folded, none_folded}
 use Rattle.dh_gathering.proofs.KeptLists.{at_once_is, folded_are}
@@ -360,6 +361,20 @@ pub nothing_of : (scene : Scene) (paths : Paths) (m : Made) (forms : Forms) (fir
 nothing_of scene paths m forms first count qs none is r few rounds inside inner rest bare =
     subst (λ (l : Forms). GathersAll scene rounds m m first (first + count) l (qs r first)) (sym is)
     (subst (λ (l : List source.Phase). GathersAll scene rounds m m first (first + count) [] l) (sym (none r first)) (gathers_none scene rounds m rest, opens_none scene rounds m first count))
+
+-- a view that moves is a phase alone, and another has none
+pub view_of_code : (scene : Scene) (paths : Paths) (m : Made) (forms : Forms) (first id : ℕ) (place : Place) (name parent : Ref) (form : ViewPlan) → forms ≡ view_kept (moves form) (numbered (action id place (views name parent form)) first)
+    → GathersCommand scene paths m m forms first (action id place (views name parent form))
+view_of_code scene paths m forms first id place name parent form is = by (moves form) is
+  where
+    view : Action
+    view = action id place (views name parent form)
+
+    by : (b : Bool) → forms ≡ view_kept b (numbered view first) → GathersOf scene paths m m forms first (accesses_of view) (λ r n. if b then one_command (located r n view) else [])
+    by true e = λ r few rounds inside inner rest bare.
+        subst (λ (l : Forms). GathersAll scene rounds m m first (first + accesses_of view) l (one_command (located r first view))) (sym e)
+        (gathers_alone scene rounds m view first r few rest, opens_alone scene rounds m view first bare)
+    by false e = nothing_of scene paths m forms first (accesses_of view) (λ r n. []) (λ r n. refl) e
 
 pub loop_of_code : (scene : Scene) (paths : Paths) (old now new : Made) (xs forms : Forms) (first next id : ℕ) (place : Place) (t : tree.Term) (body : Action) → next ≡ behind first (term_accesses t)
     → GathersCommand scene paths old now xs next body → Repeats scene paths now new first t xs forms → GathersCommand scene paths old new forms first (action id place (repeats t body))

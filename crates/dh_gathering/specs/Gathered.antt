@@ -49,6 +49,11 @@ kept_of (loose.Other node) = another (node_seen node)
 abbrev pub all_kept : List Loose → List (Kept Numbered Node)
 all_kept forms = map kept_of forms
 
+-- the phase of a view that moves; another has none
+abbrev pub view_kept : Bool → Numbered → List (Kept Numbered Node)
+view_kept true c = done_at_once (c ∷ []) ∷ []
+view_kept false c = []
+
 -- it is a command of the definition, and its accesses have small numbers
 pub record IsLocated (c : Numbered) (l : source.Located) : Type 0 where
   pub command : c.command ≡ l.command

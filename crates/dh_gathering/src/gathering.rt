@@ -2,13 +2,14 @@
 //! its block is made whole.
 
 ghost use Rattle.std.specs.Prelude.{◌≡◌, ◌∷◌, [], IfOk};
-ghost use Rattle.dh_tree.specs.Seen.{action_seen, all_parts_seen, maybe_block_seen};
+ghost use Rattle.dh_tree.specs.Seen.{action_seen, all_parts_seen, maybe_block_seen, plan_seen};
+ghost use Rattle.dh_tree.specs.ViewOffsets.{moves as moves_so};
 ghost use Rattle.dh_meaning.specs.AccessNumbers.{accesses_of, groups_accesses, other_accesses};
 ghost use Rattle.dh_meaning.specs.Phases.{other_phases};
 ghost use Rattle.dh_plan.specs.SeenPlans.{nodes_seen};
 ghost use Rattle.dh_plan.specs.SoundPlans.{blocks_of};
 ghost use Rattle.dh_accesses.specs.Counted.{behind};
-ghost use Rattle.dh_gathering.specs.Gathered.{GathersCommand, GathersGroups, GathersOf, MakesBody, all_kept};
+ghost use Rattle.dh_gathering.specs.Gathered.{GathersCommand, GathersGroups, GathersOf, MakesBody, all_kept, view_kept};
 ghost use Rattle.dh_gathering.specs.KeptPhases.{done_at_once};
 ghost use Rattle.dh_gathering.specs.NamedOnce.{NamesOnce, kept_blocks};
 ghost use Rattle.dh_gathering.specs.OpenAccesses.{numbered};
@@ -21,7 +22,8 @@ use dh_base::NoMemory;
 use dh_expressions::{Paths, Scene, entity_of, inside};
 use dh_meaning::turn_count;
 use dh_plan::Node;
-use dh_tree::{Command, CommandForm};
+use dh_tree::{Command, CommandForm, ViewForm};
+use dh_viewing::moves;
 use std::alloc::Global;
 
 /// No phase, and no access.
@@ -45,6 +47,25 @@ fn alone<'a>(
 {
     let forms = one_command(alloc, first, command)?;
     Ok((forms, behind_command(first, command)))
+}
+
+/// A view with the number behind its accesses: one that moves is a phase alone, another has none.
+fn view_phases<'a>(
+    alloc: Global,
+    first: u32,
+    command: &'a Command,
+    form: &ViewForm,
+) -> Result<(Vec<Loose<'a>>, u32), NoMemory>
+    ensures forms { IfOk result (λ g. all_kept g.0.items ≡ view_kept (moves_so (plan_seen form.now))
+        (numbered (action_seen command.now) first)) }
+    ensures next { IfOk result (λ g. g.1 ≡ behind first (accesses_of (action_seen
+        command.now))) }
+{
+    if moves(form) {
+        alone(alloc, first, command)
+    } else {
+        Ok((Vec::new(alloc), behind_command(first, command)))
+    }
 }
 
 /// The phases of a command at these paths, whose accesses are numbered from `first` on.
@@ -106,7 +127,7 @@ fn gather<'a>(
         }
         CommandForm::Block { body } => gather_parts(scene, made, paths, first, body.as_slice()),
         CommandForm::LetMemory { .. } => Ok(nothing(alloc, first)),
-        CommandForm::View { .. } => Ok(nothing(alloc, first)),
+        CommandForm::View { form, .. } => view_phases(alloc, first, command, form),
         CommandForm::Call { .. } => Ok(nothing(alloc, first)),
     }
 }

@@ -13,7 +13,7 @@ use Rattle.dh_net.specs.declared.ports.Port.{Port}
 use Rattle.dh_net.proofs.Valuations.{cell_of}
 use Rattle.dh_cells.specs.PlainCircuits.{one_cell}
 use Rattle.dh_cells.specs.Settled.{BeginsWith}
-use Rattle.dh_cells.proofs.CellsAppended.{get_last, get_either, begins_longer, width_later, fits_later}
+use Rattle.dh_cells.proofs.CellsAppended.{get_last, get_either, begins_longer, width_later, cell_later}
 use Rattle.dh_sim.proofs.Keeping.{wide_fits}
 use Rattle.dh_join.specs.AddedCells.{AreCells, IsChoice, Grows, ShowsChoices, AreDepths, CellAdded, EitherAdded, ChoiceAdded}
 
@@ -32,11 +32,6 @@ grows_then a b c m n g h = record {
   valid = λ table registers all. h.valid table registers (g.valid table registers all);
   few = (let x = g.few in let y = h.few in omega (arith, x, y));
 }
-
-cell_later : (table : List MemEntry) (registers : List Register) (old new : List Cell) (i : ℕ) (c : Cell) → BeginsWith new old
-    → IsCell table registers old i c → IsCell table registers new i c
-cell_later table registers old new i c e h =
-    record { least = h.least; greatest = h.greatest; form = fits_later table registers old new i c.width c.form e h.form }
 
 grows_one : (cells : List Cell) (c : Cell) → IsChoice c.form
     → ((table : List MemEntry) (registers : List Register) → AreCells table registers cells → IsCell table registers cells (length cells) c)

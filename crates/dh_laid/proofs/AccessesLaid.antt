@@ -56,9 +56,8 @@ use Rattle.dh_laid.specs.LaidAccesses.{AreLaid, AreNamed, CommandsLay, EachLay, 
 use Rattle.dh_laid.specs.LaidQuiet.{StandsIn}
 use Rattle.dh_laid.proofs.ArmsLaid.{arm_guards_form}
 use Rattle.dh_laid.proofs.ChoicesLaid.{choices_form}
-use Rattle.dh_laid.proofs.CommandsQuiet.{stands_arm}
 use Rattle.dh_laid.proofs.FaultsKept.{choices_faults, converted_faults, copies_faults, finds_faults, folded_faults, guards_faults, held_faults, number_faults, operation_faults, same_faults, variable_faults}
-use Rattle.dh_laid.proofs.ValuesLogged.{tests_same}
+use Rattle.dh_laid.proofs.ValuesLogged.{stands_arm, tests_same}
 
 -- Composition.
 

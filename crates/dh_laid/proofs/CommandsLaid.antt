@@ -229,7 +229,7 @@ module _ (scene : Scene) (Chosen Other : Around → (tests : List ℕ) → (old 
 
 -- Commands one behind the other.
 
-still_forms : (scene : Scene) (around : Around) (old new : Building) → new ≡ old → FormsCommand scene around old new (λ x. Unit {0})
+pub still_forms : (scene : Scene) (around : Around) (old new : Building) → new ≡ old → FormsCommand scene around old new (λ x. Unit {0})
 still_forms scene around old new still = record {
   extends = extends_same old new still;
   logs = λ ready. logged_equal old.values new.values (ap (λ (b : Building). b.values) still);

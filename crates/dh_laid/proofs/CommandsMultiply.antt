@@ -1,6 +1,6 @@
 -- What is put down for a command has at most the multiplications of its expressions, each once for each path: by
 -- recursion on both.
-use Rattle.std.proofs.Common.{◌≡◌, ◌⊎◌, inl, inr, ◌<◌, ◌≤◌, ◌+◌, ◌*◌, ◌^◌, ℕ, zero, suc, List, Some, None, ap, sym, ◌∙◌, subst, length, arith, append_assoc, refl}
+use Rattle.std.proofs.Common.{◌≡◌, ◌⊎◌, inl, inr, ◌≤◌, ◌+◌, ◌*◌, ℕ, zero, suc, List, Some, None, ap, sym, ◌∙◌, subst, length, arith, append_assoc, refl}
 use Rattle.std.specs.Prelude.{Bool as Truth, true, false, if◌then◌else◌, [], ◌∷◌, ◌++◌, Option, slice_get}
 use Rattle.std.proofs.Math.Nat.{mul-suc}
 use Rattle.std.proofs.lemmas.List.{append-nil}
@@ -50,7 +50,7 @@ use Rattle.dh_commands.specs.LanesRun.{lane_of, paths_counted}
 use Rattle.dh_commands.specs.MadeCommands.{Commanding, FoldedWith, MadeActionForm, MadeActions, MadeAim, MadeArm, MadeArmGuard, MadeArmGuards, MadeAssigned, MadeBehind, MadeChoiceBy, MadeChoices, MadeCleared, MadeCommand, MadeGroups, MadeGuard, MadeLanes, MadeOldOperand, MadeOperand, MadeOther, MadeOutcome, MadeReduced, MadeStored, MadeStoring, MadeTests}
 use Rattle.dh_laid.specs.LaidProducts.{AddsProducts, CommandsHaveProducts, GroupsHaveProducts, action_products, aim_products, all_products_in, groups_products, other_products, own_products, part_products, products_in}
 use Rattle.dh_laid.specs.LaidQuiet.{StandsIn}
-use Rattle.dh_laid.proofs.ValuesLogged.{arm_long, tests_same}
+use Rattle.dh_laid.proofs.ValuesLogged.{arm_long, stands_arm, tests_same}
 
 pub products_append : (xs ys : List Operation) → block_products (xs ++ ys) ≡ block_products xs + block_products ys
 products_append [] ys = omega arith
@@ -309,14 +309,6 @@ choices_products_added : (tests : List ℕ) (choices : List Choice) (count : ℕ
 choices_products_added tests choices zero old new before after m = none_none old new m.0
 choices_products_added tests choices (suc n) old new before after m =
     none_again old m.0 new (choices_products_added tests choices n old m.0 before m.1.0 m.1.1.1.0) (choice_products_added (slice_get tests (m.1.1.0).path) m.1.1.0 m.0 new m.1.0 after m.1.1.1.1.1)
-
-stands_arm : (scene : Scene) (Inner : Commanding) (around : Around) (holds : Truth) (tests : List ℕ) (old new : Building) (first next : ℕ) (lefts : List Left) (m : MadeArm Inner around holds tests old new first next lefts)
-    → StandsIn scene around → length tests ≡ paths_counted around → StandsIn scene m.arm
-stands_arm scene Inner around holds tests old new first next lefts m s many = record {
-  scopes = s.scopes;
-  low = subst (λ levels. length levels < 2 ^ 63) (sym m.levels) s.low;
-  few = subst (λ (n : ℕ). n < 2 ^ 64) (sym (arm_long holds around.guards.now tests (length tests) old.draft m.guarded m.arm.guards.now m.guards ∙ many)) s.few;
-}
 
 none_plus : (n : ℕ) → 0 + n ≤ n
 none_plus n = omega arith

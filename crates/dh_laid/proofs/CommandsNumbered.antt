@@ -7,7 +7,7 @@ use Rattle.dh_value.specs.declared.operators.Op.{Op}
 use Rattle.dh_tree.specs.Indices.{form_of}
 use Rattle.dh_tree.specs.PlainTrees as plain
 use Rattle.dh_tree.specs.PlainTrees.{Term, Action, action, lets, lets_memory, views, assigns, stores, reduces, calls, blocks, decides, repeats, counts, MaybeAction, no_action, one_action, Actions, no_actions, action_then, Groups, no_groups, group_then}
-use Rattle.dh_meaning.specs.AccessNumbers.{accesses_of, form_accesses, groups_accesses, other_accesses, part_accesses, term_accesses, terms_accesses}
+use Rattle.dh_meaning.specs.AccessNumbers.{accesses_of, form_accesses, groups_accesses, other_accesses, part_accesses, plan_accesses, term_accesses, terms_accesses}
 use Rattle.dh_meaning.specs.CoreOf.{entity_number}
 use Rattle.dh_accesses.specs.Counted.{behind}
 use Rattle.dh_accesses.proofs.CountedParts.{behind_few}
@@ -260,7 +260,7 @@ module _ (scene : Scene) where
         let all : AreFewGroups scene body around old new first next m × Numbers old new first (groups_accesses body) next = groups_reached body around old new first next m is some (omega (arith, few)) in
         (all.0, inner_count old new first (groups_accesses body) next all.1)
     command_reached (action id place (lets_memory name shape shape_places value)) around old new first next m is some few = (tt, numbers_none old new first next (ap (λ (b : Building). b.accesses) m.still) m.next_is)
-    command_reached (action id place (views name parent form)) around old new first next m is some few = (tt, numbers_none old new first next (ap (λ (b : Building). b.accesses) m.still) m.next_is)
+    command_reached (action id place (views name parent form)) around old new first next m is some few = (tt, numbers_idle old new first (plan_accesses form + 0) next m.still m.next_is few)
     command_reached (action id place (calls function arguments)) around old new first next m is some few = (tt, numbers_none old new first next (ap (λ (b : Building). b.accesses) m.still) m.next_is)
     command_reached (action id place (repeats test body)) around old new first next m is some few = (tt, numbers_idle old new first (term_accesses test + accesses_of body) next m.still m.next_is few)
     command_reached (action id place (counts iterator declared low high factor body combine combine_place)) around old new first next m is some few =

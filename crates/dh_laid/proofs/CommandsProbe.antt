@@ -11,6 +11,7 @@ use Rattle.dh_tree.specs.Indices.{form_of}
 use Rattle.dh_tree.specs.PlainTrees as plain
 use Rattle.dh_tree.specs.PlainTrees.{Term, Action, action, ActionForm, lets, lets_memory, views, assigns, stores, reduces, calls, blocks, decides, repeats, counts, MaybeAction, no_action, one_action, Actions, no_actions, action_then, Groups, no_groups, group_then}
 use Rattle.dh_base.specs.declared.places.Place.{Place}
+use Rattle.dh_tree.specs.Seen.{terms}
 use Rattle.dh_meaning.specs.AccessNumbers.{accesses_of, form_accesses, groups_accesses, other_accesses, part_accesses, term_accesses, terms_accesses}
 use Rattle.dh_meaning.specs.Bindings.{kind_or_first}
 use Rattle.dh_meaning.specs.CoreOf.{entity_number}
@@ -54,7 +55,7 @@ use Rattle.dh_laid.specs.LaidNumbers.{AreStraight, AreStraightGroups, IsAccessFo
 use Rattle.dh_laid.specs.LaidProbes.{AddsProbes, CommandsProbe, GroupsProbe}
 use Rattle.dh_laid.specs.LaidQuiet.{StandsIn}
 use Rattle.dh_laid.proofs.CommandsNumbered.{actions_numbered, command_numbered, some_arm, tests_number}
-use Rattle.dh_laid.proofs.ValuesLogged.{arm_long, tests_same}
+use Rattle.dh_laid.proofs.ValuesLogged.{arm_long, stands_arm, tests_same}
 
 pub append_probes : (access : ℕ) (xs ys : List Operation) → probes_among access (xs ++ ys) ≡ probes_among access xs + probes_among access ys
 append_probes access [] ys = omega arith
@@ -370,14 +371,6 @@ choices_probed tests choices zero old new before after m = none_none old new m.0
 choices_probed tests choices (suc n) old new before after m =
     none_again old m.0 new (choices_probed tests choices n old m.0 before m.1.0 m.1.1.1.0) (choice_probed (slice_get tests (m.1.1.0).path) m.1.1.0 m.0 new m.1.0 after m.1.1.1.1.1)
 
-pub stands_arm : (scene : Scene) (Inner : Commanding) (around : Around) (holds : Truth) (tests : List ℕ) (old new : Building) (first next : ℕ) (lefts : List Left) (m : MadeArm Inner around holds tests old new first next lefts)
-    → StandsIn scene around → length tests ≡ paths_counted around → StandsIn scene m.arm
-stands_arm scene Inner around holds tests old new first next lefts m s many = record {
-  scopes = s.scopes;
-  low = subst (λ levels. length levels < 2 ^ 63) (sym m.levels) s.low;
-  few = subst (λ (n : ℕ). n < 2 ^ 64) (sym (arm_long holds around.guards.now tests (length tests) old.draft m.guarded m.arm.guards.now m.guards ∙ many)) s.few;
-}
-
 arm_probed : (Inner : Commanding) (around : Around) (holds : Truth) (tests : List ℕ) (old new : Building) (first next : ℕ) (lefts : List Left) (m : MadeArm Inner around holds tests old new first next lefts) (count : ℕ) → length tests ≡ paths_counted around
     → AddsProbes m.begin.draft m.inside.draft (often first count (paths_counted m.arm)) → AddsProbes old.draft new.draft (often first count (paths_counted around))
 arm_probed Inner around holds tests old new first next lefts m count many inner =
@@ -441,7 +434,8 @@ module _ (scene : Scene) where
     command_probed (action id place (blocks body)) around old new first next s m is some few =
         inner_probed old.draft new.draft first (groups_accesses body) (paths_counted around) (groups_probed body around old new first next s m is some (omega (arith, few)))
     command_probed (action id place (lets_memory name shape shape_places value)) around old new first next s m is some few = still_probed old new first (paths_counted around) m.still
-    command_probed (action id place (views name parent form)) around old new first next s m is some few = still_probed old new first (paths_counted around) m.still
+    command_probed (action id place (views name parent form)) around old new first next s m is some few =
+        subst (λ (l : List Term). AddsProbes old.draft new.draft (often first (terms_accesses (terms l) + 0) (paths_counted around))) (sym is) (still_probed old new first (paths_counted around) m.still)
     command_probed (action id place (calls function arguments)) around old new first next s m is some few = still_probed old new first (paths_counted around) m.still
     command_probed (action id place (repeats test body)) around old new first next s m is some few = absurd is
     command_probed (action id place (counts iterator declared low high factor body combine combine_place)) around old new first next s m is some few = absurd is

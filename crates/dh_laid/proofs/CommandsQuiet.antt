@@ -1,5 +1,5 @@
 -- What is put down for expressions and commands checks nothing and sets no register, by recursion on both.
-use Rattle.std.proofs.Common.{◌≡◌, ◌⊎◌, inl, inr, ◌<◌, ◌≤◌, ◌^◌, ℕ, zero, suc, List, Some, None, ap, sym, ◌∙◌, subst, length, arith, append_assoc, refl}
+use Rattle.std.proofs.Common.{◌≡◌, ◌⊎◌, inl, inr, ◌≤◌, ℕ, zero, suc, List, Some, None, ap, sym, ◌∙◌, subst, length, arith, append_assoc, refl}
 use Rattle.std.specs.Prelude.{Bool as Truth, true, false, [], ◌∷◌, ◌++◌, Option, slice_get}
 use Rattle.std.proofs.lemmas.List.{append-nil}
 use Rattle.dh_value.specs.declared.kinds.Kind.{Kind}
@@ -46,7 +46,7 @@ use Rattle.dh_commands.specs.declared.choices.Left.{Left}
 use Rattle.dh_commands.specs.LanesRun.{lane_of, paths_counted}
 use Rattle.dh_commands.specs.MadeCommands.{Commanding, FoldedWith, MadeActionForm, MadeActions, MadeAim, MadeArm, MadeArmGuard, MadeArmGuards, MadeAssigned, MadeBehind, MadeChoiceBy, MadeChoices, MadeCleared, MadeCommand, MadeGroups, MadeGuard, MadeLanes, MadeOldOperand, MadeOperand, MadeOther, MadeOutcome, MadeReduced, MadeStored, MadeStoring, MadeTests}
 use Rattle.dh_laid.specs.LaidQuiet.{AddsQuiet, CommandsAreQuiet, GroupsAreQuiet, IsQuiet, StandsIn, TermsAreQuiet, QuietSetsNone}
-use Rattle.dh_laid.proofs.ValuesLogged.{arm_long, tests_same}
+use Rattle.dh_laid.proofs.ValuesLogged.{stands_arm, tests_same}
 
 quiet_same : (old new : Draft) → new.operations.items ≡ old.operations.items → AddsQuiet old new
 quiet_same old new same = record { more = []; adds = same ∙ sym (append-nil old.operations.items); each = tt }
@@ -254,14 +254,6 @@ choices_quiet : (tests : List ℕ) (choices : List Choice) (count : ℕ) (old ne
 choices_quiet tests choices zero old new before after m = quiet_none old new m.0
 choices_quiet tests choices (suc n) old new before after m =
     quiet_again old m.0 new (choices_quiet tests choices n old m.0 before m.1.0 m.1.1.1.0) (choice_quiet (slice_get tests (m.1.1.0).path) m.1.1.0 m.0 new m.1.0 after m.1.1.1.1.1)
-
-pub stands_arm : (scene : Scene) (Inner : Commanding) (around : Around) (holds : Truth) (tests : List ℕ) (old new : Building) (first next : ℕ) (lefts : List Left) (m : MadeArm Inner around holds tests old new first next lefts)
-    → StandsIn scene around → length tests ≡ paths_counted around → StandsIn scene m.arm
-stands_arm scene Inner around holds tests old new first next lefts m s many = record {
-  scopes = s.scopes;
-  low = subst (λ levels. length levels < 2 ^ 63) (sym m.levels) s.low;
-  few = subst (λ (n : ℕ). n < 2 ^ 64) (sym (arm_long holds around.guards.now tests (length tests) old.draft m.guarded m.arm.guards.now m.guards ∙ many)) s.few;
-}
 
 arm_quiet : (Inner : Commanding) (around : Around) (holds : Truth) (tests : List ℕ) (old new : Building) (first next : ℕ) (lefts : List Left) (m : MadeArm Inner around holds tests old new first next lefts)
     → AddsQuiet m.begin.draft m.inside.draft → AddsQuiet old.draft new.draft

@@ -5,7 +5,7 @@ use Rattle.std.proofs.lemmas.Bool.{cases_lt}
 use Rattle.dh_value.specs.declared.operators.Op.{Op}
 use Rattle.dh_tree.specs.Indices.{form_of}
 use Rattle.dh_tree.specs.PlainTrees.{Term, Action, action, lets, lets_memory, views, assigns, stores, reduces, calls, blocks, decides, repeats, counts, MaybeAction, no_action, one_action, Actions, no_actions, action_then, Groups, no_groups, group_then}
-use Rattle.dh_meaning.specs.AccessNumbers.{accesses_of, groups_accesses, other_accesses, part_accesses, term_accesses}
+use Rattle.dh_meaning.specs.AccessNumbers.{accesses_of, groups_accesses, other_accesses, part_accesses, plan_accesses, term_accesses}
 use Rattle.dh_meaning.specs.CoreOf.{entity_number}
 use Rattle.dh_expressions.specs.declared.accesses.Accesses.{Accesses}
 use Rattle.dh_expressions.specs.declared.drafts.Draft.{Draft}
@@ -20,19 +20,18 @@ use Rattle.dh_commands.specs.declared.buildings.Building.{Building}
 use Rattle.dh_commands.specs.declared.choices.Left.{Left}
 use Rattle.dh_commands.specs.LanesRun.{lane_of, paths_counted}
 use Rattle.dh_commands.specs.MadeCommands.{Commanding, MadeActions, MadeArm, MadeAssigned, MadeCleared, MadeCommand, MadeGroups, MadeLanes, MadeOther, MadeReduced, MadeStored, MadeTests}
-use Rattle.dh_laid.specs.BlockSites.{actions_sites, all_there, command_sites, groups_sites, other_sites, target_sites, term_sites}
+use Rattle.dh_laid.specs.BlockSites.{HasSites, actions_sites, all_there, command_sites, groups_sites, other_sites, target_sites, term_sites}
 use Rattle.dh_laid.specs.Laid.{aim_accesses}
 use Rattle.dh_laid.specs.LaidCommands.{AreFewIn}
 use Rattle.dh_laid.specs.LaidNumbers.{IsAccessForm, IsOutside, Numbers, StoresReach, StoresReachGroups, StoresReachOther, StoresReachPart}
 use Rattle.dh_laid.specs.LaidQuiet.{StandsIn}
 use Rattle.dh_laid.specs.LaidUses.{AddsLedUses, used_by, EachWrite, EachWriteActions, EachWriteGroups, EachWriteOther, IsUnshared, PathsLead, SharesInside, used_to}
 use Rattle.dh_laid.proofs.CommandsNumbered.{actions_reached, aims_within, arm_number, command_reached, groups_reached, numbers_then, other_reached, some_arm, tests_number}
-use Rattle.dh_laid.proofs.CommandsProbe.{stands_arm}
 use Rattle.dh_laid.proofs.ReadsUsed.{AreLed, UsesPart, led_same}
-use Rattle.dh_laid.proofs.SitesLaid.{HasSites, PlacesAgree, actions_sites_long, all_sites, command_sites_long, no_sites, places_behind, places_front, target_sites_long, term_sites_long, test_places_long, two_long}
+use Rattle.dh_laid.proofs.SitesLaid.{PlacesAgree, actions_sites_long, all_sites, command_sites_long, no_sites, places_behind, places_front, target_sites_long, term_sites_long, test_places_long, two_long}
 use Rattle.dh_laid.proofs.TermsUsed.{UsesLane, assigned_used, cleared_used, long_is, reduced_used, stored_used, term_used}
 use Rattle.dh_laid.proofs.UsesAdded.{AddsNone, choices_used, guards_used, no_accesses, none_none, none_then_uses, ranged_more, ranged_nothing, ranged_then, ranged_without, used_nowhere, uses_then_none}
-use Rattle.dh_laid.proofs.ValuesLogged.{arm_long, tests_same}
+use Rattle.dh_laid.proofs.ValuesLogged.{arm_long, stands_arm, tests_same}
 
 -- What stands before and behind.
 
@@ -389,7 +388,8 @@ module _ (scene : Scene) (sites : ℕ → Option Site) (inside : SharesInside sc
         (groups_used body around old new first next s leads m is some (omega (arith, few)) writes has
         (begins_count (paths_counted around) old.accesses first (0 + groups_accesses body) (groups_accesses body) (sym (none_before (groups_accesses body))) begins))
     command_used (action id place (lets_memory name shape shape_places value)) around old new first next s leads m is some few writes has begins = still_used (paths_counted around) old new first m.still begins
-    command_used (action id place (views name parent form)) around old new first next s leads m is some few writes has begins = still_used (paths_counted around) old new first m.still begins
+    command_used (action id place (views name parent form)) around old new first next s leads m is some few writes has begins =
+        idle_used (paths_counted around) old new first (plan_accesses form + 0) m.still (no_sites sites first (plan_accesses form + 0) has) begins
     command_used (action id place (calls function arguments)) around old new first next s leads m is some few writes has begins = still_used (paths_counted around) old new first m.still begins
     command_used (action id place (repeats test body)) around old new first next s leads m is some few writes has begins =
         idle_used (paths_counted around) old new first (term_accesses test + accesses_of body) m.still (no_sites sites first (term_accesses test + accesses_of body) has) begins

@@ -5,7 +5,7 @@ use Rattle.std.specs.Prelude.{◌&&◌, nat_le, nat_lt, Bool as Truth, true, fal
 use Rattle.std.proofs.lemmas.Bool.{cases_lt}
 use Rattle.std.proofs.lemmas.Bool.Decides.{nat_tests}
 use Rattle.dh_tree.specs.PlainTrees.{Action, action, lets, lets_memory, views, assigns, stores, reduces, calls, blocks, decides, repeats, counts, MaybeAction, no_action, one_action, Actions, no_actions, action_then, Groups, no_groups, group_then}
-use Rattle.dh_meaning.specs.AccessNumbers.{accesses_of, groups_accesses, other_accesses, part_accesses, term_accesses}
+use Rattle.dh_meaning.specs.AccessNumbers.{accesses_of, groups_accesses, other_accesses, part_accesses, plan_accesses, term_accesses}
 use Rattle.dh_meaning.specs.CoreOf.{entity_number}
 use Rattle.dh_expressions.specs.declared.drafts.Draft.{Draft}
 use Rattle.dh_expressions.specs.declared.scenes.Around.{Around}
@@ -24,11 +24,11 @@ use Rattle.dh_laid.specs.LaidProbes.{AddsProbes}
 use Rattle.dh_laid.specs.LaidQuiet.{StandsIn}
 use Rattle.dh_laid.specs.LaidUses.{probed_by}
 use Rattle.dh_laid.proofs.CommandsNumbered.{actions_reached, command_reached, some_arm, tests_number}
-use Rattle.dh_laid.proofs.CommandsProbe.{assigned_probed, choices_probed, cleared_probed, guards_probed, lanes_probed, none_none, none_then_probes, often, probes_again, probes_then_none, reduced_probed, stands_arm, stored_probed, tests_probed}
+use Rattle.dh_laid.proofs.CommandsProbe.{assigned_probed, choices_probed, cleared_probed, guards_probed, lanes_probed, none_none, none_then_probes, often, probes_again, probes_then_none, reduced_probed, stored_probed, tests_probed}
 use Rattle.dh_laid.proofs.CommandsUsed.{AreSites, sites_are}
 use Rattle.dh_laid.proofs.SitesLaid.{PlacesAgree, actions_sites_long, all_sites, command_sites_long, no_sites, places_behind, places_front, target_sites_long, term_sites_long, test_places_long, two_long}
 use Rattle.dh_laid.proofs.TermsUsed.{long_is}
-use Rattle.dh_laid.proofs.ValuesLogged.{arm_long, tests_same}
+use Rattle.dh_laid.proofs.ValuesLogged.{arm_long, stands_arm, tests_same}
 
 pub probes_same : (a b : Draft) (f g : ℕ → ℕ) → ((access : ℕ) → f access ≡ g access) → AddsProbes a b f → AddsProbes a b g
 probes_same a b f g same h = record { more = h.more; adds = h.adds; probes_are = λ access. h.probes_are access ∙ same access }
@@ -167,7 +167,8 @@ module _ (scene : Scene) (sites : ℕ → Option Site) where
     command_sited (action id place (blocks body)) around old new first next s m is some few has =
         probed_count old.draft new.draft first (groups_accesses body) (0 + groups_accesses body) (paths_counted around) (none_before (groups_accesses body)) (groups_sited body around old new first next s m is some (omega (arith, few)) has)
     command_sited (action id place (lets_memory name shape shape_places value)) around old new first next s m is some few has = still_sited old new first (paths_counted around) m.still
-    command_sited (action id place (views name parent form)) around old new first next s m is some few has = still_sited old new first (paths_counted around) m.still
+    command_sited (action id place (views name parent form)) around old new first next s m is some few has =
+        idle_sited old new first (plan_accesses form + 0) (paths_counted around) m.still (no_sites sites first (plan_accesses form + 0) has)
     command_sited (action id place (calls function arguments)) around old new first next s m is some few has = still_sited old new first (paths_counted around) m.still
     command_sited (action id place (repeats test body)) around old new first next s m is some few has =
         idle_sited old new first (term_accesses test + accesses_of body) (paths_counted around) m.still (no_sites sites first (term_accesses test + accesses_of body) has)

@@ -1,5 +1,5 @@
 -- The multiplications that are counted in the tree are those of the program's expressions and commands.
-use Rattle.std.proofs.Common.{◌≡◌, ◌+◌, ℕ, Some, None, refl, ap, ◌∙◌, arith}
+use Rattle.std.proofs.Common.{◌≡◌, ◌+◌, ℕ, List, [], ◌∷◌, Option, Some, None, refl, ap, sym, ◌∙◌, subst, arith}
 use Rattle.dh_value.specs.declared.kinds.Kind.{Kind}
 use Rattle.dh_value.specs.declared.kinds.Kind.TheVariants as kind
 use Rattle.dh_value.specs.declared.operators.Op.{Op}
@@ -7,10 +7,12 @@ use Rattle.dh_value.specs.declared.operators.Op.TheVariants as op
 use Rattle.dh_tree.specs.Indices.{form_of}
 use Rattle.dh_tree.specs.PlainTrees as plain
 use Rattle.dh_tree.specs.PlainTrees.{Action, action, lets, lets_memory, views, assigns, stores, reduces, calls, blocks, decides, repeats, counts, MaybeAction, no_action, one_action, Actions, no_actions, action_then, Groups, no_groups, group_then}
+use Rattle.dh_tree.specs.Seen.{terms}
 use Rattle.dh_meaning.specs.AccessNumbers.{accesses_of, part_accesses, term_accesses}
-use Rattle.dh_meaning.specs.Core.{CoreCommands, CoreTerm, no_commands, variable}
-use Rattle.dh_meaning.specs.CoreOf.{Known, core_action, core_groups, core_other, core_part, core_term, core_terms, depth_of, entity_number, extended, extended_both, kind_of, operation_of, store_to}
-use Rattle.dh_plan.specs.DoneProgram.{command_products, commands_products, product_of, term_products, terms_products}
+use Rattle.dh_meaning.specs.Core.{CoreCommands, CoreTerm, CoreTerms, no_commands, no_terms, term_and, variable}
+use Rattle.dh_meaning.specs.CoreOf.{Known, core_action, core_groups, core_other, core_part, core_term, core_terms, depth_of, entity_number, extended, extended_both, kept_by, kept_terms, kind_of, operation_of, store_to, target_to, terms_both, way_of}
+use Rattle.dh_meaning.specs.Ways.{Hidden, Way, hidden_in}
+use Rattle.dh_plan.specs.DoneProgram.{command_products, commands_products, product_of, target_products, term_products, terms_products}
 use Rattle.dh_laid.specs.LaidNumbers.{AreStraight, AreStraightGroups, IsAccessForm, IsStraight, IsStraightOther}
 use Rattle.dh_laid.specs.LaidProducts.{CommandsMultiply, GroupsMultiply, TermsMultiply, action_products, aim_products, all_products_in, groups_products, other_products, part_products, products_in}
 
@@ -46,13 +48,29 @@ operation_products op.Ne j k l r = both_products op.Ne j k l r
 two : (a b c d : ℕ) → a ≡ c → b ≡ d → a + b ≡ c + d
 two a b c d h k = omega (arith, h, k)
 
+none_more : (n : ℕ) → n ≡ 0 → 0 + n ≡ 0
+none_more n e = omega (arith, e)
+
+-- offsets that are kept multiply nothing
+kept_none : (hs : List Hidden) → terms_products (kept_terms hs) ≡ 0
+kept_none [] = refl
+kept_none (h ∷ hs) = none_more (terms_products (kept_terms hs)) (kept_none hs)
+
+behind_none : (ts more : CoreTerms) → terms_products more ≡ 0 → terms_products (terms_both ts more) ≡ terms_products ts
+behind_none no_terms more none = none
+behind_none (term_and t ts) more none = ap (λ (i : ℕ). term_products t + i) (behind_none ts more none)
+
+way_products : (w : Option Way) (ts : CoreTerms) → target_products (target_to w ts) ≡ terms_products ts
+way_products None ts = refl
+way_products (Some w) ts = behind_none ts (kept_terms w.hidden) (kept_none w.hidden)
+
 module _ (known : Known) where
   mutual
     term_same : (n : ℕ) (t : plain.Term) → term_products (core_term known n t) ≡ products_in t
     term_same n (plain.term place k (plain.number negative z)) = refl
     term_same n (plain.term place k (plain.truth_value b)) = refl
     term_same n (plain.term place k (plain.named r)) = refl
-    term_same n (plain.term place k (plain.accessed r ts)) = terms_same n ts
+    term_same n (plain.term place k (plain.accessed r ts)) = way_products (way_of known r) (core_terms known n ts) ∙ terms_same n ts
     term_same n (plain.term place k (plain.in_bank r bank at row)) = term_same n row
     term_same n (plain.term place k (plain.applied o l r)) =
         operation_products o _ _ (core_term known n l) (core_term known (n + term_accesses l) r)
@@ -65,7 +83,7 @@ module _ (known : Known) where
         two (term_products (core_term known n t)) (terms_products (core_terms known (n + term_accesses t) ts)) (products_in t) (all_products_in ts) (term_same n t) (terms_same (n + term_accesses t) ts)
 
   store_same : (n : ℕ) (target : plain.Term) (value : CoreTerm) → IsAccessForm (form_of target) → command_products (store_to known n target value) ≡ term_products value + aim_products (form_of target)
-  store_same n (plain.term place k (plain.accessed r ts)) value is = ap (λ (i : ℕ). term_products value + i) (terms_same n ts)
+  store_same n (plain.term place k (plain.accessed r ts)) value is = ap (λ (i : ℕ). term_products value + i) (way_products (way_of known r) (core_terms known n ts) ∙ terms_same n ts)
   store_same n (plain.term place k (plain.in_bank r bank at row)) value is = ap (λ (i : ℕ). term_products value + i) (term_same n row)
   store_same n (plain.term place k (plain.number negative z)) value is = absurd is
   store_same n (plain.term place k (plain.truth_value b)) value is = absurd is
@@ -111,7 +129,8 @@ module _ (known : Known) where
         (action_same (n + term_accesses test) chosen no_commands is.0) (other_same (n + term_accesses test + accesses_of chosen) other is.1)
     action_same n (action id place (blocks body)) rest is = groups_same n body rest is
     action_same n (action id place (lets_memory name shape shape_places value)) rest is = none_sum (commands_products rest)
-    action_same n (action id place (views name parent form)) rest is = none_sum (commands_products rest)
+    action_same n (action id place (views name parent form)) rest is =
+        subst (λ (l : List plain.Term). commands_products (kept_by (hidden_in (way_of known name)) (core_terms known n (terms l)) rest) ≡ 0 + commands_products rest) (sym is) (none_sum (commands_products rest))
     action_same n (action id place (calls function arguments)) rest is = none_sum (commands_products rest)
     action_same n (action id place (repeats test body)) rest is = absurd is
     action_same n (action id place (counts iterator declared low high factor body combine combine_place)) rest is = absurd is

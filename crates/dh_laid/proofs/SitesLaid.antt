@@ -1,13 +1,14 @@
 -- How many sites a command has, which number has which, and that numbers of other commands have none of them.
 use Rattle.std.proofs.Common.{◌≡◌, ◌<◌, ◌≤◌, ◌+◌, ◌-◌, ℕ, zero, suc, List, Some, None, ap, ◌∙◌, length, arith, refl}
 use Rattle.std.specs.Prelude.{nat_lt, Bool as Truth, true, false, if◌then◌else◌, [], ◌∷◌, ◌++◌, Option, option_map, slice_get}
+use Rattle.std.specs.List.{AllByRecursion}
 use Rattle.std.proofs.lemmas.Bool.Decides.{nat_tests}
 use Rattle.std.proofs.lemmas.List.{length-append, length-map, length-replicate}
 use Rattle.std.proofs.lemmas.Option.{slice_get-map, slice_get_past}
 use Rattle.dh_tree.specs.Indices.{form_of}
 use Rattle.dh_tree.specs.PlainTrees as plain
 use Rattle.dh_tree.specs.PlainTrees.{Term, Action, action, ActionForm, lets, lets_memory, views, assigns, stores, reduces, calls, blocks, decides, repeats, counts, MaybeAction, no_action, one_action, Actions, no_actions, action_then, Groups, no_groups, group_then}
-use Rattle.dh_meaning.specs.AccessNumbers.{accesses_of, groups_accesses, other_accesses, part_accesses, term_accesses, terms_accesses}
+use Rattle.dh_meaning.specs.AccessNumbers.{accesses_of, groups_accesses, other_accesses, part_accesses, plan_accesses, term_accesses, terms_accesses}
 use Rattle.dh_meaning.specs.Phases.{Located}
 use Rattle.dh_expressions.specs.declared.scenes.Around.{Around}
 use Rattle.dh_expressions.specs.declared.scenes.Scene.{Scene}
@@ -16,7 +17,7 @@ use Rattle.dh_formed.specs.Formed.{Site}
 use Rattle.dh_commands.specs.declared.buildings.Building.{Building}
 use Rattle.dh_commands.specs.declared.choices.Left.{Left}
 use Rattle.dh_commands.specs.MadeCommands.{MadeActions, MadeCommand, MadeGroups, MadeOther}
-use Rattle.dh_laid.specs.BlockSites.{MadeEach, actions_sites, all_there, block_sites, command_sites, groups_sites, none_there, one_site, other_sites, places_from, site_or, sites_from, target_sites, term_sites, terms_sites}
+use Rattle.dh_laid.specs.BlockSites.{HasSites, MadeEach, actions_sites, all_there, block_sites, command_sites, groups_sites, none_there, one_site, other_sites, places_from, site_or, sites_from, target_sites, term_sites, terms_sites}
 use Rattle.dh_laid.specs.LaidNumbers.{IsAccessForm, StoresReach, StoresReachGroups, StoresReachOther, StoresReachPart}
 use Rattle.dh_laid.specs.LaidUses.{AreAlong}
 
@@ -68,15 +69,11 @@ places_past first ss number h = by (nat_lt number first)
     by true = refl
     by false = ap one_site (slice_get_past ss (number - first) (omega (arith, h)))
 
--- The sites of a list are those of the numbers from a first one on.
-abbrev pub HasSites : (sites : ℕ → Option Site) → (first : ℕ) → List Site → Type 0
-HasSites sites first ss = (i : ℕ) (s : Site) → slice_get ss i ≡ Some s → sites (first + i) ≡ Some s
-
--- and what has none has none
+-- The places of a list are those of the numbers from a first one on: what has no site there has none.
 abbrev pub PlacesAgree : (sites : ℕ → Option Site) → (first : ℕ) → List (Option Site) → Type 0
 PlacesAgree sites first ss = (i : ℕ) (o : Option Site) → slice_get ss i ≡ Some o → sites (first + i) ≡ o
 
-behind_place : {A : Type 0} (xs ys : List A) (i : ℕ) (s : A) → slice_get ys i ≡ Some s → slice_get (xs ++ ys) (length xs + i) ≡ Some s
+pub behind_place : {A : Type 0} (xs ys : List A) (i : ℕ) (s : A) → slice_get ys i ≡ Some s → slice_get (xs ++ ys) (length xs + i) ≡ Some s
 behind_place [] ys i s e = ap (λ j. slice_get ys j) (none i) ∙ e
   where
     none : (i : ℕ) → 0 + i ≡ i
@@ -86,7 +83,7 @@ behind_place (x ∷ xs) ys i s e = ap (λ j. slice_get (x ∷ (xs ++ ys)) j) (mo
     more : (n i : ℕ) → suc n + i ≡ suc (n + i)
     more n i = omega arith
 
-moved : (f o n i : ℕ) → o ≡ f + n → o + i ≡ f + (n + i)
+pub moved : (f o n i : ℕ) → o ≡ f + n → o + i ≡ f + (n + i)
 moved f o n i e = omega (arith, e)
 
 pub sites_front : (sites : ℕ → Option Site) (first : ℕ) (xs ys : List Site) → HasSites sites first (xs ++ ys) → HasSites sites first xs
@@ -196,7 +193,7 @@ module _ (scene : Scene) where
         (other_sites_long other around m.tests m.after_chosen m.after_other m.behind next m.other_left m.other is.1))
     command_sites_long (action id place (blocks body)) around old new first next m is = groups_sites_long body around old new first next m is ∙ none_before (groups_accesses body)
     command_sites_long (action id place (lets_memory name shape shape_places value)) around old new first next m is = no_more 0
-    command_sites_long (action id place (views name parent form)) around old new first next m is = no_more 0
+    command_sites_long (action id place (views name parent form)) around old new first next m is = none_long scene around (plan_accesses form + 0)
     command_sites_long (action id place (calls function arguments)) around old new first next m is = no_more 0
     command_sites_long (action id place (repeats test body)) around old new first next m is = none_long scene around (term_accesses test + accesses_of body)
     command_sites_long (action id place (counts iterator declared low high factor body combine combine_place)) around old new first next m is =
@@ -222,6 +219,10 @@ module _ (scene : Scene) where
         (actions_sites_long part around old m.middle first m.own m.one is.0) (groups_sites_long rest around m.middle new m.own next m.rest is.1)
 
 -- Blocks.
+
+pub along_reach : (from : ℕ) (cs : List Located) → AreAlong from cs → AllByRecursion (λ (c : Located). StoresReach c.command) cs
+along_reach from [] h = tt
+along_reach from (c ∷ cs) h = (h.0.reaches, along_reach (c.first + accesses_of c.command) cs h.1)
 
 -- numbers before those of all commands have no site
 pub block_sites_low : (scene : Scene) (around : Around) (cs : List Located) (from number : ℕ) (old new : Building) (m : MadeEach scene around cs old new) → AreAlong from cs → number < from

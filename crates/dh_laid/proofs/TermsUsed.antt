@@ -29,13 +29,13 @@ use Rattle.dh_formed.proofs.ValuesCounted.{number_counts, operation_counts, vari
 use Rattle.dh_commands.specs.declared.buildings.Building.{Building}
 use Rattle.dh_commands.specs.LanesRun.{paths_counted}
 use Rattle.dh_commands.specs.MadeCommands.{MadeAim, MadeAssigned, MadeCleared, MadeReduced, MadeStored, MadeStoring}
-use Rattle.dh_laid.specs.BlockSites.{read_site, target_sites, term_sites, terms_sites, write_site}
+use Rattle.dh_laid.specs.BlockSites.{HasSites, read_site, target_sites, term_sites, terms_sites, write_site}
 use Rattle.dh_laid.specs.Laid.{aim_accesses}
 use Rattle.dh_laid.specs.LaidNumbers.{IsAccessForm}
 use Rattle.dh_laid.specs.LaidQuiet.{StandsIn}
 use Rattle.dh_laid.specs.LaidUses.{AddsLedUses, IsUnshared, PathsLead}
 use Rattle.dh_laid.proofs.ReadsUsed.{AreLed, UsesPart, led_same, read_used, write_gives, write_led, write_used}
-use Rattle.dh_laid.proofs.SitesLaid.{HasSites, sites_behind, sites_front, sites_last, term_sites_long, terms_sites_long}
+use Rattle.dh_laid.proofs.SitesLaid.{sites_behind, sites_front, sites_last, term_sites_long, terms_sites_long}
 use Rattle.dh_laid.proofs.UsesAdded.{AddsNone, any_register, no_reach, converted_used, folded_used, held_used, no_accesses, none_none, none_pushed, none_then_uses, ranged_behind, ranged_then, uses_counted, uses_then_none}
 
 -- what is put down at a path, which reads so many accesses and uses so many, from a first one on

@@ -1,6 +1,6 @@
 -- What a command gives to variables is logged, and can be taken back; an arm that is taken back leaves what was before.
-use Rattle.std.proofs.Common.{◌≡◌, ℕ, zero, suc, ◌<◌, Some, None, List, [], ◌∷◌, ◌++◌, length, take, drop, refl, ap, sym, ◌∙◌, subst}
-use Rattle.std.specs.Prelude.{Option, slice_get, slice_index}
+use Rattle.std.proofs.Common.{List, None, Some, [], ap, drop, length, refl, subst, suc, sym, take, zero, ℕ, ◌++◌, ◌<◌, ◌^◌, ◌∙◌, ◌∷◌, ◌≡◌}
+use Rattle.std.specs.Prelude.{Bool as Truth, Option, slice_get, slice_index}
 use Rattle.std.specs.List.{AllByRecursion}
 use Rattle.std.proofs.lemmas.List.{append-nil}
 use Rattle.dh_tree.specs.PlainTrees.{Term}
@@ -13,11 +13,13 @@ use Rattle.dh_commands.specs.declared.buildings.Building.{Building}
 use Rattle.dh_commands.specs.declared.choices.Choice.{Choice}
 use Rattle.dh_commands.specs.declared.choices.Left.{Left}
 use Rattle.dh_commands.specs.Joined.{IsLeft}
-use Rattle.dh_commands.specs.MadeCommands.{MadeArmGuards, MadeChoiceBy, MadeChoices, MadeJoined, MadeLanes, MadeTests}
+use Rattle.dh_commands.specs.LanesRun.{paths_counted}
+use Rattle.dh_commands.specs.MadeCommands.{Commanding, MadeArm, MadeArmGuards, MadeChoiceBy, MadeChoices, MadeJoined, MadeLanes, MadeTests}
 use Rattle.dh_commands.specs.Undone.{AreReady, Assigns, EndsArm, HasRoom, lefts_of, undone}
 use Rattle.dh_commands.proofs.ArmsLeft.{AreSame, lefts_given}
 use Rattle.dh_commands.proofs.ChangesBack.{logs_again, logs_none, logs_one}
 use Rattle.dh_laid.specs.LaidCommands.{AreLogged}
+use Rattle.dh_laid.specs.LaidQuiet.{StandsIn}
 
 pub logged_again : (a b c : Values) → AreLogged a b → AreLogged b c → AreLogged a c
 logged_again a b c h k = logs_again (λ d. Unit {0}) a b c h k
@@ -71,6 +73,15 @@ pub arm_long : (holds : _) (guards : List (Option ℕ)) (tests : List ℕ) (coun
 arm_long holds guards tests zero old new arm m = ap (λ (os : List (Option ℕ)). length os) m.1
 arm_long holds guards tests (suc n) old new arm m =
     ap (λ (os : List (Option ℕ)). length os) m.1.1.1.1.1.1.1 ∙ (long_more m.1.0 (Some m.1.1.1.0) ∙ ap suc (arm_long holds guards tests n old m.0 m.1.0 m.1.1.1.1.0))
+
+-- what stands round an arm stands in the scene as what is round the choice
+pub stands_arm : (scene : Scene) (Inner : Commanding) (around : Around) (holds : Truth) (tests : List ℕ) (old new : Building) (first next : ℕ) (lefts : List Left) (m : MadeArm Inner around holds tests old new first next lefts)
+    → StandsIn scene around → length tests ≡ paths_counted around → StandsIn scene m.arm
+stands_arm scene Inner around holds tests old new first next lefts m s many = record {
+  scopes = s.scopes;
+  low = subst (λ levels. length levels < 2 ^ 63) (sym m.levels) s.low;
+  few = subst (λ (n : ℕ). n < 2 ^ 64) (sym (arm_long holds around.guards.now tests (length tests) old.draft m.guarded m.arm.guards.now m.guards ∙ many)) s.few;
+}
 
 -- Choices.
 

@@ -1,12 +1,13 @@
 -- Where the accesses of a block stand, by their numbers: each of its memory, at the paths that stand round it and where
 -- the guards of its arms hold, which only what was put down tells. A block is of commands, put down one after the other,
--- or of a test. All that is stated of the operations of blocks is stated of these sites. A loop in an arm has no turn: its
--- accesses have their numbers all the same, but they are put down nowhere and have no site.
+-- or of a test. All that is stated of the operations of blocks is stated of these sites. A loop in an arm has no turn,
+-- and views that move are refused: their accesses have their numbers all the same, but they are put down nowhere and have
+-- no site.
 use Rattle.std.specs.Prelude.{◌≡◌, ℕ, ◌+◌, ◌-◌, nat_lt, true, false, if◌then◌else◌, List, [], ◌∷◌, ◌++◌, map, replicate, slice_get, Option, Some, None}
 use Rattle.dh_base.specs.declared.places.Place.{Place}
 use Rattle.dh_tree.specs.PlainTrees as plain
 use Rattle.dh_tree.specs.PlainTrees.{Action, action, ActionForm, lets, lets_memory, views, assigns, stores, reduces, calls, blocks, decides, repeats, counts, MaybeAction, no_action, one_action, Actions, no_actions, action_then, Groups, no_groups, group_then}
-use Rattle.dh_meaning.specs.AccessNumbers.{accesses_of, other_accesses, term_accesses}
+use Rattle.dh_meaning.specs.AccessNumbers.{accesses_of, other_accesses, plan_accesses, term_accesses}
 use Rattle.dh_meaning.specs.CoreOf.{memory_of}
 use Rattle.dh_meaning.specs.Phases.{Located}
 use Rattle.dh_expressions.specs.declared.scenes.Around.{Around}
@@ -78,9 +79,9 @@ module _ (scene : Scene) where
         ++ (command_sites chosen m.chosen.arm m.chosen.begin m.chosen.inside m.own m.behind m.chosen.command ++ other_sites other around m.tests m.after_chosen m.after_other m.behind next m.other_left m.other)
     action_sites (blocks body) around old new first next m = groups_sites body around old new first next m
     action_sites (lets_memory name shape shape_places value) around old new first next m = []
-    action_sites (views name parent form) around old new first next m = []
     action_sites (calls function arguments) around old new first next m = []
-    -- loops without turns
+    -- views, which put nothing down, and loops without turns
+    action_sites (views name parent form) around old new first next m = none_there (plan_accesses form + 0)
     action_sites (repeats test body) around old new first next m = none_there (term_accesses test + accesses_of body)
     action_sites (counts iterator declared low high factor body combine combine_place) around old new first next m = none_there (accesses_of body + other_accesses combine)
 
@@ -109,6 +110,14 @@ one_site (Some s) = s
 
 abbrev pub places_from : (first : ℕ) → List (Option Site) → (number : ℕ) → Option Site
 places_from first ss number = if nat_lt number first then None else one_site (slice_get ss (number - first))
+
+-- these sites are those of the numbers from `first` on
+abbrev pub HasSites : (sites : ℕ → Option Site) → (first : ℕ) → List Site → Type 0
+HasSites sites first ss = (i : ℕ) (s : Site) → slice_get ss i ≡ Some s → sites (first + i) ≡ Some s
+
+-- so those that are there
+abbrev pub HasPlaces : (sites : ℕ → Option Site) → (first : ℕ) → List (Option Site) → Type 0
+HasPlaces sites first ss = (i : ℕ) (s : Site) → slice_get ss i ≡ Some (Some s) → sites (first + i) ≡ Some s
 
 abbrev pub site_or : Option Site → Option Site → Option Site
 site_or None s = s

@@ -1,7 +1,7 @@
 -- What is asked of whole commands: each part at all its paths, the arms of an `if`, which are taken back, and the parts
 -- of a block. What must hold of a command goes by recursion on it and on what was put down for it: an access of an arm
 -- stands where the guards of the arm hold, and only what was put down tells which these are.
-use Rattle.std.specs.Prelude.{◌≡◌, ℕ, ◌+◌, ◌<◌, ◌≤◌, ◌^◌, List, length, Some, None}
+use Rattle.std.specs.Prelude.{◌≡◌, ℕ, ◌+◌, ◌<◌, ◌≤◌, ◌^◌, List, [], ◌∷◌, length, Some, None}
 use Rattle.dh_value.specs.declared.kinds.Kind.TheVariants.{Bool}
 use Rattle.dh_value.specs.declared.operators.Op.{Op}
 use Rattle.dh_value.specs.Words.{IsKind}
@@ -9,6 +9,7 @@ use Rattle.dh_tree.specs.Indices.{form_of}
 use Rattle.dh_tree.specs.PlainTrees.{Term, Action, action, ActionForm, lets, lets_memory, views, assigns, stores, reduces, calls, blocks, decides, repeats, counts, MaybeAction, no_action, one_action, Actions, no_actions, action_then, Groups, no_groups, group_then}
 use Rattle.dh_meaning.specs.AccessNumbers.{term_accesses}
 use Rattle.dh_meaning.specs.CoreOf.{entity_number}
+use Rattle.dh_meaning.specs.Phases.{Located}
 use Rattle.dh_code.specs.Slots.{held_at}
 use Rattle.dh_expressions.specs.declared.drafts.Draft.{Draft}
 use Rattle.dh_expressions.specs.declared.scenes.Around.{Around}
@@ -22,6 +23,7 @@ use Rattle.dh_commands.specs.declared.choices.Left.{Left}
 use Rattle.dh_commands.specs.LanesRun.{lane_of, paths_counted}
 use Rattle.dh_commands.specs.MadeCommands.{MadeActions, MadeCommand, MadeGroups, MadeActionForm, MadeOther}
 use Rattle.dh_commands.specs.Undone.{AreReady, Logs}
+use Rattle.dh_laid.specs.BlockSites.{MadeEach}
 use Rattle.dh_laid.specs.Laid.{AimingSuits, AreHeld, FitsRegister, FormsThere, ReducerSuits, StandsRound, StoringSuits, aim_accesses}
 
 -- Accesses are few.
@@ -121,6 +123,16 @@ module _ (x : Block) (scene : Scene) where
     pub GroupsSuit : (body : Groups) → (around : Around) → (old new : Building) → (first next : ℕ) → MadeGroups scene body around old new first next → Type 0
     GroupsSuit no_groups around old new first next m = Unit {0}
     GroupsSuit (group_then g rest) around old new first next m = ActionsSuit g around old m.middle first m.own m.one × GroupsSuit rest around m.middle new m.own next m.rest
+
+-- commands of a block, put down one after the other, suit each
+abbrev pub EachSuits : (x : Block) (scene : Scene) (around : Around) (cs : List Located) (old new : Building) → MadeEach scene around cs old new → Type 0
+EachSuits x scene around [] old new m = Unit {0}
+EachSuits x scene around (c ∷ cs) old new (mid, (next, (m, rest))) = CommandSuits x scene c.command around old mid c.first next m × EachSuits x scene around cs mid new rest
+
+-- and the numbers of their accesses are few
+abbrev pub EachFew : (scene : Scene) (around : Around) (cs : List Located) (old new : Building) → MadeEach scene around cs old new → Type 0
+EachFew scene around [] old new m = Unit {0}
+EachFew scene around (c ∷ cs) old new (mid, (next, (m, rest))) = AreFew scene c.command around old mid c.first next m × EachFew scene around cs mid new rest
 
 -- What variables were given is logged.
 

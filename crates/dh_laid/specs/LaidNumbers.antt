@@ -1,9 +1,10 @@
 -- The numbers of the accesses of whole commands: those behind a command are as many as it makes, and only its own are
 -- touched by what is put down for it.
-use Rattle.std.specs.Prelude.{◌≡◌, ◌⊎◌, ℕ, ◌+◌, ◌<◌, ◌≤◌, ◌^◌}
+use Rattle.std.specs.Prelude.{◌≡◌, ◌⊎◌, ℕ, ◌+◌, ◌<◌, ◌≤◌, ◌^◌, []}
 use Rattle.dh_tree.specs.Indices.{form_of}
 use Rattle.dh_tree.specs.PlainTrees as plain
 use Rattle.dh_tree.specs.PlainTrees.{Action, action, ActionForm, lets, lets_memory, views, assigns, stores, reduces, calls, blocks, decides, repeats, counts, MaybeAction, no_action, one_action, Actions, no_actions, action_then, Groups, no_groups, group_then}
+use Rattle.dh_tree.specs.ViewOffsets.{offsets_of}
 use Rattle.dh_meaning.specs.AccessNumbers.{accesses_of, groups_accesses}
 use Rattle.dh_expressions.specs.declared.scenes.Around.{Around}
 use Rattle.dh_expressions.specs.declared.scenes.Scene.{Scene}
@@ -24,7 +25,7 @@ IsAccessForm (plain.applied op left right) = ⊥
 IsAccessForm (plain.converted inner to) = ⊥
 
 abbrev mutual
-  -- no loop is in a command, and its stores are into accesses
+  -- no loop is in a command and no view that moves, and its stores are into accesses
   pub IsStraight : Action → Type 0
   IsStraight (action id place form) = IsStraightForm form
 
@@ -36,7 +37,7 @@ abbrev mutual
   IsStraightForm (decides test chosen other) = IsStraight chosen × IsStraightOther other
   IsStraightForm (blocks body) = AreStraightGroups body
   IsStraightForm (lets_memory name shape shape_places value) = Unit {0}
-  IsStraightForm (views name parent form) = Unit {0}
+  IsStraightForm (views name parent form) = offsets_of form ≡ []
   IsStraightForm (calls function arguments) = Unit {0}
   IsStraightForm (repeats test body) = ⊥
   IsStraightForm (counts iterator declared low high factor body combine combine_place) = ⊥
@@ -54,7 +55,7 @@ abbrev mutual
   AreStraightGroups (group_then part rest) = AreStraight part × AreStraightGroups rest
 
 abbrev mutual
-  -- the stores of a command are into accesses; of a loop in it nothing is asked, since nothing is put down for it
+  -- the stores of a command are into accesses; of a loop or a view in it nothing is asked, since nothing is put down for it
   pub StoresReach : Action → Type 0
   StoresReach (action id place form) = StoresReachForm form
 
@@ -97,7 +98,7 @@ CommandsNumber =
     (scene : Scene) (a : Action) (around : Around) (old new : Building) (first next : ℕ) (m : MadeCommand scene a around old new first next) → IsStraight a → 0 < paths_counted around → first + accesses_of a < 2 ^ 32
     → AreFew scene a around old new first next m × Numbers old new first (accesses_of a) next
 
--- so also of a command with loops in it that have no phase: their accesses have numbers, and no operations
+-- so also of a command with loops in it that have no phase, or with views: their accesses have numbers, and no operations
 abbrev pub ReachingNumber : Type 0
 ReachingNumber =
     (scene : Scene) (a : Action) (around : Around) (old new : Building) (first next : ℕ) (m : MadeCommand scene a around old new first next) → StoresReach a → 0 < paths_counted around → first + accesses_of a < 2 ^ 32

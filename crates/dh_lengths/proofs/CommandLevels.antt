@@ -13,12 +13,16 @@ use Rattle.dh_tree.specs.declared.trees.expressions.Expr.{Expr}
 use Rattle.dh_tree.specs.declared.trees.expressions.Ref.{Ref}
 use Rattle.dh_tree.specs.PlainTrees as plain
 use Rattle.dh_tree.specs.PlainTrees.{Term, Action, ActionForm, Actions, Groups}
-use Rattle.dh_tree.specs.Seen.{action_form_seen, action_seen, actions, groups, part_seen, term_seen}
+use Rattle.dh_tree.specs.Seen.{action_form_seen, action_seen, actions, groups, part_seen, term_seen, terms}
+use Rattle.dh_tree.specs.ViewOffsets.{offsets_of}
 use Rattle.dh_meaning.specs.AccessNumbers.{accesses_of, groups_accesses, inner_accesses, own_accesses, part_accesses, term_accesses}
 use Rattle.dh_meaning.specs.Bindings.{kind_found}
-use Rattle.dh_meaning.specs.Core.{CoreTerm, variable, CoreCommand, assign, choose, CoreCommands, no_commands, command_and}
-use Rattle.dh_meaning.specs.CoreOf.{Known, core_action, core_action_form, core_groups, core_part, core_term, depth_of, entity_number, kind_of, operation_of, store_to}
+use Rattle.dh_meaning.specs.Core.{CoreTerm, variable, CoreTerms, no_terms, term_and, CoreCommand, assign, choose, CoreCommands, no_commands, command_and}
+use Rattle.dh_meaning.specs.CoreOf.{Known, core_action, core_action_form, core_groups, core_part, core_term, core_terms, depth_of, entity_number, kept_by, kind_of, operation_of, store_to, way_of}
+use Rattle.dh_meaning.specs.Ways.{Hidden, hidden_in}
 use Rattle.dh_meaning.specs.Levels.{Levels, Leveled, any_assigns, arms_joined, assigns_to, choice_levels, command_leveled, commands_leveled, greatest, term_leveled, with_value, with_variables}
+use Rattle.dh_ways.specs.declared.ways.Led.{Led}
+use Rattle.dh_lengths.specs.LedBy.{IsLedBy}
 use Rattle.dh_events.specs.Tables.{numbered, with_number}
 use Rattle.dh_events.proofs.Turns.{at_item}
 use Rattle.dh_lengths.specs.declared.held.Held.{Held}
@@ -39,7 +43,7 @@ plus_none n = omega arith
 from_none : (n : ℕ) → 0 + n ≡ n
 from_none n = omega arith
 
-or_false : (a : Bool) → (a || false) ≡ a
+pub or_false : (a : Bool) → (a || false) ≡ a
 or_false true = refl
 or_false false = refl
 
@@ -50,7 +54,7 @@ or_assoc false b c = refl
 or_both : (a b c d : Bool) → a ≡ c → b ≡ d → (a || b) ≡ (c || d)
 or_both a b c d e f = ap (λ x. x || b) e ∙ ap (λ x. c || x) f
 
-if_low : (b : Bool) (x y n : ℕ) → x ≤ n → y ≤ n → (if b then x else y) ≤ n
+pub if_low : (b : Bool) (x y n : ℕ) → x ≤ n → y ≤ n → (if b then x else y) ≤ n
 if_low true x y n e f = e
 if_low false x y n e f = f
 
@@ -137,12 +141,12 @@ gives_assign old mid new outer depth level n entity v g a =
       marks = λ x. ap (λ b. b || false) (number_swap e x);
     }
 
-pub gives_reduce : (old mid new : Held) (outer now first level : ℕ) (r : Ref) (value : Expr) → now ≡ variable_in old.variables.items r.entity → level ≡ max now first → LevelsTerm old mid outer value first → AssignsLevel mid new r.entity level → LevelsReduce old new outer r value
-gives_reduce old mid new outer now first level r value held most one a known s low o =
+pub gives_reduce : {ways : List Led} (old mid new : Held) (outer now first level : ℕ) (r : Ref) (value : Expr) → now ≡ variable_in old.variables.items r.entity → level ≡ max now first → LevelsTerm ways old mid outer value first → AssignsLevel mid new r.entity level → LevelsReduce ways old new outer r value
+gives_reduce old mid new outer now first level r value held most one a known u s low o =
     let l = levels_seen old in
     let v = core_term known (count old) (term_seen value) in
     let k = term_accesses (term_seen value) in
-    let g = one known s low in
+    let g = one known u s low in
     let e = entity_number r.entity in
     let both = gives_greatest old old mid (leveled (variable_in old.variables.items r.entity) (levels_seen old)) (term_leveled (told old.shares.now) outer (core_term known (count old) (term_seen value)) (levels_seen old)) (variable_in old.variables.items r.entity) first 0 k
     (gives_still old (variable_in old.variables.items r.entity) s (s.small.variables e)) g in
@@ -185,6 +189,13 @@ both_then a p q cs rest es one two behind = record {
       one.assigns e ∙ (ap (λ b. any_assigns e a || b) (behind.assigns e) ∙ (or_assoc (any_assigns e a) (any_assigns e q) (any_assigns e rest) ∙ ap (λ b. b || any_assigns e rest) (sym (two.assigns e))));
 }
 
+-- what a view keeps in front of others
+kept_front : (hidden : List Hidden) (offsets : CoreTerms) (rest : CoreCommands) → AreBoth (kept_by hidden offsets no_commands) rest (kept_by hidden offsets rest)
+kept_front [] no_terms rest = none_front rest
+kept_front (h ∷ hs) no_terms rest = none_front rest
+kept_front [] (term_and t ts) rest = none_front rest
+kept_front (h ∷ hs) (term_and t ts) rest = one_front _ rest
+
 module _ (known : Known) where
   mutual
     -- the commands of a command in front of others
@@ -199,7 +210,7 @@ module _ (known : Known) where
     front_form n (plain.decides test chosen other) rest = one_front _ rest
     front_form n (plain.blocks body) rest = front_groups n body rest
     front_form n (plain.lets_memory name shape shape_places value) rest = none_front rest
-    front_form n (plain.views name parent form) rest = none_front rest
+    front_form n (plain.views name parent form) rest = kept_front (hidden_in (way_of known name)) (core_terms known n (terms (offsets_of form))) rest
     front_form n (plain.calls function arguments) rest = none_front rest
     front_form n (plain.repeats test body) rest = none_front rest
     front_form n (plain.counts iterator declared low high factor body combine combine_place) rest = none_front rest
@@ -218,21 +229,23 @@ module _ (known : Known) where
 
 -- Loops: what the rest comes to from here, all come to.
 
-pub record PartSo (known : Known) (start now : Held) (outer : ℕ) (rest all : List Command) : Type 0 where
+pub record PartSo (ways : List Led) (known : Known) (start now : Held) (outer : ℕ) (rest all : List Command) : Type 0 where
+  pub led : IsLedBy ways known
   pub sound : IsSound now
   pub within : outer ≤ count now
   pub so : (new : Held) → GivesCommands now new outer (core_part known (count now) (actions (map action_seen rest)) no_commands) (part_accesses (actions (map action_seen rest)))
       → GivesCommands start new outer (core_part known (count start) (actions (map action_seen all)) no_commands) (part_accesses (actions (map action_seen all)))
 
-pub part_begin : (known : Known) (h : Held) (outer : ℕ) (all : List Command) → IsSound h → outer ≤ count h → PartSo known h h outer all all
-part_begin known h outer all s low = record { sound = s; within = low; so = λ new g. g }
+pub part_begin : {ways : List Led} (known : Known) (h : Held) (outer : ℕ) (all : List Command) → IsLedBy ways known → IsSound h → outer ≤ count h → PartSo ways known h h outer all all
+part_begin known h outer all u s low = record { led = u; sound = s; within = low; so = λ new g. g }
 
-pub part_turn : (known : Known) (start now next : Held) (outer : ℕ) (all : List Command) (i : ℕ) (c : Command) → i < length all → c ≡ get_or all i c → LevelsCommand now next outer c → PartSo known start now outer (drop i all) all → PartSo known start next outer (drop (i + 1) all) all
+pub part_turn : {ways : List Led} (known : Known) (start now next : Held) (outer : ℕ) (all : List Command) (i : ℕ) (c : Command) → i < length all → c ≡ get_or all i c → LevelsCommand ways now next outer c → PartSo ways known start now outer (drop i all) all → PartSo ways known start next outer (drop (i + 1) all) all
 part_turn known start now next outer all i c within is one h =
-    let g = one known h.sound h.within in
+    let g = one known h.led h.sound h.within in
     let a = action_seen c in
     let rest = actions (map action_seen (drop (i + 1) all)) in
     record {
+      led = h.led;
       sound = g.sound;
       within = counts_on (count now) (count next) (accesses_of (action_seen c)) outer g.counted h.within;
       so = λ new behind.
@@ -243,7 +256,7 @@ part_turn known start now next outer all i c within is one h =
           (subst (λ (n : ℕ). GivesCommands next new outer (core_part known n rest no_commands) (part_accesses rest)) g.counted behind)));
     }
 
-pub part_end : (known : Known) (start now : Held) (outer : ℕ) (rest all : List Command) → rest ≡ [] → PartSo known start now outer rest all
+pub part_end : {ways : List Led} (known : Known) (start now : Held) (outer : ℕ) (rest all : List Command) → rest ≡ [] → PartSo ways known start now outer rest all
     → GivesCommands start now outer (core_part known (count start) (actions (map action_seen all)) no_commands) (part_accesses (actions (map action_seen all)))
 part_end known start now outer rest all none h =
     h.so now (subst (λ (l : List Command). GivesCommands now now outer (core_part known (count now) (actions (map action_seen l)) no_commands) (part_accesses (actions (map action_seen l)))) (sym none) (gives_nothing now outer h.sound))
@@ -283,8 +296,8 @@ module _ (old new : Held) (outer : ℕ) (c : Command) where
   abbrev FormGives : Known → ActionForm → Type 0
   FormGives known f = GivesCommands old new outer (core_action_form known (count old) f no_commands) (own_accesses f + inner_accesses f)
 
-  pub by_form : (f : ActionForm) → action_form_seen c.form ≡ f → ((known : Known) → IsSound old → outer ≤ count old → FormGives known f) → LevelsCommand old new outer c
-  by_form f is h known s low = subst (λ (x : ActionForm). FormGives known x) (sym is) (h known s low)
+  pub by_form : {ways : List Led} (f : ActionForm) → action_form_seen c.form ≡ f → ((known : Known) → IsLedBy ways known → IsSound old → outer ≤ count old → FormGives known f) → LevelsCommand ways old new outer c
+  by_form f is h known u s low = subst (λ (x : ActionForm). FormGives known x) (sym is) (h known u s low)
 
 pub with_count : (old new : Held) (outer m n : ℕ) (cs : CoreCommands) → m ≡ n → GivesCommands old new outer cs m → GivesCommands old new outer cs n
 with_count old new outer m n cs e g = subst (λ (k : ℕ). GivesCommands old new outer cs k) e g

@@ -12,7 +12,7 @@ use Rattle.dh_events.specs.Tables.{numbered, with_number}
 use Rattle.dh_lengths.specs.declared.held.Held.{Held}
 use Rattle.dh_lengths.specs.SharedReads.{told}
 use Rattle.dh_lengths.specs.Undone.{mark, undone}
-use Rattle.dh_lengths.specs.HeldLevels.{zeros, read_in, variable_in, levels_of, levels_seen, count, leveled, AreSmall, IsSound, KeepsVariables, GivesLevel, GivesLevels, AssignsLevel, Skips}
+use Rattle.dh_lengths.specs.HeldLevels.{zeros, read_in, variable_in, levels_of, levels_seen, count, leveled, AreSmall, IsSound, KeepsVariables, GivesLevel, GivesLevels, AssignsAt, Skips}
 use Rattle.dh_lengths.proofs.UndoneFacts.{one_changed}
 use Rattle.dh_lengths.proofs.Zeros.{read_more, zeros_long}
 
@@ -213,17 +213,16 @@ skips_gives old new n s k =
 
 -- Variables.
 
-pub assigns : (old new : Held) (entity : Option ℕ) (e before level : ℕ) → e ≡ entity_number entity → before ≡ numbered old.variables.items e → numbered new.variables.items ≡ with_number (numbered old.variables.items) e level
-    → new.log.items ≡ old.log.items ++ mark e before ∷ [] → new.reads.items ≡ old.reads.items → new.shares.now ≡ old.shares.now → new.first ≡ old.first → new.most ≡ old.most → AssignsLevel old new entity level
-assigns old new entity e before level is before_is set log reads shares first most = record {
+pub assigns : (old new : Held) (place before level : ℕ) → before ≡ numbered old.variables.items place → numbered new.variables.items ≡ with_number (numbered old.variables.items) place level
+    → new.log.items ≡ old.log.items ++ mark place before ∷ [] → new.reads.items ≡ old.reads.items → new.shares.now ≡ old.shares.now → new.first ≡ old.first → new.most ≡ old.most → AssignsAt old new place level
+assigns old new place before level before_is set log reads shares first most = record {
   seen =
       ap (λ l. levels_of l new.first new.most new.variables.items) reads
       ∙ (ap (λ n. levels_of old.reads.items n new.most new.variables.items) first
       ∙ (ap (λ n. levels_of old.reads.items old.first n new.variables.items) most
-      ∙ ap (λ (f : ℕ → ℕ). record { variables = f; reads = read_in old.reads.items old.first; most = old.most })
-      (set ∙ (one_changed (numbered old.variables.items) e level ∙ ap (λ n. with_value (numbered old.variables.items) n level) is))));
+      ∙ ap (λ (f : ℕ → ℕ). record { variables = f; reads = read_in old.reads.items old.first; most = old.most }) (set ∙ one_changed (numbered old.variables.items) place level)));
   reads = reads;
   shares = shares;
   first = first;
-  log = log ∙ (ap (λ n. old.log.items ++ mark e n ∷ []) before_is ∙ ap (λ n. old.log.items ++ mark n (numbered old.variables.items n) ∷ []) is);
+  log = log ∙ ap (λ n. old.log.items ++ mark place n ∷ []) before_is;
 }

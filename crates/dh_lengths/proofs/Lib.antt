@@ -9,3 +9,4 @@ pub mod CommandLevels
 pub mod PhaseLines
 pub mod StraightCores
 pub mod PhaseWalking
+pub mod KeptViews

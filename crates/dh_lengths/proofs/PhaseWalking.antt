@@ -25,6 +25,8 @@ use Rattle.dh_events.proofs.Turns.{at_item}
 use Rattle.dh_ports.proofs.PhaseShapes.{IsFull, Shaped, no_phase, one_phase, more_phases, shape, size}
 use Rattle.dh_ports.proofs.PhaseSizes.{full, other_full, stage_size}
 use Rattle.dh_ports.proofs.StagesKnown as stages
+use Rattle.dh_ways.specs.declared.ways.Led.{Led}
+use Rattle.dh_lengths.specs.LedBy.{IsLedBy}
 use Rattle.dh_lengths.specs.declared.held.Held.{Held}
 use Rattle.dh_lengths.specs.declared.lengths.Walk.{Walk}
 use Rattle.dh_lengths.specs.SharedReads.{told, TellsShares}
@@ -138,10 +140,10 @@ closes_still old new open_is held lengths still going known base line s = by (la
 abbrev pub put_held : Walk → Held → Walk
 put_held w h = record { held = h; pending = w.pending; going = w.going; lengths = w.lengths }
 
-pub tested_so : (old a new : Walk) (h : Held) (test : Expr) (level : ℕ) → Closes old a → LevelsTerm a.held h 0 test level → Tells (put_held a h) new → WalksTest old new test
-tested_so old a new h test level closes levels t known base line s =
+pub tested_so : {ways : List Led} (old a new : Walk) (h : Held) (test : Expr) (level : ℕ) → Closes old a → LevelsTerm ways a.held h 0 test level → Tells (put_held a h) new → WalksTest ways old new test
+tested_so old a new h test level closes levels t known u base line s =
     let k = closes known base line s in
-    let g = levels known k.stands.sound (none_low (count a.held)) in
+    let g = levels known u k.stands.sound (none_low (count a.held)) in
     let v : core_term known (count a.held) (term_seen test) ≡ core_term known (count old.held) (term_seen test) = ap (λ n. core_term known n (term_seen test)) k.counted in
     let fresh : undone h.log.items (numbered h.variables.items) ≡ (λ e. 0) = ap (λ l. undone l (numbered h.variables.items)) g.keeps.log ∙ (ap (λ l. undone a.held.log.items (numbered l)) g.keeps.variables ∙ k.stands.fresh) in
     let most : h.most ≡ (term_leveled (told old.held.shares.now) 0 (core_term known (count old.held) (term_seen test)) level_ground).levels.most =
@@ -268,8 +270,8 @@ few_one : (n : ℕ) → n ≡ 1 → n ≤ 1
 few_one n e = omega (arith, e)
 
 -- a straight command goes on with the open phase, or begins one
-pub walked_straight : (old a new : Walk) (c : Command) → OpensBy old.going old a → LevelsCommand a.held new.held 0 c → new.lengths.items ≡ a.lengths.items → new.pending ≡ true → new.going ≡ true → WalksStraight old new c
-walked_straight old a new c opens levels lengths open_is going_is known r base line stage s = by old.going refl
+pub walked_straight : {ways : List Led} (old a new : Walk) (c : Command) → OpensBy old.going old a → LevelsCommand ways a.held new.held 0 c → new.lengths.items ≡ a.lengths.items → new.pending ≡ true → new.going ≡ true → WalksStraight ways old new c
+walked_straight old a new c opens levels lengths open_is going_is known u r base line stage s = by old.going refl
   where
     n : ℕ
     n = count old.held
@@ -283,7 +285,7 @@ walked_straight old a new c opens levels lengths open_is going_is known r base l
     walked : (w : Walk) → count a.held ≡ count old.held → a.held.shares.now ≡ old.held.shares.now → IsSound a.held → Stands known base new (put old.going line (straight (one.first ∷ one.rest) ∷ []))
         → IsWalked known base line old new (phases r (count old.held) (action_seen c)) (accesses_of (action_seen c))
     walked w counted shares sound stands =
-        let g = levels known sound (none_low (count a.held)) in
+        let g = levels known u sound (none_low (count a.held)) in
         record {
           stands = subst (λ (ps : List Phase). Stands known base new (put old.going line ps)) (sym one.is) stands;
           going = going_is ∙ ap (goes_on old.going) (sym one.is);
@@ -300,10 +302,10 @@ walked_straight old a new c opens levels lengths open_is going_is known r base l
         let stands = subst (λ (w : Walk). Stands known base w line) (sym same) s in
         walked a (ap (λ (w : Walk). count w.held) same) (ap (λ (w : Walk). w.held.shares.now) same) stands.sound
         (subst (λ (b : Bool). Stands known base new (put b line (straight (one.first ∷ one.rest) ∷ []))) (sym e)
-        (added known base line a new _ _ one.first one.rest stands (levels known stands.sound (none_low (count a.held))) (core_at (ap (λ (w : Walk). count w.held) same)) lengths open_is))
+        (added known base line a new _ _ one.first one.rest stands (levels known u stands.sound (none_low (count a.held))) (core_at (ap (λ (w : Walk). count w.held) same)) lengths open_is))
     by false e =
         let k = subst (λ (b : Bool). OpensBy b old a) e opens known base line s in
-        let g = levels known k.stands.sound (none_low (count a.held)) in
+        let g = levels known u k.stands.sound (none_low (count a.held)) in
         walked a k.counted k.shares k.stands.sound
         (subst (λ (b : Bool). Stands known base new (put b line (straight (one.first ∷ one.rest) ∷ []))) (sym e)
         (behind_line known base line old.held.shares.now new one.first one.rest (g.shares ∙ k.shares)
@@ -311,8 +313,8 @@ walked_straight old a new c opens levels lengths open_is going_is known r base l
 
 -- A command without phases.
 
-pub walked_none : (stages : List ℕ) (old new : Walk) (c : Command) → stage_of (action_seen c) ≡ 0 → Skips old.held new.held (accesses_of (action_seen c)) → new.lengths.items ≡ old.lengths.items → new.pending ≡ old.pending → new.going ≡ old.going → WalksCommand stages old new c
-walked_none stages old new c stage skips lengths open_is going_is known r base line tells s =
+pub walked_none : {ways : List Led} (stages : List ℕ) (old new : Walk) (c : Command) → stage_of (action_seen c) ≡ 0 → Skips old.held new.held (accesses_of (action_seen c)) → new.lengths.items ≡ old.lengths.items → new.pending ≡ old.pending → new.going ≡ old.going → WalksCommand ways stages old new c
+walked_none stages old new c stage skips lengths open_is going_is known u r base line tells s =
     let g = skips_gives old.held new.held (accesses_of (action_seen c)) s.sound skips in
     let none = none_phases r (count old.held) (action_seen c) stage in
     record {
@@ -382,29 +384,29 @@ sum_later : (o a b m n : ℕ) → a ≡ o + m → b ≡ a + n → b ≡ o + (0 +
 sum_later o a b m n e f = omega (arith, e, f)
 
 -- a command by what is seen of its form, where it has more phases than one straight one
-module _ (stages : List ℕ) (old new : Walk) (c : Command) where
+module _ (ways : List Led) (stages : List ℕ) (old new : Walk) (c : Command) where
   abbrev FormWalked : ActionForm → Type 0
   FormWalked f =
-      (known : Known) (r : Around) (base : List ℕ) (line : List Phase) → TellInside (numbered stages) f → are_straight (form_phases r (count old.held) c.id c.place f) ≡ false → Stands known base old line
+      (known : Known) → IsLedBy ways known → (r : Around) (base : List ℕ) (line : List Phase) → TellInside (numbered stages) f → are_straight (form_phases r (count old.held) c.id c.place f) ≡ false → Stands known base old line
       → IsWalked known base line old new (form_phases r (count old.held) c.id c.place f) (own_accesses f + inner_accesses f)
 
-  pub by_form : (f : ActionForm) → action_form_seen c.form ≡ f → (stage : ℕ) → stage ≡ numbered stages c.id → (stage ≡ 0 → ⊥) → (stage ≡ 1 → ⊥) → FormWalked f → WalksCommand stages old new c
-  by_form f is stage known_stage none one walked known r base line tells s =
+  pub by_form : (f : ActionForm) → action_form_seen c.form ≡ f → (stage : ℕ) → stage ≡ numbered stages c.id → (stage ≡ 0 → ⊥) → (stage ≡ 1 → ⊥) → FormWalked f → WalksCommand ways stages old new c
+  by_form f is stage known_stage none one walked known u r base line tells s =
       let more = more_phases_of r (count old.held) (action_seen c) (λ e. none (known_stage ∙ (tells.0 ∙ e))) (λ e. one (known_stage ∙ (tells.0 ∙ e))) in
       subst (λ (x : ActionForm). IsWalked known base line old new (form_phases r (count old.held) c.id c.place x) (own_accesses x + inner_accesses x)) (sym is)
-      (walked known r base line (subst (λ (x : ActionForm). TellInside (numbered stages) x) is tells.1) (subst (λ (x : ActionForm). are_straight (form_phases r (count old.held) c.id c.place x) ≡ false) is more) s)
+      (walked known u r base line (subst (λ (x : ActionForm). TellInside (numbered stages) x) is tells.1) (subst (λ (x : ActionForm). are_straight (form_phases r (count old.held) c.id c.place x) ≡ false) is more) s)
 
 -- an `if`
-pub walked_choice : (stages : List ℕ) (old w1 w2 w3 w4 new : Walk) (c x : Command) (test : Expr) (other : MaybeAction) → WalksTest old w1 test → WalksCommand stages w1 w2 x → Closes w2 w3
-    → ((known : Known) (r : Around) (base : List ℕ) (line : List Phase) → TellOther (numbered stages) other → Stands known base w3 line → IsWalked known base line w3 w4 (other_phases r (count w3.held) other) (other_accesses other)) → Closes w4 new
-    → FormWalked stages old new c (plain.decides (term_seen test) (action_seen x) other)
-walked_choice stages old w1 w2 w3 w4 new c x test other one two three four five known r base line tells more s =
+pub walked_choice : {ways : List Led} (stages : List ℕ) (old w1 w2 w3 w4 new : Walk) (c x : Command) (test : Expr) (other : MaybeAction) → WalksTest ways old w1 test → WalksCommand ways stages w1 w2 x → Closes w2 w3
+    → ((known : Known) → IsLedBy ways known → (r : Around) (base : List ℕ) (line : List Phase) → TellOther (numbered stages) other → Stands known base w3 line → IsWalked known base line w3 w4 (other_phases r (count w3.held) other) (other_accesses other)) → Closes w4 new
+    → FormWalked ways stages old new c (plain.decides (term_seen test) (action_seen x) other)
+walked_choice stages old w1 w2 w3 w4 new c x test other one two three four five known u r base line tells more s =
     let shared = told old.held.shares.now in
     let k = term_accesses (term_seen test) in
-    let p1 = one known base line s in
-    let p2 = two known (in_arm r c.id true) _ [] tells.0 p1.stands in
+    let p1 = one known u base line s in
+    let p2 = two known u (in_arm r c.id true) _ [] tells.0 p1.stands in
     let p3 = three known _ _ p2.stands in
-    let p4 = four known (in_arm r c.id false) _ [] tells.1 p3.stands in
+    let p4 = four known u (in_arm r c.id false) _ [] tells.1 p3.stands in
     let p5 = five known _ _ p4.stands in
     let same2 = p2.shares ∙ p1.shares in
     let same3 = p3.shares ∙ same2 in
@@ -433,11 +435,11 @@ walked_choice stages old w1 w2 w3 w4 new c x test other one two three four five 
     (p5.shares ∙ same4)
 
 -- a `while`
-pub walked_repeat : (stages : List ℕ) (old w1 w2 new : Walk) (c x : Command) (test : Expr) → WalksTest old w1 test → WalksCommand stages w1 w2 x → Closes w2 new → FormWalked stages old new c (plain.repeats (term_seen test) (action_seen x))
-walked_repeat stages old w1 w2 new c x test one two three known r base line tells more s =
+pub walked_repeat : {ways : List Led} (stages : List ℕ) (old w1 w2 new : Walk) (c x : Command) (test : Expr) → WalksTest ways old w1 test → WalksCommand ways stages w1 w2 x → Closes w2 new → FormWalked ways stages old new c (plain.repeats (term_seen test) (action_seen x))
+walked_repeat stages old w1 w2 new c x test one two three known u r base line tells more s =
     let k = term_accesses (term_seen test) in
-    let p1 = one known base line s in
-    let p2 = two known r _ [] tells p1.stands in
+    let p1 = one known u base line s in
+    let p2 = two known u r _ [] tells p1.stands in
     let p3 = three known _ _ p2.stands in
     let same2 = p2.shares ∙ p1.shares in
     let inside : put w1.going [] (phases r (count w1.held) (action_seen x)) ≡ phases r (count old.held + k) (action_seen x) =
@@ -456,15 +458,15 @@ abbrev pub put_going : Walk → Walk
 put_going w = record { held = w.held; pending = w.pending; going = true; lengths = w.lengths }
 
 -- a `for`
-pub walked_turns : (stages : List ℕ) (old w1 w2 w3 new : Walk) (c x : Command) (iterator : _) (declared : _) (low high : _) (factor : _) (combine : MaybeAction) (combine_place : Place) → Closes old w1 → WalksCommand stages w1 w2 x
-    → ((known : Known) (r : Around) (base : List ℕ) (line : List Phase) → TellOther (numbered stages) combine → Stands known base (put_going w2) line → IsWalked known base line (put_going w2) w3 (other_phases r (count w2.held) combine) (other_accesses combine)) → Closes w3 new
-    → FormWalked stages old new c (plain.counts iterator declared low high factor (action_seen x) combine combine_place)
-walked_turns stages old w1 w2 w3 new c x iterator declared low high factor combine combine_place one two three four known r base line tells more s =
+pub walked_turns : {ways : List Led} (stages : List ℕ) (old w1 w2 w3 new : Walk) (c x : Command) (iterator : _) (declared : _) (low high : _) (factor : _) (combine : MaybeAction) (combine_place : Place) → Closes old w1 → WalksCommand ways stages w1 w2 x
+    → ((known : Known) → IsLedBy ways known → (r : Around) (base : List ℕ) (line : List Phase) → TellOther (numbered stages) combine → Stands known base (put_going w2) line → IsWalked known base line (put_going w2) w3 (other_phases r (count w2.held) combine) (other_accesses combine)) → Closes w3 new
+    → FormWalked ways stages old new c (plain.counts iterator declared low high factor (action_seen x) combine combine_place)
+walked_turns stages old w1 w2 w3 new c x iterator declared low high factor combine combine_place one two three four known u r base line tells more s =
     let inside = in_loop r (loop_of iterator low high factor) in
     let p1 = one known base line s in
-    let p2 = two known inside _ [] tells.0 p1.stands in
+    let p2 = two known u inside _ [] tells.0 p1.stands in
     let goes : Stands known _ (put_going w2) _ = record { lengths = p2.stands.lengths; seen = p2.stands.seen; open_so = p2.stands.open_so; fresh = p2.stands.fresh; sound = p2.stands.sound; full = p2.stands.full } in
-    let p3 = three known inside _ _ tells.1 goes in
+    let p3 = three known u inside _ _ tells.1 goes in
     let p4 = four known _ _ p3.stands in
     let same2 = p2.shares ∙ p1.shares in
     let same3 = p3.shares ∙ same2 in
@@ -502,13 +504,13 @@ part_begin stages known r base line w all tells s = record { standing = line; st
 sum_next : (a b m n all : ℕ) → b ≡ a + m → a + (m + n) ≡ all → b + n ≡ all
 sum_next a b m n all e f = omega (arith, e, f)
 
-pub part_turn : (stages : List ℕ) (known : Known) (r : Around) (base : List ℕ) (line : List Phase) (start now next : Walk) (all : List Command) (i : ℕ) (c : Command) → i < length all → c ≡ get_or all i c → WalksCommand stages now next c
+pub part_turn : {ways : List Led} (stages : List ℕ) (known : Known) → IsLedBy ways known → (r : Around) (base : List ℕ) (line : List Phase) (start now next : Walk) (all : List Command) (i : ℕ) (c : Command) → i < length all → c ≡ get_or all i c → WalksCommand ways stages now next c
     → PartWalked stages known r base line start now (drop i all) all → PartWalked stages known r base line start next (drop (i + 1) all) all
-part_turn stages known r base line start now next all i c within is walks h =
+part_turn stages known u r base line start now next all i c within is walks h =
     let cut = at_item all i c within is in
     let a = action_seen c in
     let tells = subst (λ (l : List Command). TellPart (numbered stages) (actions (map action_seen l))) cut h.tells in
-    let w = walks known r base h.standing tells.0 h.stands in
+    let w = walks known u r base h.standing tells.0 h.stands in
     record {
       standing = put now.going h.standing (phases r (count now.held) (action_seen c));
       stands = w.stands;
@@ -573,11 +575,11 @@ groups_turn stages known r base line start now next all i part cs rest within is
       tells = tells.1;
     }
 
-pub walked_block : (stages : List ℕ) (old now : Walk) (c : Command) (rest all : List (Vec Command Global)) → rest ≡ []
-    → ((known : Known) (r : Around) (base : List ℕ) (line : List Phase) → TellGroups (numbered stages) (groups (map part_seen all)) → Stands known base old line → GroupsWalked stages known r base line old now rest all)
-    → FormWalked stages old (put_released now) c (plain.blocks (groups (map part_seen all)))
-walked_block stages old now c rest all none walks known r base line tells more s =
-    let h = walks known r base line tells s in
+pub walked_block : {ways : List Led} (stages : List ℕ) (old now : Walk) (c : Command) (rest all : List (Vec Command Global)) → rest ≡ []
+    → ((known : Known) → IsLedBy ways known → (r : Around) (base : List ℕ) (line : List Phase) → TellGroups (numbered stages) (groups (map part_seen all)) → Stands known base old line → GroupsWalked stages known r base line old now rest all)
+    → FormWalked ways stages old (put_released now) c (plain.blocks (groups (map part_seen all)))
+walked_block stages old now c rest all none walks known u r base line tells more s =
+    let h = walks known u r base line tells s in
     let same : h.standing ≡ line ++ groups_phases r (count old.held) (groups (map part_seen all)) =
     sym (append-nil h.standing) ∙ (ap (λ l. h.standing ++ groups_phases r (count now.held) (groups (map part_seen l))) (sym none) ∙ h.so) in
     record {
@@ -656,11 +658,11 @@ begun_stands known w shares b =
       small = subst (λ (l : Levels). AreSmall (count w.held) l) (sym seen) (record { variables = λ e. none_low (count w.held); reads = λ k. none_low (count w.held); most = none_low (count w.held) });
     })
 
-pub all_told : (p : Program) (first : ℕ) (before stages_are : List ℕ) (shares : List (Option ℕ)) (w0 w1 w2 : Walk) (body : Command) → p.body ≡ action_seen body → IsNumbered first p.body → before ≡ [] → numbered stages_are ≡ stages_in (action_seen body) (numbered before)
-    → TellsShares p shares → IsBegun w0 shares → WalksCommand stages_are w0 w1 body → Closes w1 w2 → w2.lengths.items ≡ lengths_of p
-all_told p first before stages_are shares w0 w1 w2 body same numbered_from none counted tells b walks closes =
+pub all_told : {ways : List Led} (p : Program) (first : ℕ) (before stages_are : List ℕ) (shares : List (Option ℕ)) (w0 w1 w2 : Walk) (body : Command) → p.body ≡ action_seen body → IsNumbered first p.body → before ≡ [] → numbered stages_are ≡ stages_in (action_seen body) (numbered before)
+    → IsLedBy ways (known_of p) → TellsShares p shares → IsBegun w0 shares → WalksCommand ways stages_are w0 w1 body → Closes w1 w2 → w2.lengths.items ≡ lengths_of p
+all_told p first before stages_are shares w0 w1 w2 body same numbered_from none counted led tells b walks closes =
     let tells_all = stages_tell (numbered stages_are) (action_seen body) (stages.known first (action_seen body) (numbered before) (numbered stages_are) (subst (IsNumbered first) same numbered_from) (λ i w. ap (λ f. f i) counted)) in
-    let p1 = walks (known_of p) nothing_around [] [] tells_all (begun_stands (known_of p) w0 shares b) in
+    let p1 = walks (known_of p) led nothing_around [] [] tells_all (begun_stands (known_of p) w0 shares b) in
     let p2 = closes (known_of p) [] _ p1.stands in
     let line : put w0.going [] (phases nothing_around (count w0.held) (action_seen body)) ≡ phases_of p =
     ap (λ g. put g [] (phases nothing_around (count w0.held) (action_seen body))) b.going
@@ -672,15 +674,20 @@ all_told p first before stages_are shares w0 w1 w2 body same numbered_from none 
 
 -- Cases on how many phases a command has.
 
-pub where_none : (stages_are : List ℕ) (old new : Walk) (c : Command) (stage : ℕ) → stage ≡ numbered stages_are c.id → stage ≡ 0 → (stage_of (action_seen c) ≡ 0 → WalksCommand stages_are old new c) → WalksCommand stages_are old new c
-where_none stages_are old new c stage is none f known r base line tells s = f (sym tells.0 ∙ (sym is ∙ none)) known r base line tells s
+pub where_none : {ways : List Led} (stages_are : List ℕ) (old new : Walk) (c : Command) (stage : ℕ) → stage ≡ numbered stages_are c.id → stage ≡ 0 → (stage_of (action_seen c) ≡ 0 → WalksCommand ways stages_are old new c) → WalksCommand ways stages_are old new c
+where_none stages_are old new c stage is none f known u r base line tells s = f (sym tells.0 ∙ (sym is ∙ none)) known u r base line tells s
 
-pub where_one : (stages_are : List ℕ) (old new : Walk) (c : Command) (stage : ℕ) → stage ≡ numbered stages_are c.id → stage ≡ 1 → WalksStraight old new c → WalksCommand stages_are old new c
-where_one stages_are old new c stage is one f known r base line tells s = f known r base line (sym tells.0 ∙ (sym is ∙ one)) s
+pub where_one : {ways : List Led} (stages_are : List ℕ) (old new : Walk) (c : Command) (stage : ℕ) → stage ≡ numbered stages_are c.id → stage ≡ 1 → WalksStraight ways old new c → WalksCommand ways stages_are old new c
+where_one stages_are old new c stage is one f known u r base line tells s = f known u r base line (sym tells.0 ∙ (sym is ∙ one)) s
+
+-- a view has one at most
+pub view_few : (v : Bool) (c : Located) → are_straight (if v then one_command c else []) ≡ true
+view_few true c = refl
+view_few false c = refl
 
 -- a form that never has more
-pub never_more : (stages_are : List ℕ) (w : Walk) (c : Command) (f : ActionForm) → ((r : Around) → are_straight (form_phases r (count w.held) c.id c.place f) ≡ true) → FormWalked stages_are w w c f
-never_more stages_are w c f few known r base line tells more s = absurd (untrue (sym (few r) ∙ more))
+pub never_more : {ways : List Led} (stages_are : List ℕ) (w : Walk) (c : Command) (f : ActionForm) → ((r : Around) → are_straight (form_phases r (count w.held) c.id c.place f) ≡ true) → FormWalked ways stages_are w w c f
+never_more stages_are w c f few known u r base line tells more s = absurd (untrue (sym (few r) ∙ more))
   where
     untrue : true ≡ false → ⊥
     untrue e = cc

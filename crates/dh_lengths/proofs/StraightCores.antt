@@ -3,10 +3,11 @@
 use Rattle.std.proofs.Common.{◌≡◌, ℕ, suc, ◌+◌, ◌≤◌, ◌&&◌, nat_le, not, max, min, Bool, true, false, if◌then◌else◌, List, [], ◌∷◌, ◌++◌, ◌⊎◌, inl, inr, refl, ap, sym, ◌∙◌, subst, arith}
 use Rattle.std.specs.Prelude.{Option}
 use Rattle.dh_base.specs.declared.places.Place.{Place}
-use Rattle.dh_tree.specs.PlainTrees.{Action, action, ActionForm, lets, lets_memory, views, assigns, stores, reduces, calls, blocks, decides, repeats, counts, MaybeAction, no_action, one_action, Actions, no_actions, action_then, Groups, no_groups, group_then}
+use Rattle.dh_tree.specs.PlainTrees.{shrinks, splits, suffixes, shifts, Action, action, ActionForm, lets, lets_memory, views, assigns, stores, reduces, calls, blocks, decides, repeats, counts, MaybeAction, no_action, one_action, Actions, no_actions, action_then, Groups, no_groups, group_then}
 use Rattle.dh_meaning.specs.AccessNumbers.{term_accesses, accesses_of, part_accesses}
-use Rattle.dh_meaning.specs.Core.{CoreCommands, no_commands}
-use Rattle.dh_meaning.specs.CoreOf.{Known, core_action, core_action_form, core_commands, core_groups, core_part}
+use Rattle.dh_meaning.specs.Core.{no_terms, CoreCommands, no_commands}
+use Rattle.dh_meaning.specs.CoreOf.{Known, core_action, core_action_form, core_commands, core_groups, core_part, kept_by, way_of}
+use Rattle.dh_meaning.specs.Ways.{Hidden, hidden_in}
 use Rattle.dh_meaning.specs.Levels.{Levels, commands_leveled}
 use Rattle.dh_meaning.specs.Phases.{Located, Phase, straight, turns, repeated, decided, of_list, one_straight, joined, are_straight, one_command, folded, turn_count, turn_phases, choice_phases, located, phases, form_phases, other_phases, groups_phases, parts_phases}
 use Rattle.dh_meaning.specs.Sites.{Around, in_arm, in_loop, loop_of}
@@ -85,6 +86,11 @@ module _ (known : Known) where
   turn_tops c count k l fs rest (inl x) = ap (λ ps. tops_then ps rest) x.1
   turn_tops c count k l fs rest (inr x) = ap (λ ps. tops_then ps rest) x.1
 
+  -- a view without offsets keeps none
+  kept_none : (hidden : List Hidden) (rest : CoreCommands) → rest ≡ kept_by hidden no_terms rest
+  kept_none [] rest = refl
+  kept_none (h ∷ hs) rest = refl
+
   mutual
     pub core_tops : (r : Around) (n : ℕ) (a : Action) (rest : CoreCommands) → stage_of a ≤ 1 → tops_then (phases r n a) rest ≡ core_action known n a rest
     core_tops r n (action id place form) rest h = form_tops r n id place form rest h
@@ -92,7 +98,10 @@ module _ (known : Known) where
     form_tops : (r : Around) (n id : ℕ) (place : Place) (form : ActionForm) (rest : CoreCommands) → form_stage form ≤ 1 → tops_then (form_phases r n id place form) rest ≡ core_action_form known n form rest
     form_tops r n id place (lets name declared value) rest h = refl
     form_tops r n id place (lets_memory name shape shape_places value) rest h = refl
-    form_tops r n id place (views name parent form) rest h = refl
+    form_tops r n id place (views name parent (shrinks by by_place)) rest h = kept_none (hidden_in (way_of known name)) rest
+    form_tops r n id place (views name parent (splits by by_place)) rest h = kept_none (hidden_in (way_of known name)) rest
+    form_tops r n id place (views name parent (suffixes by by_place)) rest h = refl
+    form_tops r n id place (views name parent (shifts by)) rest h = refl
     form_tops r n id place (assigns target value) rest h = refl
     form_tops r n id place (stores target value) rest h = refl
     form_tops r n id place (reduces target op value) rest h = refl

@@ -14,13 +14,17 @@ use Rattle.dh_tree.specs.PlainTrees.{Term, TermForm, Terms}
 use Rattle.dh_tree.specs.Seen.{form_seen, term_seen, terms}
 use Rattle.dh_meaning.specs.AccessNumbers.{form_accesses, term_accesses, terms_accesses}
 use Rattle.dh_meaning.specs.Bindings.{kind_found, kind_or_first}
-use Rattle.dh_meaning.specs.Core.{Reach, CoreTerm, binary, by_indices, by_row, read}
-use Rattle.dh_meaning.specs.CoreOf.{Known, core_form, core_term, core_terms, entity_number, extended, operation_of, reach_of, store_to}
-use Rattle.dh_meaning.specs.Levels.{Levels, Leveled, command_leveled, greatest, read_leveled, term_leveled, terms_leveled}
+use Rattle.dh_meaning.specs.Core.{Reach, CoreTerm, CoreTerms, no_terms, term_and, binary, by_row, read}
+use Rattle.dh_meaning.specs.CoreOf.{Known, core_form, core_term, core_terms, entity_number, extended, kept_terms, operation_of, reach_of, store_to, target_to, terms_both, way_of}
+use Rattle.dh_meaning.specs.Levels.{Levels, Leveled, command_leveled, greatest, read_leveled, target_leveled, term_leveled, terms_leveled}
+use Rattle.dh_lengths.specs.LedBy.{IsLedBy}
+use Rattle.dh_meaning.specs.Ways.{Hidden, Way, hidden_in}
+use Rattle.dh_ways.specs.declared.ways.Led.{Led}
+use Rattle.dh_events.specs.Tables.{numbered}
 use Rattle.dh_events.proofs.Turns.{at_item}
 use Rattle.dh_lengths.specs.declared.held.Held.{Held}
 use Rattle.dh_lengths.specs.SharedReads.{told}
-use Rattle.dh_lengths.specs.HeldLevels.{zeros, levels_seen, variable_in, count, leveled, AddsZeros, IsSound, KeepsVariables, GivesLevel, GivesLevels, LevelsStore, LevelsTerm, LevelsTerms, ReadsNext, Skips, SkipsStore}
+use Rattle.dh_lengths.specs.HeldLevels.{hidden_level, level_through, zeros, levels_seen, variable_in, count, leveled, AddsZeros, IsSound, KeepsVariables, GivesLevel, GivesLevels, LevelsStore, LevelsTerm, LevelsTerms, ReadsNext, Skips, SkipsStore}
 use Rattle.dh_lengths.proofs.HeldFacts.{skips_gives}
 use Rattle.dh_lengths.proofs.Zeros.{drop_past, more_zeros}
 
@@ -121,26 +125,72 @@ then_leveled a b c i first level m n outer t g h =
     (ap (λ x. term_leveled (told x) outer (t (count b)) (levels_seen b)) g.keeps.shares
     ∙ (ap (λ x. term_leveled (told a.shares.now) outer (t x) (levels_seen b)) g.counted ∙ ap (λ x. term_leveled (told a.shares.now) outer (t (count a + m)) x) g.seen)) h
 
+-- Through views.
+
+max_none : (n : ℕ) → n ≡ max 0 n
+max_none n = grind arith
+
+max_last : (n : ℕ) → max n 0 ≡ n
+max_last n = grind arith
+
+max_three : (a b c : ℕ) → max a (max b c) ≡ max (max a b) c
+max_three a b c = grind arith
+
+both_terms : (shared : ℕ → Option ℕ) (outer : ℕ) (cs ks : CoreTerms) (l : Levels)
+    → terms_leveled shared outer (terms_both cs ks) l ≡ leveled (max (terms_leveled shared outer cs l).level (terms_leveled shared outer ks (terms_leveled shared outer cs l).levels).level) (terms_leveled shared outer ks (terms_leveled shared outer cs l).levels).levels
+both_terms shared outer no_terms ks l = ap (λ n. leveled n (terms_leveled shared outer ks l).levels) (max_none (terms_leveled shared outer ks l).level)
+both_terms shared outer (term_and t ts) ks l =
+    let m = (term_leveled shared outer t l).levels in
+    ap (greatest (term_leveled shared outer t l).level) (both_terms shared outer ts ks m)
+    ∙ ap (λ n. leveled n (terms_leveled shared outer ks (terms_leveled shared outer ts m).levels).levels) (max_three (term_leveled shared outer t l).level (terms_leveled shared outer ts m).level (terms_leveled shared outer ks (terms_leveled shared outer ts m).levels).level)
+
+kept_level : (shared : ℕ → Option ℕ) (outer : ℕ) (hs : List Hidden) (l : Levels) → terms_leveled shared outer (kept_terms hs) l ≡ leveled (hidden_level l.variables hs) l
+kept_level shared outer [] l = refl
+kept_level shared outer (h ∷ hs) l = ap (greatest (l.variables h.entity)) (kept_level shared outer hs l)
+
+-- the level of what names an element, behind its indices
+target_through : (shared : ℕ → Option ℕ) (outer : ℕ) (way : Option Way) (indices : CoreTerms) (l : Levels)
+    → target_leveled shared outer (target_to way indices) l ≡ leveled (max (terms_leveled shared outer indices l).level (hidden_level (terms_leveled shared outer indices l).levels.variables (hidden_in way))) (terms_leveled shared outer indices l).levels
+target_through shared outer None indices l = ap (λ n. leveled n (terms_leveled shared outer indices l).levels) (sym (max_last (terms_leveled shared outer indices l).level))
+target_through shared outer (Some w) indices l =
+    both_terms shared outer indices (kept_terms w.hidden) l
+    ∙ ap (λ (x : Leveled). leveled (max (terms_leveled shared outer indices l).level x.level) x.levels) (kept_level shared outer w.hidden (terms_leveled shared outer indices l).levels)
+
+hidden_low : (f : ℕ → ℕ) (hs : List Hidden) (n : ℕ) → ((e : ℕ) → f e ≤ n) → hidden_level f hs ≤ n
+hidden_low f [] n h = none_low n
+hidden_low f (x ∷ hs) n h = both_low (f x.entity) (hidden_level f hs) n (h x.entity) (hidden_low f hs n h)
+
+gives_through : (a b : Held) (i : Leveled) (first through m : ℕ) (hs : List Hidden) → GivesLevel a b i first m → through ≡ max first (hidden_level (numbered b.variables.items) hs)
+    → GivesLevel a b (leveled (max i.level (hidden_level i.levels.variables hs)) i.levels) through m
+gives_through a b i first through m hs g e = record {
+  is = e ∙ (ap (λ n. max n (hidden_level (numbered b.variables.items) hs)) g.is ∙ ap (λ (l : Levels). max i.level (hidden_level l.variables hs)) g.seen);
+  seen = g.seen;
+  sound = g.sound;
+  low = subst (λ (n : ℕ). n ≤ count b) (sym e) (both_low first (hidden_level (numbered b.variables.items) hs) (count b) g.low (hidden_low (numbered b.variables.items) hs (count b) g.sound.small.variables));
+  counted = g.counted;
+  keeps = g.keeps;
+}
+
 -- Forms.
 
 module _ (old new : Held) (outer : ℕ) (e : Expr) (level : ℕ) where
   abbrev FormGives : Known → TermForm → Type 0
   FormGives known f = GivesLevel old new (term_leveled (told old.shares.now) outer (core_form known (count old) e.place (kind_or_first e.kind) f) (levels_seen old)) level (form_accesses f)
 
-  pub by_form : (f : TermForm) → form_seen e.form ≡ f → ((known : Known) → IsSound old → outer ≤ count old → FormGives known f) → LevelsTerm old new outer e level
-  by_form f is h known s low = subst (λ (x : TermForm). FormGives known x) (sym is) (h known s low)
+  pub by_form : {ways : List Led} (f : TermForm) → form_seen e.form ≡ f → ((known : Known) → IsLedBy ways known → IsSound old → outer ≤ count old → FormGives known f) → LevelsTerm ways old new outer e level
+  by_form f is h known u s low = subst (λ (x : TermForm). FormGives known x) (sym is) (h known u s low)
 
-pub number_level : (h : Held) (outer : ℕ) (e : Expr) (level : ℕ) (negative : Bool) (value : ℕ) → level ≡ 0 → form_seen e.form ≡ plain.number negative value → LevelsTerm h h outer e level
+pub number_level : {ways : List Led} (h : Held) (outer : ℕ) (e : Expr) (level : ℕ) (negative : Bool) (value : ℕ) → level ≡ 0 → form_seen e.form ≡ plain.number negative value → LevelsTerm ways h h outer e level
 number_level h outer e level negative value none is =
-    by_form h h outer e level (plain.number negative value) is (λ known s low. subst (λ (n : ℕ). GivesLevel h h (leveled 0 (levels_seen h)) n 0) (sym none) (gives_still h 0 s (none_low (count h))))
+    by_form h h outer e level (plain.number negative value) is (λ known u s low. subst (λ (n : ℕ). GivesLevel h h (leveled 0 (levels_seen h)) n 0) (sym none) (gives_still h 0 s (none_low (count h))))
 
-pub truth_level : (h : Held) (outer : ℕ) (e : Expr) (level : ℕ) (value : Bool) → level ≡ 0 → form_seen e.form ≡ plain.truth_value value → LevelsTerm h h outer e level
+pub truth_level : {ways : List Led} (h : Held) (outer : ℕ) (e : Expr) (level : ℕ) (value : Bool) → level ≡ 0 → form_seen e.form ≡ plain.truth_value value → LevelsTerm ways h h outer e level
 truth_level h outer e level value none is =
-    by_form h h outer e level (plain.truth_value value) is (λ known s low. subst (λ (n : ℕ). GivesLevel h h (leveled 0 (levels_seen h)) n 0) (sym none) (gives_still h 0 s (none_low (count h))))
+    by_form h h outer e level (plain.truth_value value) is (λ known u s low. subst (λ (n : ℕ). GivesLevel h h (leveled 0 (levels_seen h)) n 0) (sym none) (gives_still h 0 s (none_low (count h))))
 
-pub variable_level : (h : Held) (outer : ℕ) (e : Expr) (level : ℕ) (r : Ref) → level ≡ variable_in h.variables.items r.entity → form_seen e.form ≡ plain.named r → LevelsTerm h h outer e level
+pub variable_level : {ways : List Led} (h : Held) (outer : ℕ) (e : Expr) (level : ℕ) (r : Ref) → level ≡ variable_in h.variables.items r.entity → form_seen e.form ≡ plain.named r → LevelsTerm ways h h outer e level
 variable_level h outer e level r held is =
-    by_form h h outer e level (plain.named r) is (λ known s low.
+    by_form h h outer e level (plain.named r) is (λ known u s low.
     subst (λ (n : ℕ). GivesLevel h h (leveled (variable_in h.variables.items r.entity) (levels_seen h)) n 0) (sym held)
     (gives_still h (variable_in h.variables.items r.entity) s (s.small.variables (entity_number r.entity))))
 
@@ -159,67 +209,68 @@ reads_then a b c outer level first m i r numbers low g reads =
 one_next : (n : ℕ) → n + 1 ≡ suc n
 one_next n = omega arith
 
-pub access_level : (old mid new : Held) (outer first level : ℕ) (e : Expr) (r : Ref) (es : List Expr) → form_seen e.form ≡ plain.accessed r (terms (map term_seen es)) → LevelsTerms old mid outer es first → ReadsNext mid new outer first level → LevelsTerm old new outer e level
-access_level old mid new outer first level e r es is indices reads =
-    by_form old new outer e level (plain.accessed r (terms (map term_seen es))) is (λ known s low.
+pub access_level : {ways : List Led} (old mid new : Held) (outer first through level : ℕ) (e : Expr) (r : Ref) (es : List Expr) → form_seen e.form ≡ plain.accessed r (terms (map term_seen es)) → LevelsTerms ways old mid outer es first
+    → through ≡ level_through ways (levels_seen mid).variables r.entity first → ReadsNext mid new outer through level → LevelsTerm ways old new outer e level
+access_level {ways} old mid new outer first through level e r es is indices through_is reads =
+    by_form old new outer e level (plain.accessed r (terms (map term_seen es))) is (λ known u s low.
+    let same : through ≡ max first (hidden_level (numbered mid.variables.items) (hidden_in (way_of known r))) = through_is ∙ ap (λ w. max first (hidden_level (numbered mid.variables.items) (hidden_in w))) (u.same r.entity) in
     subst (λ (n : ℕ). GivesLevel old new (term_leveled (told old.shares.now) outer (core_form known (count old) e.place (kind_or_first e.kind) (plain.accessed r (terms (map term_seen es)))) (levels_seen old)) level n)
     (one_next (terms_accesses (terms (map term_seen es))))
-    (reads_then old mid new outer level first (terms_accesses (terms (map term_seen es))) _ (λ n. reach_of known n e.place r) (λ n. refl) low (indices known s low) reads))
+    (subst (λ (i : Leveled). GivesLevel old new (read_leveled (told old.shares.now) outer (reach_of known (count old + terms_accesses (terms (map term_seen es))) e.place r) i) level (terms_accesses (terms (map term_seen es)) + 1))
+    (sym (target_through (told old.shares.now) outer (way_of known r) (core_terms known (count old) (terms (map term_seen es))) (levels_seen old)))
+    (reads_then old mid new outer level through (terms_accesses (terms (map term_seen es))) _ (λ n. reach_of known n e.place r) (λ n. refl) low (gives_through old mid _ first through (terms_accesses (terms (map term_seen es))) (hidden_in (way_of known r)) (indices known u s low) same) reads)))
 
-pub bank_level : (old mid new : Held) (outer first level : ℕ) (e : Expr) (r : Ref) (bank : ℕ) (bank_place : Place) (row : Expr) → form_seen e.form ≡ plain.in_bank r bank bank_place (term_seen row) → LevelsTerm old mid outer row first → ReadsNext mid new outer first level → LevelsTerm old new outer e level
+pub bank_level : {ways : List Led} (old mid new : Held) (outer first level : ℕ) (e : Expr) (r : Ref) (bank : ℕ) (bank_place : Place) (row : Expr) → form_seen e.form ≡ plain.in_bank r bank bank_place (term_seen row) → LevelsTerm ways old mid outer row first → ReadsNext mid new outer first level → LevelsTerm ways old new outer e level
 bank_level old mid new outer first level e r bank bank_place row is indices reads =
-    by_form old new outer e level (plain.in_bank r bank bank_place (term_seen row)) is (λ known s low.
+    by_form old new outer e level (plain.in_bank r bank bank_place (term_seen row)) is (λ known u s low.
     subst (λ (n : ℕ). GivesLevel old new (term_leveled (told old.shares.now) outer (core_form known (count old) e.place (kind_or_first e.kind) (plain.in_bank r bank bank_place (term_seen row))) (levels_seen old)) level n)
     (one_next (term_accesses (term_seen row)))
-    (reads_then old mid new outer level first (term_accesses (term_seen row)) _ (λ n. reach_of known n e.place r) (λ n. refl) low (indices known s low) reads))
+    (reads_then old mid new outer level first (term_accesses (term_seen row)) _ (λ n. reach_of known n e.place r) (λ n. refl) low (indices known u s low) reads))
 
-pub binary_level : (old mid new : Held) (outer first second level : ℕ) (e : Expr) (o : Op) (left right : Expr) → form_seen e.form ≡ plain.applied o (term_seen left) (term_seen right) → level ≡ max first second → LevelsTerm old mid outer left first → LevelsTerm mid new outer right second
-    → LevelsTerm old new outer e level
+pub binary_level : {ways : List Led} (old mid new : Held) (outer first second level : ℕ) (e : Expr) (o : Op) (left right : Expr) → form_seen e.form ≡ plain.applied o (term_seen left) (term_seen right) → level ≡ max first second → LevelsTerm ways old mid outer left first → LevelsTerm ways mid new outer right second
+    → LevelsTerm ways old new outer e level
 binary_level old mid new outer first second level e o left right is most one two =
-    by_form old new outer e level (plain.applied o (term_seen left) (term_seen right)) is (λ known s low.
-    let g = one known s low in
+    by_form old new outer e level (plain.applied o (term_seen left) (term_seen right)) is (λ known u s low.
+    let g = one known u s low in
     let h = then_leveled old mid new _ first second (term_accesses (term_seen left)) (term_accesses (term_seen right)) outer (λ n. core_term known n (term_seen right)) g
-    (two known g.sound (counts_on (count old) (count mid) (term_accesses (term_seen left)) outer g.counted low)) in
+    (two known u g.sound (counts_on (count old) (count mid) (term_accesses (term_seen left)) outer g.counted low)) in
     subst (λ (n : ℕ). GivesLevel old new (term_leveled (told old.shares.now) outer (core_form known (count old) e.place (kind_or_first e.kind) (plain.applied o (term_seen left) (term_seen right))) (levels_seen old)) n (form_accesses (plain.applied o (term_seen left) (term_seen right)))) (sym most)
     (subst (λ (x : Leveled). GivesLevel old new x (max first second) (term_accesses (term_seen left) + term_accesses (term_seen right)))
     (sym (operation_leveled (told old.shares.now) outer o (kind_found (term_seen left)) (kind_found (term_seen right)) (core_term known (count old) (term_seen left)) (core_term known (count old + term_accesses (term_seen left)) (term_seen right)) (levels_seen old)))
     (gives_greatest old mid new _ _ first second (term_accesses (term_seen left)) (term_accesses (term_seen right)) g h)))
 
-pub cast_level : (old new : Held) (outer level : ℕ) (e inner : Expr) (to : Kind) → form_seen e.form ≡ plain.converted (term_seen inner) to → LevelsTerm old new outer inner level → LevelsTerm old new outer e level
-cast_level old new outer level e inner to is h = by_form old new outer e level (plain.converted (term_seen inner) to) is (λ known s low. h known s low)
+pub cast_level : {ways : List Led} (old new : Held) (outer level : ℕ) (e inner : Expr) (to : Kind) → form_seen e.form ≡ plain.converted (term_seen inner) to → LevelsTerm ways old new outer inner level → LevelsTerm ways old new outer e level
+cast_level old new outer level e inner to is h = by_form old new outer e level (plain.converted (term_seen inner) to) is (λ known u s low. h known u s low)
 
 -- Indices.
 
 -- what the rest of the indices comes to from here, all come to
-pub record TermsSo (known : Known) (start now : Held) (outer most : ℕ) (rest all : List Expr) : Type 0 where
+pub record TermsSo (ways : List Led) (known : Known) (start now : Held) (outer most : ℕ) (rest all : List Expr) : Type 0 where
+  pub led : IsLedBy ways known
   pub sound : IsSound now
   pub within : outer ≤ count now
   pub so : (new : Held) (level : ℕ) → GivesLevel now new (terms_leveled (told now.shares.now) outer (core_terms known (count now) (terms (map term_seen rest))) (levels_seen now)) level (terms_accesses (terms (map term_seen rest)))
       → GivesLevel start new (terms_leveled (told start.shares.now) outer (core_terms known (count start) (terms (map term_seen all))) (levels_seen start)) (max most level) (terms_accesses (terms (map term_seen all)))
 
-max_none : (n : ℕ) → n ≡ max 0 n
-max_none n = grind arith
-
-max_last : (n : ℕ) → max n 0 ≡ n
-max_last n = grind arith
-
 max_assoc : (most a b : ℕ) → max most (max a b) ≡ max (max a most) b
 max_assoc most a b = grind arith
 
-pub terms_begin : (known : Known) (h : Held) (outer : ℕ) (all : List Expr) → IsSound h → outer ≤ count h → TermsSo known h h outer 0 all all
-terms_begin known h outer all s low = record {
+pub terms_begin : {ways : List Led} (known : Known) (h : Held) (outer : ℕ) (all : List Expr) → IsLedBy ways known → IsSound h → outer ≤ count h → TermsSo ways known h h outer 0 all all
+terms_begin known h outer all u s low = record {
+  led = u;
   sound = s;
   within = low;
   so = λ new level g. subst (λ (n : ℕ). GivesLevel h new (terms_leveled (told h.shares.now) outer (core_terms known (count h) (terms (map term_seen all))) (levels_seen h)) n (terms_accesses (terms (map term_seen all)))) (max_none level) g;
 }
 
-pub terms_turn : (known : Known) (start now next : Held) (outer most level more : ℕ) (all : List Expr) (i : ℕ) (e : Expr) → i < length all → e ≡ get_or all i e → more ≡ max level most → LevelsTerm now next outer e level → TermsSo known start now outer most (drop i all) all
-    → TermsSo known start next outer more (drop (i + 1) all) all
+pub terms_turn : {ways : List Led} (known : Known) (start now next : Held) (outer most level more : ℕ) (all : List Expr) (i : ℕ) (e : Expr) → i < length all → e ≡ get_or all i e → more ≡ max level most → LevelsTerm ways now next outer e level → TermsSo ways known start now outer most (drop i all) all
+    → TermsSo ways known start next outer more (drop (i + 1) all) all
 terms_turn known start now next outer most level more all i e within is more_is one h =
-    let g = one known h.sound h.within in
+    let g = one known h.led h.sound h.within in
     let k = term_accesses (term_seen e) in
     let rest = terms (map term_seen (drop (i + 1) all)) in
     record {
+      led = h.led;
       sound = g.sound;
       within = counts_on (count now) (count next) k outer g.counted h.within;
       so = λ new last behind.
@@ -233,7 +284,7 @@ terms_turn known start now next outer most level more all i e within is more_is 
           ∙ (ap (λ x. terms_leveled (told now.shares.now) outer (core_terms known x rest) (levels_seen next)) g.counted ∙ ap (λ x. terms_leveled (told now.shares.now) outer (core_terms known (count now + k) rest) x) g.seen)) behind))));
     }
 
-pub terms_end : (known : Known) (start now : Held) (outer most : ℕ) (rest all : List Expr) → rest ≡ [] → TermsSo known start now outer most rest all
+pub terms_end : {ways : List Led} (known : Known) (start now : Held) (outer most : ℕ) (rest all : List Expr) → rest ≡ [] → TermsSo ways known start now outer most rest all
     → GivesLevel start now (terms_leveled (told start.shares.now) outer (core_terms known (count start) (terms (map term_seen all))) (levels_seen start)) most (terms_accesses (terms (map term_seen all)))
 terms_end known start now outer most rest all none h =
     subst (λ (n : ℕ). GivesLevel start now (terms_leveled (told start.shares.now) outer (core_terms known (count start) (terms (map term_seen all))) (levels_seen start)) n (terms_accesses (terms (map term_seen all)))) (max_last most)
@@ -255,26 +306,28 @@ stored old mid new l k m s seen many keeps skips =
       keeps = keeps_both old mid new keeps g.keeps;
     }
 
-pub store_access : (old a b new : Held) (outer first second : ℕ) (target value : Expr) (r : Ref) (es : List Expr) → form_seen target.form ≡ plain.accessed r (terms (map term_seen es)) → LevelsTerm old a outer value first → LevelsTerms a b outer es second → Skips b new 1
-    → LevelsStore old new outer target value
-store_access old a b new outer first second target value r es is one two skips known s low =
+pub store_access : {ways : List Led} (old a b new : Held) (outer first second : ℕ) (target value : Expr) (r : Ref) (es : List Expr) → form_seen target.form ≡ plain.accessed r (terms (map term_seen es)) → LevelsTerm ways old a outer value first → LevelsTerms ways a b outer es second → Skips b new 1
+    → LevelsStore ways old new outer target value
+store_access old a b new outer first second target value r es is one two skips known u s low =
     let k = term_accesses (term_seen value) in
     let ts = terms (map term_seen es) in
-    let g = one known s low in
-    let h = two known g.sound (counts_on (count old) (count a) k outer g.counted low) in
+    let g = one known u s low in
+    let h = two known u g.sound (counts_on (count old) (count a) k outer g.counted low) in
     let seen : levels_seen b ≡ (terms_leveled (told old.shares.now) outer (core_terms known (count old + k) ts) (term_leveled (told old.shares.now) outer (core_term known (count old) (term_seen value)) (levels_seen old)).levels).levels =
     h.seen
     ∙ (ap (λ x. (terms_leveled (told x) outer (core_terms known (count a) ts) (levels_seen a)).levels) g.keeps.shares
     ∙ (ap (λ x. (terms_leveled (told old.shares.now) outer (core_terms known x ts) (levels_seen a)).levels) g.counted ∙ ap (λ x. (terms_leveled (told old.shares.now) outer (core_terms known (count old + k) ts) x).levels) g.seen)) in
     subst (λ (f : TermForm). GivesLevels old new (command_leveled (told old.shares.now) outer (store_to known (count old + k) (plain.term target.place target.kind f) (core_term known (count old) (term_seen value))) (levels_seen old)) (k + form_accesses f)) (sym is)
-    (stored old b new _ k (terms_accesses ts) h.sound seen (sum_of (count old) (count a) (count b) k (terms_accesses ts) g.counted h.counted) (keeps_both old a b g.keeps h.keeps) skips)
+    (subst (λ (l : Levels). GivesLevels old new l (k + suc (terms_accesses ts)))
+    (sym (ap (λ (x : Leveled). x.levels) (target_through (told old.shares.now) outer (way_of known r) (core_terms known (count old + k) ts) (term_leveled (told old.shares.now) outer (core_term known (count old) (term_seen value)) (levels_seen old)).levels)))
+    (stored old b new _ k (terms_accesses ts) h.sound seen (sum_of (count old) (count a) (count b) k (terms_accesses ts) g.counted h.counted) (keeps_both old a b g.keeps h.keeps) skips))
 
-pub store_bank : (old a b new : Held) (outer first second : ℕ) (target value : Expr) (r : Ref) (bank : ℕ) (bank_place : Place) (row : Expr) → form_seen target.form ≡ plain.in_bank r bank bank_place (term_seen row) → LevelsTerm old a outer value first → LevelsTerm a b outer row second → Skips b new 1
-    → LevelsStore old new outer target value
-store_bank old a b new outer first second target value r bank bank_place row is one two skips known s low =
+pub store_bank : {ways : List Led} (old a b new : Held) (outer first second : ℕ) (target value : Expr) (r : Ref) (bank : ℕ) (bank_place : Place) (row : Expr) → form_seen target.form ≡ plain.in_bank r bank bank_place (term_seen row) → LevelsTerm ways old a outer value first → LevelsTerm ways a b outer row second → Skips b new 1
+    → LevelsStore ways old new outer target value
+store_bank old a b new outer first second target value r bank bank_place row is one two skips known u s low =
     let k = term_accesses (term_seen value) in
-    let g = one known s low in
-    let h = two known g.sound (counts_on (count old) (count a) k outer g.counted low) in
+    let g = one known u s low in
+    let h = two known u g.sound (counts_on (count old) (count a) k outer g.counted low) in
     let seen : levels_seen b ≡ (term_leveled (told old.shares.now) outer (core_term known (count old + k) (term_seen row)) (term_leveled (told old.shares.now) outer (core_term known (count old) (term_seen value)) (levels_seen old)).levels).levels =
     h.seen
     ∙ (ap (λ x. (term_leveled (told x) outer (core_term known (count a) (term_seen row)) (levels_seen a)).levels) g.keeps.shares
@@ -301,8 +354,8 @@ nothing_stored shared outer known n place kind (plain.in_bank r bank bank_place 
 nothing_stored shared outer known n place kind (plain.applied o left right) v l h = refl
 nothing_stored shared outer known n place kind (plain.converted inner to) v l h = refl
 
-pub store_none : (old new : Held) (outer : ℕ) (target value : Expr) (f : TermForm) → form_seen target.form ≡ f → NoAccess f → SkipsStore old new target value → LevelsStore old new outer target value
-store_none old new outer target value f is none skips known s low =
+pub store_none : {ways : List Led} (old new : Held) (outer : ℕ) (target value : Expr) (f : TermForm) → form_seen target.form ≡ f → NoAccess f → SkipsStore old new target value → LevelsStore ways old new outer target value
+store_none old new outer target value f is none skips known u s low =
     subst (λ (l : Levels). GivesLevels old new l (term_accesses (term_seen value) + term_accesses (term_seen target)))
     (nothing_stored (told old.shares.now) outer known (count old + term_accesses (term_seen value)) target.place target.kind (form_seen target.form) (core_term known (count old) (term_seen value)) (levels_seen old) (subst NoAccess (sym is) none))
     (skips_gives old new (term_accesses (term_seen value) + term_accesses (term_seen target)) s skips)

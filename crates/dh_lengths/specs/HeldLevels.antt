@@ -1,12 +1,16 @@
 -- What the code holds of the levels of a phase, and what each step makes of it.
-use Rattle.std.specs.Prelude.{◌≡◌, ℕ, ◌+◌, ◌≤◌, nat_lt, if◌then◌else◌, List, [], ◌∷◌, ◌++◌, length, map, replicate, slice_index, Option, option_map, Vec}
+use Rattle.std.specs.Prelude.{◌≡◌, ℕ, ◌+◌, ◌≤◌, nat_lt, if◌then◌else◌, max, List, [], ◌∷◌, ◌++◌, length, map, replicate, slice_index, Option, option_map, Vec}
 use Rattle.std.specs.Global.{Global}
 use Rattle.dh_tree.specs.declared.trees.expressions.Expr.{Expr}
-use Rattle.dh_tree.specs.Seen.{term_seen, terms}
+use Rattle.dh_tree.specs.Seen.{factor_seen, term_seen, terms}
 use Rattle.dh_meaning.specs.AccessNumbers.{maybe_accesses, term_accesses, terms_accesses}
 use Rattle.dh_meaning.specs.Core.{Reach, CoreTerm}
 use Rattle.dh_meaning.specs.CoreOf.{Known, core_term, core_terms, entity_number, first_value, store_to}
 use Rattle.dh_meaning.specs.Levels.{Levels, Leveled, level_ground, read_leveled, term_leveled, terms_leveled, command_leveled, with_variables, with_value}
+use Rattle.dh_lengths.specs.LedBy.{IsLedBy}
+use Rattle.dh_meaning.specs.Ways.{Hidden, hidden_in, way_in}
+use Rattle.dh_ways.specs.declared.ways.Led.{Led}
+use Rattle.dh_ways.specs.Seen.{led_seen}
 use Rattle.dh_events.specs.Tables.{numbered}
 use Rattle.dh_lengths.specs.declared.held.Held.{Held}
 use Rattle.dh_lengths.specs.declared.undoing.Mark.{Mark}
@@ -17,6 +21,10 @@ use Rattle.dh_lengths.specs.Undone.{mark, undone}
 
 abbrev pub zeros : ℕ → List ℕ
 zeros n = replicate n 0
+
+-- those of the offsets of a suffix
+abbrev pub suffixes_accesses : List (ℕ × Expr) → ℕ
+suffixes_accesses by = terms_accesses (terms (map (λ s. s.offset) (map factor_seen by)))
 
 abbrev pub AddsZeros : (old new : Vec ℕ Global) → ℕ → Type 0
 AddsZeros old new n = new.items ≡ old.items ++ zeros n
@@ -68,9 +76,18 @@ pub record GivesLevel (old new : Held) (i : Leveled) (level n : ℕ) : Type 0 wh
   pub counted : count new ≡ count old + n
   pub keeps : KeepsVariables old new
 
--- what is told where levels are small
-abbrev pub Leveling : (old : Held) → (outer : ℕ) → (Known → Type 0) → Type 0
-Leveling old outer P = (known : Known) → IsSound old → outer ≤ count old → P known
+-- what is told where levels are small, of programs with these ways
+abbrev pub Leveling : (ways : List Led) → (old : Held) → (outer : ℕ) → (Known → Type 0) → Type 0
+Leveling ways old outer P = (known : Known) → IsLedBy ways known → IsSound old → outer ≤ count old → P known
+
+-- the greatest level of the variables that keep the offsets on a way
+abbrev pub hidden_level : (variables : ℕ → ℕ) → List Hidden → ℕ
+hidden_level variables [] = 0
+hidden_level variables (h ∷ hs) = max (variables h.entity) (hidden_level variables hs)
+
+-- that of a name, with a level of its indices
+abbrev pub level_through : (ways : List Led) → (variables : ℕ → ℕ) → Option ℕ → (level : ℕ) → ℕ
+level_through ways variables entity level = max level (hidden_level variables (hidden_in (way_in (map led_seen ways) entity)))
 
 abbrev pub leveled : ℕ → Levels → Leveled
 leveled level levels = record { level = level; levels = levels }
@@ -81,18 +98,18 @@ ReadsNext old new outer indices level =
     (r : Reach) → r.number ≡ count old → IsSound old → outer ≤ count old → indices ≤ count old
     → GivesLevel old new (read_leveled (told old.shares.now) outer r (leveled indices (levels_seen old))) level 1
 
-abbrev pub LevelsTerm : (old new : Held) → (outer : ℕ) → Expr → (level : ℕ) → Type 0
-LevelsTerm old new outer e level =
-    Leveling old outer (λ known. GivesLevel old new (term_leveled (told old.shares.now) outer (core_term known (count old) (term_seen e)) (levels_seen old)) level (term_accesses (term_seen e)))
+abbrev pub LevelsTerm : (ways : List Led) → (old new : Held) → (outer : ℕ) → Expr → (level : ℕ) → Type 0
+LevelsTerm ways old new outer e level =
+    Leveling ways old outer (λ known. GivesLevel old new (term_leveled (told old.shares.now) outer (core_term known (count old) (term_seen e)) (levels_seen old)) level (term_accesses (term_seen e)))
 
-abbrev pub LevelsTerms : (old new : Held) → (outer : ℕ) → List Expr → (level : ℕ) → Type 0
-LevelsTerms old new outer es level =
-    Leveling old outer (λ known. GivesLevel old new (terms_leveled (told old.shares.now) outer (core_terms known (count old) (terms (map term_seen es))) (levels_seen old)) level (terms_accesses (terms (map term_seen es))))
+abbrev pub LevelsTerms : (ways : List Led) → (old new : Held) → (outer : ℕ) → List Expr → (level : ℕ) → Type 0
+LevelsTerms ways old new outer es level =
+    Leveling ways old outer (λ known. GivesLevel old new (terms_leveled (told old.shares.now) outer (core_terms known (count old) (terms (map term_seen es))) (levels_seen old)) level (terms_accesses (terms (map term_seen es))))
 
 -- what a `let` sets its variable to
-abbrev pub LevelsMaybe : (old new : Held) → (outer : ℕ) → Option Expr → (level : ℕ) → Type 0
-LevelsMaybe old new outer value level =
-    Leveling old outer (λ known. (declared : _)
+abbrev pub LevelsMaybe : (ways : List Led) → (old new : Held) → (outer : ℕ) → Option Expr → (level : ℕ) → Type 0
+LevelsMaybe ways old new outer value level =
+    Leveling ways old outer (λ known. (declared : _)
     → GivesLevel old new (term_leveled (told old.shares.now) outer (first_value known (count old) declared (option_map term_seen value)) (levels_seen old)) level (maybe_accesses (option_map term_seen value)))
 
 -- levels, behind so many accesses more
@@ -103,9 +120,9 @@ pub record GivesLevels (old new : Held) (l : Levels) (n : ℕ) : Type 0 where
   pub keeps : KeepsVariables old new
 
 -- a store
-abbrev pub LevelsStore : (old new : Held) → (outer : ℕ) → (target value : Expr) → Type 0
-LevelsStore old new outer target value =
-    Leveling old outer (λ known. GivesLevels old new (command_leveled (told old.shares.now) outer (store_to known (count old + term_accesses (term_seen value)) (term_seen target) (core_term known (count old) (term_seen value))) (levels_seen old)) (term_accesses (term_seen value) + term_accesses (term_seen target)))
+abbrev pub LevelsStore : (ways : List Led) → (old new : Held) → (outer : ℕ) → (target value : Expr) → Type 0
+LevelsStore ways old new outer target value =
+    Leveling ways old outer (λ known. GivesLevels old new (command_leveled (told old.shares.now) outer (store_to known (count old + term_accesses (term_seen value)) (term_seen target) (core_term known (count old) (term_seen value))) (levels_seen old)) (term_accesses (term_seen value) + term_accesses (term_seen target)))
 
 -- accesses of level 0 came
 pub record Skips (old new : Held) (n : ℕ) : Type 0 where
@@ -117,12 +134,15 @@ abbrev pub SkipsStore : (old new : Held) → (target value : Expr) → Type 0
 SkipsStore old new target value = Skips old new (term_accesses (term_seen value) + term_accesses (term_seen target))
 
 -- a variable has a level
-pub record AssignsLevel (old new : Held) (entity : Option ℕ) (level : ℕ) : Type 0 where
-  pub seen : levels_seen new ≡ with_variables (levels_seen old) (with_value (levels_seen old).variables (entity_number entity) level)
+pub record AssignsAt (old new : Held) (place level : ℕ) : Type 0 where
+  pub seen : levels_seen new ≡ with_variables (levels_seen old) (with_value (levels_seen old).variables place level)
   pub reads : new.reads.items ≡ old.reads.items
   pub shares : new.shares.now ≡ old.shares.now
   pub first : new.first ≡ old.first
-  pub log : new.log.items ≡ old.log.items ++ mark (entity_number entity) (variable_in old.variables.items entity) ∷ []
+  pub log : new.log.items ≡ old.log.items ++ mark place (numbered old.variables.items place) ∷ []
+
+abbrev pub AssignsLevel : (old new : Held) → Option ℕ → (level : ℕ) → Type 0
+AssignsLevel old new entity level = AssignsAt old new (entity_number entity) level
 
 -- the phase is over
 pub record EndsPhase (old new : Held) : Type 0 where

@@ -1,3 +1,5 @@
+pub mod LedBy
+pub mod KeptLevels
 pub mod SharedReads
 pub mod PhaseBlocks
 pub mod LiveFirsts

@@ -12,6 +12,8 @@ use Rattle.dh_meaning.specs.Effects.{Block, tests}
 use Rattle.dh_meaning.specs.Levels.{block_length, commands_leveled, level_ground}
 use Rattle.dh_meaning.specs.Phases.{Located, Phase, straight, turns, repeated, decided, of_list, one_straight, other_phases, phases}
 use Rattle.dh_meaning.specs.Sites.{Around}
+use Rattle.dh_ways.specs.declared.ways.Led.{Led}
+use Rattle.dh_lengths.specs.LedBy.{IsLedBy}
 use Rattle.dh_events.specs.Stages.{form_stage, stage_of}
 use Rattle.dh_events.specs.Tables.{numbered}
 use Rattle.dh_lengths.specs.declared.held.Held.{Held}
@@ -145,8 +147,8 @@ pub record IsTested (known : Known) (base : List ℕ) (line : List Phase) (test 
   pub counted : count new.held ≡ count old.held + term_accesses (term_seen test)
   pub shares : new.held.shares.now ≡ old.held.shares.now
 
-abbrev pub WalksTest : (old new : Walk) → Expr → Type 0
-WalksTest old new test = (known : Known) (base : List ℕ) (line : List Phase) → Stands known base old line → IsTested known base line test old new
+abbrev pub WalksTest : (ways : List Led) → (old new : Walk) → Expr → Type 0
+WalksTest ways old new test = (known : Known) → IsLedBy ways known → (base : List ℕ) (line : List Phase) → Stands known base old line → IsTested known base line test old new
 
 -- further phases, with so many accesses
 pub record IsWalked (known : Known) (base : List ℕ) (line : List Phase) (old new : Walk) (further : List Phase) (n : ℕ) : Type 0 where
@@ -155,17 +157,17 @@ pub record IsWalked (known : Known) (base : List ℕ) (line : List Phase) (old n
   pub counted : count new.held ≡ count old.held + n
   pub shares : new.held.shares.now ≡ old.held.shares.now
 
-abbrev pub WalksStraight : (old new : Walk) → Command → Type 0
-WalksStraight old new c =
-    (known : Known) (r : Around) (base : List ℕ) (line : List Phase) → stage_of (action_seen c) ≡ 1 → Stands known base old line
+abbrev pub WalksStraight : (ways : List Led) → (old new : Walk) → Command → Type 0
+WalksStraight ways old new c =
+    (known : Known) → IsLedBy ways known → (r : Around) (base : List ℕ) (line : List Phase) → stage_of (action_seen c) ≡ 1 → Stands known base old line
     → IsWalked known base line old new (phases r (count old.held) (action_seen c)) (accesses_of (action_seen c))
 
-abbrev pub WalksCommand : (stages : List ℕ) → (old new : Walk) → Command → Type 0
-WalksCommand stages old new c =
-    (known : Known) (r : Around) (base : List ℕ) (line : List Phase) → TellsStages (numbered stages) (action_seen c) → Stands known base old line
+abbrev pub WalksCommand : (ways : List Led) → (stages : List ℕ) → (old new : Walk) → Command → Type 0
+WalksCommand ways stages old new c =
+    (known : Known) → IsLedBy ways known → (r : Around) (base : List ℕ) (line : List Phase) → TellsStages (numbered stages) (action_seen c) → Stands known base old line
     → IsWalked known base line old new (phases r (count old.held) (action_seen c)) (accesses_of (action_seen c))
 
-abbrev pub WalksOther : (stages : List ℕ) → (old new : Walk) → Option (Box Command Global) → Type 0
-WalksOther stages old new other =
-    (known : Known) (r : Around) (base : List ℕ) (line : List Phase) → TellOther (numbered stages) (maybe_seen (option_map (λ b. action_seen b.value) other)) → Stands known base old line
+abbrev pub WalksOther : (ways : List Led) → (stages : List ℕ) → (old new : Walk) → Option (Box Command Global) → Type 0
+WalksOther ways stages old new other =
+    (known : Known) → IsLedBy ways known → (r : Around) (base : List ℕ) (line : List Phase) → TellOther (numbered stages) (maybe_seen (option_map (λ b. action_seen b.value) other)) → Stands known base old line
     → IsWalked known base line old new (other_phases r (count old.held) (maybe_seen (option_map (λ b. action_seen b.value) other))) (other_accesses (maybe_seen (option_map (λ b. action_seen b.value) other)))

@@ -2,12 +2,12 @@
 
 ghost use Rattle.std.specs.Prelude.{◌≡◌, IfOk, OnOk};
 ghost use Rattle.dh_meaning.specs.CoreOf.{entity_number};
-ghost use Rattle.dh_lengths.specs.HeldLevels.{read_in, variable_in, AssignsLevel, EndsPhase, ReadsNext};
+ghost use Rattle.dh_lengths.specs.HeldLevels.{read_in, variable_in, AssignsAt, AssignsLevel, EndsPhase, ReadsNext};
 ghost use Rattle.dh_lengths.specs.SharedReads as reads;
 
 use crate::undoing::{Mark, undo};
 use dh_base::NoMemory;
-use dh_events::{get_at, set_at};
+use dh_events::{get_at, get_number, set_number};
 
 /// The levels of the reads and variables of a phase: the clock of the phase's step at which each value is
 /// there, from 0.
@@ -83,17 +83,23 @@ impl Held<'_> {
         get_at(self.variables.as_slice(), number_of(entity))
     }
 
+    /// The variable of a number is set to a value of a level.
+    pub fn assign_at(&mut self, place: usize, level: usize) -> Result<(), NoMemory>
+        ensures { OnOk result (AssignsAt self.old self.new place level) }
+    {
+        let before = get_number(self.variables.as_slice(), place);
+        self.log.push(Mark {
+            entity: place,
+            level: before,
+        })?;
+        set_number(&mut self.variables, place, level)
+    }
+
     /// A variable is set to a value of a level.
     pub fn assign(&mut self, entity: Option<u32>, level: usize) -> Result<(), NoMemory>
         ensures { OnOk result (AssignsLevel self.old self.new entity level) }
     {
-        let number = number_of(entity);
-        let before = get_at(self.variables.as_slice(), number);
-        self.log.push(Mark {
-            entity: number,
-            level: before,
-        })?;
-        set_at(&mut self.variables, number, level)
+        self.assign_at(number_of(entity) as usize, level)
     }
 
     /// The phase ends.

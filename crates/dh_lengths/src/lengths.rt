@@ -3,7 +3,8 @@
 //! A straight phase stays open while commands may join it: it is told its length when the next one begins, since
 //! the block that joins a loop's copies goes on with the last phase of a turn.
 
-ghost use Rattle.std.specs.Prelude.{◌≡◌, ℕ, IfOk, OnOk};
+ghost use Rattle.std.specs.Prelude.{◌≡◌, ℕ, [], IfOk, OnOk};
+ghost use Rattle.dh_tree.specs.Forms.{unbuilt_forms};
 ghost use Rattle.dh_tree.specs.Numbers.{IsNumbered};
 ghost use Rattle.dh_tree.specs.Seen.{program_seen};
 ghost use Rattle.dh_lengths.specs.PhaseBlocks.{lengths_of};
@@ -17,6 +18,7 @@ use crate::terms::level_term;
 use dh_base::NoMemory;
 use dh_events::{get_at, note_stages};
 use dh_tree::{Command, CommandForm, Expr, Typed};
+use dh_ways::Led;
 use std::alloc::Global;
 
 /// Where a walk along phases stands.
@@ -61,20 +63,25 @@ fn open_phase(walk: &mut Walk<'_>) -> Result<(), NoMemory>
 }
 
 /// A test, which is a phase of its own.
-fn walk_test(walk: &mut Walk<'_>, test: &Expr) -> Result<(), NoMemory>
-    ensures { OnOk result (WalksTest walk.old walk.new test.now) }
+fn walk_test(walk: &mut Walk<'_>, ways: &[Led], test: &Expr) -> Result<(), NoMemory>
+    ensures { OnOk result (WalksTest ways.now walk.old walk.new test.now) }
 {
     close(walk)?;
-    level_term(&mut walk.held, 0, test)?;
+    level_term(&mut walk.held, ways, 0, test)?;
     tell(walk)
 }
 
 /// A straight command.
-fn walk_straight(alloc: Global, walk: &mut Walk<'_>, command: &Command) -> Result<(), NoMemory>
-    ensures { OnOk result (WalksStraight walk.old walk.new command.now) }
+fn walk_straight(
+    alloc: Global,
+    walk: &mut Walk<'_>,
+    ways: &[Led],
+    command: &Command,
+) -> Result<(), NoMemory>
+    ensures { OnOk result (WalksStraight ways.now walk.old walk.new command.now) }
 {
     open_phase(walk)?;
-    level_command(alloc, &mut walk.held, 0, command)?;
+    level_command(alloc, &mut walk.held, ways, 0, command)?;
     walk.pending = true;
     walk.going = true;
     Ok(())
@@ -85,46 +92,47 @@ fn walk_straight(alloc: Global, walk: &mut Walk<'_>, command: &Command) -> Resul
 fn walk_command(
     alloc: Global,
     walk: &mut Walk<'_>,
+    ways: &[Led],
     stages: &[usize],
     command: &Command,
 ) -> Result<(), NoMemory>
-    ensures { OnOk result (WalksCommand stages.now walk.old walk.new command.now) }
+    ensures { OnOk result (WalksCommand ways.now stages.now walk.old walk.new command.now) }
 {
     let stage = get_at(stages, command.id);
     if stage == 0 {
         return skip_command(&mut walk.held.reads, command);
     }
     if stage == 1 {
-        return walk_straight(alloc, walk, command);
+        return walk_straight(alloc, walk, ways, command);
     }
     match &command.form {
         CommandForm::Block { body } => {
             for part in body.as_slice() {
                 walk.going = false;
                 for command in part.as_slice() {
-                    walk_command(alloc, walk, stages, command)?;
+                    walk_command(alloc, walk, ways, stages, command)?;
                 }
             }
             walk.going = false;
             Ok(())
         }
         CommandForm::If { test, then, other } => {
-            walk_test(walk, test)?;
-            walk_command(alloc, walk, stages, then)?;
+            walk_test(walk, ways, test)?;
+            walk_command(alloc, walk, ways, stages, then)?;
             close(walk)?;
-            walk_other(alloc, walk, stages, other)?;
+            walk_other(alloc, walk, ways, stages, other)?;
             close(walk)
         }
         CommandForm::While { test, body } => {
-            walk_test(walk, test)?;
-            walk_command(alloc, walk, stages, body)?;
+            walk_test(walk, ways, test)?;
+            walk_command(alloc, walk, ways, stages, body)?;
             close(walk)
         }
         CommandForm::For { body, combine, .. } => {
             close(walk)?;
-            walk_command(alloc, walk, stages, body)?;
+            walk_command(alloc, walk, ways, stages, body)?;
             walk.going = true;
-            walk_other(alloc, walk, stages, combine)?;
+            walk_other(alloc, walk, ways, stages, combine)?;
             close(walk)
         }
         CommandForm::Let { .. } => Ok(()),
@@ -142,13 +150,14 @@ fn walk_command(
 fn walk_other(
     alloc: Global,
     walk: &mut Walk<'_>,
+    ways: &[Led],
     stages: &[usize],
     other: &Option<Box<Command>>,
 ) -> Result<(), NoMemory>
-    ensures { OnOk result (WalksOther stages.now walk.old walk.new other.now) }
+    ensures { OnOk result (WalksOther ways.now stages.now walk.old walk.new other.now) }
 {
     match other {
-        Some(block) => walk_command(alloc, walk, stages, block),
+        Some(block) => walk_command(alloc, walk, ways, stages, block),
         None => Ok(()),
     }
 }
@@ -161,6 +170,7 @@ fn walk_other(
 /// `NoMemory` where an allocation was refused.
 pub fn phase_lengths(alloc: Global, program: &Typed) -> Result<Vec<u64>, NoMemory>
     requires numbered { (first : ℕ) × IsNumbered first (program_seen program.now).body }
+    requires built { unbuilt_forms (program_seen program.now) ≡ [] }
     ensures { IfOk result (λ lengths. lengths.items ≡ lengths_of (program_seen program.now)) }
 {
     let body = &program.tree().body;
@@ -180,7 +190,9 @@ pub fn phase_lengths(alloc: Global, program: &Typed) -> Result<Vec<u64>, NoMemor
         going: false,
         lengths: Vec::new(alloc),
     };
-    walk_command(alloc, &mut walk, stages.as_slice(), body)?;
+    // while views are refused there is none
+    let ways: Vec<Led> = Vec::new(alloc);
+    walk_command(alloc, &mut walk, ways.as_slice(), stages.as_slice(), body)?;
     close(&mut walk)?;
     Ok(walk.lengths)
 }

@@ -1,12 +1,12 @@
 //! Accesses whose levels nothing asks for: each has level 0.
 
 ghost use Rattle.std.specs.Prelude.{map, option_map, OnOk};
-ghost use Rattle.dh_tree.specs.Seen.{action_seen, groups, maybe_seen, part_seen, term_seen, terms};
-ghost use Rattle.dh_meaning.specs.AccessNumbers.{accesses_of, other_accesses, term_accesses, terms_accesses};
-ghost use Rattle.dh_lengths.specs.HeldLevels.{AddsZeros};
+ghost use Rattle.dh_tree.specs.Seen.{action_seen, groups, maybe_seen, part_seen, plan_seen, term_seen, terms};
+ghost use Rattle.dh_meaning.specs.AccessNumbers.{accesses_of, other_accesses, plan_accesses, term_accesses, terms_accesses};
+ghost use Rattle.dh_lengths.specs.HeldLevels.{suffixes_accesses, AddsZeros};
 
 use dh_base::NoMemory;
-use dh_tree::{Command, CommandForm, Expr, ExprForm};
+use dh_tree::{Command, CommandForm, Expr, ExprForm, ViewForm};
 
 /// Notes level 0 of one access.
 #[tactic(auto, using(crate::proofs::Zeros::one_zero))]
@@ -52,6 +52,30 @@ fn skip_terms(reads: &mut Vec<usize>, indices: &[Expr]) -> Result<(), NoMemory>
     Ok(())
 }
 
+/// Notes level 0 of the accesses of the offsets of a suffix.
+#[tactic(auto, using(crate::proofs::Zeros::no_zeros))]
+fn skip_suffixes(reads: &mut Vec<usize>, by: &[(u64, Expr)]) -> Result<(), NoMemory>
+    ensures { OnOk result (AddsZeros reads.old reads.new (suffixes_accesses by.now)) }
+{
+    for pair in by {
+        skip_term(reads, &pair.1)?;
+    }
+    Ok(())
+}
+
+/// Notes level 0 of the accesses of the offsets of a view.
+#[tactic(auto, using(crate::proofs::Zeros::no_zeros))]
+pub fn skip_offsets(reads: &mut Vec<usize>, form: &ViewForm) -> Result<(), NoMemory>
+    ensures { OnOk result (AddsZeros reads.old reads.new (plan_accesses (plan_seen form.now))) }
+{
+    match form {
+        ViewForm::Shrink { .. } => Ok(()),
+        ViewForm::Split { .. } => Ok(()),
+        ViewForm::Suffix { by, .. } => skip_suffixes(reads, by.as_slice()),
+        ViewForm::Shift { by } => skip_terms(reads, by.as_slice()),
+    }
+}
+
 /// Notes level 0 of the accesses of a command and of those inside it.
 #[cycle(skip_command)]
 #[tactic(auto, using(dh_tree::proofs::SeenActions::actions_are, crate::proofs::Zeros::no_zeros, crate::proofs::Zeros::more_zeros))]
@@ -91,9 +115,8 @@ pub fn skip_command(reads: &mut Vec<usize>, command: &Command) -> Result<(), NoM
             }
             Ok(())
         }
-        CommandForm::LetMemory { .. } | CommandForm::View { .. } | CommandForm::Call { .. } => {
-            Ok(())
-        }
+        CommandForm::View { form, .. } => skip_offsets(reads, form),
+        CommandForm::LetMemory { .. } | CommandForm::Call { .. } => Ok(()),
     }
 }
 

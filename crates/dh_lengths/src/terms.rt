@@ -1,47 +1,85 @@
 //! The levels of expressions.
 
-ghost use Rattle.std.specs.Prelude.{IfOk, OnOk};
-ghost use Rattle.dh_lengths.specs.HeldLevels.{LevelsMaybe, LevelsStore, LevelsTerm, LevelsTerms, SkipsStore};
+ghost use Rattle.std.specs.Prelude.{◌≡◌, IfOk, OnOk, map, max};
+ghost use Rattle.dh_lengths.specs.HeldLevels.{hidden_level, level_through as through, levels_seen, LevelsMaybe, LevelsStore, LevelsTerm, LevelsTerms, SkipsStore};
+ghost use Rattle.dh_events.specs.Tables.{numbered};
+ghost use Rattle.dh_ways.specs.Seen.{hidden_seen};
 
 use crate::held::Held;
 use crate::skipping::{skip, skip_term};
 use dh_base::NoMemory;
+use dh_events::get_at;
 use dh_tree::{Expr, ExprForm};
+use dh_ways::{Hidden, Led, way_among};
+
+/// The greatest of a level and of those of the variables that keep the offsets on a way.
+fn level_hidden(variables: &[usize], hidden: &[Hidden], level: usize) -> usize
+    ensures { result ≡ max level
+        (hidden_level (numbered variables.now) (map hidden_seen hidden.now)) }
+{
+    let mut most = level;
+    for one in hidden {
+        most = most.max(get_at(variables, one.entity));
+    }
+    most
+}
+
+/// The level of what names an element, by that of its indices: through views it is not before their offsets.
+fn level_through(held: &Held<'_>, ways: &[Led], entity: Option<u32>, level: usize) -> usize
+    ensures { result ≡ through ways.now (levels_seen held.now).variables entity level }
+{
+    match way_among(ways, entity) {
+        Some(way) => level_hidden(held.variables.as_slice(), way.hidden.as_slice(), level),
+        None => level,
+    }
+}
 
 /// The level of an expression inside tests of a level. Notes those of its reads.
 #[cycle(leveling)]
-pub fn level_term(held: &mut Held<'_>, outer: usize, value: &Expr) -> Result<usize, NoMemory>
-    ensures { IfOk result (λ level. LevelsTerm held.old held.new outer value.now level) }
+pub fn level_term(
+    held: &mut Held<'_>,
+    ways: &[Led],
+    outer: usize,
+    value: &Expr,
+) -> Result<usize, NoMemory>
+    ensures { IfOk result (λ level. LevelsTerm ways.now held.old held.new outer value.now level) }
 {
     match &value.form {
         ExprForm::Number { .. } => Ok(0),
         ExprForm::Truth { .. } => Ok(0),
         ExprForm::Variable { of } => Ok(held.level_of(of.entity)),
-        ExprForm::Access { indices, .. } => {
-            let level = level_terms(held, outer, indices.as_slice())?;
-            held.read(outer, level)
+        ExprForm::Access { of, indices } => {
+            let level = level_terms(held, ways, outer, indices.as_slice())?;
+            let through = level_through(held, ways, of.entity, level);
+            held.read(outer, through)
         }
         ExprForm::Physical { row, .. } => {
-            let level = level_term(held, outer, row)?;
+            let level = level_term(held, ways, outer, row)?;
             held.read(outer, level)
         }
         ExprForm::Binary { left, right, .. } => {
-            let first = level_term(held, outer, left)?;
-            let second = level_term(held, outer, right)?;
+            let first = level_term(held, ways, outer, left)?;
+            let second = level_term(held, ways, outer, right)?;
             Ok(first.max(second))
         }
-        ExprForm::Cast { inner, .. } => level_term(held, outer, inner),
+        ExprForm::Cast { inner, .. } => level_term(held, ways, outer, inner),
     }
 }
 
 /// The greatest level of indices. Notes those of their reads.
 #[cycle(leveling)]
-fn level_terms(held: &mut Held<'_>, outer: usize, indices: &[Expr]) -> Result<usize, NoMemory>
-    ensures { IfOk result (λ level. LevelsTerms held.old held.new outer indices.now level) }
+fn level_terms(
+    held: &mut Held<'_>,
+    ways: &[Led],
+    outer: usize,
+    indices: &[Expr],
+) -> Result<usize, NoMemory>
+    ensures { IfOk result (λ level.
+        LevelsTerms ways.now held.old held.new outer indices.now level) }
 {
     let mut most: usize = 0;
     for index in indices {
-        most = level_term(held, outer, index)?.max(most);
+        most = level_term(held, ways, outer, index)?.max(most);
     }
     Ok(most)
 }
@@ -49,13 +87,14 @@ fn level_terms(held: &mut Held<'_>, outer: usize, indices: &[Expr]) -> Result<us
 /// The level of what a `let` sets its variable to; 0 where it has no right side.
 pub fn level_maybe(
     held: &mut Held<'_>,
+    ways: &[Led],
     outer: usize,
     value: &Option<Expr>,
 ) -> Result<usize, NoMemory>
-    ensures { IfOk result (λ level. LevelsMaybe held.old held.new outer value.now level) }
+    ensures { IfOk result (λ level. LevelsMaybe ways.now held.old held.new outer value.now level) }
 {
     match value {
-        Some(value) => level_term(held, outer, value),
+        Some(value) => level_term(held, ways, outer, value),
         None => Ok(0),
     }
 }
@@ -71,21 +110,22 @@ fn skip_store(held: &mut Held<'_>, target: &Expr, value: &Expr) -> Result<(), No
 /// Notes the levels of the reads of a store, and of the write.
 pub fn level_store(
     held: &mut Held<'_>,
+    ways: &[Led],
     outer: usize,
     target: &Expr,
     value: &Expr,
 ) -> Result<(), NoMemory>
-    ensures { OnOk result (LevelsStore held.old held.new outer target.now value.now) }
+    ensures { OnOk result (LevelsStore ways.now held.old held.new outer target.now value.now) }
 {
     match &target.form {
         ExprForm::Access { indices, .. } => {
-            level_term(held, outer, value)?;
-            level_terms(held, outer, indices.as_slice())?;
+            level_term(held, ways, outer, value)?;
+            level_terms(held, ways, outer, indices.as_slice())?;
             skip(&mut held.reads)
         }
         ExprForm::Physical { row, .. } => {
-            level_term(held, outer, value)?;
-            level_term(held, outer, row)?;
+            level_term(held, ways, outer, value)?;
+            level_term(held, ways, outer, row)?;
             skip(&mut held.reads)
         }
         ExprForm::Number { .. } => skip_store(held, target, value),

@@ -5,14 +5,14 @@ ghost use Rattle.dh_events.specs.Tables.{numbered};
 ghost use Rattle.dh_lengths.specs.Undone.{joined_all, marks_now, redone, undone};
 
 use dh_base::NoMemory;
-use dh_events::{get_at, set_at};
+use dh_events::{get_number, set_number};
 use std::alloc::Global;
 
 /// The level of a variable at some moment.
 #[derive(Clone, Copy)]
 pub struct Mark {
     /// The number of its entity.
-    pub entity: u32,
+    pub entity: usize,
     /// The level.
     pub level: usize,
 }
@@ -31,7 +31,7 @@ pub fn undo(variables: &mut Vec<usize>, log: &[Mark]) -> Result<(), NoMemory>
 {
     for i in (0..log.len()).rev() {
         let mark = log[i];
-        set_at(variables, mark.entity, mark.level)?;
+        set_number(variables, mark.entity, mark.level)?;
     }
     Ok(())
 }
@@ -42,7 +42,7 @@ pub fn redo(variables: &mut Vec<usize>, marks: &[Mark]) -> Result<(), NoMemory>
         ≡ redone marks.now (numbered variables.old.items)) }
 {
     for mark in marks {
-        set_at(variables, mark.entity, mark.level)?;
+        set_number(variables, mark.entity, mark.level)?;
     }
     Ok(())
 }
@@ -55,7 +55,7 @@ pub fn marks_of(alloc: Global, variables: &[usize], log: &[Mark]) -> Result<Vec<
     for mark in log {
         marks.push(Mark {
             entity: mark.entity,
-            level: get_at(variables, mark.entity),
+            level: get_number(variables, mark.entity),
         })?;
     }
     Ok(marks)
@@ -68,8 +68,8 @@ pub fn join(variables: &mut Vec<usize>, marks: &[Mark], test: usize) -> Result<(
         ≡ joined_all test marks.now (numbered variables.old.items)) }
 {
     for mark in marks {
-        let now = get_at(variables.as_slice(), mark.entity);
-        set_at(variables, mark.entity, test.max(now.max(mark.level)))?;
+        let now = get_number(variables.as_slice(), mark.entity);
+        set_number(variables, mark.entity, test.max(now.max(mark.level)))?;
     }
     Ok(())
 }

@@ -2,7 +2,9 @@
 -- after those of its indices, a store's right side before its indices and the write last; commands in text
 -- order, which is the order of their numbers. (The order of this profile.)
 use Rattle.std.specs.Prelude.{ℕ, suc, ◌+◌, List, [], ◌∷◌, Option, Some, None}
-use Rattle.dh_tree.specs.PlainTrees.{Term, term, TermForm, number, truth_value, named, accessed, in_bank, applied, converted, Terms, no_terms, term_then, ViewPlan, shrinks, splits, suffixes, shifts, Action, action, ActionForm, lets, lets_memory, views, assigns, stores, reduces, calls, blocks, decides, repeats, counts, MaybeAction, no_action, one_action, Actions, no_actions, action_then, Groups, no_groups, group_then, Program}
+use Rattle.dh_tree.specs.PlainTrees.{Term, term, TermForm, number, truth_value, named, accessed, in_bank, applied, converted, Terms, no_terms, term_then, ViewPlan, Action, action, ActionForm, lets, lets_memory, views, assigns, stores, reduces, calls, blocks, decides, repeats, counts, MaybeAction, no_action, one_action, Actions, no_actions, action_then, Groups, no_groups, group_then, Program}
+use Rattle.dh_tree.specs.Seen.{terms}
+use Rattle.dh_tree.specs.ViewOffsets.{offsets_of}
 
 abbrev mutual
   -- how many accesses an expression makes
@@ -30,11 +32,15 @@ abbrev pub list_accesses : List Term → ℕ
 list_accesses [] = 0
 list_accesses (t ∷ ts) = term_accesses t + list_accesses ts
 
+-- those of a view's offsets
+abbrev pub plan_accesses : ViewPlan → ℕ
+plan_accesses form = terms_accesses (terms (offsets_of form))
+
 -- those that a command makes itself, not those of commands inside it
 abbrev pub own_accesses : ActionForm → ℕ
 own_accesses (lets name declared value) = maybe_accesses value
 own_accesses (lets_memory name shape shape_places value) = 0
-own_accesses (views name parent form) = 0
+own_accesses (views name parent form) = plan_accesses form
 own_accesses (assigns target value) = term_accesses value
 own_accesses (stores target value) = term_accesses value + term_accesses target
 own_accesses (reduces target op value) = term_accesses value

@@ -1,11 +1,12 @@
 -- Programs as the checked semantics runs them: accesses by their number in order of evaluation and memories by
 -- number, variables by the number of their entity and their depth, kinds filled in and operands extended.
 -- (The core language of Nigam and others, PLDI 2020, in this profile.)
-use Rattle.std.specs.Prelude.{ℕ, Bool, List}
+use Rattle.std.specs.Prelude.{ℕ, suc, Bool, List}
 use Rattle.dh_base.specs.declared.places.Place.{Place}
 use Rattle.dh_value.specs.declared.kinds.Kind.{Kind}
 use Rattle.dh_value.specs.declared.operators.Op.{Op}
 use Rattle.dh_tree.specs.declared.tables.MemEntry.{MemEntry}
+use Rattle.dh_meaning.specs.Ways.{Step}
 
 -- an access of the program: its number in order of evaluation, where it stands, and the memory that it
 -- leads to, by its number in the table
@@ -33,10 +34,17 @@ mutual
   pub data Target : Type 0 where
     by_indices : (indices : CoreTerms) → Target
     by_row : (bank : ℕ) → (row : CoreTerm) → Target
+    -- by indices of a view, the first so many of these terms, through the views on the way, the named one first; the
+    -- other terms are their offsets, in the same order
+    by_views : (steps : List Step) → (indices : ℕ) → (terms : CoreTerms) → Target
 
   pub data CoreTerms : Type 0 where
     no_terms : CoreTerms
     term_and : CoreTerm → CoreTerms → CoreTerms
+
+abbrev pub count_terms : CoreTerms → ℕ
+count_terms no_terms = 0
+count_terms (term_and t ts) = suc (count_terms ts)
 
 mutual
   -- a straight command: it takes one logical step, with its neighbours
@@ -44,6 +52,9 @@ mutual
     store : (reach : Reach) → (target : Target) → (value : CoreTerm) → CoreCommand
     assign : (depth entity : ℕ) → (value : CoreTerm) → CoreCommand
     choose : (test : CoreTerm) → (chosen other : CoreCommands) → CoreCommand
+    -- variables of one depth, whose entities follow one another from a first one on: at each path all values are
+    -- evaluated in order, and then kept
+    keep : (depth first : ℕ) → (values : CoreTerms) → CoreCommand
 
   -- commands, one after the other
   pub data CoreCommands : Type 0 where

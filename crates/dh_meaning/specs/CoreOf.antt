@@ -1,15 +1,22 @@
 -- What a program means whose names are resolved and whose expressions have their kinds: its memories, and the
 -- phases of its body, with accesses and memories by number, variables with their depth and operands
--- extended. Views and functions are not built: they mean nothing here, and no program that is run has them.
+-- extended; an access through views is one of their memory, and a view that moves is a command that keeps its
+-- offsets. Functions are not built: they mean nothing here, and no program that is run has them.
 use Rattle.std.specs.Prelude.{ℕ, ◌+◌, false, List, [], ◌∷◌, Option, Some, None}
 use Rattle.dh_base.specs.declared.places.Place.{Place}
 use Rattle.dh_value.specs.declared.kinds.Kind.{Kind}
 use Rattle.dh_value.specs.declared.kinds.Kind.TheVariants.{Bool, Unsigned, Signed}
 use Rattle.dh_value.specs.declared.operators.Op.{Op}
 use Rattle.dh_value.specs.declared.operators.Op.TheVariants as op
+use Rattle.dh_tree.specs.declared.tables.Dim.{Dim}
+use Rattle.dh_tree.specs.declared.tables.MemEntry.{MemEntry}
 use Rattle.dh_tree.specs.declared.trees.expressions.Ref.{Ref}
+use Rattle.dh_tree.specs.Elements.{dims_at}
 use Rattle.dh_meaning.specs.AccessNumbers.{term_accesses, terms_accesses, accesses_of, part_accesses}
-use Rattle.dh_meaning.specs.Bindings.{Binding, bindings_of, binding_in, kind_bound, depth_bound, kind_or_first, kind_found}
+use Rattle.dh_tree.specs.Seen.{terms}
+use Rattle.dh_tree.specs.ViewOffsets.{offsets_of}
+use Rattle.dh_meaning.specs.Ways.{Hidden, Led, Way, all_bindings_of, base_of, hidden_in, way_at, ways_of}
+use Rattle.dh_meaning.specs.Bindings.{Binding, binding_in, kind_bound, depth_bound, kind_or_first, kind_found}
 use Rattle.dh_tree.specs.WiderKinds.{wider}
 use Rattle.dh_tree.specs.PlainTrees as plain
 use Rattle.dh_tree.specs.PlainTrees.{Action, action, ActionForm, lets, lets_memory, views, assigns, stores, reduces, calls, blocks, decides, repeats, counts, MaybeAction, no_action, one_action, Actions, no_actions, action_then, Groups, no_groups, group_then, Program}
@@ -17,19 +24,24 @@ use Rattle.dh_tree.specs.Memories.{Memory, memories_of, number_in, table_of}
 pub use Rattle.dh_tree.specs.Scopes.{entity_number}
 use Rattle.dh_meaning.specs.Phases as source
 use Rattle.dh_meaning.specs.Phases.{Located, phases_of}
-use Rattle.dh_meaning.specs.Core.{Reach, CoreTerm, literal, truth_literal, variable, read, binary, convert, Target, by_indices, by_row, CoreTerms, no_terms, term_and, CoreCommand, store, assign, choose, CoreCommands, no_commands, command_and, Turning, CorePhase, straightly, turning, looping, choosing, CorePhases, no_core_phases, phase_and, CoreProgram}
+use Rattle.dh_meaning.specs.Core.{Reach, CoreTerm, literal, truth_literal, variable, read, binary, convert, Target, by_indices, by_row, by_views, CoreTerms, no_terms, term_and, CoreCommand, store, assign, choose, keep, CoreCommands, no_commands, command_and, count_terms, Turning, CorePhase, straightly, turning, looping, choosing, CorePhases, no_core_phases, phase_and, CoreProgram}
 
 -- what is known of a program's names
 pub record Known : Type 0 where
   pub memories : List Memory
   pub bindings : List Binding
+  pub ways : List Led
 
 abbrev pub known_of : Program → Known
-known_of p = record { memories = memories_of p; bindings = bindings_of p }
+known_of p = record { memories = memories_of p; bindings = all_bindings_of p; ways = ways_of p }
 
--- the number of the memory that a name stands for
+-- the way of what a name stands for, where that is a view
+abbrev pub way_of : Known → Ref → Option Way
+way_of known r = way_at known.memories known.ways r.entity
+
+-- the number of the memory that a name stands for, or leads to
 abbrev pub memory_of : Known → Ref → ℕ
-memory_of known r = entity_number (number_in known.memories r.entity)
+memory_of known r = entity_number (number_in known.memories (base_of (way_of known r) r.entity))
 
 -- an access of what a name stands for
 abbrev pub reach_of : Known → (number : ℕ) → Place → Ref → Reach
@@ -41,6 +53,28 @@ depth_of known r = depth_bound (binding_in known.bindings (entity_number r.entit
 
 abbrev pub kind_of : Known → Ref → Kind
 kind_of known r = kind_bound (binding_in known.bindings (entity_number r.entity))
+
+-- the dimensions of what a name stands for: those of its memory, or of the view
+abbrev pub dims_by : (memory : List Dim) → Option Way → List Dim
+dims_by memory None = memory
+dims_by memory (Some w) = w.is.shape.dims
+
+abbrev pub dims_named : Known → List MemEntry → Ref → List Dim
+dims_named known table r = dims_by (dims_at table (memory_of known r)) (way_of known r)
+
+-- the offsets that are kept, as terms
+abbrev pub kept_terms : List Hidden → CoreTerms
+kept_terms [] = no_terms
+kept_terms (h ∷ hs) = term_and (variable h.kind h.depth h.entity) (kept_terms hs)
+
+abbrev pub terms_both : CoreTerms → CoreTerms → CoreTerms
+terms_both no_terms more = more
+terms_both (term_and t ts) more = term_and t (terms_both ts more)
+
+-- which element indices name, of a memory or through the views on a way
+abbrev pub target_to : Option Way → (indices : CoreTerms) → Target
+target_to None indices = by_indices indices
+target_to (Some w) indices = by_views w.steps (count_terms indices) (terms_both indices (kept_terms w.hidden))
 
 -- an operand that is extended to an integer kind
 abbrev pub extended : Kind → CoreTerm → CoreTerm
@@ -80,7 +114,7 @@ abbrev mutual
   core_form known n place k (plain.number negative value) = literal k negative value
   core_form known n place k (plain.truth_value value) = truth_literal value
   core_form known n place k (plain.named r) = variable k (depth_of known r) (entity_number r.entity)
-  core_form known n place k (plain.accessed r indices) = read (reach_of known (n + terms_accesses indices) place r) (by_indices (core_terms known n indices))
+  core_form known n place k (plain.accessed r indices) = read (reach_of known (n + terms_accesses indices) place r) (target_to (way_of known r) (core_terms known n indices))
   core_form known n place k (plain.in_bank r bank bank_place row) = read (reach_of known (n + term_accesses row) place r) (by_row bank (core_term known n row))
   core_form known n place k (plain.applied o left right) =
       operation_of o (kind_found left) (kind_found right) (core_term known n left) (core_term known (n + term_accesses left) right)
@@ -99,7 +133,7 @@ first_value known n declared (Some value) = core_term known n value
 -- a store, of which the target is an access; no text has another target, which would store nothing
 abbrev pub store_to : Known → (n : ℕ) → plain.Term → CoreTerm → CoreCommand
 store_to known n (plain.term at kind (plain.accessed r indices)) value =
-    store (reach_of known (n + terms_accesses indices) at r) (by_indices (core_terms known n indices)) value
+    store (reach_of known (n + terms_accesses indices) at r) (target_to (way_of known r) (core_terms known n indices)) value
 store_to known n (plain.term at kind (plain.in_bank r bank bank_place row)) value =
     store (reach_of known (n + term_accesses row) at r) (by_row bank (core_term known n row)) value
 store_to known n (plain.term at kind (plain.number negative v)) value = choose (truth_literal false) no_commands no_commands
@@ -115,6 +149,13 @@ assigned known r value = assign (depth_of known r) (entity_number r.entity) valu
 -- order, so that copies fold in this order.
 abbrev pub folded_into : Known → Ref → Op → Kind → CoreTerm → CoreCommand
 folded_into known r o k value = assigned known r (operation_of o (kind_of known r) k (variable (kind_of known r) (depth_of known r) (entity_number r.entity)) value)
+
+-- a view keeps its offsets, the first of which has the first of these variables, in each copy of the loops round its
+-- command; one without offsets does nothing
+abbrev pub kept_by : List Hidden → (offsets : CoreTerms) → (rest : CoreCommands) → CoreCommands
+kept_by hidden no_terms rest = rest
+kept_by [] (term_and t ts) rest = rest
+kept_by (h ∷ hs) (term_and t ts) rest = command_and (keep h.depth h.entity (term_and t ts)) rest
 
 abbrev mutual
   -- the straight commands of a command whose accesses are numbered from n on, in front of those that follow: a
@@ -134,7 +175,7 @@ abbrev mutual
       rest
   core_action_form known n (blocks body) rest = core_groups known n body rest
   core_action_form known n (lets_memory name shape shape_places value) rest = rest
-  core_action_form known n (views name parent form) rest = rest
+  core_action_form known n (views name parent form) rest = kept_by (hidden_in (way_of known name)) (core_terms known n (terms (offsets_of form))) rest
   core_action_form known n (calls function arguments) rest = rest
   core_action_form known n (repeats test body) rest = rest
   core_action_form known n (counts iterator declared low high factor body combine combine_place) rest = rest

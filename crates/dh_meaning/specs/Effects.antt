@@ -3,7 +3,7 @@
 -- of the step, in order. Copies go in lockstep: a command is done at each of its paths in ascending order
 -- before the next one. (After the checked semantics of Nigam and others, PLDI 2020; lockstep by paths is
 -- this profile's.)
-use Rattle.std.specs.Prelude.{ℕ, ◌+◌, ◌-◌, ◌%◌, ◌^◌, ◌==◌, ◌&&◌, nat_eq, nat_lt, suc, Bool, true, false, if◌then◌else◌, List, [], ◌∷◌, ◌++◌, take, map, slice_get, slice_index, slice_set, slice_index_or, Option, Some, None, ℤ, pos, int_le, int_lt, unsigned_abs}
+use Rattle.std.specs.Prelude.{ℕ, ◌+◌, ◌-◌, ◌%◌, ◌^◌, ◌==◌, ◌&&◌, nat_eq, nat_lt, suc, Bool, true, false, if◌then◌else◌, List, [], ◌∷◌, ◌++◌, take, drop, map, slice_get, slice_index, slice_set, slice_index_or, Option, Some, None, ℤ, pos, int_le, int_lt, unsigned_abs}
 use Rattle.std.specs.Set.{distinct_count}
 use Rattle.dh_base.specs.declared.outcomes.FaultKind.{FaultKind}
 use Rattle.dh_base.specs.declared.outcomes.FaultKind.TheVariants.{OutOfRange}
@@ -21,8 +21,10 @@ use Rattle.dh_tree.specs.declared.tables.Dim.{Dim}
 use Rattle.dh_tree.specs.declared.tables.MemEntry.{MemEntry}
 use Rattle.dh_tree.specs.Elements.{Spot, spot_of, spot_in_bank, dims_at, ports_at, rows_of}
 pub use Rattle.dh_tree.specs.ViewElements.{is_inside}
+use Rattle.dh_tree.specs.ViewElements.{view_through, where_inside}
+use Rattle.dh_meaning.specs.Ways.{Step}
 use Rattle.dh_meaning.specs.Paths.{Path, same_path}
-use Rattle.dh_meaning.specs.Core.{Reach, CoreTerm, literal, truth_literal, variable, read, binary, convert, Target, by_indices, by_row, CoreTerms, no_terms, term_and, CoreCommand, store, assign, choose, CoreCommands, no_commands, command_and}
+use Rattle.dh_meaning.specs.Core.{Reach, CoreTerm, literal, truth_literal, variable, read, binary, convert, Target, by_indices, by_row, by_views, CoreTerms, no_terms, term_and, CoreCommand, store, assign, choose, keep, CoreCommands, no_commands, command_and}
 
 -- What a step begins with: the memories by their table, and their contents.
 pub record Begun : Type 0 where
@@ -69,6 +71,19 @@ spot_by_indices table memory indices = if is_inside (dims_at table memory) indic
 abbrev pub spot_by_row : List MemEntry → (memory bank : ℕ) → (row : ℤ) → Option Spot
 spot_by_row table memory bank row = if is_row (dims_at table memory) row then Some (spot_in_bank table memory bank (unsigned_abs row)) else None
 
+-- the indices of the memory, through the views on the way; none where those of a view are out of range
+abbrev pub indices_through : List Step → (indices offsets : List ℤ) → Option (List ℤ)
+indices_through [] indices offsets = Some indices
+indices_through (s ∷ ss) indices offsets =
+    where_inside (view_through s.is (take s.offsets offsets) indices) (λ inner. indices_through ss inner (drop s.offsets offsets))
+
+abbrev pub spot_if_inside : List MemEntry → (memory : ℕ) → Option (List ℤ) → Option Spot
+spot_if_inside table memory None = None
+spot_if_inside table memory (Some indices) = spot_by_indices table memory indices
+
+abbrev pub spot_by_views : List MemEntry → (memory : ℕ) → List Step → (indices offsets : List ℤ) → Option Spot
+spot_by_views table memory steps indices offsets = spot_if_inside table memory (indices_through steps indices offsets)
+
 -- the bits of an element, 0 where an access is out of range
 abbrev pub bits_at : List (List ℕ) → Option Spot → ℕ
 bits_at memories None = 0
@@ -87,6 +102,8 @@ abbrev mutual
   -- where an access leads, None where it is out of range
   pub spot_reached : Begun → Variables → Path → Reach → Target → Option Spot
   spot_reached b variables path r (by_indices indices) = spot_by_indices b.table r.memory (values_of b variables path indices)
+  spot_reached b variables path r (by_views steps n terms) =
+      spot_by_views b.table r.memory steps (take n (values_of b variables path terms)) (drop n (values_of b variables path terms))
   spot_reached b variables path r (by_row bank row) = spot_by_row b.table r.memory bank (words.value_of (value_of b variables path row))
 
   -- the values of indices, as whole numbers
@@ -124,6 +141,7 @@ abbrev mutual
 
   pub target_events : Begun → Variables → Path → Target → List Event
   target_events b variables path (by_indices indices) = terms_events b variables path indices
+  target_events b variables path (by_views steps n terms) = terms_events b variables path terms
   target_events b variables path (by_row bank row) = term_events b variables path row
 
   pub terms_events : Begun → Variables → Path → CoreTerms → List Event
@@ -162,6 +180,18 @@ assigned_at b depth entity value path e = record {
   events = e.events ++ term_events b e.variables path value;
 }
 
+-- variables with entities that follow one another, set to these values
+abbrev pub set_from : Variables → (entity : ℕ) → Path → List ℤ → Variables
+set_from variables entity path [] = variables
+set_from variables entity path (z ∷ zs) = set_from (set_variable variables entity path z) (suc entity) path zs
+
+-- values are evaluated at a path, then kept
+abbrev pub kept_at : Begun → (depth first : ℕ) → CoreTerms → Path → Effect → Effect
+kept_at b depth first values path e = record {
+  variables = set_from e.variables first (take depth path) (values_of b e.variables path values);
+  events = e.events ++ terms_events b e.variables path values;
+}
+
 -- a test at a path is evaluated
 abbrev pub tested_at : Begun → CoreTerm → Path → Effect → Effect
 tested_at b test path e = with_events e (term_events b e.variables path test)
@@ -186,6 +216,7 @@ abbrev mutual
   pub command_run : Begun → (paths : List Path) → CoreCommand → Effect → Effect
   command_run b paths (store r target value) e = at_each (stored_at b r target value) paths e
   command_run b paths (assign depth entity value) e = at_each (assigned_at b depth entity value) paths e
+  command_run b paths (keep depth first values) e = at_each (kept_at b depth first values) paths e
   command_run b paths (choose test chosen other) e =
       commands_run b (paths_where false (holds_at b e.variables test) paths) other
       (commands_run b (paths_where true (holds_at b e.variables test) paths) chosen

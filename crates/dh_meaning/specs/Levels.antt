@@ -5,8 +5,8 @@
 -- operands; and behind an `if`, a variable that an arm assigns has that of the test and of both arms'
 -- values. A block is as long as one more than the greatest level of its reads. (Levels are this project's.)
 -- All copies of a command have one structure, so that levels need no paths.
-use Rattle.std.specs.Prelude.{ℕ, zero, suc, ◌==◌, ◌||◌, max, Bool, true, false, if◌then◌else◌, Option, Some, None}
-use Rattle.dh_meaning.specs.Core.{Reach, CoreTerm, literal, truth_literal, variable, read, binary, convert, Target, by_indices, by_row, CoreTerms, no_terms, term_and, CoreCommand, store, assign, choose, CoreCommands, no_commands, command_and}
+use Rattle.std.specs.Prelude.{ℕ, zero, suc, ◌+◌, ◌==◌, ◌&&◌, ◌||◌, nat_le, nat_lt, max, Bool, true, false, if◌then◌else◌, Option, Some, None}
+use Rattle.dh_meaning.specs.Core.{Reach, CoreTerm, literal, truth_literal, variable, read, binary, convert, Target, by_indices, by_row, by_views, CoreTerms, no_terms, term_and, CoreCommand, store, assign, choose, keep, CoreCommands, no_commands, command_and, count_terms}
 use Rattle.dh_meaning.specs.Effects.{Block, commands, tests}
 
 -- of each variable by its entity, of each read by its number, and the greatest of the reads so far
@@ -55,6 +55,7 @@ abbrev mutual
 
   pub target_leveled : (shared : ℕ → Option ℕ) → (outer : ℕ) → Target → Levels → Leveled
   target_leveled shared outer (by_indices indices) l = terms_leveled shared outer indices l
+  target_leveled shared outer (by_views steps n terms) l = terms_leveled shared outer terms l
   target_leveled shared outer (by_row bank row) l = term_leveled shared outer row l
 
   pub terms_leveled : (shared : ℕ → Option ℕ) → (outer : ℕ) → CoreTerms → Levels → Leveled
@@ -67,20 +68,28 @@ abbrev mutual
   pub assigns_to : (entity : ℕ) → CoreCommand → Bool
   assigns_to entity (store r target value) = false
   assigns_to entity (assign depth other value) = entity == other
+  assigns_to entity (keep depth first values) = nat_le first entity && nat_lt entity (first + count_terms values)
   assigns_to entity (choose test chosen other) = any_assigns entity chosen || any_assigns entity other
 
   pub any_assigns : (entity : ℕ) → CoreCommands → Bool
   any_assigns entity no_commands = false
   any_assigns entity (command_and c cs) = assigns_to entity c || any_assigns entity cs
 
+-- the levels with those of the variables put so
+abbrev pub with_variables : Levels → (ℕ → ℕ) → Levels
+with_variables l variables = record { variables = variables; reads = l.reads; most = l.most }
+
+-- values that are kept: each variable has its own value's level, which it has for what stands behind all of them
+abbrev pub kept_leveled : (shared : ℕ → Option ℕ) → (outer : ℕ) → (first : ℕ) → CoreTerms → Levels → Levels
+kept_leveled shared outer first no_terms l = l
+kept_leveled shared outer first (term_and t ts) l =
+    with_variables (kept_leveled shared outer (suc first) ts (term_leveled shared outer t l).levels)
+    (with_value (kept_leveled shared outer (suc first) ts (term_leveled shared outer t l).levels).variables first (term_leveled shared outer t l).level)
+
 -- behind an `if`: what an arm assigns has the level of the test and of both arms' values
 abbrev pub arms_joined : (test : ℕ) → (chosen other : CoreCommands) → (before after_chosen after_other : ℕ → ℕ) → ℕ → ℕ
 arms_joined test chosen other before after_chosen after_other entity =
     if any_assigns entity chosen || any_assigns entity other then max test (max (after_chosen entity) (after_other entity)) else before entity
-
--- the levels with those of the variables put so
-abbrev pub with_variables : Levels → (ℕ → ℕ) → Levels
-with_variables l variables = record { variables = variables; reads = l.reads; most = l.most }
 
 -- the levels behind an `if`, from those behind its test and behind its arms: the second arm begins with the
 -- variables as they were before the first, and knows of its reads
@@ -93,6 +102,7 @@ abbrev mutual
   command_leveled shared outer (store r target value) l = (target_leveled shared outer target (term_leveled shared outer value l).levels).levels
   command_leveled shared outer (assign depth entity value) l =
       with_variables (term_leveled shared outer value l).levels (with_value (term_leveled shared outer value l).levels.variables entity (term_leveled shared outer value l).level)
+  command_leveled shared outer (keep depth first values) l = kept_leveled shared outer first values l
   command_leveled shared outer (choose test chosen other) l =
       choice_levels (term_leveled shared outer test l) chosen other
       (commands_leveled shared (max outer (term_leveled shared outer test l).level) chosen (term_leveled shared outer test l).levels)

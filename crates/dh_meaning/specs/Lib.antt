@@ -1,6 +1,7 @@
 pub mod Paths
 pub mod Bindings
 pub mod AccessNumbers
+pub mod Ways
 pub mod Sites
 pub mod Phases
 pub mod OnePhase

@@ -26,7 +26,7 @@ abbrev mutual
       is_within k n (term_accesses test) || (makes k (n + term_accesses test) chosen || other_makes k (n + term_accesses test + accesses_of chosen) other)
   form_makes k n (blocks body) = groups_make k n body
   form_makes k n (lets_memory name shape shape_places value) = false
-  form_makes k n (views name parent form) = false
+  form_makes k n (views name parent form) = is_within k n (own_accesses (views name parent form))
   form_makes k n (calls function arguments) = false
   form_makes k n (repeats test body) = false
   form_makes k n (counts iterator declared low high factor body combine combine_place) = false

@@ -1,10 +1,12 @@
 -- The phases of a command: what it does in each of its logical steps. Each command in a phase comes with where
 -- it stands: the number of its first access, and what is round it. A list has at most one stepped part for
--- now; views and calls are not built and have no phase.
+-- now. A view that moves is a straight command; another is a declaration alone and has no phase, nor have calls, which
+-- are not built.
 use Rattle.std.specs.Prelude.{ℕ, ◌+◌, ◌-◌, ◌/◌, ◌==◌, ◌&&◌, Bool, true, false, if◌then◌else◌, List, [], ◌∷◌, ◌++◌}
 use Rattle.dh_base.specs.declared.places.Place.{Place}
 use Rattle.dh_tree.specs.PlainTrees.{Action, action, ActionForm, lets, lets_memory, views, assigns, stores, reduces, calls, blocks, decides, repeats, counts, MaybeAction, no_action, one_action, Actions, no_actions, action_then, Groups, no_groups, group_then, Program}
 use Rattle.dh_meaning.specs.AccessNumbers.{term_accesses, accesses_of, part_accesses}
+use Rattle.dh_tree.specs.ViewOffsets.{moves}
 use Rattle.dh_meaning.specs.Sites.{Around, nothing_around, in_arm, in_loop, loop_of}
 
 -- a command where it stands
@@ -109,7 +111,7 @@ abbrev mutual
       (folded (phases (in_loop r (loop_of iterator low high factor)) n body) (other_phases (in_loop r (loop_of iterator low high factor)) (n + accesses_of body) combine))
   form_phases r n id place (blocks body) = groups_phases r n body
   form_phases r n id place (lets_memory name shape shape_places value) = []
-  form_phases r n id place (views name parent form) = []
+  form_phases r n id place (views name parent form) = if moves form then one_command (located r n (action id place (views name parent form))) else []
   form_phases r n id place (calls function arguments) = []
 
   pub other_phases : Around → (n : ℕ) → MaybeAction → List Phase

@@ -25,7 +25,7 @@ abbrev mutual
   pub command_meets : (unrolled : Bool) → (n : ℕ) → ActionForm → Meets
   command_meets unrolled n (lets name declared value) = row_of n (own_accesses (lets name declared value))
   command_meets unrolled n (lets_memory name shape shape_places value) = nothing
-  command_meets unrolled n (views name parent form) = nothing
+  command_meets unrolled n (views name parent form) = row_of n (own_accesses (views name parent form))
   command_meets unrolled n (assigns target value) = row_of n (own_accesses (assigns target value))
   command_meets unrolled n (stores target value) = row_of n (own_accesses (stores target value))
   command_meets unrolled n (reduces target op value) = row_of n (own_accesses (reduces target op value))

@@ -5,6 +5,8 @@ use Rattle.std.specs.Prelude.{ℕ, ◌+◌, ◌||◌, nat_lt, Bool, true, false,
 use Rattle.dh_base.specs.declared.places.Place.{Place}
 use Rattle.dh_tree.specs.declared.trees.expressions.Ref.{Ref}
 use Rattle.dh_tree.specs.declared.trees.counters.Counter.{Counter}
+use Rattle.dh_tree.specs.Seen.{terms}
+use Rattle.dh_tree.specs.ViewOffsets.{offsets_of}
 use Rattle.dh_meaning.specs.Sites.{Arm, Around, nothing_around, in_arm, in_loop, loop_of}
 use Rattle.dh_tree.specs.PlainTrees.{Term, term, TermForm, number, truth_value, named, accessed, in_bank, applied, converted, Terms, no_terms, term_then, Placed, Unrolled, Action, action, ActionForm, lets, lets_memory, views, assigns, stores, reduces, calls, blocks, decides, repeats, counts, MaybeAction, no_action, one_action, Actions, no_actions, action_then, Groups, no_groups, group_then, Program}
 
@@ -77,7 +79,7 @@ abbrev mutual
   pub command_events : Around → Site → ActionForm → List SourceEvent
   command_events r site (lets name declared value) = maybe_events site value ++ assigned name.entity ∷ []
   command_events r site (lets_memory name shape shape_places value) = []
-  command_events r site (views name parent form) = []
+  command_events r site (views name parent form) = terms_events site (terms (offsets_of form))
   command_events r site (assigns target value) = term_events site value ++ assigned target.entity ∷ []
   command_events r site (stores target value) = term_events site value ++ write_events site target
   command_events r site (reduces target op value) = term_events site value ++ assigned target.entity ∷ []

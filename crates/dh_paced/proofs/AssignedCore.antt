@@ -1,6 +1,6 @@
 -- The variables that a command assigns to are those that its straight commands in the core do; and what is asked of a
 -- command says of each of them that it is a target.
-use Rattle.std.proofs.Common.{◌≡◌, ◌⊎◌, inl, inr, ℕ, ◌+◌, true, false, Some, None, Option, refl, sym, ◌∙◌, subst}
+use Rattle.std.proofs.Common.{◌≡◌, ◌⊎◌, inl, inr, ℕ, ◌+◌, true, false, Some, None, Option, refl, ap, sym, ◌∙◌, subst}
 use Rattle.std.specs.Prelude.{Bool as Truth, ◌==◌, ◌||◌}
 use Rattle.std.proofs.lemmas.Bool.{eq-eqb, eqb-true}
 use Rattle.dh_tree.specs.PlainTrees as plain
@@ -13,6 +13,7 @@ use Rattle.dh_formed.specs.Timed.{Clocks, leveled}
 use Rattle.dh_expressions.specs.declared.scenes.Around.{Around}
 use Rattle.dh_expressions.specs.declared.scenes.Scene.{Scene}
 use Rattle.dh_expressions.specs.Evaluated.{known_in}
+use Rattle.dh_commands.proofs.CoreRuns.{view_rest}
 use Rattle.dh_paced.specs.Assigned.{IsAssignedIn, IsAssignedInGroups, IsAssignedInOther, IsAssignedInPart}
 use Rattle.dh_paced.specs.Paced.{action_levels, between_arms, part_levels}
 use Rattle.dh_paced.specs.Standing.{IsTarget, OwnsGroups, OwnsIn, OwnsOther, OwnsPart}
@@ -48,7 +49,10 @@ or_false false = refl
 untrue : false ≡ true → ⊥
 untrue h = cc
 
-module _ (known : Known) where
+module _ (scene : Scene) where
+  abbrev known : Known
+  known = known_in scene
+
   -- a store assigns to no variable
   store_assigns : (n e : ℕ) (target : Term) (value : _) → any_assigns e (core_action known n (action 0 (record { line = 0; column = 0 }) (stores target value)) no_commands) ≡ true → ⊥
   store_assigns n e (plain.term place k (plain.accessed r ts)) value h = untrue h
@@ -105,7 +109,7 @@ module _ (known : Known) where
         by (inr b) f g = inr (g b)
     true_assigned n e (action id place (blocks body)) h = true_groups n e body h
     true_assigned n e (action id place (lets_memory name shape shape_places value)) h = untrue h
-    true_assigned n e (action id place (views name parent form)) h = untrue h
+    true_assigned n e (action id place (views name parent form)) h = untrue (sym (ap (λ cs. any_assigns e cs) (view_rest scene n name parent form no_commands)) ∙ h)
     true_assigned n e (action id place (calls function arguments)) h = untrue h
     true_assigned n e (action id place (repeats test body)) h = untrue h
     true_assigned n e (action id place (counts iterator declared low high factor body combine combine_place)) h = untrue h

@@ -7,7 +7,7 @@ use Rattle.dh_tree.specs.declared.trees.expressions.Ref.{Ref}
 use Rattle.dh_tree.specs.Indices.{form_of}
 use Rattle.dh_tree.specs.PlainTrees as plain
 use Rattle.dh_tree.specs.PlainTrees.{Term, Action, action, ActionForm, lets, lets_memory, views, assigns, stores, reduces, calls, blocks, decides, repeats, counts, MaybeAction, no_action, one_action, Actions, no_actions, action_then, Groups, no_groups, group_then}
-use Rattle.dh_meaning.specs.AccessNumbers.{accesses_of, groups_accesses, other_accesses, part_accesses, term_accesses, terms_accesses}
+use Rattle.dh_meaning.specs.AccessNumbers.{accesses_of, groups_accesses, other_accesses, part_accesses, plan_accesses, term_accesses, terms_accesses}
 use Rattle.dh_meaning.specs.Core.{no_commands}
 use Rattle.dh_meaning.specs.CoreOf.{core_action, core_groups, core_other, core_part, entity_number}
 use Rattle.dh_meaning.specs.Levels.{Leveled, Levels, any_assigns, choice_levels, greatest, term_leveled, with_value, with_variables}
@@ -47,7 +47,7 @@ use Rattle.dh_paced.proofs.AssignedCore.{assigned_true, is_target, or_true, othe
 use Rattle.dh_paced.proofs.AssignmentsLogged.{HaveRoom, LeavesOf, arm_logged, based, behind_other, command_logged, other_logged, under_arm, values_at}
 use Rattle.dh_paced.proofs.CoreAppended.{action_then_levels, part_then_levels}
 use Rattle.dh_paced.proofs.LanesPaced.{assigned_paced, cleared_paced, reads_less, reduced_paced}
-use Rattle.dh_paced.proofs.LevelsOfCommands.{LevelsGo, action_go, assigned_levels, groups_go, other_go, part_go, reduced_core, reduced_leveled}
+use Rattle.dh_paced.proofs.LevelsOfCommands.{LevelsGo, action_go, assigned_levels, groups_go, other_go, part_go, reduced_core, reduced_leveled, stored_leveled, view_leveled}
 use Rattle.dh_paced.proofs.StoresPaced.{by_indices_paced, by_row_paced}
 use Rattle.dh_paced.proofs.TestsPaced.{TestsAt, TestsPaced, tests_paced}
 
@@ -156,11 +156,13 @@ module _ (c : Clocks) (scene : Scene) (top : Around) (spaces : ℕ) (shared : �
         → Pace old new (action_levels (known_in scene) shared outer n (action 0 (record { line = 0; column = 0 }) (stores target t)) l) (n + ((term_accesses t + term_accesses target) + 0))
     stored_here (plain.term place k (plain.accessed r ts)) t m few suits own reads =
         paces_to old new _ (n + (term_accesses t + (terms_accesses ts + 1))) (n + ((term_accesses t + suc (terms_accesses ts)) + 0)) (omega arith)
+        (paces_as old new _ _ (n + (term_accesses t + (terms_accesses ts + 1))) (sym (stored_leveled scene shared outer n place k r ts t l))
         (by_indices_paced c scene top spaces shared Variable Read Own g around outer n l old s t own.0 place k r ts own.1.0 own.1.1 (omega (arith, few))
-        (reads_less c (all_leveled scene shared outer (n + term_accesses t) ts (leveled scene shared outer n t l).levels).levels (n + term_accesses t + terms_accesses ts) (n + ((term_accesses t + suc (terms_accesses ts)) + 0)) (omega arith) reads) new next
+        (reads_less c (all_leveled scene shared outer (n + term_accesses t) ts (leveled scene shared outer n t l).levels).levels (n + term_accesses t + terms_accesses ts) (n + ((term_accesses t + suc (terms_accesses ts)) + 0)) (omega arith)
+        (subst (λ (x : Levels). ReadsAgree c x (n + ((term_accesses t + suc (terms_accesses ts)) + 0))) (stored_leveled scene shared outer n place k r ts t l) reads)) new next
         (subst (λ (i : ℕ). StoredTo scene around i (plain.term place k (plain.accessed r ts)) t (paths_counted top) old new next) same
         (subst (λ (i : ℕ). StoredTo scene around first (plain.term place k (plain.accessed r ts)) t i old new next) s.under.counted m)) agrees agree
-        (λ i within. subst (λ (j : ℕ). StoreSuits c.block scene around j (plain.term place k (plain.accessed r ts)) t) same suits i (within_around i within)))
+        (λ i within. subst (λ (j : ℕ). StoreSuits c.block scene around j (plain.term place k (plain.accessed r ts)) t) same suits i (within_around i within))))
     stored_here (plain.term place k (plain.in_bank r bank at row)) t m few suits own reads =
         paces_to old new _ (n + (term_accesses t + (term_accesses row + 1))) (n + ((term_accesses t + suc (term_accesses row)) + 0)) (omega arith)
         (by_row_paced c scene top spaces shared Variable Read Own g around outer n l old s t own.0 place at k r bank row own.1.0 own.1.1 (omega (arith, few))
@@ -467,8 +469,8 @@ module _ (c : Clocks) (scene : Scene) (top : Around) (spaces : ℕ) (shared : �
           by e (inr is) = other_targets e is
 
           split : (e : ℕ) → (any_assigns e (core_action (known_in scene) n1 chosen no_commands) ≡ true) ⊎ (any_assigns e (core_other (known_in scene) n2 other) ≡ true) → IsAssignedIn chosen e ⊎ IsAssignedInOther other e
-          split e (inl is) = inl (true_assigned (known_in scene) n1 e chosen is)
-          split e (inr is) = inr (true_other (known_in scene) n2 e other is)
+          split e (inl is) = inl (true_assigned scene n1 e chosen is)
+          split e (inr is) = inr (true_other scene n2 e other is)
 
           assigned_by : (e : ℕ) → (any_assigns e (core_action (known_in scene) n1 chosen no_commands) || any_assigns e (core_other (known_in scene) n2 other)) ≡ true → IsAssignedIn chosen e ⊎ IsAssignedInOther other e
           assigned_by e is = split e (true_or (any_assigns e (core_action (known_in scene) n1 chosen no_commands)) (any_assigns e (core_other (known_in scene) n2 other)) is)
@@ -478,8 +480,8 @@ module _ (c : Clocks) (scene : Scene) (top : Around) (spaces : ℕ) (shared : �
           clash false p q = cc
 
           never : (e : ℕ) → (any_assigns e (core_action (known_in scene) n1 chosen no_commands) || any_assigns e (core_other (known_in scene) n2 other)) ≡ false → IsAssignedIn chosen e ⊎ IsAssignedInOther other e → ⊥
-          never e isnt (inl is) = clash _ isnt (or_true _ _ (inl (assigned_true (known_in scene) n1 e chosen is)))
-          never e isnt (inr is) = clash _ isnt (or_true _ _ (inr (other_true (known_in scene) n2 e other is)))
+          never e isnt (inl is) = clash _ isnt (or_true _ _ (inl (assigned_true scene n1 e chosen is)))
+          never e isnt (inr is) = clash _ isnt (or_true _ _ (inr (other_true scene n2 e other is)))
 
   -- All commands.
 
@@ -540,7 +542,8 @@ module _ (c : Clocks) (scene : Scene) (top : Around) (spaces : ℕ) (shared : �
         (groups_paced body around old new first next m n same reaches (omega (arith, few)) suits outer l s own
         (reads_less c (groups_levels (known_in scene) shared outer n body l) (n + groups_accesses body) (n + (0 + groups_accesses body)) (omega arith) reads) agrees agree)
     command_paced (action id place (lets_memory name shape shape_places value)) around old new first next m n same reaches few suits outer l s own reads agrees agree = still_paced around old new outer n 0 l m.still (λ i h read. none_in n i h read) s
-    command_paced (action id place (views name parent form)) around old new first next m n same reaches few suits outer l s own reads agrees agree = still_paced around old new outer n 0 l m.still (λ i h read. none_in n i h read) s
+    command_paced (action id place (views name parent form)) around old new first next m n same reaches few suits outer l s own reads agrees agree =
+        paces_as old new l _ (n + (plan_accesses form + 0)) (sym (view_leveled scene shared outer n name parent form l)) (still_paced around old new outer n (plan_accesses form + 0) l m.still (λ i h read. own i h read) s)
     command_paced (action id place (calls function arguments)) around old new first next m n same reaches few suits outer l s own reads agrees agree = still_paced around old new outer n 0 l m.still (λ i h read. none_in n i h read) s
     command_paced (action id place (repeats test body)) around old new first next m n same reaches few suits outer l s own reads agrees agree =
         still_paced around old new outer n (term_accesses test + accesses_of body) l m.still (λ i h read. own i h read) s

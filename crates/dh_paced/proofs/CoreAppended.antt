@@ -3,9 +3,12 @@
 use Rattle.std.proofs.Common.{◌≡◌, ℕ, ◌+◌, Option, refl, ap, sym, ◌∙◌}
 use Rattle.std.specs.Prelude.{Bool as Truth, true, false, ◌||◌, List, [], ◌∷◌}
 use Rattle.dh_tree.specs.PlainTrees.{Action, action, lets, lets_memory, views, assigns, stores, reduces, calls, blocks, decides, repeats, counts, Actions, no_actions, action_then, Groups, no_groups, group_then}
+use Rattle.dh_tree.specs.Seen.{terms}
+use Rattle.dh_tree.specs.ViewOffsets.{offsets_of}
 use Rattle.dh_meaning.specs.AccessNumbers.{accesses_of, part_accesses}
-use Rattle.dh_meaning.specs.Core.{CoreCommands, no_commands, command_and}
-use Rattle.dh_meaning.specs.CoreOf.{Known, core_action, core_commands, core_groups, core_part}
+use Rattle.dh_meaning.specs.Core.{CoreTerms, no_terms, term_and, CoreCommands, no_commands, command_and}
+use Rattle.dh_meaning.specs.CoreOf.{Known, core_action, core_commands, core_groups, core_part, core_terms, kept_by, way_of}
+use Rattle.dh_meaning.specs.Ways.{Hidden, hidden_in}
 use Rattle.dh_meaning.specs.Levels.{Levels, any_assigns, assigns_to, command_leveled, commands_leveled}
 use Rattle.dh_meaning.specs.Phases.{Located}
 use Rattle.dh_plan.specs.PlanPhases.{command_mentions, commands_mention}
@@ -19,6 +22,11 @@ appended_again : (a b c : CoreCommands) → appended (appended a b) c ≡ append
 appended_again no_commands b c = refl
 appended_again (command_and d ds) b c = ap (λ (es : CoreCommands). command_and d es) (appended_again ds b c)
 
+kept_appended : (hidden : List Hidden) (ts : CoreTerms) (rest : CoreCommands) → kept_by hidden ts rest ≡ appended (kept_by hidden ts no_commands) rest
+kept_appended hidden no_terms rest = refl
+kept_appended [] (term_and t ts) rest = refl
+kept_appended (h ∷ hs) (term_and t ts) rest = refl
+
 module _ (known : Known) where
   mutual
     pub action_appended : (n : ℕ) (a : Action) (rest : CoreCommands) → core_action known n a rest ≡ appended (core_action known n a no_commands) rest
@@ -29,7 +37,7 @@ module _ (known : Known) where
     action_appended n (action id place (decides test chosen other)) rest = refl
     action_appended n (action id place (blocks body)) rest = groups_appended n body rest
     action_appended n (action id place (lets_memory name shape shape_places value)) rest = refl
-    action_appended n (action id place (views name parent form)) rest = refl
+    action_appended n (action id place (views name parent form)) rest = kept_appended (hidden_in (way_of known name)) (core_terms known n (terms (offsets_of form))) rest
     action_appended n (action id place (calls function arguments)) rest = refl
     action_appended n (action id place (repeats test body)) rest = refl
     action_appended n (action id place (counts iterator declared low high factor body combine combine_place)) rest = refl

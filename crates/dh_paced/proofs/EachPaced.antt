@@ -26,12 +26,12 @@ use Rattle.dh_commands.specs.LanesRun.{paths_counted}
 use Rattle.dh_commands.specs.MadeCommands.{MadeCommand}
 use Rattle.dh_laid.specs.BareCommands.{AreRising}
 use Rattle.dh_laid.specs.BlockSites.{MadeEach}
-use Rattle.dh_laid.specs.LaidCommands.{CommandSuits, FormsCommand}
+use Rattle.dh_laid.specs.LaidCommands.{CommandSuits, EachSuits, FormsCommand}
 use Rattle.dh_laid.specs.LaidNumbers.{StoresReach}
 use Rattle.dh_laid.proofs.CommandsLaid.{command_forms}
 use Rattle.dh_laid.proofs.CommandsNumbered.{command_reached}
 use Rattle.dh_laid.proofs.PathsLaid.{extends_same}
-use Rattle.dh_paced.specs.BlockLengths.{AssignsOwn, EachSuits}
+use Rattle.dh_paced.specs.BlockLengths.{AssignsOwn}
 use Rattle.dh_paced.specs.Paced.{IsIn, IsOfEach, IsReadIn, IsReadOfEach, action_levels, each_levels, outer_each, outer_in}
 use Rattle.dh_paced.specs.Standing.{HaveGivenTo, IsGround, Paces, StandsFor}
 use Rattle.dh_paced.proofs.CommandsPaced.{both_paced, command_paced, stands_then}

@@ -1,21 +1,26 @@
 -- The levels behind a command: of reads those of its own alone are others, and the greatest level is no more than it was,
 -- or than that of one of these reads. By recursion on the command.
-use Rattle.std.proofs.Common.{◌≡◌, ◌⊎◌, inl, inr, ℕ, suc, ◌+◌, ◌<◌, ◌≤◌, Some, None, Option, refl, sym, ◌∙◌, subst, arith}
+use Rattle.std.proofs.Common.{◌≡◌, ◌⊎◌, inl, inr, ℕ, suc, ◌+◌, ◌<◌, ◌≤◌, Some, None, Option, refl, ap, sym, ◌∙◌, subst, arith}
 use Rattle.std.specs.Prelude.{Bool as Truth, true, false, ◌==◌, ◌||◌, if◌then◌else◌, max}
 use Rattle.dh_value.specs.declared.operators.Op.{Op}
 use Rattle.dh_tree.specs.declared.trees.expressions.Ref.{Ref}
 use Rattle.dh_tree.specs.Indices.{form_of}
 use Rattle.dh_tree.specs.PlainTrees as plain
 use Rattle.dh_tree.specs.PlainTrees.{Term, Action, action, ActionForm, lets, lets_memory, views, assigns, stores, reduces, calls, blocks, decides, repeats, counts, MaybeAction, no_action, one_action, Actions, no_actions, action_then, Groups, no_groups, group_then}
-use Rattle.dh_meaning.specs.AccessNumbers.{accesses_of, groups_accesses, other_accesses, part_accesses, term_accesses, terms_accesses}
+use Rattle.dh_base.specs.declared.places.Place.{Place}
+use Rattle.dh_value.specs.declared.kinds.Kind.{Kind}
+use Rattle.dh_meaning.specs.AccessNumbers.{accesses_of, groups_accesses, other_accesses, part_accesses, plan_accesses, term_accesses, terms_accesses}
 use Rattle.dh_meaning.specs.Bindings.{kind_found}
-use Rattle.dh_meaning.specs.Core.{CoreCommands, CoreTerm, no_commands, variable}
-use Rattle.dh_meaning.specs.CoreOf.{core_action, core_groups, core_other, core_part, core_term, depth_of, entity_number, kind_of, operation_of, store_to}
-use Rattle.dh_meaning.specs.Levels.{Leveled, Levels, any_assigns, arms_joined, choice_levels, command_leveled, greatest, term_leveled, with_value, with_variables}
+use Rattle.dh_meaning.specs.Core.{CoreCommands, CoreTerm, no_commands, store, variable}
+use Rattle.dh_meaning.specs.CoreOf.{core_action, core_action_form, core_groups, core_other, core_part, core_term, core_terms, depth_of, entity_number, kind_of, operation_of, reach_of, store_to, target_to}
+use Rattle.dh_meaning.specs.Levels.{Leveled, Levels, any_assigns, arms_joined, choice_levels, command_leveled, commands_leveled, greatest, term_leveled, with_value, with_variables}
+use Rattle.dh_meaning.specs.Ways.{Way}
+use Rattle.dh_code.proofs.CommandsFlattened.{no_way}
 use Rattle.dh_expressions.specs.declared.scenes.Scene.{Scene}
 use Rattle.dh_expressions.specs.Evaluated.{known_in}
-use Rattle.dh_formed.specs.Timed.{AreBounded, LevelsThen, leveled}
+use Rattle.dh_formed.specs.Timed.{AreBounded, LevelsThen, all_leveled, leveled}
 use Rattle.dh_formed.proofs.LevelsBehind.{all_levels_behind, levels_behind, operation_leveled}
+use Rattle.dh_commands.proofs.CoreRuns.{view_rest}
 use Rattle.dh_laid.specs.Laid.{aim_accesses}
 use Rattle.dh_laid.specs.LaidNumbers.{IsAccessForm, StoresReach, StoresReachGroups, StoresReachOther, StoresReachPart}
 use Rattle.dh_paced.specs.Paced.{IsIn, IsReadIn, IsReadGroups, IsReadOther, IsReadPart, action_levels, between_arms, groups_levels, other_levels, part_levels}
@@ -158,6 +163,18 @@ reduced_core scene first r op value =
     operation_of op (kind_of (known_in scene) r) (kind_found value) (variable (kind_of (known_in scene) r) (depth_of (known_in scene) r) (entity_number r.entity)) (core_term (known_in scene) first value)
 
 module _ (scene : Scene) (shared : ℕ → Option ℕ) where
+  -- no name has a way: a store has the levels of its value and then those of its indices, and a view leaves them
+  pub stored_leveled : (outer first : ℕ) (place : Place) (k : Option Kind) (r : Ref) (ts : plain.Terms) (value : Term) (l : Levels)
+      → command_leveled shared outer (store_to (known_in scene) (first + term_accesses value) (plain.term place k (plain.accessed r ts)) (core_term (known_in scene) first value)) l
+      ≡ (all_leveled scene shared outer (first + term_accesses value) ts (leveled scene shared outer first value l).levels).levels
+  stored_leveled outer first place k r ts value l =
+      ap (λ (w : Option Way). command_leveled shared outer
+      (store (reach_of (known_in scene) (first + term_accesses value + terms_accesses ts) place r) (target_to w (core_terms (known_in scene) (first + term_accesses value) ts)) (core_term (known_in scene) first value)) l)
+      (no_way (known_in scene).memories r.entity)
+
+  pub view_leveled : (outer first : ℕ) (name parent : Ref) (form : plain.ViewPlan) (l : Levels) → commands_leveled shared outer (core_action_form (known_in scene) first (views name parent form) no_commands) l ≡ l
+  view_leveled outer first name parent form l = ap (λ cs. commands_leveled shared outer cs l) (view_rest scene first name parent form no_commands)
+
   pub reduced_leveled : (outer first : ℕ) (r : Ref) (op : Op) (value : Term) (l : Levels)
       → greatest (l.variables (entity_number r.entity)) (leveled scene shared outer first value l) ≡ term_leveled shared outer (reduced_core scene first r op value) l
   reduced_leveled outer first r op value l =
@@ -205,8 +222,9 @@ module _ (scene : Scene) (shared : ℕ → Option ℕ) where
       → Go (IsIn first (term_accesses value + aim_accesses (form_of target))) first ((term_accesses value + term_accesses target) + 0) l
       (command_leveled shared outer (store_to (known_in scene) (first + term_accesses value) target (core_term (known_in scene) first value)) l)
   stored_go outer first (plain.term place k (plain.accessed r ts)) value l is =
-      stored_two first (term_accesses value) (terms_accesses ts) (suc (terms_accesses ts)) l _ _ (levels_taken first (term_accesses value) l (leveled scene shared outer first value l) (levels_behind scene shared outer value first l))
-      (levels_taken (first + term_accesses value) (terms_accesses ts) _ _ (all_levels_behind scene shared outer ts (first + term_accesses value) (leveled scene shared outer first value l).levels)) (omega arith)
+      levels_made _ first ((term_accesses value + suc (terms_accesses ts)) + 0) l _ _ (sym (stored_leveled outer first place k r ts value l))
+      (stored_two first (term_accesses value) (terms_accesses ts) (suc (terms_accesses ts)) l _ _ (levels_taken first (term_accesses value) l (leveled scene shared outer first value l) (levels_behind scene shared outer value first l))
+      (levels_taken (first + term_accesses value) (terms_accesses ts) _ _ (all_levels_behind scene shared outer ts (first + term_accesses value) (leveled scene shared outer first value l).levels)) (omega arith))
   stored_go outer first (plain.term place k (plain.in_bank r bank at row)) value l is =
       stored_two first (term_accesses value) (term_accesses row) (suc (term_accesses row)) l _ _ (levels_taken first (term_accesses value) l (leveled scene shared outer first value l) (levels_behind scene shared outer value first l))
       (levels_taken (first + term_accesses value) (term_accesses row) _ _ (levels_behind scene shared outer row (first + term_accesses value) (leveled scene shared outer first value l).levels)) (omega arith)
@@ -274,7 +292,8 @@ module _ (scene : Scene) (shared : ℕ → Option ℕ) where
         (λ k. other_go (max outer (leveled scene shared outer first test l).level) (first + term_accesses test + accesses_of chosen) other k s.1)
     action_go outer first (action id place (blocks body)) l s = levels_as _ first (groups_accesses body) (0 + groups_accesses body) l _ (omega arith) (groups_go outer first body l s)
     action_go outer first (action id place (lets_memory name shape shape_places value)) l s = levels_none _ first 0 l
-    action_go outer first (action id place (views name parent form)) l s = levels_none _ first 0 l
+    action_go outer first (action id place (views name parent form)) l s =
+        levels_made _ first (plan_accesses form + 0) l l _ (sym (view_leveled outer first name parent form l)) (levels_none _ first (plan_accesses form + 0) l)
     action_go outer first (action id place (calls function arguments)) l s = levels_none _ first 0 l
     action_go outer first (action id place (repeats test body)) l s = levels_none _ first (term_accesses test + accesses_of body) l
     action_go outer first (action id place (counts iterator declared low high factor body combine combine_place)) l s = levels_none _ first (0 + (accesses_of body + other_accesses combine)) l

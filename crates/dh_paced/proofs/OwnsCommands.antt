@@ -5,7 +5,7 @@ use Rattle.std.proofs.lemmas.Bool.Decides.{nat_tests}
 use Rattle.dh_tree.specs.Indices.{form_of}
 use Rattle.dh_tree.specs.PlainTrees as plain
 use Rattle.dh_tree.specs.PlainTrees.{Term, Action, action, ActionForm, lets, lets_memory, views, assigns, stores, reduces, calls, blocks, decides, repeats, counts, MaybeAction, no_action, one_action, Actions, no_actions, action_then, Groups, no_groups, group_then}
-use Rattle.dh_meaning.specs.AccessNumbers.{accesses_of, groups_accesses, other_accesses, part_accesses, term_accesses, terms_accesses}
+use Rattle.dh_meaning.specs.AccessNumbers.{accesses_of, groups_accesses, other_accesses, part_accesses, plan_accesses, term_accesses, terms_accesses}
 use Rattle.dh_meaning.specs.Bindings.{kind_found}
 use Rattle.dh_meaning.specs.Core.{CoreCommands, CoreTerm, assign, choose, command_and, no_commands, variable}
 use Rattle.dh_meaning.specs.CoreOf.{core_action, core_groups, core_other, core_part, core_term, core_terms, depth_of, entity_number, kind_of, operation_of, store_to}
@@ -17,6 +17,7 @@ use Rattle.dh_expressions.specs.declared.scenes.Scene.{Scene}
 use Rattle.dh_expressions.specs.Evaluated.{known_in}
 use Rattle.dh_formed.specs.Timed.{Clocks, leveled}
 use Rattle.dh_formed.proofs.TermsCounted.{itself, left_of, operation_mentions, right_of}
+use Rattle.dh_formed.proofs.Unled.{unled_mentions}
 use Rattle.dh_laid.specs.Laid.{aim_accesses}
 use Rattle.dh_laid.specs.LaidNumbers.{IsAccessForm, StoresReach, StoresReachGroups, StoresReachOther, StoresReachPart}
 use Rattle.dh_paced.specs.BlockLengths.{AssignsOwn, AssignsOwnGroups, AssignsOwnOther, AssignsOwnPart}
@@ -91,10 +92,12 @@ module _ (c : Clocks) (scene : Scene) (top : Around) (spaces : ℕ) (shared : �
       → OwnsTerm c scene top spaces shared Variable Read Own outer first t × OwnsTarget c scene top spaces shared Variable Read Own outer (first + term_accesses t) (form_of target)
   stored_own outer first (plain.term place k (plain.accessed r ts)) t is h = (
     term_own outer first 0 ((term_accesses t + suc (terms_accesses ts)) + 0) first t (λ m. outer) _ _ _ h (omega arith) (omega arith) (λ m among. within m first (term_accesses t + suc (terms_accesses ts)) (let f = among.0 in let b = among.1 in (omega (arith, f), omega (arith, b)))) (λ m among. refl)
-        (λ e mentioned. or_none _ (left_of (term_mentions e (core_term (known_in scene) first t)) (terms_mention e (core_terms (known_in scene) (first + term_accesses t) ts)) mentioned)),
+        (λ e mentioned. or_none _ (left_of (term_mentions e (core_term (known_in scene) first t)) (term_mentions e (core_term (known_in scene) (first + term_accesses t) (plain.term place k (plain.accessed r ts)))) mentioned)),
     (
       terms_own outer first ((term_accesses t + suc (terms_accesses ts)) + 0) (first + term_accesses t) ts (λ m. outer) _ _ _ h (omega arith) (omega arith) (λ m among. within m first (term_accesses t + suc (terms_accesses ts)) (let f = among.0 in let b = among.1 in (omega (arith, f), omega (arith, b)))) (λ m among. refl)
-          (λ e mentioned. or_none _ (right_of (term_mentions e (core_term (known_in scene) first t)) (terms_mention e (core_terms (known_in scene) (first + term_accesses t) ts)) mentioned)),
+          (λ e mentioned. or_none _
+          (right_of (term_mentions e (core_term (known_in scene) first t)) (term_mentions e (core_term (known_in scene) (first + term_accesses t) (plain.term place k (plain.accessed r ts))))
+          (unled_mentions scene (first + term_accesses t) place k r ts e ∙ mentioned))),
       record {
         own = h.own (first + term_accesses t + terms_accesses ts) (within _ first (term_accesses t + suc (terms_accesses ts)) (omega arith, omega arith));
         outer_is = h.outer_is (first + term_accesses t + terms_accesses ts) (omega arith, omega arith);
@@ -222,8 +225,8 @@ module _ (c : Clocks) (scene : Scene) (top : Around) (spaces : ℕ) (shared : �
         second_known n1 (accesses_of chosen) (other_accesses other) outer_chosen outer_second (IsReadIn n1 chosen) (IsReadOther n2 other) (λ m. makes m n1 chosen) (λ m. other_makes m n2 other) (appended core_chosen core_second) core_chosen core_second (λ e. appended_mentions e core_chosen core_second)
         (λ m p. read_in n1 chosen m p reaches.0) (arms_known h)
 
-  none_read : (first count : ℕ) (outers : (m : ℕ) → ℕ) (cs : CoreCommands) → Knows first count outers (λ m. ⊥) (λ m. false) cs → (m : ℕ) → IsIn first count m → Read m → ⊥
-  none_read first count outers cs h m i read = h.reads m read i
+  none_read : (first count : ℕ) (outers : (m : ℕ) → ℕ) (made : ℕ → Truth) (cs : CoreCommands) → Knows first count outers (λ m. ⊥) made cs → (m : ℕ) → IsIn first count m → Read m → ⊥
+  none_read first count outers made cs h m i read = h.reads m read i
 
   mutual
     pub owns_in : (outer first : ℕ) (a : Action) (l : Levels) → StoresReach a → AssignsOwn scene top first a
@@ -253,11 +256,12 @@ module _ (c : Clocks) (scene : Scene) (top : Around) (spaces : ℕ) (shared : �
     owns_in outer first (action id place (blocks body)) l s a h =
         owns_groups outer first body l s a (known_as first (0 + groups_accesses body) (groups_accesses body) (λ m. outer_groups (known_in scene) shared outer first body l m) (IsReadGroups first body) (λ m. groups_make m first body) (core_groups (known_in scene) first body no_commands) (omega arith) h)
     owns_in outer first (action id place (lets_memory name shape shape_places value)) l s a h = tt
-    owns_in outer first (action id place (views name parent form)) l s a h = tt
+    owns_in outer first (action id place (views name parent form)) l s a h =
+        none_read first (plan_accesses form + 0) (λ m. outer) (λ m. makes m first (action id place (views name parent form))) (core_action (known_in scene) first (action id place (views name parent form)) no_commands) h
     owns_in outer first (action id place (calls function arguments)) l s a h = tt
-    owns_in outer first (action id place (repeats test body)) l s a h = none_read first (term_accesses test + accesses_of body) (λ m. outer) no_commands h
+    owns_in outer first (action id place (repeats test body)) l s a h = none_read first (term_accesses test + accesses_of body) (λ m. outer) (λ m. false) no_commands h
     owns_in outer first (action id place (counts iterator declared low high factor body combine combine_place)) l s a h =
-        λ m i read. none_read first (0 + (accesses_of body + other_accesses combine)) (λ m. outer) no_commands h m (i.0, let b = i.1 in omega (arith, b)) read
+        λ m i read. none_read first (0 + (accesses_of body + other_accesses combine)) (λ m. outer) (λ m. false) no_commands h m (i.0, let b = i.1 in omega (arith, b)) read
 
     pub owns_other : (outer first : ℕ) (other : MaybeAction) (l : Levels) → StoresReachOther other → AssignsOwnOther scene top first other
         → Knows first (other_accesses other) (λ m. outer_other (known_in scene) shared outer first other l m) (IsReadOther first other) (λ m. other_makes m first other) (core_other (known_in scene) first other) → OwnsOther c scene top spaces shared Variable Read Own outer first other l

@@ -13,10 +13,10 @@ use Rattle.dh_formed.specs.Formed.{Site}
 use Rattle.dh_commands.specs.declared.buildings.Building.{Building}
 use Rattle.dh_commands.specs.declared.choices.Left.{Left}
 use Rattle.dh_commands.specs.MadeCommands.{MadeActions, MadeCommand, MadeGroups, MadeOther}
-use Rattle.dh_laid.specs.BlockSites.{MadeEach, actions_sites, all_there, block_sites, command_sites, groups_sites, other_sites, places_from, site_or, target_sites, term_sites, test_sites}
+use Rattle.dh_laid.specs.BlockSites.{HasSites, MadeEach, actions_sites, all_there, block_sites, command_sites, groups_sites, other_sites, places_from, site_or, target_sites, term_sites, test_sites}
 use Rattle.dh_laid.specs.Laid.{aim_accesses}
 use Rattle.dh_laid.specs.LaidNumbers.{StoresReach, StoresReachGroups, StoresReachOther, StoresReachPart}
-use Rattle.dh_laid.proofs.SitesLaid.{HasSites, PlacesAgree, actions_sites_long, all_sites, command_sites_long, places_behind, places_front, places_own, sites_own, target_sites_long, term_sites_long, test_places_long, two_long}
+use Rattle.dh_laid.proofs.SitesLaid.{PlacesAgree, actions_sites_long, all_sites, command_sites_long, places_behind, places_front, places_own, sites_own, target_sites_long, term_sites_long, test_places_long, two_long}
 use Rattle.dh_paced.specs.Paced.{IsIn, IsReadGroups, IsReadIn, IsReadOfEach, IsReadOther, IsReadPart}
 use Rattle.dh_paced.proofs.LevelsOfCommands.{aims_fewer}
 

@@ -1,5 +1,5 @@
 -- A block of straight commands is as long as its phase, and that of a test; from what stands as it begins.
-use Rattle.std.specs.Prelude.{◌≡◌, ◌⊎◌, ℕ, ◌+◌, ◌<◌, ◌≤◌, ◌^◌, true, false, List, [], ◌∷◌, length, slice_get, Option, Some, None}
+use Rattle.std.specs.Prelude.{◌≡◌, ◌⊎◌, ℕ, ◌+◌, ◌<◌, ◌≤◌, ◌^◌, true, false, List, length, slice_get, Option, Some, None}
 use Rattle.std.specs.List.{AllByRecursion}
 use Rattle.dh_tree.specs.PlainTrees.{Term, Action, action, ActionForm, lets, lets_memory, views, assigns, stores, reduces, calls, blocks, decides, repeats, counts, MaybeAction, no_action, one_action, Actions, no_actions, action_then, Groups, no_groups, group_then}
 use Rattle.dh_meaning.specs.AccessNumbers.{accesses_of, part_accesses, term_accesses}
@@ -28,7 +28,7 @@ use Rattle.dh_commands.specs.ShownVariables.{register_in}
 use Rattle.dh_laid.specs.BareCommands.{AreRising}
 use Rattle.dh_laid.specs.BlockSites.{MadeEach, block_sites, test_sites}
 use Rattle.dh_laid.specs.Laid.{StandsRound}
-use Rattle.dh_laid.specs.LaidCommands.{CommandSuits, StandsHeld, TestSuits}
+use Rattle.dh_laid.specs.LaidCommands.{EachSuits, StandsHeld, TestSuits}
 use Rattle.dh_laid.specs.LaidNumbers.{StoresReach}
 use Rattle.dh_paced.specs.Paced.{IsIn, IsReadOfEach}
 
@@ -103,11 +103,6 @@ pub record IsWholeBut (plan : PlainPlan) (block : ℕ) (old new end : Draft) : T
   pub ordered : IsOrdered (first_in plan block) (operations_in plan block)
   pub extends : Extends new end
   pub unread : (n : ℕ) (o : Operation) → length new.operations.items ≤ n → slice_get end.operations.items n ≡ Some o → is_read o.form ≡ false
-
--- commands of a block suit each
-abbrev pub EachSuits : (x : Block) (scene : Scene) (around : Around) (cs : List Located) (old new : Building) → MadeEach scene around cs old new → Type 0
-EachSuits x scene around [] old new m = Unit {0}
-EachSuits x scene around (c ∷ cs) old new (mid, (next, (m, rest))) = CommandSuits x scene c.command around old mid c.first next m × EachSuits x scene around cs mid new rest
 
 -- A block of straight commands.
 pub record IsStraightPaced (plan : PlainPlan) (block : ℕ) (scene : Scene) (around : Around) (spaces : ℕ) (shared : ℕ → Option ℕ) (cs : List Located) (old new : Building) (end : Draft) (m : MadeEach scene around cs old new) : Type 0 where

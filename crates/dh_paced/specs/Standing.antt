@@ -4,7 +4,7 @@ use Rattle.std.specs.Prelude.{◌≡◌, ◌⊎◌, ℕ, ◌+◌, ◌<◌, ◌�
 use Rattle.dh_tree.specs.Indices.{form_of}
 use Rattle.dh_tree.specs.PlainTrees as plain
 use Rattle.dh_tree.specs.PlainTrees.{Term, Action, action, ActionForm, lets, lets_memory, views, assigns, stores, reduces, calls, blocks, decides, repeats, counts, MaybeAction, no_action, one_action, Actions, no_actions, action_then, Groups, no_groups, group_then}
-use Rattle.dh_meaning.specs.AccessNumbers.{accesses_of, other_accesses, part_accesses, term_accesses, terms_accesses}
+use Rattle.dh_meaning.specs.AccessNumbers.{accesses_of, other_accesses, part_accesses, plan_accesses, term_accesses, terms_accesses}
 use Rattle.dh_meaning.specs.CoreOf.{core_term, core_terms, entity_number}
 use Rattle.dh_meaning.specs.Levels.{Levels}
 use Rattle.dh_plan.specs.PlanPhases.{term_mentions, terms_mention}
@@ -95,9 +95,9 @@ module _ (c : Clocks) (scene : Scene) (top : Around) (spaces : ℕ) (shared : �
         × OwnsOther (max outer (leveled scene shared outer first test l).level) (first + term_accesses test + accesses_of chosen) other (between_arms (known_in scene) shared outer first test chosen l))
     OwnsBy outer first (blocks body) l = OwnsGroups outer first body l
     OwnsBy outer first (lets_memory name shape shape_places value) l = Unit {0}
-    OwnsBy outer first (views name parent form) l = Unit {0}
+    -- no access of a view is put down, nor of a loop without turns
+    OwnsBy outer first (views name parent form) l = (m : ℕ) → IsIn first (plan_accesses form + 0) m → Read m → ⊥
     OwnsBy outer first (calls function arguments) l = Unit {0}
-    -- no access of a loop without turns is put down
     OwnsBy outer first (repeats test body) l = (m : ℕ) → IsIn first (term_accesses test + accesses_of body) m → Read m → ⊥
     OwnsBy outer first (counts iterator declared low high factor body combine combine_place) l = (m : ℕ) → IsIn first (accesses_of body + other_accesses combine) m → Read m → ⊥
 

@@ -7,4 +7,5 @@ pub mod RoundsTop
 pub mod ReachingPhases
 pub mod SlotsTold
 pub mod BlocksMade
+pub mod NodesTied
 pub mod PhasesDone

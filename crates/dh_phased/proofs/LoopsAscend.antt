@@ -5,7 +5,7 @@ use Rattle.dh_tree.specs.declared.trees.counters.Counter.{Counter}
 use Rattle.dh_tree.specs.declared.trees.programs.Sort.TheVariants.{Variable, Iterator, View}
 use Rattle.dh_tree.specs.declared.trees.programs.Sort.TheVariants.{Memory as MemorySort}
 use Rattle.dh_tree.specs.Counters.{counters, form_counters, other_counters, groups_counters, part_counters}
-use Rattle.dh_tree.specs.PlainTrees.{Action, action, ActionForm, lets, lets_memory, views, assigns, stores, reduces, calls, blocks, decides, repeats, counts, MaybeAction, no_action, one_action, Actions, no_actions, action_then, Groups, no_groups, group_then}
+use Rattle.dh_tree.specs.PlainTrees.{shrinks, splits, suffixes, shifts, Action, action, ActionForm, lets, lets_memory, views, assigns, stores, reduces, calls, blocks, decides, repeats, counts, MaybeAction, no_action, one_action, Actions, no_actions, action_then, Groups, no_groups, group_then}
 use Rattle.dh_tree.specs.Resolved.{resolved_action, resolved_form, resolved_other, resolved_actions, resolved_groups}
 use Rattle.dh_tree.specs.Scopes.{Scope, declare, leave, past, at_end, form_at_end, other_at_end, actions_at_end, groups_at_end}
 use Rattle.dh_base.specs.declared.places.Place.{Place}
@@ -130,7 +130,10 @@ module _ (all : List Counter) where
       form_ascend : (s : Scope) (f : ActionForm) (id : ℕ) (place : Place) (r : Around) (n : ℕ) → resolved_form s f ≡ f → AllAmong (form_counters f) → Ascend (size s) (size (form_at_end s f)) (form_phases r n id place f)
       form_ascend s (lets name declared value) id place r n e among = declared_least s name Variable
       form_ascend s (lets_memory name shape shape_places value) id place r n e among = declared_least s name MemorySort
-      form_ascend s (views name parent form) id place r n e among = declared_least s name View
+      form_ascend s (views name parent (shrinks by by_place)) id place r n e among = declared_least s name View
+      form_ascend s (views name parent (splits by by_place)) id place r n e among = declared_least s name View
+      form_ascend s (views name parent (suffixes by by_place)) id place r n e among = declared_least s name View
+      form_ascend s (views name parent (shifts by)) id place r n e among = declared_least s name View
       form_ascend s (assigns target value) id place r n e among = same_size s
       form_ascend s (stores target value) id place r n e among = same_size s
       form_ascend s (reduces target o value) id place r n e among = same_size s

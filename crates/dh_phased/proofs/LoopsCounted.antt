@@ -25,7 +25,7 @@ use Rattle.dh_phased.proofs.CountersAscend as text
 use Rattle.dh_phased.proofs.LoopsAscend.{IsLoopOf, LoopsFrom, ascend, loops_split, loops_within}
 
 -- each is among all
-among_self : (cs : List Counter) → AllByRecursion (IsAmong cs) cs
+pub among_self : (cs : List Counter) → AllByRecursion (IsAmong cs) cs
 among_self cs = by cs (λ i c at. (i, at))
   where
     by : (xs : List Counter) → ((i : ℕ) (c : Counter) → slice_get xs i ≡ Some c → IsAmong cs c) → AllByRecursion (IsAmong cs) xs

@@ -3,13 +3,13 @@
 use Rattle.std.proofs.Common.{◌≡◌, ℕ, List, [], ◌∷◌, ◌++◌, Some, None, ap, sym, ◌∙◌, subst}
 use Rattle.std.specs.Prelude.{Option}
 use Rattle.dh_tree.specs.PlainTrees.{Term}
-use Rattle.dh_meaning.specs.Core.{CoreCommands, CorePhase, CoreTerm, straightly, turning, looping, choosing, CorePhases, no_core_phases, phase_and}
+use Rattle.dh_meaning.specs.Core.{CoreCommands, CoreTerm, Turning}
 use Rattle.dh_meaning.specs.CoreOf.{core_commands, core_test_of}
 use Rattle.dh_meaning.specs.Effects.{commands, tests}
 use Rattle.dh_meaning.specs.Phases.{Located}
 use Rattle.dh_plan.specs.Correspondence.{Round}
-use Rattle.dh_plan.specs.PlainPlans.{Node, block_node, turns_node, loop_node, choice_node, threads_node, Nodes, no_nodes, node_then, PlainPlan}
-use Rattle.dh_plan.specs.PlanPhases.{AreNodesOf, DoesBlock, IsLoopRegister, IsNodeOf, SetsFlag, Touches, does_phases}
+use Rattle.dh_plan.specs.PlainPlans.{PlainPlan}
+use Rattle.dh_plan.specs.PlanPhases.{DoesBlock, IsIteratorOf, IsLoopRegister, SetsFlag, Touches, does_phases}
 use Rattle.dh_expressions.specs.declared.scenes.Around.{Around}
 use Rattle.dh_expressions.specs.declared.scenes.Scene.{Scene}
 use Rattle.dh_expressions.specs.Evaluated.{known_in}
@@ -23,17 +23,14 @@ use Rattle.dh_blocks.proofs.TracedBlocks.{made_blocks_do}
 use Rattle.dh_charged.specs.TouchedBlocks.{HaveCounters, StandsInPlan}
 use Rattle.dh_charged.proofs.BlocksTouch.{straights_touch, tests_touch}
 use Rattle.dh_gathering.specs.declared.blocks.Made.{Made}
-use Rattle.dh_gathering.specs.LoopCounters.{AreCounting, IsCounting, LoopsCount, LoopsCountIn}
-use Rattle.dh_gathering.specs.MadeBlocks.{IsStraightBlock, IsTestBlock, counter_in, made_tie}
+use Rattle.dh_gathering.specs.LoopCounters.{AreCounting, IsCounting}
+use Rattle.dh_gathering.specs.MadeBlocks.{IsStraightBlock, IsTestBlock, counter_in}
 use Rattle.dh_gathering.proofs.CountersApart.{loop_register}
 use Rattle.dh_phased.specs.DonePhases.{HasMade, HasSoundBlocks, PhasesAreDone}
 use Rattle.dh_phased.proofs.BlocksMade.{straight_is_made, test_is_made}
+use Rattle.dh_phased.proofs.NodesTied.{nodes_tied}
 use Rattle.dh_phased.proofs.RoundsTop.{rounds_are_top}
 use Rattle.dh_phased.proofs.SlotsTold.{slots_told}
-
-counting_more : (scene : Scene) (rounds : List Round) (r : Round) → AreCounting scene (placing_in scene) rounds → IsCounting scene (placing_in scene) r.loop → r.counter ≡ counter_in scene r.loop → AreCounting scene (placing_in scene) (rounds ++ r ∷ [])
-counting_more scene [] r all h is = ((h, is), tt)
-counting_more scene (x ∷ rounds) r all h is = (all.0, counting_more scene rounds r all.1 h is)
 
 have_counters : (scene : Scene) (rounds : List Round) → AreCounting scene (placing_in scene) rounds → HaveCounters scene rounds
 have_counters scene [] h = tt
@@ -70,43 +67,12 @@ module _ (scene : Scene) (plan : PlainPlan) (count : ℕ) (final : Made) (made :
       subst (λ (t : CoreTerm). DoesBlock plan (slots_in scene) rounds (tests t) block × (SetsFlag plan (slots_in scene) rounds t flag block × Touches plan (slots_in scene) rounds (tests t) (Some flag) block))
       (sym (s.is ∙ ap (λ (o : Option Term). core_test_of (known_in scene) s.tested.first o) s.term_is)) (does.does, (does.sets, touches))
 
-  mutual
-    nodes_done : (rounds : List Round) (qs : CorePhases) (ns : Nodes) → AreCounting scene (placing_in scene) rounds → LoopsCount scene (placing_in scene) rounds qs → AreNodesOf (made_tie scene final) rounds qs ns → AreNodesOf (does_phases plan (slots_in scene)) rounds qs ns
-    nodes_done rounds no_core_phases no_nodes all loops h = tt
-    nodes_done rounds no_core_phases (node_then n ns) all loops h = absurd h
-    nodes_done rounds (phase_and q qs) no_nodes all loops h = absurd h
-    nodes_done rounds (phase_and q qs) (node_then n ns) all loops h = (node_done rounds q n all loops.0 h.0, nodes_done rounds qs ns all loops.1 h.1)
-
-    node_done : (rounds : List Round) (q : CorePhase) (n : Node) → AreCounting scene (placing_in scene) rounds → LoopsCountIn scene (placing_in scene) rounds q → IsNodeOf (made_tie scene final) rounds q n → IsNodeOf (does_phases plan (slots_in scene)) rounds q n
-    node_done rounds (straightly cs) (block_node block) all loops h = straight_does rounds cs block all h
-    node_done rounds (straightly cs) (turns_node counter turns ms) all loops h = absurd h
-    node_done rounds (straightly cs) (loop_node block flag ms) all loops h = absurd h
-    node_done rounds (straightly cs) (choice_node block flag ms os) all loops h = absurd h
-    node_done rounds (straightly cs) (threads_node lists) all loops h = absurd h
-    node_done rounds (turning loop body) (block_node block) all loops h = absurd h
-    node_done rounds (turning loop body) (turns_node counter turns ms) all loops h = (
-      h.0,
-      (
-        subst (λ (n : ℕ). IsLoopRegister (slots_in scene) rounds loop n) (sym h.1.0) (loop_register scene (placing_in scene) (slots_in scene) count (slots_told scene) holds.placing rounds loop all loops.0 loops.1.0),
-        nodes_done (rounds ++ record { loop = loop; counter = counter } ∷ []) body ms
-            (counting_more scene rounds (record { loop = loop; counter = counter }) all loops.0 h.1.0)
-            (subst (λ (n : ℕ). LoopsCount scene (placing_in scene) (rounds ++ record { loop = loop; counter = n } ∷ []) body) (sym h.1.0) loops.1.1) h.1.1,
-      ),
-    )
-    node_done rounds (turning loop body) (loop_node block flag ms) all loops h = absurd h
-    node_done rounds (turning loop body) (choice_node block flag ms os) all loops h = absurd h
-    node_done rounds (turning loop body) (threads_node lists) all loops h = absurd h
-    node_done rounds (looping test body) (block_node block) all loops h = absurd h
-    node_done rounds (looping test body) (turns_node counter turns ms) all loops h = absurd h
-    node_done rounds (looping test body) (loop_node block flag ms) all loops h = (test_does rounds test flag block all h.0, nodes_done rounds body ms all loops h.1)
-    node_done rounds (looping test body) (choice_node block flag ms os) all loops h = absurd h
-    node_done rounds (looping test body) (threads_node lists) all loops h = absurd h
-    node_done rounds (choosing test chosen other) (block_node block) all loops h = absurd h
-    node_done rounds (choosing test chosen other) (turns_node counter turns ms) all loops h = absurd h
-    node_done rounds (choosing test chosen other) (loop_node block flag ms) all loops h = absurd h
-    node_done rounds (choosing test chosen other) (choice_node block flag ms os) all loops h =
-        (test_does rounds test flag block all h.0, (nodes_done rounds chosen ms all loops.0 h.1.0, nodes_done rounds other os all loops.1 h.1.1))
-    node_done rounds (choosing test chosen other) (threads_node lists) all loops h = absurd h
+  -- the register of a loop counts it
+  loop_does : (rounds : List Round) (loop : Turning) (counter : ℕ) → AreCounting scene (placing_in scene) rounds → IsCounting scene (placing_in scene) loop → (IsIteratorOf rounds loop.iterator → ⊥) → counter ≡ counter_in scene loop
+      → IsLoopRegister (slots_in scene) rounds loop counter
+  loop_does rounds loop counter all counts other is =
+      subst (λ (n : ℕ). IsLoopRegister (slots_in scene) rounds loop n) (sym is) (loop_register scene (placing_in scene) (slots_in scene) count (slots_told scene) holds.placing rounds loop all counts other)
 
 pub phases_are_done : PhasesAreDone
-phases_are_done scene plan count final qs ns made holds sound loops h = nodes_done scene plan count final made holds sound [] qs ns tt loops h
+phases_are_done scene plan count final qs ns made holds sound loops h =
+    nodes_tied scene final (does_phases plan (slots_in scene)) (straight_does scene plan count final made holds sound) (test_does scene plan count final made holds sound) (loop_does scene plan count final made holds sound) [] qs ns tt loops h

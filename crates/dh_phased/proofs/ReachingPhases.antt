@@ -3,7 +3,7 @@ use Rattle.std.proofs.Common.{inl, inr, ℕ, ◌+◌, ◌==◌, ◌&&◌, Bool, 
 use Rattle.std.specs.List.{AllByRecursion}
 use Rattle.dh_base.specs.declared.places.Place.{Place}
 use Rattle.dh_tree.specs.Indices.{form_of as term_form}
-use Rattle.dh_tree.specs.PlainTrees.{Term, term, number, truth_value, named, accessed, in_bank, applied, converted, Action, action, ActionForm, lets, lets_memory, views, assigns, stores, reduces, calls, blocks, decides, repeats, counts, MaybeAction, no_action, one_action, Actions, no_actions, action_then, Groups, no_groups, group_then}
+use Rattle.dh_tree.specs.PlainTrees.{shrinks, splits, suffixes, shifts, Term, term, number, truth_value, named, accessed, in_bank, applied, converted, Action, action, ActionForm, lets, lets_memory, views, assigns, stores, reduces, calls, blocks, decides, repeats, counts, MaybeAction, no_action, one_action, Actions, no_actions, action_then, Groups, no_groups, group_then}
 use Rattle.dh_tree.specs.Seen.{program_seen}
 use Rattle.dh_tree.specs.Targets.{FormHasTargets, GroupsHaveTargets, HasTargets, IsAccess, OtherHasTargets, PartHasTargets}
 use Rattle.dh_meaning.specs.AccessNumbers.{accesses_of, part_accesses, term_accesses}
@@ -94,7 +94,10 @@ mutual
   form_reaches : (f : ActionForm) (id : ℕ) (place : Place) (r : Around) (n : ℕ) → FormHasTargets f → ListReaches (form_phases r n id place f)
   form_reaches (lets name declared value) id place r n h = ((h, tt), tt)
   form_reaches (lets_memory name shape shape_places value) id place r n h = tt
-  form_reaches (views name parent form) id place r n h = tt
+  form_reaches (views name parent (shrinks by by_place)) id place r n h = tt
+  form_reaches (views name parent (splits by by_place)) id place r n h = tt
+  form_reaches (views name parent (suffixes by by_place)) id place r n h = ((h, tt), tt)
+  form_reaches (views name parent (shifts by)) id place r n h = ((h, tt), tt)
   form_reaches (assigns target value) id place r n h = ((h, tt), tt)
   form_reaches (stores target value) id place r n h = ((h, tt), tt)
   form_reaches (reduces target o value) id place r n h = ((h, tt), tt)

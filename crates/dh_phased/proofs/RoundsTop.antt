@@ -17,7 +17,7 @@ use Rattle.dh_gathering.specs.MadeBlocks.{AreWithin, count_inside}
 use Rattle.dh_gathering.specs.PlacedPhases.{loops_round}
 use Rattle.dh_phased.specs.TopPaths.{RoundsAreTop}
 
-copies_more : (fs : List ℕ) (f : ℕ) → copies_in (fs ++ f ∷ []) ≡ copies_in fs * f
+pub copies_more : (fs : List ℕ) (f : ℕ) → copies_in (fs ++ f ∷ []) ≡ copies_in fs * f
 copies_more [] f = one f
   where
     one : (n : ℕ) → n * 1 ≡ 1 * n

@@ -5,7 +5,7 @@ use Rattle.std.proofs.lemmas.List.{map-append}
 use Rattle.dh_base.specs.declared.places.Place.{Place}
 use Rattle.dh_value.specs.declared.kinds.Kind.{Kind}
 use Rattle.dh_tree.specs.declared.trees.expressions.Ref.{Ref}
-use Rattle.dh_tree.specs.PlainTrees.{Term, Placed, Unrolled, Action, action, ActionForm, lets, lets_memory, views, assigns, stores, reduces, calls, blocks, decides, repeats, counts, MaybeAction, no_action, one_action, Actions, no_actions, action_then, Groups, no_groups, group_then}
+use Rattle.dh_tree.specs.PlainTrees.{Term, Placed, Unrolled, shrinks, splits, suffixes, shifts, Action, action, ActionForm, lets, lets_memory, views, assigns, stores, reduces, calls, blocks, decides, repeats, counts, MaybeAction, no_action, one_action, Actions, no_actions, action_then, Groups, no_groups, group_then}
 use Rattle.dh_meaning.specs.AccessNumbers.{term_accesses, accesses_of, part_accesses}
 use Rattle.dh_meaning.specs.Sites.{Around, nothing_around, in_arm, in_loop, loop_of}
 use Rattle.dh_meaning.specs.Phases as source
@@ -138,7 +138,10 @@ mutual
   anywhere_form : (id : ℕ) (place : Place) (form : ActionForm) → Everywhere (λ r n. form_phases r n id place form) (numbered (form_phases nothing_around 0 id place form))
   anywhere_form id place (lets name declared value) = λ r n. refl
   anywhere_form id place (lets_memory name shape shape_places value) = λ r n. refl
-  anywhere_form id place (views name parent form) = λ r n. refl
+  anywhere_form id place (views name parent (shrinks by by_place)) = λ r n. refl
+  anywhere_form id place (views name parent (splits by by_place)) = λ r n. refl
+  anywhere_form id place (views name parent (suffixes by by_place)) = λ r n. refl
+  anywhere_form id place (views name parent (shifts by)) = λ r n. refl
   anywhere_form id place (assigns target value) = λ r n. refl
   anywhere_form id place (stores target value) = λ r n. refl
   anywhere_form id place (reduces target op value) = λ r n. refl

@@ -10,6 +10,7 @@ ghost use Rattle.dh_phases.specs.Phasing.{phases_in, phases_in_other, phases_in_
 use dh_base::NoMemory;
 use dh_meaning::turn_count;
 use dh_tree::{Command, CommandForm, Typed};
+use dh_viewing::moves;
 use std::alloc::Global;
 use std::mem;
 
@@ -245,7 +246,13 @@ fn phases_of(alloc: Global, command: &Command) -> Result<Vec<Phase>, NoMemory>
             turns(alloc, command.id, turn_count(*low, *high, *factor), turn)
         }
         CommandForm::LetMemory { .. } => Ok(Vec::new(alloc)),
-        CommandForm::View { .. } => Ok(Vec::new(alloc)),
+        CommandForm::View { form, .. } => {
+            if moves(form) {
+                one_command(alloc, command.id)
+            } else {
+                Ok(Vec::new(alloc))
+            }
+        }
         CommandForm::Call { .. } => Ok(Vec::new(alloc)),
     }
 }

@@ -22,3 +22,4 @@ pub mod TurnsKept
 pub mod StandingPlaces
 pub mod SteppingRuns
 pub mod SameStates
+pub mod ViewsPassed

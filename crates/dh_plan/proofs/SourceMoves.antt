@@ -16,6 +16,9 @@ use Rattle.dh_meaning.specs.Runs.{iterator_value, turn_begun}
 use Rattle.dh_plan.specs.Blocks.{all_put}
 use Rattle.dh_plan.specs.PlanPhases.{block_assigns}
 use Rattle.dh_plan.specs.SourceEffects.{failure_of, writes_of}
+use Rattle.dh_meaning.specs.Core.{keep}
+use Rattle.dh_meaning.specs.Effects.{kept_at}
+use Rattle.dh_ways.proofs.KeptVariables.{others_kept}
 
 -- writes one after the other
 pub written_is : (es : List Event) (memories : List (List ℕ)) → written es memories ≡ all_put (writes_of es) memories
@@ -73,6 +76,7 @@ mutual
       → (command_run b paths c f).variables e p ≡ f.variables e p
   command_spares b e p paths (store r target value) f h = each_keeps (stored_at b r target value) e p (λ path g. refl) paths f
   command_spares b e p paths (assign depth entity value) f h = each_keeps (assigned_at b depth entity value) e p (λ path g. set_other g.variables entity (take depth path) _ e p h) paths f
+  command_spares b e p paths (keep depth first values) f h = each_keeps (kept_at b depth first values) e p (others_kept b depth first values e p h) paths f
   command_spares b e p paths (choose test chosen other) f h =
       commands_spare b e p (paths_where false (holds_at b f.variables test) paths) other _ (or_right (any_assigns e chosen) (any_assigns e other) h)
       ∙ (commands_spare b e p (paths_where true (holds_at b f.variables test) paths) chosen _ (or_left (any_assigns e chosen) (any_assigns e other) h)

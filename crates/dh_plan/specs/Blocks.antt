@@ -9,7 +9,8 @@ use Rattle.dh_value.specs.Words.{value_of, with_bits, word_of}
 use Rattle.dh_value.specs.Operations.{binary_of, is_true}
 use Rattle.dh_tree.specs.declared.tables.MemEntry.{MemEntry}
 use Rattle.dh_tree.specs.Elements.{Spot}
-use Rattle.dh_meaning.specs.Effects.{kind_in, bits_at, spot_by_indices, spot_by_row, put_element}
+use Rattle.dh_meaning.specs.Effects.{kind_in, bits_at, spot_by_row, put_element}
+pub use Rattle.dh_meaning.specs.Effects.{spot_if_inside}
 use Rattle.dh_plan.specs.declared.operations.Operation.{Operation}
 use Rattle.dh_plan.specs.declared.operations.OperationForm.{OperationForm}
 use Rattle.dh_plan.specs.declared.operations.OperationForm.TheVariants.{Constant, Old, Compute, Convert, Select, Check, Probe, Read, Write, Set}
@@ -65,10 +66,6 @@ first_bank (b ∷ bs) = b.0
 abbrev pub bank_picked : (first : ℕ) → List Word → List (ℕ × ℕ) → Option ℕ → ℕ
 bank_picked first ws banks None = first_bank banks
 bank_picked first ws banks (Some v) = (word_at first ws v).bits
-
-abbrev pub spot_if_inside : List MemEntry → (memory : ℕ) → Option (List ℤ) → Option Spot
-spot_if_inside table memory None = None
-spot_if_inside table memory (Some indices) = spot_by_indices table memory indices
 
 -- where an access leads, None where it is out of range: by its indices through its views, or by a row of a bank
 abbrev pub spot_in_row : StepStart → (first : ℕ) → List Word → Reach → (row : Option ℕ) → Option Spot

@@ -15,7 +15,6 @@ use Rattle.dh_tree.specs.Memories.{memories_of, number_in, table_of}
 use Rattle.dh_tree.specs.PlainTrees.{Program}
 use Rattle.dh_tree.specs.Tables.{Fits}
 use Rattle.dh_meaning.specs.AccessNumbers.{accesses_of}
-use Rattle.dh_meaning.specs.Bindings.{bindings_of}
 use Rattle.dh_meaning.specs.Core.{CoreTerm, literal, truth_literal, variable, read, binary, convert, Target, by_indices, by_row, CoreTerms, no_terms, term_and, CoreCommand, store, assign, choose, CoreCommands, no_commands, command_and, CoreProgram}
 use Rattle.dh_meaning.specs.CoreOf.{core_of}
 use Rattle.dh_meaning.specs.Effects.{commands, tests}
@@ -43,6 +42,8 @@ use Rattle.dh_plan.specs.LegalSchedules.{is_product, block_clocks}
 use Rattle.dh_plan.specs.PlanPhases.{Tie, AreNodesOf, DoesPhases}
 use Rattle.dh_plan.specs.PlanRuns.{plan_state, start_at, block_values, events_of_block, sets_of_block}
 use Rattle.dh_plan.specs.SoundPlans.{use_in, HasAccess, HasUse, IsSound, IsAddressed, plan_charge, IsStepOf, Counting, CountsTurns, KeepsCounter, countings}
+use Rattle.dh_meaning.specs.Core.{by_views, keep}
+use Rattle.dh_meaning.specs.Ways.{all_bindings_of}
 
 -- Runs.
 
@@ -93,6 +94,7 @@ abbrev mutual
 
   pub target_products : Target → ℕ
   target_products (by_indices indices) = terms_products indices
+  target_products (by_views steps count terms) = terms_products terms
   target_products (by_row bank row) = term_products row
 
   pub terms_products : CoreTerms → ℕ
@@ -104,6 +106,7 @@ abbrev mutual
   pub command_products : CoreCommand → ℕ
   command_products (store reach target value) = term_products value + target_products target
   command_products (assign depth entity value) = term_products value
+  command_products (keep depth first values) = terms_products values
   command_products (choose test chosen other) = term_products test + (commands_products chosen + commands_products other)
 
   pub commands_products : CoreCommands → ℕ
@@ -157,7 +160,7 @@ uses_of access (b ∷ bs) = operations_using access b.operations + uses_of acces
 
 -- how many distinct keys the paths of an access have
 abbrev pub keys_of : Program → SourceAccess → ℕ
-keys_of p a = distinct_count same_path (map (key_of (bindings_of p) a) (paths_of a))
+keys_of p a = distinct_count same_path (map (key_of (all_bindings_of p) a) (paths_of a))
 
 abbrev pub uses_wanted : Program → (number : ℕ) → SourceAccess → ℕ
 uses_wanted p number a = if is_some (shared p number) then 0 else keys_of p a

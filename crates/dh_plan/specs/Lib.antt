@@ -27,3 +27,4 @@ pub mod ExampleSizes
 pub mod ExamplePasses
 pub mod PassesCompose
 pub mod ExampleTree
+pub mod WaysPassed

@@ -15,6 +15,8 @@ use Rattle.dh_plan.specs.Blocks.{StepStart, first_fault, puts_of, all_set}
 use Rattle.dh_plan.specs.PlanRuns.{start_at, events_of_block, sets_of_block}
 use Rattle.dh_plan.specs.SourceEffects.{failure_of, writes_of}
 use Rattle.dh_plan.specs.Correspondence.{Slots, FitKinds, Holding, Round, paths_of_rounds, StandFor}
+use Rattle.dh_meaning.specs.Core.{by_views, keep}
+use Rattle.dh_meaning.specs.Levels.{assigns_to}
 
 -- the first fault of a block is, by its number in the plan's list, this one of the program
 abbrev pub NamesFault : List (FaultKind × Place) → (fault : Option ℕ) → (failure : Option (FaultKind × Place)) → Type 0
@@ -64,6 +66,7 @@ abbrev mutual
 
   pub target_mentions : (entity : ℕ) → Target → Bool
   target_mentions entity (by_indices indices) = terms_mention entity indices
+  target_mentions entity (by_views steps count terms) = terms_mention entity terms
   target_mentions entity (by_row bank row) = term_mentions entity row
 
   pub terms_mention : (entity : ℕ) → CoreTerms → Bool
@@ -75,6 +78,7 @@ abbrev mutual
   pub command_mentions : (entity : ℕ) → CoreCommand → Bool
   command_mentions entity (store reach target value) = term_mentions entity value || target_mentions entity target
   command_mentions entity (assign depth other value) = (entity == other) || term_mentions entity value
+  command_mentions entity (keep depth first values) = assigns_to entity (keep depth first values) || terms_mention entity values
   command_mentions entity (choose test chosen other) = term_mentions entity test || (commands_mention entity chosen || commands_mention entity other)
 
   pub commands_mention : (entity : ℕ) → CoreCommands → Bool

@@ -7,6 +7,8 @@ use Rattle.dh_tree.specs.Memories.{memory_in, memories_of, Memory}
 use Rattle.dh_tree.specs.PlainTrees.{Term, term, TermForm, number, truth_value, named, accessed, in_bank, applied, converted, Terms, no_terms, term_then, Action, action, ActionForm, lets, lets_memory, views, assigns, stores, reduces, calls, blocks, decides, repeats, counts, MaybeAction, no_action, one_action, Actions, no_actions, action_then, Groups, no_groups, group_then, Program}
 use Rattle.dh_meets.specs.Charges.{charge, paths_of}
 use Rattle.dh_meets.specs.SourceEvents.{SourceAccess, accesses_in, trace}
+use Rattle.dh_tree.specs.Seen.{terms}
+use Rattle.dh_tree.specs.ViewOffsets.{offsets_of}
 
 abbrev mutual
   -- the operators and casts of an expression
@@ -34,7 +36,7 @@ maybe_operators (Some t) = term_operators t
 abbrev pub own_operators : ActionForm → ℕ
 own_operators (lets name declared value) = maybe_operators value
 own_operators (lets_memory name shape shape_places value) = 0
-own_operators (views name parent form) = 0
+own_operators (views name parent form) = terms_operators (terms (offsets_of form))
 own_operators (assigns target value) = term_operators value
 own_operators (stores target value) = term_operators value + term_operators target
 own_operators (reduces target op value) = suc (term_operators value)

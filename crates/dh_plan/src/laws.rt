@@ -1,6 +1,11 @@
 //! Laws on plans, stated on functions that do nothing.
 
-ghost use Rattle.std.specs.Prelude.{List};
+ghost use Rattle.std.specs.Prelude.{◌≡◌, List, ℤ};
+ghost use Rattle.dh_tree.specs.declared.viewing.ViewMap.{ViewMap};
+ghost use Rattle.dh_meaning.specs.Effects.{indices_through};
+ghost use Rattle.dh_meaning.specs.Ways.{Step};
+ghost use Rattle.dh_plan.specs.Passages.{Passage, indices_behind};
+ghost use Rattle.dh_plan.specs.WaysPassed.{AreOfSteps};
 ghost use Rattle.dh_tree.specs.PlainTrees.{Program};
 ghost use Rattle.dh_meaning.specs.Core.{CoreProgram};
 ghost use Rattle.dh_plan.specs.declared.operations.Operation.{Operation};
@@ -76,4 +81,12 @@ pub fn plans_play_programs()
 /// The contracts of the passes suffice for that of the compiler, where no run of the program is stuck.
 pub fn passes_compose()
     ensures { (p : Program) → PassesCompose p }
+{}
+
+/// A plan's way through views is that of the meaning, where its passages are of the steps.
+#[tactic(auto, using(crate::proofs::ViewsPassed::passed))]
+pub fn ways_are_passed()
+    ensures { (views : List ViewMap) (steps : List Step) (passages : List Passage) (offsets indices : List ℤ)
+        → AreOfSteps views steps passages offsets
+        → indices_behind views passages indices ≡ indices_through steps indices offsets }
 {}

@@ -1,5 +1,5 @@
 -- The claims of each access, by its number, among those of all that happens.
-use Rattle.std.proofs.Common.{◌≡◌, ℕ, zero, suc, add-one, ◌+◌, ◌<◌, ◌≤◌, ◌==◌, Bool, List, [], ◌∷◌, ◌++◌, length, map, refl, ap, sym, ◌∙◌, subst, arith}
+use Rattle.std.proofs.Common.{◌≡◌, ℕ, zero, suc, add-one, ◌+◌, ◌<◌, ◌≤◌, ◌==◌, Bool, List, [], ◌∷◌, ◌++◌, length, map, refl, ap, sym, ◌∙◌, subst, arith, ◌&&◌, take}
 use mathlib.Core.Path.{fun_ext}
 use Rattle.std.specs.Prelude.{Option, Some, None, slice_get}
 use Rattle.std.specs.List.{filter}
@@ -12,14 +12,15 @@ use Rattle.dh_tree.specs.Counters.{counters_of}
 use Rattle.dh_tree.specs.Elements.{banks_of}
 use Rattle.dh_tree.specs.Memories.{memories_of, number_in, table_of}
 use Rattle.dh_tree.specs.PlainTrees.{Term, term, Program}
-use Rattle.dh_meaning.specs.Bindings.{bindings_of}
+use Rattle.dh_meaning.specs.Ways.{Way, all_bindings_of, way_to}
+use Rattle.dh_viewing.specs.Carried.{carried_by}
 use Rattle.dh_meaning.specs.Paths.{Path, same_path}
-use Rattle.dh_meets.specs.Charges.{bank_reached, key_of, paths_of}
+use Rattle.dh_meets.specs.Charges.{bank_reached, key_of, paths_of, groups_of, sum_over}
 use Rattle.dh_meets.specs.SourceEvents.{Element, with_indices, in_row, SourceAccess}
 use Rattle.dh_events.specs.declared.events.Site.{Site}
 use Rattle.dh_ports.specs.declared.moves.Move.{Move}
 use Rattle.dh_events.specs.Accesses.{entity_in, element_in}
-use Rattle.dh_ports.specs.Claims.{access_of, base_of, keys_on, counts_to, claims_from, claims_in, claims_at, claims_of, moves_from}
+use Rattle.dh_ports.specs.Claims.{access_of, base_of, keys_on, counts_to, claims_from, claims_in, claims_at, claims_of, moves_from, count_on, owner_of}
 use Rattle.dh_ports.specs.Courses.{count}
 use Rattle.dh_events.specs.Incidents.{Incident, touches, assigned, arm_begins, arm_ends, begins, next, ends}
 use Rattle.dh_ports.specs.Wholes.{Touched, touched, touched_by, of_access, sites_in, at_touches}
@@ -200,14 +201,20 @@ module _ (p : Program) (a : SourceAccess) where
   bank_same dims path (in_row bank row) = refl
 
   keys_same : (dims : List Dim) (bank : ℕ) → keys_on p dims (stripped a) bank ≡ keys_on p dims a bank
-  keys_same dims bank = ap (λ (t : Path → Bool). distinct_count same_path (map (key_of (bindings_of p) a) (filter t (paths_of a)))) (fun_ext (λ path. ap (λ n. n == bank) (bank_same dims path a.element)))
+  keys_same dims bank = ap (λ (t : Path → Bool). distinct_count same_path (map (key_of (all_bindings_of p) a) (filter t (paths_of a)))) (fun_ext (λ path. ap (λ n. n == bank) (bank_same dims path a.element)))
+
+  count_same : (w : Option Way) (dims : List Dim) (bank : ℕ) → count_on p w dims (stripped a) bank ≡ count_on p w dims a bank
+  count_same None dims bank = keys_same dims bank
+  count_same (Some w) dims bank =
+      ap (λ (named : Path → ℕ). sum_over (groups_of w a) (λ g. carried_by (map (λ s. s.is) w.steps) (λ c. distinct_count same_path (map (key_of (all_bindings_of p) a) (filter (λ path. same_path (take w.shifts path) g && (named path == c)) (paths_of a)))) bank))
+      (fun_ext (λ path. bank_same w.is.shape.dims path a.element))
 
   counts_same : (dims : List Dim) (banks : ℕ) → counts_to p dims (stripped a) banks ≡ counts_to p dims a banks
   counts_same dims zero = refl
-  counts_same dims (suc bank) = ap (λ l. l ++ keys_on p dims (stripped a) bank ∷ []) (counts_same dims bank) ∙ ap (λ n. counts_to p dims a bank ++ n ∷ []) (keys_same dims bank)
+  counts_same dims (suc bank) = ap (λ l. l ++ count_on p (way_to p a.entity) dims (stripped a) bank ∷ []) (counts_same dims bank) ∙ ap (λ n. counts_to p dims a bank ++ n ∷ []) (count_same (way_to p a.entity) dims bank)
 
   pub claims_same : (event : ℕ) → claims_of p event (stripped a) ≡ claims_of p event a
-  claims_same event = by_number (number_in (memories_of p) a.entity)
+  claims_same event = by_number (number_in (memories_of p) (owner_of p a))
     where
       by_entry : (base : ℕ) (o : Option MemEntry) → claims_in p event base o (stripped a) ≡ claims_in p event base o a
       by_entry base None = refl

@@ -1,26 +1,28 @@
 -- What an access takes of a bank is its charge there.
-use Rattle.std.proofs.Common.{◌≡◌, ℕ, zero, suc, ◌+◌, ◌-◌, ◌<◌, ◌≤◌, ◌==◌, ◌&&◌, Bool, true, false, if◌then◌else◌, List, [], ◌∷◌, ◌++◌, length, map, refl, ap, sym, ◌∙◌, subst, arith, ◌⊎◌, inl, inr}
+use Rattle.std.proofs.Common.{◌≡◌, ℕ, zero, suc, ◌+◌, ◌-◌, ◌<◌, ◌≤◌, ◌==◌, ◌&&◌, nat_lt, Bool, true, false, if◌then◌else◌, List, [], ◌∷◌, ◌++◌, length, map, refl, ap, sym, ◌∙◌, subst, arith, ◌⊎◌, inl, inr}
 use mathlib.Core.Path.{fun_ext}
 use Rattle.std.specs.Prelude.{Option, Some, None, option_map, slice_get, slice_index}
 use Rattle.std.specs.Option.{is_some}
 use Rattle.std.specs.List.{filter}
 use Rattle.std.specs.Set.{distinct_count}
-use Rattle.std.proofs.lemmas.Bool.{eqb-true, eq-eqb, cases_Bool, cases_lt}
+use Rattle.std.proofs.lemmas.Bool.{eqb-true, eq-eqb, cases_Bool, cases_lt, lt-ltb}
 use Rattle.dh_tree.specs.declared.tables.Dim.{Dim}
 use Rattle.dh_tree.specs.declared.tables.MemEntry.{MemEntry}
 use Rattle.dh_tree.specs.Counters.{counters_of}
 use Rattle.dh_tree.specs.Elements.{banks_of}
 use Rattle.dh_tree.specs.Memories.{Memory, memories_of, memory_in, number_in, same_entity, entry_of, table_of}
 use Rattle.dh_tree.specs.PlainTrees.{Program}
-use Rattle.dh_meaning.specs.Bindings.{bindings_of}
+use Rattle.dh_meaning.specs.Ways as ways
+use Rattle.dh_meaning.specs.Ways.{Way, all_bindings_of, way_to}
 use Rattle.dh_meaning.specs.Paths.{Path, same_path}
-use Rattle.dh_meets.specs.Charges.{bank_reached, key_of, paths_of, reaches, reaches_in, charge, charge_of}
+use Rattle.dh_meets.specs.Charges as charges
+use Rattle.dh_meets.specs.Charges.{bank_reached, key_of, paths_of, reaches, reaches_in, charge, charge_of, charge_by, reaches_by, charge_through}
 use Rattle.dh_meets.specs.Sharing.{shared}
 use Rattle.dh_meets.specs.SourceEvents.{SourceAccess, accesses_in, trace}
 use Rattle.dh_ports.specs.declared.levels.Step.TheVariants as step
 use Rattle.dh_ports.specs.declared.moves.Move.{Move}
 use Rattle.dh_ports.specs.declared.moves.Move.TheVariants as move
-use Rattle.dh_ports.specs.Claims.{base_of, keys_on, counts_to, claim_at, claims_from, claims_in, claims_at, claims_of}
+use Rattle.dh_ports.specs.Claims.{base_of, keys_on, counts_to, claim_at, claims_from, claims_in, claims_at, claims_of, count_on, owner_of}
 use Rattle.dh_ports.specs.Expanded.{taken_by, all_taken}
 use Rattle.dh_ports.specs.Scanned.{flag_at, spending_step}
 use Rattle.dh_ports.specs.Wholes.{banks_in, banks_at, TakesCharge}
@@ -130,7 +132,7 @@ module _ (flags : List Bool) (event : ℕ) (flag : Bool) (told : slice_get flags
 
 pub counts_long : (p : Program) (dims : List Dim) (a : SourceAccess) (n : ℕ) → length (counts_to p dims a n) ≡ n
 counts_long p dims a zero = refl
-counts_long p dims a (suc n) = longer (counts_to p dims a n) (keys_on p dims a n) ∙ ap suc (counts_long p dims a n)
+counts_long p dims a (suc n) = longer (counts_to p dims a n) (count_on p (way_to p a.entity) dims a n) ∙ ap suc (counts_long p dims a n)
   where
     longer : (xs : List ℕ) (x : ℕ) → length (xs ++ x ∷ []) ≡ suc (length xs)
     longer [] x = refl
@@ -162,15 +164,15 @@ index_last (y ∷ xs) x (suc b) e = index_last xs x b (less_one b (length xs) e)
     less_one : (b n : ℕ) → suc b ≡ suc n → b ≡ n
     less_one b n e = omega (arith, e)
 
-pub count_at : (p : Program) (dims : List Dim) (a : SourceAccess) (n b : ℕ) → b < n → slice_index (counts_to p dims a n) b ≡ keys_on p dims a b
+pub count_at : (p : Program) (dims : List Dim) (a : SourceAccess) (n b : ℕ) → b < n → slice_index (counts_to p dims a n) b ≡ count_on p (way_to p a.entity) dims a b
 count_at p dims a zero b e = absurd (none b e)
   where
     none : (b : ℕ) → b < 0 → ⊥
     none b e = omega (arith, e)
 count_at p dims a (suc n) b e =
     elim (cases_lt b n) [
-      | inl f ↦ index_first (counts_to p dims a n) (keys_on p dims a n) b (subst (λ (m : ℕ). b < m) (sym (counts_long p dims a n)) f) ∙ count_at p dims a n b f
-      | inr f ↦ index_last (counts_to p dims a n) (keys_on p dims a n) b (equal b n e f ∙ sym (counts_long p dims a n)) ∙ ap (keys_on p dims a) (sym (equal b n e f))
+      | inl f ↦ index_first (counts_to p dims a n) (count_on p (way_to p a.entity) dims a n) b (subst (λ (m : ℕ). b < m) (sym (counts_long p dims a n)) f) ∙ count_at p dims a n b f
+      | inr f ↦ index_last (counts_to p dims a n) (count_on p (way_to p a.entity) dims a n) b (equal b n e f ∙ sym (counts_long p dims a n)) ∙ ap (count_on p (way_to p a.entity) dims a) (sym (equal b n e f))
     ]
   where
     equal : (b n : ℕ) → b < suc n → n ≤ b → b ≡ n
@@ -250,49 +252,67 @@ bases_apart (x ∷ es) (suc m) (suc n) e = more (banks_of x.shape.dims) _ _ _ (b
 
 module _ (p : Program) (flags : List Bool) (event k memory number bank : ℕ) (a : SourceAccess) (is_memory : number_in (memories_of p) (Some memory) ≡ Some number) (there : bank < banks_at p number)
     (stands : slice_get (accesses_in (trace p)) k ≡ Some a) (told : slice_get flags event ≡ Some (is_some (shared p k))) where
-  charged : charge p memory bank k ≡ (if is_some (shared p k) then 0 else distinct_count same_path (map (key_of (bindings_of p) a) (filter (λ path. reaches p a path memory bank) (paths_of a))))
+  charged : charge p memory bank k ≡ (if is_some (shared p k) then 0 else charge_by p (way_to p a.entity) a memory bank)
   charged = ap (charge_of p memory bank k) stands
 
   memory_is : Declared (memories_of p) (Some memory) number
   memory_is = found (memories_of p) (Some memory) number is_memory
 
+  -- the keys that reach a bank, where no views stand between
+  keys_direct : way_to p a.entity ≡ None → charge_by p None a memory bank ≡ distinct_count same_path (map (key_of (all_bindings_of p) a) (filter (λ path. reaches_by p None a path memory bank) (paths_of a)))
+  keys_direct u = ap (λ (f : Path → Bool). distinct_count same_path (map (key_of (all_bindings_of p) a) (filter f (paths_of a)))) (ap (λ w. λ path. reaches_by p w a path memory bank) u)
+
+  bank_there : nat_lt bank (charges.banks_in p memory) ≡ true
+  bank_there =
+      lt-ltb bank (charges.banks_in p memory)
+      (subst (λ (n : ℕ). bank < n) (ap banks_in memory_is.entry ∙ sym (ap charges.memory_banks memory_is.is)) there)
+
   -- an access of another memory reaches no bank of this one
-  never : same_entity a.entity (Some memory) ≡ false → charge p memory bank k ≡ 0
-  never e = charged ∙ (ap (λ (f : Path → Bool). if is_some (shared p k) then 0 else distinct_count same_path (map (key_of (bindings_of p) a) (filter f (paths_of a)))) no_path ∙ nothing (is_some (shared p k)) (paths_of a))
+  never_by : (w : Option Way) → way_to p a.entity ≡ w → same_entity (ways.base_of w a.entity) (Some memory) ≡ false → charge_by p w a memory bank ≡ 0
+  never_by (Some w) u e = ap (λ b. if b && nat_lt bank (charges.banks_in p memory) then charge_through p w a bank else 0) e
+  never_by None u e = keys_direct u ∙ (ap (λ (f : Path → Bool). distinct_count same_path (map (key_of (all_bindings_of p) a) (filter f (paths_of a)))) no_path ∙ ap (λ l. distinct_count same_path (map (key_of (all_bindings_of p) a) l)) (none_left (paths_of a)))
     where
-      no_path : ◌≡◌ {A = Path → Bool} (λ path. reaches p a path memory bank) (λ path. false)
+      no_path : ◌≡◌ {A = Path → Bool} (λ path. reaches_by p None a path memory bank) (λ path. false)
       no_path = fun_ext (λ path. ap (λ b. b && reaches_in (counters_of p) (memory_in (memories_of p) (Some memory)) a path bank) e)
 
       none_left : (paths : List Path) → filter (λ path. false) paths ≡ []
       none_left [] = refl
       none_left (path ∷ paths) = none_left paths
 
-      nothing : (b : Bool) (paths : List Path) → (if b then 0 else distinct_count same_path (map (key_of (bindings_of p) a) (filter (λ path. false) paths))) ≡ 0
-      nothing true paths = refl
-      nothing false paths = ap (λ l. distinct_count same_path (map (key_of (bindings_of p) a) l)) (none_left paths)
-
-  -- an access of this memory is charged for the keys that reach the bank
-  own : same_entity a.entity (Some memory) ≡ true → charge p memory bank k ≡ (if is_some (shared p k) then 0 else keys_on p memory_is.memory.shape.dims a bank)
-  own e = charged ∙ ap (λ (f : Path → Bool). if is_some (shared p k) then 0 else distinct_count same_path (map (key_of (bindings_of p) a) (filter f (paths_of a)))) each_path
+  never : same_entity (owner_of p a) (Some memory) ≡ false → charge p memory bank k ≡ 0
+  never e = charged ∙ (ap (λ n. if is_some (shared p k) then 0 else n) (never_by (way_to p a.entity) refl e) ∙ nothing (is_some (shared p k)))
     where
-      each_path : ◌≡◌ {A = Path → Bool} (λ path. reaches p a path memory bank) (λ path. bank_reached (counters_of p) memory_is.memory.shape.dims a path a.element == bank)
+      nothing : (b : Bool) → ◌≡◌ {A = ℕ} (if b then 0 else 0) 0
+      nothing true = refl
+      nothing false = refl
+
+  -- an access of this memory is charged for what is counted on the bank
+  own_by : (w : Option Way) → way_to p a.entity ≡ w → same_entity (ways.base_of w a.entity) (Some memory) ≡ true → charge_by p w a memory bank ≡ count_on p w memory_is.memory.shape.dims a bank
+  own_by (Some w) u e =
+      ap (λ b. if b && nat_lt bank (charges.banks_in p memory) then charge_through p w a bank else 0) e ∙ ap (λ b. if true && b then charge_through p w a bank else 0) bank_there
+  own_by None u e = keys_direct u ∙ ap (λ (f : Path → Bool). distinct_count same_path (map (key_of (all_bindings_of p) a) (filter f (paths_of a)))) each_path
+    where
+      each_path : ◌≡◌ {A = Path → Bool} (λ path. reaches_by p None a path memory bank) (λ path. bank_reached (counters_of p) memory_is.memory.shape.dims a path a.element == bank)
       each_path = fun_ext (λ path. ap (λ b. b && reaches_in (counters_of p) (memory_in (memories_of p) (Some memory)) a path bank) e ∙ ap (λ o. reaches_in (counters_of p) o a path bank) memory_is.is)
 
+  own : same_entity (owner_of p a) (Some memory) ≡ true → charge p memory bank k ≡ (if is_some (shared p k) then 0 else count_on p (way_to p a.entity) memory_is.memory.shape.dims a bank)
+  own e = charged ∙ ap (λ n. if is_some (shared p k) then 0 else n) (own_by (way_to p a.entity) refl e)
+
   pub takes_charge : all_taken (base_of (table_of p) number + bank) (map (spending_step flags) (claims_of p event a)) ≡ charge p memory bank k
-  takes_charge = by_number (number_in (memories_of p) a.entity) refl
+  takes_charge = by_number (number_in (memories_of p) (owner_of p a)) refl
     where
-      entity_is : (m : ℕ) → number_in (memories_of p) a.entity ≡ Some m → same_entity a.entity (Some memory) ≡ true → m ≡ number
-      entity_is m e f = some_same m number (sym e ∙ (ap (number_in (memories_of p)) (entity_eq a.entity f) ∙ is_memory))
+      entity_is : (m : ℕ) → number_in (memories_of p) (owner_of p a) ≡ Some m → same_entity (owner_of p a) (Some memory) ≡ true → m ≡ number
+      entity_is m e f = some_same m number (sym e ∙ (ap (number_in (memories_of p)) (entity_eq (owner_of p a) f) ∙ is_memory))
         where
           entity_eq : (o : Option ℕ) → same_entity o (Some memory) ≡ true → o ≡ Some memory
           entity_eq None f = cc
           entity_eq (Some n) f = ap (λ x. Some x) (eqb-true n memory f)
 
-      other_memory : (m : ℕ) → number_in (memories_of p) a.entity ≡ Some m → (m ≡ number → ⊥) → same_entity a.entity (Some memory) ≡ false
-      other_memory m e none = elim (cases_Bool (same_entity a.entity (Some memory))) [ inl f ↦ absurd (none (entity_is m e f)) | inr f ↦ f ]
+      other_memory : (m : ℕ) → number_in (memories_of p) (owner_of p a) ≡ Some m → (m ≡ number → ⊥) → same_entity (owner_of p a) (Some memory) ≡ false
+      other_memory m e none = elim (cases_Bool (same_entity (owner_of p a) (Some memory))) [ inl f ↦ absurd (none (entity_is m e f)) | inr f ↦ f ]
 
-      no_memory : number_in (memories_of p) a.entity ≡ None → same_entity a.entity (Some memory) ≡ false
-      no_memory e = elim (cases_Bool (same_entity a.entity (Some memory))) [ inl f ↦ absurd (lacks a.entity f e) | inr f ↦ f ]
+      no_memory : number_in (memories_of p) (owner_of p a) ≡ None → same_entity (owner_of p a) (Some memory) ≡ false
+      no_memory e = elim (cases_Bool (same_entity (owner_of p a) (Some memory))) [ inl f ↦ absurd (lacks (owner_of p a) f e) | inr f ↦ f ]
         where
           lacks : (o : Option ℕ) → same_entity o (Some memory) ≡ true → number_in (memories_of p) o ≡ None → ⊥
           lacks None f e = cc
@@ -301,12 +321,12 @@ module _ (p : Program) (flags : List Bool) (event k memory number bank : ℕ) (a
               none_some : None ≡ Some number → ⊥
               none_some e = cc
 
-      by_number : (o : Option ℕ) → number_in (memories_of p) a.entity ≡ o → all_taken (base_of (table_of p) number + bank) (map (spending_step flags) (claims_at p event o a)) ≡ charge p memory bank k
+      by_number : (o : Option ℕ) → number_in (memories_of p) (owner_of p a) ≡ o → all_taken (base_of (table_of p) number + bank) (map (spending_step flags) (claims_at p event o a)) ≡ charge p memory bank k
       by_number None e = sym (never (no_memory e))
       by_number (Some m) e = by_place (cases_lt m number) (cases_lt number m)
         where
-          mine : Declared (memories_of p) a.entity m
-          mine = found (memories_of p) a.entity m e
+          mine : Declared (memories_of p) (owner_of p a) m
+          mine = found (memories_of p) (owner_of p a) m e
 
           claims_are : claims_in p event (base_of (table_of p) m) (slice_get (table_of p) m) a ≡ claims_from event (base_of (table_of p) m) (counts_to p mine.memory.shape.dims a (banks_of mine.memory.shape.dims))
           claims_are = ap (λ o. claims_in p event (base_of (table_of p) m) o a) mine.entry
@@ -338,12 +358,12 @@ module _ (p : Program) (flags : List Bool) (event k memory number bank : ℕ) (a
           same_number : m ≡ number → all_taken (base_of (table_of p) number + bank) (map (spending_step flags) (claims_at p event (Some m) a)) ≡ charge p memory bank k
           same_number q =
               let same_memory : mine.memory ≡ memory_is.memory = some_same mine.memory memory_is.memory (sym mine.named ∙ (ap (slice_get (memories_of p)) q ∙ memory_is.named)) in
-              let entities : a.entity ≡ Some memory = one_entity mine.memory.name.entity a.entity (Some memory) mine.same (ap (λ (x : Memory). same_entity x.name.entity (Some memory)) same_memory ∙ memory_is.same) in
+              let entities : (owner_of p a) ≡ Some memory = one_entity mine.memory.name.entity (owner_of p a) (Some memory) mine.same (ap (λ (x : Memory). same_entity x.name.entity (Some memory)) same_memory ∙ memory_is.same) in
               let inside : bank < banks_of mine.memory.shape.dims = subst (λ (n : ℕ). bank < n) (ap (λ x. banks_in (slice_get (table_of p) x)) (sym q) ∙ banks_are) there in
               ap (λ l. all_taken (base_of (table_of p) number + bank) (map (spending_step flags) l)) claims_are
               ∙ (ap (λ n. all_taken (base_of (table_of p) n + bank) (map (spending_step flags) (claims_from event (base_of (table_of p) m) (counts_to p mine.memory.shape.dims a (banks_of mine.memory.shape.dims))))) (sym q)
               ∙ (claims_inside flags event (is_some (shared p k)) told (base_of (table_of p) m) bank _ (subst (λ (n : ℕ). bank < n) (sym (counts_long p mine.memory.shape.dims a (banks_of mine.memory.shape.dims))) inside)
-              ∙ (ap (λ n. if is_some (shared p k) then 0 else n) (count_at p mine.memory.shape.dims a (banks_of mine.memory.shape.dims) bank inside ∙ ap (λ (x : Memory). keys_on p x.shape.dims a bank) same_memory)
+              ∙ (ap (λ n. if is_some (shared p k) then 0 else n) (count_at p mine.memory.shape.dims a (banks_of mine.memory.shape.dims) bank inside ∙ ap (λ (x : Memory). count_on p (way_to p a.entity) x.shape.dims a bank) same_memory)
               ∙ sym (own (ap (λ o. same_entity o (Some memory)) entities ∙ eq-eqb memory memory refl)))))
 
           by_place : (m < number) ⊎ (number ≤ m) → (number < m) ⊎ (m ≤ number) → all_taken (base_of (table_of p) number + bank) (map (spending_step flags) (claims_at p event (Some m) a)) ≡ charge p memory bank k

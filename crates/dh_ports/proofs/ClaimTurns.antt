@@ -17,7 +17,9 @@ use Rattle.dh_tree.specs.PlainTrees.{Program}
 use Rattle.dh_tree.specs.Seen.{form_seen, program_seen}
 use Rattle.dh_tree.specs.Shapes.{IsDim, IsMemory, IsProgramTable}
 use Rattle.dh_tree.specs.Tables.{elements_in}
-use Rattle.dh_meaning.specs.Bindings.{Binding, bindings_of}
+use Rattle.dh_meaning.specs.Bindings.{Binding}
+use Rattle.dh_meaning.specs.Ways as ways
+use Rattle.dh_meaning.specs.Ways.{all_bindings_of, way_to}
 use Rattle.dh_meaning.specs.Paths.{same_path}
 use Rattle.dh_meets.specs.Charges.{key_of}
 use Rattle.dh_meets.specs.SourceEvents.{SourceAccess}
@@ -26,7 +28,7 @@ use Rattle.dh_ports.specs.declared.moves.Layout.{Layout}
 use Rattle.dh_ports.specs.declared.moves.Move.TheVariants as move
 use Rattle.dh_ports.specs.Banks.{bank_at_path}
 use Rattle.dh_events.specs.Accesses.{entity_in, loops_in}
-use Rattle.dh_ports.specs.Claims.{base_of, AreBases, keys_on, counts_to, claim_at, claim_in, claims_from, claims_in, claims_at, claims_of, source_of}
+use Rattle.dh_ports.specs.Claims.{base_of, AreBases, keys_on, counts_to, claim_at, claim_in, claims_from, claims_in, claims_at, claims_of, source_of, count_on}
 use Rattle.dh_ports.specs.Layouts.{IsLayout}
 use Rattle.dh_events.specs.Scopes.{AreScopes}
 use Rattle.dh_ports.specs.Wholes.{banks_in}
@@ -81,33 +83,39 @@ one_more event base n bank = by_test (nat_lt bank n) (bank == n) (nat_lt bank (s
     by_test false false false e f g = refl
 
 -- outside every unrolled loop an access has one path, and one key
-module _ (tree : Tree) (dims : List Dim) (writes : Bool) (e : Expr) (bank : ℕ) (reached : bank ≡ bank_at_path tree dims (source_of [] writes e) []) where
-  one_key : (b : Bool) → distinct_count same_path (map (key_of (bindings_of (program_seen tree)) (source_of [] writes e)) (cond b ([] ∷ []) [])) ≡ (if b then 1 else 0)
+module _ (tree : Tree) (dims : List Dim) (writes : Bool) (e : Expr) (bank : ℕ) (reached : bank ≡ bank_at_path tree dims (source_of [] writes e) []) (unled : way_to (program_seen tree) (entity_in (form_seen e.form)) ≡ None) where
+  one_key : (b : Bool) → distinct_count same_path (map (key_of (all_bindings_of (program_seen tree)) (source_of [] writes e)) (cond b ([] ∷ []) [])) ≡ (if b then 1 else 0)
   one_key true = refl
   one_key false = refl
 
   keys_here : (n : ℕ) → keys_on (program_seen tree) dims (source_of [] writes e) n ≡ (if bank == n then 1 else 0)
   keys_here n = one_key (bank_at_path tree dims (source_of [] writes e) [] == n) ∙ ap (λ k. if k == n then 1 else 0) (sym reached)
 
+  count_here : (n : ℕ) → count_on (program_seen tree) (way_to (program_seen tree) (entity_in (form_seen e.form))) dims (source_of [] writes e) n ≡ (if bank == n then 1 else 0)
+  count_here n = ap (λ w. count_on (program_seen tree) w dims (source_of [] writes e) n) unled ∙ keys_here n
+
   one_claim : (event base n : ℕ) → claims_from event base (counts_to (program_seen tree) dims (source_of [] writes e) n) ≡ claim_in event base n bank
   one_claim event base zero = sym (ap (λ b. if b then move.Claim event (base + bank) 1 ∷ [] else []) (none_below bank))
   one_claim event base (suc n) =
-      claims_last event base (counts_to (program_seen tree) dims (source_of [] writes e) n) (keys_on (program_seen tree) dims (source_of [] writes e) n)
-      ∙ (ap (λ l. l ++ claim_at event (base + length (counts_to (program_seen tree) dims (source_of [] writes e) n)) (keys_on (program_seen tree) dims (source_of [] writes e) n)) (one_claim event base n)
-      ∙ (ap (λ k. claim_in event base n bank ++ claim_at event (base + k) (keys_on (program_seen tree) dims (source_of [] writes e) n)) (counts_long (program_seen tree) dims (source_of [] writes e) n)
-      ∙ (ap (λ k. claim_in event base n bank ++ claim_at event (base + n) k) (keys_here n)
+      claims_last event base (counts_to (program_seen tree) dims (source_of [] writes e) n) (count_on (program_seen tree) (way_to (program_seen tree) (entity_in (form_seen e.form))) dims (source_of [] writes e) n)
+      ∙ (ap (λ l. l ++ claim_at event (base + length (counts_to (program_seen tree) dims (source_of [] writes e) n)) (count_on (program_seen tree) (way_to (program_seen tree) (entity_in (form_seen e.form))) dims (source_of [] writes e) n)) (one_claim event base n)
+      ∙ (ap (λ k. claim_in event base n bank ++ claim_at event (base + k) (count_on (program_seen tree) (way_to (program_seen tree) (entity_in (form_seen e.form))) dims (source_of [] writes e) n)) (counts_long (program_seen tree) dims (source_of [] writes e) n)
+      ∙ (ap (λ k. claim_in event base n bank ++ claim_at event (base + n) k) (count_here n)
       ∙ one_more event base n bank)))
 
 -- The claims of an access.
 
-module _ (tree : Tree) (event : ℕ) (loops : List Counter) (writes : Bool) (e : Expr) where
+module _ (tree : Tree) (event : ℕ) (loops : List Counter) (writes : Bool) (e : Expr) (unled : way_to (program_seen tree) (entity_in (form_seen e.form)) ≡ None) where
+  claims_direct : claims_of (program_seen tree) event (source_of loops writes e) ≡ claims_at (program_seen tree) event (number_in (memories_of (program_seen tree)) (entity_in (form_seen e.form))) (source_of loops writes e)
+  claims_direct = ap (λ w. claims_at (program_seen tree) event (number_in (memories_of (program_seen tree)) (ways.base_of w (entity_in (form_seen e.form)))) (source_of loops writes e)) unled
+
   -- of what is no memory
   pub none_claimed : (o : Option ℕ) → o ≡ number_in (memories_of (program_seen tree)) (entity_in (form_seen e.form)) → o ≡ None → claims_of (program_seen tree) event (source_of loops writes e) ≡ []
-  none_claimed o h f = ap (λ o. claims_at (program_seen tree) event o (source_of loops writes e)) (sym h ∙ f)
+  none_claimed o h f = claims_direct ∙ ap (λ o. claims_at (program_seen tree) event o (source_of loops writes e)) (sym h ∙ f)
 
   module _ (o : Option ℕ) (m : ℕ) (known : o ≡ number_in (memories_of (program_seen tree)) (entity_in (form_seen e.form))) (is : o ≡ Some m) where
     claims_so : claims_of (program_seen tree) event (source_of loops writes e) ≡ claims_in (program_seen tree) event (base_of (table_of (program_seen tree)) m) (slice_get (table_of (program_seen tree)) m) (source_of loops writes e)
-    claims_so = ap (λ o. claims_at (program_seen tree) event o (source_of loops writes e)) (sym known ∙ is)
+    claims_so = claims_direct ∙ ap (λ o. claims_at (program_seen tree) event o (source_of loops writes e)) (sym known ∙ is)
 
     -- of a memory that is not there
     pub past_claimed : slice_get (table_of (program_seen tree)) m ≡ None → claims_of (program_seen tree) event (source_of loops writes e) ≡ []
@@ -126,7 +134,7 @@ module _ (tree : Tree) (event : ℕ) (loops : List Counter) (writes : Bool) (e :
       one_claimed none bank reached =
           claims_here
           ∙ (ap (λ ls. claims_from event base (counts_to (program_seen tree) dims (source_of ls writes e) banks)) none
-          ∙ one_claim tree dims writes e bank (reached writes) event base banks)
+          ∙ one_claim tree dims writes e bank (reached writes) unled event base banks)
 
       pub all_claimed : (counts : List ℕ) → counts ≡ counts_to (program_seen tree) dims (source_of loops writes e) banks → claims_of (program_seen tree) event (source_of loops writes e) ≡ claims_from event base counts
       all_claimed counts told = claims_here ∙ ap (claims_from event base) (sym told)
@@ -265,7 +273,7 @@ some_loop loops b e f none = apart (sym (ap (λ (l : List Counter). length l == 
     apart : true ≡ false → ⊥
     apart e = cc
 
-pub scopes_at : (p : Program) (layout : Layout) → IsLayout p layout → (round : Option ℕ) → (loops_in layout.rounds.items round ≡ [] → ⊥) → AreScopes (bindings_of p) layout.scopes.items
+pub scopes_at : (p : Program) (layout : Layout) → IsLayout p layout → (round : Option ℕ) → (loops_in layout.rounds.items round ≡ [] → ⊥) → AreScopes (all_bindings_of p) layout.scopes.items
 scopes_at p layout l None h = absurd (h refl)
 scopes_at p layout l (Some id) h = l.scopes id h
 

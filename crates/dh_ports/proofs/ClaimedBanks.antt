@@ -1,9 +1,9 @@
 -- Which banks an access claims: those of its memory that it reaches at some path.
-use Rattle.std.proofs.Common.{◌≡◌, ℕ, zero, suc, ◌+◌, ◌*◌, ◌%◌, ◌<◌, ◌≤◌, ◌==◌, ◌&&◌, ◌||◌, Bool, true, false, if◌then◌else◌, List, [], ◌∷◌, ◌++◌, length, map, refl, ap, sym, ◌∙◌, subst, arith, ◌⊎◌, inl, inr, cond}
+use Rattle.std.proofs.Common.{◌≡◌, ℕ, zero, suc, ◌+◌, ◌*◌, ◌%◌, ◌<◌, ◌≤◌, ◌==◌, ◌&&◌, ◌||◌, nat_lt, Bool, true, false, if◌then◌else◌, List, [], ◌∷◌, ◌++◌, length, map, refl, ap, sym, ◌∙◌, subst, arith, ◌⊎◌, inl, inr, cond}
 use Rattle.std.specs.Prelude.{Option, Some, None, option_map, slice_get, slice_index}
 use Rattle.std.specs.List.{AllByRecursion, filter, list_any}
 use Rattle.std.specs.Set.{distinct_count, unique_keys, is_member}
-use Rattle.std.proofs.lemmas.Bool.{eqb-true, eq-eqb, cases_Bool, or_cases, cases_lt}
+use Rattle.std.proofs.lemmas.Bool.{eqb-true, eq-eqb, cases_Bool, or_cases, cases_lt, ltb-true}
 use Rattle.std.proofs.lemmas.Option.{slice_get_within}
 use Rattle.std.proofs.Math.Nat.{mod-lt}
 use Rattle.dh_tree.specs.declared.tables.Dim.{Dim}
@@ -15,13 +15,18 @@ use Rattle.dh_tree.specs.Memories.{Memory, memories_of, memory_in, number_in, sa
 use Rattle.dh_tree.specs.PlainTrees.{Term, Program}
 use Rattle.dh_tree.proofs.BankElements.{place_below}
 use Rattle.dh_tree.specs.Shapes.{IsDim, IsShape, IsMemory, IsProgramTable}
-use Rattle.dh_meaning.specs.Bindings.{bindings_of}
+use Rattle.dh_meaning.specs.Ways as ways
+use Rattle.dh_meaning.specs.Ways.{Way, all_bindings_of, way_to}
 use Rattle.dh_meaning.specs.Paths.{Path, same_path}
-use Rattle.dh_meets.specs.Charges.{bank_reached, key_of, paths_of, reaches, reaches_in, indices_in}
+use Rattle.dh_meets.specs.Charges as charges
+use Rattle.dh_meets.specs.Charges.{bank_named, bank_reached, charge_by, charge_through, indices_in, key_of, may_reach, paths_of, reaches, reaches_by, reaches_in}
 use Rattle.dh_meets.specs.SourceEvents.{Element, with_indices, in_row, SourceAccess}
+use Rattle.dh_ways.specs.Leading.{LeadsTo, StepsLead, next_dims}
+use Rattle.dh_carried.specs.MadeCopies.{IsPathAmong}
+use Rattle.dh_carried.proofs.ChargedBanks.{charged_reaches, may_below, reaching_charges}
 use Rattle.dh_ports.specs.declared.moves.Move.{Move}
 use Rattle.dh_ports.specs.declared.moves.Move.TheVariants as move
-use Rattle.dh_ports.specs.Claims.{base_of, keys_on, counts_to, claim_at, claims_from, claims_in, claims_at, claims_of}
+use Rattle.dh_ports.specs.Claims.{base_of, count_on, counts_to, owner_of, claim_at, claims_from, claims_in, claims_at, claims_of}
 use Rattle.dh_ports.specs.WritesFound.{can_reach}
 use Rattle.dh_ports.proofs.ClaimFacts.{Declared, found, counts_long, count_at}
 
@@ -125,7 +130,7 @@ index_within (x ∷ xs) (suc i) h = more i (length xs) (index_within xs i h)
 -- Accesses.
 
 pub all_claims : (p : Program) (event : ℕ) (a : SourceAccess) → AllByRecursion (IsClaimOf event) (claims_of p event a)
-all_claims p event a = by_number (number_in (memories_of p) a.entity)
+all_claims p event a = by_number (number_in (memories_of p) (owner_of p a))
   where
     by_entry : (m : ℕ) (o : Option MemEntry) → AllByRecursion (IsClaimOf event) (claims_in p event (base_of (table_of p) m) o a)
     by_entry m None = tt
@@ -141,12 +146,12 @@ pub record Claimed (p : Program) (slot : ℕ) (a : SourceAccess) : Type 0 where
   pub number : ℕ
   pub bank : ℕ
   pub entry : MemEntry
-  pub named : a.entity ≡ Some memory
+  pub named : owner_of p a ≡ Some memory
   pub known : number_in (memories_of p) (Some memory) ≡ Some number
   pub stands : slice_get (table_of p) number ≡ Some entry
   pub within : bank < banks_of entry.shape.dims
   pub is : slot ≡ base_of (table_of p) number + bank
-  pub reached : 1 ≤ keys_on p entry.shape.dims a bank
+  pub reached : 1 ≤ count_on p (way_to p a.entity) entry.shape.dims a bank
 
 entity_there : (a b : Option ℕ) → same_entity a b ≡ true → (n : ℕ) × (b ≡ Some n)
 entity_there None b e = cc
@@ -154,15 +159,15 @@ entity_there (Some m) None e = cc
 entity_there (Some m) (Some n) e = (n, refl)
 
 pub claimed : (p : Program) (event slot : ℕ) (a : SourceAccess) → Claims slot (claims_of p event a) → Claimed p slot a
-claimed p event slot a h = by_number (number_in (memories_of p) a.entity) refl h
+claimed p event slot a h = by_number (number_in (memories_of p) (owner_of p a)) refl h
   where
-    by_entry : (m : ℕ) → number_in (memories_of p) a.entity ≡ Some m → (o : Option MemEntry) → slice_get (table_of p) m ≡ o → Claims slot (claims_in p event (base_of (table_of p) m) o a) → Claimed p slot a
+    by_entry : (m : ℕ) → number_in (memories_of p) (owner_of p a) ≡ Some m → (o : Option MemEntry) → slice_get (table_of p) m ≡ o → Claims slot (claims_in p event (base_of (table_of p) m) o a) → Claimed p slot a
     by_entry m e None f h = absurd h
     by_entry m e (Some x) f h =
         let b = from_claims event (base_of (table_of p) m) slot (counts_to p x.shape.dims a (banks_of x.shape.dims)) h in
         let within : b.0 < banks_of x.shape.dims = subst (λ (n : ℕ). b.0 < n) (counts_long p x.shape.dims a (banks_of x.shape.dims)) (index_within (counts_to p x.shape.dims a (banks_of x.shape.dims)) b.0 b.1.1) in
-        let mine = found (memories_of p) a.entity m e in
-        let there = entity_there mine.memory.name.entity a.entity mine.same in
+        let mine = found (memories_of p) (owner_of p a) m e in
+        let there = entity_there mine.memory.name.entity (owner_of p a) mine.same in
         record {
           memory = there.0;
           number = m;
@@ -176,7 +181,7 @@ claimed p event slot a h = by_number (number_in (memories_of p) a.entity) refl h
           reached = subst (λ (n : ℕ). 1 ≤ n) (count_at p x.shape.dims a (banks_of x.shape.dims) b.0 within) b.1.1;
         }
 
-    by_number : (o : Option ℕ) → number_in (memories_of p) a.entity ≡ o → Claims slot (claims_at p event o a) → Claimed p slot a
+    by_number : (o : Option ℕ) → number_in (memories_of p) (owner_of p a) ≡ o → Claims slot (claims_at p event o a) → Claimed p slot a
     by_number None e h = absurd h
     by_number (Some m) e h = by_entry m e (slice_get (table_of p) m) refl h
 
@@ -253,18 +258,33 @@ bank_told [] is h = omega arith
 bank_told (d ∷ ds) [] h = banks_some (d ∷ ds) h
 bank_told (d ∷ ds) (i ∷ is) h = place_below (i % d.banks) (banks_of ds) (bank_of ds is) d.banks (mod-lt i {m = d.banks} h.0.banks) (bank_told ds is h.1)
 
+-- a way leads to a memory, and the banks of what is named are those of the view
+pub record LeadsAt (p : Program) (w : Way) (a : SourceAccess) : Type 0 where
+  pub leads : LeadsTo (memories_of p) w
+  pub inside : (path : Path) → bank_named p w a path < banks_of w.is.shape.dims
+
 -- a bank that an access reaches is one of its memory
 pub record Bounds (p : Program) (a : SourceAccess) : Type 0 where
   pub table : IsProgramTable (table_of p)
+  pub ways_lead : (w : Way) → way_to p a.entity ≡ Some w → LeadsAt p w a
   pub rows : (bank : ℕ) (row : Term) (m : Memory) → a.element ≡ in_row bank row → memory_in (memories_of p) a.entity ≡ Some m → bank < banks_of m.shape.dims
 
 reached_within : (p : Program) (a : SourceAccess) (path : Path) (m : Memory) (bank : ℕ) → Bounds p a → IsShape m.shape → memory_in (memories_of p) a.entity ≡ Some m → (e : Element) → a.element ≡ e → bank_reached (counters_of p) m.shape.dims a path e ≡ bank → bank < banks_of m.shape.dims
 reached_within p a path m bank b s e (with_indices indices) f g = subst (λ (n : ℕ). n < banks_of m.shape.dims) g (bank_told m.shape.dims (indices_in (counters_of p) a.site.loops path indices) s.dims)
 reached_within p a path m bank b s e (in_row other row) f g = subst (λ (n : ℕ). n < banks_of m.shape.dims) g (b.rows other row m f e)
 
-path_there : {A : Type 0} (t : A → Bool) (xs : List A) → list_any t xs ≡ true → (x : A) × (t x ≡ true)
+path_there : (t : Path → Bool) (xs : List Path) → list_any t xs ≡ true → (x : Path) × (IsPathAmong x xs × (t x ≡ true))
 path_there t [] e = cc
-path_there t (x ∷ xs) e = elim (or_cases (t x) (list_any t xs) e) [ inl f ↦ (x, f) | inr f ↦ path_there t xs f ]
+path_there t (x ∷ xs) e = elim (or_cases (t x) (list_any t xs) e) [ inl f ↦ (x, (inl refl, f)) | inr f ↦ (let at = path_there t xs f in (at.0, (inr at.1.0, at.1.1))) ]
+
+there_path : (t : Path → Bool) (xs : List Path) (x : Path) → IsPathAmong x xs → t x ≡ true → list_any t xs ≡ true
+there_path t [] x h e = absurd h
+there_path t (y ∷ ys) x (inl f) e = ap (λ b. b || list_any t ys) (ap t (sym f) ∙ e)
+there_path t (y ∷ ys) x (inr h) e = either (t y) (list_any t ys) (there_path t ys x h e)
+  where
+    either : (a b : Bool) → b ≡ true → (a || b) ≡ true
+    either true b e = refl
+    either false b e = e
 
 both_true : (a b : Bool) → (a && b) ≡ true → (a ≡ true) × (b ≡ true)
 both_true true b e = (refl, e)
@@ -278,67 +298,133 @@ any_same : {A : Type 0} (s t : A → Bool) (xs : List A) → ((x : A) → s x �
 any_same s t [] f = refl
 any_same s t (x ∷ xs) f = ap (λ b. b || list_any s xs) (f x) ∙ ap (λ b. t x || b) (any_same s t xs f)
 
--- where the memory is known, an access reaches what its keys reach
-reaches_is : (p : Program) (a : SourceAccess) (path : Path) (memory bank : ℕ) (m : Memory) → a.entity ≡ Some memory → memory_in (memories_of p) (Some memory) ≡ Some m
+-- where the memory is known, an access without views reaches what its keys reach
+reaches_is : (p : Program) (a : SourceAccess) (path : Path) (memory bank : ℕ) (m : Memory) → way_to p a.entity ≡ None → a.entity ≡ Some memory → memory_in (memories_of p) (Some memory) ≡ Some m
     → reaches p a path memory bank ≡ (bank_reached (counters_of p) m.shape.dims a path a.element == bank)
-reaches_is p a path memory bank m e f =
-    ap (λ o. same_entity o (Some memory) && reaches_in (counters_of p) (memory_in (memories_of p) (Some memory)) a path bank) e
+reaches_is p a path memory bank m u e f =
+    ap (λ w. reaches_by p w a path memory bank) u
+    ∙ (ap (λ o. same_entity o (Some memory) && reaches_in (counters_of p) (memory_in (memories_of p) (Some memory)) a path bank) e
     ∙ (ap (λ b. b && reaches_in (counters_of p) (memory_in (memories_of p) (Some memory)) a path bank) (eq-eqb memory memory refl)
-    ∙ ap (λ o. reaches_in (counters_of p) o a path bank) f)
+    ∙ ap (λ o. reaches_in (counters_of p) o a path bank) f))
 
 -- a bank that an access reaches is claimed
 pub record Reaching (p : Program) (a : SourceAccess) (memory bank : ℕ) : Type 0 where
   pub number : ℕ
   pub owner : Memory
-  pub named : a.entity ≡ Some memory
+  pub named : owner_of p a ≡ Some memory
   pub is : memory_in (memories_of p) (Some memory) ≡ Some owner
   pub known : number_in (memories_of p) (Some memory) ≡ Some number
   pub stands : slice_get (table_of p) number ≡ Some (entry_of owner)
   pub within : bank < banks_of owner.shape.dims
-  pub reached : 1 ≤ keys_on p owner.shape.dims a bank
+  pub reached : 1 ≤ count_on p (way_to p a.entity) owner.shape.dims a bank
 
 pub reaching : (p : Program) (a : SourceAccess) (memory bank : ℕ) → Bounds p a → can_reach p a memory bank ≡ true → Reaching p a memory bank
-reaching p a memory bank b e = by_memory (memory_in (memories_of p) (Some memory)) refl
+reaching p a memory bank b e = by_way (way_to p a.entity) refl
   where
-    at : (path : Path) × (reaches p a path memory bank ≡ true)
+    at : (path : Path) × (IsPathAmong path (paths_of a) × (reaches p a path memory bank ≡ true))
     at = path_there (λ path. reaches p a path memory bank) (paths_of a) e
 
-    parts : (same_entity a.entity (Some memory) ≡ true) × (reaches_in (counters_of p) (memory_in (memories_of p) (Some memory)) a at.0 bank ≡ true)
-    parts = both_true _ _ at.1
+    reached_by : (w : Option Way) → way_to p a.entity ≡ w → reaches_by p w a at.0 memory bank ≡ true
+    reached_by w u = sym (ap (λ w. reaches_by p w a at.0 memory bank) u) ∙ at.1.1
 
-    name : a.entity ≡ Some memory
-    name = named_by a.entity memory parts.0
+    through : (w : Way) → way_to p a.entity ≡ Some w → Reaching p a memory bank
+    through w u =
+        let parts = both_true (same_entity w.memory (Some memory)) (may_reach w.steps (bank_named p w a at.0) bank) (reached_by (Some w) u) in
+        let l = b.ways_lead w u in
+        let m = l.leads.memory in
+        let name = named_by w.memory memory parts.0 in
+        let is : memory_in (memories_of p) (Some memory) ≡ Some m = ap (memory_in (memories_of p)) (sym name) ∙ l.leads.found in
+        let n = number_there (memories_of p) (Some memory) m is in
+        let inside : (path : Path) → bank_named p w a path < banks_of (next_dims w.steps m.shape.dims) = λ path. subst (λ (ds : List Dim). bank_named p w a path < banks_of ds) (sym l.leads.first) (l.inside path) in
+        record {
+          number = n.0;
+          owner = m;
+          named = ap (λ w. ways.base_of w a.entity) u ∙ name;
+          is = is;
+          known = n.1.0;
+          stands = n.1.1;
+          within = may_below w.steps m.shape.dims (bank_named p w a at.0) bank l.leads.steps (inside at.0) parts.1;
+          reached = subst (λ (w : Option Way). 1 ≤ count_on p w m.shape.dims a bank) (sym u) (reaching_charges p w a m.shape.dims bank l.leads.steps inside (record { path = at.0; there = at.1.0; reached = parts.1 }));
+        }
 
-    by_memory : (o : Option Memory) → memory_in (memories_of p) (Some memory) ≡ o → Reaching p a memory bank
-    by_memory None f = absurd (untrue (sym (ap (λ o. reaches_in (counters_of p) o a at.0 bank) f) ∙ parts.1))
+    directly : way_to p a.entity ≡ None → (o : Option Memory) → memory_in (memories_of p) (Some memory) ≡ o → Reaching p a memory bank
+    directly u None f = absurd (untrue (sym (ap (λ o. reaches_in (counters_of p) o a at.0 bank) f) ∙ (both_true (same_entity a.entity (Some memory)) (reaches_in (counters_of p) (memory_in (memories_of p) (Some memory)) a at.0 bank) (reached_by None u)).1))
       where
         untrue : false ≡ true → ⊥
         untrue e = cc
-    by_memory (Some m) f =
+    directly u (Some m) f =
+        let parts = both_true (same_entity a.entity (Some memory)) (reaches_in (counters_of p) (memory_in (memories_of p) (Some memory)) a at.0 bank) (reached_by None u) in
+        let name = named_by a.entity memory parts.0 in
         let n = number_there (memories_of p) (Some memory) m f in
         let shape : IsShape m.shape = (at_all IsMemory (table_of p) n.0 (entry_of m) b.table.entries n.1.1).shape in
         record {
           number = n.0;
           owner = m;
-          named = name;
+          named = ap (λ w. ways.base_of w a.entity) u ∙ name;
           is = f;
           known = n.1.0;
           stands = n.1.1;
           within = reached_within p a at.0 m bank b shape (ap (memory_in (memories_of p)) name ∙ f) a.element refl (eqb-true _ bank (sym (ap (λ o. reaches_in (counters_of p) o a at.0 bank) f) ∙ parts.1));
-          reached = kept_some same_path (key_of (bindings_of p) a) (λ path. bank_reached (counters_of p) m.shape.dims a path a.element == bank) (paths_of a)
-              (sym (any_same (λ path. reaches p a path memory bank) (λ path. bank_reached (counters_of p) m.shape.dims a path a.element == bank) (paths_of a) (λ path. reaches_is p a path memory bank m name f)) ∙ e);
+          reached = subst (λ (w : Option Way). 1 ≤ count_on p w m.shape.dims a bank) (sym u)
+              (kept_some same_path (key_of (all_bindings_of p) a) (λ path. bank_reached (counters_of p) m.shape.dims a path a.element == bank) (paths_of a)
+              (sym (any_same (λ path. reaches p a path memory bank) (λ path. bank_reached (counters_of p) m.shape.dims a path a.element == bank) (paths_of a) (λ path. reaches_is p a path memory bank m u name f)) ∙ e));
         }
+
+    by_way : (w : Option Way) → way_to p a.entity ≡ w → Reaching p a memory bank
+    by_way None u = directly u (memory_in (memories_of p) (Some memory)) refl
+    by_way (Some w) u = through w u
 
 abbrev pub reaching_claims : (p : Program) (a : SourceAccess) (memory bank : ℕ) (r : Reaching p a memory bank) → Claimed p (base_of (table_of p) r.number + bank) a
 reaching_claims p a memory bank r = record { memory = memory; number = r.number; bank = bank; entry = entry_of r.owner; named = r.named; known = r.known; stands = r.stands; within = r.within; is = refl; reached = r.reached }
 
+-- what is charged through views may be reached
+through_reach : (p : Program) (a : SourceAccess) (w : Way) (memory bank : ℕ) → way_to p a.entity ≡ Some w → w.memory ≡ Some memory → (dims : List Dim) → StepsLead w.steps dims → bank < banks_of dims → 1 ≤ charge_through p w a bank → can_reach p a memory bank ≡ true
+through_reach p a w memory bank u name dims lead below some =
+    let r = charged_reaches p w a dims bank lead below some in
+    there_path (λ path. reaches p a path memory bank) (paths_of a) r.path r.there
+    (ap (λ w. reaches_by p w a r.path memory bank) u
+    ∙ (ap (λ o. same_entity o (Some memory) && may_reach w.steps (bank_named p w a r.path) bank) name
+    ∙ (ap (λ b. b && may_reach w.steps (bank_named p w a r.path) bank) (eq-eqb memory memory refl) ∙ r.reached)))
+
+some_same : {A : Type 0} (x y : A) → Some x ≡ Some y → x ≡ y
+some_same x y e = cc
+
 -- what is claimed is reached
-pub claimed_reaches : (p : Program) (slot : ℕ) (a : SourceAccess) (c : Claimed p slot a) → can_reach p a c.memory c.bank ≡ true
-claimed_reaches p slot a c =
-    let mine = found (memories_of p) (Some c.memory) c.number c.known in
-    let same : c.entry ≡ entry_of mine.memory = some_same c.entry (entry_of mine.memory) (sym c.stands ∙ mine.entry) in
-    any_same (λ path. reaches p a path c.memory c.bank) (λ path. bank_reached (counters_of p) mine.memory.shape.dims a path a.element == c.bank) (paths_of a) (λ path. reaches_is p a path c.memory c.bank mine.memory c.named mine.is)
-    ∙ some_kept same_path (key_of (bindings_of p) a) (λ path. bank_reached (counters_of p) mine.memory.shape.dims a path a.element == c.bank) (paths_of a) (subst (λ (x : MemEntry). 1 ≤ keys_on p x.shape.dims a c.bank) same c.reached)
+pub claimed_reaches : (p : Program) (slot : ℕ) (a : SourceAccess) (c : Claimed p slot a) → Bounds p a → can_reach p a c.memory c.bank ≡ true
+claimed_reaches p slot a c b = by_way (way_to p a.entity) refl
   where
-    some_same : (x y : MemEntry) → Some x ≡ Some y → x ≡ y
-    some_same x y e = cc
+    mine : Declared (memories_of p) (Some c.memory) c.number
+    mine = found (memories_of p) (Some c.memory) c.number c.known
+
+    same : c.entry ≡ entry_of mine.memory
+    same = some_same c.entry (entry_of mine.memory) (sym c.stands ∙ mine.entry)
+
+    by_way : (w : Option Way) → way_to p a.entity ≡ w → can_reach p a c.memory c.bank ≡ true
+    by_way None u =
+        any_same (λ path. reaches p a path c.memory c.bank) (λ path. bank_reached (counters_of p) mine.memory.shape.dims a path a.element == c.bank) (paths_of a) (λ path. reaches_is p a path c.memory c.bank mine.memory u (sym (ap (λ w. ways.base_of w a.entity) u) ∙ c.named) mine.is)
+        ∙ some_kept same_path (key_of (all_bindings_of p) a) (λ path. bank_reached (counters_of p) mine.memory.shape.dims a path a.element == c.bank) (paths_of a)
+        (subst (λ (w : Option Way). 1 ≤ count_on p w mine.memory.shape.dims a c.bank) u (subst (λ (x : MemEntry). 1 ≤ count_on p (way_to p a.entity) x.shape.dims a c.bank) same c.reached))
+    by_way (Some w) u =
+        let l = b.ways_lead w u in
+        let name : w.memory ≡ Some c.memory = sym (ap (λ w. ways.base_of w a.entity) u) ∙ c.named in
+        let one : mine.memory ≡ l.leads.memory = some_same mine.memory l.leads.memory (sym mine.is ∙ (ap (memory_in (memories_of p)) (sym name) ∙ l.leads.found)) in
+        let below : c.bank < banks_of l.leads.memory.shape.dims = subst (λ (m : Memory). c.bank < banks_of m.shape.dims) one (subst (λ (x : MemEntry). c.bank < banks_of x.shape.dims) same c.within) in
+        through_reach p a w c.memory c.bank u name l.leads.memory.shape.dims l.leads.steps below (subst (λ (w : Option Way). 1 ≤ count_on p w c.entry.shape.dims a c.bank) u c.reached)
+
+-- and what is charged
+pub charged_reach : (p : Program) (a : SourceAccess) (memory bank : ℕ) → Bounds p a → 1 ≤ charge_by p (way_to p a.entity) a memory bank → can_reach p a memory bank ≡ true
+charged_reach p a memory bank b some = by_way (way_to p a.entity) refl (subst (λ (n : ℕ). 1 ≤ n) refl some)
+  where
+    by_way : (w : Option Way) → way_to p a.entity ≡ w → 1 ≤ charge_by p w a memory bank → can_reach p a memory bank ≡ true
+    by_way None u h = some_kept same_path (key_of (all_bindings_of p) a) (λ path. reaches p a path memory bank) (paths_of a) h
+    by_way (Some w) u h =
+        let l = b.ways_lead w u in
+        let parts = charged_parts (same_entity w.memory (Some memory)) (nat_lt bank (charges.banks_in p memory)) (charge_through p w a bank) h in
+        let name = named_by w.memory memory parts.0 in
+        let is : memory_in (memories_of p) (Some memory) ≡ Some l.leads.memory = ap (memory_in (memories_of p)) (sym name) ∙ l.leads.found in
+        through_reach p a w memory bank u name l.leads.memory.shape.dims l.leads.steps (subst (λ (n : ℕ). bank < n) (ap charges.memory_banks is) (ltb-true bank (charges.banks_in p memory) parts.1.0)) parts.1.1
+      where
+        charged_parts : (b c : Bool) (n : ℕ) → 1 ≤ (if b && c then n else 0) → (b ≡ true) × ((c ≡ true) × (1 ≤ n))
+        charged_parts true true n h = (refl, (refl, h))
+        charged_parts true false n h = absurd (none_one h)
+        charged_parts false c n h = absurd (none_one h)

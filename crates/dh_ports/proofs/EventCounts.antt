@@ -3,6 +3,8 @@ use Rattle.std.proofs.Common.{◌≡◌, ℕ, suc, ◌+◌, Bool, true, false, L
 use Rattle.std.specs.Prelude.{Option, Some, None}
 use Rattle.dh_base.specs.declared.places.Place.{Place}
 use Rattle.dh_tree.specs.PlainTrees.{Term, term, TermForm, number, truth_value, named, accessed, in_bank, applied, converted, Terms, no_terms, term_then, Action, action, ActionForm, lets, lets_memory, views, assigns, stores, reduces, calls, blocks, decides, repeats, counts, MaybeAction, no_action, one_action, Actions, no_actions, action_then, Groups, no_groups, group_then}
+use Rattle.dh_tree.specs.Seen.{terms}
+use Rattle.dh_tree.specs.ViewOffsets.{offsets_of}
 use Rattle.dh_meaning.specs.AccessNumbers.{term_accesses, form_accesses, terms_accesses, maybe_accesses, own_accesses, inner_accesses, accesses_of, other_accesses, groups_accesses, part_accesses}
 use Rattle.dh_meaning.specs.Sites.{Around, in_arm, in_loop, loop_of}
 use Rattle.dh_meets.specs.SourceEvents.{Site, SourceEvent, accesses, assigned, accesses_in, site_of, term_events, form_events, terms_events, maybe_events, write_events, events, command_events, other_events, groups_events, part_events}
@@ -79,7 +81,7 @@ mutual
   command_counted : (r : Around) (s : Site) (form : ActionForm) → count_in (command_events r s form) ≡ own_accesses form + inner_accesses form
   command_counted r s (lets name declared value) = none_more (maybe_events s value) _ _ refl (maybe_counted s value) ∙ sym (with_none _)
   command_counted r s (lets_memory name shape shape_places value) = refl
-  command_counted r s (views name parent form) = refl
+  command_counted r s (views name parent form) = terms_counted s (terms (offsets_of form)) ∙ sym (with_none _)
   command_counted r s (assigns target value) = none_more (term_events s value) _ _ refl (term_counted s value) ∙ sym (with_none _)
   command_counted r s (stores target value) = both (term_events s value) (write_events s target) _ _ (term_counted s value) (write_counted s target) ∙ sym (with_none _)
   command_counted r s (reduces target op value) = none_more (term_events s value) _ _ refl (term_counted s value) ∙ sym (with_none _)

@@ -7,7 +7,9 @@ use Rattle.dh_base.specs.declared.places.Place.{Place}
 use Rattle.dh_value.specs.declared.kinds.Kind.{Kind}
 use Rattle.dh_tree.specs.Meets.{Meets, nothing, access, all, one}
 use Rattle.dh_tree.specs.PlainTrees.{Term, term, TermForm, number, truth_value, named, accessed, in_bank, applied, converted, Terms, no_terms, term_then, Action, action, ActionForm, lets, lets_memory, views, assigns, stores, reduces, calls, blocks, decides, repeats, counts, MaybeAction, no_action, one_action, Actions, no_actions, action_then, Groups, no_groups, group_then}
-use Rattle.dh_meaning.specs.AccessNumbers.{term_accesses, form_accesses, terms_accesses, maybe_accesses, own_accesses, inner_accesses, accesses_of, other_accesses, groups_accesses, part_accesses}
+use Rattle.dh_tree.specs.Seen.{terms}
+use Rattle.dh_tree.specs.ViewOffsets.{offsets_of}
+use Rattle.dh_meaning.specs.AccessNumbers.{term_accesses, form_accesses, terms_accesses, maybe_accesses, own_accesses, inner_accesses, accesses_of, other_accesses, groups_accesses, part_accesses, plan_accesses}
 use Rattle.dh_meets.specs.MayMeet.{row_of, arms_meet, meets, command_meets, other_meets, groups_meet, part_meets}
 use Rattle.dh_events.specs.declared.events.Site.{Site}
 use Rattle.dh_events.specs.declared.noting.Open.{Open}
@@ -53,7 +55,7 @@ mutual
   form_count s place kind (applied op left right) = both_count (term_incidents s left) (term_incidents s right) _ _ (term_count s left) (term_count s right)
   form_count s place kind (converted inner to) = term_count s inner
 
-  terms_count : (s : Site) (ts : Terms) → count (terms_incidents s ts) ≡ terms_accesses ts
+  pub terms_count : (s : Site) (ts : Terms) → count (terms_incidents s ts) ≡ terms_accesses ts
   terms_count s no_terms = refl
   terms_count s (term_then t ts) = both_count (term_incidents s t) (terms_incidents s ts) _ _ (term_count s t) (terms_count s ts)
 
@@ -86,7 +88,7 @@ mutual
   command_count : (f : ℕ → ℕ) (round : Option ℕ) (g : Open) (id : ℕ) (form : ActionForm) → count (command_incidents f round g id form) ≡ own_accesses form + inner_accesses form
   command_count f round g id (lets name declared value) = none_more (maybe_incidents (site_at (phase_of g id) round) value) _ _ refl (maybe_count (site_at (phase_of g id) round) value) ∙ sym (with_none _)
   command_count f round g id (lets_memory name shape shape_places value) = refl
-  command_count f round g id (views name parent form) = refl
+  command_count f round g id (views name parent form) = terms_count (site_at (phase_of g id) round) (terms (offsets_of form)) ∙ sym (with_none _)
   command_count f round g id (assigns target value) = none_more (term_incidents (site_at (phase_of g id) round) value) _ _ refl (term_count (site_at (phase_of g id) round) value) ∙ sym (with_none _)
   command_count f round g id (stores target value) =
       both_count (term_incidents (site_at (phase_of g id) round) value) (target_incidents (site_at (phase_of g id) round) target) _ _ (term_count (site_at (phase_of g id) round) value) (target_count (site_at (phase_of g id) round) target) ∙ sym (with_none _)
@@ -255,7 +257,8 @@ mutual
       ties_behind c n (maybe_incidents (site_at (phase_of g id) round) value) (assigned name.entity) _ refl (λ m l. refl)
       (flat_ties c n (maybe_incidents (site_at (phase_of g id) round) value) (maybe_accesses value) (maybe_flat (site_at (phase_of g id) round) value) (maybe_count (site_at (phase_of g id) round) value))
   command_ties c f n round g id (lets_memory name shape shape_places value) = ties_nothing c n
-  command_ties c f n round g id (views name parent form) = ties_nothing c n
+  command_ties c f n round g id (views name parent form) =
+      flat_ties c n (terms_incidents (site_at (phase_of g id) round) (terms (offsets_of form))) (plan_accesses form) (terms_flat (site_at (phase_of g id) round) (terms (offsets_of form))) (terms_count (site_at (phase_of g id) round) (terms (offsets_of form)))
   command_ties c f n round g id (assigns target value) =
       ties_behind c n (term_incidents (site_at (phase_of g id) round) value) (assigned target.entity) _ refl (λ m l. refl)
       (flat_ties c n (term_incidents (site_at (phase_of g id) round) value) (term_accesses value) (term_flat (site_at (phase_of g id) round) value) (term_count (site_at (phase_of g id) round) value))

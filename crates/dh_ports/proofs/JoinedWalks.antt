@@ -10,6 +10,8 @@ use Rattle.dh_value.specs.declared.kinds.Kind.{Kind}
 use Rattle.dh_tree.specs.declared.trees.counters.Counter.{Counter}
 use Rattle.dh_tree.specs.Numbers.{commands_in, commands_inside, commands_in_other, commands_in_groups, commands_in_part, IsNumbered, IsNumberedInside, IsNumberedOther, AreNumberedGroups, AreNumbered}
 use Rattle.dh_tree.specs.PlainTrees.{Term, term, TermForm, number, truth_value, named, accessed, in_bank, applied, converted, Terms, no_terms, term_then, Action, action, ActionForm, lets, lets_memory, views, assigns, stores, reduces, calls, blocks, decides, repeats, counts, MaybeAction, no_action, one_action, Actions, no_actions, action_then, Groups, no_groups, group_then}
+use Rattle.dh_tree.specs.Seen.{terms}
+use Rattle.dh_tree.specs.ViewOffsets.{offsets_of}
 use Rattle.dh_meaning.specs.Sites.{Arm, Around, in_arm, in_loop, loop_of}
 use Rattle.dh_meets.specs.Sharing.{same_arm, same_truth}
 use Rattle.dh_meets.specs.SourceEvents as source
@@ -395,7 +397,7 @@ module _ (f : ℕ → ℕ) where
     command_joins : (n : ℕ) (r : Around) (round : Option ℕ) (g : Open) (form : ActionForm) → IsNumberedInside (suc n) form → Joins (Within n (n + suc (commands_inside form))) r.arms (command_incidents f round g n form) (command_events r (site_of r n) form)
     command_joins n r round g (lets name declared value) s = plain_joins _ r.arms _ _ (joins_last Nowhere r.arms (maybe_incidents (site_at (phase_of g n) round) value) _ (maybe_events (site_of r n) value) _ (maybe_joins (site_at (phase_of g n) round) (site_of r n) value) (joins_set r.arms name.entity))
     command_joins n r round g (lets_memory name shape shape_places value) s = joins_none _ r.arms
-    command_joins n r round g (views name parent form) s = joins_none _ r.arms
+    command_joins n r round g (views name parent form) s = plain_joins _ r.arms _ _ (terms_joins (site_at (phase_of g n) round) (site_of r n) (terms (offsets_of form)))
     command_joins n r round g (assigns target value) s = plain_joins _ r.arms _ _ (joins_last Nowhere r.arms (term_incidents (site_at (phase_of g n) round) value) _ (term_events (site_of r n) value) _ (term_joins (site_at (phase_of g n) round) (site_of r n) value) (joins_set r.arms target.entity))
     command_joins n r round g (stores target value) s =
         plain_joins _ r.arms _ _ (joins_last Nowhere r.arms (term_incidents (site_at (phase_of g n) round) value) _ (term_events (site_of r n) value) _ (term_joins (site_at (phase_of g n) round) (site_of r n) value) (target_joins (site_at (phase_of g n) round) (site_of r n) target))

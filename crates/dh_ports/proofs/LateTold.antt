@@ -397,7 +397,7 @@ module _ (p : Program) (events : List Event) (h0 : IsToldBefore p) (loops : Tell
             is = b.1;
             writes = take_true b.0.writes t.takes s.1 t.some;
             phase = phase_told j k b.0 a b.1 e ∙ eq-eqb _ _ (key_phase _ _ _ _ keys);
-            reached = ap (λ m. can_reach p b.0 m c.bank) (sym one.0) ∙ (ap (λ n. can_reach p b.0 d.memory n) (sym one.1) ∙ claimed_reaches p place b.0 d);
+            reached = ap (λ m. can_reach p b.0 m c.bank) (sym one.0) ∙ (ap (λ n. can_reach p b.0 d.memory n) (sym one.1) ∙ claimed_reaches p place b.0 d (bounds_of p h0 j b.0 b.1));
           })
       | inr more ↦ absurd (none_one (subst (λ (ms : List Move). 1 ≤ all_taken slot (map (order_step finds.known events) ms)) (none_claims p (loops_known p) 0 (all_seen events) j more) h))
     ]
@@ -484,7 +484,7 @@ module _ (p : Program) (events : List Event) (h0 : IsToldBefore p) (loops : Tell
         reads = e;
         read_is = reads;
         stands = refl;
-        reached = claimed_reaches p l.bank a c;
+        reached = claimed_reaches p l.bank a c (bounds_of p h0 k a e);
         found = gone_meets k a e reads slot l.bank c (slot_found finds.known (bank_key (site k a e).phase l.bank) slot s.0) gone;
       }
 

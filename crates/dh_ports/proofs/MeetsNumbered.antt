@@ -3,7 +3,7 @@ use Rattle.std.proofs.Common.{◌≡◌, ℕ, zero, suc, ◌+◌, ◌<◌, ◌�
 use Rattle.std.proofs.lemmas.Bool.{cases_lt}
 use Rattle.dh_tree.specs.Meets.{Meets, nothing, access, all, one, In, Distinct, Before}
 use Rattle.dh_tree.specs.PlainTrees.{Action, action, ActionForm, lets, lets_memory, views, assigns, stores, reduces, calls, blocks, decides, repeats, counts, MaybeAction, no_action, one_action, Actions, no_actions, action_then, Groups, no_groups, group_then}
-use Rattle.dh_meaning.specs.AccessNumbers.{term_accesses, maybe_accesses, own_accesses, inner_accesses, accesses_of, other_accesses, groups_accesses, part_accesses}
+use Rattle.dh_meaning.specs.AccessNumbers.{term_accesses, maybe_accesses, plan_accesses, own_accesses, inner_accesses, accesses_of, other_accesses, groups_accesses, part_accesses}
 use Rattle.dh_meets.specs.MayMeet.{row_of, arms_meet, meets, command_meets, other_meets, groups_meet, part_meets}
 
 absurd : {A : Type 0} → ⊥ → A
@@ -120,7 +120,7 @@ mutual
   command_numbered : (unrolled : Bool) (n : ℕ) (form : ActionForm) → Numbered n (own_accesses form + inner_accesses form) (command_meets unrolled n form)
   command_numbered unrolled n (lets name declared value) = at_sum n _ _ _ (with_none (maybe_accesses value)) (numbered_row n (maybe_accesses value))
   command_numbered unrolled n (lets_memory name shape shape_places value) = numbered_nothing n
-  command_numbered unrolled n (views name parent form) = numbered_nothing n
+  command_numbered unrolled n (views name parent form) = at_sum n _ _ _ (with_none (plan_accesses form)) (numbered_row n (plan_accesses form))
   command_numbered unrolled n (assigns target value) = at_sum n _ _ _ (with_none (term_accesses value)) (numbered_row n (term_accesses value))
   command_numbered unrolled n (stores target value) = at_sum n _ _ _ (with_none (term_accesses value + term_accesses target)) (numbered_row n (term_accesses value + term_accesses target))
   command_numbered unrolled n (reduces target op value) = at_sum n _ _ _ (with_none (term_accesses value)) (numbered_row n (term_accesses value))

@@ -5,8 +5,10 @@ use Rattle.std.proofs.lemmas.Bool.Decides.{nat_tests}
 use Rattle.std.specs.Prelude.{Option, Some, None}
 use Rattle.dh_base.specs.declared.places.Place.{Place}
 use Rattle.dh_value.specs.declared.kinds.Kind.{Kind}
-use Rattle.dh_tree.specs.PlainTrees.{Term, term, TermForm, number, truth_value, named, accessed, in_bank, applied, converted, Terms, no_terms, term_then, Action, action, ActionForm, lets, lets_memory, views, assigns, stores, reduces, calls, blocks, decides, repeats, counts, MaybeAction, no_action, one_action, Actions, no_actions, action_then, Groups, no_groups, group_then}
-use Rattle.dh_meaning.specs.AccessNumbers.{term_accesses, own_accesses, accesses_of, other_accesses, part_accesses}
+use Rattle.dh_tree.specs.PlainTrees.{Term, term, TermForm, number, truth_value, named, accessed, in_bank, applied, converted, Terms, no_terms, term_then, shrinks, splits, suffixes, shifts, Action, action, ActionForm, lets, lets_memory, views, assigns, stores, reduces, calls, blocks, decides, repeats, counts, MaybeAction, no_action, one_action, Actions, no_actions, action_then, Groups, no_groups, group_then}
+use Rattle.dh_tree.specs.Seen.{terms}
+use Rattle.dh_tree.specs.ViewOffsets.{offsets_of}
+use Rattle.dh_meaning.specs.AccessNumbers.{term_accesses, own_accesses, accesses_of, other_accesses, part_accesses, terms_accesses}
 use Rattle.dh_meaning.specs.OnePhase.{is_within, makes, other_makes, test_makes}
 use Rattle.dh_meaning.specs.Phases.{Located, Phase, turns, repeated, decided, of_list, joined, are_straight, one_command, folded, turn_count, turn_phases, choice_phases, located, phases, form_phases, other_phases, groups_phases, parts_phases, unless_turns, idle_phases, idle_form_phases, idle_other_phases, idle_groups_phases, idle_part_phases}
 use Rattle.dh_meaning.specs.Sites.{Around, in_arm, in_loop, loop_of}
@@ -16,11 +18,11 @@ use Rattle.dh_events.specs.Incidents.{Incident, touches, assigned, arm_begins, a
 use Rattle.dh_events.specs.Stages.{loop_stage, stage_of, form_stage, other_stage, groups_stage, part_stage}
 use Rattle.dh_ports.specs.Courses.{count}
 use Rattle.dh_ports.proofs.CourseTies.{count_append}
-use Rattle.dh_ports.proofs.IncidentTies.{term_count, maybe_count, target_count, action_count, part_count}
+use Rattle.dh_ports.proofs.IncidentTies.{term_count, maybe_count, target_count, action_count, part_count, terms_count}
 use Rattle.dh_ports.proofs.PhaseRuns.{tag_of, stands, flat_all, flat, or_none, or_assoc, or_both, runs_nil, flat_append, flat_of_list, stands_append}
 use Rattle.dh_ports.proofs.PhaseShapes.{size, most, last_behind, opened, next_going, going_opened, last_opened, opened_joined, into, into_none, all_stand, Fits, joined_stands, folded_stands, beside_stands, straight_stands, straight_size, full_joined, max_right, tops}
 use Rattle.dh_ports.proofs.StagesKnown.{Known, KnownInside, KnownOther, KnownGroups, KnownPart}
-use Rattle.dh_ports.proofs.PhaseSizes.{choice_straight, TurnCases, loop_turns, stage_size, other_size, groups_size, part_size, groups_full, other_full, makes_tops, other_tops, max_first, sum_first, sum_second, few_choice, stepped_at, stepped_choice, after, part_straight, part_after, few_parts}
+use Rattle.dh_ports.proofs.PhaseSizes.{choice_straight, TurnCases, loop_turns, stage_size, other_size, groups_size, part_size, groups_full, other_full, makes_tops, other_tops, max_first, sum_first, sum_second, few_choice, stepped_at, stepped_choice, after, part_straight, part_after, few_parts, within_none}
 
 -- the access of a number has this phase
 abbrev pub tells : ℕ → List Incident → (k p : ℕ) → Bool
@@ -88,9 +90,6 @@ all_append q (arm_ends ∷ xs) ys g h = all_append q xs ys g h
 all_append q (begins ∷ xs) ys g h = all_append q xs ys g h
 all_append q (next ∷ xs) ys g h = all_append q xs ys g h
 all_append q (ends ∷ xs) ys g h = all_append q xs ys g h
-
-within_none : (k n : ℕ) → is_within k n 0 ≡ false
-within_none k n = grind (arith, nat_tests)
 
 within_next : (k n c : ℕ) → ((n == k) || is_within k (suc n) c) ≡ is_within k n (suc c)
 within_next k n c = grind (arith, nat_tests)
@@ -263,6 +262,10 @@ store_count s value target = count_append (term_incidents s value) (target_incid
     sums : (a b c d : ℕ) → a ≡ c → b ≡ d → a + b ≡ c + d
     sums a b c d e f = omega (arith, e, f)
 
+offsets_tell : (q n : ℕ) (round : Option ℕ) (ts : Terms) (k p : ℕ) → tells n (terms_incidents (site_at q round) ts) k p ≡ ((((q == p) && (is_within k n (terms_accesses ts) || false)) || false) || false)
+offsets_tell q n round ts k p =
+    counted_row q n (terms_accesses ts) (terms_incidents (site_at q round) ts) k p (terms_in (site_at q round) ts) (terms_count (site_at q round) ts) ∙ own_run (q == p) (is_within k n (terms_accesses ts))
+
 max_few : (k l : ℕ) → false ≡ nat_le 2 (max k l) → max k l ≤ 1
 max_few k l e = few_size (max k l) e
 
@@ -285,7 +288,10 @@ module _ (f : ℕ → ℕ) where
     form_told round b r n id place (lets name declared value) k p e h =
         value_tells (phase_of b id) n (maybe_incidents (site_at (phase_of b id) round) value) name.entity _ k p (maybe_in (site_at (phase_of b id) round) value) (maybe_count (site_at (phase_of b id) round) value)
     form_told round b r n id place (lets_memory name shape shape_places value) k p e h = refl
-    form_told round b r n id place (views name parent form) k p e h = refl
+    form_told round b r n id place (views name parent (shrinks by by_place)) k p e h = refl
+    form_told round b r n id place (views name parent (splits by by_place)) k p e h = refl
+    form_told round b r n id place (views name parent (suffixes by by_place)) k p e h = offsets_tell (phase_of b id) n round (terms (offsets_of (suffixes by by_place))) k p
+    form_told round b r n id place (views name parent (shifts by)) k p e h = offsets_tell (phase_of b id) n round (terms (offsets_of (shifts by))) k p
     form_told round b r n id place (assigns target value) k p e h =
         value_tells (phase_of b id) n (term_incidents (site_at (phase_of b id) round) value) target.entity _ k p (term_in (site_at (phase_of b id) round) value) (term_count (site_at (phase_of b id) round) value)
     form_told round b r n id place (stores target value) k p e h =

@@ -4,9 +4,10 @@ use Rattle.std.proofs.lemmas.Bool.{ne_eqb, or_left, or_right, or_from, and_left}
 use Rattle.std.proofs.lemmas.Bool.Decides.{nat_tests}
 use Rattle.std.specs.Prelude.{Option, Some, None}
 use Rattle.dh_base.specs.declared.places.Place.{Place}
-use Rattle.dh_tree.specs.PlainTrees.{Term, Action, action, ActionForm, lets, lets_memory, views, assigns, stores, reduces, calls, blocks, decides, repeats, counts, MaybeAction, no_action, one_action, Actions, no_actions, action_then, Groups, no_groups, group_then}
+use Rattle.dh_tree.specs.PlainTrees.{Term, shrinks, splits, suffixes, shifts, Action, action, ActionForm, lets, lets_memory, views, assigns, stores, reduces, calls, blocks, decides, repeats, counts, MaybeAction, no_action, one_action, Actions, no_actions, action_then, Groups, no_groups, group_then}
+use Rattle.dh_tree.specs.ViewOffsets.{moves}
 use Rattle.dh_meaning.specs.AccessNumbers.{term_accesses, accesses_of, part_accesses}
-use Rattle.dh_meaning.specs.OnePhase.{makes, form_makes, other_makes, groups_make, part_makes, any_makes}
+use Rattle.dh_meaning.specs.OnePhase.{is_within, makes, form_makes, other_makes, groups_make, part_makes, any_makes}
 use Rattle.dh_meaning.specs.Phases.{Located, Phase, straight, turns, repeated, decided, Phases, of_list, one_straight, joined, are_straight, one_command, folded, turn_count, turn_phases, choice_phases, located, phases, form_phases, other_phases, groups_phases, parts_phases}
 use Rattle.dh_meaning.specs.Sites.{Around, in_arm, in_loop, loop_of}
 use Rattle.dh_events.specs.declared.noting.Open.{Open}
@@ -105,6 +106,19 @@ max_itself n = grind arith
 both_sizes : (a b c d : ℕ) → a ≡ c → b ≡ d → min 2 (a + b) ≡ min 2 (c + d)
 both_sizes a b c d e f = ap (λ n. min 2 (n + b)) e ∙ ap (λ n. min 2 (c + n)) f
 
+-- a view is one command where it moves
+view_size : (v : Bool) (c : Located) → (if v then 1 else 0) ≡ size (if v then one_command c else [])
+view_size true c = refl
+view_size false c = refl
+
+view_full : (v : Bool) (c : Located) → IsFull (if v then one_command c else [])
+view_full true c = tt
+view_full false c = tt
+
+view_opened : (v : Bool) (b : Open) (c : Located) (id : ℕ) → opened b (one_command c) ≡ open_at (Some (phase_of b id)) → (if v then open_at (Some (phase_of b id)) else b) ≡ opened b (if v then one_command c else [])
+view_opened true b c id own = sym own
+view_opened false b c id own = refl
+
 mutual
   pub stage_size : (r : Around) (n : ℕ) (a : Action) → stage_of a ≡ size (phases r n a)
   stage_size r n (action id place form) = form_size r n id place form
@@ -112,7 +126,7 @@ mutual
   form_size : (r : Around) (n id : ℕ) (place : Place) (form : ActionForm) → form_stage form ≡ size (form_phases r n id place form)
   form_size r n id place (lets name declared value) = refl
   form_size r n id place (lets_memory name shape shape_places value) = refl
-  form_size r n id place (views name parent form) = refl
+  form_size r n id place (views name parent form) = view_size (moves form) (located r n (action id place (views name parent form)))
   form_size r n id place (assigns target value) = refl
   form_size r n id place (stores target value) = refl
   form_size r n id place (reduces target op value) = refl
@@ -147,7 +161,7 @@ mutual
   form_full : (r : Around) (n id : ℕ) (place : Place) (form : ActionForm) → IsFull (form_phases r n id place form)
   form_full r n id place (lets name declared value) = tt
   form_full r n id place (lets_memory name shape shape_places value) = tt
-  form_full r n id place (views name parent form) = tt
+  form_full r n id place (views name parent form) = view_full (moves form) (located r n (action id place (views name parent form)))
   form_full r n id place (assigns target value) = tt
   form_full r n id place (stores target value) = tt
   form_full r n id place (reduces target op value) = tt
@@ -195,6 +209,9 @@ few_choice k l h = by (nat_le 2 (max k l)) refl
     by true e = absurd (never (subst (λ (b : Bool). (if b then 2 else 1) ≤ 1) e h))
     by false e = e
 
+pub within_none : (k n : ℕ) → is_within k n 0 ≡ false
+within_none k n = grind (arith, nat_tests)
+
 twice_none : (x : Bool) → x ≡ ((x || false) || false)
 twice_none true = refl
 twice_none false = refl
@@ -213,7 +230,10 @@ mutual
   form_tops : (r : Around) (k n id : ℕ) (place : Place) (form : ActionForm) → form_stage form ≤ 1 → form_makes k n form ≡ tops k (form_phases r n id place form)
   form_tops r k n id place (lets name declared value) h = twice_none (form_makes k n (lets name declared value))
   form_tops r k n id place (lets_memory name shape shape_places value) h = refl
-  form_tops r k n id place (views name parent form) h = refl
+  form_tops r k n id place (views name parent (shrinks by by_place)) h = within_none k n
+  form_tops r k n id place (views name parent (splits by by_place)) h = within_none k n
+  form_tops r k n id place (views name parent (suffixes by by_place)) h = twice_none (form_makes k n (views name parent (suffixes by by_place)))
+  form_tops r k n id place (views name parent (shifts by)) h = twice_none (form_makes k n (views name parent (shifts by)))
   form_tops r k n id place (assigns target value) h = twice_none (form_makes k n (assigns target value))
   form_tops r k n id place (stores target value) h = twice_none (form_makes k n (stores target value))
   form_tops r k n id place (reduces target op value) h = twice_none (form_makes k n (reduces target op value))
@@ -288,7 +308,7 @@ mutual
   form_after : (f : ℕ → ℕ) (r : Around) (n : ℕ) (b : Open) (id : ℕ) (place : Place) (form : ActionForm) → f id ≡ form_stage form → KnownInside f form → form_open f b id form ≡ opened b (form_phases r n id place form)
   form_after f r n b id place (lets name declared value) e h = refl
   form_after f r n b id place (lets_memory name shape shape_places value) e h = refl
-  form_after f r n b id place (views name parent form) e h = refl
+  form_after f r n b id place (views name parent form) e h = view_opened (moves form) b (located r n (action id place (views name parent form))) id refl
   form_after f r n b id place (assigns target value) e h = refl
   form_after f r n b id place (stores target value) e h = refl
   form_after f r n b id place (reduces target op value) e h = refl

@@ -4,7 +4,7 @@ use Rattle.std.proofs.Common.{◌≡◌, ℕ, suc, ◌+◌, ◌≤◌, ◌<◌, 
 use Rattle.std.proofs.lemmas.Bool.Decides.{nat_tests}
 use Rattle.dh_base.specs.declared.places.Place.{Place}
 use Rattle.dh_tree.specs.Numbers.{commands_in, commands_inside, commands_in_other, commands_in_groups, commands_in_part, IsNumbered, IsNumberedInside, IsNumberedOther, AreNumberedGroups, AreNumbered}
-use Rattle.dh_tree.specs.PlainTrees.{Action, action, ActionForm, lets, lets_memory, views, assigns, stores, reduces, calls, blocks, decides, repeats, counts, MaybeAction, no_action, one_action, Actions, no_actions, action_then, Groups, no_groups, group_then}
+use Rattle.dh_tree.specs.PlainTrees.{shrinks, splits, suffixes, shifts, Action, action, ActionForm, lets, lets_memory, views, assigns, stores, reduces, calls, blocks, decides, repeats, counts, MaybeAction, no_action, one_action, Actions, no_actions, action_then, Groups, no_groups, group_then}
 use Rattle.dh_meaning.specs.AccessNumbers.{term_accesses, accesses_of, part_accesses}
 use Rattle.dh_meaning.specs.Phases.{Located, Phase, turns, repeated, decided, of_list, joined, are_straight, one_command, folded, turn_count, turn_phases, choice_phases, located, phases, form_phases, other_phases, groups_phases, parts_phases, unless_turns, idle_phases, idle_form_phases, idle_other_phases, idle_groups_phases, idle_part_phases}
 use Rattle.dh_meaning.specs.Sites.{Around, in_arm, in_loop, loop_of}
@@ -99,7 +99,10 @@ mutual
       → runs_of t (form_phases r n id place form) + runs_of t (idle_form_phases r n id place form) ≤ one_in t lo (suc (commands_inside form))
   form_tagged t r n lo id place (lets name declared value) e h = alone t lo id e
   form_tagged t r n lo id place (lets_memory name shape shape_places value) e h = no_more _
-  form_tagged t r n lo id place (views name parent form) e h = no_more _
+  form_tagged t r n lo id place (views name parent (shrinks by by_place)) e h = no_more _
+  form_tagged t r n lo id place (views name parent (splits by by_place)) e h = no_more _
+  form_tagged t r n lo id place (views name parent (suffixes by by_place)) e h = alone t lo id e
+  form_tagged t r n lo id place (views name parent (shifts by)) e h = alone t lo id e
   form_tagged t r n lo id place (assigns target value) e h = alone t lo id e
   form_tagged t r n lo id place (stores target value) e h = alone t lo id e
   form_tagged t r n lo id place (reduces target op value) e h = alone t lo id e

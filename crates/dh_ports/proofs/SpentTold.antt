@@ -17,9 +17,10 @@ use Rattle.dh_tree.specs.Memories.{Memory, memories_of, memory_in, number_in, ta
 use Rattle.dh_tree.specs.PlainTrees.{Program}
 use Rattle.dh_tree.specs.Shapes.{IsProgramTable}
 use Rattle.dh_meaning.specs.Paths.{same_path}
-use Rattle.dh_meaning.specs.Bindings.{bindings_of}
+use Rattle.dh_meaning.specs.Ways.{Way, way_to}
+use Rattle.dh_ways.proofs.NoWays.{no_way_to}
 use Rattle.dh_meaning.specs.Sites.{nothing_around}
-use Rattle.dh_meets.specs.Charges.{charge, charge_of, key_of, paths_of, reaches}
+use Rattle.dh_meets.specs.Charges.{charge, charge_of, key_of, paths_of, reaches, charge_by}
 use Rattle.dh_meets.specs.MayMeet.{meets_in}
 use Rattle.dh_meets.specs.Ports.{memory_ports, ports_of, place_in}
 use Rattle.dh_meets.specs.Sharing.{shared}
@@ -42,7 +43,7 @@ use Rattle.dh_ports.specs.Told.{IsToldBefore}
 use Rattle.dh_ports.specs.Wholes.{no_stages, happenings_of, at_touches, Touched, touched, of_access, sites_in, TellsLoops, loops_known, AreEventsOf, TellsShared, TellsSpent, banks_in, banks_at}
 use Rattle.dh_events.specs.Stages.{stages_in}
 use Rattle.dh_ports.proofs.ClaimFacts.{Declared, found, takes_charge}
-use Rattle.dh_ports.proofs.ClaimedBanks.{Claims, Claimed, claimed, Bounds, Reaching, reaching, some_kept}
+use Rattle.dh_ports.proofs.ClaimedBanks.{Claims, Claimed, claimed, Bounds, Reaching, reaching, some_kept, charged_reach}
 use Rattle.dh_ports.proofs.AccessClaims.{event_of, at_event, there_is, touched_long, Follows, follow_all, nth_claims, claim_lists, TouchAt, touch_at, none_claims, stripped, claims_same, access_is}
 use Rattle.dh_ports.proofs.FirstSpent.{none_spends, first_spends}
 use Rattle.dh_ports.proofs.IncidentTies.{action_ties}
@@ -166,9 +167,6 @@ taken_at flags event keys = if flag_at (slice_get flags event) then 0 else keys
 module _ (p : Program) (xs : List Incident) (w : IsWhole p xs) (flags : List Bool) (table : IsProgramTable (table_of p))
     (bounds : (k : ℕ) (a : SourceAccess) → slice_get (accesses_in (trace p)) k ≡ Some a → Bounds p a)
     (told : (k : ℕ) → k < count xs → slice_get flags (event_of xs k) ≡ Some (is_some (shared p k))) where
-  abbrev keys_at : SourceAccess → (memory bank : ℕ) → ℕ
-  keys_at a memory bank = distinct_count same_path (map (key_of (bindings_of p) a) (filter (λ path. reaches p a path memory bank) (paths_of a)))
-
   abbrev steps_of : ℕ → List Step
   steps_of k = map (spending_step flags) (nth_claims (claim_lists p (loops_known p) 0 xs) k)
 
@@ -287,9 +285,10 @@ module _ (p : Program) (xs : List Incident) (w : IsWhole p xs) (flags : List Boo
       by_access (Some a) e = ((access_at p xs w k a e).within, by_shared (is_some (shared p k)) refl)
         where
           by_shared : (b : Bool) → is_some (shared p k) ≡ b → (other : ℕ) × (before_at (takes other) 0 (levels other) xs k < takes other k)
-          by_shared true f = absurd (none_one (subst (λ (n : ℕ). 1 ≤ n) (ap (charge_of p s.memory s.bank k) e ∙ ap (λ b. if b then 0 else keys_at a s.memory s.bank) f) s.charged))
+          by_shared true f = absurd (none_one (subst (λ (n : ℕ). 1 ≤ n) (ap (charge_of p s.memory s.bank k) e ∙ ap (λ b. if b then 0 else charge_by p (way_to p a.entity) a s.memory s.bank) f) s.charged))
           by_shared false f =
-              let r = reaching p a s.memory s.bank (bounds k a e) (some_kept same_path (key_of (bindings_of p) a) (λ path. reaches p a path s.memory s.bank) (paths_of a) (subst (λ (n : ℕ). 1 ≤ n) (ap (charge_of p s.memory s.bank k) e ∙ ap (λ b. if b then 0 else keys_at a s.memory s.bank) f) s.charged)) in
+              let r = reaching p a s.memory s.bank (bounds k a e)
+              (charged_reach p a s.memory s.bank (bounds k a e) (subst (λ (n : ℕ). 1 ≤ n) (ap (charge_of p s.memory s.bank k) e ∙ ap (λ b. if b then 0 else charge_by p (way_to p a.entity) a s.memory s.bank) f) s.charged)) in
               (base_of (table_of p) r.number + s.bank, if_spends s.memory r.number s.bank (entry_of r.owner) r.known r.stands r.within k (access_in p k a e) s.charged s.beyond)
 
   pub stops_told : (o : Option Place) → Stops flags xs p (loops_known p) steps_of (λ slot k. before_at (takes slot) 0 (levels slot) xs k) 0 (count xs) (touched xs) o → TellsSpent p o
@@ -330,9 +329,12 @@ module _ (p : Program) (xs : List Incident) (w : IsWhole p xs) (flags : List Boo
           of_option None = refl
           of_option (Some a) = refl
 
+none_some : (w : Way) → ◌≡◌ {A = Option Way} None (Some w) → ⊥
+none_some w e = cc
+
 -- what is told before keeps accesses in the banks of their memories
 pub bounds_of : (p : Program) → IsToldBefore p → (k : ℕ) (a : SourceAccess) → slice_get (accesses_in (trace p)) k ≡ Some a → Bounds p a
-bounds_of p h k a e = record { table = h.table; rows = λ bank row m f g. h.banks k bank a row m e f g }
+bounds_of p h k a e = record { table = h.table; ways_lead = λ w u. absurd (none_some w (sym (no_way_to p h.ready.built a.entity) ∙ u)); rows = λ bank row m f g. h.banks k bank a row m e f g }
 
 pub spent_told : (p : Program) (events : List Event) (flags : List Bool) → IsToldBefore p → TellsLoops p → AreEventsOf p events → length flags ≡ length events → TellsShared p events flags
     → TellsSpent p (spent_place (table_of p) events flags (moves_from p (loops_known p) 0 (all_seen events)))

@@ -4,6 +4,8 @@ use Rattle.std.specs.Prelude.{Option, Some, None}
 use Rattle.dh_base.specs.declared.places.Place.{Place}
 use Rattle.dh_value.specs.declared.kinds.Kind.{Kind}
 use Rattle.dh_tree.specs.PlainTrees.{Term, term, TermForm, number, truth_value, named, accessed, in_bank, applied, converted, Terms, no_terms, term_then, Action, action, ActionForm, lets, lets_memory, views, assigns, stores, reduces, calls, blocks, decides, repeats, counts, MaybeAction, no_action, one_action, Actions, no_actions, action_then, Groups, no_groups, group_then}
+use Rattle.dh_tree.specs.Seen.{terms}
+use Rattle.dh_tree.specs.ViewOffsets.{offsets_of}
 use Rattle.dh_meaning.specs.Sites.{Around, in_arm, in_loop, loop_of}
 use Rattle.dh_meets.specs.SourceEvents as source
 use Rattle.dh_meets.specs.SourceEvents.{SourceEvent, accesses_in, site_of, term_events, form_events, terms_events, maybe_events, write_events, events, command_events, other_events, groups_events, part_events}
@@ -91,7 +93,7 @@ mutual
   command_same : (f : ℕ → ℕ) (round : Option ℕ) (g : Open) (r : Around) (id : ℕ) (form : ActionForm) → touched (command_incidents f round g id form) ≡ seen_in (command_events r (site_of r id) form)
   command_same f round g r id (lets name declared value) = assigned_same (maybe_incidents (site_at (phase_of g id) round) value) (maybe_events (site_of r id) value) name.entity (maybe_same (site_at (phase_of g id) round) (site_of r id) value)
   command_same f round g r id (lets_memory name shape shape_places value) = refl
-  command_same f round g r id (views name parent form) = refl
+  command_same f round g r id (views name parent form) = terms_same (site_at (phase_of g id) round) (site_of r id) (terms (offsets_of form))
   command_same f round g r id (assigns target value) = assigned_same (term_incidents (site_at (phase_of g id) round) value) (term_events (site_of r id) value) target.entity (term_same (site_at (phase_of g id) round) (site_of r id) value)
   command_same f round g r id (stores target value) =
       both (term_incidents (site_at (phase_of g id) round) value) (target_incidents (site_at (phase_of g id) round) target) (term_events (site_of r id) value) (write_events (site_of r id) target)

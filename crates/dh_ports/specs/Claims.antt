@@ -13,9 +13,11 @@ use Rattle.dh_tree.specs.Elements.{banks_of}
 use Rattle.dh_tree.specs.Memories.{memories_of, number_in, table_of}
 use Rattle.dh_tree.specs.PlainTrees.{Term, term, TermForm, number, truth_value, named, accessed, in_bank, applied, converted, no_terms, Program}
 use Rattle.dh_tree.specs.Seen.{term_seen}
-use Rattle.dh_meaning.specs.Bindings.{Binding, bindings_of}
+use Rattle.dh_meaning.specs.Bindings.{Binding}
+use Rattle.dh_meaning.specs.Ways as ways
+use Rattle.dh_meaning.specs.Ways.{Way, all_bindings_of, way_to}
 use Rattle.dh_meaning.specs.Paths.{Path, same_path}
-use Rattle.dh_meets.specs.Charges.{bank_reached, key_of, paths_of}
+use Rattle.dh_meets.specs.Charges.{bank_reached, charge_through, key_of, paths_of}
 use Rattle.dh_meets.specs.SourceEvents.{Element, with_indices, in_row, SourceAccess}
 use Rattle.dh_ports.specs.declared.moves.Move.{Move}
 use Rattle.dh_ports.specs.declared.moves.Move.TheVariants as move
@@ -54,12 +56,17 @@ source_of loops writes e = access_of loops writes (term_seen e)
 -- the keys with which it reaches a bank of a memory of these dimensions
 abbrev pub keys_on : Program → List Dim → SourceAccess → (bank : ℕ) → ℕ
 keys_on p dims a bank =
-    distinct_count same_path (map (key_of (bindings_of p) a) (filter (λ path. bank_reached (counters_of p) dims a path a.element == bank) (paths_of a)))
+    distinct_count same_path (map (key_of (all_bindings_of p) a) (filter (λ path. bank_reached (counters_of p) dims a path a.element == bank) (paths_of a)))
+
+-- what is counted of it on a bank: the keys, or what is carried there through views
+abbrev pub count_on : Program → Option Way → List Dim → SourceAccess → (bank : ℕ) → ℕ
+count_on p None dims a bank = keys_on p dims a bank
+count_on p (Some w) dims a bank = charge_through p w a bank
 
 -- the same for each of so many banks
 abbrev pub counts_to : Program → List Dim → SourceAccess → (banks : ℕ) → List ℕ
 counts_to p dims a zero = []
-counts_to p dims a (suc bank) = counts_to p dims a bank ++ keys_on p dims a bank ∷ []
+counts_to p dims a (suc bank) = counts_to p dims a bank ++ count_on p (way_to p a.entity) dims a bank ∷ []
 
 -- Claims.
 
@@ -85,9 +92,13 @@ abbrev pub claims_at : Program → (event : ℕ) → Option ℕ → SourceAccess
 claims_at p event None a = []
 claims_at p event (Some memory) a = claims_in p event (base_of (table_of p) memory) (slice_get (table_of p) memory) a
 
+-- the entity of the memory that an access leads to
+abbrev pub owner_of : Program → SourceAccess → Option ℕ
+owner_of p a = ways.base_of (way_to p a.entity) a.entity
+
 -- the claims of an access
 abbrev pub claims_of : Program → (event : ℕ) → SourceAccess → List Move
-claims_of p event a = claims_at p event (number_in (memories_of p) a.entity) a
+claims_of p event a = claims_at p event (number_in (memories_of p) (owner_of p a)) a
 
 -- what incidents do to banks, from the event of a number on, where `loops` says which unrolled loops stand
 -- round what stands innermost in one

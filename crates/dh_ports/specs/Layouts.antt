@@ -5,7 +5,7 @@ use Rattle.dh_tree.specs.declared.trees.counters.Counter.{Counter}
 use Rattle.dh_tree.specs.declared.trees.expressions.Expr.{Expr}
 use Rattle.dh_tree.specs.Memories.{table_of}
 use Rattle.dh_tree.specs.PlainTrees.{Program}
-use Rattle.dh_meaning.specs.Bindings.{bindings_of}
+use Rattle.dh_meaning.specs.Ways.{all_bindings_of}
 use Rattle.dh_events.specs.declared.events.Event.{Event}
 use Rattle.dh_events.specs.declared.events.Event.TheVariants as event
 use Rattle.dh_ports.specs.declared.moves.Layout.{Layout}
@@ -24,7 +24,7 @@ pub record IsLayout (p : Program) (layout : Layout) : Type 0 where
   pub bases : AreBases (table_of p) layout.bases.items
   pub rounds : rounds_of layout.rounds.items ≡ rounds_in [] p.body no_rounds
   -- where loops are unrolled
-  pub scopes : (id : ℕ) → (rounds_of layout.rounds.items id ≡ [] → ⊥) → AreScopes (bindings_of p) layout.scopes.items
+  pub scopes : (id : ℕ) → (rounds_of layout.rounds.items id ≡ [] → ⊥) → AreScopes (all_bindings_of p) layout.scopes.items
 
 -- no access stands in too many copies
 abbrev pub HaveFewCopies : List (Vec Counter Global) → List Event → Type 0

@@ -1,11 +1,11 @@
 //! With how many keys the copies of an access reach each bank of its memory.
 
-ghost use Rattle.std.specs.Prelude.{◌≡◌, ◌<◌, ◌≤◌, ◌+◌, ◌*◌, ◌/◌, ◌%◌, length, replicate, slice_index, IfOk, OnOk};
+ghost use Rattle.std.specs.Prelude.{◌≡◌, ◌<◌, ◌≤◌, ◌+◌, ◌*◌, ◌/◌, ◌%◌, ℕ, Option, None, length, replicate, slice_index, IfOk, OnOk};
 ghost use Rattle.std.specs.List.{AllByRecursion};
 ghost use Rattle.dh_tree.specs.Elements.{banks_of};
 ghost use Rattle.dh_tree.specs.Seen.{program_seen};
 ghost use Rattle.dh_tree.specs.Shapes.{most_banks, IsDim};
-ghost use Rattle.dh_meaning.specs.Bindings.{bindings_of};
+ghost use Rattle.dh_meaning.specs.Ways.{all_bindings_of, way_to};
 ghost use Rattle.dh_ports.specs.Claims.{counts_to, source_of};
 ghost use Rattle.dh_ports.specs.Copies.{key_of_levels, ArePaths, AreLanes, IsSpread, IsUnseen, Sees};
 ghost use Rattle.dh_ports.specs.Copies as definitions;
@@ -269,8 +269,9 @@ pub fn keys_reaching(
     requires few { banks_of copied.dims.now ≤ most_banks }
     requires banks { copied.banks ≡ banks_of copied.dims.now }
     requires copies { definitions.copies_round copied.loops.now ≤ most_copies }
-    requires scopes { AreScopes (bindings_of (program_seen typed.now)) scopes.now }
+    requires scopes { AreScopes (all_bindings_of (program_seen typed.now)) scopes.now }
     requires moment { IsUnseen seen.old moment }
+    requires unled { (entity : Option ℕ) → way_to (program_seen typed.now) entity ≡ None }
     ensures counts { IfOk result (λ counts. counts.items ≡ counts_to (program_seen typed.now)
         copied.entry.dims.now
         (source_of copied.entry.loops.now copied.entry.writes copied.entry.access.now)

@@ -1,6 +1,7 @@
 //! The rules on ports for programs whose loops may be copied: no logical step needs more ports of a bank
 //! than it has, and none reads a bank behind a write of it.
-//! Stands on `dh_events`, `dh_shape`, `dh_meets`, `dh_meaning`, `dh_tree`, `dh_value` and `dh_base`.
+//! Stands on `dh_events`, `dh_carried`, `dh_ways`, `dh_shape`, `dh_viewing`, `dh_meets`, `dh_meaning`,
+//! `dh_tree`, `dh_value` and `dh_base`.
 //! docs/LANGUAGE.md tells the rules.
 //!
 //! One walk over the tree notes what happens in order of evaluation (`dh_events`), with the number of its

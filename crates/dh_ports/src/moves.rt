@@ -1,10 +1,12 @@
 //! What events do to banks: accesses claim them with numbers of keys.
 
-ghost use Rattle.std.specs.Prelude.{◌≡◌, ◌++◌, ◌≤◌, ◌+◌, ◌-◌, IfOk, OnOk, length};
+ghost use Rattle.std.specs.Prelude.{◌≡◌, ◌++◌, ◌≤◌, ◌+◌, ◌-◌, ℕ, Option, None, IfOk, OnOk, length, map};
 ghost use Rattle.std.specs.List.{AllByRecursion};
 ghost use Rattle.dh_tree.specs.Memories.{table_of};
 ghost use Rattle.dh_tree.specs.Seen.{program_seen};
 ghost use Rattle.dh_tree.specs.Shapes.{IsProgramTable};
+ghost use Rattle.dh_meaning.specs.Ways.{hidden_binding, led_binding, view_bindings, way_to};
+ghost use Rattle.dh_ways.specs.Seen.{hidden_seen, led_seen};
 ghost use Rattle.dh_events.specs.Accesses.{loops_in};
 ghost use Rattle.dh_ports.specs.Claims.{claim_in, claims_from, claims_of, moves_from, source_of};
 ghost use Rattle.dh_ports.specs.Copies.{copies_round, IsUnseen};
@@ -18,6 +20,7 @@ use crate::copies::{Copied, Seen, keys_reaching};
 use dh_base::NoMemory;
 use dh_events::{Event, Scope, loops_round, note_rounds, scopes_of};
 use dh_tree::{Counter, Dim, Expr, Typed};
+use dh_ways::{Hidden, Led};
 use std::alloc::Global;
 
 /// What an event does to banks.
@@ -51,9 +54,17 @@ pub struct Layout {
     pub scopes: Vec<Option<Scope>>,
 }
 
-/// The layout of a program.
-pub fn layout_of(alloc: Global, typed: &Typed) -> Result<Layout, NoMemory>
+/// The layout of a program, of which these are the views with their ways and the variables that
+/// keep their offsets.
+pub fn layout_of(
+    alloc: Global,
+    typed: &Typed,
+    led: &[Led],
+    hidden: &[Hidden],
+) -> Result<Layout, NoMemory>
     requires table { IsProgramTable (table_of (program_seen typed.now)) }
+    requires ways { map led_binding (map led_seen led.now)
+        ++ map hidden_binding (map hidden_seen hidden.now) ≡ view_bindings (program_seen typed.now) }
     ensures { IfOk result (λ l. IsLayout (program_seen typed.now) l) }
 {
     let bases = bank_bases(alloc, typed.memories().as_slice())?;
@@ -62,7 +73,7 @@ pub fn layout_of(alloc: Global, typed: &Typed) -> Result<Layout, NoMemory>
     let scopes = if rounds.is_empty() {
         Vec::new(alloc)
     } else {
-        scopes_of(alloc, &typed.tree().body)?
+        scopes_of(alloc, &typed.tree().body, led, hidden)?
     };
     Ok(Layout {
         bases,
@@ -131,6 +142,7 @@ fn claim(
     requires layout { IsLayout (program_seen typed.now) layout.now }
     requires copies { copies_round (loops_in layout.now.rounds.items round) ≤ most_copies }
     requires moment { IsUnseen seen.old moment }
+    requires unled { (entity : Option ℕ) → way_to (program_seen typed.now) entity ≡ None }
     ensures claims { OnOk result (moves.new.items ≡ moves.old.items
         ++ claims_of (program_seen typed.now) (moment - 1)
         (source_of (loops_in layout.now.rounds.items round) writes access.now)) }
@@ -172,6 +184,7 @@ pub fn all_moves(
     requires table { IsProgramTable (table_of (program_seen typed.now)) }
     requires layout { IsLayout (program_seen typed.now) layout.now }
     requires copies { HaveFewCopies layout.now.rounds.items events.now }
+    requires unled { (entity : Option ℕ) → way_to (program_seen typed.now) entity ≡ None }
     ensures moves { IfOk result (λ moves. moves.items ≡ moves_from (program_seen typed.now)
         (loops_in layout.now.rounds.items) 0 (all_seen events.now)) }
     ensures within { IfOk result (λ moves. AllByRecursion (IsMoveOf (length events.now))

@@ -7,7 +7,7 @@ use Rattle.dh_tree.specs.Memories.{table_of}
 use Rattle.dh_tree.specs.PlainTrees as plain
 use Rattle.dh_tree.specs.PlainTrees.{Term, Action, action, ActionForm, lets, lets_memory, views, assigns, stores, reduces, calls, blocks, decides, repeats, counts, MaybeAction, no_action, one_action, Actions, no_actions, action_then, Groups, no_groups, group_then}
 use Rattle.dh_tree.specs.Seen.{program_seen}
-use Rattle.dh_meaning.specs.AccessNumbers.{accesses_of, form_accesses, groups_accesses, inner_accesses, other_accesses, own_accesses, part_accesses, term_accesses}
+use Rattle.dh_meaning.specs.AccessNumbers.{accesses_of, form_accesses, groups_accesses, inner_accesses, other_accesses, own_accesses, part_accesses, plan_accesses, term_accesses}
 use Rattle.dh_meaning.specs.CoreOf.{entity_number}
 use Rattle.dh_expressions.specs.declared.accesses.Accesses.{Accesses}
 use Rattle.dh_expressions.specs.declared.drafts.Draft.{Draft}
@@ -157,7 +157,7 @@ module _ (x : Step) (sites : ℕ → Option Site) (scene : Scene) (table : x.sta
     form_put (lets_memory name shape shape_places value) around old new first next m is stands same few at keeps reads f b h =
         put_as x sites scene table IsRead paths some shares first 0 (0 + 0) old new (omega arith) (put_none x sites scene table IsRead paths some shares first old new m.still h)
     form_put (views name parent form) around old new first next m is stands same few at keeps reads f b h =
-        put_as x sites scene table IsRead paths some shares first 0 (0 + 0) old new (omega arith) (put_none x sites scene table IsRead paths some shares first old new m.still h)
+        put_idle x sites scene table IsRead paths some shares first (plan_accesses form + 0) old new m.still reads h
     form_put (calls function arguments) around old new first next m is stands same few at keeps reads f b h =
         put_as x sites scene table IsRead paths some shares first 0 (0 + 0) old new (omega arith) (put_none x sites scene table IsRead paths some shares first old new m.still h)
     form_put (repeats test body) around old new first next m is stands same few at keeps reads f b h =

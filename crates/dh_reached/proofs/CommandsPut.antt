@@ -36,8 +36,7 @@ use Rattle.dh_laid.specs.BlockSites.{target_sites, term_sites}
 use Rattle.dh_laid.specs.Laid.{aim_accesses}
 use Rattle.dh_laid.specs.LaidNumbers.{IsAccessForm}
 use Rattle.dh_laid.proofs.AccessesLaid.{assigned_lays, cleared_lays, reduced_lays, stored_lays, term_lays}
-use Rattle.dh_laid.proofs.CommandsQuiet.{stands_arm}
-use Rattle.dh_laid.proofs.ValuesLogged.{arm_long}
+use Rattle.dh_laid.proofs.ValuesLogged.{arm_long, stands_arm}
 use Rattle.dh_reached.specs.IndicesKept.{FormKeeps, TermKeeps}
 use Rattle.dh_reached.specs.Puts.{AreSited, EachUse, Put, PutsAt, PutsDown, is_write}
 use Rattle.dh_reached.specs.ReadsTold.{BlockShares, NoneReads}

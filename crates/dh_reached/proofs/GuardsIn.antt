@@ -7,7 +7,7 @@ use Rattle.dh_value.specs.declared.operators.Op.TheVariants.{Both}
 use Rattle.dh_value.specs.Operations.{is_true, truth}
 use Rattle.dh_tree.specs.PlainTrees as plain
 use Rattle.dh_tree.specs.PlainTrees.{Term, Action, action, ActionForm, lets, lets_memory, views, assigns, stores, reduces, calls, blocks, decides, repeats, counts, MaybeAction, no_action, one_action, Actions, no_actions, action_then, Groups, no_groups, group_then}
-use Rattle.dh_meaning.specs.AccessNumbers.{accesses_of, other_accesses, term_accesses}
+use Rattle.dh_meaning.specs.AccessNumbers.{accesses_of, other_accesses, plan_accesses, term_accesses}
 use Rattle.dh_plan.specs.Blocks.{is_on}
 use Rattle.dh_plan.specs.declared.operations.OperationForm.TheVariants.{Compute, Constant, Select}
 use Rattle.dh_expressions.specs.declared.drafts.Draft.{Draft}
@@ -196,7 +196,7 @@ module _ (x : Step) where
           (other_guarded other around m.tests m.after_chosen m.after_other m.behind next m.other_left m.other s many f_other b_chosen))
       form_guarded (blocks body) around old new first next m s f b = groups_guarded body around old new first next m s f b
       form_guarded (lets_memory name shape shape_places value) around old new first next m s f b = tt
-      form_guarded (views name parent form) around old new first next m s f b = tt
+      form_guarded (views name parent form) around old new first next m s f b = none_place (IsGuardedIn around) (plan_accesses form + 0)
       form_guarded (calls function arguments) around old new first next m s f b = tt
       form_guarded (repeats test body) around old new first next m s f b = none_place (IsGuardedIn around) (term_accesses test + accesses_of body)
       form_guarded (counts iterator declared low high factor body combine combine_place) around old new first next m s f b = none_place (IsGuardedIn around) (accesses_of body + other_accesses combine)

@@ -49,7 +49,7 @@ mutual
   form_order : (u : Bool) (n : ℕ) (form : ActionForm) → StandInOrder (command_meets u n form)
   form_order u n (lets name declared value) = row_order n (own_accesses (lets name declared value))
   form_order u n (lets_memory name shape shape_places value) = λ a b p q less. absurd p
-  form_order u n (views name parent form) = λ a b p q less. absurd p
+  form_order u n (views name parent form) = row_order n (own_accesses (views name parent form))
   form_order u n (assigns target value) = row_order n (own_accesses (assigns target value))
   form_order u n (stores target value) = row_order n (own_accesses (stores target value))
   form_order u n (reduces target op value) = row_order n (own_accesses (reduces target op value))

@@ -9,7 +9,7 @@ use Rattle.dh_base.specs.declared.places.Place.{Place}
 use Rattle.dh_value.specs.Operations.{is_true}
 use Rattle.dh_tree.specs.Numbers.{AreNumbered, AreNumberedGroups, IsNumbered, IsNumberedInside, IsNumberedOther, commands_in, commands_in_groups, commands_in_part}
 use Rattle.dh_tree.specs.PlainTrees.{Action, action, ActionForm, lets, lets_memory, views, assigns, stores, reduces, calls, blocks, decides, repeats, counts, MaybeAction, no_action, one_action, Actions, no_actions, action_then, Groups, no_groups, group_then}
-use Rattle.dh_meaning.specs.AccessNumbers.{accesses_of, other_accesses, term_accesses}
+use Rattle.dh_meaning.specs.AccessNumbers.{accesses_of, other_accesses, plan_accesses, term_accesses}
 use Rattle.dh_meaning.specs.Sites as stood
 use Rattle.dh_meaning.specs.Sites.{Arm, in_arm}
 use Rattle.dh_meets.specs.SourceEvents.{SourceAccess, SourceEvent, accesses, assigned, command_events, events, groups_events, other_events, part_events, site_of, term_events, write_events}
@@ -344,7 +344,7 @@ module _ (x : Step) (scene : Scene) (paths : ℕ) where
     form_excludes (blocks body) place around old new first next m is stands same f b r id num w o =
         groups_exclude body around old new first next m is stands same f b r (suc id) num (below_up id (suc id) r.arms (omega arith) w) o
     form_excludes (lets_memory name shape shape_places value) place around old new first next m is stands same f b r id num w o = nothing_excludes x paths []
-    form_excludes (views name parent form) place around old new first next m is stands same f b r id num w o = nothing_excludes x paths []
+    form_excludes (views name parent form) place around old new first next m is stands same f b r id num w o = idle_excludes x paths (plan_accesses form + 0) (command_events r (site_of r id) (views name parent form))
     form_excludes (calls function arguments) place around old new first next m is stands same f b r id num w o = nothing_excludes x paths []
     form_excludes (repeats test body) place around old new first next m is stands same f b r id num w o = idle_excludes x paths (term_accesses test + accesses_of body) (command_events r (site_of r id) (repeats test body))
     form_excludes (counts iterator declared low high factor body combine combine_place) place around old new first next m is stands same f b r id num w o =

@@ -7,7 +7,7 @@ use Rattle.dh_base.specs.declared.places.Place.{Place}
 use Rattle.dh_tree.specs.Indices.{form_of}
 use Rattle.dh_tree.specs.PlainTrees as plain
 use Rattle.dh_tree.specs.PlainTrees.{Action, action, ActionForm, lets, lets_memory, views, assigns, stores, reduces, calls, blocks, decides, repeats, counts, MaybeAction, no_action, one_action, Actions, no_actions, action_then, Groups, no_groups, group_then}
-use Rattle.dh_meaning.specs.AccessNumbers.{accesses_of, groups_accesses, other_accesses, own_accesses, inner_accesses, part_accesses, term_accesses}
+use Rattle.dh_meaning.specs.AccessNumbers.{accesses_of, groups_accesses, other_accesses, own_accesses, inner_accesses, part_accesses, plan_accesses, term_accesses}
 use Rattle.dh_expressions.specs.declared.scenes.Around.{Around}
 use Rattle.dh_expressions.specs.declared.scenes.Scene.{Scene}
 use Rattle.dh_expressions.proofs.ListPlaces.{place_within}
@@ -100,7 +100,7 @@ module _ (scene : Scene) where
         (other_long other around m.tests m.after_chosen m.after_other m.behind next m.other_left m.other is.1))
     form_long (blocks body) around old new first next m is = groups_long body around old new first next m is ∙ none_plus (groups_accesses body)
     form_long (lets_memory name shape shape_places value) around old new first next m is = omega arith
-    form_long (views name parent form) around old new first next m is = omega arith
+    form_long (views name parent form) around old new first next m is = none_long (plan_accesses form + 0)
     form_long (calls function arguments) around old new first next m is = omega arith
     form_long (repeats test body) around old new first next m is = none_long (term_accesses test + accesses_of body)
     form_long (counts iterator declared low high factor body combine combine_place) around old new first next m is = none_long (accesses_of body + other_accesses combine) ∙ none_plus (accesses_of body + other_accesses combine)

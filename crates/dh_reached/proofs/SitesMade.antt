@@ -5,7 +5,7 @@ use Rattle.std.specs.List.{AllByRecursion}
 use Rattle.std.proofs.lemmas.Bool.{cases_lt}
 use Rattle.std.proofs.lemmas.Bool.Decides.{nat_tests}
 use Rattle.dh_tree.specs.PlainTrees.{Action, action, ActionForm, lets, lets_memory, views, assigns, stores, reduces, calls, blocks, decides, repeats, counts, MaybeAction, no_action, one_action, Actions, no_actions, action_then, Groups, no_groups, group_then}
-use Rattle.dh_meaning.specs.AccessNumbers.{accesses_of, other_accesses, part_accesses, term_accesses}
+use Rattle.dh_meaning.specs.AccessNumbers.{accesses_of, other_accesses, part_accesses, plan_accesses, term_accesses}
 use Rattle.dh_meaning.specs.OnePhase.{any_makes, form_makes, groups_make, is_within, makes, other_makes, part_makes}
 use Rattle.dh_meaning.specs.Phases.{Located}
 use Rattle.dh_expressions.specs.declared.scenes.Around.{Around}
@@ -89,7 +89,7 @@ module _ (scene : Scene) (j : ℕ) (s : Site) where
         (λ g. other_makes_it other around m.tests m.after_chosen m.after_other m.behind next m.other_left m.other is.1 (f + term_accesses test + accesses_of chosen) g) h) e
     form_makes_it (blocks body) around old new first next m is f e = groups_make_it body around old new first next m is f e
     form_makes_it (lets_memory name shape shape_places value) around old new first next m is f e = no_place f j s (false ≡ true) e
-    form_makes_it (views name parent form) around old new first next m is f e = no_place f j s (false ≡ true) e
+    form_makes_it (views name parent form) around old new first next m is f e = idle_place (plan_accesses form + 0) f j s (is_within j f (plan_accesses form) ≡ true) e
     form_makes_it (calls function arguments) around old new first next m is f e = no_place f j s (false ≡ true) e
     form_makes_it (repeats test body) around old new first next m is f e = idle_place (term_accesses test + accesses_of body) f j s (false ≡ true) e
     form_makes_it (counts iterator declared low high factor body combine combine_place) around old new first next m is f e = idle_place (accesses_of body + other_accesses combine) f j s (false ≡ true) e

@@ -11,7 +11,7 @@ ghost use Rattle.dh_rules.specs.Walked.{command_broken, other_broken, parts_brok
 use crate::contexts::{Context, branched, in_body, in_combine, nothing_round};
 use crate::keeping::{is_from_outside, keep_if, names_iterator};
 use crate::reducers::{keep_combine, keep_joined, keep_reducer};
-use crate::steps::{behind, beside, choice, of_loop};
+use crate::steps::{behind, beside, choice, of_loop, of_view};
 use dh_base::{PassFault, Rule};
 use dh_tree::{Breach, Command, CommandForm, Decl, Entity, Kind, Ref, Shape, Tree, Typed};
 
@@ -105,7 +105,7 @@ fn keep_command(
         }
         CommandForm::Let { .. } => 1,
         CommandForm::Store { .. } => 1,
-        CommandForm::View { .. } => 0,
+        CommandForm::View { form, .. } => of_view(form),
         CommandForm::Call { .. } => 0,
     }
 }

@@ -1,13 +1,25 @@
 //! How many phases commands have, as far as it matters where straight commands may stand.
 
-ghost use Rattle.std.specs.Prelude.{◌≡◌, ◌+◌, ◌-◌, ◌/◌, max, min};
+ghost use Rattle.std.specs.Prelude.{◌≡◌, ◌+◌, ◌-◌, ◌/◌, if◌then◌else◌, max, min};
 ghost use Rattle.dh_tree.specs.PhaseKinds.{choice_kind, turns_kind};
+ghost use Rattle.dh_tree.specs.Seen.{plan_seen};
+ghost use Rattle.dh_tree.specs.ViewOffsets as offsets;
+
+use dh_tree::ViewForm;
+use dh_viewing::moves;
 
 /// Of an `if`, from those of its arms: one where each arm has none or one straight phase.
 pub(crate) fn choice(chosen: u32, other: u32) -> u32
     ensures { result ≡ choice_kind chosen other }
 {
     if chosen.max(other) >= 2 { 2 } else { 1 }
+}
+
+/// Of a view: one where it moves.
+pub(crate) fn of_view(form: &ViewForm) -> u32
+    ensures { result ≡ (if offsets.moves (plan_seen form.now) then 1 else 0) }
+{
+    if moves(form) { 1 } else { 0 }
 }
 
 /// The turns of a loop.

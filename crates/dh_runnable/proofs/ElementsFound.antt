@@ -80,6 +80,8 @@ number_found (x ∷ ms) entity m e =
 
 -- what a name stands for is the memory of this number in the table, of this kind
 pub record IsElement (ms : List Memory) (r : Ref) (k : Kind) : Type 0 where
+  pub memory : Memory
+  pub there : memory_in ms r.entity ≡ Some memory
   pub kind : kind_in (map entry_of ms) (memory_of ms r) ≡ k
   pub within : memory_of ms r < length (map entry_of ms)
   pub bank : (bank : ℕ) (place : Place) (row : Term) → physical_breaches (kept_dims (memory_in ms r.entity)) bank place row ≡ [] → bank < banks_of (dims_at (map entry_of ms) (memory_of ms r))
@@ -92,6 +94,8 @@ element_is ms r m e keeps =
     let dims : dims_at (map entry_of ms) (memory_of ms r) ≡ m.shape.dims = ap entry_dims entry in
     let kept : kept_dims (memory_in ms r.entity) ≡ Some m.shape.dims = ap kept_dims e ∙ ap (λ (b : Bool). if b then Some m.shape.dims else None) keeps in
     record {
+      memory = m;
+      there = e;
       kind = ap entry_kind entry;
       within = slice_get_within (map entry_of ms) (memory_of ms r) (entry_of m) entry;
       bank = λ bank place row f.

@@ -35,7 +35,7 @@ module _ (known : Known) (p : Placing) where
     )
     form_does (blocks body) loops h n rest r = groups_do body loops h n rest r
     form_does (lets_memory name shape shape_places value) loops h n rest r = r
-    form_does (views name parent form) loops h n rest r = r
+    form_does (views name parent form) loops h n rest r = absurd h
     form_does (calls function arguments) loops h n rest r = r
     form_does (repeats test body) loops h n rest r = r
     form_does (counts iterator declared low high factor body combine combine_place) loops h n rest r = r
@@ -158,7 +158,7 @@ module _ (known : Known) (p : Placing) where
         (other_phases_run combine (factors_inside loops factor.value) (in_loop r (loop_of iterator low high factor)) (n + accesses_of body) h.1.1))
     form_phases_run (blocks body) loops r n id place h = groups_phases_run body loops r n h
     form_phases_run (lets_memory name shape shape_places value) loops r n id place h = tt
-    form_phases_run (views name parent form) loops r n id place h = tt
+    form_phases_run (views name parent form) loops r n id place h = absurd h
     form_phases_run (calls function arguments) loops r n id place h = tt
 
     other_phases_run : (m : MaybeAction) (loops : List ℕ) (r : Around) (n : ℕ) → OtherRuns known p loops m → ListRuns loops (other_phases r n m)

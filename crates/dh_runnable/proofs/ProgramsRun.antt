@@ -13,7 +13,7 @@ use Rattle.dh_tree.specs.Breaches.{breaches, items_breaches, functions_breaches}
 use Rattle.dh_tree.specs.Counters.{counters_of}
 use Rattle.dh_tree.specs.Elements.{banks_of}
 use Rattle.dh_tree.specs.Excesses.{copies_excess, first_above}
-use Rattle.dh_tree.specs.Forms.{unbuilt_functions, unbuilt_action}
+use Rattle.dh_tree.specs.Forms.{unbuilt_forms, unbuilt_functions, unbuilt_action}
 use Rattle.dh_tree.specs.Indices.{shape_breaches, action_index_breaches, decls_shape_breaches, shape_keeps}
 use Rattle.dh_tree.specs.KindBreaches.{action_kind_breaches, functions_kind_breaches}
 use Rattle.dh_tree.specs.Kinds.{of_memory, Facts, declared_facts, function_fact, first_facts, body_facts, facts_after_functions, typed_functions, typed_action, typed_action_form}
@@ -28,7 +28,10 @@ use Rattle.dh_tree.specs.Widths.{ActionSized}
 use Rattle.dh_tree.proofs.ShapeRules.{shape_without}
 use Rattle.dh_runnable.proofs.ElementsFound.{Sees, sees_later}
 use Rattle.dh_tree.proofs.EmptyLists.{first_none, second_none, not_none}
+use Rattle.dh_meaning.specs.Bindings.{Binding as Bound, bindings_of}
 use Rattle.dh_meaning.specs.CoreOf.{Known, known_of}
+use Rattle.dh_meaning.specs.Ways.{Led, all_bindings_of}
+use Rattle.dh_ways.proofs.NoWays.{no_ways, own_bindings}
 use Rattle.dh_meaning.specs.Sites.{nothing_around}
 use Rattle.dh_tree.specs.Ready.{IsReady, most_tokens}
 use Rattle.dh_sound.proofs.FactsGrow.{appended, InStep}
@@ -49,7 +52,7 @@ use Rattle.dh_runnable.proofs.TermsSuited.{indexed}
 use Rattle.dh_runnable.proofs.TurnsCounted.{first_within, second_within}
 use Rattle.dh_runnable.proofs.EntitiesCounted.{action_counted}
 use Rattle.dh_runnable.proofs.VariablesFew.{action_few}
-use Rattle.dh_runnable.proofs.VariablesPlaced.{all_same}
+use Rattle.dh_runnable.proofs.VariablesPlaced.{AreSame, all_same}
 
 -- Names where the body begins.
 
@@ -203,12 +206,22 @@ entities_few q h =
     bounded : (n last first decls functions inside body : ℕ) → last ≡ n → last ≡ first + body → first ≡ decls → (decls + functions) + (inside + body) ≤ most_tokens → n ≤ most_entities
     bounded n last first decls functions inside body e f g few = omega (arith, e, f, g, few)
 
+-- where there are no views, its variables are those of its declarations, and nothing else is known of its names
+pub body_same : (q : Program) → unbuilt_forms q ≡ [] → AreSame (declarations [] q.body) (all_bindings_of q)
+body_same q e = subst (λ (bs : List Bound). AreSame (declarations [] q.body) bs) (sym (own_bindings q e)) (all_same q.body [] 0 refl)
+
+abbrev known_by : Program → List Bound → List Led → Known
+known_by q bs ls = record { memories = memories_of q; bindings = bs; ways = ls }
+
+plain_known : (q : Program) → unbuilt_forms q ≡ [] → known_of q ≡ known_by q (bindings_of q) []
+plain_known q e = ap (λ (ls : List Led). known_by q (all_bindings_of q) ls) (no_ways q e) ∙ ap (λ (bs : List Bound). known_by q bs []) (own_bindings q e)
+
 -- a program of which the passes tell enough
 pub enough_runs : (q : Program) → TellsEnough q → IsRunnable q
 enough_runs q h =
     let named = resolved_body q h in
     let entities = ap (λ (x : Program). length x.entities) h.entities in
-    let places = placed (known_of q) (declarations [] q.body) (length q.entities) (all_same q.body [] 0 refl) q.body (body_scope q) [] [] [] named
+    let places = placed (known_of q) (declarations [] q.body) (length q.entities) (body_same q h.built) q.body (body_scope q) [] [] [] named
     (sym (append-nil (declarations [] q.body))) tt (at_most (length (last_scope q).entities) (length q.entities) entities) in
     let memories = finds (memories_of q) q.body (body_scope q) [] named (body_sees q h) in
     let runs = body_runs (known_of q) (counters_of q) (placing_of q) q.body (body_facts q) (body_scope q) (body_in_step q) (body_known q (placing_of q) h) (typed_body q h) named
@@ -221,6 +234,7 @@ enough_runs q h =
       phases = phases_of_command_can (known_of q) (placing_of q) q.body [] nothing_around 0 runs;
       copies = action_few (known_of q) (placing_of q) q.body [] one_path runs;
       entities = entities_few q h;
+      known = plain_known q h.built;
     }
   where
     at_most : (m n : ℕ) → m ≡ n → m ≤ n

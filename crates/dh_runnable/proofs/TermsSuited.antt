@@ -2,7 +2,7 @@
 -- the kind that was found of it, and names variables that are declared inside the first of the loops round it: variables
 -- have the kinds of their declarations, and memories and banks are there. By recursion over expressions, with what
 -- is known of the names that are visible; for whatever number of its first access.
-use Rattle.std.proofs.Common.{◌≡◌, ℕ, ◌+◌, ◌&&◌, ◌==◌, Bool, true, false, if◌then◌else◌, List, [], ◌∷◌, Option, Some, None, refl, ap, sym, ◌∙◌, subst, arith}
+use Rattle.std.proofs.Common.{◌≡◌, ℕ, ◌+◌, ◌<◌, ◌&&◌, ◌==◌, Bool, true, false, if◌then◌else◌, List, [], ◌∷◌, length, Option, Some, None, refl, ap, sym, ◌∙◌, subst, arith}
 use Rattle.std.specs.Option.{is_some}
 use Rattle.dh_base.specs.declared.places.Place.{Place}
 use Rattle.dh_value.specs.declared.kinds.Kind.{Kind}
@@ -10,6 +10,7 @@ use Rattle.dh_value.specs.declared.kinds.Kind.TheVariants as kind
 use Rattle.dh_value.specs.declared.operators.Op.{Op}
 use Rattle.dh_value.specs.Words.{IsKind, IsInteger}
 use Rattle.dh_tree.specs.declared.breaches.Breach.{Breach}
+use Rattle.dh_tree.specs.declared.tables.MemEntry.{MemEntry}
 use Rattle.dh_tree.specs.declared.trees.counters.Counter.{Counter}
 use Rattle.dh_tree.specs.declared.trees.expressions.Ref.{Ref}
 use Rattle.dh_tree.specs.Breaches.{unknown, term_breaches, terms_breaches}
@@ -17,7 +18,7 @@ use Rattle.dh_tree.specs.Indices as places
 use Rattle.dh_tree.specs.Indices.{kept_dims, physical_breaches, term_index_breaches, terms_index_breaches}
 use Rattle.dh_tree.specs.KindBreaches.{term_kind_breaches, indices_kind_breaches}
 use Rattle.dh_tree.specs.Kinds.{Fact, of_variable, of_iterator, of_memory, of_function, Facts, fact_of, mismatch, when, is_integer, for_numbers, number_kind, is_shift, keeps_bare, is_bare, found, place_of, left_want, right_want, takes, operands_breaches, applied_kind, unless, applied_breaches, applied_found, value_kind, value_breaches, number_found, number_breaches, index_breaches, all_found, all_integer, count_of, access_breaches, access_found, bank_breaches, bank_found, cast_breaches, cast_found, form_found, typed_term, typed_terms}
-use Rattle.dh_tree.specs.Memories.{memory_in}
+use Rattle.dh_tree.specs.Memories.{Memory, memory_in, number_in}
 use Rattle.dh_tree.specs.PlainTrees.{Term, term, TermForm, number, truth_value, named, accessed, in_bank, applied, converted, Terms, no_terms, term_then}
 use Rattle.dh_tree.specs.Resolved.{used, resolved_term, resolved_terms}
 use Rattle.dh_tree.specs.Scopes.{Binding}
@@ -25,12 +26,14 @@ use Rattle.dh_tree.specs.Widths.{IsSized, AreSized, AreAllSized}
 use Rattle.dh_runnable.proofs.ElementsFound.{IsElement, element_is}
 use Rattle.dh_runnable.proofs.TypedParts.{IsMemory, for_numbers_sized, number_kind_sized, typed_parts}
 use Rattle.dh_tree.proofs.EmptyLists.{first_none, second_none, not_none}
-use Rattle.dh_meaning.specs.AccessNumbers.{term_accesses}
+use Rattle.dh_meaning.specs.AccessNumbers.{term_accesses, terms_accesses}
 use Rattle.dh_meaning.specs.Bindings.{binding_in, depth_bound, kind_or_first, kind_found}
-use Rattle.dh_meaning.specs.CoreOf.{Known, entity_number, depth_of, operation_of, core_term, core_form, core_terms}
+use Rattle.dh_meaning.specs.Core.{CoreTerm, CoreTerms, Target, by_row, read}
+use Rattle.dh_meaning.specs.CoreOf.{Known, entity_number, depth_of, operation_of, core_term, core_form, core_terms, target_to, way_of}
+use Rattle.dh_meaning.specs.Ways.{Way, base_of, way_in, way_unless}
 use Rattle.dh_runnable.specs.ActionsRun.{table_in}
 use Rattle.dh_code.specs.Slots.{Placing}
-use Rattle.dh_code.specs.Suited.{AreSuited, IsInside, AreInside, AllInside}
+use Rattle.dh_code.specs.Suited.{AreSuited, IsInside, IsSuitedTarget, AreInside, AllInside, TargetInside}
 use Rattle.dh_runnable.proofs.NamesKnown.{IsVariable, IsGood, Knows, name_known, fact_is}
 use Rattle.dh_runnable.proofs.Operands.{IsOperand, bool_sized, applied_suits, operation_inside}
 
@@ -92,6 +95,19 @@ one_count false same place a e = cc
 
 when_both : (a b : Bool) (k : Option Kind) → a ≡ true → b ≡ true → (if a && b then k else None) ≡ k
 when_both a b k e f = ap (λ x. if x && b then k else None) e ∙ ap (λ (x : Bool). if x then k else None) f
+
+-- what is a memory has no way through views
+pub memory_way : (known : Known) (r : Ref) (m : Memory) → memory_in known.memories r.entity ≡ Some m → way_of known r ≡ None
+memory_way known r m e = ap (λ o. way_unless o (way_in known.ways r.entity)) e
+
+-- an access by indices that suits is of a memory that is there
+pub access_there : (table : List MemEntry) (memory : ℕ) (w : Option Way) (ts : CoreTerms) → IsSuitedTarget table memory (target_to w ts) → memory < length table
+access_there table memory None ts h = h.0
+access_there table memory (Some w) ts h = absurd h
+
+-- a read of what a name stands for, whose way is this
+abbrev read_by : Known → (n : ℕ) → Place → Ref → Target → Option Way → CoreTerm
+read_by known n place r target w = read (record { number = n; place = place; memory = entity_number (number_in known.memories (base_of w r.entity)) }) target
 
 -- what an access finds: the kind of the memory that its name stands for
 record IsFound (known : Known) (r : Ref) (k : Option Kind) : Type 0 where
@@ -217,10 +233,18 @@ module _ (known : Known) (p : Placing) (loops : List ℕ) where
 
   -- an element of the memory that a name stands for
   element_operand : (place : Place) (r : Ref) (k : Kind) (indices : Terms) → IsKind k → IsElement known.memories r k → AreKnown known p loops indices → (n : ℕ) → IsOperand (table_in known) k (core_form known n place k (accessed r indices))
-  element_operand place r k indices s h i n = record { sized = s; kind = h.kind; suits = (h.within, i.suit n) }
+  element_operand place r k indices s h i n =
+      subst (λ (w : Option Way). IsOperand (table_in known) k (read_by known (n + terms_accesses indices) place r (target_to w (core_terms known n indices)) w)) (sym (memory_way known r h.memory h.there))
+      (record { sized = s; kind = h.kind; suits = (h.within, i.suit n) })
+
+  element_inside : (place : Place) (r : Ref) (k j : Kind) (indices : Terms) → IsElement known.memories r j → AreKnown known p loops indices → (n : ℕ) → AreInside p loops (core_form known n place k (accessed r indices))
+  element_inside place r k j indices h i n =
+      subst (λ (w : Option Way). TargetInside p loops (target_to w (core_terms known n indices))) (sym (memory_way known r h.memory h.there)) (i.inside n)
 
   row_operand : (place : Place) (r : Ref) (k : Kind) (bank : ℕ) (bank_place : Place) (row : Term) → IsKind k → IsElement known.memories r k → physical_breaches (kept_dims (memory_in known.memories r.entity)) bank bank_place row ≡ [] → IsKnown known p loops row → (n : ℕ) → IsOperand (table_in known) k (core_form known n place k (in_bank r bank bank_place row))
-  row_operand place r k bank bank_place row s h b i n = record { sized = s; kind = h.kind; suits = ((h.within, h.bank bank bank_place row b), (i.operand n).suits) }
+  row_operand place r k bank bank_place row s h b i n =
+      subst (λ (w : Option Way). IsOperand (table_in known) k (read_by known (n + term_accesses row) place r (by_row bank (core_term known n row)) w)) (sym (memory_way known r h.memory h.there))
+      (record { sized = s; kind = h.kind; suits = ((h.within, h.bank bank bank_place row b), (i.operand n).suits) })
 
   -- one index in front of others
   index_then : (t : Term) (rest : Terms) → IsKnown known p loops t → index_breaches (found t) (place_of t) ≡ [] → AreKnown known p loops rest → AreKnown known p loops (term_then t rest)
@@ -271,7 +295,8 @@ module _ (known : Known) (p : Placing) (loops : List ℕ) where
           }) in
           let none = first_none (access_breaches (fact_of facts r) place indices) _ h.kinds in
           let element = access_known name.number r (fact_of facts r) name.stands.fact place indices name.entity (fact_is known p loops facts r name) name.stands.good none inner.found inner.integer in
-          with_kind facts want place m (accessed r indices) element.kind e element.is (element_operand place r element.kind indices element.sized element.element inner) inner.inside
+          with_kind facts want place m (accessed r indices) element.kind e element.is (element_operand place r element.kind indices element.sized element.element inner)
+          (element_inside place r element.kind element.kind indices element.element inner)
       term_known facts bs k want s (term place m (in_bank r bank bank_place row)) e h =
           let parts = typed_parts facts want place m (in_bank r bank bank_place row) e in
           let typed : typed_term facts None row ≡ row = let eq = parts.0 in cc in

@@ -21,7 +21,7 @@ module _ (known : Known) (p : Placing) where
     form_few : (f : ActionForm) (loops : List ℕ) → copies_in loops ≤ most_paths → FormRuns known p loops f → AreFew (form_declarations loops f)
     form_few (lets name declared value) loops few h = (few, tt)
     form_few (lets_memory name shape shape_places value) loops few h = tt
-    form_few (views name parent form) loops few h = tt
+    form_few (views name parent form) loops few h = absurd h
     form_few (assigns target value) loops few h = tt
     form_few (stores target value) loops few h = tt
     form_few (reduces target o value) loops few h = tt

@@ -27,7 +27,8 @@ abbrev mutual
   pub FormRuns : Known → Placing → (loops : List ℕ) → ActionForm → Type 0
   FormRuns known p loops (lets name declared value) = (n : ℕ) → CanDo (table_in known) p loops (assigned known name (first_value known n declared value))
   FormRuns known p loops (lets_memory name shape shape_places value) = Unit {0}
-  FormRuns known p loops (views name parent form) = Unit {0}
+  -- (views have no code yet)
+  FormRuns known p loops (views name parent form) = ⊥
   FormRuns known p loops (assigns target value) = (n : ℕ) → CanDo (table_in known) p loops (assigned known target (core_term known n value))
   FormRuns known p loops (stores target value) = (m n : ℕ) → CanDo (table_in known) p loops (store_to known m target (core_term known n value))
   FormRuns known p loops (reduces target o value) = (n : ℕ) → CanDo (table_in known) p loops (folded_into known target o (kind_found value) (core_term known n value))

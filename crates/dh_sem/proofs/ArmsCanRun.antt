@@ -4,10 +4,14 @@ use Rattle.std.proofs.Common.{◌≡◌, ℕ, ◌+◌, ◌&&◌, ◌==◌, Bool,
 use Rattle.dh_base.specs.declared.places.Place.{Place}
 use Rattle.dh_tree.specs.declared.tables.MemEntry.{MemEntry}
 use Rattle.dh_tree.specs.PlainTrees as plain
-use Rattle.dh_tree.specs.PlainTrees.{Action, ActionForm, MaybeAction, Actions, Groups}
+use Rattle.dh_tree.specs.declared.trees.expressions.Ref.{Ref}
+use Rattle.dh_tree.specs.PlainTrees.{Action, ActionForm, MaybeAction, Actions, Groups, ViewPlan}
+use Rattle.dh_tree.specs.Seen.{terms}
+use Rattle.dh_tree.specs.ViewOffsets.{moves, offsets_of}
 use Rattle.dh_meaning.specs.AccessNumbers.{term_accesses, accesses_of, part_accesses}
 use Rattle.dh_meaning.specs.Core.{CoreCommands, no_commands}
-use Rattle.dh_meaning.specs.CoreOf.{Known, core_action, core_action_form, core_commands, core_groups, core_other, core_part}
+use Rattle.dh_meaning.specs.CoreOf.{Known, core_action, core_action_form, core_commands, core_groups, core_other, core_part, core_terms, way_of}
+use Rattle.dh_meaning.specs.Ways.{hidden_in}
 use Rattle.dh_meaning.specs.Phases as source
 use Rattle.dh_meaning.specs.Phases.{Located, located, straight, turns, repeated, decided, of_list, one_straight, joined, folded, are_straight, one_command, turn_phases, turn_count, choice_phases, phases, form_phases, other_phases, groups_phases, parts_phases}
 use Rattle.dh_meaning.specs.Sites.{Around, in_arm, in_loop, loop_of}
@@ -15,7 +19,7 @@ use Rattle.dh_code.specs.Slots.{Placing}
 use Rattle.dh_code.specs.Suited.{CanDoAll}
 use Rattle.dh_code.proofs.CommandsFlattened.{can_behind, can_behind_part}
 use Rattle.dh_sem.specs.Gathered.{CanRunList}
-use Rattle.dh_sem.proofs.CanRunLists.{can_both, commands_both, one_can}
+use Rattle.dh_sem.proofs.CanRunLists.{can_both, commands_both, front_kept, one_can}
 
 behind_not : (ls : List Located) (q : source.Phase) (qs : List source.Phase) → (are_straight (q ∷ []) ≡ true → ⊥) → are_straight (one_straight ls ++ (q ∷ qs)) ≡ true → ⊥
 behind_not [] q [] stepped e = stepped e
@@ -55,6 +59,12 @@ module _ (table : List MemEntry) (known : Known) (p : Placing) (loops : List ℕ
       by true e = tt
       by false e = absurd cc
 
+  -- a view, which is a command where it moves
+  view_can : (r : Around) (n : ℕ) (id : ℕ) (place : Place) (name parent : Ref) (form : ViewPlan) (b : Bool) → Do (core_action_form known n (plain.views name parent form) no_commands)
+      → Can (if b then one_command (located r n (plain.action id place (plain.views name parent form))) else [])
+  view_can r n id place name parent form true h = (h, tt)
+  view_can r n id place name parent form false h = tt
+
   -- the phases of one command more, and what is joined behind them
   next_part : (ls : List Located) (qs : List source.Phase) (parts : List (List source.Phase)) → are_straight (joined ls (qs ∷ parts)) ≡ true → Do (core_commands known ls) → (are_straight qs ≡ true → Can qs)
       → ((ls' : List Located) → are_straight (joined ls' parts) ≡ true → Do (core_commands known ls') → Can (joined ls' parts)) → Can (joined ls (qs ∷ parts))
@@ -83,7 +93,7 @@ module _ (table : List MemEntry) (known : Known) (p : Placing) (loops : List ℕ
         (folded (phases (in_loop r (loop_of iterator low high factor)) n body) (other_phases (in_loop r (loop_of iterator low high factor)) (n + accesses_of body) combine)) e
     form_can r n id place (plain.blocks body) rest e h = groups_can r n body rest e h
     form_can r n id place (plain.lets_memory name shape shape_places value) rest e h = tt
-    form_can r n id place (plain.views name parent form) rest e h = tt
+    form_can r n id place (plain.views name parent form) rest e h = view_can r n id place name parent form (moves form) (front_kept table known p loops (hidden_in (way_of known name)) (core_terms known n (terms (offsets_of form))) rest no_commands h tt)
     form_can r n id place (plain.calls function arguments) rest e h = tt
 
     groups_can : (r : Around) (n : ℕ) (gs : Groups) (rest : CoreCommands) → are_straight (groups_phases r n gs) ≡ true → Do (core_groups known n gs rest) → Can (groups_phases r n gs)

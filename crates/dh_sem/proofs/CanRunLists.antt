@@ -5,8 +5,11 @@ use Rattle.dh_tree.specs.declared.tables.MemEntry.{MemEntry}
 use Rattle.dh_tree.specs.PlainTrees as plain
 use Rattle.dh_tree.specs.PlainTrees.{Action, ActionForm, MaybeAction, Actions, Groups}
 use Rattle.dh_meaning.specs.AccessNumbers.{accesses_of, part_accesses}
-use Rattle.dh_meaning.specs.Core.{CoreCommands}
-use Rattle.dh_meaning.specs.CoreOf.{Known, core_action, core_action_form, core_commands, core_groups, core_part}
+use Rattle.dh_tree.specs.Seen.{terms}
+use Rattle.dh_tree.specs.ViewOffsets.{offsets_of}
+use Rattle.dh_meaning.specs.Core.{CoreTerms, no_terms, term_and, CoreCommands}
+use Rattle.dh_meaning.specs.CoreOf.{Known, core_action, core_action_form, core_commands, core_groups, core_part, core_terms, kept_by, way_of}
+use Rattle.dh_meaning.specs.Ways.{Hidden, hidden_in}
 use Rattle.dh_meaning.specs.Phases as source
 use Rattle.dh_meaning.specs.Phases.{Located, straight, turns, repeated, decided, of_list, one_straight, joined, folded, are_straight, one_command, turn_phases, choice_phases, phases, form_phases, other_phases, groups_phases, parts_phases}
 use Rattle.dh_code.specs.Slots.{Placing}
@@ -29,6 +32,12 @@ module _ (table : List MemEntry) (known : Known) (p : Placing) (loops : List ℕ
   can_both [] ys h k = k
   can_both (x ∷ xs) ys h k = (h.0, can_both xs ys h.1 k)
 
+  -- a view that keeps its offsets
+  pub front_kept : (hidden : List Hidden) (ts : CoreTerms) (rest other : CoreCommands) → Do (kept_by hidden ts rest) → Do other → Do (kept_by hidden ts other)
+  front_kept hidden no_terms rest other h k = k
+  front_kept [] (term_and t ts) rest other h k = k
+  front_kept (x ∷ hidden) (term_and t ts) rest other h k = (h.0, k)
+
   mutual
     -- a command that can be done can be done in front of others
     pub can_front : (n : ℕ) (a : Action) (rest other : CoreCommands) → Do (core_action known n a rest) → Do other → Do (core_action known n a other)
@@ -42,7 +51,7 @@ module _ (table : List MemEntry) (known : Known) (p : Placing) (loops : List ℕ
     can_front_form n (plain.decides test chosen others) rest other h k = (h.0, k)
     can_front_form n (plain.blocks body) rest other h k = can_front_groups n body rest other h k
     can_front_form n (plain.lets_memory name shape shape_places value) rest other h k = k
-    can_front_form n (plain.views name parent form) rest other h k = k
+    can_front_form n (plain.views name parent form) rest other h k = front_kept (hidden_in (way_of known name)) (core_terms known n (terms (offsets_of form))) rest other h k
     can_front_form n (plain.calls function arguments) rest other h k = k
     can_front_form n (plain.repeats test body) rest other h k = k
     can_front_form n (plain.counts iterator declared low high factor body combine combine_place) rest other h k = k

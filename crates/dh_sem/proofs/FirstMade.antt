@@ -7,7 +7,7 @@ use Rattle.dh_tree.specs.Memories.{table_of}
 use Rattle.dh_tree.specs.PlainTrees.{Action, Program}
 use Rattle.dh_tree.specs.Seen.{action_seen, program_seen}
 use Rattle.dh_tree.specs.Shapes.{IsProgramTable}
-use Rattle.dh_meaning.specs.CoreOf.{core_of, core_phases}
+use Rattle.dh_meaning.specs.CoreOf.{Known, core_of, core_phases}
 use Rattle.dh_meaning.specs.Phases as source
 use Rattle.dh_meaning.specs.Phases.{phases}
 use Rattle.dh_meaning.specs.Sites.{nothing_around}
@@ -20,7 +20,7 @@ use Rattle.dh_sem.specs.declared.gathering.Made.{Made}
 use Rattle.dh_sem.specs.Gathered.{CanRunList, HoldsAll, IsSoundMade, course_made}
 use Rattle.dh_sem.specs.Lanes.{AreFirstLanes}
 use Rattle.dh_sem.specs.Phased.{ArePhases, IsEarlier}
-use Rattle.dh_sem.specs.Runnable.{IsRunnable}
+use Rattle.dh_sem.specs.Runnable.{CanRunAll, IsRunnable}
 
 -- the slots that are given are those of the program
 pub places_are : (t : Tree) (a : Action) (n count : ℕ) (slice held : List Held) → slice ≡ held → a ≡ action_seen t.body → n ≡ length t.entities.items
@@ -43,5 +43,11 @@ module _ (names : Names) (old new : Made) (body : Command) (first : Option ℕ) 
   pub made_first : names.places.now ≡ (placing_of p).held → action_seen body ≡ p.body → IsProgramTable (table_of p) → IsRunnable p → AreFirstLanes old.lanes.items → IsSoundMade (table_of p) old
       → IsSoundMade (table_of p) new × (IsEarlier (length new.phases.items) first × ArePhases (table_of p) (placing_of p) (course_made new) [] first (core_of p).phases)
   made_first is seen table runnable lanes sound =
-      let all = holds (placing_of p) (placing_is is) (subst (λ (a : Action). CanRunList (table_of p) (known_in names) (placing_of p) [] (phases nothing_around 0 a)) (sym seen) runnable.phases) table.entries lanes.lead sound in
-      (all.0, (all.1.0, subst (λ (a : Action). ArePhases (table_of p) (placing_of p) (course_made new) [] first (core_phases (known_in names) (source.of_list (phases nothing_around 0 a)))) seen all.1.1))
+      let all = holds (placing_of p) (placing_is is) (subst (λ (a : Action). CanRunList (table_of p) (known_in names) (placing_of p) [] (phases nothing_around 0 a)) (sym seen) (subst (λ (k : Known). CanRunAll (table_of p) (placing_of p) [] (core_phases k (source.of_list (source.phases_of p)))) runnable.known runnable.phases)) table.entries lanes.lead sound in (
+        all.0,
+        (
+          all.1.0,
+          subst (λ (k : Known). ArePhases (table_of p) (placing_of p) (course_made new) [] first (core_phases k (source.of_list (source.phases_of p)))) (sym runnable.known)
+              (subst (λ (a : Action). ArePhases (table_of p) (placing_of p) (course_made new) [] first (core_phases (known_in names) (source.of_list (phases nothing_around 0 a)))) seen all.1.1),
+        ),
+      )

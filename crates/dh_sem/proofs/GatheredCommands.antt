@@ -12,7 +12,8 @@ use Rattle.dh_tree.specs.declared.trees.commands.Command.{Command}
 use Rattle.dh_tree.specs.declared.trees.expressions.Expr.{Expr}
 use Rattle.dh_tree.specs.declared.trees.expressions.Ref.{Ref}
 use Rattle.dh_tree.specs.PlainTrees as plain
-use Rattle.dh_tree.specs.PlainTrees.{Action, ActionForm, action, counts, MaybeAction, Placed, Unrolled}
+use Rattle.dh_tree.specs.PlainTrees.{Action, ActionForm, action, counts, MaybeAction, Placed, Unrolled, ViewPlan}
+use Rattle.dh_tree.specs.ViewOffsets.{moves}
 use Rattle.dh_tree.specs.Scopes.{entity_number}
 use Rattle.dh_tree.specs.Seen.{action_form_seen, action_seen, term_seen}
 use Rattle.dh_tree.specs.Shapes.{IsMemory}
@@ -38,7 +39,7 @@ use Rattle.dh_code.proofs.MadeParts.{made_done}
 use Rattle.dh_sem.specs.declared.gathering.Loose.{Loose}
 use Rattle.dh_sem.specs.declared.gathering.Made.{Made}
 use Rattle.dh_sem.specs.declared.phases.Form.TheVariants as formed
-use Rattle.dh_sem.specs.Gathered.{Anything, BeginsIf, CanBeHeld, CanRunList, Chooses, ChoosesBy, ChoosesHeld, Counts, Gathers, GathersAll, GathersOf, HasTest, HoldsAll, HoldsList, IsHeldAs, IsSoundMade, Kept, MoreMade, Repeats, all_kept, another, at_once, done_at_once}
+use Rattle.dh_sem.specs.Gathered.{Anything, BeginsIf, CanBeHeld, CanRunList, Chooses, ChoosesBy, ChoosesHeld, Counts, Gathers, GathersAll, GathersOf, HasTest, HoldsAll, HoldsList, IsHeldAs, IsSoundMade, Kept, MoreMade, Repeats, all_kept, another, at_once, done_at_once, view_kept}
 use Rattle.dh_sem.specs.Lanes.{LanesInside, MoreLanes}
 use Rattle.dh_sem.specs.Phased.{IsEarlier}
 use Rattle.dh_sem.proofs.ArmsCanRun.{arms_can}
@@ -325,6 +326,15 @@ alone_as names paths m forms c form seen one is = gathers_as names paths m m for
 pub nothing_as : (names : Names) (paths : ℕ) (m : Made) (forms : List Kept) (c : Command) (form : ActionForm) → action_form_seen c.form ≡ form → ((r : Around) (n : ℕ) → form_phases r n c.id c.place form ≡ []) → forms ≡ []
     → GathersOf names paths m m forms (λ r n. phases r n (action_seen c))
 nothing_as names paths m forms c form seen none is = gathers_as names paths m m forms c form seen (λ r n. subst (λ (l : List source.Phase). GathersAll names paths m m forms l) (sym (none r n)) (gathers_nothing names paths m forms is))
+
+-- a view of the code
+pub view_as : (names : Names) (paths : ℕ) (m : Made) (forms : List Kept) (c : Command) (name parent : Ref) (form : ViewPlan) → action_form_seen c.form ≡ plain.views name parent form → forms ≡ view_kept (moves form) (action_seen c)
+    → GathersOf names paths m m forms (λ r n. phases r n (action_seen c))
+view_as names paths m forms c name parent form seen is = gathers_as names paths m m forms c (plain.views name parent form) seen (λ r n. by r n (moves form) is)
+  where
+    by : (r : Around) (n : ℕ) (b : Bool) → forms ≡ view_kept b (action_seen c) → GathersAll names paths m m forms (if b then one_command (located r n (action c.id c.place (plain.views name parent form))) else [])
+    by r n true e = gathers_alone names paths m forms (action_seen c) (located r n (action c.id c.place (plain.views name parent form))) e (ap (λ f. action c.id c.place f) seen)
+    by r n false e = gathers_nothing names paths m forms e
 
 -- a `while` of the code
 pub loop_as : (names : Names) (paths : ℕ) (old now new : Made) (xs forms : List Kept) (c block : Command) (test : Expr) → action_form_seen c.form ≡ plain.repeats (term_seen test) (action_seen block) → GathersOf names paths old now xs (λ r n. phases r n (action_seen block)) → Repeats names paths now new test xs forms

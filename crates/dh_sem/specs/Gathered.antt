@@ -47,6 +47,11 @@ kept_of (loose.Other form) = another form
 abbrev pub all_kept : List Loose → List Kept
 all_kept forms = map kept_of forms
 
+-- the phase of a view that moves; another has none
+abbrev pub view_kept : Bool → Action → List Kept
+view_kept true a = done_at_once (a ∷ []) ∷ []
+view_kept false a = []
+
 -- the open phase is ended, where it has a command
 abbrev pub ended_at : List Action → List Kept
 ended_at [] = []

@@ -1,10 +1,12 @@
 -- Programs that can be run: the phases of the core suit the kinds of their operators, each variable is named where
 -- it is declared, and the paths inside loops and the slots of variables can be numbered.
-use Rattle.std.specs.Prelude.{ℕ, ◌+◌, ◌*◌, ◌-◌, ◌≤◌, ◌^◌, List, [], length}
+use Rattle.std.specs.Prelude.{◌≡◌, ℕ, ◌+◌, ◌*◌, ◌-◌, ◌≤◌, ◌^◌, List, [], length}
 use Rattle.dh_tree.specs.declared.tables.MemEntry.{MemEntry}
 use Rattle.dh_tree.specs.PlainTrees.{Program}
 use Rattle.dh_meaning.specs.Core.{Turning, CorePhase, straightly, turning, looping, choosing, CorePhases, no_core_phases, phase_and}
-use Rattle.dh_meaning.specs.CoreOf.{core_of}
+use Rattle.dh_tree.specs.Memories.{memories_of}
+use Rattle.dh_meaning.specs.Bindings.{bindings_of}
+use Rattle.dh_meaning.specs.CoreOf.{core_of, known_of}
 use Rattle.dh_code.specs.Declarations.{declarations, factors_inside, placing_of}
 use Rattle.dh_code.specs.Placed.{AreFew, most_entities}
 use Rattle.dh_code.specs.Ranks.{copies_in, most_paths}
@@ -34,3 +36,5 @@ pub record IsRunnable (p : Program) : Type 0 where
   pub phases : CanRunAll (core_of p).table (placing_of p) [] (core_of p).phases
   pub copies : AreFew (declarations [] p.body)
   pub entities : length p.entities ≤ most_entities
+  -- code knows no views yet
+  pub known : known_of p ≡ record { memories = memories_of p; bindings = bindings_of p; ways = [] }

@@ -2,8 +2,9 @@
 
 ghost use Rattle.std.specs.Prelude.{◌≡◌, ◌<◌, ◌++◌, ◌∷◌, [], IfOk, length};
 ghost use Rattle.std.specs.List.{AllByRecursion};
-ghost use Rattle.dh_tree.specs.Seen.{action_seen};
-ghost use Rattle.dh_sem.specs.Gathered.{FixesForm, GathersGroups, GathersOf, HoldsAll, HoldsList, all_kept, at_once, commands_seen, ended_all, ended_at, folded_with, joined_at, joined_with, kept_of};
+ghost use Rattle.dh_tree.specs.Seen.{action_seen, plan_seen};
+ghost use Rattle.dh_tree.specs.ViewOffsets.{moves as moves_so};
+ghost use Rattle.dh_sem.specs.Gathered.{FixesForm, GathersGroups, GathersOf, HoldsAll, HoldsList, all_kept, at_once, commands_seen, ended_all, ended_at, folded_with, joined_at, joined_with, kept_of, view_kept};
 ghost use Rattle.dh_sem.specs.Gathered.{BeginsIf, Chooses, Counts, Repeats, another, done_at_once};
 ghost use Rattle.dh_sem.specs.Lanes.{LanesInside, MoreLanes};
 ghost use Rattle.dh_meaning.specs.Phases.{phases};
@@ -13,7 +14,8 @@ use crate::phases::{Form, Phase, Turns};
 use dh_base::NoMemory;
 use dh_code::{Code, Names, flat, flatten_commands, place_of};
 use dh_meaning::turn_count;
-use dh_tree::{Command, CommandForm, Expr, Ref};
+use dh_tree::{Command, CommandForm, Expr, Ref, ViewForm};
+use dh_viewing::moves;
 use std::alloc::Global;
 use std::mem;
 
@@ -65,6 +67,22 @@ fn one_command<'a>(alloc: Global, command: &'a Command) -> Result<Vec<Loose<'a>>
     let mut commands = Vec::new(alloc);
     commands.push(command)?;
     one(alloc, Loose::Straight(commands))
+}
+
+/// The phase of a view that moves; another has none.
+fn view_phases<'a>(
+    alloc: Global,
+    command: &'a Command,
+    form: &ViewForm,
+) -> Result<Vec<Loose<'a>>, NoMemory>
+    ensures { IfOk result (λ forms. all_kept forms.items
+        ≡ view_kept (moves_so (plan_seen form.now)) (action_seen command.now)) }
+{
+    if moves(form) {
+        one_command(alloc, command)
+    } else {
+        Ok(Vec::new(alloc))
+    }
 }
 
 /// Ends the open phase, where it has a command.
@@ -332,7 +350,7 @@ pub fn phases_in<'a>(
         }
         CommandForm::Block { body } => phases_in_parts(names, made, paths, body.as_slice()),
         CommandForm::LetMemory { .. } => Ok(Vec::new(names.alloc)),
-        CommandForm::View { .. } => Ok(Vec::new(names.alloc)),
+        CommandForm::View { form, .. } => view_phases(names.alloc, command, form),
         CommandForm::Call { .. } => Ok(Vec::new(names.alloc)),
     }
 }

@@ -15,10 +15,10 @@ use Rattle.dh_tree.specs.Counters.{counters_of}
 use Rattle.dh_tree.specs.Elements.{banks_of}
 use Rattle.dh_tree.specs.Memories.{Memory, memories_of, memory_in, number_in, same_entity, table_of, entry_of}
 use Rattle.dh_tree.specs.PlainTrees.{Term, term, Program}
-use Rattle.dh_meaning.specs.Bindings.{bindings_of}
+use Rattle.dh_meaning.specs.Ways.{all_bindings_of, way_to}
 use Rattle.dh_tree.specs.Seen.{program_seen}
 use Rattle.dh_meaning.specs.Paths.{Path, copies_in, same_path}
-use Rattle.dh_meets.specs.Charges.{bank_reached, charge, charge_of, factors_of, key_of, keys_reaching, paths_of, reaches, reaches_in}
+use Rattle.dh_meets.specs.Charges.{bank_reached, charge, charge_by, charge_of, factors_of, key_of, keys_reaching, paths_of, reaches, reaches_by, reaches_in}
 use Rattle.dh_meets.specs.Sharing.{shared}
 use Rattle.dh_meets.specs.SourceEvents.{Element, with_indices, in_row, SourceAccess, accesses_in, trace}
 use Rattle.dh_plan.specs.PlanSizes.{access_size, banks_charged, entity_banks_charged, memory_banks}
@@ -97,7 +97,7 @@ none_met p a e = ap (λ o. banks_reached p o a) (no_memory (memories_of p) a.ent
 
 -- Charges.
 
-module _ (p : Program) (number : ℕ) (a : SourceAccess) (stands : slice_get (accesses_in (trace p)) number ≡ Some a) where
+module _ (p : Program) (number : ℕ) (a : SourceAccess) (stands : slice_get (accesses_in (trace p)) number ≡ Some a) (unled : way_to p a.entity ≡ None) where
   -- nothing where it shares
   abbrev unless : Bool → ℕ → ℕ
   unless shares n = if shares then 0 else n
@@ -105,12 +105,17 @@ module _ (p : Program) (number : ℕ) (a : SourceAccess) (stands : slice_get (ac
   module _ (memory : ℕ) (m : Memory) (named : a.entity ≡ Some memory) (is : memory_in (memories_of p) (Some memory) ≡ Some m) where
     reaches_so : (bank : ℕ) (path : Path) → reaches p a path memory bank ≡ (bank_reached (counters_of p) m.shape.dims a path a.element == bank)
     reaches_so bank path =
-        ap (λ o. same_entity o (Some memory) && reaches_in (counters_of p) (memory_in (memories_of p) (Some memory)) a path bank) named
+        ap (λ w. reaches_by p w a path memory bank) unled
+        ∙ (ap (λ o. same_entity o (Some memory) && reaches_in (counters_of p) (memory_in (memories_of p) (Some memory)) a path bank) named
         ∙ (ap (λ b. b && reaches_in (counters_of p) (memory_in (memories_of p) (Some memory)) a path bank) (eq-eqb memory memory refl)
-        ∙ ap (λ o. reaches_in (counters_of p) o a path bank) is)
+        ∙ ap (λ o. reaches_in (counters_of p) o a path bank) is))
 
     one_bank : (bank : ℕ) (shares : Bool) → is_some (shared p number) ≡ shares → (if nat_lt 0 (charge p memory bank number) then 1 else 0) ≡ unless shares (if is_reached p m.shape.dims a bank then 1 else 0)
-    one_bank bank shares e = ap (λ n. if nat_lt 0 n then 1 else 0) (ap (charge_of p memory bank number) stands ∙ ap (λ b. if b then 0 else distinct_count same_path (keys_reaching p a memory bank)) e) ∙ by shares
+    one_bank bank shares e =
+        ap (λ n. if nat_lt 0 n then 1 else 0)
+        (ap (charge_of p memory bank number) stands
+        ∙ (ap (λ w. if is_some (shared p number) then 0 else charge_by p w a memory bank) unled ∙ ap (λ b. if b then 0 else distinct_count same_path (keys_reaching p a memory bank)) e))
+        ∙ by shares
       where
         not_less : nat_lt 0 0 ≡ false
         not_less = grind (arith, nat_tests)
@@ -119,7 +124,7 @@ module _ (p : Program) (number : ℕ) (a : SourceAccess) (stands : slice_get (ac
         by true = ap (λ b. if b then 1 else 0) not_less
         by false =
             ap (λ b. if b then 1 else 0)
-            (keys_some (key_of (bindings_of p) a) (λ path. reaches p a path memory bank) (paths_of a) ∙ ap (λ t. list_any t (paths_of a)) (fun_ext (reaches_so bank)))
+            (keys_some (key_of (all_bindings_of p) a) (λ path. reaches p a path memory bank) (paths_of a) ∙ ap (λ t. list_any t (paths_of a)) (fun_ext (reaches_so bank)))
 
     some_banks : (n : ℕ) (shares : Bool) → is_some (shared p number) ≡ shares → banks_charged p memory number n ≡ unless shares (count_below (is_reached p m.shape.dims a) n)
     some_banks zero shares e = none shares

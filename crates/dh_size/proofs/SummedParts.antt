@@ -10,7 +10,7 @@ use Rattle.dh_tree.specs.PlainTrees.{Term, Action, ActionForm, decides, MaybeAct
 use Rattle.dh_tree.specs.declared.trees.commands.Command.{Command}
 use Rattle.dh_tree.specs.declared.trees.expressions.Expr.{Expr}
 use Rattle.dh_tree.specs.Seen.{term_seen, all_terms_seen, action_seen, actions, all_parts_seen}
-use Rattle.dh_size.specs.Summed.{summed, unit_size, unit_inside, other_unit, part_unit, groups_unit}
+use Rattle.dh_size.specs.Summed.{suffix_operators, summed, unit_size, unit_inside, other_unit, part_unit, groups_unit}
 
 -- sums up to a greatest number
 cut_twice : (n a b most : ℕ) → min (min (n + a) most + b) most ≡ min (n + (a + b)) most
@@ -75,6 +75,11 @@ pub next_term : (now next first all : ℕ) (es : List Expr) (i : ℕ) (e : Expr)
 next_term now next first all es i e within is told l =
     left_turn now next (term_operators (term_seen e)) (terms_operators (all_terms_seen (drop (i + 1) es))) first all (terms_operators (all_terms_seen (drop i es))) told
     (ap (λ xs. terms_operators (all_terms_seen xs)) (at_item es i e within is)) l
+
+pub next_suffix : (now next first all : ℕ) (by : List (ℕ × Expr)) (i : ℕ) (e : ℕ × Expr) → i < length by → e ≡ get_or by i e → next ≡ summed now (term_operators (term_seen e.1))
+    → Left now (suffix_operators (drop i by)) first all → Left next (suffix_operators (drop (i + 1) by)) first all
+next_suffix now next first all by i e within is told l =
+    left_turn now next (term_operators (term_seen e.1)) (suffix_operators (drop (i + 1) by)) first all (suffix_operators (drop i by)) told (ap suffix_operators (at_item by i e within is)) l
 
 -- what is left of a part, and of the parts behind it
 abbrev pub left_of : List Command → ℕ → List (Vec Command Global) → ℕ → ℕ

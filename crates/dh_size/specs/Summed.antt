@@ -1,11 +1,17 @@
 -- Sums of sizes, and the size of a command that no loop round it copies.
-use Rattle.std.specs.Prelude.{ℕ, suc, ◌+◌, ◌-◌, ◌*◌, ◌^◌, min}
+use Rattle.std.specs.Prelude.{ℕ, suc, ◌+◌, ◌-◌, ◌*◌, ◌^◌, min, List, map}
+use Rattle.dh_tree.specs.declared.trees.expressions.Expr.{Expr}
 use Rattle.dh_tree.specs.PlainTrees.{Action, action, ActionForm, lets, lets_memory, views, assigns, stores, reduces, calls, blocks, decides, repeats, counts, MaybeAction, no_action, one_action, Actions, no_actions, action_then, Groups, no_groups, group_then}
-use Rattle.dh_plan.specs.PlanSizes.{own_operators}
+use Rattle.dh_tree.specs.Seen.{factor_seen, terms}
+use Rattle.dh_plan.specs.PlanSizes.{own_operators, terms_operators}
 
 -- a sum of the code, and so much more
 abbrev pub summed : (sum more : ℕ) → ℕ
 summed sum more = min (sum + more) (2 ^ 64 - 1)
+
+-- the operators of the offsets of a suffix
+abbrev pub suffix_operators : List (ℕ × Expr) → ℕ
+suffix_operators by = terms_operators (terms (map (λ s. s.offset) (map factor_seen by)))
 
 -- A command's size is in proportion to the copies round it (`unit_times` of proofs/UnitSizes).
 abbrev mutual

@@ -4,7 +4,7 @@ ghost use Rattle.std.specs.Prelude.{◌≡◌};
 ghost use Rattle.dh_tree.specs.Seen.{action_seen, all_parts_seen, maybe_block_seen};
 ghost use Rattle.dh_size.specs.Summed.{groups_unit, other_unit, summed, unit_size};
 
-use crate::operators::{with_operators, with_value};
+use crate::operators::{with_offsets, with_operators, with_value};
 use dh_tree::{Command, CommandForm};
 
 /// A sum and the size of a command that no loop copies, with the commands inside it.
@@ -43,7 +43,7 @@ pub fn with_command(sum: u64, command: &Command) -> u64
         }
         CommandForm::Block { body } => with_parts(own, body.as_slice()),
         CommandForm::LetMemory { .. } => own,
-        CommandForm::View { .. } => own,
+        CommandForm::View { form, .. } => with_offsets(own, form),
         CommandForm::Call { .. } => own,
     }
 }

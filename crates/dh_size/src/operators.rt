@@ -3,10 +3,11 @@
 
 ghost use Rattle.std.specs.Prelude.{◌≡◌, option_map};
 ghost use Rattle.dh_plan.specs.PlanSizes.{maybe_operators, term_operators, terms_operators};
-ghost use Rattle.dh_tree.specs.Seen.{all_terms_seen, term_seen};
-ghost use Rattle.dh_size.specs.Summed.{summed};
+ghost use Rattle.dh_tree.specs.Seen.{all_terms_seen, plan_seen, term_seen, terms};
+ghost use Rattle.dh_tree.specs.ViewOffsets.{offsets_of};
+ghost use Rattle.dh_size.specs.Summed.{suffix_operators, summed};
 
-use dh_tree::{Expr, ExprForm};
+use dh_tree::{Expr, ExprForm, ViewForm};
 
 /// A sum and the operators and casts of an expression.
 #[cycle(counting_terms)]
@@ -47,5 +48,28 @@ pub fn with_value(sum: u64, value: &Option<Expr>) -> u64
     match value {
         Some(value) => with_operators(sum, value),
         None => sum,
+    }
+}
+
+/// Those of the offsets of a suffix.
+fn with_suffixes(sum: u64, by: &[(u64, Expr)]) -> u64
+    ensures { result ≡ summed sum (suffix_operators by.now) }
+{
+    let mut next = sum;
+    for pair in by {
+        next = with_operators(next, &pair.1);
+    }
+    next
+}
+
+/// Those of the offsets of a view.
+pub fn with_offsets(sum: u64, form: &ViewForm) -> u64
+    ensures { result ≡ summed sum (terms_operators (terms (offsets_of (plan_seen form.now)))) }
+{
+    match form {
+        ViewForm::Shrink { .. } => sum,
+        ViewForm::Split { .. } => sum,
+        ViewForm::Suffix { by, .. } => with_suffixes(sum, by.as_slice()),
+        ViewForm::Shift { by } => with_all_operators(sum, by.as_slice()),
     }
 }

@@ -18,7 +18,7 @@ module _ (p : Program) (ready : IsReady p) where
   typed_here = typed_program p ready
 
   keeps_rules : KeepsIndexRules p
-  keeps_rules = record { indices = ready.indices }
+  keeps_rules = record { indices = ready.indices; views = ready.views }
 
   declared_here : AccessesDeclared p
   declared_here = accesses_declared p ready typed_here

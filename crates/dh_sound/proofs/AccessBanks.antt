@@ -93,7 +93,7 @@ loops_have_copies p e = copies (known_of p) p.body (second_none (decls_shape_bre
 abbrev pub access_of : (p : Program) (b : Begun) (path : Path) (v : Variables) (k : ℕ) (a : SourceAccess) (n : ℕ) (r : Reach) → IsTypedProgram p → KeepsIndexRules p → slice_get (accesses_in (trace p)) k ≡ Some a → IsMade p b path v a r → IsAccess p b path v a n r
 access_of p b path v k a n r typed rules at made =
     let here : memory_in (memories_of p) a.entity ≡ Some made.memory = ap (memory_in (memories_of p)) made.is ∙ made.declared in
-    let keeps = access_keeps p rules.indices k a at made.memory here in
+    let keeps = access_keeps p rules.indices rules.views k a at made.memory here in
     record {
       entity = made.entity;
       is = made.is;

@@ -12,6 +12,10 @@ use Rattle.dh_sound.specs.PhaseFacts.{HasArm, arm_of}
 use Rattle.dh_sound.proofs.Sites.{each_both, each_so, StandsWithin, term_stands, maybe_stands, write_stands}
 use Rattle.dh_sound.proofs.Trails.{below_up}
 use Rattle.dh_sound.specs.Trails.{EachAccess, ArmsWithin, Below}
+use Rattle.dh_tree.specs.Seen.{terms}
+use Rattle.dh_tree.specs.ViewOffsets.{offsets_of}
+use Rattle.dh_meets.specs.SourceEvents.{terms_events}
+use Rattle.dh_sound.proofs.Sites.{terms_stand}
 
 abbrev Once : SourceAccess → Type 0
 Once a = HasOneOfEach a.site.arms
@@ -70,7 +74,7 @@ mutual
   form_once r m (stores target value) h w o = own_once r (term_events (site_of r m) value ++ write_events (site_of r m) target) o (each_both _ (term_events (site_of r m) value) (write_events (site_of r m) target) (term_stands r m 0 0 value) (write_stands r m 0 0 target))
   form_once r m (reduces target op value) h w o = own_once r (term_events (site_of r m) value ++ assigned target.entity ∷ []) o (each_both _ (term_events (site_of r m) value) (assigned target.entity ∷ []) (term_stands r m 0 0 value) tt)
   form_once r m (lets_memory name shape shape_places value) h w o = tt
-  form_once r m (views name parent form) h w o = tt
+  form_once r m (views name parent form) h w o = own_once r (terms_events (site_of r m) (terms (offsets_of form))) o (terms_stand r m 0 0 (terms (offsets_of form)))
   form_once r m (calls function arguments) h w o = tt
   form_once r m (blocks body) h w o = groups_once r (suc m) body h (below_up m (suc m) r.arms (omega arith) w) o
   form_once r m (decides test chosen other) h w o =

@@ -22,6 +22,13 @@ use Rattle.dh_sound.proofs.OnePath.{left_by, made_by, all_made_by}
 use Rattle.dh_sound.proofs.BlockWalks.{located_counted}
 use Rattle.dh_sound.proofs.TermWalks.{operation_events}
 use Rattle.dh_sound.specs.Trails.{count, of_located, Follows}
+use Rattle.dh_ways.proofs.TargetsOnWays.{target_is, target_makes}
+use Rattle.dh_tree.specs.Seen.{terms}
+use Rattle.dh_tree.specs.ViewOffsets.{offsets_of}
+use Rattle.dh_meaning.specs.Core.{keep}
+use Rattle.dh_meaning.specs.CoreOf.{kept_by, target_to, way_of}
+use Rattle.dh_meaning.specs.Effects.{spot_reached}
+use Rattle.dh_meaning.specs.Ways.{Hidden, hidden_in}
 
 abbrev pub number_of : Event → ℕ
 number_of (reads n place path s) = n
@@ -76,9 +83,11 @@ module _ (p : Program) (b : Begun) (known : Known) (path : Path) (in_block : ℕ
     term_ascends v n (term place k (truth_value x)) = omega arith
     term_ascends v n (term place k (named x)) = omega arith
     term_ascends v n (term place k (accessed x ts)) =
-        let s = spot_by_indices b.table (memory_of known x) (values_of b v path (core_terms known n ts)) in
-        last_ascends n (n + terms_accesses ts) (n + suc (terms_accesses ts)) (n + terms_accesses ts) (terms_events b v path (core_terms known n ts)) (read_made (reach_of known (n + terms_accesses ts) place x) path s)
-        (terms_ascend v n ts) (omega arith) (read_number (reach_of known (n + terms_accesses ts) place x) path s) (omega arith)
+        let r = reach_of known (n + terms_accesses ts) place x in
+        let s = spot_reached b v path r (target_to (way_of known x) (core_terms known n ts)) in
+        subst (λ (es : List Event). Ascends n (es ++ read_made r path s ∷ []) (n + suc (terms_accesses ts))) (sym (target_makes b v path (way_of known x) (core_terms known n ts)))
+        (last_ascends n (n + terms_accesses ts) (n + suc (terms_accesses ts)) (n + terms_accesses ts) (terms_events b v path (core_terms known n ts)) (read_made r path s)
+        (terms_ascend v n ts) (omega arith) (read_number r path s) (omega arith))
     term_ascends v n (term place k (in_bank x bank at t)) =
         let s = spot_by_row b.table (memory_of known x) bank (words.value_of (value_of b v path (core_term known n t))) in
         last_ascends n (n + term_accesses t) (n + suc (term_accesses t)) (n + term_accesses t) (term_events b v path (core_term known n t)) (read_made (reach_of known (n + term_accesses t) place x) path s)
@@ -115,11 +124,13 @@ module _ (p : Program) (b : Begun) (known : Known) (path : Path) (in_block : ℕ
   store_ascends v n (term at k (accessed x ts)) value =
       let m = n + term_accesses value in
       let r = reach_of known (m + terms_accesses ts) at x in
-      let s = spot_by_indices b.table (memory_of known x) (values_of b v path (core_terms known m ts)) in
+      let s = spot_reached b v path r (target_to (way_of known x) (core_terms known m ts)) in
       let kept = kept_bits b.table (memory_of known x) (value_of b v path (core_term known n value)) in
-      ascends_both n m (n + (term_accesses value + suc (terms_accesses ts))) (term_events b v path (core_term known n value)) (terms_events b v path (core_terms known m ts) ++ write_made r path kept s ∷ []) (term_ascends v n value)
+      subst (λ (es : List Event). Ascends n (term_events b v path (core_term known n value) ++ (es ++ write_made r path kept s ∷ [])) (n + (term_accesses value + suc (terms_accesses ts))))
+      (sym (target_makes b v path (way_of known x) (core_terms known m ts)))
+      (ascends_both n m (n + (term_accesses value + suc (terms_accesses ts))) (term_events b v path (core_term known n value)) (terms_events b v path (core_terms known m ts) ++ write_made r path kept s ∷ []) (term_ascends v n value)
       (last_ascends m (m + terms_accesses ts) (n + (term_accesses value + suc (terms_accesses ts))) (m + terms_accesses ts) (terms_events b v path (core_terms known m ts)) (write_made r path kept s)
-      (terms_ascend v m ts) (omega arith) (write_number r path kept s) (omega arith))
+      (terms_ascend v m ts) (omega arith) (write_number r path kept s) (omega arith)))
   store_ascends v n (term at k (in_bank x bank place t)) value =
       let m = n + term_accesses value in
       let r = reach_of known (m + term_accesses t) at x in
@@ -133,6 +144,13 @@ module _ (p : Program) (b : Begun) (known : Known) (path : Path) (in_block : ℕ
   store_ascends v n (term at k (named x)) value = nothing_stored v n (term_accesses value + term_accesses (term at k (named x)))
   store_ascends v n (term at k (applied o l m)) value = nothing_stored v n (term_accesses value + term_accesses (term at k (applied o l m)))
   store_ascends v n (term at k (converted t to)) value = nothing_stored v n (term_accesses value + term_accesses (term at k (converted t to)))
+
+  -- offsets that are kept
+  kept_ascends : (v : Variables) (n high : ℕ) (hs : List Hidden) (ts : Terms) (rest : CoreCommands) → Behind (n + terms_accesses ts) high rest → Ascends n (all_made_by b path (kept_by hs (core_terms known n ts) rest) v) high
+  kept_ascends v n high hs no_terms rest h = behind_from n (n + 0) high rest (omega arith) h v
+  kept_ascends v n high [] (term_then t ts) rest h = behind_from n (n + terms_accesses (term_then t ts)) high rest (omega arith) h v
+  kept_ascends v n high (x ∷ hs) (term_then t ts) rest h =
+      command_ascends v n (n + terms_accesses (term_then t ts)) high (keep x.depth x.entity (core_terms known n (term_then t ts))) rest (terms_ascend v n (term_then t ts)) h
 
   mutual
     pub action_ascends : (v : Variables) (n high : ℕ) (a : Action) (rest : CoreCommands) → Behind (n + accesses_of a) high rest → Ascends n (all_made_by b path (core_action known n a rest) v) high
@@ -165,7 +183,9 @@ module _ (p : Program) (b : Begun) (known : Known) (path : Path) (in_block : ℕ
         (behind_from n3 (n + (term_accesses test + (accesses_of chosen + other_accesses other))) high rest (omega arith) h)
     form_ascends v n high (blocks body) rest h = groups_ascend v n high body rest (behind_from (n + groups_accesses body) (n + (0 + groups_accesses body)) high rest (omega arith) h)
     form_ascends v n high (lets_memory name shape shape_places value) rest h = behind_from n (n + (0 + 0)) high rest (omega arith) h v
-    form_ascends v n high (views name parent form) rest h = behind_from n (n + (0 + 0)) high rest (omega arith) h v
+    form_ascends v n high (views name parent form) rest h =
+        let own = own_accesses (views name parent form) in
+        kept_ascends v n high (hidden_in (way_of known name)) (terms (offsets_of form)) rest (behind_from (n + own) (n + (own + 0)) high rest (omega arith) h)
     form_ascends v n high (calls function arguments) rest h = behind_from n (n + (0 + 0)) high rest (omega arith) h v
     form_ascends v n high (repeats test body) rest h = behind_from n (n + (term_accesses test + accesses_of body)) high rest (omega arith) h v
     form_ascends v n high (counts iterator declared low hi factor body combine combine_place) rest h = behind_from n (n + (0 + (accesses_of body + other_accesses combine))) high rest (omega arith) h v

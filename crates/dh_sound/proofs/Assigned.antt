@@ -1,13 +1,17 @@
 -- Commands leave a variable as it was at every path, if they do not assign to it. By induction over commands: a
 -- store and a test change no variable, an assignment another one; an `if` is its test, then its arms, each at
 -- some of the paths.
-use Rattle.std.proofs.Common.{◌≡◌, ℕ, ◌==◌, ◌&&◌, ◌||◌, Bool, true, false, if◌then◌else◌, List, [], ◌∷◌, refl, ◌∙◌, ap}
+use Rattle.std.proofs.Common.{◌≡◌, ℕ, ◌==◌, ◌&&◌, ◌||◌, Bool, true, false, if◌then◌else◌, List, [], ◌∷◌, refl, ◌∙◌, ap, suc, ◌+◌, nat_le, nat_lt, length, sym, subst, arith}
 use Rattle.std.specs.Prelude.{take, ℤ}
 use Rattle.dh_value.specs.Words as words
 use Rattle.dh_meaning.specs.Paths.{Path, same_path}
 use Rattle.dh_meaning.specs.Core.{Reach, CoreTerm, Target, CoreCommand, store, assign, choose, CoreCommands, no_commands, command_and}
 use Rattle.dh_meaning.specs.Effects.{Begun, Variables, set_variable, Effect, at_each, stored_at, assigned_at, tested_at, paths_where, holds_at, value_of, command_run, commands_run}
 use Rattle.dh_meaning.specs.Levels.{assigns_to, any_assigns}
+use Rattle.dh_meaning.specs.Core.{CoreTerms, no_terms, term_and, count_terms, keep}
+use Rattle.dh_meaning.specs.Effects.{kept_at, set_from, values_of}
+use Rattle.std.proofs.lemmas.Bool.Decides.{nat_tests}
+use Rattle.dh_ways.proofs.KeptVariables.{others_kept}
 
 neither : (a b : Bool) → (a || b) ≡ false → (a ≡ false) × (b ≡ false)
 neither true b e = cc
@@ -36,10 +40,17 @@ module _ (b : Begun) (entity : ℕ) where
       assigned_leaves depth other value h paths (assigned_at b depth other value path e) p
       ∙ another_set e.variables entity other (take depth path) p (words.value_of (value_of b e.variables path value)) h
 
+  kept_leaves : (depth first : ℕ) (values : CoreTerms) → (nat_le first entity && nat_lt entity (first + count_terms values)) ≡ false → (paths : List Path) (e : Effect) (p : Path)
+      → (at_each (kept_at b depth first values) paths e).variables entity p ≡ e.variables entity p
+  kept_leaves depth first values h [] e p = refl
+  kept_leaves depth first values h (path ∷ paths) e p =
+      kept_leaves depth first values h paths (kept_at b depth first values path e) p ∙ others_kept b depth first values entity p h path e
+
   mutual
     command_leaves : (c : CoreCommand) → assigns_to entity c ≡ false → (paths : List Path) (e : Effect) (p : Path)
         → (command_run b paths c e).variables entity p ≡ e.variables entity p
     command_leaves (store r target value) h paths e p = stored_leaves r target value paths e p
+    command_leaves (keep depth first values) h paths e p = kept_leaves depth first values h paths e p
     command_leaves (assign depth other value) h paths e p = assigned_leaves depth other value h paths e p
     command_leaves (choose test chosen other) h paths e p =
         let hs = neither (any_assigns entity chosen) (any_assigns entity other) h in

@@ -2,11 +2,11 @@
 -- those of the phases, but for the reducers that join copies: these stand behind all others in their phase, since a turn
 -- ends with them. And so does what is run of those others: there each variable that is assigned has its own depth, which
 -- is at least that of the block. So a variable that they touch is declared inside all their loops.
-use Rattle.std.proofs.Common.{◌≡◌, inl, inr, ℕ, ◌+◌, ◌≤◌, ◌==◌, ◌&&◌, Bool, true, false, if◌then◌else◌, List, [], ◌∷◌, ◌++◌, refl, sym, subst, arith}
+use Rattle.std.proofs.Common.{◌≡◌, inl, inr, ℕ, ◌+◌, ◌≤◌, ◌==◌, ◌&&◌, Bool, true, false, if◌then◌else◌, List, [], ◌∷◌, ◌++◌, refl, sym, subst, arith, ◌<◌, length, nat_le, nat_lt, ap, suc}
 use Rattle.std.proofs.lemmas.List.{append-nil}
 use Rattle.std.proofs.lemmas.Bool.Decides.{nat_tests}
 use Rattle.dh_base.specs.declared.places.Place.{Place}
-use Rattle.dh_tree.specs.PlainTrees.{Term, term, number, truth_value, named, accessed, in_bank, applied, converted, Action, action, ActionForm, lets, lets_memory, views, assigns, stores, reduces, calls, blocks, decides, repeats, counts, MaybeAction, no_action, one_action, Actions, no_actions, action_then, Groups, no_groups, group_then}
+use Rattle.dh_tree.specs.PlainTrees.{shrinks, splits, suffixes, shifts, Term, term, number, truth_value, named, accessed, in_bank, applied, converted, Action, action, ActionForm, lets, lets_memory, views, assigns, stores, reduces, calls, blocks, decides, repeats, counts, MaybeAction, no_action, one_action, Actions, no_actions, action_then, Groups, no_groups, group_then}
 use Rattle.dh_meaning.specs.AccessNumbers.{term_accesses, accesses_of, part_accesses}
 use Rattle.dh_meaning.specs.Bindings.{depth_inside, binding_in, depth_bound}
 use Rattle.dh_meaning.specs.Core.{CoreTerm, CoreCommand, store, assign, choose, CoreCommands, no_commands, command_and}
@@ -18,6 +18,13 @@ use Rattle.dh_sound.specs.AssignsInside.{AssignsInside, FormAssignsInside, Other
 use Rattle.dh_sound.specs.Deep.{IsDeep, AreDeep}
 use Rattle.dh_sound.specs.SimpleForms.{AreFolds, FoldsOnly, FormFoldsOnly, GroupsFoldOnly, PartFoldsOnly, JoinsFolds}
 use Rattle.dh_sound.proofs.SamePhase.{either}
+use Rattle.dh_tree.specs.Seen.{terms}
+use Rattle.dh_tree.specs.ViewOffsets.{offsets_of}
+use Rattle.dh_meaning.specs.Ways.{Hidden, hidden_in}
+use Rattle.dh_sound.specs.AssignsInside.{KeepsInside}
+use Rattle.dh_meaning.specs.CoreOf.{kept_by, way_of}
+use Rattle.dh_meaning.specs.Core.{keep, count_terms}
+use Rattle.dh_meaning.specs.CoreOf.{core_terms}
 
 equal_numbers : (a b : ℕ) → (a == b) ≡ true → a ≡ b
 equal_numbers a b e = grind (arith, nat_tests)
@@ -274,7 +281,10 @@ module _ (known : Known) where
         (join_phases combine (in_loop r (loop_of iterator low high factor)) (n + accesses_of body) h.1))
     own_form_phases (blocks body) d r n id place h = own_groups_phases body d r n h
     own_form_phases (lets_memory name shape shape_places value) d r n id place h = tt
-    own_form_phases (views name parent form) d r n id place h = tt
+    own_form_phases (views name parent (shrinks by by_place)) d r n id place h = tt
+    own_form_phases (views name parent (splits by by_place)) d r n id place h = tt
+    own_form_phases (views name parent (suffixes by by_place)) d r n id place h = ((h, tt), tt)
+    own_form_phases (views name parent (shifts by)) d r n id place h = ((h, tt), tt)
     own_form_phases (calls function arguments) d r n id place h = tt
 
     own_other_phases : (m : MaybeAction) (d : ℕ) (r : Around) (n : ℕ) → OtherAssignsInside known d m → ListOwn d (other_phases r n m)
@@ -300,6 +310,7 @@ module _ (known : Known) where
     pub DeclaredDeep : (depth : ℕ) → CoreCommand → Type 0
     DeclaredDeep depth (store r target value) = Unit {0}
     DeclaredDeep depth (assign d entity value) = (depth ≤ d) × (depth ≤ depth_bound (binding_in known.bindings entity))
+    DeclaredDeep depth (keep d first values) = (depth ≤ d) × ((e : ℕ) → first ≤ e → e < first + count_terms values → depth ≤ depth_bound (binding_in known.bindings e))
     DeclaredDeep depth (choose test chosen other) = AllDeclaredDeep depth chosen × AllDeclaredDeep depth other
 
     pub AllDeclaredDeep : (depth : ℕ) → CoreCommands → Type 0
@@ -316,6 +327,16 @@ module _ (known : Known) where
     store_deep (term place k (applied o left right)) n value = (tt, tt)
     store_deep (term place k (converted t to)) n value = (tt, tt)
 
+    -- the offsets of a view are as many as its terms
+    terms_long : (ts : List Term) (n : ℕ) → count_terms (core_terms known n (terms ts)) ≡ length ts
+    terms_long [] n = refl
+    terms_long (t ∷ ts) n = ap suc (terms_long ts (n + term_accesses t))
+
+    kept_deep : (hs : List Hidden) (ts : List Term) (n : ℕ) (rest : CoreCommands) → KeepsInside known d hs (length ts) → AllDeclaredDeep d rest → AllDeclaredDeep d (kept_by hs (core_terms known n (terms ts)) rest)
+    kept_deep hs [] n rest h g = g
+    kept_deep [] (t ∷ ts) n rest h g = g
+    kept_deep (x ∷ hs) (t ∷ ts) n rest h g = ((h.0, λ e l u. (let c = terms_long (t ∷ ts) n in h.1 e l (omega (arith, u, c)))), g)
+
     mutual
       action_deep : (a : Action) (n : ℕ) (rest : CoreCommands) → AssignsInside known d a → AllDeclaredDeep d rest → AllDeclaredDeep d (core_action known n a rest)
       action_deep (action id place form) n rest h g = form_is_deep form n rest h g
@@ -329,7 +350,7 @@ module _ (known : Known) where
           ((action_deep chosen (n + term_accesses test) no_commands h.0 tt, other_deep other (n + term_accesses test + accesses_of chosen) h.1), g)
       form_is_deep (blocks body) n rest h g = groups_deep body n rest h g
       form_is_deep (lets_memory name shape shape_places value) n rest h g = g
-      form_is_deep (views name parent form) n rest h g = g
+      form_is_deep (views name parent form) n rest h g = kept_deep (hidden_in (way_of known name)) (offsets_of form) n rest h g
       form_is_deep (calls function arguments) n rest h g = g
       form_is_deep (repeats test body) n rest h g = g
       form_is_deep (counts iterator declared low high factor body combine combine_place) n rest h g = g
@@ -355,11 +376,22 @@ module _ (known : Known) where
       own_deep : (c : CoreCommand) → DeclaredDeep d c → IsDeep d c
       own_deep (store r target value) h = tt
       own_deep (assign m entity value) h = h.0
+      own_deep (keep m first values) h = h.0
       own_deep (choose test chosen other) h = (as_deep chosen h.0, as_deep other h.1)
 
       pub as_deep : (cs : CoreCommands) → AllDeclaredDeep d cs → AreDeep d cs
       as_deep no_commands h = tt
       as_deep (command_and c cs) h = (own_deep c h.0, as_deep cs h.1)
+
+    both_so : (x y : Bool) → (x && y) ≡ true → (x ≡ true) × (y ≡ true)
+    both_so true y e = (refl, e)
+    both_so false y e = cc
+
+    least : (a b : ℕ) → nat_le a b ≡ true → a ≤ b
+    least a b e = grind (arith, nat_tests)
+
+    below : (a b : ℕ) → nat_lt a b ≡ true → a < b
+    below a b e = grind (arith, nat_tests)
 
     -- a variable that they touch
     module _ (entity : ℕ) where
@@ -367,6 +399,7 @@ module _ (known : Known) where
         own_touched : (c : CoreCommand) → DeclaredDeep d c → assigns_to entity c ≡ true → d ≤ depth_bound (binding_in known.bindings entity)
         own_touched (store r target value) h e = absurd cc
         own_touched (assign m other value) h e = subst (λ (n : ℕ). d ≤ depth_bound (binding_in known.bindings n)) (sym (equal_numbers entity other e)) h.1
+        own_touched (keep m first values) h e = h.1 entity (least first entity (both_so (nat_le first entity) _ e).0) (below entity (first + count_terms values) (both_so (nat_le first entity) _ e).1)
         own_touched (choose test chosen other) h e =
             elim (either (any_assigns entity chosen) (any_assigns entity other) e) [ inl f ↦ touched_deep chosen h.0 f | inr f ↦ touched_deep other h.1 f ]
 

@@ -37,6 +37,8 @@ use Rattle.dh_meets.specs.Charges.{level_of_loop, index_in, indices_in, bank_rea
 use Rattle.dh_meets.specs.SourceEvents.{Element, with_indices, in_row, SourceAccess}
 use Rattle.dh_sound.specs.IndexValues.{AllHaveIndexKinds, copy_at, AllInTurn, IsUnrolled, IsIndexValue, HasCopy, target_of, HasElementKinds, ElementInTurn, element_breaches, IsAccess, IsReached}
 use Rattle.dh_sound.proofs.ValuesOfIndices.{index_value}
+use Rattle.dh_meets.specs.Charges.{reaches_by}
+use Rattle.dh_ways.proofs.NoWays.{memory_unled}
 
 -- One dimension.
 
@@ -303,4 +305,4 @@ access_reaches p b path v a n r s h f =
     let same : same_entity a.entity (Some h.entity) ≡ true = ap (λ o. same_entity o (Some h.entity)) h.is ∙ eq-eqb h.entity h.entity refl in
     let at : reaches_in (counters_of p) (memory_in (memories_of p) (Some h.entity)) a path s.bank ≡ true =
     ap (λ o. reaches_in (counters_of p) o a path s.bank) h.declared ∙ eq-eqb _ _ (sym bank) in
-    record { memory = there.0; bank = ap (λ x. x && reaches_in (counters_of p) (memory_in (memories_of p) (Some h.entity)) a path s.bank) same ∙ at }
+    record { memory = there.0; bank = ap (λ w. reaches_by p w a path h.entity s.bank) (memory_unled p a.entity h.memory declared) ∙ (ap (λ x. x && reaches_in (counters_of p) (memory_in (memories_of p) (Some h.entity)) a path s.bank) same ∙ at) }

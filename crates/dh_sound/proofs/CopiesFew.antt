@@ -22,6 +22,8 @@ use Rattle.dh_sound.proofs.BanksReached.{first_none, second_none}
 use Rattle.dh_sound.proofs.ValuesOfIndices.{both_true}
 use Rattle.dh_meaning.specs.Paths.{copies_in}
 use Rattle.dh_meets.specs.FewCopies.{most_copies, HasFewCopies}
+use Rattle.dh_tree.specs.Seen.{terms}
+use Rattle.dh_tree.specs.ViewOffsets.{offsets_of}
 
 first_of : (o next : Option Excess) → or_else o next ≡ None → o ≡ None
 first_of None next e = refl
@@ -131,7 +133,7 @@ module _ (known : Known) where
     form_few : (r : Around) (copies : ℕ) → Round r copies → (site : Site) → SiteFew site → (f : ActionForm) → action_form_index_breaches known f ≡ [] → form_copies_excess copies f ≡ None → AreFew (command_events r site f)
     form_few r copies h site few (lets name declared value) e l = both_few (maybe_events site value) _ (maybe_few site few value) tt
     form_few r copies h site few (lets_memory name shape shape_places value) e l = tt
-    form_few r copies h site few (views name parent form) e l = tt
+    form_few r copies h site few (views name parent form) e l = terms_few site few (terms (offsets_of form))
     form_few r copies h site few (assigns target value) e l = both_few (term_events site value) _ (term_few site few value) tt
     form_few r copies h site few (stores target value) e l = both_few (term_events site value) (write_events site target) (term_few site few value) (write_few site few target)
     form_few r copies h site few (reduces target o value) e l = both_few (term_events site value) _ (term_few site few value) tt

@@ -10,7 +10,7 @@ use Rattle.dh_tree.specs.declared.trees.expressions.Ref.{Ref}
 use Rattle.dh_tree.specs.declared.trees.programs.Sort.{Sort}
 use Rattle.dh_tree.specs.declared.trees.programs.Sort.TheVariants.{Variable, Iterator}
 use Rattle.dh_tree.specs.Memories.{same_entity}
-use Rattle.dh_tree.specs.PlainTrees.{Action, action, ActionForm, lets, lets_memory, views, assigns, stores, reduces, calls, blocks, decides, repeats, counts, MaybeAction, no_action, one_action, Actions, no_actions, action_then, Groups, no_groups, group_then, Program}
+use Rattle.dh_tree.specs.PlainTrees.{shrinks, splits, suffixes, shifts, Action, action, ActionForm, lets, lets_memory, views, assigns, stores, reduces, calls, blocks, decides, repeats, counts, MaybeAction, no_action, one_action, Actions, no_actions, action_then, Groups, no_groups, group_then, Program}
 use Rattle.dh_tree.specs.Resolved.{resolved_action, resolved_form, resolved_other, resolved_actions, resolved_groups, HasEntities}
 use Rattle.dh_tree.specs.Scopes.{Scope, entity, declare, leave, past, at_end, form_at_end, other_at_end, actions_at_end, groups_at_end, body_scope}
 use Rattle.dh_meaning.specs.AccessNumbers.{term_accesses, accesses_of, part_accesses}
@@ -26,6 +26,7 @@ use Rattle.dh_sound.specs.LoopsDeclared.{IsFoundWith}
 use Rattle.dh_sound.proofs.IteratorsAt.{factors_both}
 use Rattle.dh_sound.proofs.IteratorsNamed.{on_long, declared_on, past_on, goes_on, other_on, part_on, groups_on}
 use Rattle.dh_sound.proofs.PhasesHold.{Facts, PhaseHolds, PhasesHold, ListHolds, PartsHold, of_list_hold, both_hold, joined_hold, folded_hold, turn_hold, choice_hold}
+use Rattle.dh_meaning.specs.Ways.{all_bindings_of, view_bindings}
 
 -- Variables by their numbers.
 
@@ -288,7 +289,10 @@ module _ (known : Known) where
         (other_phases_deep combine (depth_inside d factor.value) (in_loop r (loop_of iterator low high factor)) (n + accesses_of body) h.1.1))
     form_phases_deep (blocks body) d r n id place h = groups_phases_deep body d r n h
     form_phases_deep (lets_memory name shape shape_places value) d r n id place h = tt
-    form_phases_deep (views name parent form) d r n id place h = tt
+    form_phases_deep (views name parent (shrinks by by_place)) d r n id place h = tt
+    form_phases_deep (views name parent (splits by by_place)) d r n id place h = tt
+    form_phases_deep (views name parent (suffixes by by_place)) d r n id place h = ((tt, tt), tt)
+    form_phases_deep (views name parent (shifts by)) d r n id place h = ((tt, tt), tt)
     form_phases_deep (calls function arguments) d r n id place h = tt
 
     other_phases_deep : (m : MaybeAction) (d : ℕ) (r : Around) (n : ℕ) → OtherDeep known.bindings d m → ListHolds has_depths d (other_phases r n m)
@@ -377,7 +381,7 @@ all_hold : (p : Program) → HasEntities p → PhasesHold (has_depths (known_of 
 all_hold p h =
     of_list_hold (has_depths (known_of p)) 0 (phases_of p)
     (phases_deep (known_of p) p.body 0 nothing_around 0
-    (deep (bindings_of p) p.body (body_scope p) 0 [] [] (ap (λ (x : Program). x.body) h) (sym (append-nil (bindings_of p))) tt))
+    (deep (all_bindings_of p) p.body (body_scope p) 0 [] (view_bindings p) (ap (λ (x : Program). x.body) h) refl tt))
 
 -- a program whose names have their entities keeps the depths of its iterators where it is run
 pub depths_kept : (p : Program) → HasEntities p → KeepsDepths (core_of p)

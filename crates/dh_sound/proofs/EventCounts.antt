@@ -6,6 +6,8 @@ use Rattle.dh_tree.specs.PlainTrees.{Term, term, TermForm, number, truth_value, 
 use Rattle.dh_meaning.specs.AccessNumbers.{term_accesses, form_accesses, terms_accesses, maybe_accesses, own_accesses, accesses_of, inner_accesses, other_accesses, part_accesses, groups_accesses}
 use Rattle.dh_meaning.specs.Sites.{Around, in_arm, in_loop, loop_of}
 use Rattle.dh_meets.specs.SourceEvents.{Site, SourceEvent, accesses, assigned, accesses_in, term_events, form_events, terms_events, maybe_events, write_events, site_of, events, command_events, other_events, groups_events, part_events}
+use Rattle.dh_tree.specs.Seen.{terms}
+use Rattle.dh_tree.specs.ViewOffsets.{offsets_of}
 
 -- how many accesses stand among events
 abbrev pub count_in : List SourceEvent → ℕ
@@ -78,7 +80,7 @@ mutual
   command_counted r id (lets name declared value) =
       right_end _ (maybe_accesses value) (no_more (maybe_events (site_of r id) value) name.entity _ (maybe_counted (site_of r id) value))
   command_counted r id (lets_memory name shape shape_places value) = refl
-  command_counted r id (views name parent form) = refl
+  command_counted r id (views name parent form) = right_end _ (own_accesses (views name parent form)) (terms_counted (site_of r id) (terms (offsets_of form)))
   command_counted r id (assigns target value) =
       right_end _ (term_accesses value) (no_more (term_events (site_of r id) value) target.entity _ (term_counted (site_of r id) value))
   command_counted r id (stores target value) =

@@ -25,6 +25,12 @@ use Rattle.dh_meaning.specs.Sites.{Around}
 use Rattle.dh_meets.specs.SourceEvents.{SourceEvent}
 use Rattle.dh_sound.specs.SimpleForms.{IsVariable, IsFoldForm, IsFold, AreFolds}
 use Rattle.dh_sound.specs.Trails.{of_located, Follows}
+use Rattle.dh_tree.specs.Seen.{terms}
+use Rattle.dh_tree.specs.ViewOffsets.{offsets_of}
+use Rattle.dh_meaning.specs.Ways.{Hidden, hidden_in}
+use Rattle.dh_meaning.specs.CoreOf.{kept_by, way_of}
+use Rattle.dh_meaning.specs.Core.{CoreTerms, no_terms, term_and}
+use Rattle.dh_meaning.specs.CoreOf.{core_terms}
 
 -- Commands one behind the other.
 
@@ -37,6 +43,11 @@ behind_three no_commands ys zs = refl
 behind_three (command_and c xs) ys zs = ap (λ x. command_and c x) (behind_three xs ys zs)
 
 module _ (known : Known) where
+  kept_split : (hs : List Hidden) (ts : CoreTerms) (rest : CoreCommands) → kept_by hs ts rest ≡ behind (kept_by hs ts no_commands) rest
+  kept_split hs no_terms rest = refl
+  kept_split [] (term_and t ts) rest = refl
+  kept_split (h ∷ hs) (term_and t ts) rest = refl
+
   mutual
     action_split : (a : Action) (n : ℕ) (rest : CoreCommands) → core_action known n a rest ≡ behind (core_action known n a no_commands) rest
     action_split (action id place form) n rest = form_split form n rest
@@ -49,7 +60,7 @@ module _ (known : Known) where
     form_split (decides test chosen other) n rest = refl
     form_split (blocks body) n rest = groups_split body n rest
     form_split (lets_memory name shape shape_places value) n rest = refl
-    form_split (views name parent form) n rest = refl
+    form_split (views name parent form) n rest = kept_split (hidden_in (way_of known name)) (core_terms known n (terms (offsets_of form))) rest
     form_split (calls function arguments) n rest = refl
     form_split (repeats test body) n rest = refl
     form_split (counts iterator declared low high factor body combine combine_place) n rest = refl

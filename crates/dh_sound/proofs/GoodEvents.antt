@@ -1,7 +1,7 @@
 -- What a block of a phase does at one path, as the source tells it: each event is that of an access of the trace that
 -- the phase makes, found by variables that differ from those at the beginning only where the block assigns, and a
 -- read that shares an earlier one leads where that one led, which was made at the same path.
-use Rattle.std.proofs.Common.{◌≡◌, ℕ, ◌<◌, Bool, true, false, List, [], ◌∷◌, ◌++◌, refl, sym, ◌∙◌, subst, arith, inl}
+use Rattle.std.proofs.Common.{◌≡◌, ℕ, ◌<◌, Bool, true, false, List, [], ◌∷◌, ◌++◌, refl, sym, ◌∙◌, subst, arith, inl, Option}
 use Rattle.std.proofs.lemmas.List.{append-nil}
 use Rattle.dh_tree.specs.PlainTrees.{Program}
 use Rattle.dh_meaning.specs.Core.{no_commands}
@@ -25,9 +25,16 @@ use Rattle.dh_sound.proofs.Slices.{straight_either, test_either}
 use Rattle.dh_sound.proofs.StraightWalks.{Done}
 use Rattle.dh_sound.proofs.TermWalks.{IsGood}
 use Rattle.dh_sound.specs.Trails.{Follows}
+use Rattle.dh_sound.specs.Unled.{IsUnled}
+use Rattle.std.specs.List.{AllByRecursion}
+use Rattle.dh_meaning.specs.Ways.{Hidden, Way, hidden_in, way_at}
 
 none_before : {A : Type 0} (k : ℕ) → k < 0 → A
 none_before k l = let none : ⊥ = omega (arith, l) in elim none [ ]
+
+-- where no name leads through views, nothing touches what ways keep
+nothing_led : (known : Known) (touched : ℕ → Bool) → IsUnled known → (entity : Option ℕ) → AllByRecursion (λ (h : Hidden). touched h.entity ≡ false) (hidden_in (way_at known.memories known.ways entity))
+nothing_led known touched unled entity = subst (λ (o : Option Way). AllByRecursion (λ (h : Hidden). touched h.entity ≡ false) (hidden_in o)) (sym (unled entity)) tt
 
 -- The commands of a Straight phase, without the reducers behind them.
 module _ (p : Program) (b : Begun) (known : Known) (path : Path) (cs folds : List Located) (quiet : AreFolds folds) (inside : HasStraight (phases_of p) (cs ++ folds)) (v : Variables) where
@@ -44,8 +51,8 @@ module _ (p : Program) (b : Begun) (known : Known) (path : Path) (cs folds : Lis
   abbrev pub IsGoodHere : Around → List Event → Event → Type 0
   IsGoodHere r es ev = IsGood p b known path phase_makes phase_shares v phase_touches r es ev
 
-  phase_done : (r : Around) → Follows r [] (trace p) cs → Done p b known path phase_makes phase_shares v phase_touches r [] (trace p) v [] (core_commands known cs) no_commands
-  phase_done r f =
+  phase_done : IsUnled known → (r : Around) → Follows r [] (trace p) cs → Done p b known path phase_makes phase_shares v phase_touches r [] (trace p) v [] (core_commands known cs) no_commands
+  phase_done unled r f =
       walk_located p b known path phase_makes phase_shares v phase_touches r [] (trace p) v [] 0 cs f (λ k w. refl) (λ e h. h)
       (record {
         after = [];
@@ -53,12 +60,13 @@ module _ (p : Program) (b : Begun) (known : Known) (path : Path) (cs folds : Lis
         number = refl;
         near = λ e q h. refl;
         knows = knows_none b known path phase_makes r [] v (λ k l h. none_before k l);
+        still = nothing_led known phase_touches unled;
       })
 
   -- each event that they make
-  pub phase_good : (r : Around) → Follows r [] (trace p) cs → (ev : Event) → Has ev (all_made_by b path (core_commands known cs) v) → IsGoodHere r (all_made_by b path (core_commands known cs) v) ev
-  phase_good r f ev h =
-      let d = phase_done r f in
+  pub phase_good : IsUnled known → (r : Around) → Follows r [] (trace p) cs → (ev : Event) → Has ev (all_made_by b path (core_commands known cs) v) → IsGoodHere r (all_made_by b path (core_commands known cs) v) ev
+  phase_good unled r f ev h =
+      let d = phase_done unled r f in
       let made = d.made_is ∙ append-nil d.made in
       subst (λ (es : List Event). IsGoodHere r es ev) (sym made) (d.steps.good ev (subst (λ (es : List Event). Has ev es) made h))
 
@@ -76,8 +84,8 @@ module _ (p : Program) (b : Begun) (known : Known) (path : Path) (c : Located) (
   abbrev pub IsGoodTest : List Event → Event → Type 0
   IsGoodTest es ev = IsGood p b known path own_makes test_shares v nothing_touched c.around es ev
 
-  pub test_good : Follows c.around [] (trace p) (c ∷ []) → (ev : Event) → Has ev (term_events b v path (core_test known c)) → IsGoodTest (term_events b v path (core_test known c)) ev
-  test_good f =
+  pub test_good : IsUnled known → Follows c.around [] (trace p) (c ∷ []) → (ev : Event) → Has ev (term_events b v path (core_test known c)) → IsGoodTest (term_events b v path (core_test known c)) ev
+  test_good unled f =
       (walk_test p b known path own_makes test_shares v nothing_touched [] (trace p) v [] 0 c f (λ k w. refl)
       (record {
         after = [];
@@ -85,4 +93,5 @@ module _ (p : Program) (b : Begun) (known : Known) (path : Path) (c : Located) (
         number = refl;
         near = λ e q h. refl;
         knows = knows_none b known path own_makes c.around [] v (λ k l h. none_before k l);
+        still = nothing_led known nothing_touched unled;
       })).steps.good

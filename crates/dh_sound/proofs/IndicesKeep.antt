@@ -24,6 +24,10 @@ use Rattle.dh_sound.specs.IndexValues.{element_breaches}
 use Rattle.dh_sound.proofs.BanksReached.{first_none, second_none}
 use Rattle.dh_sound.proofs.IteratorsKnown.{both_all}
 use Rattle.dh_sound.proofs.ValuesOfIndices.{both_true}
+use Rattle.dh_tree.specs.Seen.{terms}
+use Rattle.dh_tree.specs.ViewOffsets.{offsets_of}
+use Rattle.dh_tree.specs.ViewFactors.{factor_breaches_of}
+use Rattle.dh_tree.specs.ViewBreaches.{KnownViews, known_views, view_breaches_of, term_view_breaches, offsets_view_breaches, action_view_breaches, action_form_view_breaches, other_view_breaches, groups_view_breaches, part_view_breaches}
 
 -- Shapes.
 
@@ -186,51 +190,63 @@ module _ (known : Known) where
   maybe_keeps site None e = tt
   maybe_keeps site (Some t) e = term_keeps site t e
 
+-- Commands; the rules on views tell of their offsets.
+module _ (kv : KnownViews) where
+  abbrev known : Known
+  known = kv.names
+
+  offsets_keep : (ts : List Term) → offsets_view_breaches kv ts ≡ [] → terms_index_breaches known (terms ts) ≡ []
+  offsets_keep [] w = refl
+  offsets_keep (t ∷ ts) w =
+      let own = first_none (term_index_breaches known t ++ term_view_breaches kv t) _ w in
+      ap (λ l. l ++ terms_index_breaches known (terms ts)) (first_none (term_index_breaches known t) _ own)
+      ∙ offsets_keep ts (second_none (term_index_breaches known t ++ term_view_breaches kv t) _ w)
+
   mutual
-    events_keep : (r : Around) (a : Action) → action_index_breaches known a ≡ [] → EventsKeep known (events r a)
-    events_keep r (action id place form) e = form_keeps r (site_of r id) form e
+    events_keep : (r : Around) (a : Action) → action_index_breaches known a ≡ [] → action_view_breaches kv a ≡ [] → EventsKeep known (events r a)
+    events_keep r (action id place form) e w = form_keeps r (site_of r id) form e w
 
-    form_keeps : (r : Around) (site : Site) (a : ActionForm) → action_form_index_breaches known a ≡ [] → EventsKeep known (command_events r site a)
-    form_keeps r site (lets name declared value) e = both_keep (maybe_events site value) (assigned name.entity ∷ []) (maybe_keeps site value e) tt
-    form_keeps r site (lets_memory name shape shape_places value) e = tt
-    form_keeps r site (views name parent form) e = tt
-    form_keeps r site (assigns target value) e = both_keep (term_events site value) (assigned target.entity ∷ []) (term_keeps site value e) tt
-    form_keeps r site (stores target value) e =
-        both_keep (term_events site value) (write_events site target) (term_keeps site value (second_none (term_index_breaches known target) _ e)) (write_keeps site target (first_none (term_index_breaches known target) _ e))
-    form_keeps r site (reduces target o value) e = both_keep (term_events site value) (assigned target.entity ∷ []) (term_keeps site value e) tt
-    form_keeps r site (calls function arguments) e = tt
-    form_keeps r site (blocks body) e = groups_keep r body e
-    form_keeps r site (decides test chosen other) e =
+    form_keeps : (r : Around) (site : Site) (a : ActionForm) → action_form_index_breaches known a ≡ [] → action_form_view_breaches kv a ≡ [] → EventsKeep known (command_events r site a)
+    form_keeps r site (lets name declared value) e w = both_keep known (maybe_events site value) (assigned name.entity ∷ []) (maybe_keeps known site value e) tt
+    form_keeps r site (lets_memory name shape shape_places value) e w = tt
+    form_keeps r site (views name parent form) e w = terms_keep known site (terms (offsets_of form)) (offsets_keep (offsets_of form) w)
+    form_keeps r site (assigns target value) e w = both_keep known (term_events site value) (assigned target.entity ∷ []) (term_keeps known site value e) tt
+    form_keeps r site (stores target value) e w =
+        both_keep known (term_events site value) (write_events site target) (term_keeps known site value (second_none (term_index_breaches known target) _ e)) (write_keeps known site target (first_none (term_index_breaches known target) _ e))
+    form_keeps r site (reduces target o value) e w = both_keep known (term_events site value) (assigned target.entity ∷ []) (term_keeps known site value e) tt
+    form_keeps r site (calls function arguments) e w = tt
+    form_keeps r site (blocks body) e w = groups_keep r body e w
+    form_keeps r site (decides test chosen other) e w =
         let below = second_none (term_index_breaches known test) _ e in
-        both_keep (term_events site test) _ (term_keeps site test (first_none (term_index_breaches known test) _ e))
-        (both_keep (events (in_arm r site.command true) chosen) _
-        (events_keep (in_arm r site.command true) chosen (first_none (action_index_breaches known chosen) _ below))
-        (other_keep (in_arm r site.command false) other (second_none (action_index_breaches known chosen) _ below)))
-    form_keeps r site (repeats test body) e =
-        both_keep (term_events site test) (events r body) (term_keeps site test (first_none (term_index_breaches known test) _ e)) (events_keep r body (second_none (term_index_breaches known test) _ e))
-    form_keeps r site (counts iterator declared low high factor body combine combine_place) e =
+        both_keep known (term_events site test) _ (term_keeps known site test (first_none (term_index_breaches known test) _ e))
+        (both_keep known (events (in_arm r site.command true) chosen) _
+        (events_keep (in_arm r site.command true) chosen (first_none (action_index_breaches known chosen) _ below) (first_none (action_view_breaches kv chosen) _ (second_none (term_view_breaches kv test) _ w)))
+        (other_keep (in_arm r site.command false) other (second_none (action_index_breaches known chosen) _ below) (second_none (action_view_breaches kv chosen) _ (second_none (term_view_breaches kv test) _ w))))
+    form_keeps r site (repeats test body) e w =
+        both_keep known (term_events site test) (events r body) (term_keeps known site test (first_none (term_index_breaches known test) _ e)) (events_keep r body (second_none (term_index_breaches known test) _ e) (second_none (term_view_breaches kv test) _ w))
+    form_keeps r site (counts iterator declared low high factor body combine combine_place) e w =
         let below = second_none (turns_breaches low high factor) _ e in
-        both_keep (events (in_loop r (loop_of iterator low high factor)) body) _
-        (events_keep (in_loop r (loop_of iterator low high factor)) body (first_none (action_index_breaches known body) _ below))
-        (other_keep (in_loop r (loop_of iterator low high factor)) combine (second_none (action_index_breaches known body) _ below))
+        both_keep known (events (in_loop r (loop_of iterator low high factor)) body) _
+        (events_keep (in_loop r (loop_of iterator low high factor)) body (first_none (action_index_breaches known body) _ below) (first_none (action_view_breaches kv body) _ w))
+        (other_keep (in_loop r (loop_of iterator low high factor)) combine (second_none (action_index_breaches known body) _ below) (second_none (action_view_breaches kv body) _ w))
 
-    other_keep : (r : Around) (m : MaybeAction) → other_index_breaches known m ≡ [] → EventsKeep known (other_events r m)
-    other_keep r no_action e = tt
-    other_keep r (one_action a) e = events_keep r a e
+    other_keep : (r : Around) (m : MaybeAction) → other_index_breaches known m ≡ [] → other_view_breaches kv m ≡ [] → EventsKeep known (other_events r m)
+    other_keep r no_action e w = tt
+    other_keep r (one_action a) e w = events_keep r a e w
 
-    part_keeps : (r : Around) (p : Actions) → actions_index_breaches known p ≡ [] → EventsKeep known (part_events r p)
-    part_keeps r no_actions e = tt
-    part_keeps r (action_then a rest) e =
-        both_keep (events r a) (part_events r rest)
-        (events_keep r a (first_none (action_index_breaches known a) _ e))
-        (part_keeps r rest (second_none (action_index_breaches known a) _ e))
+    part_keeps : (r : Around) (p : Actions) → actions_index_breaches known p ≡ [] → part_view_breaches kv p ≡ [] → EventsKeep known (part_events r p)
+    part_keeps r no_actions e w = tt
+    part_keeps r (action_then a rest) e w =
+        both_keep known (events r a) (part_events r rest)
+        (events_keep r a (first_none (action_index_breaches known a) _ e) (first_none (action_view_breaches kv a) _ w))
+        (part_keeps r rest (second_none (action_index_breaches known a) _ e) (second_none (action_view_breaches kv a) _ w))
 
-    groups_keep : (r : Around) (g : Groups) → groups_index_breaches known g ≡ [] → EventsKeep known (groups_events r g)
-    groups_keep r no_groups e = tt
-    groups_keep r (group_then part rest) e =
-        both_keep (part_events r part) (groups_events r rest)
-        (part_keeps r part (first_none (actions_index_breaches known part) _ e))
-        (groups_keep r rest (second_none (actions_index_breaches known part) _ e))
+    groups_keep : (r : Around) (g : Groups) → groups_index_breaches known g ≡ [] → groups_view_breaches kv g ≡ [] → EventsKeep known (groups_events r g)
+    groups_keep r no_groups e w = tt
+    groups_keep r (group_then part rest) e w =
+        both_keep known (part_events r part) (groups_events r rest)
+        (part_keeps r part (first_none (actions_index_breaches known part) _ e) (first_none (part_view_breaches kv part) _ w))
+        (groups_keep r rest (second_none (actions_index_breaches known part) _ e) (second_none (part_view_breaches kv part) _ w))
 
 keeps_at : (known : Known) (es : List SourceEvent) (k : ℕ) (a : SourceAccess) → EventsKeep known es → slice_get (accesses_in es) k ≡ Some a → ElementKeeps known a.entity a.element
 keeps_at known [] k a h e = absurd cc
@@ -244,17 +260,17 @@ pub record KeepsIn (cs : List Counter) (m : Memory) (element : Element) : Type 0
   pub none : element_breaches cs m.shape.dims element ≡ []
   pub bank : BankLies m.shape.dims element
 
-pub access_keeps : (p : Program) → index_breaches_of p ≡ [] → (k : ℕ) (a : SourceAccess) → slice_get (accesses_in (trace p)) k ≡ Some a → (m : Memory) → memory_in (memories_of p) a.entity ≡ Some m → KeepsIn (known_of p).counters m a.element
-access_keeps p e k a g m h =
+pub access_keeps : (p : Program) → index_breaches_of p ≡ [] → view_breaches_of p ≡ [] → (k : ℕ) (a : SourceAccess) → slice_get (accesses_in (trace p)) k ≡ Some a → (m : Memory) → memory_in (memories_of p) a.entity ≡ Some m → KeepsIn (known_of p).counters m a.element
+access_keeps p e w k a g m h =
     let shape = memory_keeps p a.entity m e h in
-    let kept = keeps_at (known_of p) (trace p) k a (events_keep (known_of p) nothing_around p.body (second_none (decls_shape_breaches p.decls) _ e)) g m h shape in
+    let kept = keeps_at (known_of p) (trace p) k a (events_keep (known_views p) nothing_around p.body (second_none (decls_shape_breaches p.decls) _ e) (second_none (factor_breaches_of p) _ w)) g m h shape in
     record {
       dims = dims_are m.shape.dims (both_true (not (m.shape.ports == 0)) (dims_keep m.shape.dims) shape).1;
       none = kept.0;
       bank = kept.1;
     }
 
-pub banks_named : (p : Program) → index_breaches_of p ≡ [] → NamesBanks p
-banks_named p e k bank a row m g is h =
-    let kept = access_keeps p e k a g m h in
+pub banks_named : (p : Program) → index_breaches_of p ≡ [] → view_breaches_of p ≡ [] → NamesBanks p
+banks_named p e w k bank a row m g is h =
+    let kept = access_keeps p e w k a g m h in
     subst (BankLies m.shape.dims) is kept.bank

@@ -24,6 +24,13 @@ use Rattle.dh_sound.proofs.BanksReached.{first_none, second_none}
 use Rattle.dh_sound.proofs.FactsGrow.{Extends, appended, added_last, grows, form_grows, other_grows, part_grows, groups_grow, InStep, next_in_step, past_in_step, in_step, part_in_step}
 use Rattle.dh_sound.proofs.IteratorsKnown.{AreKnownIterators}
 use Rattle.dh_sound.proofs.KindsOfTerms.{no_breach, IsGood, IsKnownName, Knows, IsNamed, name_known, fact_is, for_numbers_sized, number_kind_sized, EventsHave, both_have, write_has, HasKind, kind_sized, term_kinds}
+use Rattle.dh_tree.specs.Breaches as names
+use Rattle.dh_tree.specs.Kinds.{typed_plan}
+use Rattle.dh_tree.specs.Resolved.{resolved_plan}
+use Rattle.dh_tree.specs.Seen.{terms}
+use Rattle.dh_tree.specs.ViewOffsets.{offsets_of}
+use Rattle.dh_sound.proofs.Offsets.{offsets_named, offsets_typed, offsets_visible, offsets_kinds, offsets_sized}
+use Rattle.dh_sound.proofs.KindsOfTerms.{terms_kinds}
 
 -- What is known of names.
 
@@ -188,10 +195,18 @@ module _ (all : Facts) (cs : List Counter) (iterators : AreKnownIterators all cs
     form_leads facts s r site (views name parent form) l k x h =
         let same : used s.visible parent ≡ parent = let eq = h.named in cc in
         let named = name_known facts s.visible parent k same (first_none (unknown s.visible parent) _ h.visible) in
+        let typed : typed_plan facts form ≡ form = let eq = h.typed in cc in
+        let plan : resolved_plan s.visible form ≡ form = let eq = h.named in cc in
+        let inner = terms_kinds all cs iterators site facts s.visible (λ n f e. x n f (appended facts (view_fact (fact_of facts parent) form ∷ []) n f e)) k (terms (offsets_of form)) (offsets_typed facts form typed) (record {
+          named = offsets_named s.visible form plan;
+          visible = offsets_visible s.visible form ∙ first_none (names.plan_breaches s.visible form) _ (second_none (unknown s.visible parent) _ h.visible);
+          kinds = offsets_kinds facts form ∙ second_none (parent_breaches (fact_of facts parent) parent.place) _ h.kinds;
+          sized = offsets_sized form h.sized;
+        }) in
         record {
           knows = declared_known facts s name sort.View (view_fact (fact_of facts parent) form) l k
               (view_good (fact_of facts parent) named.known.fact parent.place form (fact_is facts parent named) named.known.good (first_none (parent_breaches (fact_of facts parent) parent.place) _ h.kinds));
-          events = tt;
+          events = inner.events;
         }
     form_leads facts s r site (assigns target value) l k x h =
         let typed : typed_term facts (for_numbers (target_kind (fact_of facts target))) value ≡ value = let eq = h.typed in cc in

@@ -15,7 +15,7 @@ use Rattle.dh_meaning.specs.Sites.{Arm, Around, in_arm}
 use Rattle.dh_meets.specs.SourceEvents.{Element, SourceAccess, SourceEvent, accesses, assigned, accesses_in, trace}
 use Rattle.dh_meets.specs.Sharing.{same_truth, alike_elements, element_mentions, reassigned, same_arm, all_arms_of, shares_with, share_among, share_in, shared}
 use Rattle.dh_sound.proofs.Pigeons.{Has, has_left}
-use Rattle.dh_sound.proofs.SourceValues.{memory_at, source_spot, AgreeBut, IsNamedElement, spot_unmentioned, spot_alike}
+use Rattle.dh_sound.proofs.SourceValues.{SameOffsets, memory_at, source_spot, AgreeBut, IsNamedElement, spot_unmentioned, spot_alike}
 use Rattle.dh_sound.specs.Trails.{count}
 
 -- Lists that end in one more.
@@ -139,9 +139,9 @@ module _ (b : Begun) (known : Known) (path : Path) (in_block : ℕ → Bool) whe
       by (inside less q p) = k pre less x e p w i arms y s n (earlier_kept e less (accesses a) (subst (λ (l : List SourceEvent). reassigned e l ≡ false) q m)).0
 
   -- an assignment
-  pub knows_assigned : (r : Around) (before : List SourceEvent) (v w : Variables) (es : List Event) (entity : ℕ) → Knows r before v es → AgreeBut b known entity v w
+  pub knows_assigned : (r : Around) (before : List SourceEvent) (v w : Variables) (es : List Event) (entity : ℕ) → Knows r before v es → AgreeBut b known entity v w → SameOffsets b known v w path
       → Knows r (before ++ assigned (Some entity) ∷ []) w es
-  knows_assigned r before v w es entity k agree pre between x e cut q i arms y s n m = by (cut_last before (assigned (Some entity)) pre (accesses x) between cut)
+  knows_assigned r before v w es entity k agree still pre between x e cut q i arms y s n m = by (cut_last before (assigned (Some entity)) pre (accesses x) between cut)
     where
       other : assigned (Some entity) ≡ accesses x → ⊥
       other t = cc
@@ -153,7 +153,7 @@ module _ (b : Begun) (known : Known) (path : Path) (in_block : ℕ → Bool) whe
       by (at_end u p t) = elim (other t) [ ]
       by (inside less u p) =
           let both = earlier_kept e less (assigned (Some entity)) (subst (λ (l : List SourceEvent). reassigned e l ≡ false) u m) in
-          subst (λ (z : _). Has (read_made (reach_at (count pre) x) path z) es) (spot_unmentioned b known v w path entity x.entity e agree n (first_of _ _ both.1))
+          subst (λ (z : _). Has (read_made (reach_at (count pre) x) path z) es) (spot_unmentioned b known v w path entity x.entity e agree still n (first_of _ _ both.1))
           (k pre less x e p q i arms y s n both.0)
 
   -- an assignment that was not done

@@ -77,3 +77,5 @@ pub mod StepsCovered
 pub mod CopiesFew
 pub mod Folds
 pub mod JoinsKept
+pub mod Offsets
+pub mod ViewsBefore

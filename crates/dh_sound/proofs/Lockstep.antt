@@ -2,7 +2,7 @@
 -- alone: where each variable that is assigned has one value for each path, an assignment at another path is not
 -- seen. So for a path among those of the commands, what is seen of variables, accesses and faults at this path
 -- is what the commands do at it; for another path nothing changes.
-use Rattle.std.proofs.Common.{◌≡◌, ◌⊎◌, inl, inr, ℕ, ◌≤◌, nat_eq, Bool, true, false, ◌&&◌, if◌then◌else◌, List, [], ◌∷◌, ◌++◌, take, length, Option, Some, None, refl, sym, ◌∙◌, ap, subst, arith, ℤ}
+use Rattle.std.proofs.Common.{◌≡◌, ◌⊎◌, inl, inr, ℕ, ◌≤◌, nat_eq, Bool, true, false, ◌&&◌, if◌then◌else◌, List, [], ◌∷◌, ◌++◌, take, length, Option, Some, None, refl, sym, ◌∙◌, ap, subst, arith, ℤ, drop, suc}
 use Rattle.std.proofs.lemmas.List.{append_assoc, append-nil, take_all, length-take}
 use Rattle.std.proofs.lemmas.Cmp.{nat_list_eq_equiv}
 use Rattle.dh_value.specs.Operations as operations
@@ -17,6 +17,8 @@ use Rattle.dh_sound.proofs.Pigeons.{Has, NoTwice}
 use Rattle.dh_sound.proofs.Counting.{same_list}
 use Rattle.dh_sound.proofs.OnePath.{left_by, all_left_by, made_by, all_made_by}
 use Rattle.dh_sound.specs.Deep.{IsDeep, AreDeep}
+use Rattle.dh_meaning.specs.Core.{by_views, keep}
+use Rattle.dh_meaning.specs.Effects.{kept_at, set_from, spot_by_views}
 
 -- the path of an event
 abbrev pub path_of : Event → Path
@@ -88,6 +90,7 @@ module _ (b : Begun) (path : Path) where
 
     pub target_at : (v : Variables) (t : Target) → AllAt path (target_events b v path t)
     target_at v (by_indices indices) = terms_at v indices
+    target_at v (by_views steps count terms) = terms_at v terms
     target_at v (by_row bank row) = term_at v row
 
     pub terms_at : (v : Variables) (ts : CoreTerms) → AllAt path (terms_events b v path ts)
@@ -114,6 +117,7 @@ module _ (b : Begun) (path : Path) (v w : Variables) (a : AgreeAt path v w) wher
 
     pub spot_seen : (r : Reach) (target : Target) → spot_reached b v path r target ≡ spot_reached b w path r target
     spot_seen r (by_indices indices) = ap (λ zs. spot_by_indices b.table r.memory zs) (values_seen indices)
+    spot_seen r (by_views steps count terms) = ap (λ zs. spot_by_views b.table r.memory steps (take count zs) (drop count zs)) (values_seen terms)
     spot_seen r (by_row bank row) = ap (λ x. spot_by_row b.table r.memory bank (words.value_of x)) (value_seen row)
 
     pub values_seen : (ts : CoreTerms) → values_of b v path ts ≡ values_of b w path ts
@@ -134,6 +138,7 @@ module _ (b : Begun) (path : Path) (v w : Variables) (a : AgreeAt path v w) wher
 
     pub target_events_seen : (t : Target) → target_events b v path t ≡ target_events b w path t
     target_events_seen (by_indices indices) = terms_events_seen indices
+    target_events_seen (by_views steps count terms) = terms_events_seen terms
     target_events_seen (by_row bank row) = term_events_seen row
 
     pub terms_events_seen : (ts : CoreTerms) → terms_events b v path ts ≡ terms_events b w path ts
@@ -237,6 +242,17 @@ set_other v path other entity depth z deep long apart_is x d =
         let n = length-take d other in
         apart_is (sym f ∙ take_all d other (grind arith))
 
+-- several of them
+all_set_own : (v w : Variables) (path : Path) (first depth : ℕ) (zs : List ℤ) → AgreeAt path v w → AgreeAt path (set_from v first (take depth path) zs) (set_from w first (take depth path) zs)
+all_set_own v w path first depth [] a = a
+all_set_own v w path first depth (z ∷ zs) a =
+    all_set_own (set_variable v first (take depth path) z) (set_variable w first (take depth path) z) path (suc first) depth zs (set_own v w path first depth z z refl a)
+
+all_set_other : (v : Variables) (path other : Path) (first depth : ℕ) (zs : List ℤ) → length path ≤ depth → length path ≡ length other → (path ≡ other → ⊥) → AgreeAt other (set_from v first (take depth path) zs) v
+all_set_other v path other first depth [] deep long apart_is x d = refl
+all_set_other v path other first depth (z ∷ zs) deep long apart_is x d =
+    all_set_other (set_variable v first (take depth path) z) path other (suc first) depth zs deep long apart_is x d ∙ set_other v path other first depth z deep long apart_is x d
+
 module _ (b : Begun) (depth : ℕ) where
   adds_seen : (path : Path) (e : Effect) (v : Variables) (es : List Event) → AgreeAt path e.variables v → AllAt path es → Seen path e (with_events e es) v es
   adds_seen path e v es a all = record { variables = a; events = events_joined path e.events es ∙ ap (λ l. events_at path e.events ++ l) (here_all path es all) }
@@ -274,6 +290,24 @@ module _ (b : Begun) (depth : ℕ) where
       others path other e l m apart_is = record {
         variables = set_other e.variables path other entity d _ (omega (arith, l, deep)) (l ∙ sym m) apart_is;
         events = (adds_same path other e _ (term_at b path e.variables value) apart_is).events;
+      }
+
+  pub keep_goes : (d first : ℕ) (values : CoreTerms) → depth ≤ d
+      → Goes depth (kept_at b d first values) (λ path v. set_from v first (take d path) (values_of b v path values)) (λ path v. terms_events b v path values)
+  keep_goes d first values deep = record { here = own; there = others }
+    where
+      own : (path : Path) (e : Effect) (v : Variables) → length path ≡ depth → AgreeAt path e.variables v
+          → Seen path e (kept_at b d first values path e) (set_from v first (take d path) (values_of b v path values)) (terms_events b v path values)
+      own path e v l a = record {
+        variables = subst (λ (zs : List ℤ). AgreeAt path (set_from e.variables first (take d path) (values_of b e.variables path values)) (set_from v first (take d path) zs)) (values_seen b path e.variables v a values)
+            (all_set_own e.variables v path first d (values_of b e.variables path values) a);
+        events = events_joined path e.events _ ∙ ap (λ l. events_at path e.events ++ l) (here_all path _ (terms_at b path e.variables values) ∙ terms_events_seen b path e.variables v a values);
+      }
+
+      others : (path other : Path) (e : Effect) → length path ≡ depth → length other ≡ depth → (path ≡ other → ⊥) → Same other e (kept_at b d first values path e)
+      others path other e l m apart_is = record {
+        variables = all_set_other e.variables path other first d (values_of b e.variables path values) (omega (arith, l, deep)) (l ∙ sym m) apart_is;
+        events = (adds_same path other e _ (terms_at b path e.variables values) apart_is).events;
       }
 
   -- Paths that a test picks.
@@ -342,6 +376,7 @@ module _ (b : Begun) (depth : ℕ) where
   mutual
     pub others_command : (ps : List Path) (other : Path) (c : CoreCommand) (e : Effect) → AreCopies ps → IsDeep depth c → length other ≡ depth → (Has other ps → ⊥) → Same other e (command_run b ps c e)
     others_command ps other (store r target value) e c d l out = each_other depth _ _ _ (store_goes r target value) ps other e c.long l out
+    others_command ps other (keep x first values) e c d l out = each_other depth _ _ _ (keep_goes x first values d) ps other e c.long l out
     others_command ps other (assign x entity value) e c d l out = each_other depth _ _ _ (assign_goes x entity value d) ps other e c.long l out
     others_command ps other (choose test chosen alt) e c d l out =
         let t = each_other depth _ _ _ (test_goes test) ps other e c.long l out in
@@ -385,6 +420,7 @@ module _ (b : Begun) (depth : ℕ) where
     pub own_command : (ps : List Path) (path : Path) (c : CoreCommand) (e : Effect) (v : Variables) → AreCopies ps → IsDeep depth c → Has path ps → AgreeAt path e.variables v
         → Seen path e (command_run b ps c e) (left_by b path c v) (made_by b path c v)
     own_command ps path (store r target value) e v c d h a = each_own depth _ _ _ (store_goes r target value) ps path e v c.long c.once h a
+    own_command ps path (keep x first values) e v c d h a = each_own depth _ _ _ (keep_goes x first values d) ps path e v c.long c.once h a
     own_command ps path (assign x entity value) e v c d h a = each_own depth _ _ _ (assign_goes x entity value d) ps path e v c.long c.once h a
     own_command ps path (choose test chosen alt) e v c d h a =
         let t = each_own depth _ _ _ (test_goes test) ps path e v c.long c.once h a in

@@ -10,7 +10,7 @@ use Rattle.dh_base.specs.declared.places.Place.{Place}
 use Rattle.dh_value.specs.declared.kinds.Kind.{Kind}
 use Rattle.dh_tree.specs.declared.trees.counters.Counter.{Counter}
 use Rattle.dh_tree.specs.declared.trees.expressions.Ref.{Ref}
-use Rattle.dh_tree.specs.PlainTrees.{Placed, Unrolled, Action, action, ActionForm, lets, lets_memory, views, assigns, stores, reduces, calls, blocks, decides, repeats, counts, MaybeAction, no_action, one_action, Actions, no_actions, action_then, Groups, no_groups, group_then, Program}
+use Rattle.dh_tree.specs.PlainTrees.{shrinks, splits, suffixes, shifts, Placed, Unrolled, Action, action, ActionForm, lets, lets_memory, views, assigns, stores, reduces, calls, blocks, decides, repeats, counts, MaybeAction, no_action, one_action, Actions, no_actions, action_then, Groups, no_groups, group_then, Program}
 use Rattle.dh_meaning.specs.AccessNumbers.{term_accesses, accesses_of, part_accesses}
 use Rattle.dh_meaning.specs.Phases.{Located, Phase, straight, turns, repeated, decided, Phases, no_phases, phase, of_list, one_straight, joined, are_straight, one_command, folded, turn_count, turn_phases, choice_phases, phases, form_phases, other_phases, groups_phases, parts_phases}
 use Rattle.dh_meaning.specs.Sites.{Around, in_arm, in_loop, loop_of}
@@ -194,7 +194,10 @@ module _ (known : Known) where
         (folded_inside inner _ _ (action_inside (in_loop r c) inner n body names.1.0 more) (other_inside (in_loop r c) inner (n + accesses_of body) combine names.1.1 more))
     form_inside r ts n id place (blocks body) names e = groups_inside r ts n body names e
     form_inside r ts n id place (lets_memory name shape shape_places value) names e = tt
-    form_inside r ts n id place (views name parent form) names e = tt
+    form_inside r ts n id place (views name parent (shrinks by by_place)) names e = tt
+    form_inside r ts n id place (views name parent (splits by by_place)) names e = tt
+    form_inside r ts n id place (views name parent (suffixes by by_place)) names e = ((e, (r.loops, e)), tt)
+    form_inside r ts n id place (views name parent (shifts by)) names e = ((e, (r.loops, e)), tt)
     form_inside r ts n id place (calls function arguments) names e = tt
 
     other_inside : (r : Around) (ts : List Turning) (n : ℕ) (o : MaybeAction) → IsNamedOther o → EachMatches known ts r.loops → ListInside ts (other_phases r n o)

@@ -11,6 +11,8 @@ use Rattle.dh_sound.specs.Straight.{IsTarget, IsNamedAction, IsNamedForm, IsName
 use Rattle.dh_sound.proofs.KnownReads.{count_joined}
 use Rattle.dh_sound.proofs.TermWalks.{term_counted, terms_counted}
 use Rattle.dh_sound.specs.Trails.{count}
+use Rattle.dh_tree.specs.Seen.{terms}
+use Rattle.dh_tree.specs.ViewOffsets.{offsets_of}
 
 either : (x y : Bool) → (x || y) ≡ true → (x ≡ true) ⊎ (y ≡ true)
 either true y e = inl refl
@@ -58,7 +60,7 @@ mutual
   form_within : (k n : ℕ) (f : ActionForm) → form_makes k n f ≡ true → Within k n (own_accesses f + inner_accesses f)
   form_within k n (lets name declared value) e = let w = within_is k n (maybe_accesses value) e in let u = w.1 in (w.0, omega (arith, u))
   form_within k n (lets_memory name shape shape_places value) e = cc
-  form_within k n (views name parent form) e = cc
+  form_within k n (views name parent form) e = let w = within_is k n (own_accesses (views name parent form)) e in let u = w.1 in (w.0, omega (arith, u))
   form_within k n (assigns target value) e = let w = within_is k n (term_accesses value) e in let u = w.1 in (w.0, omega (arith, u))
   form_within k n (stores target value) e = let w = within_is k n (term_accesses value + term_accesses target) e in let u = w.1 in (w.0, omega (arith, u))
   form_within k n (reduces target op value) e = let w = within_is k n (term_accesses value) e in let u = w.1 in (w.0, omega (arith, u))
@@ -102,7 +104,7 @@ mutual
   pub form_counted : (r : Around) (site : Site) (id : ℕ) (f : ActionForm) → IsNamedForm f → site ≡ site_of r id → count (command_events r site f) ≡ own_accesses f + inner_accesses f
   form_counted r site id (lets name declared value) h e = let c = count_joined (maybe_events site value) (assigned name.entity ∷ []) in let d = maybe_counted site value in omega (arith, c, d)
   form_counted r site id (lets_memory name shape shape_places value) h e = refl
-  form_counted r site id (views name parent form) h e = refl
+  form_counted r site id (views name parent form) h e = let d = terms_counted site (terms (offsets_of form)) in omega (arith, d)
   form_counted r site id (assigns target value) h e = let c = count_joined (term_events site value) (assigned target.entity ∷ []) in let d = term_counted site value in omega (arith, c, d)
   form_counted r site id (stores target value) h e =
       let c = count_joined (term_events site value) (write_events site target) in let d = term_counted site value in let t = target_counted site target h.0 in omega (arith, c, d, t)

@@ -3,12 +3,12 @@
 -- all the `for`s round its commands that have phases; a `for` without phases has no commands that a phase does. What
 -- holds of commands holds of the phases that do them: joining and folding puts straight commands of the same loops
 -- together and changes nothing else. And the indices of an access name nothing else than its command.
-use Rattle.std.proofs.Common.{◌≡◌, inl, inr, ℕ, ◌+◌, ◌<◌, ◌≤◌, ◌==◌, ◌&&◌, ◌||◌, Bool, true, false, if◌then◌else◌, List, [], ◌∷◌, ◌++◌, length, map, Some, None, refl, sym, ap, arith, length-append}
+use Rattle.std.proofs.Common.{◌≡◌, inl, inr, ℕ, ◌+◌, ◌<◌, ◌≤◌, ◌==◌, ◌&&◌, ◌||◌, Bool, true, false, if◌then◌else◌, List, [], ◌∷◌, ◌++◌, length, map, Some, None, refl, sym, ap, arith, length-append, ◌∙◌}
 use Rattle.std.specs.Prelude.{slice_get}
 use Rattle.std.proofs.lemmas.List.{append-nil}
 use Rattle.dh_base.specs.declared.places.Place.{Place}
 use Rattle.dh_tree.specs.LeastBreach.{is_before}
-use Rattle.dh_tree.specs.PlainTrees.{Action, action, ActionForm, lets, lets_memory, views, assigns, stores, reduces, calls, blocks, decides, repeats, counts, MaybeAction, no_action, one_action, Actions, no_actions, action_then, Groups, no_groups, group_then, Declared, Formal, Defined, Program}
+use Rattle.dh_tree.specs.PlainTrees.{shrinks, splits, suffixes, shifts, Action, action, ActionForm, lets, lets_memory, views, assigns, stores, reduces, calls, blocks, decides, repeats, counts, MaybeAction, no_action, one_action, Actions, no_actions, action_then, Groups, no_groups, group_then, Declared, Formal, Defined, Program}
 use Rattle.dh_tree.specs.Ready.{IsReady}
 use Rattle.dh_tree.specs.Resolved.{resolved_action}
 use Rattle.dh_tree.specs.Scopes.{entity, bind, Scope, declare, formal_sort, after_formals, body_start, after_function, after_functions, Item, memory_items, function_items, merged, items_of, after_items, first_scope, body_scope}
@@ -35,6 +35,8 @@ use Rattle.dh_sound.proofs.NamesScoped.{AreVisible, plain_in, bind_in, all_from,
 use Rattle.dh_sound.proofs.Sited.{makes_within}
 use Rattle.dh_sound.proofs.Slices.{straight_stands, test_stands, straight_either, test_either}
 use Rattle.dh_sound.proofs.Pigeons.{Has}
+use Rattle.dh_meaning.specs.Ways.{all_bindings_of}
+use Rattle.dh_ways.proofs.NoWays.{own_bindings}
 
 -- Phases.
 
@@ -141,7 +143,10 @@ module _ (known : Known) where
         (maybe_scoped (in_loop r (loop_of iterator low high factor)) inside (n + accesses_of body) combine e.1))
     phases_scoped r loops n id place (blocks body) e = groups_scoped r loops n body e
     phases_scoped r loops n id place (lets_memory name shape shape_places value) e = tt
-    phases_scoped r loops n id place (views name parent form) e = tt
+    phases_scoped r loops n id place (views name parent (shrinks by by_place)) e = tt
+    phases_scoped r loops n id place (views name parent (splits by by_place)) e = tt
+    phases_scoped r loops n id place (views name parent (suffixes by by_place)) e = ((e, tt), tt)
+    phases_scoped r loops n id place (views name parent (shifts by)) e = ((e, tt), tt)
     phases_scoped r loops n id place (calls function arguments) e = tt
 
     maybe_scoped : (r : Around) (loops : List Turning) (n : ℕ) (o : MaybeAction) → OtherScoped known loops o → ListScoped loops (other_phases r n o)
@@ -160,7 +165,7 @@ module _ (known : Known) where
 
 -- Where the body begins.
 
-abbrev ItemsBelow : ℕ → List Item → Type 0
+abbrev pub ItemsBelow : ℕ → List Item → Type 0
 ItemsBelow k [] = Unit {0}
 ItemsBelow k (i ∷ is) = (i.entity < k) × ItemsBelow k is
 
@@ -205,7 +210,7 @@ body_long p =
     let rest = functions_long (length p.decls) (first_scope p) p.functions in
     omega (arith, both, first, second, rest)
 
-items_below : (p : Program) → ItemsBelow (size (body_scope p)) (items_of p)
+pub items_below : (p : Program) → ItemsBelow (size (body_scope p)) (items_of p)
 items_below p =
     let l = body_long p in
     merged_below (size (body_scope p)) (memory_items 0 p.decls) (function_items (length p.decls) p.functions)
@@ -222,15 +227,15 @@ module _ (p : Program) (r : IsReady p) where
   same_body = ap (λ (x : Program). x.body) r.entities
 
   -- what is visible there is no variable of the body
-  none_outside : (n : ℕ) → n < size (body_scope p) → binding_in (bindings_of p) n ≡ None
-  none_outside n l = none_behind n (bindings_of p) (all_less (n + 1) (size (body_scope p)) (bindings_of p) (omega (arith, l)) (all_from p.body (body_scope p) 0 same_body))
+  none_outside : (n : ℕ) → n < size (body_scope p) → binding_in (all_bindings_of p) n ≡ None
+  none_outside n l = ap (λ bs. binding_in bs n) (own_bindings p r.built) ∙ none_behind n (bindings_of p) (all_less (n + 1) (size (body_scope p)) (bindings_of p) (omega (arith, l)) (all_from p.body (body_scope p) 0 same_body))
 
   begins : AreVisible (known_of p) [] (body_scope p).visible
   begins = items_visible (known_of p) (size (body_scope p)) [] (items_of p) none_outside (items_below p) (λ name n e. absurd cc)
 
   -- the names of the body are in scope
   pub body_scoped : IsScoped (known_of p) [] p.body
-  body_scoped = (scoped (known_of p) p.body (body_scope p) 0 [] [] [] same_body (ready_named p r) (sym (append-nil (bindings_of p))) tt tt begins).0
+  body_scoped = (scoped (known_of p) p.body (body_scope p) 0 [] [] [] same_body (ready_named p r) (own_bindings p r.built ∙ sym (append-nil (bindings_of p))) tt tt begins).0
 
   -- Accesses.
   module _ (loops : List Turning) (k : ℕ) (a : SourceAccess) (is : slice_get (accesses_in (trace p)) k ≡ Some a) where

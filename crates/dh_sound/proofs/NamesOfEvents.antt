@@ -16,6 +16,8 @@ use Rattle.dh_sound.specs.SameKeys.{EachName, EachNameForm, EachNameOf, EachName
 use Rattle.dh_sound.proofs.EventCounts.{count_in, term_counted, events_counted, part_counted}
 use Rattle.dh_sound.proofs.SamePhase.{either}
 use Rattle.dh_sound.proofs.Sited.{At, at_either, first_of, second_of, within_span, makes_within, other_makes_within, part_makes_within, groups_make_within}
+use Rattle.dh_tree.specs.Seen.{terms}
+use Rattle.dh_tree.specs.ViewOffsets.{offsets_of}
 
 module _ (k : ℕ) (a : SourceAccess) (P : Ref → Type 0) where
   -- the last access, or one before it
@@ -88,7 +90,7 @@ module _ (k : ℕ) (a : SourceAccess) (known : Known) (loops : List Turning) whe
         two_names k a (InScope known loops) n (maybe_events (site_of r id) value) (assigned name.entity ∷ []) (λ i g. maybe_names (site_of r id) value i e g)
         (λ i g. no_names k a (InScope known loops) i name.entity g) h
     command_names r n id (lets_memory name shape shape_places value) e m h = elim h [ ]
-    command_names r n id (views name parent form) e m h = elim h [ ]
+    command_names r n id (views name parent form) e m h = terms_names k a (InScope known loops) (site_of r id) (terms (offsets_of form)) n e h
     command_names r n id (assigns target value) e m h = assign_names (site_of r id) value target.entity n e h
     command_names r n id (stores target value) e m h =
         two_names k a (InScope known loops) n (term_events (site_of r id) value) (write_events (site_of r id) target) (λ i g. own_names (site_of r id) value i e.1 g)

@@ -29,6 +29,10 @@ use Rattle.dh_sound.proofs.DepthsNamed.{size, AllBelow, all_more, two_below, nex
 use Rattle.dh_sound.proofs.FactsGrow.{appended, added_last}
 use Rattle.dh_sound.proofs.IteratorsNamed.{on_long, declared_on, past_on, goes_on, other_on, part_on, groups_on}
 use Rattle.dh_sound.proofs.KindsOfCommands.{added_found}
+use Rattle.dh_tree.specs.Resolved.{resolved_plan}
+use Rattle.dh_tree.specs.Seen.{terms}
+use Rattle.dh_tree.specs.ViewOffsets.{offsets_of}
+use Rattle.dh_sound.proofs.Offsets.{offsets_named}
 
 -- Variables by their numbers, from a number on.
 
@@ -275,7 +279,9 @@ module _ (known : Known) where
           variable_declared loops s name sort.Variable before (record { entity = name.entity; kind = let_kind declared value; depth = d; iterates = None }) after is own refl h v,
         )
     form_scoped (lets_memory name shape shape_places value) s d loops before after e n is h f v = (tt, other_declared loops s name sort.Memory before after is h f v)
-    form_scoped (views name parent form) s d loops before after e n is h f v = (tt, other_declared loops s name sort.View before after is h f v)
+    form_scoped (views name parent form) s d loops before after e n is h f v =
+        let plan : resolved_plan s.visible form ≡ form = cc in
+        (terms_in loops s.visible v (terms (offsets_of form)) (offsets_named s.visible form plan) n.0, other_declared loops s name sort.View before after is h f v)
     form_scoped (assigns target value) s d loops before after e n is h f v =
         let right : resolved_term s.visible value ≡ value = cc in (term_in loops s.visible v value right n.1, v)
     form_scoped (stores target value) s d loops before after e n is h f v =

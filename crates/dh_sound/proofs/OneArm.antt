@@ -28,6 +28,13 @@ use Rattle.dh_sound.proofs.Pigeons.{Has}
 use Rattle.dh_sound.proofs.Sites.{each_both, each_so, StandsWithin, action_stands, other_stands, groups_stand, part_stands, term_stands, maybe_stands, write_stands}
 use Rattle.dh_sound.proofs.Ascending.{number_of, Ascends, action_ascends, form_ascends, other_ascends, groups_ascend, part_ascends, term_ascends}
 use Rattle.dh_sound.specs.Trails.{EachAccess, ArmsWithin, Below, AllBelow, StandsBehind, of_located, Follows}
+use Rattle.dh_tree.specs.Seen.{terms}
+use Rattle.dh_tree.specs.ViewOffsets.{offsets_of}
+use Rattle.dh_meaning.specs.Ways.{Hidden, hidden_in}
+use Rattle.dh_meaning.specs.CoreOf.{kept_by, way_of}
+use Rattle.dh_meaning.specs.Core.{CoreTerms, no_terms, term_and}
+use Rattle.dh_meaning.specs.CoreOf.{core_terms}
+use Rattle.dh_sound.proofs.Sites.{terms_stand}
 
 -- Commands one behind the other.
 
@@ -50,6 +57,11 @@ module _ (known : Known) where
   two_behind one two rest f g =
       f (two rest) ∙ (ap (λ l. behind (one no_commands) l) g ∙ (behind_assoc (one no_commands) (two no_commands) rest ∙ ap (λ l. behind l rest) (sym (f (two no_commands)))))
 
+  kept_split : (hs : List Hidden) (ts : CoreTerms) (rest : CoreCommands) → kept_by hs ts rest ≡ behind (kept_by hs ts no_commands) rest
+  kept_split hs no_terms rest = refl
+  kept_split [] (term_and t ts) rest = refl
+  kept_split (h ∷ hs) (term_and t ts) rest = refl
+
   mutual
     action_behind : (n : ℕ) (a : Action) (rest : CoreCommands) → core_action known n a rest ≡ behind (core_action known n a no_commands) rest
     action_behind n (action id place f) rest = form_behind n f rest
@@ -57,7 +69,7 @@ module _ (known : Known) where
     form_behind : (n : ℕ) (f : ActionForm) (rest : CoreCommands) → core_action_form known n f rest ≡ behind (core_action_form known n f no_commands) rest
     form_behind n (lets name declared value) rest = refl
     form_behind n (lets_memory name shape shape_places value) rest = refl
-    form_behind n (views name parent form) rest = refl
+    form_behind n (views name parent form) rest = kept_split (hidden_in (way_of known name)) (core_terms known n (terms (offsets_of form))) rest
     form_behind n (assigns target value) rest = refl
     form_behind n (stores target value) rest = refl
     form_behind n (reduces target op value) rest = refl
@@ -283,7 +295,7 @@ module _ (p : Program) (b : Begun) (known : Known) (path : Path) (v0 : Variables
     form_sided r v n m (stores target value) h free t = leaf r v n m (stores target value) (each_both _ (source.term_events (site_of r m) value) _ (term_stands r m 0 0 value) (write_stands r m 0 0 target)) free t
     form_sided r v n m (reduces target op value) h free t = leaf r v n m (reduces target op value) (each_both _ (source.term_events (site_of r m) value) _ (term_stands r m 0 0 value) tt) free t
     form_sided r v n m (lets_memory name shape shape_places value) h free t = (true, tt)
-    form_sided r v n m (views name parent form) h free t = (true, tt)
+    form_sided r v n m (views name parent form) h free t = leaf r v n m (views name parent form) (terms_stand r m 0 0 (terms (offsets_of form))) free t
     form_sided r v n m (calls function arguments) h free t = (true, tt)
     form_sided r v n m (repeats test body) h free t = (true, tt)
     form_sided r v n m (counts iterator declared low high factor body combine combine_place) h free t = (true, tt)

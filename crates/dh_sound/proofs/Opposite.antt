@@ -564,7 +564,7 @@ module _ (j k : ℕ) where
         → Tells (form_phases r n id place f) (command_meets u n f) n (events r (action id place f))
     form_tells r u n id place (lets name declared value) single h apart = elim (row_apart n _ j k apart) [ ]
     form_tells r u n id place (lets_memory name shape shape_places value) single h apart = elim apart [ ]
-    form_tells r u n id place (views name parent form) single h apart = elim apart [ ]
+    form_tells r u n id place (views name parent form) single h apart = elim (row_apart n _ j k apart) [ ]
     form_tells r u n id place (assigns target value) single h apart = elim (row_apart n _ j k apart) [ ]
     form_tells r u n id place (stores target value) single h apart = elim (row_apart n _ j k apart) [ ]
     form_tells r u n id place (reduces target op value) single h apart = elim (row_apart n _ j k apart) [ ]

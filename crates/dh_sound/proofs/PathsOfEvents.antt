@@ -8,6 +8,9 @@ use Rattle.dh_meaning.specs.Paths.{Path, same_path}
 use Rattle.dh_sound.proofs.Ascending.{number_of, Ascends}
 use Rattle.dh_sound.proofs.Lockstep.{path_of, events_at, AllAt, term_at, store_at}
 use Rattle.dh_sound.proofs.Pigeons.{Has, has_either}
+use Rattle.dh_meaning.specs.Core.{keep}
+use Rattle.dh_meaning.specs.Effects.{kept_at, terms_events}
+use Rattle.dh_sound.proofs.Lockstep.{terms_at}
 
 -- an event is among those at its path
 pub at_its_path : (ev : Event) (es : List Event) → Has ev es → Has ev (events_at (path_of ev) es)
@@ -113,6 +116,7 @@ module _ (b : Begun) where
     command_stays : (ps : List Path) (c : CoreCommand) (e : Effect) → Stays ps e (command_run b ps c e)
     command_stays ps (store r target value) e = each_stays (stored_at b r target value) (λ path e ev h. adds_some path e (store_events b e.variables path r target value) (store_at b path e.variables r target value) ev h) ps e
     command_stays ps (assign depth entity value) e = each_stays (assigned_at b depth entity value) (λ path e ev h. adds_some path e (term_events b e.variables path value) (term_at b path e.variables value) ev h) ps e
+    command_stays ps (keep depth first values) e = each_stays (kept_at b depth first values) (λ path e ev h. adds_some path e (terms_events b e.variables path values) (terms_at b path e.variables values) ev h) ps e
     command_stays ps (choose test chosen other) e =
         let test_at = holds_at b e.variables test in
         let t = at_each (tested_at b test) ps e in

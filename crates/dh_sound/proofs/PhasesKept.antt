@@ -1,12 +1,12 @@
 -- A program of the source that keeps its iterators keeps them where it is run: the commands of each phase are commands
 -- of the source with the same loops round them. First for the phases, by induction over commands. Then for what is
 -- run: a straight command assigns to the variables that it names.
-use Rattle.std.proofs.Common.{◌≡◌, inl, inr, ℕ, ◌+◌, ◌==◌, ◌||◌, Bool, true, false, List, [], ◌∷◌, ◌++◌, refl, sym, ◌∙◌, ap, subst, map}
+use Rattle.std.proofs.Common.{◌≡◌, inl, inr, ℕ, ◌+◌, ◌==◌, ◌||◌, Bool, true, false, List, [], ◌∷◌, ◌++◌, refl, sym, ◌∙◌, ap, subst, map, Option}
 use Rattle.std.proofs.lemmas.Bool.{ne_eqb}
 use Rattle.std.proofs.lemmas.List.{map-append}
 use Rattle.dh_base.specs.declared.places.Place.{Place}
 use Rattle.dh_tree.specs.PlainTrees as plain
-use Rattle.dh_tree.specs.PlainTrees.{Action, action, ActionForm, lets, lets_memory, views, assigns, stores, reduces, calls, blocks, decides, repeats, counts, MaybeAction, no_action, one_action, Actions, no_actions, action_then, Groups, no_groups, group_then, Program}
+use Rattle.dh_tree.specs.PlainTrees.{shrinks, splits, suffixes, shifts, Action, action, ActionForm, lets, lets_memory, views, assigns, stores, reduces, calls, blocks, decides, repeats, counts, MaybeAction, no_action, one_action, Actions, no_actions, action_then, Groups, no_groups, group_then, Program}
 use Rattle.dh_meaning.specs.AccessNumbers.{term_accesses, accesses_of, part_accesses}
 use Rattle.dh_meaning.specs.Sites.{Around, nothing_around, in_arm, in_loop, loop_of}
 use Rattle.dh_meaning.specs.Phases.{Located, Phase, straight, turns, repeated, decided, Phases, no_phases, phase, of_list, turn_count, located, phases, form_phases, other_phases, groups_phases, parts_phases, phases_of}
@@ -19,6 +19,12 @@ use Rattle.dh_sound.specs.Standing.{Spares, IsFresh, AreApart, IsApart, KeepsIte
 use Rattle.dh_sound.specs.IteratorsKept.{IsOther, also, Leaves, FormLeaves, OtherLeaves, GroupsLeave, PartLeaves, LeavesIterators}
 use Rattle.dh_sound.proofs.Pigeons.{Has}
 use Rattle.dh_sound.proofs.PhasesHold.{Facts, AllHold, PhaseHolds, PhasesHold, ListHolds, PartsHold, of_list_hold, both_hold, joined_hold, folded_hold, turn_hold, choice_hold}
+use Rattle.dh_sound.specs.Unled.{IsUnled}
+use Rattle.dh_tree.specs.Seen.{terms}
+use Rattle.dh_tree.specs.ViewOffsets.{offsets_of}
+use Rattle.dh_meaning.specs.Core.{CoreTerms, no_terms, term_and}
+use Rattle.dh_meaning.specs.CoreOf.{kept_by, core_terms}
+use Rattle.dh_meaning.specs.Ways.{Way, hidden_in}
 
 -- Phases.
 
@@ -76,7 +82,10 @@ mutual
       (other_leaves combine (also is iterator) (in_loop r (loop_of iterator low high factor)) (n + accesses_of body) h.1.1))
   form_leaves (blocks body) is r n id place h = groups_leave body is r n h
   form_leaves (lets_memory name shape shape_places value) is r n id place h = tt
-  form_leaves (views name parent form) is r n id place h = tt
+  form_leaves (views name parent (shrinks by by_place)) is r n id place h = tt
+  form_leaves (views name parent (splits by by_place)) is r n id place h = tt
+  form_leaves (views name parent (suffixes by by_place)) is r n id place h = ((h, tt), tt)
+  form_leaves (views name parent (shifts by)) is r n id place h = ((h, tt), tt)
   form_leaves (calls function arguments) is r n id place h = tt
 
   other_leaves : (a : MaybeAction) (is : List ℕ) (r : Around) (n : ℕ) → OtherLeaves is a → ListLeaves is (other_phases r n a)
@@ -99,7 +108,7 @@ neither true b e f = cc
 neither false b e f = f
 
 -- an iterator round a command, and what this assigns to
-module _ (known : Known) (m : ℕ) where
+module _ (known : Known) (unled : IsUnled known) (m : ℕ) where
   another : (entity : ℕ) (is : List ℕ) → IsOther entity is → Has m is → (m == entity) ≡ false
   another entity [] o h = elim h [ ]
   another entity (i ∷ is) o (inl e) = ne_eqb m entity (λ f. o.0 (sym e ∙ f))
@@ -113,6 +122,10 @@ module _ (known : Known) (m : ℕ) where
   stores_none (plain.term at kind (plain.named r)) n value = refl
   stores_none (plain.term at kind (plain.applied o left right)) n value = refl
   stores_none (plain.term at kind (plain.converted inner to)) n value = refl
+
+  none_kept : (ts : CoreTerms) (rest : CoreCommands) → any_assigns m rest ≡ false → any_assigns m (kept_by [] ts rest) ≡ false
+  none_kept no_terms rest e = e
+  none_kept (term_and t ts) rest e = e
 
   module _ (is : List ℕ) (has : Has m is) where
     mutual
@@ -130,7 +143,8 @@ module _ (known : Known) (m : ℕ) where
           e
       form_spared (blocks body) n rest h e = groups_spared body n rest h e
       form_spared (lets_memory name shape shape_places value) n rest h e = e
-      form_spared (views name parent form) n rest h e = e
+      form_spared (views name parent form) n rest h e =
+          subst (λ (o : Option Way). any_assigns m (kept_by (hidden_in o) (core_terms known n (terms (offsets_of form))) rest) ≡ false) (sym (unled name.entity)) (none_kept (core_terms known n (terms (offsets_of form))) rest e)
       form_spared (calls function arguments) n rest h e = e
       form_spared (repeats test body) n rest h e = e
       form_spared (counts iterator declared low high factor body combine combine_place) n rest h e = e
@@ -159,17 +173,17 @@ abbrev iterators : List Turning → List ℕ
 iterators loops = map (λ l. l.iterator) loops
 
 -- commands that assign to none of the iterators round them spare the loops
-spares_all : (known : Known) (cs : List Located) (whole : List ℕ) → AllLeave whole cs → (loops : List Turning)
+spares_all : (known : Known) → IsUnled known → (cs : List Located) (whole : List ℕ) → AllLeave whole cs → (loops : List Turning)
     → ((m : ℕ) → Has m (iterators loops) → Has m whole) → Spares (core_commands known cs) loops
-spares_all known cs whole h [] among = tt
-spares_all known cs whole h (l ∷ ls) among =
-    (all_spared known l.iterator whole (among l.iterator (inl refl)) cs h, spares_all known cs whole h ls (λ m g. among m (inr g)))
+spares_all known unled cs whole h [] among = tt
+spares_all known unled cs whole h (l ∷ ls) among =
+    (all_spared known unled l.iterator whole (among l.iterator (inl refl)) cs h, spares_all known unled cs whole h ls (λ m g. among m (inr g)))
 
 fresh_from : (iterator : ℕ) (loops : List Turning) → IsOther iterator (iterators loops) → IsFresh iterator loops
 fresh_from iterator [] o = tt
 fresh_from iterator (l ∷ ls) o = (o.0, fresh_from iterator ls o.1)
 
-module _ (known : Known) where
+module _ (known : Known) (unled : IsUnled known) where
   iterator_is : (count : ℕ) (form : ActionForm) → (turning_of known count form).iterator ≡ iterator_of form
   iterator_is count (counts iterator declared low high factor body combine combine_place) = refl
   iterator_is count (decides test chosen other) = refl
@@ -200,7 +214,7 @@ module _ (known : Known) where
       → loops ≡ round → commands ds ≡ commands (core_commands known cs) → Spares ds loops
   straight_spares cs round loops ds h e f =
       subst (λ (ls : List Turning). Spares ds ls) (sym e)
-      (subst (λ (d : CoreCommands). Spares d round) (sym (same_commands ds (core_commands known cs) f)) (spares_all known cs (iterators round) h round (λ m g. g)))
+      (subst (λ (d : CoreCommands). Spares d round) (sym (same_commands ds (core_commands known cs) f)) (spares_all known unled cs (iterators round) h round (λ m g. g)))
 
   no_test : (ds : CoreCommands) (test : CoreTerm) (loops : List Turning) → commands ds ≡ tests test → Spares ds loops
   no_test ds test loops e = cc
@@ -238,10 +252,10 @@ module _ (known : Known) where
     phases_apart (phase p ps) round h = (phase_apart p round h.0, phases_apart ps round h.1)
 
 -- a program that keeps its iterators keeps them where it is run
-pub iterators_kept : (p : Program) → LeavesIterators p → KeepsIterators (core_of p)
-iterators_kept p h = record {
-  keeps = λ loops cs s. phases_spare (known_of p) (of_list (phases_of p)) [] leave loops cs s;
-  apart = phases_apart (known_of p) (of_list (phases_of p)) [] leave;
+pub iterators_kept : (p : Program) → IsUnled (known_of p) → LeavesIterators p → KeepsIterators (core_of p)
+iterators_kept p unled h = record {
+  keeps = λ loops cs s. phases_spare (known_of p) unled (of_list (phases_of p)) [] leave loops cs s;
+  apart = phases_apart (known_of p) unled (of_list (phases_of p)) [] leave;
 }
   where
     leave : PhasesLeave [] (of_list (phases_of p))

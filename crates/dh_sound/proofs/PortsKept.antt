@@ -50,6 +50,8 @@ use Rattle.dh_sound.specs.BlocksOfPhases.{OfStraight, OfTest, StraightTold, Test
 use Rattle.dh_sound.specs.BlocksCovered.{AreCovered, events_in, BlocksCovered, BlocksKept}
 use Rattle.dh_sound.specs.Trails.{count}
 use Rattle.dh_sound.specs.Deep.{AreDeep}
+use Rattle.dh_sound.specs.Unled.{IsUnled}
+use Rattle.dh_ways.proofs.NoWays.{no_way_to}
 
 -- the access of a good event
 module _ (p : Program) (b : Begun) (known : Known) (path : Path) (in_block : ℕ → Bool) (share : (j k : ℕ) → in_one_phase p j k ≡ true → in_block k ≡ true → in_block j ≡ true) (v : Variables) (touched : ℕ → Bool)
@@ -71,7 +73,7 @@ only_path : (path : Path) → Has path outer_paths → path ≡ []
 only_path path (inl e) = e
 only_path path (inr none) = elim none [ ]
 
-module _ (p : Program) (typed : IsTypedProgram p) (rules : KeepsIndexRules p) (declared : AccessesDeclared p) (first : ℕ) (numbered : IsNumbered first p.body)
+module _ (p : Program) (typed : IsTypedProgram p) (rules : KeepsIndexRules p) (declared : AccessesDeclared p) (unled : IsUnled (known_of p)) (first : ℕ) (numbered : IsNumbered first p.body)
     (b : Begun) (table : b.table ≡ table_of p) (loops : List Turning) (v : Variables) where
   -- The commands of a Straight phase.
   module _ (block : Block) (o : OfStraight p loops block) (deep : AreDeep (length (factors loops)) (core_commands (known_of p) o.done))
@@ -84,7 +86,7 @@ module _ (p : Program) (typed : IsTypedProgram p) (rules : KeepsIndexRules p) (d
 
     straight_good : (path : Path) → Has path (paths_inside loops) → (ev : Event) → Has ev (all_made_by b path phase_commands v)
         → IsGood p b (known_of p) path (λ k. any_makes k o.done) (phase_shares p b (known_of p) path o.done o.folds o.quiet o.has v) v (λ e. any_assigns e phase_commands) o.round (all_made_by b path phase_commands v) ev
-    straight_good path h ev m = phase_good p b (known_of p) path o.done o.folds o.quiet o.has v o.round o.follows ev m
+    straight_good path h ev m = phase_good p b (known_of p) path o.done o.folds o.quiet o.has v unled o.round o.follows ev m
 
     straight_ascends : (path : Path) → Has path (paths_inside loops) → (low : ℕ) × ((high : ℕ) × Ascends low (all_made_by b path phase_commands v) high)
     straight_ascends path h =
@@ -113,12 +115,12 @@ module _ (p : Program) (typed : IsTypedProgram p) (rules : KeepsIndexRules p) (d
 
     pub straight_covered : (entity memory bank : ℕ) → number_in (memories_of p) (Some entity) ≡ Some memory → AreCovered p phase_events entity memory bank
     straight_covered =
-        bank_covered p typed rules declared b table (λ k. any_makes k o.done) (λ path. phase_shares p b (known_of p) path o.done o.folds o.quiet o.has v) (λ e. any_assigns e phase_commands) o.round
+        bank_covered p typed rules declared unled b table (λ k. any_makes k o.done) (λ path. phase_shares p b (known_of p) path o.done o.folds o.quiet o.has v) (λ e. any_assigns e phase_commands) o.round
         loops phase_commands deep v straight_good straight_ascends indices o.paths straight_together
 
     pub straight_keeps : KeepsPorts p → (memory bank : ℕ) → spent phase_events memory bank ≤ ports_at (table_of p) memory
     straight_keeps =
-        block_keeps p typed rules declared b table (λ k. any_makes k o.done) (λ path. phase_shares p b (known_of p) path o.done o.folds o.quiet o.has v) (λ e. any_assigns e phase_commands) o.round
+        block_keeps p typed rules declared unled b table (λ k. any_makes k o.done) (λ path. phase_shares p b (known_of p) path o.done o.folds o.quiet o.has v) (λ e. any_assigns e phase_commands) o.round
         loops phase_commands deep v straight_good straight_ascends indices o.paths straight_together
 
   -- A test.
@@ -138,7 +140,7 @@ module _ (p : Program) (typed : IsTypedProgram p) (rules : KeepsIndexRules p) (d
     own_good path h ev m =
         let same = test_made b path (core_test (known_of p) o.tested) v in
         subst (λ (es : List Event). IsGood p b (known_of p) path (λ k. test_makes k o.tested) (test_shares p b (known_of p) path o.tested o.has v) v (λ e. false) o.tested.around es ev) (sym same)
-        (test_good p b (known_of p) path o.tested o.has v o.follows ev (subst (λ (es : List Event). Has ev es) same m))
+        (test_good p b (known_of p) path o.tested o.has v unled o.follows ev (subst (λ (es : List Event). Has ev es) same m))
 
     own_together : (x y : Event) → Has x test_made_events → Has y test_made_events → Apart (meets_in p) (number_of x) (number_of y) → ⊥
     own_together x y hx hy apart =
@@ -160,12 +162,12 @@ module _ (p : Program) (typed : IsTypedProgram p) (rules : KeepsIndexRules p) (d
 
     pub tested_covered : (entity memory bank : ℕ) → number_in (memories_of p) (Some entity) ≡ Some memory → AreCovered p test_made_events entity memory bank
     tested_covered =
-        bank_covered p typed rules declared b table (λ k. test_makes k o.tested) (λ path. test_shares p b (known_of p) path o.tested o.has v) (λ e. false) o.tested.around
+        bank_covered p typed rules declared unled b table (λ k. test_makes k o.tested) (λ path. test_shares p b (known_of p) path o.tested o.has v) (λ e. false) o.tested.around
         loops test_commands test_deep v own_good own_ascends indices o.paths own_together
 
     pub tested_keeps : KeepsPorts p → (memory bank : ℕ) → spent test_made_events memory bank ≤ ports_at (table_of p) memory
     tested_keeps =
-        block_keeps p typed rules declared b table (λ k. test_makes k o.tested) (λ path. test_shares p b (known_of p) path o.tested o.has v) (λ e. false) o.tested.around
+        block_keeps p typed rules declared unled b table (λ k. test_makes k o.tested) (λ path. test_shares p b (known_of p) path o.tested o.has v) (λ e. false) o.tested.around
         loops test_commands test_deep v own_good own_ascends indices o.paths own_together
 
 pub typed_program : (p : Program) → IsReady p → IsTypedProgram p
@@ -189,10 +191,10 @@ module _ (p : Program) (ready : IsReady p) (rules : KeepsIndexRules p) (declared
       by : StraightTold p loops block ⊎ TestTold p loops block → AreCovered p (events_in p loops block memories v) entity memory bank
       by (inl o) =
           subst (λ (es : List Event). AreCovered p es entity memory bank) (sym (own_events loops block o.of memories v))
-          (straight_covered p (typed_program p ready) rules declared ready.of_text.first ready.of_text.numbered (begun_with memories) refl loops v block o.of o.deep (o.indices v turns) entity memory bank n)
+          (straight_covered p (typed_program p ready) rules declared (no_way_to p ready.built) ready.of_text.first ready.of_text.numbered (begun_with memories) refl loops v block o.of o.deep (o.indices v turns) entity memory bank n)
       by (inr o) =
           subst (λ (c : Block). AreCovered p (events_in p loops c memories v) entity memory bank) (sym o.of.is)
-          (tested_covered p (typed_program p ready) rules declared ready.of_text.first ready.of_text.numbered (begun_with memories) refl loops v block o.of (o.indices v turns) entity memory bank n)
+          (tested_covered p (typed_program p ready) rules declared (no_way_to p ready.built) ready.of_text.first ready.of_text.numbered (begun_with memories) refl loops v block o.of (o.indices v turns) entity memory bank n)
 
   -- If it keeps its ports, each block keeps the ports of every bank.
   module _ (keeps : KeepsPorts p) where
@@ -203,10 +205,10 @@ module _ (p : Program) (ready : IsReady p) (rules : KeepsIndexRules p) (declared
         by : StraightTold p loops block ⊎ TestTold p loops block → spent (block_run (begun_with memories) (paths_inside loops) block (record { variables = v; events = [] })).events memory bank ≤ ports_at (core_of p).table memory
         by (inl o) =
             subst (λ (es : List Event). spent es memory bank ≤ ports_at (core_of p).table memory) (sym (own_events loops block o.of memories v))
-            (straight_keeps p (typed_program p ready) rules declared ready.of_text.first ready.of_text.numbered (begun_with memories) refl loops v block o.of o.deep (o.indices v turns) keeps memory bank)
+            (straight_keeps p (typed_program p ready) rules declared (no_way_to p ready.built) ready.of_text.first ready.of_text.numbered (begun_with memories) refl loops v block o.of o.deep (o.indices v turns) keeps memory bank)
         by (inr o) =
             subst (λ (c : Block). spent (block_run (begun_with memories) (paths_inside loops) c (record { variables = v; events = [] })).events memory bank ≤ ports_at (core_of p).table memory) (sym o.of.is)
-            (tested_keeps p (typed_program p ready) rules declared ready.of_text.first ready.of_text.numbered (begun_with memories) refl loops v block o.of (o.indices v turns) keeps memory bank)
+            (tested_keeps p (typed_program p ready) rules declared (no_way_to p ready.built) ready.of_text.first ready.of_text.numbered (begun_with memories) refl loops v block o.of (o.indices v turns) keeps memory bank)
 
     pub blocks_keep : BlocksKeepPorts (core_of p)
     blocks_keep = record { within = block_within }

@@ -13,7 +13,6 @@ use Rattle.dh_tree.specs.Elements.{Spot, ports_at, entry_ports}
 use Rattle.dh_tree.specs.Meets.{Apart, Together}
 use Rattle.dh_tree.specs.Memories.{Memory, same_entity, number_in, memory_in, memories_of, entry_of, table_of}
 use Rattle.dh_tree.specs.PlainTrees.{Program}
-use Rattle.dh_meaning.specs.Bindings.{bindings_of}
 use Rattle.dh_meaning.specs.Core.{Turning, CoreCommands, Reach}
 use Rattle.dh_meaning.specs.CoreOf.{known_of, entity_number}
 use Rattle.dh_meaning.specs.Effects.{Begun, Variables, Event, reads, writes, is_at, spent, spot_reached}
@@ -50,6 +49,11 @@ use Rattle.dh_sound.proofs.Sums.{total_below}
 use Rattle.dh_sound.proofs.TermWalks.{IsGood}
 use Rattle.dh_sound.proofs.ToldByWalks.{ReadTold, WriteTold, read_told, write_told}
 use Rattle.dh_sound.specs.Deep.{AreDeep}
+use Rattle.dh_meaning.specs.Ways.{all_bindings_of}
+use Rattle.dh_sound.specs.Unled.{IsUnled}
+use Rattle.dh_meaning.specs.Ways.{base_of, way_at, ways_of}
+use Rattle.dh_ways.specs.SpotsThrough.{spot_to, offsets_at}
+use Rattle.dh_sound.proofs.SourceValues.{source_values}
 
 -- Memories by number.
 
@@ -131,7 +135,7 @@ was_there (m ∷ ms) n e = by (nat_eq m.number n) refl e (was_there ms n)
     by true f g more = (m, (inl refl, same_number m.number n f))
     by false f g more = let (o, (a, i)) = more g in (o, (inr a, i))
 
-module _ (p : Program) (typed : IsTypedProgram p) (rules : KeepsIndexRules p) (declared : AccessesDeclared p)
+module _ (p : Program) (typed : IsTypedProgram p) (rules : KeepsIndexRules p) (declared : AccessesDeclared p) (unled : IsUnled (known_of p))
     (b : Begun) (table : b.table ≡ table_of p) (in_block : ℕ → Bool) (share : Path → (j k : ℕ) → in_one_phase p j k ≡ true → in_block k ≡ true → in_block j ≡ true) (touched : ℕ → Bool) (r : Around)
     (loops : List Turning) (cs : CoreCommands) (deep : AreDeep (length (factors loops)) cs) (v : Variables)
     (good : (path : Path) → Has path (paths_inside loops) → (ev : Event) → Has ev (all_made_by b path cs v) → IsGood p b (known_of p) path in_block (share path) v touched r (all_made_by b path cs v) ev)
@@ -167,8 +171,16 @@ module _ (p : Program) (typed : IsTypedProgram p) (rules : KeepsIndexRules p) (d
   reach_of n a = record { number = n; place = a.place; memory = memory_at b (known_of p) a.entity }
 
   found_spot : (w : Variables) (path : Path) (n : ℕ) (a : SourceAccess) (e : Element) → source_spot b (known_of p) w path a.entity e ≡ spot_reached b w path (reach_of n a) (target_of (known_of p) 0 e)
-  found_spot w path n a (with_indices ts) = refl
+  found_spot w path n a (with_indices ts) =
+      ap (λ o. spot_to b.table (memory_at b (known_of p) a.entity) o (source_values b (known_of p) w path ts) (offsets_at b w path (way_at (memories_of p) (ways_of p) a.entity))) (unled a.entity)
   found_spot w path n a (in_row bank t) = refl
+
+  own_memory : (a : SourceAccess) → memory_at b (known_of p) a.entity ≡ entity_number (number_in (memories_of p) a.entity)
+  own_memory a = ap (λ o. entity_number (number_in (memories_of p) (base_of o a.entity))) (unled a.entity)
+
+  same_offsets : (v w : Variables) (path other : Path) (entity : Option ℕ)
+      → offsets_at b v path (way_at (memories_of p) (ways_of p) entity) ≡ offsets_at b w other (way_at (memories_of p) (ways_of p) entity)
+  same_offsets v w path other entity = ap (λ o. offsets_at b v path o) (unled entity) ∙ sym (ap (λ o. offsets_at b w other o) (unled entity))
 
   -- where an access leads that the block makes: into a bank that the rules take it to reach, of the memory that it is of
   record Leads (k : ℕ) (a : SourceAccess) (path : Path) (s : Spot) : Type 0 where
@@ -180,7 +192,7 @@ module _ (p : Program) (typed : IsTypedProgram p) (rules : KeepsIndexRules p) (d
       → source_spot b (known_of p) w path a.entity a.element ≡ Some s → Leads k a path s
   leads_to k a path s w listed inside at near leads =
       let m = declared k a listed in
-      let made : IsMade p b path w a (reach_of k a) = record { entity = m.entity; is = m.is; memory = m.memory; declared = m.declared; table = table; number = refl; turns = indices.turns k a path w inside listed at near } in
+      let made : IsMade p b path w a (reach_of k a) = record { entity = m.entity; is = m.is; memory = m.memory; declared = m.declared; table = table; number = own_memory a; turns = indices.turns k a path w inside listed at near } in
       let told = bank_told p b path w k a 0 (reach_of k a) s typed rules listed made (sym (found_spot w path k a a.element) ∙ leads) in
       record { of = m; memory = told.memory; bank = told.bank }
 
@@ -194,7 +206,7 @@ module _ (p : Program) (typed : IsTypedProgram p) (rules : KeepsIndexRules p) (d
   at_number : (k : ℕ) (a : SourceAccess) (path : Path) (s : Spot) (l : Leads k a path s) → number_in (memories_of p) (Some l.of.entity) ≡ Some s.memory
   at_number k a path s l =
       let (i, (is, entry)) = numbered (memories_of p) (Some l.of.entity) l.of.memory l.of.declared in
-      is ∙ ap Some (sym (l.memory ∙ (ap (λ o. entity_number (number_in (memories_of p) o)) l.of.is ∙ ap entity_number is)))
+      is ∙ ap Some (sym (l.memory ∙ (own_memory a ∙ (ap (λ o. entity_number (number_in (memories_of p) o)) l.of.is ∙ ap entity_number is))))
 
   -- Told.
   module _ (entity memory bank : ℕ) (numbers : number_in (memories_of p) (Some entity) ≡ Some memory) where
@@ -210,8 +222,8 @@ module _ (p : Program) (typed : IsTypedProgram p) (rules : KeepsIndexRules p) (d
         let same : l.of.entity ≡ entity = one_entity (memories_of p) l.of.entity entity memory (there ∙ ap Some both.0) numbers in
         let bank_is : reaches p a path entity bank ≡ true = subst (λ (x : ℕ). reaches p a path x bank ≡ true) same (subst (λ (x : ℕ). reaches p a path l.of.entity x ≡ true) both.1 l.bank) in
         let of_loops : Has path (paths_of a) = subst (λ (ls : List Counter). Has path (paths_in (factors_of ls))) (sym round) (subst (λ (qs : List Path). Has path qs) paths at) in
-        let key = has_mapped (key_of (bindings_of p) a) path (filter (λ q. reaches p a q entity bank) (paths_of a)) (has_filtered (λ q. reaches p a q entity bank) path (paths_of a) of_loops bank_is) in
-        let member = has_member (pointwise nat_eq) same_list whole_list (key_of (bindings_of p) a path) (keys_reaching p a entity bank) key in
+        let key = has_mapped (key_of (all_bindings_of p) a) path (filter (λ q. reaches p a q entity bank) (paths_of a)) (has_filtered (λ q. reaches p a q entity bank) path (paths_of a) of_loops bank_is) in
+        let member = has_member (pointwise nat_eq) same_list whole_list (key_of (all_bindings_of p) a path) (keys_reaching p a entity bank) key in
         subst (λ (o : Option SourceAccess). is_member same_path (keys_from p entity bank o) (key_from p o path) ≡ true) (sym listed) member
 
     one_read : (n : ℕ) (place later : Place) (path other : Path) (s t : Spot) → Has (reads n place path s) made_events → Has (reads n later other t) made_events → key_at p n path ≡ key_at p n other → s ≡ t
@@ -226,10 +238,10 @@ module _ (p : Program) (typed : IsTypedProgram p) (rules : KeepsIndexRules p) (d
         by : IsRead n path s → IsRead n other t → s ≡ t
         by x y =
             let of : y.of ≡ x.of = some_same y.of x.of (sym y.listed ∙ x.listed) in
-            let keys : key_of (bindings_of p) x.of path ≡ key_of (bindings_of p) x.of other =
+            let keys : key_of (all_bindings_of p) x.of path ≡ key_of (all_bindings_of p) x.of other =
             sym (ap (λ o. key_from p o path) x.listed) ∙ (e ∙ ap (λ o. key_from p o other) x.listed) in
             found x y of (one_element b (known_of p) v x.variables y.variables touched path other x.near y.near (same_length loops path other x.at y.at) x.of x.reads_it keys
-            (indices.names n x.of path other x.inside x.listed x.at y.at))
+            (indices.names n x.of path other x.inside x.listed x.at y.at) (λ entity agree. same_offsets x.variables y.variables path other entity))
 
     told : AreTold p entity memory bank made_events
     told = record {
@@ -260,7 +272,7 @@ module _ (p : Program) (typed : IsTypedProgram p) (rules : KeepsIndexRules p) (d
     bank_covered = record {
       chosen = made_numbers p entity memory bank made_events told;
       together = made_together;
-      covers = (let l = spent_told p entity memory bank made_events told are_once in
+      covers = (let l = spent_told p entity memory bank made_events told unled are_once in
           let t = total_below (charge p entity bank) (made_numbers p entity memory bank made_events told) p in
           omega (arith, l, t));
     }

@@ -18,6 +18,11 @@ use Rattle.dh_meets.specs.SourceEvents.{SourceEvent, assigned, site_of, term_eve
 use Rattle.dh_sound.proofs.FactsGrow.{Extends, added_last, other_grows, part_grows, groups_grow, InStep, next_in_step, past_in_step, in_step, part_in_step}
 use Rattle.dh_sound.proofs.IteratorsKnown.{AreKnownIterators}
 use Rattle.dh_sound.proofs.RoundLevels.{AreBelow, raised, first_counter, later_counter, Sees, sees_later, NamesRound, IsOther, declared_round, inside_round, inside_below, EventsRound, both_round, term_round, write_round, maybe_round}
+use Rattle.dh_tree.specs.Resolved.{resolved_plan}
+use Rattle.dh_tree.specs.Seen.{terms}
+use Rattle.dh_tree.specs.ViewOffsets.{offsets_of}
+use Rattle.dh_sound.proofs.Offsets.{offsets_named}
+use Rattle.dh_sound.proofs.RoundLevels.{terms_round}
 
 -- commands lead from one point of the text to another: names stand for iterators of the loops round them or of none,
 -- the loops of later entities are those behind, and so it is of the accesses on the way
@@ -101,7 +106,9 @@ module _ (all : Facts) (cs : List Counter) (iterators : AreKnownIterators all cs
     form_tells facts s r id after (lets_memory name shape shape_places value) l x e h b sees =
         declaration facts s r after name sort.Memory (of_memory (Some shape.kind) (length shape.dims)) [] l x tt h sees tt
     form_tells facts s r id after (views name parent form) l x e h b sees =
-        declaration facts s r after name sort.View (view_fact (fact_of facts parent) form) [] l x (view_other (fact_of facts parent) form) h sees tt
+        let plan : resolved_plan s.visible form ≡ form = cc in
+        declaration facts s r after name sort.View (view_fact (fact_of facts parent) form) _ l x (view_other (fact_of facts parent) form) h sees
+        (terms_round cs (site_of r id) s.visible h (terms (offsets_of form)) (offsets_named s.visible form plan))
     form_tells facts s r id after (assigns target value) l x e h b sees =
         let named : resolved_term s.visible value ≡ value = cc in
         nothing s r after _ h sees (both_round cs (term_events (site_of r id) value) (assigned target.entity ∷ []) (term_round cs (site_of r id) s.visible h value named) tt)

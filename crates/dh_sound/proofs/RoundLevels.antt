@@ -234,7 +234,7 @@ module _ (cs : List Counter) (site : Site) (bs : List Binding) (h : NamesRound c
         both_round cs (term_events site left) (term_events site right) (term_round left first) (term_round right second)
     term_round (term place k (converted inner to)) e = let named : resolved_term bs inner ≡ inner = cc in term_round inner named
 
-    terms_round : (ts : Terms) → resolved_terms bs ts ≡ ts → EventsRound cs (terms_events site ts)
+    pub terms_round : (ts : Terms) → resolved_terms bs ts ≡ ts → EventsRound cs (terms_events site ts)
     terms_round no_terms e = tt
     terms_round (term_then t rest) e =
         let first : resolved_term bs t ≡ t = cc in

@@ -15,6 +15,8 @@ use Rattle.dh_sound.proofs.EventCounts.{count_in, term_counted, events_counted, 
 use Rattle.dh_sound.proofs.SamePhase.{either, bit_true}
 use Rattle.dh_sound.proofs.Sums.{Within}
 use Rattle.dh_sound.proofs.Times.{span, times, times_parts, makes_times, groups_times, part_times, times_within, groups_within, part_within}
+use Rattle.dh_tree.specs.Seen.{terms}
+use Rattle.dh_tree.specs.ViewOffsets.{offsets_of}
 
 -- the access of a number, among events whose accesses are numbered from n on
 abbrev pub At : (n k : ℕ) → List SourceEvent → SourceAccess → Type 0
@@ -144,7 +146,7 @@ module _ (k : ℕ) (a : SourceAccess) where
       form_kept : (r : Around) → HasArm arm r.arms → (id : ℕ) (f : ActionForm) (n : ℕ) → At n k (command_events r (site_of r id) f) a → HasArm arm a.site.arms
       form_kept r h id (lets name declared value) n g = of_site r id h (let_site (site_of r id) value name.entity n g)
       form_kept r h id (lets_memory name shape shape_places value) n g = elim g [ ]
-      form_kept r h id (views name parent form) n g = elim g [ ]
+      form_kept r h id (views name parent form) n g = of_site r id h (terms_site (site_of r id) (terms (offsets_of form)) n g)
       form_kept r h id (assigns target value) n g = of_site r id h (assign_site (site_of r id) value target.entity n g)
       form_kept r h id (stores target value) n g = of_site r id h (store_site (site_of r id) value target n g)
       form_kept r h id (reduces target op value) n g = of_site r id h (assign_site (site_of r id) value target.entity n g)
@@ -221,7 +223,7 @@ module _ (k : ℕ) (a : SourceAccess) where
     form_loops : (r : Around) (n id : ℕ) (f : ActionForm) → form_makes k n f ≡ true → At n k (command_events r (site_of r id) f) a → a.site.loops ≡ r.loops
     form_loops r n id (lets name declared value) m h = site_loops r id (let_site k a (site_of r id) value name.entity n h)
     form_loops r n id (lets_memory name shape shape_places value) m h = elim h [ ]
-    form_loops r n id (views name parent form) m h = elim h [ ]
+    form_loops r n id (views name parent form) m h = site_loops r id (terms_site k a (site_of r id) (terms (offsets_of form)) n h)
     form_loops r n id (assigns target value) m h = site_loops r id (assign_site k a (site_of r id) value target.entity n h)
     form_loops r n id (stores target value) m h = site_loops r id (store_site k a (site_of r id) value target n h)
     form_loops r n id (reduces target op value) m h = site_loops r id (assign_site k a (site_of r id) value target.entity n h)

@@ -10,6 +10,8 @@ use Rattle.dh_tree.specs.PlainTrees.{Term, term, number, truth_value, named, acc
 use Rattle.dh_meaning.specs.Sites.{Arm, Around, in_arm, in_loop, loop_of}
 use Rattle.dh_meets.specs.SourceEvents.{Element, SourceAccess, SourceEvent, accesses, assigned, site_of, term_events, terms_events, maybe_events, write_events, events, command_events, other_events, groups_events, part_events}
 use Rattle.dh_sound.specs.Trails.{ArmsWithin, EachAccess}
+use Rattle.dh_tree.specs.Seen.{terms}
+use Rattle.dh_tree.specs.ViewOffsets.{offsets_of}
 
 pub each_both : (P : SourceAccess → Type 0) (es fs : List SourceEvent) → EachAccess P es → EachAccess P fs → EachAccess P (es ++ fs)
 each_both P [] fs a b = b
@@ -91,7 +93,7 @@ mutual
   form_stands : (r : Around) (low high m : ℕ) (f : ActionForm) → IsNumberedInside (suc m) f → low ≤ m → m + suc (commands_inside f) ≤ high → EachAccess (StandsWithin r low high) (command_events r (site_of r m) f)
   form_stands r low high m (lets name declared value) h l u = each_both _ (maybe_events (site_of r m) value) _ (maybe_stands r m low high value) tt
   form_stands r low high m (lets_memory name shape shape_places value) h l u = tt
-  form_stands r low high m (views name parent form) h l u = tt
+  form_stands r low high m (views name parent form) h l u = terms_stand r m low high (terms (offsets_of form))
   form_stands r low high m (assigns target value) h l u = each_both _ (term_events (site_of r m) value) _ (term_stands r m low high value) tt
   form_stands r low high m (stores target value) h l u = each_both _ (term_events (site_of r m) value) _ (term_stands r m low high value) (write_stands r m low high target)
   form_stands r low high m (reduces target op value) h l u = each_both _ (term_events (site_of r m) value) _ (term_stands r m low high value) tt

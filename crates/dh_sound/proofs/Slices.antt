@@ -4,7 +4,7 @@
 -- together among those of the whole.
 use Rattle.std.proofs.Common.{◌≡◌, ℕ, ◌+◌, ◌==◌, ◌&&◌, ◌⊎◌, inl, inr, Bool, true, false, if◌then◌else◌, List, [], ◌∷◌, ◌++◌, length, refl, sym, ◌∙◌, ap, subst, arith}
 use Rattle.std.proofs.lemmas.List.{append_assoc, append-nil}
-use Rattle.dh_tree.specs.PlainTrees.{Term, Action, action, ActionForm, lets, lets_memory, views, assigns, stores, reduces, calls, blocks, decides, repeats, counts, MaybeAction, no_action, one_action, Actions, no_actions, action_then, Groups, no_groups, group_then, Program}
+use Rattle.dh_tree.specs.PlainTrees.{shrinks, splits, suffixes, shifts, Term, Action, action, ActionForm, lets, lets_memory, views, assigns, stores, reduces, calls, blocks, decides, repeats, counts, MaybeAction, no_action, one_action, Actions, no_actions, action_then, Groups, no_groups, group_then, Program}
 use Rattle.dh_meaning.specs.AccessNumbers.{term_accesses, accesses_of, part_accesses}
 use Rattle.dh_meaning.specs.Sites.{Around, nothing_around, in_arm, in_loop, loop_of}
 use Rattle.dh_meaning.specs.Phases.{Located, Phase, straight, turns, repeated, decided, Phases, no_phases, phase, of_list, one_straight, joined, are_straight, one_command, folded, turn_phases, choice_phases, located, phases, form_phases, other_phases, groups_phases, parts_phases, phases_of, unless_turns, idle_phases, idle_form_phases, idle_other_phases, idle_groups_phases, idle_part_phases, idle_phases_of}
@@ -246,7 +246,10 @@ mutual
       every_turn _ _ _ _ (turn_stands (in_loop r (loop_of iterator low high factor)) n iterator.entity body combine (phases_stand (in_loop r (loop_of iterator low high factor)) n body) (other_stands (in_loop r (loop_of iterator low high factor)) (n + accesses_of body) combine))
   form_stands r n id place (blocks body) = groups_stand r n body
   form_stands r n id place (lets_memory name shape shape_places value) = tt
-  form_stands r n id place (views name parent form) = tt
+  form_stands r n id place (views name parent (shrinks by by_place)) = tt
+  form_stands r n id place (views name parent (splits by by_place)) = tt
+  form_stands r n id place (views name parent (suffixes by by_place)) = ((among_whole r n (action id place (views name parent (suffixes by by_place))), tt), tt)
+  form_stands r n id place (views name parent (shifts by)) = ((among_whole r n (action id place (views name parent (shifts by))), tt), tt)
   form_stands r n id place (calls function arguments) = tt
 
   other_stands : (r : Around) (n : ℕ) (o : MaybeAction) → Every (StandsAmong n (other_events r o)) (other_phases r n o)

@@ -15,7 +15,7 @@ use Rattle.dh_tree.specs.PlainTrees.{converted, applied, in_bank, accessed, name
 use Rattle.dh_tree.specs.Resolved.{resolved_term, resolved_action, resolved_form, resolved_other, resolved_actions, resolved_groups}
 use Rattle.dh_tree.specs.Scopes.{entity_of, bind, Scope, declare, leave, past, at_end, form_at_end, other_at_end, actions_at_end, groups_at_end}
 use Rattle.dh_tree.proofs.EmptyLists.{first_none, second_none}
-use Rattle.dh_meaning.specs.Bindings.{depth_inside, bindings_of, binding_in, depth_bound}
+use Rattle.dh_meaning.specs.Bindings.{depth_inside, binding_in, depth_bound}
 use Rattle.dh_meaning.specs.CoreOf.{known_of, entity_number}
 use Rattle.dh_meaning.specs.Sites.{Around, in_arm, in_loop, loop_of}
 use Rattle.dh_meets.specs.SourceEvents.{Site, SourceEvent, site_of, term_events, maybe_events, events, command_events, other_events, groups_events, part_events}
@@ -30,6 +30,7 @@ use Rattle.dh_sound.proofs.NamedPrograms.{used_stands}
 use Rattle.dh_sound.proofs.Pigeons.{Has, has_left, has_right}
 use Rattle.dh_sound.proofs.Sites.{each_both}
 use Rattle.dh_sound.proofs.SortsOfNames.{memory_found, IsDeepFrom, memory_is, variable_is, iterator_is, AreSorted, later_sorted, all_later, inner_sorted, bind_sorted, next_fact, declared_sorted, past_sorted, let_is, target_inside, term_told, write_told, maybe_told}
+use Rattle.dh_meaning.specs.Ways.{all_bindings_of}
 
 -- commands lead to a point of the text where names are sorted, with accesses of memories and assignments inside
 pub record CommandTold (p : Program) (facts : Facts) (first depth : ℕ) (end : Scope) (es : List SourceEvent) (Inside : Type 0) : Type 0 where
@@ -39,9 +40,9 @@ pub record CommandTold (p : Program) (facts : Facts) (first depth : ℕ) (end : 
 
 module _ (p : Program) where
   -- a variable that is declared has the depth of the point
-  let_deep : (r : Option ℕ) (n first d : ℕ) → Some n ≡ r → depth_bound (binding_in (bindings_of p) (entity_number r)) ≡ d → IsDeepFrom p first d n
+  let_deep : (r : Option ℕ) (n first d : ℕ) → Some n ≡ r → depth_bound (binding_in (all_bindings_of p) (entity_number r)) ≡ d → IsDeepFrom p first d n
   let_deep r n first d own q l =
-      let e : depth_bound (binding_in (bindings_of p) n) ≡ d = ap (λ (o : Option ℕ). depth_bound (binding_in (bindings_of p) (entity_number o))) own ∙ q in
+      let e : depth_bound (binding_in (all_bindings_of p) n) ≡ d = ap (λ (o : Option ℕ). depth_bound (binding_in (all_bindings_of p) (entity_number o))) own ∙ q in
       omega (arith, e)
 
   no_less : (x d : ℕ) → x ≡ d → d ≤ x
@@ -49,7 +50,7 @@ module _ (p : Program) where
 
   -- inside a loop
   enters : (facts : Facts) (s : Scope) (first d factor : ℕ) (k : Kind) (name : List ℕ) → InStep s facts → AreSorted p facts first d s.visible
-      → depth_bound (binding_in (bindings_of p) (size s)) ≡ depth_inside d factor
+      → depth_bound (binding_in (all_bindings_of p) (size s)) ≡ depth_inside d factor
       → AreSorted p (facts ++ of_iterator k ∷ []) (first_inside first factor (Some (size s))) (depth_inside d factor) (bind s.visible name (size s))
   enters facts s first d factor k name l h q =
       bind_sorted p (facts ++ of_iterator k ∷ []) (first_inside first factor (Some (size s))) (depth_inside d factor) s.visible name (size s)
@@ -98,14 +99,14 @@ module _ (p : Program) where
 
   mutual
     pub told : (a : Action) (facts : Facts) (s : Scope) (r : Around) (first d : ℕ) → InStep s facts → AreSorted p facts first d s.visible
-        → resolved_action s a ≡ a → breaches s a ≡ [] → action_kind_breaches facts a ≡ [] → IsSimple a → outer_breaches first a ≡ [] → Deep (bindings_of p) d a → ((m : Memory) → Has m (locals a) → Has m (memories_of p))
+        → resolved_action s a ≡ a → breaches s a ≡ [] → action_kind_breaches facts a ≡ [] → IsSimple a → outer_breaches first a ≡ [] → Deep (all_bindings_of p) d a → ((m : Memory) → Has m (locals a) → Has m (memories_of p))
         → CommandTold p (facts_after facts a) first d (at_end s a) (events r a) (AssignsInside (known_of p) d a)
     told (action id place form) facts s r first d l k e v b x o q w =
         let same : resolved_form s form ≡ form = cc in
         form_told form facts s r id first d l k same v b x o q w
 
     form_told : (f : ActionForm) (facts : Facts) (s : Scope) (r : Around) (id first d : ℕ) → InStep s facts → AreSorted p facts first d s.visible
-        → resolved_form s f ≡ f → form_breaches s f ≡ [] → action_form_kind_breaches facts f ≡ [] → FormSimple f → outer_form_breaches first f ≡ [] → FormDeep (bindings_of p) d f → ((m : Memory) → Has m (form_locals f) → Has m (memories_of p))
+        → resolved_form s f ≡ f → form_breaches s f ≡ [] → action_form_kind_breaches facts f ≡ [] → FormSimple f → outer_form_breaches first f ≡ [] → FormDeep (all_bindings_of p) d f → ((m : Memory) → Has m (form_locals f) → Has m (memories_of p))
         → CommandTold p (facts_after_form facts f) first d (form_at_end s f) (command_events r (site_of r id) f) (FormAssignsInside (known_of p) d f)
     form_told (lets name declared value) facts s r id first d l k e v b x o q w =
         let own : Some (size s) ≡ name.entity = cc in
@@ -192,8 +193,8 @@ module _ (p : Program) where
         let same : resolved_action (declare s iterator sort.Iterator) body ≡ body = cc in
         let seen = second_none (twice s.visible iterator) _ v in
         let kinds = second_none (high_breaches j low high) _ (second_none (low_breaches j low) _ (second_none (iterator_breaches iterator j) _ b)) in
-        let deep : depth_bound (binding_in (bindings_of p) (size s)) ≡ depth_inside d factor.value =
-        ap (λ (o : Option ℕ). depth_bound (binding_in (bindings_of p) (entity_number o))) own ∙ (ap depth_bound q.0.bound ∙ q.0.depth_is) in
+        let deep : depth_bound (binding_in (all_bindings_of p) (size s)) ≡ depth_inside d factor.value =
+        ap (λ (o : Option ℕ). depth_bound (binding_in (all_bindings_of p) (entity_number o))) own ∙ (ap depth_bound q.0.bound ∙ q.0.depth_is) in
         let sorted : AreSorted p (facts ++ of_iterator (iterator_kind declared) ∷ []) (first_inside first factor.value iterator.entity) (depth_inside d factor.value) (declare s iterator sort.Iterator).visible =
         subst (λ (i : Option ℕ). AreSorted p (facts ++ of_iterator (iterator_kind declared) ∷ []) (first_inside first factor.value i) (depth_inside d factor.value) (declare s iterator sort.Iterator).visible) own
         (enters facts s first d factor.value (iterator_kind declared) iterator.name l k deep) in
@@ -207,13 +208,13 @@ module _ (p : Program) where
         }
 
     other_told : (m : MaybeAction) (facts : Facts) (s : Scope) (r : Around) (first d : ℕ) → InStep s facts → AreSorted p facts first d s.visible
-        → resolved_other s m ≡ m → other_breaches s m ≡ [] → other_kind_breaches facts m ≡ [] → OtherSimple m → outer_other_breaches first m ≡ [] → OtherDeep (bindings_of p) d m → ((x : Memory) → Has x (other_locals m) → Has x (memories_of p))
+        → resolved_other s m ≡ m → other_breaches s m ≡ [] → other_kind_breaches facts m ≡ [] → OtherSimple m → outer_other_breaches first m ≡ [] → OtherDeep (all_bindings_of p) d m → ((x : Memory) → Has x (other_locals m) → Has x (memories_of p))
         → CommandTold p (facts_after_other facts m) first d (other_at_end s m) (other_events r m) (OtherAssignsInside (known_of p) d m)
     other_told no_action facts s r first d l k e v b x o q w = record { names = k; events = tt; inside = tt }
     other_told (one_action a) facts s r first d l k e v b x o q w = let same : resolved_action s a ≡ a = cc in told a facts s r first d l k same v b x o q w
 
     part_told : (part : Actions) (facts : Facts) (s : Scope) (r : Around) (first d : ℕ) → InStep s facts → AreSorted p facts first d s.visible
-        → resolved_actions s part ≡ part → actions_breaches s part ≡ [] → actions_kind_breaches facts part ≡ [] → PartSimple part → outer_part_breaches first part ≡ [] → PartDeep (bindings_of p) d part
+        → resolved_actions s part ≡ part → actions_breaches s part ≡ [] → actions_kind_breaches facts part ≡ [] → PartSimple part → outer_part_breaches first part ≡ [] → PartDeep (all_bindings_of p) d part
         → ((m : Memory) → Has m (part_locals part) → Has m (memories_of p))
         → CommandTold p (facts_after_actions facts part) first d (actions_at_end s part) (part_events r part) (PartAssignsInside (known_of p) d part)
     part_told no_actions facts s r first d l k e v b x o q w = record { names = k; events = tt; inside = tt }
@@ -230,7 +231,7 @@ module _ (p : Program) where
         record { names = two.names; events = each_both _ (events r a) _ one.events two.events; inside = (one.inside, two.inside) }
 
     groups_told : (gs : Groups) (facts : Facts) (s : Scope) (r : Around) (first d : ℕ) → InStep s facts → AreSorted p facts first d s.visible
-        → resolved_groups s gs ≡ gs → groups_breaches s gs ≡ [] → groups_kind_breaches facts gs ≡ [] → GroupsSimple gs → outer_groups_breaches first gs ≡ [] → GroupsDeep (bindings_of p) d gs
+        → resolved_groups s gs ≡ gs → groups_breaches s gs ≡ [] → groups_kind_breaches facts gs ≡ [] → GroupsSimple gs → outer_groups_breaches first gs ≡ [] → GroupsDeep (all_bindings_of p) d gs
         → ((m : Memory) → Has m (groups_locals gs) → Has m (memories_of p))
         → CommandTold p (facts_after_groups facts gs) first d (groups_at_end s gs) (groups_events r gs) (GroupsAssignInside (known_of p) d gs)
     groups_told no_groups facts s r first d l k e v b x o q w = record { names = k; events = tt; inside = tt }

@@ -22,7 +22,7 @@ use Rattle.dh_tree.specs.PlainTrees.{Term, term, number, truth_value, named, acc
 use Rattle.dh_tree.specs.Resolved.{resolved_term, resolved_terms}
 use Rattle.dh_tree.specs.Scopes.{Binding, binding, entity_of, is_visible, bind, Scope, declare, past, at_end}
 use Rattle.dh_tree.proofs.EmptyLists.{first_none, second_none, not_none}
-use Rattle.dh_meaning.specs.Bindings.{bindings_of, binding_in, depth_bound}
+use Rattle.dh_meaning.specs.Bindings.{binding_in, depth_bound}
 use Rattle.dh_meaning.specs.CoreOf.{known_of, entity_number, depth_of}
 use Rattle.dh_meets.specs.SourceEvents.{with_indices, in_row, Site, one_access, term_events, terms_events, maybe_events, write_events}
 use Rattle.dh_sound.specs.BlockTold.{IsOfMemory}
@@ -35,6 +35,7 @@ use Rattle.dh_sound.proofs.KindsOfCommands.{added_found}
 use Rattle.dh_sound.proofs.NamedPrograms.{used_stands}
 use Rattle.dh_sound.proofs.Pigeons.{Has}
 use Rattle.dh_sound.proofs.Sites.{each_both}
+use Rattle.dh_meaning.specs.Ways.{all_bindings_of}
 
 -- Memories.
 
@@ -61,7 +62,7 @@ memory_found (y ∷ ys) m n h e = by (same_entity y.name.entity (Some n)) refl h
 
 -- an entity that is numbered inside the innermost unrolled loop is declared inside so many
 abbrev pub IsDeepFrom : Program → (first depth n : ℕ) → Type 0
-IsDeepFrom p first depth n = first ≤ n → depth ≤ depth_bound (binding_in (bindings_of p) n)
+IsDeepFrom p first depth n = first ≤ n → depth ≤ depth_bound (binding_in (all_bindings_of p) n)
 
 -- What an entity is, at a point of the text inside so many unrolled loops, with the first number inside the innermost.
 pub data IsSorted (p : Program) (facts : Facts) (first depth n : ℕ) : Type 0 where
@@ -164,8 +165,8 @@ module _ (p : Program) (facts : Facts) (first depth : ℕ) where
       at_least : nat_lt n first ≡ false → first ≤ n
       at_least f = grind (arith, nat_tests)
 
-  deep_name : (r : Ref) (n : ℕ) → r.entity ≡ Some n → depth ≤ depth_bound (binding_in (bindings_of p) n) → depth ≤ depth_of (known_of p) r
-  deep_name r n is l = subst (λ (o : Option ℕ). depth ≤ depth_bound (binding_in (bindings_of p) (entity_number o))) (sym is) l
+  deep_name : (r : Ref) (n : ℕ) → r.entity ≡ Some n → depth ≤ depth_bound (binding_in (all_bindings_of p) n) → depth ≤ depth_of (known_of p) r
+  deep_name r n is l = subst (λ (o : Option ℕ). depth ≤ depth_bound (binding_in (all_bindings_of p) (entity_number o))) (sym is) l
 
   pub target_inside : (r : Ref) (n : ℕ) → r.entity ≡ Some n → IsSorted p facts first depth n → target_breaches (fact_of facts r) r.place ≡ [] → when (is_from_outside first r.entity) (breach OuterWrite r.place ∷ []) ≡ []
       → depth ≤ depth_of (known_of p) r

@@ -16,7 +16,6 @@ use Rattle.dh_tree.specs.Ready.{IsReady}
 use Rattle.dh_tree.specs.Resolved.{resolved_decls}
 use Rattle.dh_tree.specs.Scopes.{Binding, bind, Item, memory_items, function_items, merged, items_of, after_items, first_scope, body_scope, at_end}
 use Rattle.dh_tree.proofs.EmptyLists.{second_none}
-use Rattle.dh_meaning.specs.Bindings.{bindings_of}
 use Rattle.dh_meaning.specs.CoreOf.{known_of}
 use Rattle.dh_meaning.specs.Sites.{nothing_around}
 use Rattle.dh_meets.specs.SourceEvents.{SourceAccess, SourceEvent, accesses, assigned, accesses_in, trace}
@@ -32,6 +31,7 @@ use Rattle.dh_sound.proofs.Pigeons.{Has, has_right, has_left, has_mapped}
 use Rattle.dh_sound.proofs.PlacementsSplit.{folds_none, outer_none}
 use Rattle.dh_sound.proofs.SortsOfCommands.{CommandTold, told}
 use Rattle.dh_sound.proofs.SortsOfNames.{memory_found, IsSorted, memory_is, function_is, AreSorted, all_later, bind_sorted}
+use Rattle.dh_meaning.specs.Ways.{all_bindings_of, view_bindings}
 
 -- Where the body begins.
 
@@ -135,7 +135,7 @@ module _ (p : Program) (ready : IsReady p) (typed : IsTypedProgram p) where
       (second_none (functions_breaches (length p.decls) (first_scope p) p.functions) _ (second_none (items_breaches [] (items_of p)) _ ready.names))
       (second_none (functions_kind_breaches (first_facts p) p.functions) _ ready.suits)
       (simple_kept p.entities p.body (second_none (unbuilt_functions p.functions) _ ready.built) (folds_none p ready.placements)) (outer_none p ready.placements)
-      (deep (bindings_of p) p.body (body_scope p) 0 [] [] (resolved_body p typed) (sym (append-nil (bindings_of p))) tt)
+      (deep (all_bindings_of p) p.body (body_scope p) 0 [] (view_bindings p) (resolved_body p typed) refl tt)
       (λ m h. has_right m (map outside_memory p.decls) (locals p.body) h)
 
   -- each access is of a memory

@@ -16,15 +16,19 @@ use Rattle.dh_tree.specs.Elements.{Spot}
 use Rattle.dh_tree.specs.WiderKinds.{wider}
 use Rattle.dh_tree.specs.Memories.{same_entity, number_in}
 use Rattle.dh_tree.specs.PlainTrees.{Term, term, TermForm, number, truth_value, named, accessed, in_bank, applied, converted, Terms, no_terms, term_then}
-use Rattle.dh_meaning.specs.AccessNumbers.{term_accesses}
+use Rattle.dh_meaning.specs.AccessNumbers.{term_accesses, terms_accesses}
 use Rattle.dh_meaning.specs.Bindings.{kind_or_first, kind_found, binding_in, depth_bound}
 use Rattle.dh_meaning.specs.Core.{CoreTerm}
-use Rattle.dh_meaning.specs.CoreOf.{Known, entity_number, depth_of, extended, extended_both, operation_of, core_term, core_form, core_terms}
+use Rattle.dh_meaning.specs.CoreOf.{reach_of, way_of, Known, entity_number, depth_of, extended, extended_both, operation_of, core_term, core_form, core_terms}
 use Rattle.dh_meaning.specs.Effects.{Begun, Variables, value_of, values_of, spot_by_indices, spot_by_row, bits_at, kind_in}
 use Rattle.dh_meaning.specs.Paths.{Path}
 use Rattle.dh_sound.specs.Straight.{IsNamedTerm, AreNamedTerms}
 use Rattle.dh_meets.specs.SourceEvents.{Element, with_indices, in_row}
 use Rattle.dh_meets.specs.Sharing.{same_truth, same_kind, same_maybe_kind, number_of_op, alike, alike_forms, all_alike, alike_elements, mentions, terms_mention, element_mentions}
+use Rattle.dh_meaning.specs.Ways.{Way, base_of, way_at}
+use Rattle.dh_ways.specs.SpotsThrough.{spot_to, offsets_at}
+use Rattle.dh_ways.proofs.TargetsOnWays.{target_is}
+use Rattle.dh_tree.specs.declared.trees.expressions.Ref.{Ref}
 
 -- what an operation makes of its operands' values: they are extended, or not
 abbrev pub extended_value : Kind → Word → Word
@@ -80,16 +84,28 @@ module _ (b : Begun) where
     source_values v path ts = values_of b v path (core_terms known 0 ts)
 
     -- where an access of what a name stands for leads
+    abbrev pub way_of_entity : Option ℕ → Option Way
+    way_of_entity entity = way_at known.memories known.ways entity
+
     abbrev pub memory_at : Option ℕ → ℕ
-    memory_at entity = entity_number (number_in known.memories entity)
+    memory_at entity = entity_number (number_in known.memories (base_of (way_of_entity entity) entity))
+
+    -- by indices that are these numbers
+    abbrev pub spot_named : Variables → Path → Option ℕ → List ℤ → Option Spot
+    spot_named v path entity zs = spot_to b.table (memory_at entity) (way_of_entity entity) zs (offsets_at b v path (way_of_entity entity))
 
     abbrev pub source_spot : Variables → Path → Option ℕ → Element → Option Spot
-    source_spot v path entity (with_indices ts) = spot_by_indices b.table (memory_at entity) (source_values v path ts)
+    source_spot v path entity (with_indices ts) = spot_named v path entity (source_values v path ts)
     source_spot v path entity (in_row bank t) = spot_by_row b.table (memory_at entity) bank (words.value_of (source_value v path t))
 
     -- the value of a read that leads to an element
     abbrev pub read_value : Option ℕ → Option Spot → Word
     read_value entity s = with_bits (kind_in b.table (memory_at entity)) (bits_at b.memories s)
+
+    -- the value of an access by indices
+    pub accessed_is : (v : Variables) (path : Path) (n : ℕ) (place : Place) (k : Option Kind) (r : Ref) (ts : Terms)
+        → value_of b v path (core_term known n (term place k (accessed r ts))) ≡ read_value r.entity (spot_named v path r.entity (values_of b v path (core_terms known n ts)))
+    accessed_is v path n place k r ts = ap (λ s. read_value r.entity s) (target_is b v path (reach_of known (n + terms_accesses ts) place r) (way_of known r) (core_terms known n ts))
 
     -- What holds of two readings of expressions: by variables, paths and numbers.
     mutual
@@ -97,7 +113,8 @@ module _ (b : Begun) where
       numbers_aside v path m n (term place k (number negative x)) = refl
       numbers_aside v path m n (term place k (truth_value x)) = refl
       numbers_aside v path m n (term place k (named r)) = refl
-      numbers_aside v path m n (term place k (accessed r ts)) = ap (λ zs. read_value r.entity (spot_by_indices b.table (memory_at r.entity) zs)) (all_numbers_aside v path m n ts)
+      numbers_aside v path m n (term place k (accessed r ts)) =
+          accessed_is v path m place k r ts ∙ (ap (λ zs. read_value r.entity (spot_named v path r.entity zs)) (all_numbers_aside v path m n ts) ∙ sym (accessed_is v path n place k r ts))
       numbers_aside v path m n (term place k (in_bank r bank at t)) = ap (λ x. read_value r.entity (spot_by_row b.table (memory_at r.entity) bank (words.value_of x))) (numbers_aside v path m n t)
       numbers_aside v path m n (term place k (applied o l r)) = operation_same v v path path o (kind_found l) (kind_found r) _ _ _ _ (numbers_aside v path m n l) (numbers_aside v path (m + term_accesses l) (n + term_accesses l) r)
       numbers_aside v path m n (term place k (converted t to)) = ap (λ x. word_of to (words.value_of x)) (numbers_aside v path m n t)
@@ -113,6 +130,13 @@ module _ (b : Begun) where
     or_false true y e = cc
     or_false false y e = (refl, e)
 
+    -- variables by which the offsets that ways keep are the same at a path
+    abbrev pub SameOffsets : Variables → Variables → Path → Type 0
+    SameOffsets v w path = (entity : Option ℕ) → offsets_at b v path (way_of_entity entity) ≡ offsets_at b w path (way_of_entity entity)
+
+    abbrev pub offsets_named : (v w : Variables) (path : Path) → SameOffsets v w path → (entity : Option ℕ) (zs : List ℤ) → spot_named v path entity zs ≡ spot_named w path entity zs
+    offsets_named v w path o entity zs = ap (λ os. spot_to b.table (memory_at entity) (way_of_entity entity) zs os) (o entity)
+
     -- variables that differ at one entity alone
     abbrev pub AgreeBut : (entity : ℕ) → Variables → Variables → Type 0
     AgreeBut entity v w = (e : ℕ) (q : Path) → nat_eq e entity ≡ false → v e q ≡ w e q
@@ -122,33 +146,37 @@ module _ (b : Begun) where
     named_same v w path entity (Some x) e is m h d = h x (take d path) m
 
     mutual
-      pub unmentioned : (v w : Variables) (path : Path) (entity n : ℕ) (t : Term) → AgreeBut entity v w → IsNamedTerm t → mentions (Some entity) t ≡ false → value_of b v path (core_term known n t) ≡ value_of b w path (core_term known n t)
-      unmentioned v w path entity n (term place k (number negative x)) a h m = refl
-      unmentioned v w path entity n (term place k (truth_value x)) a h m = refl
-      unmentioned v w path entity n (term place k (named r)) a h m = ap (λ z. word_of (kind_or_first k) z) (named_same v w path entity r.entity h.0 h.1 m a (depth_of known r))
-      unmentioned v w path entity n (term place k (accessed r ts)) a h m = ap (λ zs. read_value r.entity (spot_by_indices b.table (memory_at r.entity) zs)) (all_unmentioned v w path entity n ts a h m)
-      unmentioned v w path entity n (term place k (in_bank r bank at t)) a h m = ap (λ x. read_value r.entity (spot_by_row b.table (memory_at r.entity) bank (words.value_of x))) (unmentioned v w path entity n t a h m)
-      unmentioned v w path entity n (term place k (applied o l r)) a h m =
+      pub unmentioned : (v w : Variables) (path : Path) (entity n : ℕ) (t : Term) → AgreeBut entity v w → SameOffsets v w path → IsNamedTerm t → mentions (Some entity) t ≡ false → value_of b v path (core_term known n t) ≡ value_of b w path (core_term known n t)
+      unmentioned v w path entity n (term place k (number negative x)) a o h m = refl
+      unmentioned v w path entity n (term place k (truth_value x)) a o h m = refl
+      unmentioned v w path entity n (term place k (named r)) a o h m = ap (λ z. word_of (kind_or_first k) z) (named_same v w path entity r.entity h.0 h.1 m a (depth_of known r))
+      unmentioned v w path entity n (term place k (accessed r ts)) a o h m =
+          accessed_is v path n place k r ts
+          ∙ (ap (λ zs. read_value r.entity (spot_named v path r.entity zs)) (all_unmentioned v w path entity n ts a o h m)
+          ∙ (ap (λ s. read_value r.entity s) (offsets_named v w path o r.entity (values_of b w path (core_terms known n ts))) ∙ sym (accessed_is w path n place k r ts)))
+      unmentioned v w path entity n (term place k (in_bank r bank at t)) a o h m = ap (λ x. read_value r.entity (spot_by_row b.table (memory_at r.entity) bank (words.value_of x))) (unmentioned v w path entity n t a o h m)
+      unmentioned v w path entity n (term place k (applied op l r)) a o h m =
           let e = or_false (mentions (Some entity) l) (mentions (Some entity) r) m in
-          operation_same v w path path o (kind_found l) (kind_found r) _ _ _ _ (unmentioned v w path entity n l a h.0 e.0) (unmentioned v w path entity (n + term_accesses l) r a h.1 e.1)
-      unmentioned v w path entity n (term place k (converted t to)) a h m = ap (λ x. word_of to (words.value_of x)) (unmentioned v w path entity n t a h m)
+          operation_same v w path path op (kind_found l) (kind_found r) _ _ _ _ (unmentioned v w path entity n l a o h.0 e.0) (unmentioned v w path entity (n + term_accesses l) r a o h.1 e.1)
+      unmentioned v w path entity n (term place k (converted t to)) a o h m = ap (λ x. word_of to (words.value_of x)) (unmentioned v w path entity n t a o h m)
 
-      pub all_unmentioned : (v w : Variables) (path : Path) (entity n : ℕ) (ts : Terms) → AgreeBut entity v w → AreNamedTerms ts → terms_mention (Some entity) ts ≡ false → values_of b v path (core_terms known n ts) ≡ values_of b w path (core_terms known n ts)
-      all_unmentioned v w path entity n no_terms a h m = refl
-      all_unmentioned v w path entity n (term_then t ts) a h m =
+      pub all_unmentioned : (v w : Variables) (path : Path) (entity n : ℕ) (ts : Terms) → AgreeBut entity v w → SameOffsets v w path → AreNamedTerms ts → terms_mention (Some entity) ts ≡ false → values_of b v path (core_terms known n ts) ≡ values_of b w path (core_terms known n ts)
+      all_unmentioned v w path entity n no_terms a o h m = refl
+      all_unmentioned v w path entity n (term_then t ts) a o h m =
           let e = or_false (mentions (Some entity) t) (terms_mention (Some entity) ts) m in
-          ap (λ x. words.value_of x ∷ values_of b v path (core_terms known (n + term_accesses t) ts)) (unmentioned v w path entity n t a h.0 e.0)
-          ∙ ap (λ zs. words.value_of (value_of b w path (core_term known n t)) ∷ zs) (all_unmentioned v w path entity (n + term_accesses t) ts a h.1 e.1)
+          ap (λ x. words.value_of x ∷ values_of b v path (core_terms known (n + term_accesses t) ts)) (unmentioned v w path entity n t a o h.0 e.0)
+          ∙ ap (λ zs. words.value_of (value_of b w path (core_term known n t)) ∷ zs) (all_unmentioned v w path entity (n + term_accesses t) ts a o h.1 e.1)
 
     -- the names in an access's indices
     abbrev pub IsNamedElement : Element → Type 0
     IsNamedElement (with_indices ts) = AreNamedTerms ts
     IsNamedElement (in_row bank t) = IsNamedTerm t
 
-    pub spot_unmentioned : (v w : Variables) (path : Path) (entity : ℕ) (of : Option ℕ) (e : Element) → AgreeBut entity v w → IsNamedElement e → element_mentions (Some entity) e ≡ false
+    pub spot_unmentioned : (v w : Variables) (path : Path) (entity : ℕ) (of : Option ℕ) (e : Element) → AgreeBut entity v w → SameOffsets v w path → IsNamedElement e → element_mentions (Some entity) e ≡ false
         → source_spot v path of e ≡ source_spot w path of e
-    spot_unmentioned v w path entity of (with_indices ts) a h m = ap (λ zs. spot_by_indices b.table (memory_at of) zs) (all_unmentioned v w path entity 0 ts a h m)
-    spot_unmentioned v w path entity of (in_row bank t) a h m = ap (λ x. spot_by_row b.table (memory_at of) bank (words.value_of x)) (unmentioned v w path entity 0 t a h m)
+    spot_unmentioned v w path entity of (with_indices ts) a o h m =
+        ap (λ zs. spot_named v path of zs) (all_unmentioned v w path entity 0 ts a o h m) ∙ offsets_named v w path o of (source_values w path ts)
+    spot_unmentioned v w path entity of (in_row bank t) a o h m = ap (λ x. spot_by_row b.table (memory_at of) bank (words.value_of x)) (unmentioned v w path entity 0 t a o h m)
 
     -- expressions of one structure
 
@@ -232,8 +260,9 @@ module _ (b : Begun) where
           subst (λ (kk : Kind). value_of b v path (core_form known n p j (named r)) ≡ word_of kk (v (entity_number s.entity) (take (depth_of known s) path))) e (ap (λ o. word_of j (v (entity_number o) (take (depth_bound (binding_in known.bindings (entity_number o))) path))) c)
       alike_form_value v path n p q j k (accessed r ts) (accessed s us) e h =
           let a = both_so (same_entity r.entity s.entity) (all_alike ts us) h in
-          ap (λ o. read_value o (spot_by_indices b.table (memory_at o) (values_of b v path (core_terms known n ts)))) (entity_is r.entity s.entity a.0)
-          ∙ ap (λ zs. read_value s.entity (spot_by_indices b.table (memory_at s.entity) zs)) (all_alike_values v path n ts us a.1)
+          accessed_is v path n p (Some j) r ts
+          ∙ (ap (λ o. read_value o (spot_named v path o (values_of b v path (core_terms known n ts)))) (entity_is r.entity s.entity a.0)
+          ∙ (ap (λ zs. read_value s.entity (spot_named v path s.entity zs)) (all_alike_values v path n ts us a.1) ∙ sym (accessed_is v path n q (Some k) s us)))
       alike_form_value v path n p q j k (in_bank r x at t) (in_bank s y other u) e h =
           let a = both_so (same_entity r.entity s.entity) (nat_eq x y && alike t u) h in
           let c = both_so (nat_eq x y) (alike t u) a.1 in
@@ -305,7 +334,7 @@ module _ (b : Begun) where
 
     pub spot_alike : (v : Variables) (path : Path) (of other : Option ℕ) (e f : Element) → same_entity of other ≡ true → alike_elements e f ≡ true → source_spot v path of e ≡ source_spot v path other f
     spot_alike v path of other (with_indices ts) (with_indices us) s a =
-        ap (λ o. spot_by_indices b.table (memory_at o) (source_values v path ts)) (entity_is of other s) ∙ ap (λ zs. spot_by_indices b.table (memory_at other) zs) (all_alike_values v path 0 ts us a)
+        ap (λ o. spot_named v path o (source_values v path ts)) (entity_is of other s) ∙ ap (λ zs. spot_named v path other zs) (all_alike_values v path 0 ts us a)
     spot_alike v path of other (in_row x t) (in_row y u) s a =
         let c = both_so (nat_eq x y) (alike t u) a in
         ap (λ o. spot_by_row b.table (memory_at o) x (words.value_of (source_value v path t))) (entity_is of other s)

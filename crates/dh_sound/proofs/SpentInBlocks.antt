@@ -8,11 +8,11 @@ use Rattle.dh_base.specs.declared.places.Place.{Place}
 use Rattle.dh_tree.specs.Elements.{Spot}
 use Rattle.dh_tree.specs.PlainTrees.{Program}
 use Rattle.dh_meaning.specs.AccessNumbers.{accesses_of}
-use Rattle.dh_meaning.specs.Bindings.{Binding, bindings_of}
+use Rattle.dh_meaning.specs.Bindings.{Binding}
 use Rattle.dh_meaning.specs.Effects.{Event, reads, writes, faults, is_at, spent}
 use Rattle.dh_meaning.specs.Paths.{Path, same_path}
 use Rattle.dh_meaning.specs.Sites.{nothing_around}
-use Rattle.dh_meets.specs.Charges.{depends, element_depends, picked, keys_reaching, charge}
+use Rattle.dh_meets.specs.Charges.{depends, entity_depends, element_depends, picked, keys_reaching, charge}
 use Rattle.dh_meets.specs.Sharing.{shared, shares_with, equal_reads}
 use Rattle.dh_meets.specs.SourceEvents.{SourceAccess, SourceEvent, accesses, assigned, accesses_in, trace}
 use Rattle.dh_meaning.specs.OnePhase.{in_one_phase}
@@ -24,11 +24,16 @@ use Rattle.dh_sound.proofs.MadeEvents.{read_there, write_there, made_there, spen
 use Rattle.dh_sound.proofs.PathsOfEvents.{AreOnce, IsOnce}
 use Rattle.dh_sound.proofs.Pigeons.{Has}
 use Rattle.dh_sound.specs.Trails.{count}
+use Rattle.dh_meaning.specs.Ways.{all_bindings_of}
+use Rattle.dh_sound.specs.Unled.{IsUnled}
+use Rattle.dh_meaning.specs.CoreOf.{known_of}
+use Rattle.dh_meaning.specs.Ways.{way_to}
+use Rattle.dh_meets.specs.Charges.{charge_by}
 
 -- a write depends on every loop, so that its key is its path
 picked_all : (bs : List Binding) (a : SourceAccess) → a.writes ≡ true → (level : ℕ) (path : Path) → picked (depends bs a) level path ≡ path
 picked_all bs a w level [] = refl
-picked_all bs a w level (copy ∷ path) = by a.writes w (element_depends bs level a.element) (picked_all bs a w (suc level) path)
+picked_all bs a w level (copy ∷ path) = by a.writes w (entity_depends bs level a.entity || element_depends bs level a.element) (picked_all bs a w (suc level) path)
   where
     by : (x : Bool) → x ≡ true → (y : Bool) → picked (depends bs a) (suc level) path ≡ path → (if x || y then copy ∷ picked (depends bs a) (suc level) path else picked (depends bs a) (suc level) path) ≡ copy ∷ path
     by true e y h = ap (λ l. copy ∷ l) h
@@ -141,7 +146,7 @@ module _ (p : Program) (entity memory bank : ℕ) (es : List Event) (told : AreT
 
   -- Writes.
   key_is_path : (n : ℕ) (path : Path) → IsOfAccess p n true → key_at p n path ≡ path
-  key_is_path n path a = ap (λ o. key_from p o path) a.listed ∙ picked_all (bindings_of p) a.of a.writes_it 0 path
+  key_is_path n path a = ap (λ o. key_from p o path) a.listed ∙ picked_all (all_bindings_of p) a.of a.writes_it 0 path
 
   apart_all : (m : Made) (ms : List Made) → ((o : Made) → Among o ms → m.writes ≡ true → o.writes ≡ true → m.number ≡ o.number → m.key ≡ o.key → ⊥) → WriteApart m ms
   apart_all m [] h = tt
@@ -189,31 +194,31 @@ module _ (p : Program) (entity memory bank : ℕ) (es : List Event) (told : AreT
   }
 
   -- Charges.
-  charges_same : (n : ℕ) → charged_by (shared p) (keys_at p entity bank) n ≡ charge p entity bank n
-  charges_same n = by (access_at p n) (shared p n)
+  charges_same : IsUnled (known_of p) → (n : ℕ) → charged_by (shared p) (keys_at p entity bank) n ≡ charge p entity bank n
+  charges_same unled n = by (access_at p n) (shared p n)
     where
       charge_with : Option ℕ → Option SourceAccess → ℕ
       charge_with s None = 0
-      charge_with s (Some a) = if is_some s then 0 else distinct_count same_path (keys_reaching p a entity bank)
+      charge_with s (Some a) = if is_some s then 0 else charge_by p (way_to p a.entity) a entity bank
 
       by : (o : Option SourceAccess) (s : Option ℕ) → charge_from s (keys_from p entity bank o) ≡ charge_with s o
       by None None = refl
       by None (Some j) = refl
-      by (Some a) None = refl
+      by (Some a) None = sym (ap (λ w. charge_by p w a entity bank) (unled a.entity))
       by (Some a) (Some j) = refl
 
-  sums_same : (chosen : ℕ → Bool) (n : ℕ) → sum_below (charged_by (shared p) (keys_at p entity bank)) chosen n ≡ sum_below (charge p entity bank) chosen n
-  sums_same chosen zero = refl
-  sums_same chosen (suc n) = ap (λ k. k + (if chosen n then charged_by (shared p) (keys_at p entity bank) n else 0)) (sums_same chosen n) ∙ ap (λ k. sum_below (charge p entity bank) chosen n + (if chosen n then k else 0)) (charges_same n)
+  sums_same : IsUnled (known_of p) → (chosen : ℕ → Bool) (n : ℕ) → sum_below (charged_by (shared p) (keys_at p entity bank)) chosen n ≡ sum_below (charge p entity bank) chosen n
+  sums_same unled chosen zero = refl
+  sums_same unled chosen (suc n) = ap (λ k. k + (if chosen n then charged_by (shared p) (keys_at p entity bank) n else 0)) (sums_same unled chosen n) ∙ ap (λ k. sum_below (charge p entity bank) chosen n + (if chosen n then k else 0)) (charges_same unled n)
 
   -- which accesses were made in the bank
   abbrev pub made_numbers : ℕ → Bool
   made_numbers n = was_made (made es) n
 
   -- what the bank spends is at most what they charge
-  pub spent_told : AreOnce es → spent es memory bank ≤ sum_below (charge p entity bank) made_numbers (accesses_of p.body)
-  spent_told once =
+  pub spent_told : IsUnled (known_of p) → AreOnce es → spent es memory bank ≤ sum_below (charge p entity bank) made_numbers (accesses_of p.body)
+  spent_told unled once =
       let l = spent_charged (shared p) (keys_at p entity bank) (made es) (accesses_of p.body) (is_made once) in
       let s = spent_there (key_at p) memory bank es in
-      let c = sums_same made_numbers (accesses_of p.body) in
+      let c = sums_same unled made_numbers (accesses_of p.body) in
       omega (arith, l, s, c)

@@ -4,7 +4,7 @@ use Rattle.std.proofs.Common.{◌≡◌, ℕ, ◌+◌, ◌≤◌, ◌==◌, ◌&
 use Rattle.std.proofs.lemmas.Bool.Decides.{nat_tests}
 use Rattle.dh_base.specs.declared.places.Place.{Place}
 use Rattle.dh_tree.specs.PhaseKinds.{choice_kind, turns_kind, phase_kind, form_phase_kind, other_phase_kind, groups_phase_kind, part_phase_kind}
-use Rattle.dh_tree.specs.PlainTrees.{Action, action, ActionForm, lets, lets_memory, views, assigns, stores, reduces, calls, blocks, decides, repeats, counts, MaybeAction, no_action, one_action, Actions, no_actions, action_then, Groups, no_groups, group_then}
+use Rattle.dh_tree.specs.PlainTrees.{shrinks, splits, suffixes, shifts, Action, action, ActionForm, lets, lets_memory, views, assigns, stores, reduces, calls, blocks, decides, repeats, counts, MaybeAction, no_action, one_action, Actions, no_actions, action_then, Groups, no_groups, group_then}
 use Rattle.dh_meaning.specs.AccessNumbers.{term_accesses, accesses_of, part_accesses}
 use Rattle.dh_meaning.specs.Phases.{Located, located, Phase, straight, turns, repeated, decided, of_list, one_straight, joined, are_straight, one_command, folded, turn_count, turn_phases, choice_phases, phases, form_phases, other_phases, groups_phases, parts_phases}
 use Rattle.dh_meaning.specs.Sites.{Around, in_arm, in_loop, loop_of}
@@ -264,7 +264,10 @@ mutual
   form_kinded : (f : ActionForm) (r : Around) (n id : ℕ) (place : Place) → Kinded (form_phase_kind f) (form_phases r n id place f)
   form_kinded (lets name declared value) r n id place = one_phase (located r n (action id place (lets name declared value))) [] refl refl
   form_kinded (lets_memory name shape shape_places value) r n id place = no_phase refl refl
-  form_kinded (views name parent form) r n id place = no_phase refl refl
+  form_kinded (views name parent (shrinks by by_place)) r n id place = no_phase refl refl
+  form_kinded (views name parent (splits by by_place)) r n id place = no_phase refl refl
+  form_kinded (views name parent (suffixes by by_place)) r n id place = one_phase (located r n (action id place (views name parent (suffixes by by_place)))) [] refl refl
+  form_kinded (views name parent (shifts by)) r n id place = one_phase (located r n (action id place (views name parent (shifts by)))) [] refl refl
   form_kinded (assigns target value) r n id place = one_phase (located r n (action id place (assigns target value))) [] refl refl
   form_kinded (stores target value) r n id place = one_phase (located r n (action id place (stores target value))) [] refl refl
   form_kinded (reduces target o value) r n id place = one_phase (located r n (action id place (reduces target o value))) [] refl refl

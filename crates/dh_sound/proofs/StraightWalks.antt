@@ -25,12 +25,19 @@ use Rattle.std.specs.List.{list_any}
 use Rattle.dh_meets.specs.Sharing.{same_truth, same_arm, all_arms_of}
 use Rattle.dh_sound.specs.Straight.{Stands, IsNamedTerm, IsTarget, IsNamedAction, IsNamedForm, IsNamedOther, AreNamedGroups, AreNamedActions}
 use Rattle.dh_sound.proofs.OnePath.{left_by, all_left_by, made_by, all_made_by}
-use Rattle.dh_sound.proofs.SourceValues.{memory_at, AgreeBut, numbers_aside, all_numbers_aside}
+use Rattle.dh_sound.proofs.SourceValues.{SameOffsets, way_of_entity, spot_named, memory_at, AgreeBut, numbers_aside, all_numbers_aside}
 use Rattle.dh_sound.proofs.KnownReads.{count_joined, Knows, knows_passed, knows_assigned, knows_idle, HasNoArm, NoneInArm, knows_inside, knows_outside}
 use Rattle.dh_sound.proofs.TermWalks.{IsNear, as_write, IsGood, Walk, walk_none, walk_then, Starts, first_starts, then_starts, read_here, walk_term, walk_terms, term_counted, terms_counted, operation_events}
 use Rattle.dh_sound.proofs.Makes.{makes_within, other_within, groups_within, part_within, two_within, form_counted, action_counted, part_counted, is_within_so, within_is, Within}
 use Rattle.dh_sound.proofs.Sites.{each_both, each_so, arms_within, StandsWithin, term_stands, action_stands, other_stands, part_stands}
 use Rattle.dh_sound.specs.Trails.{count, EachAccess, ArmsWithin}
+use Rattle.std.specs.List.{AllByRecursion}
+use Rattle.dh_meaning.specs.CoreOf.{reach_of, target_to, way_of}
+use Rattle.dh_meaning.specs.Effects.{spot_reached, terms_events}
+use Rattle.dh_meaning.specs.Ways.{Hidden, hidden_in}
+use Rattle.dh_ways.proofs.TargetsOnWays.{target_is, target_makes, offsets_same}
+use Rattle.dh_tree.specs.Seen.{terms}
+use Rattle.dh_meaning.specs.CoreOf.{kept_by}
 
 module _ (p : Program) (b : Begun) (known : Known) (path : Path) (in_block : ℕ → Bool)
     (share : (j k : ℕ) → in_one_phase p j k ≡ true → in_block k ≡ true → in_block j ≡ true) (v0 : Variables) (touched : ℕ → Bool) where
@@ -40,6 +47,17 @@ module _ (p : Program) (b : Begun) (known : Known) (path : Path) (in_block : ℕ
   abbrev Begins : Around → (before part : List SourceEvent) → Variables → List Event → (n : ℕ) → Type 0
   Begins r before part v es n = Starts p b known path in_block share v0 touched r before part v es n
 
+  -- no offset that a way keeps is touched: so it is by near variables what it was
+  abbrev pub AreStill : Type 0
+  AreStill = (entity : Option ℕ) → AllByRecursion (λ h. touched h.entity ≡ false) (hidden_in (way_of_entity b known entity))
+
+  near_offsets : (v w : Variables) → IsNear p b known path in_block share v0 touched v → IsNear p b known path in_block share v0 touched w → AreStill → SameOffsets b known v w path
+  near_offsets v w near close still entity = offsets_same b v w path (hidden_in (way_of_entity b known entity)) (each (hidden_in (way_of_entity b known entity)) (still entity))
+    where
+      each : (hs : List Hidden) → AllByRecursion (λ h. touched h.entity ≡ false) hs → AllByRecursion (λ h. v h.entity (take h.depth path) ≡ w h.entity (take h.depth path)) hs
+      each [] a = tt
+      each (h ∷ hs) a = (near h.entity (take h.depth path) a.0 ∙ sym (close h.entity (take h.depth path) a.0), each hs a.1)
+
   -- what a walk along a part of the trace starts from
   pub record Along (r : Around) (before part : List SourceEvent) (v : Variables) (es : List Event) (n : ℕ) : Type 0 where
     pub after : List SourceEvent
@@ -47,9 +65,11 @@ module _ (p : Program) (b : Begun) (known : Known) (path : Path) (in_block : ℕ
     pub number : n ≡ count before
     pub near : IsNear p b known path in_block share v0 touched v
     pub knows : Knows b known path in_block r before v es
+    -- nothing touches what ways keep
+    pub still : AreStill
 
   pub along_first : (r : Around) (before one two : List SourceEvent) (v : Variables) (es : List Event) (n : ℕ) → Along r before (one ++ two) v es n → Along r before one v es n
-  along_first r before one two v es n s = record { after = two ++ s.after; cut = s.cut ∙ ap (λ l. before ++ l) (append_assoc one two s.after); number = s.number; near = s.near; knows = s.knows }
+  along_first r before one two v es n s = record { after = two ++ s.after; cut = s.cut ∙ ap (λ l. before ++ l) (append_assoc one two s.after); number = s.number; near = s.near; knows = s.knows; still = s.still }
 
   pub along_then : (r : Around) (before one two : List SourceEvent) (v w : Variables) (es fs : List Event) (n m : ℕ) → Along r before (one ++ two) v es n → m ≡ n + count one → Steps r before one v w es fs
       → Along r (before ++ one) two w (es ++ fs) m
@@ -59,6 +79,7 @@ module _ (p : Program) (b : Begun) (known : Known) (path : Path) (in_block : ℕ
     number = let c = count_joined before one in let f = s.number in omega (arith, c, e, f);
     near = walk.near;
     knows = walk.knows;
+    still = s.still;
   }
 
   pub starts_so : (r : Around) (before part : List SourceEvent) (v : Variables) (es : List Event) (n : ℕ) → ((k : ℕ) → n ≤ k → k < n + count part → in_block k ≡ true) → Along r before part v es n → Begins r before part v es n
@@ -215,24 +236,27 @@ module _ (p : Program) (b : Begun) (known : Known) (path : Path) (in_block : ℕ
   set_agrees v entity q z e x other = sym (ap (λ c. if c && same_path x q then z else v e x) other)
 
   pub assigned_done : (r : Around) (before part : List SourceEvent) (v : Variables) (es fs : List Event) (x : Ref) (value : CoreTerm) (rest : CoreCommands) → Stands x → Touches (command_and (assigned known x value) rest)
-      → term_events b v path value ≡ fs → Steps r before part v v es fs
+      → term_events b v path value ≡ fs → AreStill → Steps r before part v v es fs
       → Done r before (part ++ source.assigned x.entity ∷ []) v es (command_and (assigned known x value) rest) rest
-  assigned_done r before part v es fs x value rest (entity, is) t made s = record {
+  assigned_done r before part v es fs x value rest (entity, is) t made still s = record {
     after = w;
     made = fs;
     left_is = refl;
     made_is = ap (λ l. l ++ all_made_by b path rest w) made;
     steps = record {
       knows = subst (λ (l : List SourceEvent). Knows b known path in_block r l w (es ++ fs)) (append_assoc before part (source.assigned x.entity ∷ []))
-          (subst (λ (o : Option ℕ). Knows b known path in_block r ((before ++ part) ++ source.assigned o ∷ []) w (es ++ fs)) (sym is) (knows_assigned b known path in_block r (before ++ part) v w (es ++ fs) entity s.knows agree));
+          (subst (λ (o : Option ℕ). Knows b known path in_block r ((before ++ part) ++ source.assigned o ∷ []) w (es ++ fs)) (sym is) (knows_assigned b known path in_block r (before ++ part) v w (es ++ fs) entity s.knows agree (near_offsets v w s.near near still)));
       good = s.good;
-      near = set_near v (entity_number x.entity) _ _ (t (entity_number x.entity) (or_left (nat_eq (entity_number x.entity) (entity_number x.entity)) _ (nat_eq_equiv.refl (entity_number x.entity)))) s.near;
+      near = near;
     };
     touches = λ e h. t e (or_right (nat_eq e (entity_number x.entity)) _ h);
   }
     where
       w : Variables
       w = set_variable v (entity_number x.entity) (take (depth_of known x) path) (words.value_of (value_of b v path value))
+
+      near : IsNear p b known path in_block share v0 touched w
+      near = set_near v (entity_number x.entity) _ _ (t (entity_number x.entity) (or_left (nat_eq (entity_number x.entity) (entity_number x.entity)) _ (nat_eq_equiv.refl (entity_number x.entity)))) s.near
 
       agree : AgreeBut b known entity v w
       agree = subst (λ (n : ℕ). AgreeBut b known n v w) (ap entity_number is) (set_agrees v (entity_number x.entity) (take (depth_of known x) path) (words.value_of (value_of b v path value)))
@@ -275,7 +299,7 @@ module _ (p : Program) (b : Begun) (known : Known) (path : Path) (in_block : ℕ
   }
 
   pub along_inside : (r : Around) (m : ℕ) (first : Bool) (before part : List SourceEvent) (v : Variables) (es : List Event) (n : ℕ) → BeforeBelow m before → Along r before part v es n → Along (in_arm r m first) before part v es n
-  along_inside r m first before part v es n f s = record { after = s.after; cut = s.cut; number = s.number; near = s.near; knows = knows_inside b known path in_block r before v es m first (fresh_arm m before f) s.knows }
+  along_inside r m first before part v es n f s = record { after = s.after; cut = s.cut; number = s.number; near = s.near; knows = knows_inside b known path in_block r before v es m first (fresh_arm m before f) s.knows; still = s.still }
 
   before_both : (m : ℕ) (one two : List SourceEvent) → BeforeBelow m one → BeforeBelow m two → BeforeBelow m (one ++ two)
   before_both m one two a c = each_both _ one two a c
@@ -289,11 +313,15 @@ module _ (p : Program) (b : Begun) (known : Known) (path : Path) (in_block : ℕ
       let s2 = then_starts p b known path in_block share v0 touched r before _ (write_events (site_of r m) (term at k (accessed x ts))) v v es _ n n2 s (e ∙ ap (λ c. n + c) (sym (term_counted (site_of r m) value))) w in
       let w2 = walk_terms p b known path in_block share v0 touched r m _ v _ n2 ts t (first_starts p b known path in_block share v0 touched r _ _ (one_access at x.entity (with_indices ts) true (site_of r m)) v _ n2 s2) in
       let s3 = then_starts p b known path in_block share v0 touched r _ _ (one_access at x.entity (with_indices ts) true (site_of r m)) v v _ _ n2 (n2 + terms_accesses ts) s2 (ap (λ c. n2 + c) (sym (terms_counted (site_of r m) ts))) w2 in
-      walk_then p b known path in_block share v0 touched r before _ _ v v v es _ _ w
-      (walk_then p b known path in_block share v0 touched r _ _ _ v v v _ _ _ w2
+      let reach = reach_of known (n2 + terms_accesses ts) at x in
+      let last = write_made reach path (kept_bits b.table reach.memory (value_of b v path (core_term known n value))) (spot_reached b v path reach (target_to (way_of known x) (core_terms known n2 ts))) in
+      subst (λ (l : List Event). Steps r before (source.term_events (site_of r m) value ++ write_events (site_of r m) (term at k (accessed x ts))) v v es (term_events b v path (core_term known n value) ++ (l ++ last ∷ [])))
+      (sym (target_makes b v path (way_of known x) (core_terms known n2 ts)))
+      (walk_then p b known path in_block share v0 touched r before _ _ v v v es _ _ w
+      (walk_then p b known path in_block share v0 touched r _ _ _ v v v _ (terms_events b v path (core_terms known n2 ts)) (last ∷ []) w2
       (read_here p b known path in_block share v0 touched r m _ v _ (n2 + terms_accesses ts) at x.entity (with_indices ts) true _ t
-      (as_write refl _ (ap (λ zs. write_made (record { number = n2 + terms_accesses ts; place = at; memory = memory_at b known x.entity }) path (kept_bits b.table (memory_at b known x.entity) (value_of b v path (core_term known n value))) (spot_by_indices b.table (memory_at b known x.entity) zs)) (all_numbers_aside b known v path n2 0 ts)))
-      s3))
+      (as_write refl _ (ap (λ s. write_made (record { number = n2 + terms_accesses ts; place = at; memory = memory_at b known x.entity }) path (kept_bits b.table (memory_at b known x.entity) (value_of b v path (core_term known n value))) s) (target_is b v path (reach_of known (n2 + terms_accesses ts) at x) (way_of known x) (core_terms known n2 ts) ∙ ap (λ zs. spot_named b known v path x.entity zs) (all_numbers_aside b known v path n2 0 ts))))
+      s3)))
   write_steps r m before v es n n2 (term at k (in_bank x bank bp t)) value tn nv e s =
       let w = walk_term p b known path in_block share v0 touched r m before v es n value nv (first_starts p b known path in_block share v0 touched r before _ (write_events (site_of r m) (term at k (in_bank x bank bp t))) v es n s) in
       let s2 = then_starts p b known path in_block share v0 touched r before _ (write_events (site_of r m) (term at k (in_bank x bank bp t))) v v es _ n n2 s (e ∙ ap (λ c. n + c) (sym (term_counted (site_of r m) value))) w in
@@ -483,15 +511,15 @@ module _ (p : Program) (b : Begun) (known : Known) (path : Path) (in_block : ℕ
         → Agrees n (own_accesses f + inner_accesses f) (λ k. form_makes k n f) → ArmsBelow m r.arms → BeforeBelow m before → Touches (core_action_form known n f rest) → Along r before (command_events r (site_of r m) f) v es n
         → Done r before (command_events r (site_of r m) f) v es (core_action_form known n f rest) rest
     walk_form r m before v es n (lets name declared None) rest h nv a below fresh t s =
-        assigned_done r before [] v es [] name (first_value known n declared None) rest nv.0 t refl (walk_none p b known path in_block share v0 touched r before v es s.near s.knows)
+        assigned_done r before [] v es [] name (first_value known n declared None) rest nv.0 t refl s.still (walk_none p b known path in_block share v0 touched r before v es s.near s.knows)
     walk_form r m before v es n (lets name declared (Some value)) rest h nv a below fresh t s =
-        assigned_done r before _ v es _ name (core_term known n value) rest nv.0 t refl
+        assigned_done r before _ v es _ name (core_term known n value) rest nv.0 t refl s.still
         (walk_term p b known path in_block share v0 touched r m before v es n value nv.1 (value_start r m before v es n value (source.assigned name.entity ∷ []) (term_accesses value + 0) a (omega arith) s))
     walk_form r m before v es n (assigns target value) rest h nv a below fresh t s =
-        assigned_done r before _ v es _ target (core_term known n value) rest nv.0 t refl
+        assigned_done r before _ v es _ target (core_term known n value) rest nv.0 t refl s.still
         (walk_term p b known path in_block share v0 touched r m before v es n value nv.1 (value_start r m before v es n value (source.assigned target.entity ∷ []) (term_accesses value + 0) a (omega arith) s))
     walk_form r m before v es n (reduces target o value) rest h nv a below fresh t s =
-        assigned_done r before _ v es _ target _ rest nv.0 t (operation_events p b known path in_block share v0 touched v o (meaning.kind_of known target) (kind_found value) _ (core_term known n value))
+        assigned_done r before _ v es _ target _ rest nv.0 t (operation_events p b known path in_block share v0 touched v o (meaning.kind_of known target) (kind_found value) _ (core_term known n value)) s.still
         (walk_term p b known path in_block share v0 touched r m before v es n value nv.1 (value_start r m before v es n value (source.assigned target.entity ∷ []) (term_accesses value + 0) a (omega arith) s))
     walk_form r m before v es n (stores target value) rest h nv a below fresh t s =
         command_done r before _ v es (store_to known (n + term_accesses value) target (core_term known n value)) rest (store_left (n + term_accesses value) target (core_term known n value) v nv.0) t
@@ -500,7 +528,10 @@ module _ (p : Program) (b : Begun) (known : Known) (path : Path) (in_block : ℕ
         (λ k l u. own_inside n (term_accesses value + term_accesses target) (term_accesses value + term_accesses target + 0) a (omega arith) k l
         (let c = form_counted r (site_of r m) m (stores target value) nv refl in omega (arith, u, c))) s))
     walk_form r m before v es n (lets_memory name shape shape_places value) rest h nv a below fresh t s = done_nothing r before [] v es rest (walk_none p b known path in_block share v0 touched r before v es s.near s.knows) t
-    walk_form r m before v es n (views name parent form) rest h nv a below fresh t s = done_nothing r before [] v es rest (walk_none p b known path in_block share v0 touched r before v es s.near s.knows) t
+    walk_form r m before v es n (views name parent form) rest h nv a below fresh t s =
+        let kept : List Term → CoreCommands = (λ ts. kept_by (hidden_in (way_of known name)) (core_terms known n (terms ts)) rest) in
+        subst (λ (ts : List Term). Done r before (source.terms_events (site_of r m) (terms ts)) v es (kept ts) rest) (sym nv.1)
+        (done_nothing r before [] v es rest (walk_none p b known path in_block share v0 touched r before v es s.near s.knows) (subst (λ (ts : List Term). Touches (kept ts)) nv.1 t))
     walk_form r m before v es n (calls function arguments) rest h nv a below fresh t s = done_nothing r before [] v es rest (walk_none p b known path in_block share v0 touched r before v es s.near s.knows) t
     walk_form r m before v es n (repeats test body) rest h nv a below fresh t s =
         idle_done r before (command_events r (site_of r m) (repeats test body)) v es n (term_accesses test + accesses_of body) rest (form_counted r (site_of r m) m (repeats test body) nv refl) a t s

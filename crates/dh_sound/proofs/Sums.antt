@@ -70,7 +70,7 @@ module _ (charge : ℕ → ℕ) (chosen : ℕ → Bool) where
     command_total : (u : Bool) (n : ℕ) (f : ActionForm) → total charge chosen (command_meets u n f) ≡ sum_from n (own_accesses f + inner_accesses f)
     command_total u n (lets name declared value) = as_count n (own_accesses (lets name declared value)) (own_accesses (lets name declared value) + 0) _ (omega arith) (row_total n (own_accesses (lets name declared value)))
     command_total u n (lets_memory name shape shape_places value) = refl
-    command_total u n (views name parent form) = refl
+    command_total u n (views name parent form) = as_count n (own_accesses (views name parent form)) (own_accesses (views name parent form) + 0) _ (omega arith) (row_total n (own_accesses (views name parent form)))
     command_total u n (assigns target value) = as_count n (own_accesses (assigns target value)) (own_accesses (assigns target value) + 0) _ (omega arith) (row_total n (own_accesses (assigns target value)))
     command_total u n (stores target value) = as_count n (own_accesses (stores target value)) (own_accesses (stores target value) + 0) _ (omega arith) (row_total n (own_accesses (stores target value)))
     command_total u n (reduces target op value) = as_count n (own_accesses (reduces target op value)) (own_accesses (reduces target op value) + 0) _ (omega arith) (row_total n (own_accesses (reduces target op value)))
@@ -160,7 +160,7 @@ mutual
   command_within : (k : ℕ) (u : Bool) (n : ℕ) (f : ActionForm) → In k (command_meets u n f) → Within k n (own_accesses f + inner_accesses f)
   command_within k u n (lets name declared value) h = within_end k n (own_accesses (lets name declared value)) (row_within k n (own_accesses (lets name declared value)) h)
   command_within k u n (lets_memory name shape shape_places value) h = elim h [ ]
-  command_within k u n (views name parent form) h = elim h [ ]
+  command_within k u n (views name parent form) h = within_end k n (own_accesses (views name parent form)) (row_within k n (own_accesses (views name parent form)) h)
   command_within k u n (assigns target value) h = within_end k n (own_accesses (assigns target value)) (row_within k n (own_accesses (assigns target value)) h)
   command_within k u n (stores target value) h = within_end k n (own_accesses (stores target value)) (row_within k n (own_accesses (stores target value)) h)
   command_within k u n (reduces target op value) h = within_end k n (own_accesses (reduces target op value)) (row_within k n (own_accesses (reduces target op value)) h)
@@ -195,7 +195,7 @@ mutual
   within_command : (k : ℕ) (u : Bool) (n : ℕ) (f : ActionForm) → Within k n (own_accesses f + inner_accesses f) → In k (command_meets u n f)
   within_command k u n (lets name declared value) w = row_in k n (own_accesses (lets name declared value)) (within_plain_end k n (own_accesses (lets name declared value)) w)
   within_command k u n (lets_memory name shape shape_places value) w = within_none k n w
-  within_command k u n (views name parent form) w = within_none k n w
+  within_command k u n (views name parent form) w = row_in k n (own_accesses (views name parent form)) (within_plain_end k n (own_accesses (views name parent form)) w)
   within_command k u n (assigns target value) w = row_in k n (own_accesses (assigns target value)) (within_plain_end k n (own_accesses (assigns target value)) w)
   within_command k u n (stores target value) w = row_in k n (own_accesses (stores target value)) (within_plain_end k n (own_accesses (stores target value)) w)
   within_command k u n (reduces target op value) w = row_in k n (own_accesses (reduces target op value)) (within_plain_end k n (own_accesses (reduces target op value)) w)

@@ -27,9 +27,12 @@ use Rattle.dh_meets.specs.SourceEvents as source
 use Rattle.dh_meets.specs.Sharing.{alike_elements, reassigned, all_arms_of, shares_with, shared}
 use Rattle.dh_sound.specs.Straight.{IsNamedTerm, AreNamedTerms}
 use Rattle.dh_sound.proofs.Pigeons.{Has, has_left, has_right, has_either}
-use Rattle.dh_sound.proofs.SourceValues.{memory_at, source_spot, IsNamedElement, numbers_aside, all_numbers_aside, entity_is}
+use Rattle.dh_sound.proofs.SourceValues.{spot_named, memory_at, source_spot, IsNamedElement, numbers_aside, all_numbers_aside, entity_is}
 use Rattle.dh_sound.proofs.KnownReads.{count_joined, reach_at, Knows, knows_on, knows_access, shared_found}
 use Rattle.dh_sound.specs.Trails.{count}
+use Rattle.dh_ways.proofs.TargetsOnWays.{target_is, target_makes}
+use Rattle.dh_meaning.specs.CoreOf.{reach_of, target_to, way_of}
+use Rattle.dh_meaning.specs.Effects.{spot_reached}
 
 -- How many accesses the trace has for an expression.
 mutual
@@ -266,10 +269,14 @@ module _ (p : Program) (b : Begun) (known : Known) (path : Path) (in_block : ℕ
     walk_term r id before v es n (term place k (named x)) names s = walk_none r before v es s.near s.knows
     walk_term r id before v es n (term place k (accessed x ts)) names s =
         let w = walk_terms r id before v es n ts names (first_starts r before _ (one_access place x.entity (with_indices ts) false (site_of r id)) v es n s) in
-        walk_then r before _ _ v v v es _ _ w
+        let to = target_to (way_of known x) (core_terms known n ts) in
+        let reach = reach_of known (n + terms_accesses ts) place x in
+        subst (λ (l : List Event). Walk r before (source.term_events (site_of r id) (term place k (accessed x ts))) v v es (l ++ read_made reach path (spot_reached b v path reach to) ∷ []))
+        (sym (target_makes b v path (way_of known x) (core_terms known n ts)))
+        (walk_then r before _ _ v v v es (terms_events b v path (core_terms known n ts)) (read_made reach path (spot_reached b v path reach to) ∷ []) w
         (read_here r id _ v _ (n + terms_accesses ts) place x.entity (with_indices ts) false _ names
-        (as_read refl (ap (λ zs. read_made (record { number = n + terms_accesses ts; place = place; memory = memory_at b known x.entity }) path (spot_by_indices b.table (memory_at b known x.entity) zs)) (all_numbers_aside b known v path n 0 ts)))
-        (then_starts r before _ (one_access place x.entity (with_indices ts) false (site_of r id)) v v es _ n _ s (ap (λ c. n + c) (sym (terms_counted (site_of r id) ts))) w))
+        (as_read refl (ap (λ s. read_made reach path s) (target_is b v path reach (way_of known x) (core_terms known n ts) ∙ ap (λ zs. spot_named b known v path x.entity zs) (all_numbers_aside b known v path n 0 ts))))
+        (then_starts r before _ (one_access place x.entity (with_indices ts) false (site_of r id)) v v es _ n _ s (ap (λ c. n + c) (sym (terms_counted (site_of r id) ts))) w)))
     walk_term r id before v es n (term place k (in_bank x bank at t)) names s =
         let w = walk_term r id before v es n t names (first_starts r before _ (one_access place x.entity (in_row bank t) false (site_of r id)) v es n s) in
         walk_then r before _ _ v v v es _ _ w

@@ -214,7 +214,7 @@ module _ (j k : ℕ) where
     form_meet : (r : Around) (u : Bool) (n id : ℕ) (place : Place) (f : ActionForm) → Meet (form_phases r n id place f) (command_meets u n f)
     form_meet r u n id place (lets name declared value) c h a b apart = row_apart n _ j k apart
     form_meet r u n id place (lets_memory name shape shape_places value) c h a b apart = apart
-    form_meet r u n id place (views name parent form) c h a b apart = apart
+    form_meet r u n id place (views name parent form) c h a b apart = row_apart n _ j k apart
     form_meet r u n id place (assigns target value) c h a b apart = row_apart n _ j k apart
     form_meet r u n id place (stores target value) c h a b apart = row_apart n _ j k apart
     form_meet r u n id place (reduces target op value) c h a b apart = row_apart n _ j k apart

@@ -4,7 +4,7 @@
 -- none where k is not one of these numbers.
 use Rattle.std.proofs.Common.{◌≡◌, ℕ, ◌+◌, ◌<◌, ◌≤◌, ◌==◌, ◌&&◌, ◌||◌, ◌⊎◌, inl, inr, Bool, true, false, if◌then◌else◌, List, [], ◌∷◌, ◌++◌, refl, ap, arith}
 use Rattle.std.proofs.lemmas.Bool.Decides.{nat_tests}
-use Rattle.dh_tree.specs.PlainTrees.{Action, action, ActionForm, lets, lets_memory, views, assigns, stores, reduces, calls, blocks, decides, repeats, counts, MaybeAction, no_action, one_action, Actions, no_actions, action_then, Groups, no_groups, group_then, Program}
+use Rattle.dh_tree.specs.PlainTrees.{shrinks, splits, suffixes, shifts, Action, action, ActionForm, lets, lets_memory, views, assigns, stores, reduces, calls, blocks, decides, repeats, counts, MaybeAction, no_action, one_action, Actions, no_actions, action_then, Groups, no_groups, group_then, Program}
 use Rattle.dh_meaning.specs.AccessNumbers.{term_accesses, own_accesses, accesses_of, inner_accesses, other_accesses, part_accesses, groups_accesses}
 use Rattle.dh_meaning.specs.Sites.{Around, nothing_around, in_arm, in_loop, loop_of}
 use Rattle.dh_meaning.specs.Phases.{Located, Phase, straight, turns, repeated, decided, Phases, no_phases, phase, of_list, one_straight, joined, are_straight, one_command, folded, turn_count, turn_phases, choice_phases, located, phases, form_phases, other_phases, groups_phases, parts_phases, phases_of, unless_turns, idle_phases, idle_form_phases, idle_other_phases, idle_groups_phases, idle_part_phases, idle_phases_of}
@@ -153,7 +153,10 @@ module _ (k : ℕ) where
     form_times r n id place (counts iterator declared low high factor body combine combine_place) = omega arith
     form_times r n id place (blocks body) = groups_times r n body
     form_times r n id place (lets_memory name shape shape_places value) = omega arith
-    form_times r n id place (views name parent form) = omega arith
+    form_times r n id place (views name parent (shrinks by by_place)) = let z = span_none k n in omega (arith, z)
+    form_times r n id place (views name parent (splits by by_place)) = let z = span_none k n in omega (arith, z)
+    form_times r n id place (views name parent (suffixes by by_place)) = omega arith
+    form_times r n id place (views name parent (shifts by)) = omega arith
     form_times r n id place (calls function arguments) = omega arith
 
     pub other_times : (r : Around) (n : ℕ) (o : MaybeAction) → bit (other_makes k n o) ≤ times k (other_phases r n o)
@@ -260,7 +263,10 @@ module _ (k : ℕ) where
         let g = groups_within r n body in
         omega (arith, e, g)
     form_within r n id place (lets_memory name shape shape_places value) = none_within n _
-    form_within r n id place (views name parent form) = none_within n _
+    form_within r n id place (views name parent (shrinks by by_place)) = none_within n _
+    form_within r n id place (views name parent (splits by by_place)) = none_within n _
+    form_within r n id place (views name parent (suffixes by by_place)) = one_within n (own_accesses (views name parent (suffixes by by_place)))
+    form_within r n id place (views name parent (shifts by)) = one_within n (own_accesses (views name parent (shifts by)))
     form_within r n id place (calls function arguments) = none_within n _
 
     pub other_within : (r : Around) (n : ℕ) (o : MaybeAction) → times k (other_phases r n o) + times k (idle_other_phases r n o) ≤ span k n (other_accesses o)

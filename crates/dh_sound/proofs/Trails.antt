@@ -6,7 +6,7 @@ use Rattle.std.proofs.lemmas.List.{append_assoc, append-nil}
 use Rattle.dh_base.specs.declared.places.Place.{Place}
 use Rattle.dh_tree.specs.declared.trees.counters.Counter.{Counter}
 use Rattle.dh_tree.specs.Numbers.{commands_in, commands_in_part, IsNumbered, IsNumberedInside, IsNumberedOther, AreNumberedGroups, AreNumbered}
-use Rattle.dh_tree.specs.PlainTrees.{Action, action, ActionForm, lets, lets_memory, views, assigns, stores, reduces, calls, blocks, decides, repeats, counts, MaybeAction, no_action, one_action, Actions, no_actions, action_then, Groups, no_groups, group_then, Program}
+use Rattle.dh_tree.specs.PlainTrees.{shrinks, splits, suffixes, shifts, Action, action, ActionForm, lets, lets_memory, views, assigns, stores, reduces, calls, blocks, decides, repeats, counts, MaybeAction, no_action, one_action, Actions, no_actions, action_then, Groups, no_groups, group_then, Program}
 use Rattle.dh_meaning.specs.AccessNumbers.{term_accesses, accesses_of, part_accesses}
 use Rattle.dh_meaning.specs.Phases.{Located, located, Phase, straight, turns, repeated, decided, Phases, no_phases, phase, of_list, one_straight, joined, are_straight, one_command, folded, turn_phases, choice_phases, phases, form_phases, other_phases, groups_phases, parts_phases, phases_of}
 use Rattle.dh_meaning.specs.Sites.{Arm, Around, nothing_around, in_arm, in_loop, loop_of}
@@ -284,7 +284,10 @@ mutual
   form_tops r m n before place (stores target value) h nv s = (alone_follows r before _ _ refl (here_behind r m n before (action m place (stores target value)) (refl, h) nv s), tt)
   form_tops r m n before place (reduces target op value) h nv s = (alone_follows r before _ _ refl (here_behind r m n before (action m place (reduces target op value)) (refl, h) nv s), tt)
   form_tops r m n before place (lets_memory name shape shape_places value) h nv s = tt
-  form_tops r m n before place (views name parent form) h nv s = tt
+  form_tops r m n before place (views name parent (shrinks by by_place)) h nv s = tt
+  form_tops r m n before place (views name parent (splits by by_place)) h nv s = tt
+  form_tops r m n before place (views name parent (suffixes by by_place)) h nv s = (alone_follows r before _ _ refl (here_behind r m n before (action m place (views name parent (suffixes by by_place))) (refl, h) nv s), tt)
+  form_tops r m n before place (views name parent (shifts by)) h nv s = (alone_follows r before _ _ refl (here_behind r m n before (action m place (views name parent (shifts by))) (refl, h) nv s), tt)
   form_tops r m n before place (calls function arguments) h nv s = tt
   form_tops r m n before place (blocks body) h nv s = groups_tops r (suc m) n before body h nv (record { first = s.first; arms = below_up m (suc m) r.arms (omega arith) s.arms; fresh = all_up m (suc m) before (omega arith) s.fresh })
   form_tops r m n before place (decides test chosen other) h nv s =

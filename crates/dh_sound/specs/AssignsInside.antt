@@ -1,10 +1,18 @@
 -- A command of the source assigns only to variables that are declared inside all the unrolled loops round it, so that
 -- they have a value for each copy; but for reducers in blocks that join copies.
-use Rattle.std.specs.Prelude.{ℕ, ◌≤◌}
+use Rattle.std.specs.Prelude.{ℕ, ◌+◌, ◌≤◌, ◌<◌, List, [], ◌∷◌, length}
 use Rattle.dh_tree.specs.PlainTrees.{Action, action, ActionForm, lets, lets_memory, views, assigns, stores, reduces, calls, blocks, decides, repeats, counts, MaybeAction, no_action, one_action, Actions, no_actions, action_then, Groups, no_groups, group_then}
 use Rattle.dh_meaning.specs.Bindings.{depth_inside}
-use Rattle.dh_meaning.specs.CoreOf.{Known, depth_of}
+use Rattle.dh_tree.specs.ViewOffsets.{offsets_of}
+use Rattle.dh_meaning.specs.Bindings.{binding_in, depth_bound}
+use Rattle.dh_meaning.specs.CoreOf.{Known, depth_of, way_of}
+use Rattle.dh_meaning.specs.Ways.{Hidden, hidden_in}
 use Rattle.dh_sound.specs.SimpleForms.{JoinsFolds}
+
+-- a view keeps so many offsets, from the first of these variables on: all are declared inside, as they are kept
+abbrev pub KeepsInside : Known → (depth : ℕ) → List Hidden → (count : ℕ) → Type 0
+KeepsInside known d [] count = Unit {0}
+KeepsInside known d (h ∷ hs) count = (d ≤ h.depth) × ((e : ℕ) → h.entity ≤ e → e < h.entity + count → d ≤ depth_bound (binding_in known.bindings e))
 
 abbrev mutual
   -- so many unrolled loops stand round it
@@ -14,7 +22,7 @@ abbrev mutual
   pub FormAssignsInside : Known → (depth : ℕ) → ActionForm → Type 0
   FormAssignsInside known d (lets name declared value) = d ≤ depth_of known name
   FormAssignsInside known d (lets_memory name shape shape_places value) = Unit {0}
-  FormAssignsInside known d (views name parent form) = Unit {0}
+  FormAssignsInside known d (views name parent form) = KeepsInside known d (hidden_in (way_of known name)) (length (offsets_of form))
   FormAssignsInside known d (assigns target value) = d ≤ depth_of known target
   FormAssignsInside known d (stores target value) = Unit {0}
   FormAssignsInside known d (reduces target o value) = d ≤ depth_of known target

@@ -27,3 +27,5 @@ pub mod BlocksCovered
 pub mod StepsCovered
 pub mod Joins
 pub mod StraightKinds
+pub mod Unled
+pub mod BehindViews

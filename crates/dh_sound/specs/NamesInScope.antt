@@ -7,7 +7,9 @@ use Rattle.dh_meaning.specs.Bindings.{binding_in}
 use Rattle.dh_meaning.specs.Core.{Turning}
 use Rattle.dh_meaning.specs.CoreOf.{Known, turning_of}
 use Rattle.dh_meaning.specs.Phases.{turn_count}
-use Rattle.dh_sound.specs.SameKeys.{EachName, IsNoIterator, IsIteratorOf}
+use Rattle.dh_sound.specs.SameKeys.{EachName, EachNameOf, IsNoIterator, IsIteratorOf}
+use Rattle.dh_tree.specs.Seen.{terms}
+use Rattle.dh_tree.specs.ViewOffsets.{offsets_of}
 
 -- A name stands for a variable that is no iterator, or for the iterator of one of these loops.
 pub data InScope (known : Known) (loops : List Turning) (r : Ref) : Type 0 where
@@ -29,7 +31,7 @@ abbrev mutual
   pub FormScoped : Known → (loops : List Turning) → ActionForm → Type 0
   FormScoped known loops (lets name declared value) = MaybeInScope known loops value
   FormScoped known loops (lets_memory name shape shape_places value) = Unit {0}
-  FormScoped known loops (views name parent form) = Unit {0}
+  FormScoped known loops (views name parent form) = EachNameOf (InScope known loops) (terms (offsets_of form))
   FormScoped known loops (assigns target value) = EachInScope known loops value
   FormScoped known loops (stores target value) = EachInScope known loops target × EachInScope known loops value
   FormScoped known loops (reduces target op value) = EachInScope known loops value

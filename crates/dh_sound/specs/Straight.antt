@@ -1,9 +1,11 @@
 -- What is asked of straight commands so that a walk along the trace can follow them: names that are used as
 -- variables stand for something, and a store's target is an access. All of it holds of a resolved program of a
--- text.
-use Rattle.std.specs.Prelude.{◌≡◌, ℕ, Option, Some, None}
+-- text. (Of views that move, which keep offsets, nothing is told yet.)
+use Rattle.std.specs.Prelude.{◌≡◌, ℕ, [], Option, Some, None}
 use Rattle.dh_tree.specs.declared.trees.expressions.Ref.{Ref}
 use Rattle.dh_tree.specs.PlainTrees.{Term, term, TermForm, number, truth_value, named, accessed, in_bank, applied, converted, Terms, no_terms, term_then, Action, action, ActionForm, lets, lets_memory, views, assigns, stores, reduces, calls, blocks, decides, repeats, counts, MaybeAction, no_action, one_action, Actions, no_actions, action_then, Groups, no_groups, group_then}
+use Rattle.dh_tree.specs.Seen.{terms}
+use Rattle.dh_tree.specs.ViewOffsets.{offsets_of}
 
 -- a name stands for something
 abbrev pub Stands : Ref → Type 0
@@ -47,7 +49,7 @@ abbrev mutual
   pub IsNamedForm : ActionForm → Type 0
   IsNamedForm (lets name declared value) = Stands name × MaybeNamed value
   IsNamedForm (lets_memory name shape shape_places value) = Unit {0}
-  IsNamedForm (views name parent form) = Unit {0}
+  IsNamedForm (views name parent form) = AreNamedTerms (terms (offsets_of form)) × (offsets_of form ≡ [])
   IsNamedForm (assigns target value) = Stands target × IsNamedTerm value
   IsNamedForm (stores target value) = IsTarget target × IsNamedTerm value
   IsNamedForm (reduces target op value) = Stands target × IsNamedTerm value

@@ -4,17 +4,17 @@ use Rattle.std.specs.Set.{is_member}
 use Rattle.dh_base.specs.declared.places.Place.{Place}
 use Rattle.dh_tree.specs.Elements.{Spot}
 use Rattle.dh_tree.specs.PlainTrees.{Program}
-use Rattle.dh_meaning.specs.Bindings.{bindings_of}
 use Rattle.dh_meaning.specs.Effects.{Event, reads, writes, is_at}
 use Rattle.dh_meaning.specs.Paths.{Path, same_path}
 use Rattle.dh_meets.specs.Charges.{key_of, keys_reaching}
 use Rattle.dh_meets.specs.Sharing.{shared}
 use Rattle.dh_meets.specs.SourceEvents.{SourceAccess, accesses_in, trace}
+use Rattle.dh_meaning.specs.Ways.{all_bindings_of}
 
 -- the key of an access at a path, by its number
 abbrev pub key_from : Program → Option SourceAccess → Path → List ℕ
 key_from p None path = []
-key_from p (Some a) path = key_of (bindings_of p) a path
+key_from p (Some a) path = key_of (all_bindings_of p) a path
 
 abbrev pub access_at : Program → ℕ → Option SourceAccess
 access_at p n = slice_get (accesses_in (trace p)) n

@@ -5,11 +5,13 @@
 ghost use Rattle.std.specs.Prelude.{◌≡◌, [], None};
 ghost use Rattle.dh_tree.specs.Excesses.{first_excess};
 ghost use Rattle.dh_tree.specs.Indices.{index_breaches_of};
+ghost use Rattle.dh_tree.specs.ViewBreaches.{view_breaches_of};
 ghost use Rattle.dh_tree.specs.PlainTrees.{Program, Action};
 ghost use Rattle.dh_tree.specs.Ready.{IsReady};
 ghost use Rattle.dh_meaning.specs.CoreOf.{core_of};
 ghost use Rattle.dh_meets.specs.Ports.{KeepsPorts, KeepsPortRules};
 ghost use Rattle.dh_sound.specs.Accepted.{IsAccepted};
+ghost use Rattle.dh_sound.specs.BehindViews.{StandsBehindViews};
 ghost use Rattle.dh_sound.specs.BlocksCovered.{BlocksCovered, BlocksKept};
 ghost use Rattle.dh_sound.specs.IndexValues.{IsTypedProgram, AccessesReachBanks};
 ghost use Rattle.dh_meets.specs.FewCopies.{HasFewCopies, NamesBanks};
@@ -77,5 +79,13 @@ pub fn accepted_programs_are_never_stuck()
 /// a bank names a bank that its memory has.
 pub fn ready_accesses_are_told()
     ensures copies { (p : Program) → index_breaches_of p ≡ [] → first_excess p ≡ None → HasFewCopies p }
-    ensures banks { (p : Program) → index_breaches_of p ≡ [] → NamesBanks p }
+    ensures banks { (p : Program) → index_breaches_of p ≡ [] → view_breaches_of p ≡ []
+        → NamesBanks p }
+{}
+
+/// The names of a ready program stand behind the views that they lead through: the offsets on their ways are kept in
+/// variables of views before them, a view keeps its own in the next ones, and none of these is assigned to.
+#[tactic(auto, using(crate::proofs::ViewsBefore::stands_behind))]
+pub fn names_stand_behind_their_views()
+    ensures { (p : Program) → IsReady p → StandsBehindViews p }
 {}

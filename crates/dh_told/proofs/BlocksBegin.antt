@@ -25,9 +25,8 @@ use Rattle.dh_laid.specs.Laid.{HadKind, StandsRound}
 use Rattle.dh_laid.specs.LaidCommands.{StandsHeld}
 use Rattle.dh_laid.specs.LaidNumbers.{StoresReach}
 use Rattle.dh_laid.specs.LaidQuiet.{StandsIn}
+use Rattle.dh_laid.proofs.SitesLaid.{command_sites_long, term_sites_long}
 use Rattle.dh_gathering.specs.Growing.{IsClear}
-use Rattle.dh_typed_laid.proofs.CommandsSuit.{command_long}
-use Rattle.dh_typed_laid.proofs.PlacesOfSites.{term_long}
 
 -- Guards.
 
@@ -120,7 +119,7 @@ bare_sites scene around (c ∷ cs) old new (mid, (next, (m, rest))) a reach bare
     by (places_from c.first (command_sites scene c.command around old mid c.first next m) number) refl e (λ g. bare_sites scene around cs mid new rest a reach.1 bare.1 number s g)
   where
     long : length (command_sites scene c.command around old mid c.first next m) ≡ accesses_of c.command
-    long = command_long scene c.command around old mid c.first next m reach.0
+    long = command_sites_long scene c.command around old mid c.first next m reach.0
 
     by : (o : Option Site) → places_from c.first (command_sites scene c.command around old mid c.first next m) number ≡ o → site_or o (block_sites scene around cs mid new rest number) ≡ Some s
         → (block_sites scene around cs mid new rest number ≡ Some s → (number < length a.touched.items) × (touched_in a number ≡ None)) → (number < length a.touched.items) × (touched_in a number ≡ None)
@@ -136,7 +135,7 @@ bare_test scene around first t a bare number s e = by (nat_lt number first) refl
     by : (b : Truth) → nat_lt number first ≡ b → (if b then None else slice_get (term_sites scene around t) (number - first)) ≡ Some s → (number < length a.touched.items) × (touched_in a number ≡ None)
     by true f g = absurd cc
     by false f g =
-        bare_at a first (term_accesses t) number bare (low number first f) (subst (λ (n : ℕ). number - first < n) (term_long scene around t) (slice_get_within (term_sites scene around t) (number - first) s g))
+        bare_at a first (term_accesses t) number bare (low number first f) (subst (λ (n : ℕ). number - first < n) (term_sites_long scene around t) (slice_get_within (term_sites scene around t) (number - first) s g))
       where
         low : (n m : ℕ) → nat_lt n m ≡ false → m ≤ n
         low n m f = grind (arith, nat_tests)

@@ -1,11 +1,8 @@
 -- Blocks that were made are formed: what was put down for commands or a test, and behind it the registers that are set.
-use Rattle.std.proofs.Common.{◌≡◌, ℕ, zero, suc, ◌+◌, ◌-◌, ◌<◌, ◌≤◌, Bool as Truth, true, false, if◌then◌else◌, List, [], ◌∷◌, ◌++◌, length, Option, Some, None, refl, ap, sym, ◌∙◌, subst, arith, length-append}
-use Rattle.std.specs.Prelude.{nat_lt, slice_get}
-use Rattle.std.proofs.lemmas.Bool.Decides.{nat_tests}
+use Rattle.std.proofs.Common.{◌≡◌, ℕ, zero, suc, ◌+◌, ◌-◌, ◌<◌, ◌≤◌, Bool as Truth, true, false, List, [], ◌∷◌, ◌++◌, length, Option, Some, refl, ap, sym, ◌∙◌, subst, arith}
+use Rattle.std.specs.Prelude.{slice_get}
 use Rattle.std.specs.List.{AllByRecursion}
 use Rattle.std.proofs.lemmas.Option.{slice_get_within}
-use Rattle.dh_base.specs.declared.outcomes.FaultKind.{FaultKind}
-use Rattle.dh_base.specs.declared.places.Place.{Place}
 use Rattle.dh_value.specs.declared.kinds.Kind.{Kind}
 use Rattle.dh_value.specs.declared.kinds.Kind.TheVariants as kind
 use Rattle.dh_value.specs.declared.operators.Op.TheVariants.{Both}
@@ -14,7 +11,7 @@ use Rattle.dh_tree.specs.Memories.{table_of}
 use Rattle.dh_tree.specs.Seen.{program_seen}
 use Rattle.dh_meaning.specs.Phases.{Located}
 use Rattle.dh_plan.specs.declared.operations.Operation.{Operation}
-use Rattle.dh_plan.specs.declared.operations.OperationForm.TheVariants.{Compute, Set}
+use Rattle.dh_plan.specs.declared.operations.OperationForm.TheVariants.{Compute}
 use Rattle.dh_plan.specs.Blocks.{kind_at}
 use Rattle.dh_plan.specs.Correspondence.{Round}
 use Rattle.dh_plan.specs.PlainPlans.{PlainPlan}
@@ -22,7 +19,7 @@ use Rattle.dh_expressions.specs.declared.drafts.Draft.{Draft}
 use Rattle.dh_expressions.specs.declared.scenes.Scene.{Scene}
 use Rattle.dh_expressions.specs.Drafted.{Extends}
 use Rattle.dh_expressions.specs.Shown.{is_read_term}
-use Rattle.dh_expressions.proofs.Pushing.{extends_again, in_front, pushed_extends}
+use Rattle.dh_expressions.proofs.Pushing.{extends_again}
 use Rattle.dh_formed.specs.Formed.{Agrees, Block, Forms, FormsValue, HasKind, IsFormedAt, Site, Started, kind_of}
 use Rattle.dh_formed.specs.WholeBlocks.{block_of}
 use Rattle.dh_formed.proofs.BlocksWhole.{blocks_agree, blocks_are_formed}
@@ -32,12 +29,13 @@ use Rattle.dh_commands.specs.declared.buildings.Building.{Building}
 use Rattle.dh_commands.specs.LanesRun.{paths_counted}
 use Rattle.dh_commands.specs.Undone.{given_at}
 use Rattle.dh_blocks.specs.NamedVariables.{IsNamedHere}
-use Rattle.dh_laid.specs.BlockSites.{block_sites, sites_from, term_sites, test_sites}
+use Rattle.dh_laid.specs.BlockSites.{HasSites, block_sites, sites_from, term_sites, test_sites}
 use Rattle.dh_laid.specs.Laid.{FormsTested, FormsThere}
-use Rattle.dh_laid.specs.LaidCommands.{FormsCommand}
+use Rattle.dh_laid.specs.LaidCommands.{EachFew, EachSuits, FormsCommand}
 use Rattle.dh_laid.specs.LaidNumbers.{StoresReach}
 use Rattle.dh_laid.proofs.PathsLaid.{tests_form}
-use Rattle.dh_typed_laid.specs.SuitingBlocks.{EachFew, EachSuits, FitsBlock, HasSites}
+use Rattle.dh_laid.proofs.SitesLaid.{sites_own}
+use Rattle.dh_typed_laid.specs.SuitingBlocks.{FitsBlock}
 use Rattle.dh_typed_laid.proofs.CommandsSuit.{sound_reaches}
 use Rattle.dh_typed_laid.proofs.EachFormed.{each_forms, made_commands_suit}
 use Rattle.dh_typed_laid.proofs.TermsSuit.{term_suits}
@@ -47,6 +45,7 @@ use Rattle.dh_gathering.specs.MadeBlocks.{AddsFlag, SetsGiven}
 use Rattle.dh_gathering.specs.PushedSets.{setting, settings}
 use Rattle.dh_told.specs.MadeFormed.{HasRegisters, MadeStraightsAreFormed, MadeTestsAreFormed}
 use Rattle.dh_told.proofs.BlocksBegin.{bare_sites, bare_test, held_begins, held_of, noted_begins, round_begins}
+use Rattle.dh_told.proofs.BlocksUnread.{flag_extends, sets_extend}
 
 -- Registers that are set.
 
@@ -62,13 +61,6 @@ behind_at P (p ∷ os) sets zero o far e h = absurd (none (length os) far)
     none : (k : ℕ) → suc k ≤ 0 → ⊥
     none k l = omega (arith, l)
 behind_at P (p ∷ os) sets (suc n) o far e h = behind_at P os sets n o (omega (arith, far)) e h
-
-sets_extend : (old new : Building) → SetsGiven old new → Extends old.draft new.draft
-sets_extend old new s = record {
-  operations = λ n o e. ap (λ (os : List Operation). slice_get os n) s.operations ∙ in_front old.draft.operations.items (settings s.sets) n o e;
-  faults = λ n f e. ap (λ (fs : List (FaultKind × Place)). slice_get fs n) s.faults ∙ e;
-  longer = let e = ap (λ (os : List Operation). length os) s.operations in let l = length-append old.draft.operations.items (settings s.sets) in omega (arith, e, l);
-}
 
 -- a register is set behind what was put down to a value of its kind
 set_formed : (x : Block) (d : Draft) (n register value : ℕ) (o : Operation) → o ≡ setting (register, value) → length d.operations.items ≤ n → register < length x.plan.registers → HasKind x d (kind_at x.plan.registers register) value → IsFormedAt x n o
@@ -96,10 +88,10 @@ sets_formed x old new s within held = record { each = each }
 
 -- Straight commands.
 
-registers_within : (plan : PlainPlan) (final : Made) (n : ℕ) → HasRegisters plan final → n ≡ registers_given final → n ≤ length plan.registers
+pub registers_within : (plan : PlainPlan) (final : Made) (n : ℕ) → HasRegisters plan final → n ≡ registers_given final → n ≤ length plan.registers
 registers_within plan final n h e = let l = h.given in let r = ap (λ (ks : List Kind). length ks) h.registers in omega (arith, l, r, e)
 
-all_reach : (x : Block) (scene : Scene) (rounds : List Round) (around : _) (cs : List Located) → AllByRecursion (FitsBlock x scene around rounds) cs → AllByRecursion (λ (c : Located). StoresReach c.command) cs
+pub all_reach : (x : Block) (scene : Scene) (rounds : List Round) (around : _) (cs : List Located) → AllByRecursion (FitsBlock x scene around rounds) cs → AllByRecursion (λ (c : Located). StoresReach c.command) cs
 all_reach x scene rounds around [] h = tt
 all_reach x scene rounds around (c ∷ cs) h =
     (sound_reaches scene around.levels.now (table_of (program_seen scene.program.now)) (λ r k. IsNamedHere scene around.levels.now x.plan.registers rounds (h.0).touched r k) _ c.command (h.0).sound, all_reach x scene rounds around cs h.1)
@@ -155,20 +147,6 @@ flag_formed false x old new value flag (number, sets) a s there is h =
     let set = sets_form old new number flag value sets in
     (set.extends, set.forms x a s there (subst (λ (k : Kind). HasKind x old k value) (sym is) h))
 
--- what is put down for a flag only adds
-flag_extends : (read : Truth) (old new : Draft) (value flag : ℕ) → AddsFlag read old new value flag → Extends old new
-flag_extends true old new value flag (mid, (made, (number, (computes, sets)))) = extends_again old mid new (pushed_extends old mid made None (Compute Both value value) computes) (pushed_extends mid new number None (Set flag made) sets)
-flag_extends false old new value flag (number, sets) = pushed_extends old new number None (Set flag value) sets
-
-own_at : (first : ℕ) (ss : List Site) (i : ℕ) (s : Site) → slice_get ss i ≡ Some s → sites_from first ss (first + i) ≡ Some s
-own_at first ss i s e = ap (λ (b : Truth). if b then None else slice_get ss (first + i - first)) (low first i) ∙ (ap (λ j. slice_get ss j) (same first i) ∙ e)
-  where
-    low : (a i : ℕ) → nat_lt (a + i) a ≡ false
-    low a i = grind (arith, nat_tests)
-
-    same : (a i : ℕ) → a + i - a ≡ i
-    same a i = omega arith
-
 -- the kind of a register that is there
 slice_bool : (kinds : List Kind) (n : ℕ) (k : Kind) → slice_get kinds n ≡ Some k → (n < length kinds) × (kind_at kinds n ≡ k)
 slice_bool [] n k e = absurd cc
@@ -176,8 +154,8 @@ slice_bool (j ∷ kinds) zero k e = (omega arith, cc)
 slice_bool (j ∷ kinds) (suc n) k e = let w = slice_bool kinds n k e in (let l = w.0 in omega (arith, l), w.1)
 
 -- sites of a test
-test_has : (sites : ℕ → Option Site) (first : ℕ) (ss : List Site) → ((number : ℕ) → sites number ≡ sites_from first ss number) → HasSites sites first ss
-test_has sites first ss same i s e = same (first + i) ∙ own_at first ss i s e
+pub test_has : (sites : ℕ → Option Site) (first : ℕ) (ss : List Site) → ((number : ℕ) → sites number ≡ sites_from first ss number) → HasSites sites first ss
+test_has sites first ss same i s e = same (first + i) ∙ sites_own first ss i s e
 
 pub made_tests_are_formed : MadeTestsAreFormed
 made_tests_are_formed scene plan count final rounds touched n t flag block m cut has stands sound typed bool =

@@ -1,7 +1,6 @@
 -- Blocks as they were made are as long as their phases: what is asked of them stands where they were made.
 use Rattle.std.proofs.Common.{◌≡◌, ◌⊎◌, inl, inr, ℕ, ◌+◌, ◌-◌, ◌<◌, ◌≤◌, Bool as Truth, true, false, List, [], ◌∷◌, length, Option, Some, None, refl, ap, sym, ◌∙◌, subst, arith}
-use Rattle.std.specs.Prelude.{◌||◌, if◌then◌else◌, nat_lt, slice_get}
-use Rattle.std.proofs.lemmas.Bool.Decides.{nat_tests}
+use Rattle.std.specs.Prelude.{◌||◌, slice_get}
 use Rattle.std.specs.List.{AllByRecursion}
 use Rattle.dh_value.specs.declared.kinds.Kind.{Kind}
 use Rattle.dh_tree.specs.declared.trees.expressions.Ref.{Ref}
@@ -14,7 +13,6 @@ use Rattle.dh_meaning.specs.Core.{no_commands}
 use Rattle.dh_meaning.specs.OnePhase.{any_makes, makes}
 use Rattle.dh_meaning.specs.Phases.{Located}
 use Rattle.dh_plan.specs.Correspondence.{Round}
-use Rattle.dh_plan.specs.PlainPlans.{PlainPlan}
 use Rattle.dh_plan.specs.PlanPhases.{commands_mention, term_mentions}
 use Rattle.dh_sound.specs.SimpleForms.{IsSimple}
 use Rattle.dh_sound.proofs.Makes.{makes_within}
@@ -24,9 +22,8 @@ use Rattle.dh_expressions.specs.declared.scenes.Scene.{Scene}
 use Rattle.dh_expressions.specs.Evaluated.{counter_of, known_in}
 use Rattle.dh_expressions.specs.Noted.{touched_in}
 use Rattle.dh_expressions.specs.Shown.{is_read_term}
-use Rattle.dh_formed.specs.Formed.{Block, Site}
+use Rattle.dh_formed.specs.Formed.{Block}
 use Rattle.dh_formed.specs.WholeBlocks.{block_of}
-use Rattle.dh_commands.specs.declared.buildings.Building.{Building}
 use Rattle.dh_commands.specs.LanesRun.{paths_counted}
 use Rattle.dh_commands.specs.ShownVariables.{ArePlaced, IsSeen, depth_in, register_in}
 use Rattle.dh_commands.specs.Undone.{given_at}
@@ -36,22 +33,18 @@ use Rattle.dh_blocks.specs.SoundTerms.{IsSound}
 use Rattle.dh_blocks.proofs.CommandsFollow.{is_own}
 use Rattle.dh_blocks.proofs.VariablesPlaced.{are_placed, register_small}
 use Rattle.dh_laid.specs.BareCommands.{IsBare, IsBareFrom}
-use Rattle.dh_laid.specs.BlockSites.{MadeEach, block_sites, sites_from, term_sites, test_sites}
+use Rattle.dh_laid.specs.BlockSites.{block_sites, term_sites, test_sites}
 use Rattle.dh_laid.specs.LaidNumbers.{StoresReach}
 use Rattle.dh_laid.specs.LaidQuiet.{StandsIn}
-use Rattle.dh_paced.specs.BlockLengths.{AssignsOwn, AssignsTo, EachSuits, HaveRegisters}
+use Rattle.dh_paced.specs.BlockLengths.{AssignsOwn, AssignsTo, HaveRegisters}
 use Rattle.dh_paced.specs.Paced.{IsIn}
 use Rattle.dh_paced.proofs.BlocksPaced.{straights_are_long, tests_are_long}
 use Rattle.dh_paced.proofs.CoreAppended.{action_then_mentions}
-use Rattle.dh_typed_laid.specs.SuitingBlocks.{EachSuits as TypedEachSuits, FitsBlock, HasSites, NamedHere, StandsSo}
-use Rattle.dh_typed_laid.proofs.CommandsSuit.{sound_reaches}
+use Rattle.dh_typed_laid.specs.SuitingBlocks.{FitsBlock, NamedHere, StandsSo}
 use Rattle.dh_typed_laid.proofs.EachFormed.{made_commands_suit}
 use Rattle.dh_typed_laid.proofs.TermsSuit.{term_suits}
-use Rattle.dh_gathering.specs.declared.blocks.Made.{Made}
-use Rattle.dh_gathering.specs.Growing.{registers_given}
-use Rattle.dh_told.specs.MadeFormed.{HasRegisters}
 use Rattle.dh_told.proofs.BlocksBegin.{bare_sites, bare_test, held_begins, noted_begins, round_begins}
-use Rattle.dh_told.proofs.BlocksFormed.{made_straights_are_formed, made_tests_are_formed}
+use Rattle.dh_told.proofs.BlocksFormed.{all_reach, made_straights_are_formed, made_tests_are_formed, registers_within, test_has}
 use Rattle.dh_told.specs.MeasuredBlocks.{FitsAlone, MadeStraightsAreLong, MadeTestsAreLong}
 use Rattle.dh_told.proofs.BlocksUnread.{flag_extends, flag_unread, none_at, sets_extend, sets_unread}
 use Rattle.dh_told.proofs.NamesMentioned.{action_names, assigns_own, simple_sound, term_names}
@@ -76,10 +69,6 @@ bare_each a (c ∷ cs) h number m = by (makes number c.first c.command) refl m (
 
 -- Suits.
 
-each_suits : (x : Block) (scene : Scene) (around : Around) (cs : List Located) (old new : Building) (m : MadeEach scene around cs old new) → TypedEachSuits x scene around cs old new m → EachSuits x scene around cs old new m
-each_suits x scene around [] old new m s = tt
-each_suits x scene around (c ∷ cs) old new (mid, (next, (m, rest))) s = (s.0, each_suits x scene around cs mid new rest s.1)
-
 all_fit : (x : Block) (scene : Scene) (around : Around) (rounds : List Round) (cs : List Located) → AllByRecursion (FitsAlone x scene around rounds) cs → AllByRecursion (FitsBlock x scene around rounds) cs
 all_fit x scene around rounds [] h = tt
 all_fit x scene around rounds (c ∷ cs) h = (h.0.fits, all_fit x scene around rounds cs h.1)
@@ -87,10 +76,6 @@ all_fit x scene around rounds (c ∷ cs) h = (h.0.fits, all_fit x scene around r
 module _ (x : Block) (scene : Scene) (around : Around) (rounds : List Round) where
   abbrev Names : (ℕ → Truth) → Ref → Kind → Type 0
   Names touched = NamedHere x scene around rounds touched
-
-  all_reach : (cs : List Located) → AllByRecursion (FitsBlock x scene around rounds) cs → AllByRecursion (λ (c : Located). StoresReach c.command) cs
-  all_reach [] h = tt
-  all_reach (c ∷ cs) h = (sound_reaches scene around.levels.now (table_of (program_seen scene.program.now)) (Names h.0.touched) _ c.command h.0.sound, all_reach cs h.1)
 
   -- Names.
 
@@ -173,23 +158,6 @@ module _ (x : Block) (scene : Scene) (around : Around) (rounds : List Round) whe
     each_own [] h = tt
     each_own (c ∷ cs) h = (command_own c h.0, each_own cs h.1)
 
-registers_within : (plan : PlainPlan) (final : Made) (n : ℕ) → HasRegisters plan final → n ≡ registers_given final → n ≤ length plan.registers
-registers_within plan final n h e = let l = h.given in let r = ap (λ (ks : List Kind). length ks) h.registers in omega (arith, l, r, e)
-
--- Sites of a test.
-
-own_at : (first : ℕ) (ss : List Site) (i : ℕ) (s : Site) → slice_get ss i ≡ Some s → sites_from first ss (first + i) ≡ Some s
-own_at first ss i s e = ap (λ (b : Truth). if b then None else slice_get ss (first + i - first)) (low first i) ∙ (ap (λ j. slice_get ss j) (same first i) ∙ e)
-  where
-    low : (a i : ℕ) → nat_lt (a + i) a ≡ false
-    low a i = grind (arith, nat_tests)
-
-    same : (a i : ℕ) → a + i - a ≡ i
-    same a i = omega arith
-
-test_has : (sites : ℕ → Option Site) (first : ℕ) (ss : List Site) → ((number : ℕ) → sites number ≡ sites_from first ss number) → HasSites sites first ss
-test_has sites first ss same i s e = same (first + i) ∙ own_at first ss i s e
-
 -- Straight commands.
 
 given_none : (current : List (Option ℕ)) → ((register : ℕ) → given_at current register ≡ None) → (register value : ℕ) → slice_get current register ≡ Some (Some value) → ⊥
@@ -219,7 +187,7 @@ made_straights_are_long scene plan count final rounds ls block shared m s =
         bare = λ number t e. (bare_sites scene m.around ls m.before m.between m.made m.before.accesses reaches m.bare number t e).1;
       };
       bare = bare_each m.before.accesses ls m.bare;
-      suits = each_suits x scene m.around ls m.before m.between m.made (made_commands_suit x scene count m.around rounds ls m.before m.between m.made refl s.stands fits m.rising).1;
+      suits = (made_commands_suit x scene count m.around rounds ls m.before m.between m.made refl s.stands fits m.rising).1;
       reaches = reaches;
       rising = m.rising;
       assigns_own = each_own x scene m.around rounds count s.stands m.stands_in ls s.fits;
@@ -234,7 +202,7 @@ made_straights_are_long scene plan count final rounds ls block shared m s =
     fits = all_fit _ scene m.around rounds ls s.fits
 
     reaches : AllByRecursion (λ (c : Located). StoresReach c.command) ls
-    reaches = all_reach _ scene m.around rounds ls fits
+    reaches = all_reach _ scene rounds m.around ls fits
 
 -- Tests.
 

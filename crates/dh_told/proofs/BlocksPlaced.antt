@@ -1,23 +1,44 @@
 -- The straight phases and tests of a ready program are sound where they stand.
 use Rattle.std.proofs.Common.{◌≡◌, List, [], ◌++◌, Some, ap, sym, ◌∙◌, subst}
 use Rattle.dh_tree.specs.PlainTrees.{Program}
+use Rattle.dh_tree.specs.Ready.{IsReady}
 use Rattle.dh_tree.specs.Seen.{program_seen}
 use Rattle.dh_meaning.specs.Core.{Turning}
-use Rattle.dh_meaning.specs.CoreOf.{core_commands, core_of, core_test, form_of, test_of}
+use Rattle.dh_meaning.specs.CoreOf.{Known, core_commands, core_of, core_test, form_of, known_of, test_of}
 use Rattle.dh_meaning.specs.Effects.{commands, tests}
 use Rattle.dh_meaning.specs.Phases.{Located, phases_of}
+use Rattle.dh_plan.specs.Correspondence.{Round}
+use Rattle.dh_sound.specs.AssignsInside.{AssignsInside}
 use Rattle.dh_sound.specs.Blocks.{StandsIn}
 use Rattle.dh_sound.specs.BlocksOfPhases.{OfStraight, OfTest}
+use Rattle.dh_expressions.specs.declared.scenes.Scene.{Scene}
 use Rattle.dh_expressions.specs.Evaluated.{known_in}
 use Rattle.dh_blocks.specs.TestMade.{IsTestTraced}
 use Rattle.dh_blocks.proofs.PhasesTraced.{straight_traced, test_traced}
+use Rattle.dh_gathering.specs.PhasesInLoops.{StraightOf, TestOf}
+use Rattle.dh_typed_blocks.specs.PlainPrograms.{AreFew, AssignsPlain}
 use Rattle.dh_typed_blocks.specs.SoundBlocks.{loops_of}
 use Rattle.dh_typed_blocks.proofs.BlocksFit.{Simple, Joins, phases_fit, phases_inside, straight_fits, tested_fits}
+use Rattle.dh_typed_blocks.proofs.BlocksHolding.{StraightHolds, TestHolds}
 use Rattle.dh_typed_blocks.proofs.BlocksSound.{ready_assigns, straight_sound, test_sound}
 use Rattle.dh_typed_blocks.proofs.IteratorsSorted.{ready_plain}
+use Rattle.dh_typed_blocks.proofs.KnownHere.{known_here}
 use Rattle.dh_typed_blocks.proofs.MemoriesFew.{ready_few}
 use Rattle.dh_told.specs.PlacedSound.{PlacedStraightsAreSound, PlacedTestsAreSound}
 use Rattle.dh_told.proofs.PhasesHeld.{straight_of_held, straight_run, straight_there, test_of_held, test_run, test_there}
+
+-- What fits, with what is known of names: of the program, and so in the scene of it.
+module _ (scene : Scene) (ready : IsReady (program_seen scene.program.now)) (few : AreFew (known_of (program_seen scene.program.now))) (assigned : AssignsInside (known_of (program_seen scene.program.now)) 0 (program_seen scene.program.now).body)
+    (plain : AssignsPlain (known_of (program_seen scene.program.now)) (program_seen scene.program.now).body) (rounds : List Round) where
+  abbrev StraightFits : List Located → Known → Type 0
+  StraightFits located known =
+      (f : StraightHolds (program_seen scene.program.now) (Simple (program_seen scene.program.now) ready few assigned plain) (Joins (program_seen scene.program.now) ready few assigned plain) (loops_of rounds) (commands (core_commands known located)))
+      × (located ≡ f.of.done ++ f.of.folds)
+
+  abbrev TestedFits : Located → Known → Type 0
+  TestedFits tested known =
+      (f : TestHolds (program_seen scene.program.now) (Simple (program_seen scene.program.now) ready few assigned plain) (Joins (program_seen scene.program.now) ready few assigned plain) (loops_of rounds) (tests (core_test known tested)))
+      × (f.of.tested ≡ tested)
 
 pub placed_straights_are_sound : PlacedStraightsAreSound
 placed_straights_are_sound scene around plan rounds located ready place placed =
@@ -26,11 +47,16 @@ placed_straights_are_sound scene around plan rounds located ready place placed =
     let few = ready_few (program_seen scene.program.now) ready in
     let assigned = ready_assigns (program_seen scene.program.now) ready in
     let plain = ready_plain (program_seen scene.program.now) ready in
-    let held = straight_of_held (known_in scene) (Simple (program_seen scene.program.now) ready few assigned plain) (Joins (program_seen scene.program.now) ready few assigned plain) (phases_of (program_seen scene.program.now)) [] (loops_of rounds) located
-    (phases_inside (program_seen scene.program.now) ready few assigned plain) (phases_fit (program_seen scene.program.now) ready few assigned plain) placed in
-    let f = straight_fits (program_seen scene.program.now) ready few assigned plain (loops_of rounds) located (straight_there (known_in scene) (phases_of (program_seen scene.program.now)) [] (loops_of rounds) located placed) held.0 held.1 in
+    let same = known_here scene ready in
+    let own : StraightOf (known_of (program_seen scene.program.now)) [] (phases_of (program_seen scene.program.now)) (loops_of rounds) located =
+    subst (λ (k : Known). StraightOf k [] (phases_of (program_seen scene.program.now)) (loops_of rounds) located) (sym same) placed in
+    let held = straight_of_held (known_of (program_seen scene.program.now)) (Simple (program_seen scene.program.now) ready few assigned plain) (Joins (program_seen scene.program.now) ready few assigned plain) (phases_of (program_seen scene.program.now)) [] (loops_of rounds) located
+    (phases_inside (program_seen scene.program.now) ready few assigned plain) (phases_fit (program_seen scene.program.now) ready few assigned plain) own in
+    let fits = straight_fits (program_seen scene.program.now) ready few assigned plain (loops_of rounds) located (straight_there (known_of (program_seen scene.program.now)) (phases_of (program_seen scene.program.now)) [] (loops_of rounds) located own) held.0 held.1 in
+    let f : StraightFits scene ready few assigned plain rounds located (known_in scene) = subst (StraightFits scene ready few assigned plain rounds located) same fits in
     let stands : StandsIn [] (core_of (program_seen scene.program.now)).phases (loops_of rounds) (commands (core_commands (known_in scene) located)) =
-    straight_run (known_in scene) (phases_of (program_seen scene.program.now)) [] (loops_of rounds) located placed in
+    subst (λ (k : Known). StandsIn [] (core_of (program_seen scene.program.now)).phases (loops_of rounds) (commands (core_commands k located))) same
+    (straight_run (known_of (program_seen scene.program.now)) (phases_of (program_seen scene.program.now)) [] (loops_of rounds) located own) in
     let s = straight_sound scene around plan rounds ready place (commands (core_commands (known_in scene) located)) stands f.0 in
     record {
       of = s.0.of;
@@ -46,11 +72,16 @@ placed_tests_are_sound scene around plan rounds tested t ready place placed is =
     let few = ready_few (program_seen scene.program.now) ready in
     let assigned = ready_assigns (program_seen scene.program.now) ready in
     let plain = ready_plain (program_seen scene.program.now) ready in
-    let held = test_of_held (known_in scene) (Simple (program_seen scene.program.now) ready few assigned plain) (Joins (program_seen scene.program.now) ready few assigned plain) (phases_of (program_seen scene.program.now)) [] (loops_of rounds) tested
-    (phases_inside (program_seen scene.program.now) ready few assigned plain) (phases_fit (program_seen scene.program.now) ready few assigned plain) placed in
-    let f = tested_fits (program_seen scene.program.now) ready few assigned plain (loops_of rounds) tested (test_there (known_in scene) (phases_of (program_seen scene.program.now)) [] (loops_of rounds) tested placed) held.0 held.1 in
+    let same = known_here scene ready in
+    let here : TestOf (known_of (program_seen scene.program.now)) [] (phases_of (program_seen scene.program.now)) (loops_of rounds) tested =
+    subst (λ (k : Known). TestOf k [] (phases_of (program_seen scene.program.now)) (loops_of rounds) tested) (sym same) placed in
+    let held = test_of_held (known_of (program_seen scene.program.now)) (Simple (program_seen scene.program.now) ready few assigned plain) (Joins (program_seen scene.program.now) ready few assigned plain) (phases_of (program_seen scene.program.now)) [] (loops_of rounds) tested
+    (phases_inside (program_seen scene.program.now) ready few assigned plain) (phases_fit (program_seen scene.program.now) ready few assigned plain) here in
+    let fits = tested_fits (program_seen scene.program.now) ready few assigned plain (loops_of rounds) tested (test_there (known_of (program_seen scene.program.now)) (phases_of (program_seen scene.program.now)) [] (loops_of rounds) tested here) held.0 held.1 in
+    let f : TestedFits scene ready few assigned plain rounds tested (known_in scene) = subst (TestedFits scene ready few assigned plain rounds tested) same fits in
     let stands : StandsIn [] (core_of (program_seen scene.program.now)).phases (loops_of rounds) (tests (core_test (known_in scene) tested)) =
-    test_run (known_in scene) (phases_of (program_seen scene.program.now)) [] (loops_of rounds) tested placed in
+    subst (λ (k : Known). StandsIn [] (core_of (program_seen scene.program.now)).phases (loops_of rounds) (tests (core_test k tested))) same
+    (test_run (known_of (program_seen scene.program.now)) (phases_of (program_seen scene.program.now)) [] (loops_of rounds) tested here) in
     let s = test_sound scene around plan rounds ready place (tests (core_test (known_in scene) tested)) stands f.0 in
     let own : s.0.of.tested ≡ tested = ap (λ (o : OfTest (program_seen scene.program.now) (loops_of rounds) (tests (core_test (known_in scene) tested))). o.tested) s.1 ∙ f.1 in
     let same : test_of (form_of s.0.of.tested.command) ≡ Some t = ap (λ (c : Located). test_of (form_of c.command)) own ∙ is in

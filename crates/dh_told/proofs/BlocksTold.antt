@@ -17,7 +17,10 @@ use Rattle.dh_meaning.specs.Phases.{Located, idle_phases_of, phases_of}
 use Rattle.dh_meets.specs.SourceEvents.{trace}
 use Rattle.dh_lengths.specs.SharedReads.{share_told}
 use Rattle.dh_sound.specs.Blocks as runs
+use Rattle.dh_meaning.specs.Sites.{nothing_around}
 use Rattle.dh_sound.specs.PhaseFacts.{HasStraight, HasTest, StandsAmong}
+use Rattle.dh_sound.specs.Straight.{IsNamedAction}
+use Rattle.dh_sound.proofs.NamedPrograms.{ready_named}
 use Rattle.dh_sound.proofs.SamePhase.{straight_has_both, test_has_both}
 use Rattle.dh_sound.proofs.Slices.{straight_either, straight_stands, test_either, test_stands}
 use Rattle.dh_plan.specs.Correspondence.{Round}
@@ -54,11 +57,14 @@ use Rattle.dh_phased.proofs.RoundsTop.{rounds_are_top}
 use Rattle.dh_used.specs.SourceSites.{AllStand, AreSited}
 use Rattle.dh_used.proofs.BlocksByKeys.{each_of}
 use Rattle.dh_used.proofs.SharesOfProgram.{any_below, test_below}
+use Rattle.dh_used.proofs.NodesMade.{straight_named}
+use Rattle.dh_used.proofs.PlansUsed.{all_named, phases_named}
 use Rattle.dh_used.proofs.SitesOfSource.{blocks_are_sited, tests_are_sited}
 use Rattle.dh_told.specs.MadeFormed.{HasRegisters}
 use Rattle.dh_told.specs.PlacedSound.{SoundStraight, SoundTest}
 use Rattle.dh_told.proofs.BlocksFormed.{made_straights_are_formed, made_tests_are_formed}
 use Rattle.dh_told.proofs.BlocksPlaced.{placed_straights_are_sound, placed_tests_are_sound}
+use Rattle.dh_told.proofs.CoreHere.{run_here}
 use Rattle.dh_told.proofs.PhasesHeld.{straight_run, straight_there, test_run, test_there}
 use Rattle.dh_told.specs.PlansTold.{IsOfReady, ReadyPlansAreSound}
 use Rattle.dh_told.proofs.BlocksCut.{adds_then, each_adds, flag_adds, made_cut, tests_add}
@@ -146,7 +152,8 @@ module _ (scene : Scene) (count : ℕ) (plan : PlainPlan) (final : Made) (h : Is
     straight_sound =
         placed_straights_are_sound scene s.made.around plan rounds s.located h.ready
         (place rounds s.made.around s.made.round s.made.stands_in counting (commands (core_commands (known_in scene) s.located))
-        (straight_run (known_in scene) (phases_of (program_seen scene.program.now)) [] (loops_of rounds) s.located s.placed))
+        (run_here scene h.ready (loops_of rounds) (commands (core_commands (known_in scene) s.located))
+        (straight_run (known_in scene) (phases_of (program_seen scene.program.now)) [] (loops_of rounds) s.located s.placed)))
         s.placed
 
     pub straight_found : HasStraight (phases_of (program_seen scene.program.now) ++ idle_phases_of (program_seen scene.program.now)) s.located
@@ -160,8 +167,14 @@ module _ (scene : Scene) (count : ℕ) (plan : PlainPlan) (final : Made) (h : Is
     pub straight_reach : AllByRecursion (λ (c : Located). StoresReach c.command) s.located
     straight_reach = (ready_scenes_are_told scene h.ready h.scopes).stores (loops_of rounds) s.located s.placed
 
+    pub straight_names : AllByRecursion (λ (c : Located). IsNamedAction c.command) s.located
+    straight_names =
+        all_named s.located
+        (straight_named (phases_of (program_seen scene.program.now)) s.located (phases_named nothing_around 0 (program_seen scene.program.now).body (ready_named (program_seen scene.program.now) h.ready))
+        (straight_there (known_in scene) (phases_of (program_seen scene.program.now)) [] (loops_of rounds) s.located s.placed))
+
     straight_sited : AreSited scene s.made.around (λ number. any_makes number s.located) (block_sites scene s.made.around s.located s.made.before s.made.between s.made.made)
-    straight_sited = blocks_are_sited scene s.made.around s.located s.made.before s.made.between s.made.made straight_reach straight_all
+    straight_sited = blocks_are_sited scene s.made.around s.located s.made.before s.made.between s.made.made straight_names straight_all
 
     pub straight_shares : KeepsShares (block_of plan block (block_sites scene s.made.around s.located s.made.before s.made.between s.made.made)) scene
     straight_shares =
@@ -197,7 +210,8 @@ module _ (scene : Scene) (count : ℕ) (plan : PlainPlan) (final : Made) (h : Is
     test_sound =
         placed_tests_are_sound scene s.made.around plan rounds s.tested s.term h.ready
         (place rounds s.made.around s.made.round s.made.stands_in counting (tests (core_test (known_in scene) s.tested))
-        (test_run (known_in scene) (phases_of (program_seen scene.program.now)) [] (loops_of rounds) s.tested s.placed))
+        (run_here scene h.ready (loops_of rounds) (tests (core_test (known_in scene) s.tested))
+        (test_run (known_in scene) (phases_of (program_seen scene.program.now)) [] (loops_of rounds) s.tested s.placed)))
         s.placed s.term_is
 
     pub test_found : HasTest (phases_of (program_seen scene.program.now) ++ idle_phases_of (program_seen scene.program.now)) s.tested

@@ -9,7 +9,7 @@ use Rattle.dh_base.specs.declared.places.Place.{Place}
 use Rattle.dh_tree.specs.Elements.{banks_of}
 use Rattle.dh_tree.specs.Excesses.{copies_excess, excess_at, first_above, first_excess, form_copies_excess, groups_copies_excess, most_counted, or_else, other_copies_excess, part_copies_excess}
 use Rattle.dh_tree.specs.Memories.{Memory, memories_of}
-use Rattle.dh_tree.specs.PlainTrees.{Action, action, ActionForm, lets, lets_memory, views, assigns, stores, reduces, calls, blocks, decides, repeats, counts, MaybeAction, no_action, one_action, Actions, no_actions, action_then, Groups, no_groups, group_then, Program}
+use Rattle.dh_tree.specs.PlainTrees.{shrinks, splits, suffixes, shifts, Action, action, ActionForm, lets, lets_memory, views, assigns, stores, reduces, calls, blocks, decides, repeats, counts, MaybeAction, no_action, one_action, Actions, no_actions, action_then, Groups, no_groups, group_then, Program}
 use Rattle.dh_meaning.specs.AccessNumbers.{accesses_of, part_accesses, term_accesses}
 use Rattle.dh_meaning.specs.Core.{Turning}
 use Rattle.dh_meaning.specs.CoreOf.{Known, form_of, turning_of}
@@ -18,6 +18,7 @@ use Rattle.dh_meaning.specs.Phases.{Located, located, Phase, straight, turns, re
 use Rattle.dh_meaning.specs.Sites.{Around, in_arm, in_loop, loop_of, nothing_around}
 use Rattle.dh_sound.specs.Blocks.{factors}
 use Rattle.dh_gathering.specs.PhasesInLoops.{StraightInLoops, StraightOf, StraightsInLoops, TestInLoops, TestOf, TestsInLoops}
+use Rattle.dh_phased.proofs.RoundsTop.{copies_more}
 
 abbrev pub FewRound : List Turning → Type 0
 FewRound round = copies_in (factors round) ≤ 256
@@ -46,16 +47,6 @@ factors_append (x ∷ xs) ys = by (nat_lt 1 x.factor) (factors_append xs ys)
     by : (b : Bool) → factors (xs ++ ys) ≡ factors xs ++ factors ys → (if b then x.factor ∷ factors (xs ++ ys) else factors (xs ++ ys)) ≡ (if b then x.factor ∷ factors xs else factors xs) ++ factors ys
     by true e = ap (λ (l : List ℕ). x.factor ∷ l) e
     by false e = e
-
-copies_more : (fs : List ℕ) (f : ℕ) → copies_in (fs ++ f ∷ []) ≡ copies_in fs * f
-copies_more [] f = one f
-  where
-    one : (n : ℕ) → n * 1 ≡ 1 * n
-    one n = omega arith
-copies_more (g ∷ fs) f = by g (copies_in fs) (copies_in (fs ++ f ∷ [])) (copies_more fs f)
-  where
-    by : (a b c : ℕ) → c ≡ b * f → a * c ≡ a * b * f
-    by a b c e = ap (λ (n : ℕ). a * n) e ∙ omega arith
 
 -- inside a loop that has copies
 copies_inside : (round : List Turning) (own : Turning) → 0 < own.factor → copies_in (factors (round ++ own ∷ [])) ≡ copies_in (factors round) * own.factor
@@ -161,7 +152,10 @@ module _ (known : Known) where
     form_few : (f : ActionForm) (round : List Turning) (id : ℕ) (place : Place) (r : Around) (n : ℕ) → FewRound round → form_copies_excess (copies_in (factors round)) f ≡ None → ListFew round (form_phases r n id place f)
     form_few (lets name declared value) round id place r n few e = (few, tt)
     form_few (lets_memory name shape shape_places value) round id place r n few e = tt
-    form_few (views name parent form) round id place r n few e = tt
+    form_few (views name parent (shrinks by by_place)) round id place r n few e = tt
+    form_few (views name parent (splits by by_place)) round id place r n few e = tt
+    form_few (views name parent (suffixes by by_place)) round id place r n few e = (few, tt)
+    form_few (views name parent (shifts by)) round id place r n few e = (few, tt)
     form_few (assigns target value) round id place r n few e = (few, tt)
     form_few (stores target value) round id place r n few e = (few, tt)
     form_few (reduces target o value) round id place r n few e = (few, tt)

@@ -17,6 +17,7 @@ use Rattle.dh_code.specs.Declarations.{Declaration, all_held, declaration_in, de
 use Rattle.dh_code.specs.Ranks.{copies_in}
 use Rattle.dh_code.specs.Slots.{held_at, held_nowhere}
 use Rattle.dh_code.proofs.KindsHeld.{kinds_held}
+use Rattle.dh_ways.proofs.NoWays.{own_bindings}
 use Rattle.dh_sound.specs.LoopsDeclared.{IsFoundWith}
 use Rattle.dh_sound.specs.SameKeys.{IsNoIterator}
 use Rattle.dh_sound.proofs.DepthsNamed.{AllBelow, Deep, FormDeep, GroupsDeep, OtherDeep, PartDeep, all_below, all_more, deep, is_absent}
@@ -144,6 +145,8 @@ pub scenes_tell : ReadyScenesTell
 scenes_tell scene count ready order = record {
   long = ap (λ (held : List Held). length held) order.held;
   depth = λ e. ap (λ (held : List Held). (held_at held e).depth) order.held;
-  kind = λ e. ap (λ (held : List Held). (held_at held e).kind) order.held ∙ kind_known (program_seen scene.program.now) ready.entities e;
-  plain = λ e none. no_counter (program_seen scene.program.now) ready.entities e none;
+  kind = λ e. ap (λ (held : List Held). (held_at held e).kind) order.held ∙ (kind_known (program_seen scene.program.now) ready.entities e
+      ∙ ap (λ (bs : List Binding). kind_bound (binding_in bs e)) (sym (own_bindings (program_seen scene.program.now) ready.built)));
+  plain = λ e none. no_counter (program_seen scene.program.now) ready.entities e
+      (subst (λ (bs : List Binding). IsNoIterator (binding_in bs e)) (own_bindings (program_seen scene.program.now) ready.built) none);
 }

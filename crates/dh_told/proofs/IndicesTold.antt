@@ -16,6 +16,8 @@ use Rattle.dh_tree.specs.Ready.{IsReady}
 use Rattle.dh_tree.specs.Seen.{program_seen}
 use Rattle.dh_tree.specs.Shapes.{IsDim}
 use Rattle.dh_meaning.specs.CoreOf.{entity_number}
+use Rattle.dh_meaning.specs.Ways.{base_of, way_at}
+use Rattle.dh_code.proofs.CommandsFlattened.{own_base}
 use Rattle.dh_meaning.specs.Phases.{Located}
 use Rattle.dh_meaning.specs.Sites as source
 use Rattle.dh_meaning.specs.Sites.{in_arm}
@@ -49,8 +51,12 @@ pub record IndicesOk (scene : Scene) (memory : ℕ) (ts : plain.Terms) : Type 0 
   pub kinds : AllHaveIndexKinds (counters_of (program_seen scene.program.now)) ts
   pub keeps : indices_breaches (counters_of (program_seen scene.program.now)) (dims_at (table_of (program_seen scene.program.now)) memory) ts ≡ []
 
+-- the memory that an entity leads to, or is
+abbrev memory_by : Scene → Option ℕ → ℕ
+memory_by scene entity = entity_number (number_in (known_in scene).memories (base_of (way_at (known_in scene).memories (known_in scene).ways entity) entity))
+
 abbrev pub ElementOk : Scene → Option ℕ → Element → Type 0
-ElementOk scene entity (with_indices ts) = IndicesOk scene (entity_number (number_in (known_in scene).memories entity)) ts
+ElementOk scene entity (with_indices ts) = IndicesOk scene (memory_by scene entity) ts
 ElementOk scene entity (in_row bank row) = Unit {0}
 
 abbrev pub AccessOk : Scene → SourceAccess → Type 0
@@ -73,18 +79,19 @@ module _ (scene : Scene) (ready : IsReady (program_seen scene.program.now)) wher
       here = subst (λ (o : Option ℕ). memory_in (memories_of (program_seen scene.program.now)) o ≡ Some own.memory) (sym own.is) own.declared
 
       keeps : KeepsIn (counters_of (program_seen scene.program.now)) own.memory a.element
-      keeps = access_keeps (program_seen scene.program.now) ready.indices k a at own.memory here
+      keeps = access_keeps (program_seen scene.program.now) ready.indices ready.views k a at own.memory here
 
       dims_are : dims_at (table_of (program_seen scene.program.now)) (entity_number (number_in (memories_of (program_seen scene.program.now)) a.entity)) ≡ own.memory.shape.dims
       dims_are = declared_dims (memories_of (program_seen scene.program.now)) a.entity own.memory here
 
       by : (e : Element) → HasElementKinds (counters_of (program_seen scene.program.now)) e → element_breaches (counters_of (program_seen scene.program.now)) own.memory.shape.dims e ≡ [] → ElementOk scene a.entity e
-      by (with_indices ts) kinds none = record {
-        dims = subst (λ (ds : List Dim). AllByRecursion IsDim ds) (sym dims_are) keeps.dims;
-        few = (ready_few (program_seen scene.program.now) ready).banks (entity_number (number_in (memories_of (program_seen scene.program.now)) a.entity));
-        kinds = kinds;
-        keeps = subst (λ (ds : List Dim). indices_breaches (counters_of (program_seen scene.program.now)) ds ts ≡ []) (sym dims_are) none;
-      }
+      by (with_indices ts) kinds none =
+          subst (λ (o : Option ℕ). IndicesOk scene (entity_number (number_in (memories_of (program_seen scene.program.now)) o)) ts) (sym (own_base (memories_of (program_seen scene.program.now)) a.entity)) (record {
+            dims = subst (λ (ds : List Dim). AllByRecursion IsDim ds) (sym dims_are) keeps.dims;
+            few = (ready_few (program_seen scene.program.now) ready).banks (entity_number (number_in (memories_of (program_seen scene.program.now)) a.entity));
+            kinds = kinds;
+            keeps = subst (λ (ds : List Dim). indices_breaches (counters_of (program_seen scene.program.now)) ds ts ≡ []) (sym dims_are) none;
+          })
       by (in_row bank row) kinds none = tt
 
   -- so of the accesses of a command where it stands

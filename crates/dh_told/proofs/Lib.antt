@@ -3,6 +3,7 @@ pub mod VariablesKept
 pub mod RoundsKnown
 pub mod SharesKept
 pub mod BlocksCut
+pub mod CoreHere
 pub mod BlocksTold
 pub mod PlansFormed
 pub mod BlocksBegin
@@ -25,7 +26,6 @@ pub mod TestsStand
 pub mod BlocksMeasured
 pub mod BlocksUnread
 pub mod NamesMentioned
-pub mod NodesTied
 pub mod PlansMeasured
 pub mod LevelsOfLoops
 pub mod NodesCharge

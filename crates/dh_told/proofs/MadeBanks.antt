@@ -1,9 +1,9 @@
 -- A plan that was made of a ready program is put down in its scene, block by block; so its steps keep the banks.
-use Rattle.std.proofs.Common.{◌≡◌, ℕ, List, Some, sym, subst, arith}
+use Rattle.std.proofs.Common.{◌≡◌, ℕ, List, Some, subst, arith}
 use Rattle.std.specs.Prelude.{Bool, true, false, [], ◌∷◌, ◌++◌, slice_index, length}
 use Rattle.dh_tree.specs.PlainTrees.{Action, Term, action, assigns, blocks, calls, counts, decides, lets, lets_memory, reduces, repeats, stores, views}
 use Rattle.dh_tree.specs.Seen.{program_seen}
-use Rattle.dh_meaning.specs.Core.{CoreCommands, CorePhase, CorePhases, CoreTerm, choosing, looping, no_core_phases, phase_and, straightly, turning}
+use Rattle.dh_meaning.specs.Core.{CoreCommands, CoreTerm}
 use Rattle.dh_meaning.specs.CoreOf.{core_commands, core_of, core_test, form_of, test_of}
 use Rattle.dh_meaning.specs.Effects.{commands, tests}
 use Rattle.dh_meaning.specs.OnePhase.{any_makes, test_makes}
@@ -12,8 +12,7 @@ use Rattle.dh_meaning.specs.Sites as source
 use Rattle.dh_meaning.specs.Sites.{in_arm}
 use Rattle.dh_meets.specs.SourceEvents.{Site, events, other_events, site_of, term_events, trace}
 use Rattle.dh_plan.specs.Correspondence.{Round}
-use Rattle.dh_plan.specs.PlainPlans.{Node, Nodes, PlainPlan, block_node, choice_node, loop_node, no_nodes, node_then, threads_node, turns_node}
-use Rattle.dh_plan.specs.PlanPhases.{AreNodesOf, IsNodeOf}
+use Rattle.dh_plan.specs.PlainPlans.{PlainPlan}
 use Rattle.dh_sound.specs.PhaseFacts.{StandsAmong}
 use Rattle.dh_sound.specs.Trails.{EachAccess}
 use Rattle.dh_sound.proofs.AccessBanks.{loops_have_copies}
@@ -28,12 +27,14 @@ use Rattle.dh_blocks.specs.SlotsOfScene.{placing_in}
 use Rattle.dh_blocks.specs.TestMade.{flag_made}
 use Rattle.dh_laid.specs.BlockSites.{MadeEach}
 use Rattle.dh_gathering.specs.declared.blocks.Made.{Made}
-use Rattle.dh_gathering.specs.LoopCounters.{AreCounting, IsCounting, LoopsCount, LoopsCountIn}
-use Rattle.dh_gathering.specs.MadeBlocks.{IsStraightBlock, IsTestBlock, counter_in, made_tie}
+use Rattle.dh_gathering.specs.LoopCounters.{AreCounting}
+use Rattle.dh_gathering.specs.MadeBlocks.{IsStraightBlock, IsTestBlock}
 use Rattle.dh_gathering.specs.PlacedPhases.{loops_round}
 use Rattle.dh_phased.proofs.LoopsCounted.{loops_are_own}
+use Rattle.dh_phased.proofs.NodesTied.{nodes_tied}
 use Rattle.dh_typed_blocks.specs.SoundBlocks.{IsPlaceTold, loops_of}
 use Rattle.dh_used.specs.SourceSites.{AllStand}
+use Rattle.dh_told.proofs.CoreHere.{run_here}
 use Rattle.dh_told.proofs.PhasesHeld.{straight_run, test_run}
 use Rattle.dh_told.specs.PlansTold.{IsOfReady}
 use Rattle.dh_told.proofs.BlocksTold.{both_all, first_all, place, straight_all, straight_sound, test_sound, test_stand, then_all}
@@ -52,10 +53,6 @@ use Rattle.dh_told.proofs.IndicesTold.{AccessOk, command_keeps, command_ok, term
 use Rattle.dh_told.proofs.NamesTurn.{names_turn}
 use Rattle.dh_told.proofs.SpreadPaths.{sets_unused, stands_spread}
 use Rattle.dh_told.proofs.TestsStand.{test_has, test_stands_so}
-
-counting_more : (scene : Scene) (rounds : List Round) (r : Round) → AreCounting scene (placing_in scene) rounds → IsCounting scene (placing_in scene) r.loop → r.counter ≡ counter_in scene r.loop → AreCounting scene (placing_in scene) (rounds ++ r ∷ [])
-counting_more scene [] r all h is = ((h, is), tt)
-counting_more scene (x ∷ rounds) r all h is = (all.0, counting_more scene rounds r all.1 h is)
 
 -- the events of a test are among those of its command
 record TestOk (scene : Scene) (t : Term) : Type 0 where
@@ -85,7 +82,8 @@ module _ (scene : Scene) (count : ℕ) (plan : PlainPlan) (final : Made) (h : Is
     told_here : IsPlaceTold scene s.made.around plan rounds
     told_here =
         place scene count plan final h rounds s.made.around s.made.round s.made.stands_in counting (commands (core_commands (known_in scene) s.located))
-        (straight_run (known_in scene) (phases_of (program_seen scene.program.now)) [] (loops_of rounds) s.located s.placed)
+        (run_here scene h.ready (loops_of rounds) (commands (core_commands (known_in scene) s.located))
+        (straight_run (known_in scene) (phases_of (program_seen scene.program.now)) [] (loops_of rounds) s.located s.placed))
 
     module _ (registers : List ℕ) (memories : List (List ℕ)) (turns : InTurns registers rounds) where
       each_keeps : (touched : ℕ → Bool) (ls : List Located) → AreSoundBy touched scene s.made.around plan rounds ls → AllStand scene ls → CommandsKeep (step_of plan block registers memories) scene s.made.around.levels.now ls
@@ -133,7 +131,8 @@ module _ (scene : Scene) (count : ℕ) (plan : PlainPlan) (final : Made) (h : Is
     test_told : IsPlaceTold scene s.made.around plan rounds
     test_told =
         place scene count plan final h rounds s.made.around s.made.round s.made.stands_in counting (tests (core_test (known_in scene) s.tested))
-        (test_run (known_in scene) (phases_of (program_seen scene.program.now)) [] (loops_of rounds) s.tested s.placed)
+        (run_here scene h.ready (loops_of rounds) (tests (core_test (known_in scene) s.tested))
+        (test_run (known_in scene) (phases_of (program_seen scene.program.now)) [] (loops_of rounds) s.tested s.placed))
 
     test_keeps : (registers : List ℕ) (memories : List (List ℕ)) → InTurns registers rounds → TermKeeps (step_of plan block registers memories) scene s.made.around.levels.now s.term
     test_keeps registers memories turns =
@@ -159,50 +158,12 @@ module _ (scene : Scene) (count : ℕ) (plan : PlainPlan) (final : Made) (h : Is
       keeps = λ registers memories fit held turns. test_keeps registers memories turns;
     }
 
-  mutual
-    nodes_reached : (rounds : List Round) (qs : CorePhases) (ns : Nodes) → AreCounting scene (placing_in scene) rounds → LoopsCount scene (placing_in scene) rounds qs → AreNodesOf (made_tie scene final) rounds qs ns
-        → AreNodesOf (reached_tie scene plan count) rounds qs ns
-    nodes_reached rounds no_core_phases no_nodes all loops m = tt
-    nodes_reached rounds no_core_phases (node_then n ns) all loops m = absurd m
-    nodes_reached rounds (phase_and q qs) no_nodes all loops m = absurd m
-    nodes_reached rounds (phase_and q qs) (node_then n ns) all loops m = (node_reached rounds q n all loops.0 m.0, nodes_reached rounds qs ns all loops.1 m.1)
-
-    node_reached : (rounds : List Round) (q : CorePhase) (n : Node) → AreCounting scene (placing_in scene) rounds → LoopsCountIn scene (placing_in scene) rounds q → IsNodeOf (made_tie scene final) rounds q n → IsNodeOf (reached_tie scene plan count) rounds q n
-    node_reached rounds (straightly cs) (block_node block) all loops m = reached_block rounds cs block m all
-    node_reached rounds (straightly cs) (turns_node counter turns ms) all loops m = absurd m
-    node_reached rounds (straightly cs) (loop_node block flag ms) all loops m = absurd m
-    node_reached rounds (straightly cs) (choice_node block flag ms os) all loops m = absurd m
-    node_reached rounds (straightly cs) (threads_node lists) all loops m = absurd m
-    node_reached rounds (turning loop body) (block_node block) all loops m = absurd m
-    node_reached rounds (turning loop body) (turns_node counter turns ms) all loops m = (
-      m.0,
-      (
-        tt,
-        nodes_reached (rounds ++ record { loop = loop; counter = counter } ∷ []) body ms
-            (counting_more scene rounds (record { loop = loop; counter = counter }) all loops.0 m.1.0)
-            (subst (λ (n : ℕ). LoopsCount scene (placing_in scene) (rounds ++ record { loop = loop; counter = n } ∷ []) body) (sym m.1.0) loops.1.1) m.1.1,
-      ),
-    )
-    node_reached rounds (turning loop body) (loop_node block flag ms) all loops m = absurd m
-    node_reached rounds (turning loop body) (choice_node block flag ms os) all loops m = absurd m
-    node_reached rounds (turning loop body) (threads_node lists) all loops m = absurd m
-    node_reached rounds (looping test body) (block_node block) all loops m = absurd m
-    node_reached rounds (looping test body) (turns_node counter turns ms) all loops m = absurd m
-    node_reached rounds (looping test body) (loop_node block flag ms) all loops m = (reached_test rounds test flag block m.0 all, nodes_reached rounds body ms all loops m.1)
-    node_reached rounds (looping test body) (choice_node block flag ms os) all loops m = absurd m
-    node_reached rounds (looping test body) (threads_node lists) all loops m = absurd m
-    node_reached rounds (choosing test chosen other) (block_node block) all loops m = absurd m
-    node_reached rounds (choosing test chosen other) (turns_node counter turns ms) all loops m = absurd m
-    node_reached rounds (choosing test chosen other) (loop_node block flag ms) all loops m = absurd m
-    node_reached rounds (choosing test chosen other) (choice_node block flag ms os) all loops m =
-        (reached_test rounds test flag block m.0 all, (nodes_reached rounds chosen ms all loops.0 m.1.0, nodes_reached rounds other os all loops.1 m.1.1))
-    node_reached rounds (choosing test chosen other) (threads_node lists) all loops m = absurd m
-
 pub made_keep_banks : MadePlansKeepBanks
 made_keep_banks scene count plan final h =
     reached_keep_banks scene plan count (core_of (program_seen scene.program.now)).phases (record {
       table = h.of.table;
       meets = h.meets.as_program;
       there = λ number less. h.meets.range.there number (omega arith) (omega (arith, less));
-      nodes = nodes_reached scene count plan final h.of [] (core_of (program_seen scene.program.now)).phases plan.body tt (loops_are_own scene h.of.ready.entities (long scene count h.of.order)).inside h.nodes;
+      nodes = nodes_tied scene final (reached_tie scene plan count) (λ rounds cs block all m. reached_block scene count plan final h.of rounds cs block m all)
+          (λ rounds test flag block all m. reached_test scene count plan final h.of rounds test flag block m all) (λ rounds loop counter all counts other is. tt) [] (core_of (program_seen scene.program.now)).phases plan.body tt (loops_are_own scene h.of.ready.entities (long scene count h.of.order)).inside h.nodes;
     })

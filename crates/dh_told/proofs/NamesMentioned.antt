@@ -1,6 +1,6 @@
 -- What the core of sound commands mentions are names that stand in them; and what they assign to is another variable at
 -- each path, or is not mentioned in what it takes.
-use Rattle.std.proofs.Common.{◌≡◌, ◌⊎◌, inl, inr, ℕ, ◌+◌, ◌<◌, Bool as Truth, true, false, List, Some, None, refl, sym, ◌∙◌, subst, arith}
+use Rattle.std.proofs.Common.{◌≡◌, ◌⊎◌, inl, inr, ℕ, ◌+◌, ◌<◌, Bool as Truth, true, false, List, Some, None, refl, ap, sym, ◌∙◌, subst, arith}
 use Rattle.std.specs.Prelude.{◌==◌, ◌||◌}
 use Rattle.std.proofs.lemmas.Bool.Decides.{nat_tests}
 use Rattle.dh_value.specs.declared.kinds.Kind.{Kind}
@@ -12,14 +12,16 @@ use Rattle.dh_tree.specs.PlainTrees.{Term, Action, action, ActionForm, lets, let
 use Rattle.dh_meaning.specs.AccessNumbers.{accesses_of, part_accesses, term_accesses}
 use Rattle.dh_meaning.specs.Bindings.{kind_found, kind_or_first}
 use Rattle.dh_meaning.specs.Core.{no_commands, variable}
-use Rattle.dh_meaning.specs.CoreOf.{core_action, core_form, core_groups, core_other, core_part, core_term, core_terms, depth_of, entity_number, kind_of}
-use Rattle.dh_plan.specs.PlanPhases.{commands_mention, term_mentions, terms_mention}
+use Rattle.dh_meaning.specs.CoreOf.{core_action, core_form, core_groups, core_other, core_part, core_term, core_terms, depth_of, entity_number, kind_of, target_to, way_of}
+use Rattle.dh_plan.specs.PlanPhases.{commands_mention, target_mentions, term_mentions, terms_mention}
 use Rattle.dh_sound.specs.SimpleForms.{GroupsSimple, IsSimple, PartSimple}
 use Rattle.dh_expressions.specs.declared.paths.Level.{Level}
 use Rattle.dh_expressions.specs.declared.scenes.Around.{Around}
 use Rattle.dh_expressions.specs.declared.scenes.Scene.{Scene}
 use Rattle.dh_expressions.specs.Evaluated.{known_in}
+use Rattle.dh_commands.proofs.CoreRuns.{view_rest}
 use Rattle.dh_formed.proofs.TermsCounted.{operation_mentions}
+use Rattle.dh_formed.proofs.Unled.{unled_mentions}
 use Rattle.dh_commands.specs.LanesRun.{paths_counted}
 use Rattle.dh_commands.specs.ShownVariables.{register_in}
 use Rattle.dh_blocks.specs.SoundCommands.{IsOwnOf, SoundAction, SoundGroups, SoundOther, SoundPart}
@@ -38,6 +40,9 @@ alone_of : (a : Truth) → (a || false) ≡ true → a ≡ true
 alone_of true h = refl
 alone_of false h = h
 
+none_so : false ≡ true → ⊥
+none_so e = cc
+
 -- Expressions.
 
 module _ (scene : Scene) (table : List MemEntry) (Name : Ref → Kind → Type 0) (P : ℕ → Type 0) (named : (r : Ref) (k : Kind) → Name r k → P (entity_number r.entity)) where
@@ -49,7 +54,7 @@ module _ (scene : Scene) (table : List MemEntry) (Name : Ref → Kind → Type 0
     form_names n place k (plain.number negative z) s e h = absurd cc
     form_names n place k (plain.truth_value b) s e h = absurd cc
     form_names n place k (plain.named r) s e h = subst P (sym (equal e (entity_number r.entity) h)) (named r k s.0)
-    form_names n place k (plain.accessed r ts) s e h = terms_names n ts s.0 e h
+    form_names n place k (plain.accessed r ts) s e h = terms_names n ts s.0 e (sym (unled_mentions scene n place None r ts e) ∙ h)
     form_names n place k (plain.in_bank r bank at row) s e h = term_names n row s.0 e h
     form_names n place k (plain.applied o left right) s e h =
         by (either_of (term_mentions e (core_term (known_in scene) n left)) (term_mentions e (core_term (known_in scene) (n + term_accesses left) right))
@@ -87,7 +92,8 @@ module _ (scene : Scene) (table : List MemEntry) (Name : Ref → Kind → Type 0
 
     stored_names : (n : ℕ) (target t : Term) → IsSound (known_in scene) table Name t → IsSoundTarget (known_in scene) table Name target → (id : _) (place : Place) → InCommands n (action id place (stores target t))
     stored_names n (plain.term at kind (plain.accessed r ts)) t s g id place e h =
-        either (either_of (term_mentions e (core_term (known_in scene) n t)) (terms_mention e (core_terms (known_in scene) (n + term_accesses t) ts)) (alone_of _ h)) (λ m. term_names n t s e m) (λ m. terms_names (n + term_accesses t) ts g.0 e m)
+        either (either_of (term_mentions e (core_term (known_in scene) n t)) (target_mentions e (target_to (way_of (known_in scene) r) (core_terms (known_in scene) (n + term_accesses t) ts))) (alone_of _ h)) (λ m. term_names n t s e m)
+        (λ m. terms_names (n + term_accesses t) ts g.0 e (sym (unled_mentions scene (n + term_accesses t) at kind r ts e) ∙ m))
     stored_names n (plain.term at kind (plain.in_bank r bank bank_at row)) t s g id place e h =
         either (either_of (term_mentions e (core_term (known_in scene) n t)) (term_mentions e (core_term (known_in scene) (n + term_accesses t) row)) (alone_of _ h)) (λ m. term_names n t s e m) (λ m. term_names (n + term_accesses t) row g.0 e m)
     stored_names n (plain.term at kind (plain.number negative z)) t s g id place e h = absurd g
@@ -112,7 +118,7 @@ module _ (scene : Scene) (table : List MemEntry) (Name : Ref → Kind → Type 0
           (λ q. action_names (λ f. ⊥) (λ f never. absurd never) (n + term_accesses t) chosen s.1.0 e q) (λ q. other_names (λ f. ⊥) (λ f never. absurd never) (n + term_accesses t + accesses_of chosen) other s.1.1 e q))
       action_names Folds folds n (action id place (blocks body)) s e h = groups_names Folds folds n body s e h
       action_names Folds folds n (action id place (lets_memory name shape shape_places value)) s e h = absurd cc
-      action_names Folds folds n (action id place (views name parent form)) s e h = absurd cc
+      action_names Folds folds n (action id place (views name parent form)) s e h = absurd (none_so (sym (ap (λ cs. commands_mention e cs) (view_rest scene n name parent form no_commands)) ∙ h))
       action_names Folds folds n (action id place (calls function arguments)) s e h = absurd cc
       action_names Folds folds n (action id place (repeats test body)) s e h = absurd cc
       action_names Folds folds n (action id place (counts iterator declared low high factor body combine combine_place)) s e h = absurd cc

@@ -6,7 +6,7 @@ use Rattle.std.proofs.lemmas.Bool.{eqb-true}
 use Rattle.dh_tree.specs.declared.trees.counters.Counter.{Counter}
 use Rattle.dh_tree.specs.PlainTrees.{Program}
 use Rattle.dh_tree.specs.Seen.{program_seen}
-use Rattle.dh_meaning.specs.AccessNumbers.{accesses_of, term_accesses}
+use Rattle.dh_meaning.specs.AccessNumbers.{term_accesses}
 use Rattle.dh_meaning.specs.Core.{CoreCommands, CoreTerm}
 use Rattle.dh_meaning.specs.CoreOf.{core_of}
 use Rattle.dh_meaning.specs.OnePhase.{any_makes, test_makes}
@@ -39,6 +39,7 @@ use Rattle.dh_laid.specs.BlockSites.{block_sites, test_sites}
 use Rattle.dh_laid.specs.LaidNumbers.{StoresReach}
 use Rattle.dh_laid.specs.LaidQuiet.{StandsIn}
 use Rattle.dh_laid.specs.LaidUses.{AreAlong, HaveNoOperations}
+use Rattle.dh_laid.proofs.SitesLaid.{along_reach}
 use Rattle.dh_blocks.specs.BlockMade.{IsTop}
 use Rattle.dh_gathering.specs.declared.blocks.Made.{Made}
 use Rattle.dh_gathering.specs.MadeBlocks.{AddsFlag, IsRoundBlock, IsStraightBlock, IsTestBlock, made_tie}
@@ -48,14 +49,14 @@ use Rattle.dh_gathering.proofs.BlocksPlanned.{operations_are}
 use Rattle.dh_phased.proofs.RoundsTop.{rounds_are_top}
 use Rattle.dh_charged.specs.ChargedBlocks.{EndsUnused, StandsAtPaths, charges_blocks}
 use Rattle.dh_charged.specs.ChargedUses.{AreLevelsOf, HasShares, OperationsCharge}
-use Rattle.dh_charged.specs.TracedSites.{HaveMemories}
+use Rattle.dh_charged.specs.AccessMemories.{HaveMemories}
 use Rattle.dh_charged.proofs.BlocksCharged.{blocks_charge_less, plans_charge, tests_charge_less}
 use Rattle.dh_used.specs.MadePlans.{IsMadeOf}
 use Rattle.dh_used.specs.SourceSites.{AllStand, AreSited}
 use Rattle.dh_used.specs.UsedPlans.{listed}
 use Rattle.dh_used.proofs.BlocksByKeys.{each_of}
 use Rattle.dh_used.proofs.NodesMade.{along, bare_at, bare_made, body_inside, body_named, inside_of, maker, nodes_so, straight_inside, straight_named, straight_there, test_inside, test_there}
-use Rattle.dh_used.proofs.PlansUsed.{named_facts}
+use Rattle.dh_used.proofs.PlansUsed.{all_named, named_facts}
 use Rattle.dh_used.proofs.SharesOfProgram.{any_below, shares_inside, test_below, writes_alone}
 use Rattle.dh_used.proofs.SitesOfSource.{blocks_are_sited, blocks_placed, test_placed_all, tests_are_sited}
 use Rattle.dh_told.specs.SpentPlans.{MadeNodesCharge, MadePlansCharge}
@@ -92,10 +93,6 @@ flag_unused true old new value flag (mid, (made, (number, (both, set)))) = recor
   unused = (refl, (refl, tt));
 }
 flag_unused false old new value flag (number, set) = record { more = unguarded (Set flag value) ∷ []; adds = set.operations; unused = (refl, tt) }
-
-along_reach : (from : ℕ) (cs : List Located) → AreAlong from cs → AllByRecursion (λ (c : Located). StoresReach c.command) cs
-along_reach from [] h = tt
-along_reach from (c ∷ cs) h = (h.0.reaches, along_reach (c.first + accesses_of c.command) cs h.1)
 
 -- Blocks.
 
@@ -139,7 +136,7 @@ module _ (scene : Scene) (final : Made) (plan : PlainPlan) (is : IsMadeOf scene 
     stand = each_of (λ (c : Located). StandsAmong 0 (trace p) c) ls (λ c g. straight_stands p ls c found g)
 
     sited : AreSited scene b.made.around made_here sites
-    sited = blocks_are_sited scene b.made.around ls b.made.before b.made.between b.made.made reach stand
+    sited = blocks_are_sited scene b.made.around ls b.made.before b.made.between b.made.made (all_named ls named) stand
 
     below : (k : ℕ) → any_makes k ls ≡ true → k < length (accesses_in (trace p))
     below k e = any_below (trace p) ls k stand e
@@ -157,8 +154,8 @@ module _ (scene : Scene) (final : Made) (plan : PlainPlan) (is : IsMadeOf scene 
     untouched : HaveNoOperations sites b.made.before.accesses
     untouched = record {
       none = b.made.counts;
-      there = λ number s at. (bare_made b.made.before.accesses ls number b.made.bare (blocks_placed scene b.made.around ls b.made.before b.made.between b.made.made going number s at)).0;
-      bare = λ number s at. (bare_made b.made.before.accesses ls number b.made.bare (blocks_placed scene b.made.around ls b.made.before b.made.between b.made.made going number s at)).1;
+      there = λ number s at. (bare_made b.made.before.accesses ls number b.made.bare (blocks_placed scene b.made.around ls b.made.before b.made.between b.made.made (all_named ls named) number s at)).0;
+      bare = λ number s at. (bare_made b.made.before.accesses ls number b.made.bare (blocks_placed scene b.made.around ls b.made.before b.made.between b.made.made (all_named ls named) number s at)).1;
     }
 
     straight_charges : OperationsCharge p (operations_in plan block)

@@ -4,7 +4,6 @@ use Rattle.std.specs.Prelude.{Bool as Truth, true, false}
 use Rattle.std.specs.List.{AllByRecursion}
 use Rattle.dh_tree.specs.PlainTrees.{Program}
 use Rattle.dh_tree.specs.Seen.{program_seen}
-use Rattle.dh_meaning.specs.AccessNumbers.{accesses_of}
 use Rattle.dh_meaning.specs.Core.{CoreCommands, CoreTerm}
 use Rattle.dh_meaning.specs.CoreOf.{core_of, core_term, core_test_of}
 use Rattle.dh_meaning.specs.Phases.{Located, phases_of}
@@ -20,10 +19,9 @@ use Rattle.dh_expressions.specs.declared.scenes.Scene.{Scene}
 use Rattle.dh_expressions.specs.Evaluated.{known_in}
 use Rattle.dh_expressions.specs.Shown.{is_read_term}
 use Rattle.dh_commands.specs.LanesRun.{paths_counted}
-use Rattle.dh_laid.specs.LaidNumbers.{StoresReach}
+use Rattle.dh_sound.specs.Straight.{IsNamedAction}
 use Rattle.dh_laid.specs.LaidProducts.{AddsProducts, products_in}
 use Rattle.dh_laid.specs.LaidQuiet.{StandsIn}
-use Rattle.dh_laid.specs.LaidUses.{AreAlong}
 use Rattle.dh_laid.proofs.ProductsOfCore.{terms_multiply}
 use Rattle.dh_blocks.proofs.RoundsTurned.{rounds_paths}
 use Rattle.dh_gathering.specs.declared.blocks.Made.{Made}
@@ -33,7 +31,8 @@ use Rattle.dh_gathering.specs.PushedSets.{settings}
 use Rattle.dh_gathering.proofs.BlocksPlanned.{operations_are}
 use Rattle.dh_phased.proofs.RoundsTop.{rounds_are_top}
 use Rattle.dh_used.specs.MadePlans.{IsMadeOf}
-use Rattle.dh_used.proofs.NodesMade.{along, body_named, nodes_so, straight_named, straight_there}
+use Rattle.dh_used.proofs.NodesMade.{body_named, nodes_so, straight_named, straight_there}
+use Rattle.dh_used.proofs.PlansUsed.{all_named}
 use Rattle.dh_told.specs.MultipliedPlans.{MadePlansMultiply}
 use Rattle.dh_told.proofs.StraightsMultiply.{each_multiply, each_products, each_reaching}
 use Rattle.dh_laid.proofs.CommandsMultiply.{products_append, tests_products_added}
@@ -58,10 +57,6 @@ flag_products true old new value flag (mid, (made, (number, (both, set)))) =
       few = let e = products_append (x ∷ []) (y ∷ []) in let both : block_products (x ∷ []) + block_products (y ∷ []) ≡ 0 = omega (arith, none, none') in least (block_products (x ∷ (y ∷ []))) (e ∙ both);
     }
 flag_products false old new value flag (number, set) = record { more = _ ∷ []; adds = set.operations; few = omega arith }
-
-along_reach : (from : ℕ) (cs : List Located) → AreAlong from cs → AllByRecursion (λ (c : Located). StoresReach c.command) cs
-along_reach from [] h = tt
-along_reach from (c ∷ cs) h = (h.0.reaches, along_reach (c.first + accesses_of c.command) cs h.1)
 
 -- what was added behind a draft, and operations behind that which multiply nothing
 added_within : (old new end : Draft) (most : ℕ) → AddsProducts old new most → AddsProducts new end 0 → block_products (drop (length old.operations.items) end.operations.items) ≤ most
@@ -105,12 +100,12 @@ module _ (scene : Scene) (final : Made) (plan : PlainPlan) (is : IsMadeOf scene 
       own : operations_in plan block ≡ drop (length b.made.before.draft.operations.items) b.made.after.draft.operations.items
       own = operations_are final plan.blocks is.blocks block b.made.before b.made.after b.made.stands
 
-      reach : AllByRecursion (λ (c : Located). StoresReach c.command) b.located
-      reach = along_reach 0 b.located (along 0 b.located b.made.rising (straight_named (phases_of p) b.located (body_named scene final plan is) (straight_there (known_in scene) [] (phases_of p) (loops_round rounds) b.located b.placed)))
+      named : AllByRecursion (λ (c : Located). IsNamedAction c.command) b.located
+      named = all_named b.located (straight_named (phases_of p) b.located (body_named scene final plan is) (straight_there (known_in scene) [] (phases_of p) (loops_round rounds) b.located b.placed))
 
       same : each_products b.located * paths_counted b.made.around ≡ commands_products cs * length (paths_of_rounds rounds)
       same =
-          ap (λ (n : ℕ). n * paths_counted b.made.around) (sym (ap commands_products b.are ∙ each_reaching (known_in scene) b.located reach))
+          ap (λ (n : ℕ). n * paths_counted b.made.around) (sym (ap commands_products b.are ∙ each_reaching (known_in scene) b.located named))
           ∙ ap (λ (n : ℕ). commands_products cs * n) (paths_long rounds b.made.around b.made.round b.made.stands_in)
 
   test_multiplies : (rounds : List Round) (test : CoreTerm) (flag block : ℕ) → IsTestBlock scene final rounds test flag block → block_products (operations_in plan block) ≤ term_products test * length (paths_of_rounds rounds)

@@ -47,6 +47,7 @@ use Rattle.dh_gathering.proofs.CountersWide.{counters_are, countings_are}
 use Rattle.dh_gathering.proofs.KindsOfRegisters.{first_at, first_before}
 use Rattle.dh_phased.specs.ProgramLoops.{HasOwnLoops}
 use Rattle.dh_phased.proofs.LoopsCounted.{loops_are_own}
+use Rattle.dh_phased.proofs.NodesTied.{counting_more}
 use Rattle.dh_phased.proofs.PhasesDone.{phases_are_done}
 use Rattle.dh_phased.proofs.SlotsTold.{slots_told}
 use Rattle.dh_used.specs.SourceReaches.{AreOfSource}
@@ -54,13 +55,13 @@ use Rattle.dh_used.specs.UsedPlans.{listed}
 use Rattle.dh_used.proofs.NodesReach.{made_plans_reach}
 use Rattle.dh_told.specs.FormedPlans.{IsWholePlan, ReadyPlansAreFormed}
 use Rattle.dh_told.specs.PlansTold.{IsOfReady}
-use Rattle.dh_told.specs.ScenesKnown.{AreInOrder, HaveTheirKinds}
+use Rattle.dh_told.specs.ScenesKnown.{AreHeldInOrder, HaveTheirKinds}
 use Rattle.dh_told.proofs.BlocksTold.{both_all, holds, plans_told, straight_formed, table, test_formed}
 use Rattle.dh_told.proofs.VariablesKept.{kind_there, long}
 
 -- The counter of a loop.
 
-module _ (scene : Scene) (count : ℕ) (registers : List Kind) (order : AreInOrder scene count) (kinds : HaveTheirKinds scene count registers) where
+module _ (scene : Scene) (count : ℕ) (registers : List Kind) (order : AreHeldInOrder scene count) (kinds : HaveTheirKinds scene count registers) where
   counter_low : (loop : Turning) → IsCounting scene (placing_in scene) loop → counter_in scene loop < first_among scene.held.now count (suc loop.iterator)
   counter_low loop c = first_before (declarations [] (program_seen scene.program.now).body) (length (program_seen scene.program.now).entities) scene.held.now count loop.iterator order.held order.count_is c.there c.copies
 
@@ -116,10 +117,6 @@ absent_formed plan block past = record {
 }
 
 -- The nodes.
-
-counting_more : (scene : Scene) (rounds : List Round) (r : Round) → AreCounting scene (placing_in scene) rounds → IsCounting scene (placing_in scene) r.loop → r.counter ≡ counter_in scene r.loop → AreCounting scene (placing_in scene) (rounds ++ r ∷ [])
-counting_more scene [] r all h is = ((h, is), tt)
-counting_more scene (x ∷ rounds) r all h is = (all.0, counting_more scene rounds r all.1 h is)
 
 module _ (scene : Scene) (count : ℕ) (plan : PlainPlan) (final : Made) (h : IsOfReady scene count plan final) where
   -- registers that are set are those of variables, or flags

@@ -32,7 +32,7 @@ use Rattle.dh_told.specs.MeasuredBlocks.{FitsAlone, StandsStraight, StandsTest}
 use Rattle.dh_told.proofs.PlansMeasured.{made_plans_are_long}
 use Rattle.dh_told.specs.FormedPlans.{IsWholePlan}
 use Rattle.dh_told.specs.PlansTold.{IsOfReady}
-use Rattle.dh_told.proofs.BlocksTold.{both_all, first_all, has, sound_here, stands_so, straight_all, straight_cut, straight_found, straight_reach, straight_shares, straight_sound, test_cut, test_found, test_known, test_shares, test_sound, test_stand, then_all}
+use Rattle.dh_told.proofs.BlocksTold.{both_all, first_all, has, sound_here, stands_so, straight_all, straight_cut, straight_found, straight_names, straight_shares, straight_sound, test_cut, test_found, test_known, test_shares, test_sound, test_stand, then_all}
 use Rattle.dh_told.proofs.VariablesKept.{long}
 use Rattle.dh_told.specs.LastingPlans.{ReadyPlansAreMeasured, ReadyPlansHaveLengths}
 use Rattle.dh_told.proofs.SharesWithin.{straight_within, test_within}
@@ -83,7 +83,7 @@ module _ (scene : Scene) (count : ℕ) (plan : PlainPlan) (final : Made) (h : Is
       stands = stands_so scene count plan final h rounds s.made.around s.made.round s.made.stands_in counting block sites (straight_shares scene count plan final h rounds cs block s counting);
       fits = all_alone;
       shares =
-          straight_within scene h.shares s.located (straight_reach scene count plan final h rounds cs block s counting) (straight_all scene count plan final h rounds cs block s counting)
+          straight_within scene h.shares s.located (straight_names scene count plan final h rounds cs block s counting) (straight_all scene count plan final h rounds cs block s counting)
           (straight_found scene count plan final h rounds cs block s counting);
     }
 

@@ -9,6 +9,7 @@ use Rattle.dh_value.specs.Words.{IsKind}
 use Rattle.dh_base.specs.declared.outcomes.FaultKind.{FaultKind}
 use Rattle.dh_base.specs.declared.places.Place.{Place}
 use Rattle.dh_meaning.specs.AccessNumbers.{accesses_of}
+use Rattle.dh_meaning.specs.Core.{CorePhases}
 use Rattle.dh_meaning.specs.CoreOf.{core_of}
 use Rattle.dh_sound.proofs.NamedPrograms.{ready_named}
 use Rattle.dh_plan.specs.declared.operations.PlanBlock.{PlanBlock}
@@ -16,6 +17,7 @@ use Rattle.dh_plan.specs.DoneProgram.{IsPlanOf, ChargesWithin, UsesByKeys, Probe
 use Rattle.dh_plan.specs.Passes.{IsToCompile}
 use Rattle.dh_plan.specs.PlainPlans.{Nodes, PlainPlan}
 use Rattle.dh_plan.specs.PlanPhases.{AreNodesOf, DoesPhases}
+use Rattle.dh_plan.specs.SeenPlans.{nodes_seen}
 use Rattle.dh_plan.specs.SoundPlans.{IsFormed, blocks_of}
 use Rattle.dh_plan.proofs.JointSteps.{phases_make_runs}
 use Rattle.dh_backend.proofs.FaultsFew.{accesses_within}
@@ -51,8 +53,9 @@ use Rattle.dh_told.proofs.RegistersSized.{registers_are_sized}
 use Rattle.dh_gathering.proofs.KindsOfRegisters.{places_successive}
 use Rattle.dh_told.specs.FormedPlans.{IsWholePlan}
 use Rattle.dh_told.specs.PlansTold.{IsOfReady}
-use Rattle.dh_told.specs.ScenesKnown.{AreInOrder, HaveTheirKinds}
+use Rattle.dh_told.specs.ScenesKnown.{AreHeldInOrder, HaveTheirKinds}
 use Rattle.dh_told.proofs.BlocksTold.{plans_told}
+use Rattle.dh_told.proofs.CoreHere.{core_here}
 use Rattle.dh_told.proofs.PlansFormed.{plans_formed}
 use Rattle.dh_told.proofs.PlansLast.{plans_last}
 use Rattle.dh_told.proofs.MadeBanks.{made_keep_banks}
@@ -81,7 +84,7 @@ module _ (scene : Scene) (count : ℕ) (phased : Phased) (plan : PlainPlan) (ask
   abbrev p : Program
   p = program_seen scene.program.now
 
-  in_order : AreInOrder scene count
+  in_order : AreHeldInOrder scene count
   in_order = record { held = made.held; count_is = made.count_is }
 
   pub held : HoldsVariables scene plan count
@@ -89,7 +92,8 @@ module _ (scene : Scene) (count : ℕ) (phased : Phased) (plan : PlainPlan) (ask
       (λ entity register there from below. subst (λ (ks : List Kind). HasKind p scene.held.now ks entity register) (sym put.registers) (of.kinds entity register there from below))
 
   pub nodes : AreNodesOf (made_tie scene of.final) [] (core_of p).phases plan.body
-  nodes = subst (λ (ns : Nodes). AreNodesOf (made_tie scene of.final) [] (core_of p).phases ns) (sym put.body) of.nodes
+  nodes = subst (λ (ns : Nodes). AreNodesOf (made_tie scene of.final) [] (core_of p).phases ns) (sym put.body)
+      (subst (λ (qs : CorePhases). AreNodesOf (made_tie scene of.final) [] qs (nodes_seen phased.nodes.items)) (core_here scene asked.ready) of.nodes)
 
   pub blocks : AreBlocksOf of.final.building.draft.operations.items of.final.starts.items plan.blocks
   blocks = subst (λ (bs : List PlanBlock). AreBlocksOf of.final.building.draft.operations.items of.final.starts.items bs) (sym put.blocks) of.blocks

@@ -17,9 +17,9 @@ use Rattle.dh_blocks.specs.SlotsOfScene.{placing_in}
 use Rattle.dh_gathering.specs.declared.blocks.Made.{Made}
 use Rattle.dh_gathering.specs.LoopCounters.{AreCounting}
 use Rattle.dh_gathering.specs.MadeBlocks.{IsStraightBlock, IsTestBlock}
+use Rattle.dh_phased.proofs.NodesTied.{nodes_tied}
 use Rattle.dh_told.specs.MeasuredPlans.{HasMeasuredBlocks, MadePlansAreLong}
 use Rattle.dh_told.proofs.BlocksMeasured.{made_straights_are_long, made_tests_are_long}
-use Rattle.dh_told.proofs.NodesTied.{nodes_tied}
 
 module _ (scene : Scene) (plan : PlainPlan) (count : ℕ) (final : Made) (has : HasMeasuredBlocks scene plan count final (shared (program_seen scene.program.now))) where
   straight_long : (rounds : List Round) (cs : CoreCommands) (block : ℕ) → AreCounting scene (placing_in scene) rounds → IsStraightBlock scene final rounds cs block → block_clocks plan block ≡ block_length (shared (program_seen scene.program.now)) (commands cs)
@@ -34,4 +34,4 @@ module _ (scene : Scene) (plan : PlainPlan) (count : ℕ) (final : Made) (has : 
 
 pub made_plans_are_long : MadePlansAreLong
 made_plans_are_long scene plan count final qs ns has loops h =
-    nodes_tied scene final (has_lengths (program_seen scene.program.now) plan) (straight_long scene plan count final has) (test_long scene plan count final has) (λ rounds loop counter. tt) [] qs ns tt loops h
+    nodes_tied scene final (has_lengths (program_seen scene.program.now) plan) (straight_long scene plan count final has) (test_long scene plan count final has) (λ rounds loop counter all counts other is. tt) [] qs ns tt loops h

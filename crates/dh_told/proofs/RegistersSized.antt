@@ -19,7 +19,7 @@ use Rattle.dh_expressions.specs.declared.scenes.Scene.{Scene}
 use Rattle.dh_gathering.specs.declared.making.Phased.{Phased}
 use Rattle.dh_gathering.specs.ProgramMade.{IsPhased}
 use Rattle.dh_gathering.specs.Registers.{AreSuccessive, HasKind, IsRegisterKind, first_among}
-use Rattle.dh_told.specs.ScenesKnown.{AreInOrder}
+use Rattle.dh_told.specs.ScenesKnown.{AreHeldInOrder}
 use Rattle.dh_told.specs.SizedRegisters.{RegistersAreSized}
 use Rattle.dh_told.proofs.VariablesSized.{variables_are_sized}
 

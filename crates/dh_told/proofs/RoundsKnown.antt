@@ -30,7 +30,7 @@ use Rattle.dh_gathering.specs.LoopCounters.{AreCounting, IsCounting}
 use Rattle.dh_gathering.specs.MadeBlocks.{counter_in}
 use Rattle.dh_gathering.specs.Registers.{IsRegisterKind}
 use Rattle.dh_gathering.proofs.KindsOfRegisters.{first_at, first_before}
-use Rattle.dh_told.specs.ScenesKnown.{AreInOrder, HaveTheirKinds}
+use Rattle.dh_told.specs.ScenesKnown.{AreHeldInOrder, HaveTheirKinds}
 use Rattle.dh_told.proofs.VariablesKept.{kind_there}
 
 -- The depths of iterators.
@@ -83,7 +83,7 @@ inside_at round (x ∷ rounds) zero r h e = subst (λ (y : Round). y.loop.depth 
 inside_at round (x ∷ rounds) (suc index) r h e =
     inside_at (round ++ x.loop ∷ []) rounds index r h.1 e ∙ ap (λ (ls : List Turning). length (factors ls)) (append_assoc round (x.loop ∷ []) (map (λ (q : Round). q.loop) (take (suc index) rounds)))
 
-module _ (scene : Scene) (count : ℕ) (plan : PlainPlan) (order : AreInOrder scene count) (kinds : HaveTheirKinds scene count plan.registers) where
+module _ (scene : Scene) (count : ℕ) (plan : PlainPlan) (order : AreHeldInOrder scene count) (kinds : HaveTheirKinds scene count plan.registers) where
   -- the counter of a loop is a register of its kind
   counter_kind : (loop : Turning) (c : IsCounting scene (placing_in scene) loop) → (w : ℕ) × (kind_at plan.registers (counter_in scene loop) ≡ Unsigned w)
   counter_kind loop c =

@@ -1,11 +1,12 @@
 -- A read of a block that shares an earlier read shares one of the block, of the same memory.
-use Rattle.std.proofs.Common.{◌≡◌, ◌<◌, ◌&&◌, not, ℕ, zero, suc, Bool, true, false, List, [], ◌∷◌, ◌++◌, length, Option, Some, None, refl, ap, sym, ◌∙◌, arith, append_assoc}
+use Rattle.std.proofs.Common.{◌≡◌, ◌<◌, ◌&&◌, not, ℕ, Bool, true, false, List, [], ◌∷◌, ◌++◌, length, Option, Some, None, refl, ap, sym, ◌∙◌, arith, append_assoc}
 use Rattle.std.specs.Prelude.{slice_get}
 use Rattle.std.specs.Option.{is_some}
 use Rattle.std.proofs.lemmas.Bool.Decides.{nat_tests}
 use Rattle.dh_tree.specs.Memories.{number_in, same_entity}
 use Rattle.dh_tree.specs.Seen.{program_seen}
 use Rattle.dh_meaning.specs.CoreOf.{entity_number}
+use Rattle.dh_meaning.specs.Ways.{base_of, way_at}
 use Rattle.dh_meaning.specs.OnePhase.{in_one_phase}
 use Rattle.dh_meets.specs.Sharing.{alike_elements, shared}
 use Rattle.dh_meets.specs.SourceEvents.{SourceAccess, SourceEvent, accesses, accesses_in, assigned, trace}
@@ -22,23 +23,9 @@ use Rattle.dh_formed.specs.WholeBlocks.{block_of}
 use Rattle.dh_typed_laid.specs.SuitingBlocks.{KeepsShares}
 use Rattle.dh_used.specs.SourceSites.{AreSited, IsSiteOf}
 use Rattle.dh_used.proofs.SharedReads.{shared_there}
+use Rattle.dh_used.proofs.SharesOfProgram.{cut_at}
 
 -- Where an access stands among events.
-
-record CutAt (es : List SourceEvent) (k : ℕ) (a : SourceAccess) : Type 0 where
-  pub before : List SourceEvent
-  pub after : List SourceEvent
-  pub cut : es ≡ before ++ accesses a ∷ after
-  pub counted : count before ≡ k
-
-cut_at : (es : List SourceEvent) (k : ℕ) (a : SourceAccess) → slice_get (accesses_in es) k ≡ Some a → CutAt es k a
-cut_at [] k a e = absurd cc
-cut_at (assigned entity ∷ es) k a e = let c = cut_at es k a e in record { before = assigned entity ∷ c.before; after = c.after; cut = ap (λ (l : List SourceEvent). assigned entity ∷ l) c.cut; counted = c.counted }
-cut_at (accesses b ∷ es) zero a e = let same : b ≡ a = cc in record { before = []; after = es; cut = ap (λ (x : SourceAccess). accesses x ∷ es) same; counted = refl }
-cut_at (accesses b ∷ es) (suc k) a e =
-    let c = cut_at es k a e in
-    let n = c.counted in
-    record { before = accesses b ∷ c.before; after = c.after; cut = ap (λ (l : List SourceEvent). accesses b ∷ l) c.cut; counted = omega (arith, n) }
 
 at_cut : (before after : List SourceEvent) (a : SourceAccess) → slice_get (accesses_in (before ++ accesses a ∷ after)) (count before) ≡ Some a
 at_cut [] after a = refl
@@ -82,7 +69,7 @@ module _ (scene : Scene) (tells : TellsShares (program_seen scene.program.now) s
   memory_same : (s t : Site) (a b : SourceAccess) → IsSiteOf scene around.levels.now (length around.guards.now) s a → IsSiteOf scene around.levels.now (length around.guards.now) t b → a.entity ≡ b.entity → s.memory ≡ t.memory
   memory_same s t a b h k e =
       ap (λ (x : Site). x.memory) h.is
-      ∙ (ap (λ (o : Option ℕ). entity_number (number_in (known_in scene).memories o)) (h.entity_is ∙ (e ∙ sym k.entity_is)) ∙ sym (ap (λ (x : Site). x.memory) k.is))
+      ∙ (ap (λ (o : Option ℕ). entity_number (number_in (known_in scene).memories (base_of (way_at (known_in scene).memories [] o) o))) (h.entity_is ∙ (e ∙ sym k.entity_is)) ∙ sym (ap (λ (x : Site). x.memory) k.is))
 
   -- the read of a number that another shares, and that it is of the same memory
   shared_same : (k j : ℕ) (b : SourceAccess) → slice_get (accesses_in (trace (program_seen scene.program.now))) k ≡ Some b → shared (program_seen scene.program.now) k ≡ Some j

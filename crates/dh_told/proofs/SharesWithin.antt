@@ -8,8 +8,8 @@ use Rattle.std.proofs.lemmas.Bool.Decides.{nat_tests}
 use Rattle.dh_tree.specs.Indices.{form_of}
 use Rattle.dh_tree.specs.PlainTrees as plain
 use Rattle.dh_tree.specs.PlainTrees.{Program, Term, Action, action, ActionForm, lets, lets_memory, views, assigns, stores, reduces, calls, blocks, decides, repeats, counts, MaybeAction, no_action, one_action, Actions, no_actions, action_then, Groups, no_groups, group_then}
-use Rattle.dh_tree.specs.Seen.{program_seen}
-use Rattle.dh_meaning.specs.AccessNumbers.{accesses_of, part_accesses, term_accesses}
+use Rattle.dh_tree.specs.Seen.{program_seen, terms}
+use Rattle.dh_meaning.specs.AccessNumbers.{accesses_of, part_accesses, term_accesses, terms_accesses}
 use Rattle.dh_meaning.specs.CoreOf as core
 use Rattle.dh_meaning.specs.OnePhase.{any_makes, form_tests, groups_make, is_within, makes, other_makes, part_makes, test_makes, tests_make}
 use Rattle.dh_meaning.specs.Phases.{Located, idle_phases_of, phases_of}
@@ -18,13 +18,15 @@ use Rattle.dh_meets.specs.Sharing.{shared}
 use Rattle.dh_meets.specs.SourceEvents.{accesses_in, trace}
 use Rattle.dh_lengths.specs.SharedReads.{TellsShares}
 use Rattle.dh_sound.specs.PhaseFacts.{HasStraight, HasTest, StandsAmong}
+use Rattle.dh_sound.specs.Straight.{AreNamedActions, AreNamedGroups, IsNamedAction, IsNamedOther}
 use Rattle.dh_sound.proofs.EventCounts.{events_counted}
 use Rattle.dh_sound.proofs.SamePhase.{straight_has_both, test_has_both}
 use Rattle.dh_expressions.specs.declared.scenes.Scene.{Scene}
 use Rattle.dh_laid.specs.Laid.{aim_accesses}
-use Rattle.dh_laid.specs.LaidNumbers.{IsAccessForm, StoresReach, StoresReachGroups, StoresReachOther, StoresReachPart}
+use Rattle.dh_laid.specs.LaidNumbers.{IsAccessForm}
 use Rattle.dh_laid.specs.LaidUses.{EachWrite, EachWriteActions, EachWriteGroups, EachWriteOther, IsUnshared, WritesAlone}
 use Rattle.dh_used.specs.SourceSites.{AllStand}
+use Rattle.dh_used.proofs.NamedStores.{all_reach, target_reaches}
 use Rattle.dh_used.proofs.SharedReads.{shared_before, shared_there}
 use Rattle.dh_used.proofs.SharesOfProgram.{any_below, test_below, writes_alone}
 use Rattle.dh_paced.specs.BlockLengths.{ShareWithin}
@@ -124,38 +126,39 @@ module _ (P : ℕ → Type 0) (k : ℕ) (free : P k → ⊥) where
   stored first t (plain.term place kind (plain.converted inner to)) is p i = absurd is
 
   mutual
-    read_made : (a : Action) (first : ℕ) → StoresReach a → EachWrite P first a → makes k first a ≡ true → IsReadIn first a k
+    read_made : (a : Action) (first : ℕ) → IsNamedAction a → EachWrite P first a → makes k first a ≡ true → IsReadIn first a k
     read_made (action id place (lets name declared (Some value))) first is w m = within k first (term_accesses value) m
     read_made (action id place (lets name declared None)) first is w m = absurd (none_within first k (within k first 0 m))
     read_made (action id place (assigns target value)) first is w m = within k first (term_accesses value) m
-    read_made (action id place (stores target value)) first is w m = stored first (term_accesses value) target is w (within k first (term_accesses value + term_accesses target) m)
+    read_made (action id place (stores target value)) first is w m = stored first (term_accesses value) target (target_reaches target is.0) w (within k first (term_accesses value + term_accesses target) m)
     read_made (action id place (reduces target op value)) first is w m = within k first (term_accesses value) m
     read_made (action id place (decides test chosen other)) first is w m =
         three (or_split (is_within k first (term_accesses test)) (makes k (first + term_accesses test) chosen || other_makes k (first + term_accesses test + accesses_of chosen) other) m)
         (λ i. within k first (term_accesses test) i) (λ i. or_split (makes k (first + term_accesses test) chosen) (other_makes k (first + term_accesses test + accesses_of chosen) other) i)
-        (λ i. read_made chosen (first + term_accesses test) is.0 w.0 i) (λ i. read_other other (first + term_accesses test + accesses_of chosen) is.1 w.1 i)
+        (λ i. read_made chosen (first + term_accesses test) is.1.0 w.0 i) (λ i. read_other other (first + term_accesses test + accesses_of chosen) is.1.1 w.1 i)
     read_made (action id place (blocks body)) first is w m = read_groups body first is w m
     read_made (action id place (lets_memory name shape shape_places value)) first is w m = absurd (never m)
-    read_made (action id place (views name parent form)) first is w m = absurd (never m)
+    read_made (action id place (views name parent form)) first is w m =
+        absurd (none_within first k (within k first 0 (subst (λ (ts : List Term). is_within k first (terms_accesses (terms ts)) ≡ true) is.1 m)))
     read_made (action id place (calls function arguments)) first is w m = absurd (never m)
     read_made (action id place (repeats test body)) first is w m = absurd (never m)
     read_made (action id place (counts iterator declared low high factor body combine combine_place)) first is w m = absurd (never m)
 
-    read_other : (other : MaybeAction) (first : ℕ) → StoresReachOther other → EachWriteOther P first other → other_makes k first other ≡ true → IsReadOther first other k
+    read_other : (other : MaybeAction) (first : ℕ) → IsNamedOther other → EachWriteOther P first other → other_makes k first other ≡ true → IsReadOther first other k
     read_other no_action first is w m = absurd (never m)
     read_other (one_action a) first is w m = read_made a first is w m
 
-    read_part : (part : Actions) (first : ℕ) → StoresReachPart part → EachWriteActions P first part → part_makes k first part ≡ true → IsReadPart first part k
+    read_part : (part : Actions) (first : ℕ) → AreNamedActions part → EachWriteActions P first part → part_makes k first part ≡ true → IsReadPart first part k
     read_part no_actions first is w m = absurd (never m)
     read_part (action_then a rest) first is w m =
         two (or_split (makes k first a) (part_makes k (first + accesses_of a) rest) m) (λ i. read_made a first is.0 w.0 i) (λ i. read_part rest (first + accesses_of a) is.1 w.1 i)
 
-    read_groups : (body : Groups) (first : ℕ) → StoresReachGroups body → EachWriteGroups P first body → groups_make k first body ≡ true → IsReadGroups first body k
+    read_groups : (body : Groups) (first : ℕ) → AreNamedGroups body → EachWriteGroups P first body → groups_make k first body ≡ true → IsReadGroups first body k
     read_groups no_groups first is w m = absurd (never m)
     read_groups (group_then part rest) first is w m =
         two (or_split (part_makes k first part) (groups_make k (first + part_accesses part) rest) m) (λ i. read_part part first is.0 w.0 i) (λ i. read_groups rest (first + part_accesses part) is.1 w.1 i)
 
-read_of : (scene : Scene) (k : ℕ) → (IsUnshared scene k → ⊥) → (cs : List Located) → AllByRecursion (λ (c : Located). StoresReach c.command) cs → WritesAlone scene cs → any_makes k cs ≡ true → IsReadOfEach cs k
+read_of : (scene : Scene) (k : ℕ) → (IsUnshared scene k → ⊥) → (cs : List Located) → AllByRecursion (λ (c : Located). IsNamedAction c.command) cs → WritesAlone scene cs → any_makes k cs ≡ true → IsReadOfEach cs k
 read_of scene k free [] is w m = absurd (never m)
 read_of scene k free (c ∷ cs) is w m =
     two (or_split (makes k c.first c.command) (any_makes k cs) m) (λ i. read_made (λ number. IsUnshared scene number) k free c.command c.first is.0 w.0 i) (λ i. read_of scene k free cs is.1 w.1 i)
@@ -173,14 +176,14 @@ module _ (scene : Scene) (tells : TellsShares (program_seen scene.program.now) s
   not_unshared : (number read : ℕ) → slice_get scene.shares.now number ≡ Some (Some read) → IsUnshared scene read → ⊥
   not_unshared number read e u = u.other number e
 
-  pub straight_within : (cs : List Located) → AllByRecursion (λ (c : Located). StoresReach c.command) cs → AllStand scene cs → HasStraight (phases_of (program_seen scene.program.now) ++ idle_phases_of (program_seen scene.program.now)) cs
+  pub straight_within : (cs : List Located) → AllByRecursion (λ (c : Located). IsNamedAction c.command) cs → AllStand scene cs → HasStraight (phases_of (program_seen scene.program.now) ++ idle_phases_of (program_seen scene.program.now)) cs
       → ShareWithin scene (shared (program_seen scene.program.now)) (λ number. any_makes number cs ≡ true) (IsReadOfEach cs)
-  straight_within cs reach stand found = record {
+  straight_within cs named stand found = record {
     told = λ number made. told_here number (any_below (trace (program_seen scene.program.now)) cs number stand made);
     earlier = λ number read made e.
         let at = told_here number (any_below (trace (program_seen scene.program.now)) cs number stand made) ∙ ap (λ (o : Option ℕ). Some o) e in (
           shared_before (program_seen scene.program.now) read number e,
-          read_of scene read (not_unshared number read at) cs reach (writes_alone scene tells cs reach stand)
+          read_of scene read (not_unshared number read at) cs named (writes_alone scene tells cs (all_reach cs named) stand)
               (straight_has_both (program_seen scene.program.now) cs read number found made (shared_there (program_seen scene.program.now) read number e).phase),
         );
   }

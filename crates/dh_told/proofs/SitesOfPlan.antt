@@ -5,12 +5,13 @@ use Rattle.std.specs.Option.{is_some}
 use Rattle.dh_tree.specs.Memories.{memories_of, number_in}
 use Rattle.dh_tree.specs.PlainTrees.{Program}
 use Rattle.dh_tree.specs.Seen.{program_seen}
-use Rattle.dh_meaning.specs.Bindings.{bindings_of}
+use Rattle.dh_meaning.specs.Ways.{all_bindings_of}
 use Rattle.dh_meaning.specs.CoreOf.{entity_number}
 use Rattle.dh_meaning.specs.Paths.{copies_in}
-use Rattle.dh_meets.specs.Charges.{element_depends}
+use Rattle.dh_meets.specs.Charges.{element_depends, entity_depends}
 use Rattle.dh_meets.specs.SourceEvents.{Element, SourceAccess, accesses_in, trace}
-use Rattle.dh_events.specs.Accesses.{element_in}
+use Rattle.dh_code.proofs.CommandsFlattened.{own_base}
+use Rattle.dh_events.specs.Accesses.{element_in, entity_in}
 use Rattle.dh_sound.specs.ToldEvents.{access_at}
 use Rattle.dh_expressions.specs.declared.paths.Level.{Level}
 use Rattle.dh_expressions.specs.declared.scenes.Around.{Around}
@@ -22,7 +23,7 @@ use Rattle.dh_formed.specs.Formed.{Site}
 use Rattle.dh_commands.specs.LanesRun.{paths_counted}
 use Rattle.dh_commands.specs.ShownVariables.{factors_of}
 use Rattle.dh_charged.specs.ChargedUses.{AreLevelsOf, AreSitesAt, IsSiteAt, TellsAccess}
-use Rattle.dh_charged.specs.TracedSites.{HaveMemories}
+use Rattle.dh_charged.specs.AccessMemories.{HaveMemories}
 use Rattle.dh_used.specs.SourceSites.{AreSited, IsSiteOf}
 
 element_there : {A : Type 0} (xs : List A) (k : ℕ) → k < length xs → (x : A) × (slice_get xs k ≡ Some x)
@@ -43,16 +44,21 @@ module _ (scene : Scene) (around : Around) (counted : paths_counted around ≡ c
   abbrev levels : List Level
   levels = around.levels.now
 
+  -- whether an access of what a name stands for, to this element, depends on the loop of a level
+  abbrev depends_by : (writes : Bool) → (level : ℕ) → Option ℕ → Element → Bool
+  depends_by writes level entity e = writes || (entity_depends (all_bindings_of p) level entity || element_depends (all_bindings_of p) level e)
+
   -- a site of the source
   site_tells : (s : Site) (a : SourceAccess) → IsSiteOf scene levels (paths_counted around) s a → AreLevelsOf levels a.site.loops → TellsAccess scene levels s a
   site_tells s a is loops = record {
     form = is.form;
-    memory_is = ap (λ (t : Site). t.memory) is.is ∙ ap (λ (o : Option ℕ). entity_number (number_in (memories_of p) o)) is.entity_is;
+    memory_is = ap (λ (t : Site). t.memory) is.is ∙ ap (λ (o : Option ℕ). entity_number (number_in (memories_of p) o)) (own_base (memories_of p) is.ref.entity ∙ is.entity_is);
     element_is = is.element_is;
     leader_is = λ path.
         ap (λ (t : Site). t.standing.leader path) is.is
-        ∙ (ap (λ (ls : List Level). leader_number ls (λ level. a.writes || element_depends (bindings_of p) level (element_in is.form)) path) is.levels_are
-        ∙ ap (λ (e : Element). leader_number levels (λ level. a.writes || element_depends (bindings_of p) level e) path) is.element_is);
+        ∙ (ap (λ (ls : List Level). leader_number ls (λ level. depends_by a.writes level (entity_in is.form) (element_in is.form)) path) is.levels_are
+        ∙ (ap (λ (x : Option ℕ). leader_number levels (λ level. depends_by a.writes level x (element_in is.form)) path) is.named_is
+        ∙ ap (λ (e : Element). leader_number levels (λ level. depends_by a.writes level a.entity e) path) is.element_is));
     bank_is = λ path.
         ap (λ (t : Site). t.standing.bank path) is.is
         ∙ (ap (λ (m : ℕ). narrowed (bank_by p is.around.levels.now m is.form path)) (sym (ap (λ (t : Site). t.memory) is.is))

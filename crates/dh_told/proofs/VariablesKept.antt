@@ -25,7 +25,7 @@ use Rattle.dh_blocks.proofs.PathNumbers.{rank_small}
 use Rattle.dh_blocks.proofs.VariablesPlaced.{slot_facts}
 use Rattle.dh_gathering.specs.Registers.{IsRegisterKind, first_among}
 use Rattle.dh_gathering.proofs.KindsOfRegisters.{first_at}
-use Rattle.dh_told.specs.ScenesKnown.{AreInOrder, HaveTheirKinds, ReadyScenesHold}
+use Rattle.dh_told.specs.ScenesKnown.{AreHeldInOrder, HaveTheirKinds, ReadyScenesHold}
 
 -- Places in order.
 
@@ -119,7 +119,7 @@ kind_there [] r k e = absurd cc
 kind_there (x ∷ kinds) zero k e = cc
 kind_there (x ∷ kinds) (suc r) k e = kind_there kinds r k e
 
-module _ (scene : Scene) (count : ℕ) (order : AreInOrder scene count) where
+module _ (scene : Scene) (count : ℕ) (order : AreHeldInOrder scene count) where
   abbrev p : Program
   p = program_seen scene.program.now
 

@@ -1,9 +1,8 @@
 -- Each variable of a ready program is of a kind that there is; what is declared is one, or the iterator of a loop.
-use Rattle.std.proofs.Common.{◌≡◌, ◌⊎◌, inl, inr, ℕ, zero, suc, ◌+◌, ◌<◌, ◌≤◌, ◌==◌, Bool, true, false, if◌then◌else◌, List, [], ◌∷◌, ◌++◌, length, Option, Some, None, refl, ap, sym, ◌∙◌, subst, arith}
+use Rattle.std.proofs.Common.{◌≡◌, ◌⊎◌, inl, inr, ℕ, zero, suc, ◌+◌, ◌<◌, ◌==◌, Bool, true, false, if◌then◌else◌, List, [], ◌∷◌, ◌++◌, length, Option, Some, None, refl, ap, sym, ◌∙◌, subst, arith}
 use Rattle.std.specs.Prelude.{slice_get}
 use Rattle.std.specs.List.{AllByRecursion}
 use Rattle.std.proofs.lemmas.Bool.Decides.{nat_tests}
-use Rattle.dh_value.specs.declared.kinds.Kind.{Kind}
 use Rattle.dh_value.specs.declared.kinds.Kind.TheVariants as kind
 use Rattle.dh_value.specs.Words.{IsKind}
 use Rattle.dh_tree.specs.declared.trees.counters.Counter.{Counter}
@@ -29,12 +28,10 @@ use Rattle.dh_typed_blocks.proofs.MemoriesFew.{ready_few}
 use Rattle.dh_typed_blocks.proofs.PhasesHolding.{FormOnlyFolds, GroupsOnlyFold, OnlyFolds, OtherOnlyFolds, PartOnlyFolds}
 use Rattle.dh_typed_blocks.proofs.ProgramsFit.{ready_fits}
 use Rattle.dh_gathering.specs.MadeBlocks.{IsAmong}
-use Rattle.dh_told.specs.ScenesKnown.{AreInOrder}
+use Rattle.dh_phased.proofs.LoopsCounted.{among_self}
+use Rattle.dh_phased.proofs.CopiesSome.{both}
+use Rattle.dh_told.specs.ScenesKnown.{AreHeldInOrder}
 use Rattle.dh_told.proofs.EntitiesKnown.{scenes_tell}
-
-both : {A : Type 0} (P : A → Type 0) (xs ys : List A) → AllByRecursion P xs → AllByRecursion P ys → AllByRecursion P (xs ++ ys)
-both P [] ys h k = k
-both P (x ∷ xs) ys h k = (h.0, both P xs ys h.1 k)
 
 module _ (known : Known) (p : Placing) (all : List Counter) where
   -- it is the iterator of one of these loops
@@ -191,17 +188,10 @@ held_kind ds count from (suc n) (suc e) l =
     next : (m k : ℕ) → suc m + k ≡ m + suc k
     next m k = omega arith
 
-among_self : (cs : List Counter) → AllByRecursion (IsAmong cs) cs
-among_self cs = by cs (λ i c at. (i, at))
-  where
-    by : (xs : List Counter) → ((i : ℕ) (c : Counter) → slice_get xs i ≡ Some c → IsAmong cs c) → AllByRecursion (IsAmong cs) xs
-    by [] h = tt
-    by (x ∷ xs) h = (h 0 x refl, by xs (λ i c at. h (suc i) c at))
-
 bool_sized : IsKind kind.Bool
 bool_sized = (omega arith, omega arith)
 
-pub variables_are_sized : (scene : Scene) (count : ℕ) → IsReady (program_seen scene.program.now) → AreInOrder scene count → (e : ℕ) → e < length (program_seen scene.program.now).entities → counter_of scene e ≡ None → IsKind (held_at scene.held.now e).kind
+pub variables_are_sized : (scene : Scene) (count : ℕ) → IsReady (program_seen scene.program.now) → AreHeldInOrder scene count → (e : ℕ) → e < length (program_seen scene.program.now).entities → counter_of scene e ≡ None → IsKind (held_at scene.held.now e).kind
 variables_are_sized scene count ready order e within none = by (declaration_in (declarations [] q.body) e) refl
   where
     q : Program

@@ -4,7 +4,7 @@ use Rattle.std.specs.Prelude.{◌≡◌, ℕ, [], length}
 use Rattle.dh_tree.specs.declared.trees.programs.Tree.{Tree as Program}
 use Rattle.dh_tree.specs.Memories.{table_of}
 use Rattle.dh_tree.specs.Seen.{program_seen}
-use Rattle.dh_meaning.specs.Bindings.{bindings_of}
+use Rattle.dh_meaning.specs.Ways.{all_bindings_of}
 use Rattle.dh_events.specs.Scopes.{AreScopes}
 use Rattle.dh_lengths.specs.SharedReads.{TellsShares}
 use Rattle.dh_plan.specs.PlainPlans.{PlainPlan}
@@ -20,7 +20,7 @@ use Rattle.dh_gathering.specs.ProgramMade.{IsPhased}
 pub record IsSceneMade (scene : Scene) (count : ℕ) : Type 0 where
   pub held : scene.held.now ≡ all_held (declarations [] (program_seen scene.program.now).body) 0 0 (length (program_seen scene.program.now).entities)
   pub count_is : count ≡ slots_counted (declarations [] (program_seen scene.program.now).body) 0 0 (length (program_seen scene.program.now).entities)
-  pub scopes : AreScopes (bindings_of (program_seen scene.program.now)) scene.scopes.now
+  pub scopes : AreScopes (all_bindings_of (program_seen scene.program.now)) scene.scopes.now
   pub shares : TellsShares (program_seen scene.program.now) scene.shares.now
 
 -- the phases of a program are made in such a scene of it

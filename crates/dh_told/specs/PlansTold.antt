@@ -10,12 +10,12 @@ use Rattle.dh_expressions.specs.declared.scenes.Scene.{Scene}
 use Rattle.dh_expressions.specs.Copying.{HasScopes}
 use Rattle.dh_gathering.specs.declared.blocks.Made.{Made}
 use Rattle.dh_phased.specs.DonePhases.{HasMade, HasSoundBlocks}
-use Rattle.dh_told.specs.ScenesKnown.{AreInOrder, HaveTheirKinds}
+use Rattle.dh_told.specs.ScenesKnown.{AreHeldInOrder, HaveTheirKinds}
 
 -- It was made in a scene that tells of the program's variables, of where they are declared, and of the reads that share.
 pub record IsOfReady (scene : Scene) (count : ℕ) (plan : PlainPlan) (final : Made) : Type 0 where
   pub ready : IsReady (program_seen scene.program.now)
-  pub order : AreInOrder scene count
+  pub order : AreHeldInOrder scene count
   pub scopes : HasScopes scene
   pub shares : TellsShares (program_seen scene.program.now) scene.shares.now
   pub table : plan.table ≡ table_of (program_seen scene.program.now)

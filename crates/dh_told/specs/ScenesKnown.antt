@@ -14,7 +14,7 @@ use Rattle.dh_typed_blocks.specs.ScenesTold.{TellsScene}
 use Rattle.dh_gathering.specs.Registers.{HasKind, first_among}
 
 -- the registers of variables stand one behind the other, so many
-pub record AreInOrder (scene : Scene) (count : ℕ) : Type 0 where
+pub record AreHeldInOrder (scene : Scene) (count : ℕ) : Type 0 where
   pub held : scene.held.now ≡ all_held (declarations [] (program_seen scene.program.now).body) 0 0 (length (program_seen scene.program.now).entities)
   pub count_is : count ≡ slots_counted (declarations [] (program_seen scene.program.now).body) 0 0 (length (program_seen scene.program.now).entities)
 
@@ -25,9 +25,9 @@ HaveTheirKinds scene count registers =
     → HasKind (program_seen scene.program.now) scene.held.now registers entity register
 
 abbrev pub ReadyScenesTell : Type 0
-ReadyScenesTell = (scene : Scene) (count : ℕ) → IsReady (program_seen scene.program.now) → AreInOrder scene count → TellsScene scene
+ReadyScenesTell = (scene : Scene) (count : ℕ) → IsReady (program_seen scene.program.now) → AreHeldInOrder scene count → TellsScene scene
 
 abbrev pub ReadyScenesHold : Type 0
 ReadyScenesHold =
-    (scene : Scene) (plan : PlainPlan) (count : ℕ) → IsReady (program_seen scene.program.now) → AreInOrder scene count → HasScopes scene → plan.table ≡ table_of (program_seen scene.program.now)
+    (scene : Scene) (plan : PlainPlan) (count : ℕ) → IsReady (program_seen scene.program.now) → AreHeldInOrder scene count → HasScopes scene → plan.table ≡ table_of (program_seen scene.program.now)
     → HaveTheirKinds scene count plan.registers → HoldsVariables scene plan count

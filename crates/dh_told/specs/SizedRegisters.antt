@@ -9,10 +9,10 @@ use Rattle.dh_expressions.specs.declared.scenes.Scene.{Scene}
 use Rattle.dh_gathering.specs.declared.making.Phased.{Phased}
 use Rattle.dh_gathering.specs.ProgramMade.{IsPhased}
 use Rattle.dh_gathering.specs.Registers.{AreSuccessive}
-use Rattle.dh_told.specs.ScenesKnown.{AreInOrder}
+use Rattle.dh_told.specs.ScenesKnown.{AreHeldInOrder}
 
 -- of what is made of a ready program, whose variables have their registers in order
 abbrev pub RegistersAreSized : Type 0
 RegistersAreSized =
-    (scene : Scene) (count : ℕ) (body : Action) (phased : Phased) → IsReady (program_seen scene.program.now) → AreInOrder scene count → AreSuccessive scene.held.now count → IsPhased scene count body phased
+    (scene : Scene) (count : ℕ) (body : Action) (phased : Phased) → IsReady (program_seen scene.program.now) → AreHeldInOrder scene count → AreSuccessive scene.held.now count → IsPhased scene count body phased
     → AllByRecursion IsKind phased.registers

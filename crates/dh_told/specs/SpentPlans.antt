@@ -8,7 +8,7 @@ use Rattle.dh_plan.specs.PlanPhases.{AreNodesOf}
 use Rattle.dh_expressions.specs.declared.scenes.Scene.{Scene}
 use Rattle.dh_gathering.specs.declared.blocks.Made.{Made}
 use Rattle.dh_charged.specs.ChargedBlocks.{charges_blocks}
-use Rattle.dh_charged.specs.TracedSites.{HaveMemories}
+use Rattle.dh_charged.specs.AccessMemories.{HaveMemories}
 use Rattle.dh_used.specs.MadePlans.{IsMadeOf}
 use Rattle.dh_used.specs.UsedPlans.{OneNodeEach}
 

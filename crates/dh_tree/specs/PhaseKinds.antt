@@ -1,7 +1,9 @@
 -- How many phases commands have, as far as it matters where straight commands may stand: none (0), one
--- straight phase (1), or others (2). Views and calls are not built and have none.
+-- straight phase (1), or others (2). A view that moves is a straight command, another is a declaration alone. Calls
+-- are not built and have none.
 use Rattle.std.specs.Prelude.{ℕ, ◌+◌, ◌-◌, ◌/◌, ◌==◌, ◌&&◌, ◌||◌, nat_le, if◌then◌else◌, max, min}
 use Rattle.dh_tree.specs.PlainTrees.{Action, action, ActionForm, lets, lets_memory, views, assigns, stores, reduces, calls, blocks, decides, repeats, counts, MaybeAction, no_action, one_action, Actions, no_actions, action_then, Groups, no_groups, group_then}
+use Rattle.dh_tree.specs.ViewOffsets.{moves}
 
 -- an `if` is one straight phase where each arm has no phase, or one straight phase
 abbrev pub choice_kind : (chosen other : ℕ) → ℕ
@@ -18,7 +20,7 @@ abbrev mutual
   pub form_phase_kind : ActionForm → ℕ
   form_phase_kind (lets name declared value) = 1
   form_phase_kind (lets_memory name shape shape_places value) = 0
-  form_phase_kind (views name parent form) = 0
+  form_phase_kind (views name parent form) = if moves form then 1 else 0
   form_phase_kind (assigns target value) = 1
   form_phase_kind (stores target value) = 1
   form_phase_kind (reduces target o value) = 1

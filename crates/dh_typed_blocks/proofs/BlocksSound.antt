@@ -44,9 +44,10 @@ use Rattle.dh_typed_blocks.proofs.CommandsTyped.{all_typed}
 use Rattle.dh_typed_blocks.proofs.Fitting.{IsNamedIn, TestFits, Fits}
 use Rattle.dh_typed_blocks.proofs.FittingParts.{SimpleFits, JoinFits}
 use Rattle.dh_typed_blocks.proofs.IteratorsSorted.{ready_plain}
+use Rattle.dh_typed_blocks.proofs.KnownHere.{known_here}
 use Rattle.dh_typed_blocks.proofs.MemoriesFew.{ready_few}
 use Rattle.dh_typed_blocks.proofs.NamesHere.{named_here}
-use Rattle.dh_typed_blocks.proofs.PhasesHolding.{EachOf}
+use Rattle.dh_typed_blocks.proofs.PhasesHolding.{EachFold, EachOf}
 
 pub ready_assigns : (p : Program) → IsReady p → AssignsInside (known_of p) 0 p.body
 ready_assigns p r = assigns_inside p r (record { names = r.names; entities = r.entities; kinds = r.kinds; suits = r.suits; widths = r.of_text.widths })
@@ -91,28 +92,38 @@ module _ (scene : Scene) (around : Around) (plan : PlainPlan) (rounds : List Rou
       record {
         of = f.of;
         simple = all_simple (known_of p) places (loops_of rounds) f.of.done f.holds;
-        typed = all_typed (known_of p) places (loops_of rounds) f.of.done f.of.folds f.holds f.quiet;
+        typed = all_typed (known_in scene) places (loops_of rounds) f.of.done f.of.folds holds quiet;
         sound = record {
           first = subst (λ (table : List MemEntry). AllByRecursion (λ (c : Located). SoundAction scene around.levels.now table (IsNamedHere scene around.levels.now plan.registers rounds touched) (IsSeen scene around.levels.now) c.command) f.of.done)
-              (sym same_table) (all_here scene around.levels.now rounds place.tells place.top.factors_are plan.registers touched names f.of.done f.holds);
+              (sym same_table) (all_here scene around.levels.now rounds place.tells place.top.factors_are plan.registers touched names f.of.done holds);
           then_folds = subst (λ (table : List MemEntry). AllByRecursion (λ (c : Located). SoundAction scene around.levels.now table (IsNamedHere scene around.levels.now plan.registers rounds (λ entity. true)) (IsSeen scene around.levels.now) c.command) f.of.folds)
-              (sym same_table) (folds_here scene around.levels.now rounds place.tells place.top.factors_are plan.registers f.of.folds f.quiet);
+              (sym same_table) (folds_here scene around.levels.now rounds place.tells place.top.factors_are plan.registers f.of.folds quiet);
         };
       },
       refl,
     )
       where
+        same : known_of p ≡ known_in scene
+        same = known_here scene ready
+
+        holds : EachOf (SimpleFits (known_in scene) places) (loops_of rounds) f.of.done
+        holds = subst (λ (k : Known). EachOf (SimpleFits k places) (loops_of rounds) f.of.done) same f.holds
+
+        quiet : EachFold (JoinFits (known_in scene) places) (loops_of rounds) f.of.folds
+        quiet = subst (λ (k : Known). EachFold (JoinFits k places) (loops_of rounds) f.of.folds) same f.quiet
+
         touched : ℕ → Bool
         touched entity = any_assigns entity (core_commands (known_in scene) f.of.done)
 
         spared : AreSpared touched (loops_of rounds)
-        spared = spared_commands (core_commands (known_of p) f.of.done) (loops_of rounds) (spares_less (known_of p) f.of.done f.of.folds (loops_of rounds)
-            ((ready_keeps p ready).keeps (loops_of rounds) (core_commands (known_of p) (f.of.done ++ f.of.folds)) (subst (λ (b : Block). StandsIn [] (core_of p).phases (loops_of rounds) b) f.of.is stands)))
+        spared = spared_commands (core_commands (known_in scene) f.of.done) (loops_of rounds) (spares_less (known_in scene) f.of.done f.of.folds (loops_of rounds)
+            (subst (λ (k : Known). Spares (core_commands k (f.of.done ++ f.of.folds)) (loops_of rounds)) same
+            ((ready_keeps p ready).keeps (loops_of rounds) (core_commands (known_of p) (f.of.done ++ f.of.folds)) (subst (λ (b : Block). StandsIn [] (core_of p).phases (loops_of rounds) b) f.of.is stands))))
 
         inside : (entity : ℕ) → touched entity ≡ true → length (factors (loops_of rounds)) ≤ depth_bound (binding_in (known_in scene).bindings entity)
         inside entity t =
-            touched_deep (known_of p) (length (factors (loops_of rounds))) entity (core_commands (known_of p) f.of.done)
-            (commands_deep (known_of p) (length (factors (loops_of rounds))) f.of.done (all_inside (known_of p) places (loops_of rounds) f.of.done f.holds)) t
+            touched_deep (known_in scene) (length (factors (loops_of rounds))) entity (core_commands (known_in scene) f.of.done)
+            (commands_deep (known_in scene) (length (factors (loops_of rounds))) f.of.done (all_inside (known_in scene) places (loops_of rounds) f.of.done holds)) t
 
         names : (r : Ref) (k : Kind) → IsNamedIn (known_in scene) places (loops_of rounds) r k → IsNamedHere scene around.levels.now plan.registers rounds touched r k
         names = named_here scene around.levels.now rounds place.tells place.top.factors_are plan.registers place.told touched spared inside
@@ -121,9 +132,9 @@ module _ (scene : Scene) (around : Around) (plan : PlainPlan) (rounds : List Rou
     test_sound f = (
       record {
         of = f.of;
-        typed = λ t e. (test_fits (known_of p) places (loops_of rounds) f.of.tested.command t e f.holds.1).0.1;
+        typed = λ t e. (test_fits (known_in scene) places (loops_of rounds) f.of.tested.command t e holds).0.1;
         sound = λ t e.
-            let fits = test_fits (known_of p) places (loops_of rounds) f.of.tested.command t e f.holds.1 in
+            let fits = test_fits (known_in scene) places (loops_of rounds) f.of.tested.command t e holds in
             record {
               sound = subst (λ (table : List MemEntry). IsSound (known_in scene) table (IsNamedHere scene around.levels.now plan.registers rounds (λ entity. false)) t) (sym same_table)
                   (term_mapped (known_in scene) (table_in (known_in scene)) (IsNamedIn (known_in scene) places (loops_of rounds)) (IsNamedHere scene around.levels.now plan.registers rounds (λ entity. false)) names t fits.0.0);
@@ -133,6 +144,9 @@ module _ (scene : Scene) (around : Around) (plan : PlainPlan) (rounds : List Rou
       refl,
     )
       where
+        holds : Fits (known_in scene) places (loops_of rounds) f.of.tested.command
+        holds = subst (λ (k : Known). Fits k places (loops_of rounds) f.of.tested.command) (known_here scene ready) f.holds.1
+
         names : (r : Ref) (k : Kind) → IsNamedIn (known_in scene) places (loops_of rounds) r k → IsNamedHere scene around.levels.now plan.registers rounds (λ entity. false) r k
         names = named_here scene around.levels.now rounds place.tells place.top.factors_are plan.registers place.told (λ entity. false) (spared_test (loops_of rounds)) (λ entity t. absurd cc)
 

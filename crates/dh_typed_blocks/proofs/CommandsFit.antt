@@ -73,7 +73,7 @@ integer_kind (kind.Signed w) r s e = s
 store_target : (known : Known) (Name : Ref → Kind → Type 0) (target : Term) (j : Kind) → IsTarget target → IsSound known (table_in known) Name target → found target ≡ Some j
     → IsSoundTarget known (table_in known) Name target × (kind_aimed known (table_in known) target ≡ j)
 store_target known Name (term place m (accessed r ts)) j n s e = ((s.0, s.1.0), sym s.1.1 ∙ ap kind_or_first e)
-store_target known Name (term place m (in_bank r bank at row)) j n s e = ((s.0, (s.1.0, s.1.1.0)), sym s.1.1.1 ∙ ap kind_or_first e)
+store_target known Name (term place m (in_bank r bank at row)) j n s e = ((s.0, (s.1.0, s.1.1.0)), sym s.1.1.1.0 ∙ ap kind_or_first e)
 store_target known Name (term place m (number negative x)) j n s e = elim n [ ]
 store_target known Name (term place m (truth_value b)) j n s e = elim n [ ]
 store_target known Name (term place m (named r)) j n s e = elim n [ ]

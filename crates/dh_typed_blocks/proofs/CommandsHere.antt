@@ -45,7 +45,7 @@ module _ (known : Known) (p : Placing) where
     fits_inside (action id place (lets name declared None)) ts s h = h.0.full
     fits_inside (action id place (lets name declared (Some t))) ts s h = h.1.0.full
     fits_inside (action id place (lets_memory name shape shape_places value)) ts s h = tt
-    fits_inside (action id place (views name parent form)) ts s h = tt
+    fits_inside (action id place (views name parent form)) ts s h = absurd s
     fits_inside (action id place (assigns target value)) ts s h = h.1.0.full
     fits_inside (action id place (stores target value)) ts s h = tt
     fits_inside (action id place (reduces target o value)) ts s h = elim h [ ]

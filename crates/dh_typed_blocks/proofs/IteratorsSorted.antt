@@ -22,6 +22,7 @@ use Rattle.dh_tree.specs.Scopes.{Scope, entity, declare, leave, past, at_end, fo
 use Rattle.dh_tree.proofs.EmptyLists.{first_none, second_none, not_none}
 use Rattle.dh_meaning.specs.Bindings.{Binding, bindings, form_bindings, other_bindings, groups_bindings, part_bindings, binding_in, depth_inside}
 use Rattle.dh_meaning.specs.CoreOf.{Known, known_of, entity_number}
+use Rattle.dh_ways.proofs.NoWays.{own_bindings}
 use Rattle.dh_sound.specs.SameKeys.{IsNoIterator}
 use Rattle.dh_sound.specs.Straight.{Stands, IsNamedAction, IsNamedForm, IsNamedOther, AreNamedGroups, AreNamedActions}
 use Rattle.dh_typed_blocks.specs.PlainPrograms.{IsPlainTarget, AssignsPlain, FormPlain, OtherPlain, GroupsPlain, PartPlain}
@@ -220,7 +221,8 @@ module _ (es : List Entity) where
 pub ready_sorted : (p : Program) → IsReady p → AllSorted p.entities (known_of p).bindings
 ready_sorted p r =
     let same : resolved_action (body_scope p) p.body ≡ p.body = ap (λ (x : Program). x.body) r.entities in
-    sorted p.entities p.body (body_scope p) 0 same (record { more = []; is = sym (ap (λ (x : Program). x.entities) r.entities) ∙ sym (append-nil (last_scope p).entities) })
+    subst (λ (bs : List Binding). AllSorted p.entities bs) (sym (own_bindings p r.built))
+    (sorted p.entities p.body (body_scope p) 0 same (record { more = []; is = sym (ap (λ (x : Program). x.entities) r.entities) ∙ sym (append-nil (last_scope p).entities) }))
 
 -- a ready program
 pub ready_plain : (p : Program) → IsReady p → AssignsPlain (known_of p) p.body

@@ -18,5 +18,6 @@ pub mod BlocksFit
 pub mod NamesHere
 pub mod CommandsHere
 pub mod CommandsTyped
+pub mod KnownHere
 pub mod BlocksSound
 pub mod MemoriesFew

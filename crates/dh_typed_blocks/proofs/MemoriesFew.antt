@@ -12,6 +12,7 @@ use Rattle.dh_tree.specs.Ready.{IsReady, most_tokens}
 use Rattle.dh_meaning.specs.CoreOf.{known_of}
 use Rattle.dh_runnable.specs.ActionsRun.{table_in}
 use Rattle.dh_runnable.proofs.TurnsCounted.{first_within, second_within, within_limit}
+use Rattle.dh_blocks.proofs.MemoriesUnbound.{memories_unbound}
 use Rattle.dh_typed_blocks.specs.PlainPrograms.{AreFew}
 
 -- Memories are names.
@@ -76,6 +77,7 @@ ready_few p r = record {
   memories = count (length (table_in (known_of p))) (length (memories_of p)) (length (map outside_memory p.decls)) (length p.decls) (length (locals p.body)) (declared_in p.body) (length p.functions) (declared_in_functions p.functions)
       (mapped_long entry_of (memories_of p)) (length-append (map outside_memory p.decls) (locals p.body)) (mapped_long outside_memory p.decls) (locals_few p.body) r.of_text.names;
   banks = λ memory. low_enough (banks_of (dims_at (table_in (known_of p)) memory)) (banks_few (memories_of p) memory (first_within (first_above limit.Banks (λ (m : Memory). banks_of m.shape.dims) (memories_of p)) _ (second_within (first_above limit.Dimensions (λ (m : Memory). length m.shape.dims) (memories_of p)) _ r.limits)));
+  unbound = memories_unbound p r;
 }
   where
     count : (n all outside decls inside body functions parameters : ℕ) → n ≡ all → all ≡ outside + inside → outside ≡ decls → inside ≤ body → (decls + functions) + (parameters + body) ≤ most_tokens → n ≤ 2 ^ 32

@@ -7,7 +7,7 @@ use Rattle.std.proofs.lemmas.List.{append-nil}
 use Rattle.dh_base.specs.declared.places.Place.{Place}
 use Rattle.dh_value.specs.declared.kinds.Kind.{Kind}
 use Rattle.dh_tree.specs.declared.trees.expressions.Ref.{Ref}
-use Rattle.dh_tree.specs.PlainTrees.{Placed, Unrolled, Term, Action, action, ActionForm, lets, lets_memory, views, assigns, stores, reduces, calls, blocks, decides, repeats, counts, MaybeAction, no_action, one_action, Actions, no_actions, action_then, Groups, no_groups, group_then}
+use Rattle.dh_tree.specs.PlainTrees.{shrinks, splits, suffixes, shifts, Placed, Unrolled, Term, Action, action, ActionForm, lets, lets_memory, views, assigns, stores, reduces, calls, blocks, decides, repeats, counts, MaybeAction, no_action, one_action, Actions, no_actions, action_then, Groups, no_groups, group_then}
 use Rattle.dh_meaning.specs.AccessNumbers.{term_accesses, accesses_of, part_accesses}
 use Rattle.dh_meaning.specs.Core.{Turning}
 use Rattle.dh_meaning.specs.CoreOf.{Known, form_of, turning_of, core_commands, core_test, core_phase, core_phases}
@@ -342,7 +342,10 @@ module _ (known : Known) (P : List Turning → Action → Type 0) (F : List Turn
           (join_phases (inside d (turn_count low.value high.value factor.value) whole) combine (in_loop r (loop_of iterator low high factor)) (n + accesses_of body) parts.1))
       own_form_phases (blocks body) d r n id place h = own_groups_phases body d r n (of_blocks d id place body h)
       own_form_phases (lets_memory name shape shape_places value) d r n id place h = tt
-      own_form_phases (views name parent form) d r n id place h = tt
+      own_form_phases (views name parent (shrinks by by_place)) d r n id place h = tt
+      own_form_phases (views name parent (splits by by_place)) d r n id place h = tt
+      own_form_phases (views name parent (suffixes by by_place)) d r n id place h = ((h, tt), tt)
+      own_form_phases (views name parent (shifts by)) d r n id place h = ((h, tt), tt)
       own_form_phases (calls function arguments) d r n id place h = tt
 
       own_other_phases : (m : MaybeAction) (d : List Turning) (r : Around) (n : ℕ) → OfOther P d m → ListOwn d (other_phases r n m)

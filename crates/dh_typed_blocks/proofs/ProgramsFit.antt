@@ -25,9 +25,8 @@ use Rattle.dh_code.specs.Slots.{Placing}
 use Rattle.dh_runnable.proofs.DeclarationsFound.{ArePlaced, placed}
 use Rattle.dh_runnable.proofs.MemoriesFound.{Declares, finds}
 use Rattle.dh_runnable.proofs.NamesKnown.{Knows}
-use Rattle.dh_runnable.proofs.ProgramsRun.{body_known, body_sees, resolved_body, typed_body}
+use Rattle.dh_runnable.proofs.ProgramsRun.{body_known, body_same, body_sees, resolved_body, typed_body}
 use Rattle.dh_runnable.proofs.TermsSuited.{indexed}
-use Rattle.dh_runnable.proofs.VariablesPlaced.{all_same}
 use Rattle.dh_sound.specs.AssignsInside.{AssignsInside}
 use Rattle.dh_sound.specs.NamesInScope.{IsScoped}
 use Rattle.dh_sound.specs.SimpleForms.{IsSimple}
@@ -70,7 +69,7 @@ ready_fits q r few inside plain =
     let h = enough q r in
     let named = resolved_body q h in
     let entities = ap (λ (x : Program). length x.entities) h.entities in
-    let places = placed (known_of q) (declarations [] q.body) (length q.entities) (all_same q.body [] 0 refl) q.body (body_scope q) [] [] [] named
+    let places = placed (known_of q) (declarations [] q.body) (length q.entities) (body_same q h.built) q.body (body_scope q) [] [] [] named
     (sym (append-nil (declarations [] q.body))) tt (at_most (length (last_scope q).entities) (length q.entities) entities) in
     let memories = finds (memories_of q) q.body (body_scope q) [] named (body_sees q h) in
     body_fits (known_of q) (counters_of q) (placing_of q) few q.body (body_facts q) (body_scope q) (body_in_step q) (body_known q (placing_of q) h) (typed_body q h) named

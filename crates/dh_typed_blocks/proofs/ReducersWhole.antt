@@ -4,7 +4,6 @@
 use Rattle.std.proofs.Common.{◌≡◌, ℕ, ◌≤◌, ◌&&◌, not, nat_lt, Bool, true, false, if◌then◌else◌, List, [], ◌∷◌, ◌++◌, length, map, Option, Some, None, refl, ap, sym, ◌∙◌, subst, arith, length-append}
 use Rattle.std.proofs.lemmas.Bool.Decides.{nat_tests}
 use Rattle.std.specs.Prelude.{slice_get}
-use Rattle.std.proofs.lemmas.List.{append-nil}
 use Rattle.dh_base.specs.declared.places.Place.{Place}
 use Rattle.dh_base.specs.declared.rules.Rule.TheVariants.{Reducer}
 use Rattle.dh_value.specs.declared.kinds.Kind.{Kind}
@@ -25,7 +24,8 @@ use Rattle.dh_tree.specs.Resolved.{resolved_term, resolved_action, resolved_form
 use Rattle.dh_tree.specs.Scopes as scopes
 use Rattle.dh_tree.specs.Scopes.{entity_of, bind, Scope, declare, leave, past, at_end, form_at_end, other_at_end, actions_at_end, groups_at_end, items_of, first_scope, body_scope}
 use Rattle.dh_tree.proofs.EmptyLists.{first_none, second_none, not_none}
-use Rattle.dh_meaning.specs.Bindings.{depth_inside, bindings_of, binding_in, depth_bound}
+use Rattle.dh_meaning.specs.Bindings.{depth_inside, binding_in, depth_bound}
+use Rattle.dh_meaning.specs.Ways.{all_bindings_of, view_bindings}
 use Rattle.dh_meaning.specs.CoreOf.{Known, known_of, depth_of, entity_number}
 use Rattle.dh_meaning.specs.Sites.{nothing_around}
 use Rattle.dh_sound.specs.IndexValues.{IsTypedProgram}
@@ -130,8 +130,8 @@ module _ (p : Program) (all : AllSorted p.entities (known_of p).bindings) (i : �
   deep_value facts first d r n place is (memory_is k dims at m) e = not_none _ _ (ap (λ o. value_breaches o place) (sym (ap (fact_at facts) is ∙ at)) ∙ e)
   deep_value facts first d r n place is (function_is ks at) e = not_none _ _ (ap (λ o. value_breaches o place) (sym (ap (fact_at facts) is ∙ at)) ∙ e)
 
-  deep_name : (d : ℕ) (r : Ref) (n : ℕ) → r.entity ≡ Some n → d ≤ depth_bound (binding_in (bindings_of p) n) → d ≤ depth_of (known_of p) r
-  deep_name d r n is l = subst (λ (o : Option ℕ). d ≤ depth_bound (binding_in (bindings_of p) (entity_number o))) (sym is) l
+  deep_name : (d : ℕ) (r : Ref) (n : ℕ) → r.entity ≡ Some n → d ≤ depth_bound (binding_in (all_bindings_of p) n) → d ≤ depth_of (known_of p) r
+  deep_name d r n is l = subst (λ (o : Option ℕ). d ≤ depth_bound (binding_in (all_bindings_of p) (entity_number o))) (sym is) l
 
   -- the name of what is folded
   folded_name : (facts : Facts) (bs : List scopes.Binding) (first d : ℕ) (r : Ref) (place : Place) → AreSorted p facts first d bs → first ≤ i → entity_of bs r.name ≡ r.entity → unknown bs r ≡ [] → value_breaches (fact_of facts r) place ≡ []
@@ -266,24 +266,24 @@ inside_before first factor n l = by (nat_lt 1 factor)
     by false = l
 
 -- inside a loop
-enters : (p : Program) (facts : Facts) (s : Scope) (first d factor : ℕ) (k : Kind) (name : List ℕ) → InStep s facts → AreSorted p facts first d s.visible → depth_bound (binding_in (bindings_of p) (size s)) ≡ depth_inside d factor
+enters : (p : Program) (facts : Facts) (s : Scope) (first d factor : ℕ) (k : Kind) (name : List ℕ) → InStep s facts → AreSorted p facts first d s.visible → depth_bound (binding_in (all_bindings_of p) (size s)) ≡ depth_inside d factor
     → AreSorted p (facts ++ of_iterator k ∷ []) (first_inside first factor (Some (size s))) (depth_inside d factor) (bind s.visible name (size s))
 enters p facts s first d factor k name l h q =
     bind_sorted p (facts ++ of_iterator k ∷ []) (first_inside first factor (Some (size s))) (depth_inside d factor) s.visible name (size s)
     (λ other n e. later_sorted p facts (facts ++ of_iterator k ∷ []) (first_inside first factor (Some (size s))) (depth_inside d factor) n (appended facts (of_iterator k ∷ []))
     (inner_sorted (nat_lt 1 factor) p facts first d n (size s) l (h other n e)))
-    (iterator_is k (next_fact facts s (of_iterator k) l) (λ m. no_less (depth_bound (binding_in (bindings_of p) (size s))) (depth_inside d factor) q))
+    (iterator_is k (next_fact facts s (of_iterator k) l) (λ m. no_less (depth_bound (binding_in (all_bindings_of p) (size s))) (depth_inside d factor) q))
   where
     no_less : (x y : ℕ) → x ≡ y → y ≤ x
     no_less x y e = omega (arith, e)
 
 module _ (p : Program) (all : AllSorted p.entities (known_of p).bindings) where
   mutual
-    whole : (a : Action) (facts : Facts) (s : Scope) (c : Context) (d : ℕ) → Sorted p facts s c.first d → resolved_action s a ≡ a → breaches s a ≡ [] → action_kind_breaches facts a ≡ [] → IsSimple a → outer_breaches c.first a ≡ [] → Deep (bindings_of p) d a → ((m : Memory) → Has m (locals a) → Has m (memories_of p))
+    whole : (a : Action) (facts : Facts) (s : Scope) (c : Context) (d : ℕ) → Sorted p facts s c.first d → resolved_action s a ≡ a → breaches s a ≡ [] → action_kind_breaches facts a ≡ [] → IsSimple a → outer_breaches c.first a ≡ [] → Deep (all_bindings_of p) d a → ((m : Memory) → Has m (locals a) → Has m (memories_of p))
         → action_placement_breaches p.entities c a ≡ [] → JoinsWhole (known_of p) d a
     whole (action id place form) facts s c d k e v b x o q w t = let same : resolved_form s form ≡ form = cc in form_joins form facts s c place d k same v b x o q w t
 
-    form_joins : (f : ActionForm) (facts : Facts) (s : Scope) (c : Context) (place : Place) (d : ℕ) → Sorted p facts s c.first d → resolved_form s f ≡ f → form_breaches s f ≡ [] → action_form_kind_breaches facts f ≡ [] → FormSimple f → outer_form_breaches c.first f ≡ [] → FormDeep (bindings_of p) d f
+    form_joins : (f : ActionForm) (facts : Facts) (s : Scope) (c : Context) (place : Place) (d : ℕ) → Sorted p facts s c.first d → resolved_form s f ≡ f → form_breaches s f ≡ [] → action_form_kind_breaches facts f ≡ [] → FormSimple f → outer_form_breaches c.first f ≡ [] → FormDeep (all_bindings_of p) d f
         → ((m : Memory) → Has m (form_locals f) → Has m (memories_of p)) → form_placement_breaches p.entities c place f ≡ [] → FormJoinsWhole (known_of p) d f
     form_joins (lets name declared value) facts s c place d k e v b x o q w t = tt
     form_joins (lets_memory name shape shape_places value) facts s c place d k e v b x o q w t = tt
@@ -322,8 +322,8 @@ module _ (p : Program) (all : AllSorted p.entities (known_of p).bindings) where
         let second_same : resolved_other (at_end inner body) combine ≡ combine = cc in
         let seen = second_none (twice s.visible iterator) _ v in
         let kinds = second_none (high_breaches j low high) _ (second_none (low_breaches j low) _ (second_none (iterator_breaches iterator j) _ b)) in
-        let bound : depth_bound (binding_in (bindings_of p) (size s)) ≡ depth_inside d factor.value =
-        ap (λ (o : Option ℕ). depth_bound (binding_in (bindings_of p) (entity_number o))) own ∙ (ap depth_bound q.0.bound ∙ q.0.depth_is) in
+        let bound : depth_bound (binding_in (all_bindings_of p) (size s)) ≡ depth_inside d factor.value =
+        ap (λ (o : Option ℕ). depth_bound (binding_in (all_bindings_of p) (entity_number o))) own ∙ (ap depth_bound q.0.bound ∙ q.0.depth_is) in
         let sorted : AreSorted p (facts ++ of_iterator (iterator_kind declared) ∷ []) (first_inside c.first factor.value iterator.entity) (depth_inside d factor.value) (declare s iterator sort.Iterator).visible =
         subst (λ (n : Option ℕ). AreSorted p (facts ++ of_iterator (iterator_kind declared) ∷ []) (first_inside c.first factor.value n) (depth_inside d factor.value) (declare s iterator sort.Iterator).visible) own
         (enters p facts s c.first d factor.value (iterator_kind declared) iterator.name k.step k.names bound) in
@@ -348,12 +348,12 @@ module _ (p : Program) (all : AllSorted p.entities (known_of p).bindings) where
               (second_none (breaches inner body) _ seen) (second_none (action_kind_breaches more body) _ kinds) x.1 (first_none (other_placement_breaches p.entities (in_combine c iterator.entity) combine) _ below),
         )
 
-    other_joins : (m : MaybeAction) (facts : Facts) (s : Scope) (c : Context) (d : ℕ) → Sorted p facts s c.first d → resolved_other s m ≡ m → other_breaches s m ≡ [] → other_kind_breaches facts m ≡ [] → OtherSimple m → outer_other_breaches c.first m ≡ [] → OtherDeep (bindings_of p) d m
+    other_joins : (m : MaybeAction) (facts : Facts) (s : Scope) (c : Context) (d : ℕ) → Sorted p facts s c.first d → resolved_other s m ≡ m → other_breaches s m ≡ [] → other_kind_breaches facts m ≡ [] → OtherSimple m → outer_other_breaches c.first m ≡ [] → OtherDeep (all_bindings_of p) d m
         → ((y : Memory) → Has y (other_locals m) → Has y (memories_of p)) → other_placement_breaches p.entities c m ≡ [] → OtherJoinsWhole (known_of p) d m
     other_joins no_action facts s c d k e v b x o q w t = tt
     other_joins (one_action a) facts s c d k e v b x o q w t = let same : resolved_action s a ≡ a = cc in whole a facts s c d k same v b x o q w t
 
-    part_joins : (part : Actions) (facts : Facts) (s : Scope) (c : Context) (d : ℕ) → Sorted p facts s c.first d → resolved_actions s part ≡ part → actions_breaches s part ≡ [] → actions_kind_breaches facts part ≡ [] → PartSimple part → outer_part_breaches c.first part ≡ [] → PartDeep (bindings_of p) d part
+    part_joins : (part : Actions) (facts : Facts) (s : Scope) (c : Context) (d : ℕ) → Sorted p facts s c.first d → resolved_actions s part ≡ part → actions_breaches s part ≡ [] → actions_kind_breaches facts part ≡ [] → PartSimple part → outer_part_breaches c.first part ≡ [] → PartDeep (all_bindings_of p) d part
         → ((m : Memory) → Has m (part_locals part) → Has m (memories_of p)) → actions_placement_breaches p.entities c part ≡ []
         → PartJoinsWhole (known_of p) d part × AreSorted p (facts_after_actions facts part) c.first d (actions_at_end s part).visible
     part_joins no_actions facts s c d k e v b x o q w t = (tt, k.names)
@@ -379,7 +379,7 @@ module _ (p : Program) (all : AllSorted p.entities (known_of p).bindings) where
           two.1,
         )
 
-    groups_join : (gs : Groups) (facts : Facts) (s : Scope) (c : Context) (d : ℕ) → Sorted p facts s c.first d → resolved_groups s gs ≡ gs → groups_breaches s gs ≡ [] → groups_kind_breaches facts gs ≡ [] → GroupsSimple gs → outer_groups_breaches c.first gs ≡ [] → GroupsDeep (bindings_of p) d gs
+    groups_join : (gs : Groups) (facts : Facts) (s : Scope) (c : Context) (d : ℕ) → Sorted p facts s c.first d → resolved_groups s gs ≡ gs → groups_breaches s gs ≡ [] → groups_kind_breaches facts gs ≡ [] → GroupsSimple gs → outer_groups_breaches c.first gs ≡ [] → GroupsDeep (all_bindings_of p) d gs
         → ((m : Memory) → Has m (groups_locals gs) → Has m (memories_of p)) → groups_placement_breaches p.entities c gs ≡ [] → GroupsJoinWhole (known_of p) d gs
     groups_join no_groups facts s c d k e v b x o q w t = tt
     groups_join (group_then part rest) facts s c d k e v b x o q w t =
@@ -415,6 +415,6 @@ ready_whole p ready =
     (second_none (functions_breaches (length p.decls) (first_scope p) p.functions) _ (second_none (items_breaches [] (items_of p)) _ ready.names))
     (second_none (functions_kind_breaches (first_facts p) p.functions) _ ready.suits)
     (simple_kept p.entities p.body (second_none (unbuilt_functions p.functions) _ ready.built) (folds_none p ready.placements)) (outer_none p ready.placements)
-    (deep (bindings_of p) p.body (body_scope p) 0 [] [] (resolved_body p typed) (sym (append-nil (bindings_of p))) tt)
+    (deep (all_bindings_of p) p.body (body_scope p) 0 [] (view_bindings p) (resolved_body p typed) refl tt)
     (λ m h. has_right m (map outside_memory p.decls) (locals p.body) h)
     (second_none (decls_placement_breaches p.decls) _ ready.placements)

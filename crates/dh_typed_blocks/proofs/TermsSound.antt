@@ -1,7 +1,7 @@
 -- An expression of a typed program that breaks no rule on names, kinds or indices is sound: its kinds are as its operators
 -- give them, and its memories and banks have numbers of 32 bits. What is known of its names is asked of a premise, by
 -- what is known of the names that are visible. By recursion beside that of dh_runnable.
-use Rattle.std.proofs.Common.{◌≡◌, ℕ, ◌<◌, ◌≤◌, ◌^◌, List, Option, Some, None, refl, ap, sym, ◌∙◌, subst, arith}
+use Rattle.std.proofs.Common.{◌≡◌, ℕ, ◌<◌, ◌≤◌, ◌^◌, List, [], Option, Some, None, refl, ap, sym, ◌∙◌, subst, arith}
 use Rattle.dh_base.specs.declared.places.Place.{Place}
 use Rattle.dh_value.specs.declared.kinds.Kind.{Kind}
 use Rattle.dh_value.specs.declared.kinds.Kind.TheVariants as kind
@@ -18,16 +18,17 @@ use Rattle.dh_tree.specs.PlainTrees.{Term, term, TermForm, number, truth_value, 
 use Rattle.dh_tree.specs.Resolved.{used, resolved_term, resolved_terms}
 use Rattle.dh_tree.specs.Scopes.{Binding}
 use Rattle.dh_tree.specs.Widths.{IsSized}
-use Rattle.dh_tree.proofs.EmptyLists.{first_none, second_none}
-use Rattle.dh_meaning.specs.Bindings.{kind_or_first}
-use Rattle.dh_meaning.specs.CoreOf.{Known, memory_of}
+use Rattle.dh_tree.proofs.EmptyLists.{first_none, second_none, not_none}
+use Rattle.dh_meaning.specs.Bindings.{binding_in, kind_or_first}
+use Rattle.dh_meets.specs.Charges.{binding_depends, entity_depends}
+use Rattle.dh_meaning.specs.CoreOf.{Known, core_terms, memory_of, way_of}
 use Rattle.dh_sound.specs.SameKeys.{EachName, EachNameOf}
 use Rattle.dh_runnable.specs.ActionsRun.{table_in}
 use Rattle.dh_runnable.proofs.NamesKnown.{IsVariable, IsGood, Knows, name_known, fact_is}
-use Rattle.dh_runnable.proofs.TermsSuited.{indexed, IsReady, AreReady, IsKnown, term_known}
+use Rattle.dh_runnable.proofs.TermsSuited.{access_there, indexed, IsReady, AreReady, IsKnown, term_known}
 use Rattle.dh_runnable.proofs.TypedParts.{for_numbers_sized, typed_parts}
 use Rattle.dh_code.specs.Slots.{Placing}
-use Rattle.dh_blocks.specs.SoundTerms.{IsSound, IsSoundForm, AreSound}
+use Rattle.dh_blocks.specs.SoundTerms.{IsSound, IsSoundForm, IsUnbound, AreSound}
 use Rattle.dh_typed_blocks.specs.PlainPrograms.{AreFew}
 use Rattle.dh_typed_blocks.proofs.KindsGiven.{gives, gives_written, applied_known}
 use Rattle.dh_typed_blocks.proofs.OperandsRight.{operands_right}
@@ -48,6 +49,17 @@ module _ (known : Known) (p : Placing) (loops : List ℕ) (few : AreFew known) (
   variable_named n (of_iterator j) k g e = let same : j ≡ k = cc in subst (λ (x : Kind). IsVariable known p loops n x) same g
   variable_named n (of_memory j dims) k g e = absurd cc
   variable_named n (of_function parameters) k g e = absurd cc
+
+  -- what is a memory is no variable, and depends on no loop
+  memory_unbound : (n : ℕ) (r : Ref) (o : Option Fact) (f : Fact) (place : Place) → r.entity ≡ Some n → o ≡ Some f → IsGood known p loops n f → bank_breaches o place ≡ [] → IsUnbound known r
+  memory_unbound n r o f place entity at g e =
+      λ level. ap (λ (x : Option ℕ). entity_depends known.bindings level x) entity ∙ ap (binding_depends level) (cases f g (ap (λ x. bank_breaches x place) (sym at) ∙ e))
+    where
+      cases : (f : Fact) → IsGood known p loops n f → bank_breaches (Some f) place ≡ [] → binding_in known.bindings n ≡ None
+      cases (of_variable k) g e = not_none _ _ e
+      cases (of_iterator k) g e = not_none _ _ e
+      cases (of_function parameters) g e = not_none _ _ e
+      cases (of_memory k dims) g e = few.unbound n g.memory g.is
 
   module _ (counters : List Counter) where
     mutual
@@ -77,7 +89,8 @@ module _ (known : Known) (p : Placing) (loops : List ℕ) (few : AreFew known) (
             indices = second_none (places.access_breaches counters (kept_dims (memory_in known.memories r.entity)) indices) _ h.indices;
             sized = h.sized;
           }) near in
-          let low = below_more _ _ (2 ^ 32) (whole.operand 0).suits.0 few.memories in
+          let there = access_there (table_in known) (memory_of known r) (way_of known r) (core_terms known 0 indices) (whole.operand 0).suits in
+          let low = below_more _ _ (2 ^ 32) there few.memories in
           of_form place m whole.kind (accessed r indices) whole.is (inner, (low, sym (whole.operand 0).kind))
       term_sound facts bs k want s (term place m (in_bank r bank bank_place row)) e h near =
           let whole = term_known known p loops counters facts bs k want s (term place m (in_bank r bank bank_place row)) e h in
@@ -95,7 +108,10 @@ module _ (known : Known) (p : Placing) (loops : List ℕ) (few : AreFew known) (
           }) near in
           let low = below_more _ _ (2 ^ 32) (whole.operand 0).suits.0.0 few.memories in
           let bank_low = below_more bank _ (2 ^ 32) (whole.operand 0).suits.0.1 (few.banks (memory_of known r)) in
-          of_form place m whole.kind (in_bank r bank bank_place row) whole.is (inner, (low, (bank_low, sym (whole.operand 0).kind)))
+          let same : used bs r ≡ r = let eq = h.named in cc in
+          let name = name_known known p loops facts bs r k same (first_none (unknown bs r) _ h.visible) in
+          let unbound = memory_unbound name.number r (fact_of facts r) name.stands.fact place name.entity (fact_is known p loops facts r name) name.stands.good (first_none (bank_breaches (fact_of facts r) place) _ h.kinds) in
+          of_form place m whole.kind (in_bank r bank bank_place row) whole.is (inner, (low, (bank_low, (sym (whole.operand 0).kind, unbound))))
       term_sound facts bs k want s (term place m (applied o left right)) e h near =
           let whole = term_known known p loops counters facts bs k want s (term place m (applied o left right)) e h in
           let parts = typed_parts facts want place m (applied o left right) e in

@@ -19,18 +19,19 @@ use Rattle.dh_tree.specs.Indices.{kept_dims, physical_breaches, term_index_breac
 use Rattle.dh_tree.specs.KindBreaches.{term_kind_breaches}
 use Rattle.dh_tree.specs.Kinds.{Fact, of_variable, of_iterator, of_memory, of_function, Facts, fact_of, for_numbers, is_bare, is_integer, found, place_of, left_want, right_want, takes, operands_breaches, applied_kind, applied_breaches, all_found, count_of, index_breaches, access_breaches, bank_breaches, cast_breaches, typed_term, typed_terms}
 use Rattle.dh_tree.specs.Scopes.{entity_number}
-use Rattle.dh_tree.specs.Memories.{Memory, entry_of, memory_in}
+use Rattle.dh_tree.specs.Memories.{Memory, entry_of, memory_in, number_in}
 use Rattle.dh_tree.specs.PlainTrees.{Term, term, number, truth_value, named, accessed, in_bank, applied, converted, Terms, no_terms, term_then}
 use Rattle.dh_tree.specs.Resolved.{used, resolved_term, resolved_terms}
 use Rattle.dh_tree.specs.Scopes.{Binding}
 use Rattle.dh_tree.specs.Widths.{IsSized}
 use Rattle.dh_tree.proofs.EmptyLists.{first_none, second_none, not_none}
 use Rattle.dh_meaning.specs.Bindings.{kind_or_first}
-use Rattle.dh_meaning.specs.CoreOf.{Known, memory_of}
+use Rattle.dh_meaning.specs.CoreOf.{Known, core_terms, memory_of, way_of}
+use Rattle.dh_meaning.specs.Ways.{Way, base_of}
 use Rattle.dh_runnable.specs.ActionsRun.{table_in}
 use Rattle.dh_runnable.proofs.ElementsFound.{number_found}
 use Rattle.dh_runnable.proofs.NamesKnown.{IsGood, Knows, name_known, fact_is}
-use Rattle.dh_runnable.proofs.TermsSuited.{indexed, is_index, one_count, IsReady, AreReady, IsKnown, term_known, terms_known}
+use Rattle.dh_runnable.proofs.TermsSuited.{access_there, indexed, is_index, memory_way, one_count, IsReady, AreReady, IsKnown, term_known, terms_known}
 use Rattle.dh_runnable.proofs.TypedParts.{for_numbers_sized, typed_parts}
 use Rattle.dh_code.specs.Slots.{Placing}
 use Rattle.dh_expressions.specs.Shown.{kind_written}
@@ -50,7 +51,7 @@ integer_of (kind.Signed w) s e = s
 dims_found : (known : Known) (r : Ref) (m : Memory) → memory_in known.memories r.entity ≡ Some m → dims_at (table_in known) (memory_of known r) ≡ m.shape.dims
 dims_found known r m e =
     let at = number_found known.memories r.entity m e in
-    let same : memory_of known r ≡ at.number = ap entity_number at.is in
+    let same : memory_of known r ≡ at.number = ap (λ (w : Option Way). entity_number (number_in known.memories (base_of w r.entity))) (memory_way known r m e) ∙ ap entity_number at.is in
     ap (λ n. entry_dims (slice_get (map entry_of known.memories) n)) same ∙ ap entry_dims at.entry
 
 -- operands by the kinds that are written at them
@@ -102,7 +103,7 @@ module _ (known : Known) (p : Placing) (loops : List ℕ) where
           let inner = terms_known known p loops counters facts bs k indices typed ready in (
             terms_typed facts bs k indices typed ready,
             record {
-              there = (whole.operand 0).suits.0;
+              there = access_there (table_in known) (memory_of known r) (way_of known r) (core_terms known 0 indices) (whole.operand 0).suits;
               many = indices_counted name.number r (fact_of facts r) name.stands.fact place indices name.entity (fact_is known p loops facts r name) name.stands.good
                   (first_none (access_breaches (fact_of facts r) place indices) _ h.kinds) inner.found;
             },

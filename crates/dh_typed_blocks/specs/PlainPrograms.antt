@@ -1,8 +1,9 @@
 -- What holds of a program beside the rules on names, kinds and shapes so that its blocks are sound: its memories are few, no
 -- command assigns to an iterator, and its reducers are those of a text.
-use Rattle.std.specs.Prelude.{ℕ, ◌≤◌, ◌^◌, length}
+use Rattle.std.specs.Prelude.{◌≡◌, ℕ, ◌≤◌, ◌^◌, length, Some, None}
 use Rattle.dh_tree.specs.declared.trees.expressions.Ref.{Ref}
 use Rattle.dh_tree.specs.Elements.{banks_of, dims_at}
+use Rattle.dh_tree.specs.Memories.{Memory, memory_in}
 use Rattle.dh_tree.specs.PlainTrees.{Term, term, number, truth_value, named, accessed, in_bank, applied, converted, Action, action, ActionForm, lets, lets_memory, views, assigns, stores, reduces, calls, blocks, decides, repeats, counts, MaybeAction, no_action, one_action, Actions, no_actions, action_then, Groups, no_groups, group_then}
 use Rattle.dh_meaning.specs.Bindings.{binding_in}
 use Rattle.dh_meaning.specs.CoreOf.{Known, depth_of, entity_number}
@@ -10,10 +11,11 @@ use Rattle.dh_runnable.specs.ActionsRun.{table_in}
 use Rattle.dh_sound.specs.SameKeys.{IsNoIterator}
 use Rattle.dh_tree.specs.TextNumbers.{Reduces}
 
--- memories and their banks have numbers of 32 bits
+-- memories and their banks have numbers of 32 bits, and no memory is a variable
 pub record AreFew (known : Known) : Type 0 where
   pub memories : length (table_in known) ≤ 2 ^ 32
   pub banks : (memory : ℕ) → banks_of (dims_at (table_in known) memory) ≤ 2 ^ 32
+  pub unbound : (n : ℕ) (m : Memory) → memory_in known.memories (Some n) ≡ Some m → binding_in known.bindings n ≡ None
 
 -- A command assigns to no iterator, and a reducer is one of those that a text has.
 module _ (known : Known) where

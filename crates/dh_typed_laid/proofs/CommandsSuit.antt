@@ -1,6 +1,6 @@
 -- Commands that are sound and typed suit what was put down for them, where the sites of the block tell where their
 -- accesses stand: by recursion on the command and on what was put down.
-use Rattle.std.proofs.Common.{◌≡◌, ℕ, ◌+◌, ◌<◌, ◌^◌, Bool as Truth, true, false, List, ◌++◌, length, Option, Some, None, refl, ap, sym, ◌∙◌, subst, arith, length-append}
+use Rattle.std.proofs.Common.{◌≡◌, ℕ, ◌+◌, ◌<◌, ◌^◌, Bool as Truth, true, false, List, ◌++◌, length, Option, Some, None, ap, sym, ◌∙◌, subst, arith}
 use Rattle.dh_value.specs.declared.kinds.Kind.{Kind}
 use Rattle.dh_value.specs.Words.{IsKind}
 use Rattle.dh_tree.specs.declared.tables.MemEntry.{MemEntry}
@@ -32,74 +32,20 @@ use Rattle.dh_blocks.specs.NamedVariables.{IsNamedHere}
 use Rattle.dh_blocks.specs.PathsOfLevels.{AreSpread}
 use Rattle.dh_blocks.specs.SoundCommands.{CanHold, SoundAction, SoundGroups, SoundOther, SoundPart, kind_aimed}
 use Rattle.dh_blocks.specs.SoundTerms.{IsSound, IsSoundTarget}
-use Rattle.dh_laid.specs.BlockSites.{actions_sites, all_there, command_sites, groups_sites, other_sites, target_sites, term_sites, terms_sites, write_site}
+use Rattle.dh_laid.specs.BlockSites.{HasPlaces, HasSites, actions_sites, all_there, command_sites, groups_sites, other_sites, target_sites, term_sites, terms_sites, write_site}
 use Rattle.dh_laid.specs.Laid.{AimingSuits, StoringSuits}
 use Rattle.dh_laid.specs.LaidCommands.{ActionsSuit, CommandSuits, GroupsSuit, OtherSuits, StoreSuits}
 use Rattle.dh_laid.specs.LaidNumbers.{IsAccessForm, StoresReach, StoresReachGroups, StoresReachOther, StoresReachPart}
 use Rattle.dh_laid.proofs.CommandsNumbered.{actions_reached, command_reached, tests_number}
+use Rattle.dh_laid.proofs.SitesLaid.{actions_sites_long, command_sites_long, sites_behind, sites_front, sites_last, term_sites_long, terms_sites_long, test_places_long}
 use Rattle.dh_laid.proofs.ValuesLogged.{arm_long, tests_same}
 use Rattle.dh_typed_blocks.specs.TypedTerms.{ActionTyped, GroupsTyped, IsTyped, OtherTyped, PartTyped}
-use Rattle.dh_typed_laid.specs.SuitingBlocks.{HasPlaces, HasSites, StandsSo}
+use Rattle.dh_typed_laid.specs.SuitingBlocks.{StandsSo}
 use Rattle.dh_typed_laid.proofs.MemoriesSuit.{bank_below, dims_there}
 use Rattle.dh_typed_laid.proofs.NamesSuit.{fits_register, register_there}
-use Rattle.dh_typed_laid.proofs.PlacesOfSites.{all_long, none_long, places_behind, places_front, places_there, sites_behind, sites_front, sites_last, target_long, term_long, terms_long}
+use Rattle.dh_typed_laid.proofs.PlacesOfSites.{places_behind, places_front, places_there}
 use Rattle.dh_typed_laid.proofs.ReducersSuit.{held_suits, reducer_suits}
 use Rattle.dh_typed_laid.proofs.TermsSuit.{access_suits, many_indices, numbers, term_suits, terms_suit}
-
--- Numbers.
-
-joined_long : {A : Type 0} (xs ys : List A) (m n : ℕ) → length xs ≡ m → length ys ≡ n → length (xs ++ ys) ≡ m + n
-joined_long xs ys m n e f = let g = length-append xs ys in omega (arith, g, e, f)
-
-own_long : (m n : ℕ) → m ≡ n → m ≡ n + 0
-own_long m n e = omega (arith, e)
-
-inner_long : (m n : ℕ) → m ≡ n → m ≡ 0 + n
-inner_long m n e = omega (arith, e)
-
-module _ (scene : Scene) where
-  value_long : (around : Around) (t : Term) → length (all_there (term_sites scene around t)) ≡ term_accesses t + 0
-  value_long around t = own_long _ (term_accesses t) (all_long (term_sites scene around t) ∙ term_long scene around t)
-
-  -- a command has as many sites as accesses
-  mutual
-    pub command_long : (a : Action) (around : Around) (old new : Building) (first next : ℕ) (m : MadeCommand scene a around old new first next) → StoresReach a → length (command_sites scene a around old new first next m) ≡ accesses_of a
-    command_long (action id place (lets name declared (Some value))) around old new first next m r = value_long around value
-    command_long (action id place (lets name declared None)) around old new first next m r = refl
-    command_long (action id place (assigns target value)) around old new first next m r = value_long around value
-    command_long (action id place (stores target value)) around old new first next m r =
-        own_long _ (term_accesses value + term_accesses target)
-        (all_long (term_sites scene around value ++ target_sites scene around target)
-        ∙ joined_long (term_sites scene around value) (target_sites scene around target) (term_accesses value) (term_accesses target) (term_long scene around value) (target_long scene around target r))
-    command_long (action id place (reduces target op value)) around old new first next m r = value_long around value
-    command_long (action id place (decides test chosen other)) around old new first next m r =
-        joined_long (all_there (term_sites scene around test)) _ (term_accesses test) (accesses_of chosen + other_accesses other) (all_long (term_sites scene around test) ∙ term_long scene around test)
-        (joined_long (command_sites scene chosen m.chosen.arm m.chosen.begin m.chosen.inside m.own m.behind m.chosen.command) (other_sites scene other around m.tests m.after_chosen m.after_other m.behind next m.other_left m.other) (accesses_of chosen) (other_accesses other)
-        (command_long chosen m.chosen.arm m.chosen.begin m.chosen.inside m.own m.behind m.chosen.command r.0) (other_long other around m.tests m.after_chosen m.after_other m.behind next m.other_left m.other r.1))
-    command_long (action id place (blocks body)) around old new first next m r = inner_long _ (groups_accesses body) (groups_long body around old new first next m r)
-    command_long (action id place (lets_memory name shape shape_places value)) around old new first next m r = refl
-    command_long (action id place (views name parent form)) around old new first next m r = refl
-    command_long (action id place (calls function arguments)) around old new first next m r = refl
-    command_long (action id place (repeats test body)) around old new first next m r = none_long (term_accesses test + accesses_of body)
-    command_long (action id place (counts iterator declared low high factor body combine combine_place)) around old new first next m r =
-        inner_long _ (accesses_of body + other_accesses combine) (none_long (accesses_of body + other_accesses combine))
-
-    other_long : (other : MaybeAction) (around : Around) (tests : List ℕ) (old new : Building) (first next : ℕ) (lefts : List Left) (m : MadeOther scene other around tests old new first next lefts) → StoresReachOther other
-        → length (other_sites scene other around tests old new first next lefts m) ≡ other_accesses other
-    other_long no_action around tests old new first next lefts m r = refl
-    other_long (one_action a) around tests old new first next lefts m r = command_long a m.arm m.begin m.inside first next m.command r
-
-    actions_long : (part : Actions) (around : Around) (old new : Building) (first next : ℕ) (m : MadeActions scene part around old new first next) → StoresReachPart part → length (actions_sites scene part around old new first next m) ≡ part_accesses part
-    actions_long no_actions around old new first next m r = refl
-    actions_long (action_then a rest) around old new first next m r =
-        joined_long (command_sites scene a around old m.middle first m.own m.one) (actions_sites scene rest around m.middle new m.own next m.rest) (accesses_of a) (part_accesses rest)
-        (command_long a around old m.middle first m.own m.one r.0) (actions_long rest around m.middle new m.own next m.rest r.1)
-
-    groups_long : (body : Groups) (around : Around) (old new : Building) (first next : ℕ) (m : MadeGroups scene body around old new first next) → StoresReachGroups body → length (groups_sites scene body around old new first next m) ≡ groups_accesses body
-    groups_long no_groups around old new first next m r = refl
-    groups_long (group_then g rest) around old new first next m r =
-        joined_long (actions_sites scene g around old m.middle first m.own m.one) (groups_sites scene rest around m.middle new m.own next m.rest) (part_accesses g) (groups_accesses rest)
-        (actions_long g around old m.middle first m.own m.one r.0) (groups_long rest around m.middle new m.own next m.rest r.1)
 
 -- What is sound stores into accesses.
 
@@ -186,7 +132,7 @@ module _ (x : Block) (scene : Scene) (count : ℕ) (rounds : List Round) (touche
         → AimingSuits x scene (lane_of around n) first (form_of target) × StoringSuits x scene (lane_of around n) first target t (form_of target)
     aims (term place k (accessed r ts)) t first s y c h n l =
         let memory : ℕ = memory_of (known_in scene) r in
-        let at = sites_last x.sites first (first + terms_accesses ts) (terms_sites scene around ts) (write_site scene around (memory_of (known_in scene) r) place (accessed r ts)) (behind first (length (terms_sites scene around ts)) (terms_accesses ts) (terms_long scene around ts)) h in (
+        let at = sites_last x.sites first (first + terms_accesses ts) (terms_sites scene around ts) (write_site scene around (memory_of (known_in scene) r) place (accessed r ts)) (behind first (length (terms_sites scene around ts)) (terms_accesses ts) (terms_sites_long scene around ts)) h in (
           (
             (terms_suit x scene count around rounds touched stands ts first s.0 y.0 (sites_front x.sites first (terms_sites scene around ts) _ h) n l, numbers known table ts y.0),
             many_indices x scene count around rounds touched stands memory ts y.1.many,
@@ -199,7 +145,7 @@ module _ (x : Block) (scene : Scene) (count : ℕ) (rounds : List Round) (touche
         )
     aims (term place k (in_bank r bank bank_place row)) t first s y c h n l =
         let memory : ℕ = memory_of (known_in scene) r in
-        let at = sites_last x.sites first (first + term_accesses row) (term_sites scene around row) (write_site scene around (memory_of (known_in scene) r) place (in_bank r bank bank_place row)) (behind first (length (term_sites scene around row)) (term_accesses row) (term_long scene around row)) h in (
+        let at = sites_last x.sites first (first + term_accesses row) (term_sites scene around row) (write_site scene around (memory_of (known_in scene) r) place (in_bank r bank bank_place row)) (behind first (length (term_sites scene around row)) (term_accesses row) (term_sites_long scene around row)) h in (
           (term_suits x scene count around rounds touched stands row first s.0 y.0.0 (sites_front x.sites first (term_sites scene around row) _ h) n l, y.0.1),
           record {
             access = access_suits x scene count around rounds touched stands n memory (first + term_accesses row) place (in_bank r bank bank_place row) true at s.1.0 y.1.0 y.1.1;
@@ -218,7 +164,7 @@ module _ (x : Block) (scene : Scene) (count : ℕ) (rounds : List Round) (touche
     store_suits target t first s y h n l = (
       term_suits x scene count around rounds touched stands t first s.0.0 y.0 (sites_front x.sites first (term_sites scene around t) _ h) n l,
       aims target t (first + term_accesses t) s.0.1 y.1 s.1
-          (sites_behind x.sites first (first + term_accesses t) (term_sites scene around t) (target_sites scene around target) (behind first (length (term_sites scene around t)) (term_accesses t) (term_long scene around t)) h) n l,
+          (sites_behind x.sites first (first + term_accesses t) (term_sites scene around t) (target_sites scene around target) (behind first (length (term_sites scene around t)) (term_accesses t) (term_sites_long scene around t)) h) n l,
     )
 
     -- a value that is assigned
@@ -259,11 +205,11 @@ module _ (x : Block) (scene : Scene) (count : ℕ) (rounds : List Round) (touche
         let reach = sound_reaches scene around.levels.now table (λ r k. IsNamedHere scene around.levels.now x.plan.registers rounds touched r k) (λ entity. ⊥) chosen s.1.0 in
         let fewer : m.own + accesses_of chosen < 2 ^ 32 = omega (arith, few, own) in
         let next_is = (command_reached scene chosen m.chosen.arm m.chosen.begin m.chosen.inside m.own m.behind m.chosen.command reach inner.some fewer).1.next_is in
-        let size = command_long scene chosen m.chosen.arm m.chosen.begin m.chosen.inside m.own m.behind m.chosen.command reach in
+        let size = command_sites_long scene chosen m.chosen.arm m.chosen.begin m.chosen.inside m.own m.behind m.chosen.command reach in
         let tests : List (Option Site) = all_there (term_sites scene around test) in
         let firsts : List (Option Site) = command_sites scene chosen m.chosen.arm m.chosen.begin m.chosen.inside m.own m.behind m.chosen.command in
         let others : List (Option Site) = other_sites scene other around m.tests m.after_chosen m.after_other m.behind next m.other_left m.other in
-        let inside : HasPlaces x.sites m.own (firsts ++ others) = places_behind x.sites first m.own tests (firsts ++ others) (own ∙ behind first (length tests) (term_accesses test) (all_long (term_sites scene around test) ∙ term_long scene around test)) h in (
+        let inside : HasPlaces x.sites m.own (firsts ++ others) = places_behind x.sites first m.own tests (firsts ++ others) (own ∙ behind first (length tests) (term_accesses test) (test_places_long scene around test)) h in (
           (y.0.1, λ n l. value_suits around stands test first s.0 y.0.0 (places_front x.sites first tests (firsts ++ others) h) n l),
           (
             command_suits chosen m.chosen.arm m.chosen.begin m.chosen.inside m.own m.behind m.chosen.command (λ entity. ⊥) (λ e f. absurd f) inner sound y.1.0 fewer (places_front x.sites m.own firsts others inside),
@@ -296,7 +242,7 @@ module _ (x : Block) (scene : Scene) (count : ℕ) (rounds : List Round) (touche
         let reach = sound_reaches scene around.levels.now table (λ r k. IsNamedHere scene around.levels.now x.plan.registers rounds touched r k) Folds a s.0 in
         let fewer : first + accesses_of a < 2 ^ 32 = omega (arith, few) in
         let own = (command_reached scene a around old m.middle first m.own m.one reach stands.some fewer).1.next_is in
-        let size = command_long scene a around old m.middle first m.own m.one reach in
+        let size = command_sites_long scene a around old m.middle first m.own m.one reach in
         let firsts : List (Option Site) = command_sites scene a around old m.middle first m.own m.one in
         let others : List (Option Site) = actions_sites scene rest around m.middle new m.own next m.rest in (
           command_suits a around old m.middle first m.own m.one Folds seen stands s.0 y.0 fewer (places_front x.sites first firsts others h),
@@ -311,7 +257,7 @@ module _ (x : Block) (scene : Scene) (count : ℕ) (rounds : List Round) (touche
         let reach = part_reaches scene around.levels.now table (λ r k. IsNamedHere scene around.levels.now x.plan.registers rounds touched r k) Folds g s.0 in
         let fewer : first + part_accesses g < 2 ^ 32 = omega (arith, few) in
         let own = (actions_reached scene g around old m.middle first m.own m.one reach stands.some fewer).1.next_is in
-        let size = actions_long scene g around old m.middle first m.own m.one reach in
+        let size = actions_sites_long scene g around old m.middle first m.own m.one reach in
         let firsts : List (Option Site) = actions_sites scene g around old m.middle first m.own m.one in
         let others : List (Option Site) = groups_sites scene rest around m.middle new m.own next m.rest in (
           actions_suit g around old m.middle first m.own m.one Folds seen stands s.0 y.0 fewer (places_front x.sites first firsts others h),

@@ -1,9 +1,6 @@
 -- Commands of a block one after the other: they suit, and form what they add.
-use Rattle.std.proofs.Common.{◌≡◌, ℕ, ◌+◌, ◌-◌, ◌≤◌, Bool as Truth, true, false, if◌then◌else◌, List, [], ◌∷◌, length, Option, Some, None, refl, ap, sym, ◌∙◌, subst, arith}
-use Rattle.std.specs.Prelude.{nat_lt, slice_get}
+use Rattle.std.proofs.Common.{◌≡◌, ℕ, ◌+◌, ◌-◌, ◌≤◌, List, [], ◌∷◌, length, Option, Some, ap, sym, ◌∙◌, subst, arith}
 use Rattle.std.specs.List.{AllByRecursion}
-use Rattle.std.proofs.lemmas.Bool.Decides.{nat_tests}
-use Rattle.std.proofs.lemmas.Option.{slice_get_past}
 use Rattle.dh_tree.specs.Memories.{table_of}
 use Rattle.dh_tree.specs.Seen.{program_seen}
 use Rattle.dh_meaning.specs.AccessNumbers.{accesses_of}
@@ -18,15 +15,16 @@ use Rattle.dh_commands.specs.declared.buildings.Building.{Building}
 use Rattle.dh_commands.specs.ShownVariables.{IsSeen}
 use Rattle.dh_laid.specs.BareCommands.{AreRising}
 use Rattle.dh_blocks.specs.NamedVariables.{IsNamedHere}
-use Rattle.dh_laid.specs.BlockSites.{MadeEach, block_sites, command_sites, one_site, places_from, site_or}
-use Rattle.dh_laid.specs.LaidCommands.{CommandSuits, FormsCommand}
-use Rattle.dh_laid.proofs.CommandsLaid.{command_forms}
+use Rattle.dh_laid.specs.BlockSites.{HasPlaces, MadeEach, block_sites, command_sites, site_or}
+use Rattle.dh_laid.specs.LaidCommands.{CommandSuits, EachFew, EachSuits, FormsCommand}
+use Rattle.dh_laid.proofs.CommandsLaid.{command_forms, still_forms}
 use Rattle.dh_laid.proofs.CommandsNumbered.{command_reached}
-use Rattle.dh_laid.proofs.PathsLaid.{extends_same, round_later, there_same}
-use Rattle.dh_laid.proofs.ValuesLogged.{logged_again, logged_equal, logged_ready}
+use Rattle.dh_laid.proofs.PathsLaid.{round_later}
+use Rattle.dh_laid.proofs.SitesLaid.{command_sites_long, places_own, places_past}
+use Rattle.dh_laid.proofs.ValuesLogged.{logged_again, logged_ready}
 use Rattle.dh_typed_laid.specs.FormedBlocks.{EachForms, MadeCommandsSuit}
-use Rattle.dh_typed_laid.specs.SuitingBlocks.{EachFew, EachSuits, FitsBlock, HasPlaces, StandsSo}
-use Rattle.dh_typed_laid.proofs.CommandsSuit.{command_long, command_suits, sound_reaches}
+use Rattle.dh_typed_laid.specs.SuitingBlocks.{FitsBlock, StandsSo}
+use Rattle.dh_typed_laid.proofs.CommandsSuit.{command_suits, sound_reaches}
 
 -- One behind the other.
 
@@ -43,36 +41,11 @@ again_forms scene around old mid new A B one rest = record {
       record { forms = forms_again x old.draft mid.draft new.draft rest.extends f.forms g.forms; notes = g.notes; held = g.held };
 }
 
-still_forms : (scene : Scene) (around : Around) (old new : Building) → new ≡ old → FormsCommand scene around old new (λ x. Unit {0})
-still_forms scene around old new still = record {
-  extends = extends_same old new still;
-  logs = λ ready. logged_equal old.values new.values (ap (λ (b : Building). b.values) still);
-  forms = λ x a s round noted h w. there_same x old new still noted h.held;
-}
-
 pub each_forms : EachForms
 each_forms scene around [] old new m few = still_forms scene around old new m
 each_forms scene around (c ∷ cs) old new (mid, (next, (m, rest))) few =
     again_forms scene around old mid new (λ x. CommandSuits x scene c.command around old mid c.first next m) (λ x. EachSuits x scene around cs mid new rest)
     (command_forms scene c.command around old mid c.first next m few.0) (each_forms scene around cs mid new rest few.1)
-
--- Sites.
-
-places_own : (first : ℕ) (ss : List (Option Site)) (i : ℕ) (s : Site) → slice_get ss i ≡ Some (Some s) → places_from first ss (first + i) ≡ Some s
-places_own first ss i s e = ap (λ (b : Truth). if b then None else one_site (slice_get ss (first + i - first))) (low first i) ∙ (ap (λ j. one_site (slice_get ss j)) (same first i) ∙ ap one_site e)
-  where
-    low : (a i : ℕ) → nat_lt (a + i) a ≡ false
-    low a i = grind (arith, nat_tests)
-
-    same : (a i : ℕ) → a + i - a ≡ i
-    same a i = omega arith
-
-places_past : (first : ℕ) (ss : List (Option Site)) (number : ℕ) → first + length ss ≤ number → places_from first ss number ≡ None
-places_past first ss number h = by (nat_lt number first)
-  where
-    by : (b : Truth) → (if b then None else one_site (slice_get ss (number - first))) ≡ None
-    by true = refl
-    by false = ap one_site (slice_get_past ss (number - first) (omega (arith, h)))
 
 above : (a b i : ℕ) → a ≤ b → a ≤ b + i
 above a b i l = omega (arith, l)
@@ -89,10 +62,10 @@ module _ (x : Block) (scene : Scene) (count : ℕ) (around : Around) (rounds : L
       let table = table_of (program_seen scene.program.now) in
       let reach = sound_reaches scene around.levels.now (table_of (program_seen scene.program.now)) (λ r k. IsNamedHere scene around.levels.now x.plan.registers rounds own.touched r k) (IsSeen scene around.levels.now) c.command own.sound in
       let reached = command_reached scene c.command around old mid c.first next m reach stands.some rising.1.0 in
-      let size : length (command_sites scene c.command around old mid c.first next m) ≡ accesses_of c.command = command_long scene c.command around old mid c.first next m reach in
+      let size : length (command_sites scene c.command around old mid c.first next m) ≡ accesses_of c.command = command_sites_long scene c.command around old mid c.first next m reach in
       let places : HasPlaces x.sites c.first (command_sites scene c.command around old mid c.first next m) = λ i s e.
       sites (c.first + i) (above from c.first i rising.0)
-      ∙ ap (λ (o : Option Site). site_or o (block_sites scene around cs mid new rest (c.first + i))) (places_own c.first (command_sites scene c.command around old mid c.first next m) i s e) in
+      ∙ ap (λ (o : Option Site). site_or o (block_sites scene around cs mid new rest (c.first + i))) (places_own c.first (command_sites scene c.command around old mid c.first next m) i (Some s) e) in
       let later : (number : ℕ) → c.first + accesses_of c.command ≤ number → x.sites number ≡ block_sites scene around cs mid new rest number = λ number l.
       sites number (further from c.first (accesses_of c.command) number rising.0 l)
       ∙ ap (λ (o : Option Site). site_or o (block_sites scene around cs mid new rest number))

@@ -25,12 +25,12 @@ use Rattle.dh_formed.specs.Formed.{AccessSuits, AreNumbers, Block, FormSuits, Op
 use Rattle.dh_formed.proofs.OperandsTyped.{typed_operands_suit}
 use Rattle.dh_commands.specs.LanesRun.{lane_of, paths_counted}
 use Rattle.dh_blocks.specs.SoundTerms.{AreSound, IsSound, IsSoundForm}
-use Rattle.dh_laid.specs.BlockSites.{form_sites, read_site, term_sites, terms_sites}
+use Rattle.dh_laid.specs.BlockSites.{HasSites, form_sites, read_site, term_sites, terms_sites}
+use Rattle.dh_laid.proofs.SitesLaid.{sites_behind, sites_front, sites_last, term_sites_long, terms_sites_long}
 use Rattle.dh_typed_blocks.specs.TypedTerms.{AreOperands, AreTyped, IsTyped, IsTypedForm}
-use Rattle.dh_typed_laid.specs.SuitingBlocks.{HasSites, NamedHere, StandsSo, TermsSuitBlocks}
+use Rattle.dh_typed_laid.specs.SuitingBlocks.{NamedHere, StandsSo, TermsSuitBlocks}
 use Rattle.dh_typed_laid.proofs.MemoriesSuit.{bank_below, dims_there, narrowed_below}
 use Rattle.dh_typed_laid.proofs.NamesSuit.{name_suits}
-use Rattle.dh_typed_laid.proofs.PlacesOfSites.{sites_behind, sites_front, sites_last, term_long, terms_long}
 
 -- operands that break no rule suit
 operands_suit : (o : Op) (j k whole : Kind) → AreOperands o j k whole → OperandsSuit o j k whole
@@ -93,7 +93,7 @@ module _ (x : Block) (scene : Scene) (count : ℕ) (around : Around) (rounds : L
     form_suits place k (plain.named r) first s t h n l = name_suits x scene count around stands rounds touched r k s.0 n l
     form_suits place k (plain.accessed r ts) first s t h n l =
         let memory : ℕ = memory_of (known_in scene) r in
-        let at = sites_last x.sites first (first + terms_accesses ts) (terms_sites scene around ts) (read_site scene around (memory_of (known_in scene) r) place (plain.accessed r ts)) (behind first (length (terms_sites scene around ts)) (terms_accesses ts) (terms_long scene around ts)) h in (
+        let at = sites_last x.sites first (first + terms_accesses ts) (terms_sites scene around ts) (read_site scene around (memory_of (known_in scene) r) place (plain.accessed r ts)) (behind first (length (terms_sites scene around ts)) (terms_accesses ts) (terms_sites_long scene around ts)) h in (
           (terms_suit ts first s.0 t.0 (sites_front x.sites first (terms_sites scene around ts) _ h) n l, numbers known table ts t.0),
           (
             many_indices memory ts t.1.many,
@@ -102,15 +102,15 @@ module _ (x : Block) (scene : Scene) (count : ℕ) (around : Around) (rounds : L
         )
     form_suits place k (plain.in_bank r bank bank_place row) first s t h n l =
         let memory : ℕ = memory_of (known_in scene) r in
-        let at = sites_last x.sites first (first + term_accesses row) (term_sites scene around row) (read_site scene around (memory_of (known_in scene) r) place (plain.in_bank r bank bank_place row)) (behind first (length (term_sites scene around row)) (term_accesses row) (term_long scene around row)) h in (
+        let at = sites_last x.sites first (first + term_accesses row) (term_sites scene around row) (read_site scene around (memory_of (known_in scene) r) place (plain.in_bank r bank bank_place row)) (behind first (length (term_sites scene around row)) (term_accesses row) (term_sites_long scene around row)) h in (
           (term_suits row first s.0 t.0.0 (sites_front x.sites first (term_sites scene around row) _ h) n l, t.0.1),
-          read_suits n memory (first + term_accesses row) place (plain.in_bank r bank bank_place row) k at s.1.0 t.1.0 t.1.1 s.1.1.1,
+          read_suits n memory (first + term_accesses row) place (plain.in_bank r bank bank_place row) k at s.1.0 t.1.0 t.1.1 s.1.1.1.0,
         )
     form_suits place k (plain.applied o left right) first s t h n l = (
       (
         term_suits left first s.0.0 t.0.0 (sites_front x.sites first (term_sites scene around left) _ h) n l,
         term_suits right (first + term_accesses left) s.0.1 t.0.1
-            (sites_behind x.sites first (first + term_accesses left) (term_sites scene around left) (term_sites scene around right) (behind first (length (term_sites scene around left)) (term_accesses left) (term_long scene around left)) h) n l,
+            (sites_behind x.sites first (first + term_accesses left) (term_sites scene around left) (term_sites scene around right) (behind first (length (term_sites scene around left)) (term_accesses left) (term_sites_long scene around left)) h) n l,
       ),
       operands_suit o (kind_written left) (kind_written right) k t.1,
     )
@@ -122,7 +122,7 @@ module _ (x : Block) (scene : Scene) (count : ℕ) (around : Around) (rounds : L
     terms_suit (plain.term_then u ts) first s t h n l = (
       term_suits u first s.0 t.0.0 (sites_front x.sites first (term_sites scene around u) _ h) n l,
       terms_suit ts (first + term_accesses u) s.1 t.1
-          (sites_behind x.sites first (first + term_accesses u) (term_sites scene around u) (terms_sites scene around ts) (behind first (length (term_sites scene around u)) (term_accesses u) (term_long scene around u)) h) n l,
+          (sites_behind x.sites first (first + term_accesses u) (term_sites scene around u) (terms_sites scene around ts) (behind first (length (term_sites scene around u)) (term_accesses u) (term_sites_long scene around u)) h) n l,
     )
 
 pub terms_suit_blocks : TermsSuitBlocks

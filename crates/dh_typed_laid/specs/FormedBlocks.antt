@@ -9,8 +9,8 @@ use Rattle.dh_formed.specs.Formed.{Block}
 use Rattle.dh_commands.specs.declared.buildings.Building.{Building}
 use Rattle.dh_laid.specs.BareCommands.{AreRising}
 use Rattle.dh_laid.specs.BlockSites.{MadeEach, block_sites}
-use Rattle.dh_laid.specs.LaidCommands.{FormsCommand}
-use Rattle.dh_typed_laid.specs.SuitingBlocks.{EachFew, EachSuits, FitsBlock, StandsSo}
+use Rattle.dh_laid.specs.LaidCommands.{EachFew, EachSuits, FormsCommand}
+use Rattle.dh_typed_laid.specs.SuitingBlocks.{FitsBlock, StandsSo}
 
 -- commands one after the other form what they add
 abbrev pub EachForms : Type 0

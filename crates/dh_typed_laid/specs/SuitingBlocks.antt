@@ -1,7 +1,7 @@
 -- What is put down for the commands of a ready program's block suits, as what is asked of it by kinds: names have
 -- registers of their kinds, operands suit, accesses have their sites. Stated for a block whose sites tell where the
 -- accesses of its commands stand.
-use Rattle.std.specs.Prelude.{◌≡◌, ℕ, ◌+◌, ◌<◌, Bool, List, [], ◌∷◌, slice_get, Option, Some}
+use Rattle.std.specs.Prelude.{◌≡◌, ℕ, ◌<◌, Bool, List, slice_get, Some}
 use Rattle.dh_value.specs.declared.kinds.Kind.{Kind}
 use Rattle.dh_tree.specs.declared.trees.expressions.Ref.{Ref}
 use Rattle.dh_tree.specs.Memories.{table_of}
@@ -17,7 +17,6 @@ use Rattle.dh_expressions.specs.declared.scenes.Around.{Around}
 use Rattle.dh_expressions.specs.declared.scenes.Scene.{Scene}
 use Rattle.dh_expressions.specs.Evaluated.{known_in}
 use Rattle.dh_formed.specs.Formed.{Block, SharesMemory, Site, TermSuits}
-use Rattle.dh_commands.specs.declared.buildings.Building.{Building}
 use Rattle.dh_commands.specs.LanesRun.{lane_of, paths_counted}
 use Rattle.dh_commands.specs.ShownVariables.{IsSeen, factors_of}
 use Rattle.dh_blocks.specs.NamedVariables.{IsNamedHere}
@@ -25,19 +24,8 @@ use Rattle.dh_blocks.specs.PathsOfLevels.{AreSpread}
 use Rattle.dh_blocks.specs.SlotsOfScene.{HoldsVariables}
 use Rattle.dh_blocks.specs.SoundCommands.{SoundAction}
 use Rattle.dh_blocks.specs.SoundTerms.{IsSound}
-use Rattle.dh_laid.specs.BlockSites.{MadeEach, term_sites}
-use Rattle.dh_laid.specs.LaidCommands.{AreFew, CommandSuits}
+use Rattle.dh_laid.specs.BlockSites.{HasSites, term_sites}
 use Rattle.dh_typed_blocks.specs.TypedTerms.{ActionTyped, IsTyped}
-
--- Sites.
-
--- accesses that are numbered from a first one on have these sites
-abbrev pub HasSites : (sites : ℕ → Option Site) → (first : ℕ) → List Site → Type 0
-HasSites sites first ss = (i : ℕ) (s : Site) → slice_get ss i ≡ Some s → sites (first + i) ≡ Some s
-
--- so those that have sites
-abbrev pub HasPlaces : (sites : ℕ → Option Site) → (first : ℕ) → List (Option Site) → Type 0
-HasPlaces sites first ss = (i : ℕ) (s : Site) → slice_get ss i ≡ Some (Some s) → sites (first + i) ≡ Some s
 
 -- a read of the block shares a read of the block alone, of the same memory
 abbrev pub KeepsShares : Block → Scene → Type 0
@@ -77,13 +65,3 @@ pub record FitsBlock (x : Block) (scene : Scene) (around : Around) (rounds : Lis
   pub touched : ℕ → Bool
   pub sound : SoundAction scene around.levels.now (table_of (program_seen scene.program.now)) (NamedHere x scene around rounds touched) (IsSeen scene around.levels.now) c.command
   pub typed : ActionTyped (known_in scene) (table_of (program_seen scene.program.now)) c.command
-
--- commands of a block, put down one after the other, suit each
-abbrev pub EachSuits : (x : Block) (scene : Scene) (around : Around) (cs : List Located) (old new : Building) → MadeEach scene around cs old new → Type 0
-EachSuits x scene around [] old new m = Unit {0}
-EachSuits x scene around (c ∷ cs) old new (mid, (next, (m, rest))) = CommandSuits x scene c.command around old mid c.first next m × EachSuits x scene around cs mid new rest
-
--- and the numbers of their accesses are few
-abbrev pub EachFew : (scene : Scene) (around : Around) (cs : List Located) (old new : Building) → MadeEach scene around cs old new → Type 0
-EachFew scene around [] old new m = Unit {0}
-EachFew scene around (c ∷ cs) old new (mid, (next, (m, rest))) = AreFew scene c.command around old mid c.first next m × EachFew scene around cs mid new rest

@@ -1,12 +1,14 @@
 -- The scene with which a plan is made is of the program, and so are the phases that are made with it.
-use Rattle.std.proofs.Common.{◌≡◌, ℕ, ◌<◌, ◌≤◌, ◌^◌, List, [], length, Option, refl, ap, sym, ◌∙◌, subst, arith}
+use Rattle.std.proofs.Common.{◌≡◌, ℕ, ◌<◌, ◌≤◌, ◌^◌, List, [], ◌++◌, length, Option, refl, ap, sym, ◌∙◌, subst, arith}
 use Rattle.std.specs.Prelude.{IfOk, Result, Ok, Err}
 use Rattle.dh_tree.specs.declared.trees.programs.Tree.{Tree}
 use Rattle.dh_tree.specs.PlainTrees.{Program}
 use Rattle.dh_tree.specs.Numbers.{IsNumbered}
 use Rattle.dh_tree.specs.Seen.{action_seen, program_seen}
 use Rattle.dh_meaning.specs.AccessNumbers.{accesses_of}
-use Rattle.dh_meaning.specs.Bindings.{bindings, bindings_of}
+use Rattle.dh_meaning.specs.Bindings.{Binding, bindings}
+use Rattle.dh_meaning.specs.Ways.{all_bindings_of}
+use Rattle.dh_ways.proofs.NoWays.{no_view_bindings}
 use Rattle.dh_plan.specs.Passes.{IsToCompile}
 use Rattle.dh_runnable.proofs.ProgramsRun.{ready_runs}
 use Rattle.dh_events.specs.Scopes.{AreScopes}
@@ -34,7 +36,7 @@ module _ (scene : Scene) where
 
   pub scene_made : (count : ℕ) (shares : List (Option ℕ)) → IsToCompile p
       → scene.held.now ≡ all_held (declarations [] p.body) 0 0 (length p.entities) → count ≡ slots_counted (declarations [] p.body) 0 0 (length p.entities)
-      → AreScopes (bindings_of p) scene.scopes.now → TellsShares p shares → scene.shares.now ≡ narrow_shares shares → IsSceneMade scene count
+      → AreScopes (all_bindings_of p) scene.scopes.now → TellsShares p shares → scene.shares.now ≡ narrow_shares shares → IsSceneMade scene count
   scene_made count shares asked held counted scopes told same = record {
     held = held;
     count_is = counted;
@@ -55,15 +57,17 @@ module _ (scene : Scene) where
   -- from what the calls told of the program's tree
   pub told : {E : Type 0} (tree : Tree) (places : List Held) (count entities : ℕ) (shares : List (Option ℕ)) (r : Result Phased E) → IsToCompile p → tree ≡ scene.program.now
       → entities ≡ length tree.entities.items → ArePlaces tree.body entities places count → scene.held.now ≡ places
-      → AreScopes (bindings 0 (action_seen tree.body)) scene.scopes.now
+      → AreScopes (bindings 0 (action_seen tree.body) ++ []) scene.scopes.now
       → ((q : Program) (first : ℕ) → q.body ≡ action_seen tree.body → IsNumbered first q.body → TellsShares q shares) → scene.shares.now ≡ narrow_shares shares
       → IfOk r (λ phased. MakesPhased scene count (action_seen tree.body) phased) → IfOk r (λ phased. MakesPhases scene.program.now phased)
   told tree places count entities shares r asked same = subst (λ (t : Tree).
       entities ≡ length t.entities.items → ArePlaces t.body entities places count → scene.held.now ≡ places
-      → AreScopes (bindings 0 (action_seen t.body)) scene.scopes.now
+      → AreScopes (bindings 0 (action_seen t.body) ++ []) scene.scopes.now
       → ((q : Program) (first : ℕ) → q.body ≡ action_seen t.body → IsNumbered first q.body → TellsShares q shares) → scene.shares.now ≡ narrow_shares shares
       → IfOk r (λ phased. MakesPhased scene count (action_seen t.body) phased) → IfOk r (λ phased. MakesPhases scene.program.now phased)) (sym same)
-      (λ long placed held scopes shared narrow makes.
+      (λ long placed held own shared narrow makes.
+      let scopes : AreScopes (all_bindings_of p) scene.scopes.now =
+      subst (λ (bs : List Binding). AreScopes (bindings 0 (program_seen scene.program.now).body ++ bs) scene.scopes.now) (sym (no_view_bindings (program_seen scene.program.now) asked.ready.built)) own in
       let made = scene_made count shares asked
       (held ∙ (placed.0 ∙ ap (λ (n : ℕ). all_held (declarations [] p.body) 0 0 n) long))
       (placed.1 ∙ ap (λ (n : ℕ). slots_counted (declarations [] p.body) 0 0 n) long)

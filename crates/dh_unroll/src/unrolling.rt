@@ -27,7 +27,8 @@ fn phases_of(alloc: Global, program: &Typed) -> Result<Phased, NoMemory>
 {
     let tree = program.tree();
     let places = place_all(alloc, &tree.body, tree.entities.len())?;
-    let scopes = scopes_of(alloc, &tree.body)?;
+    // no view leads through others, since views are refused
+    let scopes = scopes_of(alloc, &tree.body, &[], &[])?;
     let shared = shared_reads(alloc, &tree.body)?;
     let shares = narrow_shares(alloc, shared.as_slice())?;
     let scene = Scene {

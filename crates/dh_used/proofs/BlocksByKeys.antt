@@ -8,13 +8,12 @@ use Rattle.std.specs.Set.{distinct_count}
 use Rattle.std.proofs.Math.Seq.{drop-append_seam}
 use Rattle.dh_tree.specs.PlainTrees.{Program}
 use Rattle.dh_tree.specs.Seen.{program_seen}
-use Rattle.dh_meaning.specs.AccessNumbers.{accesses_of}
-use Rattle.dh_meaning.specs.Bindings.{bindings_of}
+use Rattle.dh_meaning.specs.Ways.{all_bindings_of}
 use Rattle.dh_meaning.specs.OnePhase.{any_makes, test_makes}
 use Rattle.dh_meaning.specs.Paths.{Path, copies_in, paths_in, same_path}
 use Rattle.dh_meaning.specs.Phases.{Located, idle_phases_of, phases_of}
 use Rattle.dh_meets.specs.Charges as charges
-use Rattle.dh_meets.specs.Charges.{depends, element_depends, key_of, paths_of, picked}
+use Rattle.dh_meets.specs.Charges.{depends, element_depends, entity_depends, key_of, paths_of, picked}
 use Rattle.dh_meets.specs.Sharing.{shared}
 use Rattle.dh_meets.specs.SourceEvents.{Element, SourceAccess, accesses_in, trace}
 use Rattle.dh_code.proofs.PathsInOrder.{length_paths}
@@ -26,7 +25,7 @@ use Rattle.dh_sound.specs.ToldEvents.{access_at}
 use Rattle.dh_sound.proofs.Pigeons.{Has}
 use Rattle.dh_sound.proofs.SamePhase.{straight_has_both, test_has_both}
 use Rattle.dh_sound.proofs.Slices.{straight_either, straight_stands, test_either, test_stands}
-use Rattle.dh_events.specs.Accesses.{element_in}
+use Rattle.dh_events.specs.Accesses.{element_in, entity_in}
 use Rattle.dh_lengths.specs.SharedReads.{TellsShares}
 use Rattle.dh_expressions.specs.declared.drafts.Draft.{Draft}
 use Rattle.dh_expressions.specs.declared.paths.Level.{Level}
@@ -43,10 +42,11 @@ use Rattle.dh_blocks.proofs.PathNumbers.{kept, leader_within, leads, number_is, 
 use Rattle.dh_laid.specs.BlockSites.{block_sites, test_sites}
 use Rattle.dh_laid.specs.LaidNumbers.{StoresReach}
 use Rattle.dh_laid.specs.LaidProbes.{AddsProbes}
-use Rattle.dh_laid.specs.LaidUses.{AddsUses, AreAlong, PathsLead, probed_by, used_by, used_to}
+use Rattle.dh_laid.specs.LaidUses.{AddsUses, PathsLead, probed_by, used_by, used_to}
 use Rattle.dh_laid.proofs.BlocksUsed.{blocks_probe, blocks_use, tests_probe, tests_use}
 use Rattle.dh_laid.proofs.CommandsProbe.{append_probes}
 use Rattle.dh_laid.proofs.UsesAdded.{used_nowhere}
+use Rattle.dh_laid.proofs.SitesLaid.{along_reach}
 use Rattle.dh_charged.specs.LeadersCounted.{leads_below}
 use Rattle.dh_charged.proofs.KeysLed.{all_leaders_are_keys}
 use Rattle.dh_used.specs.SourceSites.{AllStand, AreSited, IsSiteOf}
@@ -74,25 +74,30 @@ module _ (scene : Scene) (around : Around) (spread : AreSpread around.levels.now
   abbrev levels : List Level
   levels = around.levels.now
 
+  -- whether an access of what a name stands for, to this element, depends on the loop of a level
+  abbrev depends_by : (writes : Truth) → (level : ℕ) → Option ℕ → Element → Truth
+  depends_by writes level entity e = writes || (entity_depends (all_bindings_of p) level entity || element_depends (all_bindings_of p) level e)
+
   -- it leads as often as it has keys
-  led_keys : (s : Site) (a : SourceAccess) → IsSiteOf scene levels (paths_counted around) s a → charges.factors_of a.site.loops ≡ factors_of levels → (n : ℕ) → used_by (Some None) (Some s) n ≡ leads_below (leader_number levels (depends (bindings_of p) a)) n
+  led_keys : (s : Site) (a : SourceAccess) → IsSiteOf scene levels (paths_counted around) s a → charges.factors_of a.site.loops ≡ factors_of levels → (n : ℕ) → used_by (Some None) (Some s) n ≡ leads_below (leader_number levels (depends (all_bindings_of p) a)) n
   led_keys s a is loops zero = refl
   led_keys s a is loops (suc n) = sum _ _ _ _ (led_keys s a is loops n) (ap (λ l. if l == n then 1 else 0) leader_is)
     where
       sum : (a b c d : ℕ) → a ≡ c → b ≡ d → a + b ≡ c + d
       sum a b c d e g = omega (arith, e, g)
 
-      leader_is : s.standing.leader n ≡ leader_number levels (depends (bindings_of p) a) n
+      leader_is : s.standing.leader n ≡ leader_number levels (depends (all_bindings_of p) a) n
       leader_is =
           ap (λ (t : Site). t.standing.leader n) is.is
-          ∙ (ap (λ (ls : List Level). leader_number ls (λ level. a.writes || element_depends (bindings_of p) level (element_in is.form)) n) is.levels_are
-          ∙ ap (λ (e : Element). leader_number levels (λ level. a.writes || element_depends (bindings_of p) level e) n) is.element_is)
+          ∙ (ap (λ (ls : List Level). leader_number ls (λ level. depends_by a.writes level (entity_in is.form) (element_in is.form)) n) is.levels_are
+          ∙ (ap (λ (x : Option ℕ). leader_number levels (λ level. depends_by a.writes level x (element_in is.form)) n) is.named_is
+          ∙ ap (λ (e : Element). leader_number levels (λ level. depends_by a.writes level a.entity e) n) is.element_is))
 
   all_keys : (s : Site) (a : SourceAccess) → IsSiteOf scene levels (paths_counted around) s a → charges.factors_of a.site.loops ≡ factors_of levels → used_by (Some None) (Some s) (paths_counted around) ≡ keys_of p a
   all_keys s a is loops =
       led_keys s a is loops (paths_counted around)
-      ∙ (ap (λ n. leads_below (leader_number levels (depends (bindings_of p) a)) n) counted
-      ∙ ((all_leaders_are_keys levels spread (depends (bindings_of p) a)).all ∙ ap (λ (fs : List ℕ). distinct_count same_path (map (picked (depends (bindings_of p) a) 0) (paths_in fs))) (sym loops)))
+      ∙ (ap (λ n. leads_below (leader_number levels (depends (all_bindings_of p) a)) n) counted
+      ∙ ((all_leaders_are_keys levels spread (depends (all_bindings_of p) a)).all ∙ ap (λ (fs : List ℕ). distinct_count same_path (map (picked (depends (all_bindings_of p) a) 0) (paths_in fs))) (sym loops)))
 
   shared_none : (j : ℕ) (s : Site) (n : ℕ) → used_by (Some (Some j)) (Some s) n ≡ 0
   shared_none j s zero = refl
@@ -162,10 +167,6 @@ pub each_of : (P : Located → Type 0) (cs : List Located) → ((c : Located) �
 each_of P [] h = tt
 each_of P (c ∷ cs) h = (h c (inl refl), each_of P cs (λ d g. h d (inr g)))
 
-pub along_reach : (from : ℕ) (cs : List Located) → AreAlong from cs → AllByRecursion (λ (c : Located). StoresReach c.command) cs
-along_reach from [] h = tt
-along_reach from (c ∷ cs) h = (h.0.reaches, along_reach (c.first + accesses_of c.command) cs h.1)
-
 pub some_paths : (scene : Scene) (around : Around) (makes : ℕ → Truth) → IsInLoops scene around makes → 0 < paths_counted around
 some_paths scene around makes h = subst (λ (n : ℕ). 0 < n) (sym h.counted) (some_copies around.levels.now h.spread)
 
@@ -173,7 +174,7 @@ pub paths_lead : (scene : Scene) (around : Around) (makes : ℕ → Truth) → I
 paths_lead scene around makes h path within = all_lead around.levels.now h.spread path (subst (λ (n : ℕ). path < n) h.counted within)
 
 pub straights_use_as_made : StraightsUseAsMade
-straights_use_as_made scene plan block around cs old new end m here along has tells bare cut ends =
+straights_use_as_made scene plan block around cs old new end m here along named has tells bare cut ends =
     block_as_made scene around here.spread here.counted tells (λ number. any_makes number cs) (block_sites scene around cs old new m) sited here.loops plan block old.draft new.draft end
     (blocks_use scene around cs old new m here.stands (paths_lead scene around (λ number. any_makes number cs) here) some along (writes_alone scene tells cs reach stand)
     (shares_inside scene tells (λ number. any_makes number cs) (block_sites scene around cs old new m) sited.made (λ k e. any_below (trace (program_seen scene.program.now)) cs k stand e) (λ j k one made. straight_has_both (program_seen scene.program.now) cs j k found made one)) bare)
@@ -189,7 +190,7 @@ straights_use_as_made scene plan block around cs old new end m here along has te
     stand = each_of (λ (c : Located). StandsAmong 0 (trace (program_seen scene.program.now)) c) cs (λ c g. straight_stands (program_seen scene.program.now) cs c found g)
 
     sited : AreSited scene around (λ number. any_makes number cs) (block_sites scene around cs old new m)
-    sited = blocks_are_sited scene around cs old new m reach stand
+    sited = blocks_are_sited scene around cs old new m named stand
 
     some : 0 < paths_counted around
     some = some_paths scene around (λ number. any_makes number cs) here

@@ -17,6 +17,8 @@ use Rattle.dh_plan.specs.declared.operations.Reach.{Reach}
 use Rattle.dh_plan.specs.PlainPlans.{PlainPlan, operations_in}
 use Rattle.dh_plan.specs.SoundPlans.{access_in}
 use Rattle.dh_sound.specs.PhaseFacts.{HasStraight, HasTest, StandsAmong}
+use Rattle.dh_sound.specs.Straight.{IsNamedAction}
+use Rattle.dh_code.proofs.CommandsFlattened.{own_base}
 use Rattle.dh_sound.proofs.SamePhase.{straight_has_both, test_has_both}
 use Rattle.dh_sound.proofs.Slices.{straight_either, straight_stands, test_either, test_stands}
 use Rattle.dh_lengths.specs.SharedReads.{TellsShares}
@@ -34,10 +36,11 @@ use Rattle.dh_laid.specs.BlockSites.{MadeEach, block_sites, test_sites}
 use Rattle.dh_laid.specs.LaidNumbers.{StoresReach}
 use Rattle.dh_laid.specs.LaidUses.{AddsLedUses, AreAlong, AreSitesReaches, HaveNoOperations, IsSitesReach}
 use Rattle.dh_laid.proofs.BlocksUsed.{blocks_lead, tests_lead}
+use Rattle.dh_laid.proofs.SitesLaid.{along_reach}
 use Rattle.dh_used.specs.SourceReaches.{IsOfSource, ReachSource}
 use Rattle.dh_used.specs.SourceSites.{AllStand, AreSited}
 use Rattle.dh_used.specs.UsedBlocks.{EndsQuietly, IsInLoops, IsOwn}
-use Rattle.dh_used.proofs.BlocksByKeys.{along_reach, each_of, paths_lead, some_paths}
+use Rattle.dh_used.proofs.BlocksByKeys.{each_of, paths_lead, some_paths}
 use Rattle.dh_used.proofs.SharesOfProgram.{any_below, shares_inside, test_below, writes_alone}
 use Rattle.dh_used.proofs.SitesOfSource.{blocks_are_sited, tests_are_sited}
 
@@ -56,7 +59,7 @@ module _ (scene : Scene) (around : Around) (makes : ℕ → Truth) (sites : ℕ 
         memory_is =
             q.memory_is
             ∙ (ap (λ (s : Site). narrowed s.memory) site.is
-            ∙ ap (λ (e : Option ℕ). narrowed (entity_number (number_in (memories_of p) e))) site.entity_is);
+            ∙ ap (λ (e : Option ℕ). narrowed (entity_number (number_in (memories_of p) e))) (own_base (memories_of p) site.ref.entity ∙ site.entity_is));
       }
 
   each_of_site : (os : List Operation) → AreSitesReaches sites os → ReachSource p os
@@ -83,9 +86,9 @@ module _ (scene : Scene) (around : Around) (makes : ℕ → Truth) (sites : ℕ 
           ∙ drop-append_seam old.operations.items (led.more ++ ends.more))
 
 pub straights_reach : (scene : Scene) (plan : PlainPlan) (block : ℕ) (around : Around) (cs : List Located) (old new : Building) (end : Draft) (m : MadeEach scene around cs old new)
-    → IsInLoops scene around (λ number. any_makes number cs) → AreAlong 0 cs → HasStraight (phases_of (program_seen scene.program.now)) cs → TellsShares (program_seen scene.program.now) scene.shares.now
+    → IsInLoops scene around (λ number. any_makes number cs) → AreAlong 0 cs → AllByRecursion (λ (c : Located). IsNamedAction c.command) cs → HasStraight (phases_of (program_seen scene.program.now)) cs → TellsShares (program_seen scene.program.now) scene.shares.now
     → HaveNoOperations (block_sites scene around cs old new m) old.accesses → IsOwn plan block old.draft end → EndsQuietly new.draft end → ReachSource (program_seen scene.program.now) (operations_in plan block)
-straights_reach scene plan block around cs old new end m here along has tells bare own ends =
+straights_reach scene plan block around cs old new end m here along named has tells bare own ends =
     own_reach scene around (λ number. any_makes number cs) (block_sites scene around cs old new m) sited (λ k e. any_below (trace (program_seen scene.program.now)) cs k stand e) plan block old.draft new.draft end _
     (blocks_lead scene around cs old new m here.stands (paths_lead scene around (λ number. any_makes number cs) here) (some_paths scene around (λ number. any_makes number cs) here) along (writes_alone scene tells cs reach stand)
     (shares_inside scene tells (λ number. any_makes number cs) (block_sites scene around cs old new m) sited.made (λ k e. any_below (trace (program_seen scene.program.now)) cs k stand e) (λ j k one made. straight_has_both (program_seen scene.program.now) cs j k found made one)) bare)
@@ -101,7 +104,7 @@ straights_reach scene plan block around cs old new end m here along has tells ba
     stand = each_of (λ (c : Located). StandsAmong 0 (trace (program_seen scene.program.now)) c) cs (λ c g. straight_stands (program_seen scene.program.now) cs c found g)
 
     sited : AreSited scene around (λ number. any_makes number cs) (block_sites scene around cs old new m)
-    sited = blocks_are_sited scene around cs old new m reach stand
+    sited = blocks_are_sited scene around cs old new m named stand
 
 pub tests_reach : (scene : Scene) (plan : PlainPlan) (block : ℕ) (around : Around) (tested : Located) (t : Term) (old new : Building) (end : Draft) (next : ℕ) (tests : List ℕ)
     → MadeTests scene around tested.first t (paths_counted around) old new next tests → test_of (form_of tested.command) ≡ Some t

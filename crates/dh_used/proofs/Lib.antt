@@ -1,4 +1,5 @@
 pub mod SharedReads
+pub mod NamedStores
 pub mod SitesOfSource
 pub mod SharesOfProgram
 pub mod BlocksByKeys

@@ -6,7 +6,7 @@ use Rattle.dh_tree.specs.PlainTrees.{Program}
 use Rattle.dh_tree.specs.Seen.{program_seen}
 use Rattle.dh_meaning.specs.AccessNumbers.{accesses_of, term_accesses}
 use Rattle.dh_meaning.specs.Core.{CoreCommands, CoreTerm, Turning, CorePhase, straightly, turning, looping, choosing, CorePhases, no_core_phases, phase_and}
-use Rattle.dh_meaning.specs.CoreOf.{Known, core_of, form_of, known_of, turning_of}
+use Rattle.dh_meaning.specs.CoreOf.{Known, core_of, form_of, turning_of}
 use Rattle.dh_meaning.specs.OnePhase.{any_makes, makes, test_makes}
 use Rattle.dh_meaning.specs.Phases.{Located, Phase, straight, turns, repeated, decided, Phases, no_phases, phase, idle_phases_of, phases_of}
 use Rattle.dh_meaning.specs.Sites.{nothing_around}
@@ -22,7 +22,6 @@ use Rattle.dh_plan.specs.PlanPhases.{AreNodesOf, IsNodeOf, Tie}
 use Rattle.dh_plan.specs.SoundPlans.{access_in}
 use Rattle.dh_sound.specs.LoopsMatch.{EachMatches, unrolled}
 use Rattle.dh_sound.specs.PhaseFacts.{HasStraight, HasStraightIn, HasTest, HasTestIn, HaveStraight, HaveTest}
-use Rattle.dh_sound.specs.Straight.{IsNamedAction}
 use Rattle.dh_sound.specs.ToldEvents.{access_at}
 use Rattle.dh_sound.proofs.LocatedSites.{straight_loops, test_stands_there}
 use Rattle.dh_sound.proofs.LoopsMatch.{AreInside, EachInside, IsInside, ListInside, action_inside, match_factors, unrolled_both}
@@ -53,7 +52,8 @@ use Rattle.dh_used.specs.MadePlans.{IsMadeOf, MadeNodesUse, MadePlansUse}
 use Rattle.dh_used.specs.UsedBlocks.{EndsQuietly, IsInLoops, IsOwn}
 use Rattle.dh_used.specs.UsedPlans.{UsesStraight, UsesTest, used_tie}
 use Rattle.dh_used.proofs.BlocksByKeys.{straights_use_as_made, tests_use_as_made}
-use Rattle.dh_used.proofs.PlansUsed.{named_facts, named_reaches, phases_named, plans_use}
+use Rattle.dh_used.proofs.NamedStores.{named_reaches}
+use Rattle.dh_used.proofs.PlansUsed.{all_named, named_facts, phases_named, plans_use}
 use Rattle.dh_used.proofs.SitesOfSource.{blocks_placed, test_placed_all}
 
 -- Straight phases and tests, wherever they stand.
@@ -163,10 +163,6 @@ straight_named [] cs h e = absurd e
 straight_named (q ∷ qs) cs h (inl e) = straight_named_in q cs h.0 e
 straight_named (q ∷ qs) cs h (inr e) = straight_named qs cs h.1 e
 
-pub all_named : (cs : List Located) → AllHold named_facts tt cs → AllByRecursion (λ (c : Located). IsNamedAction c.command) cs
-all_named [] h = tt
-all_named (c ∷ cs) h = (h.0, all_named cs h.1)
-
 pub along : (from : ℕ) (cs : List Located) → AreRising from cs → AllHold named_facts tt cs → AreAlong from cs
 along from [] r h = tt
 along from (c ∷ cs) r h = (record { behind = r.0; few = r.1.0; reaches = named_reaches c.command h.0 }, along (c.first + accesses_of c.command) cs r.1.1 h.1)
@@ -239,19 +235,19 @@ module _ (scene : Scene) (final : Made) (plan : PlainPlan) (is : IsMadeOf scene 
   pub body_named : ListHolds named_facts tt (phases_of p)
   body_named = phases_named nothing_around 0 p.body is.named
 
-  pub body_inside : ListInside (known_of p) [] (phases_of p)
-  body_inside = action_inside (known_of p) nothing_around [] 0 p.body is.named tt
+  pub body_inside : ListInside (known_in scene) [] (phases_of p)
+  body_inside = action_inside (known_in scene) nothing_around [] 0 p.body is.named tt
 
   module _ (rounds : List Round) (around : Around) (round : IsRoundBlock rounds around) (stands : StandsIn scene around) where
     top : IsTop rounds around
     top = rounds_are_top scene rounds around round stands
 
-    in_loops : (makes : ℕ → Truth) → ((number : ℕ) (a : SourceAccess) → makes number ≡ true → access_at p number ≡ Some a → EachMatches (known_of p) (unrolled (loops_round rounds)) a.site.loops) → IsInLoops scene around makes
+    in_loops : (makes : ℕ → Truth) → ((number : ℕ) (a : SourceAccess) → makes number ≡ true → access_at p number ≡ Some a → EachMatches (known_in scene) (unrolled (loops_round rounds)) a.site.loops) → IsInLoops scene around makes
     in_loops makes matches = record {
       stands = stands;
       spread = top.spread;
       counted = top.counted;
-      loops = λ number a made at. sym (match_factors (known_of p) (loops_round rounds) a.site.loops (matches number a made at)) ∙ sym top.factors_are;
+      loops = λ number a made at. sym (match_factors (known_in scene) (loops_round rounds) a.site.loops (matches number a made at)) ∙ sym top.factors_are;
     }
 
   -- what stands round the block of a straight phase
@@ -259,7 +255,7 @@ module _ (scene : Scene) (final : Made) (plan : PlainPlan) (is : IsMadeOf scene 
     pub straight_has : HasStraight (phases_of (program_seen scene.program.now)) b.located
     straight_has = straight_there (known_in scene) [] (phases_of (program_seen scene.program.now)) (loops_round rounds) b.located b.placed
 
-    straight_held : AllHold named_facts tt b.located
+    pub straight_held : AllHold named_facts tt b.located
     straight_held = straight_named (phases_of (program_seen scene.program.now)) b.located body_named straight_has
 
     straight_matches : EachInside (known_in scene) (unrolled (loops_round rounds)) b.located
@@ -281,8 +277,8 @@ module _ (scene : Scene) (final : Made) (plan : PlainPlan) (is : IsMadeOf scene 
     pub straight_bare : HaveNoOperations (block_sites scene b.made.around b.located b.made.before b.made.between b.made.made) b.made.before.accesses
     straight_bare = record {
       none = b.made.counts;
-      there = λ number s at. (bare_made b.made.before.accesses b.located number b.made.bare (blocks_placed scene b.made.around b.located b.made.before b.made.between b.made.made straight_along number s at)).0;
-      bare = λ number s at. (bare_made b.made.before.accesses b.located number b.made.bare (blocks_placed scene b.made.around b.located b.made.before b.made.between b.made.made straight_along number s at)).1;
+      there = λ number s at. (bare_made b.made.before.accesses b.located number b.made.bare (blocks_placed scene b.made.around b.located b.made.before b.made.between b.made.made (all_named b.located straight_held) number s at)).0;
+      bare = λ number s at. (bare_made b.made.before.accesses b.located number b.made.bare (blocks_placed scene b.made.around b.located b.made.before b.made.between b.made.made (all_named b.located straight_held) number s at)).1;
     }
 
     pub straight_own : IsOwn plan block b.made.before.draft b.made.after.draft
@@ -293,11 +289,12 @@ module _ (scene : Scene) (final : Made) (plan : PlainPlan) (is : IsMadeOf scene 
 
     straight_used : UsesStraight p plan cs block
     straight_used = record {
+      known = known_in scene;
       located = b.located;
       are = b.are;
       named = all_named b.located straight_held;
       uses =
-          straights_use_as_made scene plan block b.made.around b.located b.made.before b.made.between b.made.after.draft b.made.made straight_stands straight_along straight_has is.tells straight_bare straight_own straight_quiet;
+          straights_use_as_made scene plan block b.made.around b.located b.made.before b.made.between b.made.after.draft b.made.made straight_stands straight_along (all_named b.located straight_held) straight_has is.tells straight_bare straight_own straight_quiet;
     }
 
   -- and of a test
@@ -329,6 +326,7 @@ module _ (scene : Scene) (final : Made) (plan : PlainPlan) (is : IsMadeOf scene 
 
     test_used : UsesTest p plan test block
     test_used = record {
+      known = known_in scene;
       tested = b.tested;
       is = b.is;
       uses =

@@ -21,7 +21,8 @@ use Rattle.dh_charged.proofs.BlocksTouch.{place_holds}
 use Rattle.dh_used.specs.SourceReaches.{IsOfSource, MadePlansReach, ReachSource}
 use Rattle.dh_used.specs.UsedPlans.{listed}
 use Rattle.dh_used.proofs.BlocksReach.{straights_reach, tests_reach}
-use Rattle.dh_used.proofs.NodesMade.{straight_along, straight_bare, straight_has, straight_own, straight_quiet, straight_stands, test_bare, test_has, test_own, test_quiet, test_stands_in}
+use Rattle.dh_used.proofs.PlansUsed.{all_named}
+use Rattle.dh_used.proofs.NodesMade.{straight_along, straight_bare, straight_has, straight_held, straight_own, straight_quiet, straight_stands, test_bare, test_has, test_own, test_quiet, test_stands_in}
 
 -- What holds of the block of each straight phase and of each test holds of all blocks that nodes name.
 module _ (tie : Tie) (P : ℕ → Type 0) (of_block : (rounds : List Round) (cs : CoreCommands) (block : ℕ) → tie.of_block rounds cs block → P block) (of_test : (rounds : List Round) (test : CoreTerm) (flag block : ℕ) → tie.of_test rounds test flag block → P block) where
@@ -80,7 +81,7 @@ made_plans_reach scene final plan is once block i r h =
     straight : (rounds : List Round) (cs : CoreCommands) (number : ℕ) → IsStraightBlock scene final rounds cs number → ReachesSource scene plan number
     straight rounds cs number b =
         straights_reach scene plan number b.made.around b.located b.made.before b.made.between b.made.after.draft b.made.made (straight_stands scene final plan is rounds cs number b)
-        (straight_along scene final plan is rounds cs number b) (straight_has scene final plan is rounds cs number b) is.tells (straight_bare scene final plan is rounds cs number b) (straight_own scene final plan is rounds cs number b) (straight_quiet scene final plan is rounds cs number b)
+        (straight_along scene final plan is rounds cs number b) (all_named b.located (straight_held scene final plan is rounds cs number b)) (straight_has scene final plan is rounds cs number b) is.tells (straight_bare scene final plan is rounds cs number b) (straight_own scene final plan is rounds cs number b) (straight_quiet scene final plan is rounds cs number b)
 
     test : (rounds : List Round) (t : CoreTerm) (flag number : ℕ) → IsTestBlock scene final rounds t flag number → ReachesSource scene plan number
     test rounds t flag number b =

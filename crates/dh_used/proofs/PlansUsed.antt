@@ -5,9 +5,8 @@ use Rattle.std.specs.List.{AllByRecursion, list_any}
 use Rattle.std.proofs.lemmas.Bool.{cases_eq, cases_lt}
 use Rattle.std.proofs.lemmas.Bool.Decides.{nat_tests}
 use Rattle.std.proofs.Math.Nat.{add-mul}
-use Rattle.dh_tree.specs.Indices.{form_of}
 use Rattle.dh_tree.specs.PlainTrees as plain
-use Rattle.dh_tree.specs.PlainTrees.{Program, Term, Action, action, ActionForm, lets, lets_memory, views, assigns, stores, reduces, calls, blocks, decides, repeats, counts, MaybeAction, no_action, one_action, Actions, no_actions, action_then, Groups, no_groups, group_then}
+use Rattle.dh_tree.specs.PlainTrees.{shrinks, splits, suffixes, shifts, Program, Term, Action, action, ActionForm, lets, lets_memory, views, assigns, stores, reduces, calls, blocks, decides, repeats, counts, MaybeAction, no_action, one_action, Actions, no_actions, action_then, Groups, no_groups, group_then}
 use Rattle.dh_meaning.specs.AccessNumbers.{accesses_of, part_accesses, term_accesses}
 use Rattle.dh_meaning.specs.CoreOf.{Known, core_commands, core_phase, core_phases, core_test, known_of}
 use Rattle.dh_meaning.specs.OnePhase.{any_makes, hold_both, holds_both, test_makes}
@@ -23,56 +22,14 @@ use Rattle.dh_plan.specs.DoneProgram.{is_made, operations_using, probes_among, p
 use Rattle.dh_plan.specs.PlainPlans.{Node, block_node, turns_node, loop_node, choice_node, threads_node, Nodes, no_nodes, node_then, PlainPlan, block_operations, operations_in}
 use Rattle.dh_plan.specs.PlanPhases.{AreNodesOf, IsNodeOf}
 use Rattle.dh_plan.specs.SoundPlans.{blocks_of, node_blocks}
-use Rattle.dh_sound.specs.Straight.{AreNamedActions, AreNamedGroups, IsNamedAction, IsNamedOther, IsTarget}
+use Rattle.dh_sound.specs.Straight.{AreNamedActions, AreNamedGroups, IsNamedAction, IsNamedOther}
 use Rattle.dh_sound.specs.ToldEvents.{access_at}
 use Rattle.dh_sound.proofs.PhasesHold.{AllHold, Facts, ListHolds, PartsHold, PhaseHolds, PhasesHold, both_hold, choice_hold, folded_hold, joined_hold, of_list_hold, turn_hold}
 use Rattle.dh_sound.proofs.SamePhase.{bit_true, either, made_any, two}
 use Rattle.dh_sound.proofs.Times.{bit, made, times, times_in, times_joined, times_of, times_once}
-use Rattle.dh_laid.specs.LaidNumbers.{IsAccessForm, StoresReach, StoresReachGroups, StoresReachOther, StoresReachPart}
 use Rattle.dh_used.specs.UsedBlocks.{UsesAsMade}
 use Rattle.dh_used.specs.UsedPlans.{PlansUse, UsesStraight, UsesTest, listed, used_tie}
 use Rattle.dh_used.proofs.NumbersOfCore.{commands_hold, commands_tell, term_holds, test_tells}
-
--- Stores are into accesses.
-
-target_reaches : (t : Term) → IsTarget t → IsAccessForm (form_of t)
-target_reaches (plain.term place k (plain.accessed r ts)) is = tt
-target_reaches (plain.term place k (plain.in_bank r bank at row)) is = tt
-target_reaches (plain.term place k (plain.number negative z)) is = absurd is
-target_reaches (plain.term place k (plain.truth_value b)) is = absurd is
-target_reaches (plain.term place k (plain.named r)) is = absurd is
-target_reaches (plain.term place k (plain.applied o l r)) is = absurd is
-target_reaches (plain.term place k (plain.converted inner to)) is = absurd is
-
-mutual
-  pub named_reaches : (a : Action) → IsNamedAction a → StoresReach a
-  named_reaches (action id place (lets name declared value)) h = tt
-  named_reaches (action id place (assigns target value)) h = tt
-  named_reaches (action id place (stores target value)) h = target_reaches target h.0
-  named_reaches (action id place (reduces target o value)) h = tt
-  named_reaches (action id place (decides test chosen other)) h = (named_reaches chosen h.1.0, other_reaches other h.1.1)
-  named_reaches (action id place (blocks body)) h = groups_reach body h
-  named_reaches (action id place (lets_memory name shape shape_places value)) h = tt
-  named_reaches (action id place (views name parent form)) h = tt
-  named_reaches (action id place (calls function arguments)) h = tt
-  named_reaches (action id place (repeats test body)) h = tt
-  named_reaches (action id place (counts iterator declared low high factor body combine combine_place)) h = tt
-
-  other_reaches : (other : MaybeAction) → IsNamedOther other → StoresReachOther other
-  other_reaches no_action h = tt
-  other_reaches (one_action a) h = named_reaches a h
-
-  part_reaches : (part : Actions) → AreNamedActions part → StoresReachPart part
-  part_reaches no_actions h = tt
-  part_reaches (action_then a rest) h = (named_reaches a h.0, part_reaches rest h.1)
-
-  groups_reach : (body : Groups) → AreNamedGroups body → StoresReachGroups body
-  groups_reach no_groups h = tt
-  groups_reach (group_then part rest) h = (part_reaches part h.0, groups_reach rest h.1)
-
-pub all_reach : (cs : List Located) → AllByRecursion (λ (c : Located). IsNamedAction c.command) cs → AllByRecursion (λ (c : Located). StoresReach c.command) cs
-all_reach [] h = tt
-all_reach (c ∷ cs) h = (named_reaches c.command h.0, all_reach cs h.1)
 
 -- The commands of all phases are named.
 
@@ -95,7 +52,10 @@ mutual
       (phases_named (in_loop r (loop_of iterator low high factor)) n body h.1.0) (other_named (in_loop r (loop_of iterator low high factor)) (n + accesses_of body) combine h.1.1))
   phases_named r n (action id place (blocks body)) h = groups_named r n body h
   phases_named r n (action id place (lets_memory name shape shape_places value)) h = tt
-  phases_named r n (action id place (views name parent form)) h = tt
+  phases_named r n (action id place (views name parent (shrinks by by_place))) h = tt
+  phases_named r n (action id place (views name parent (splits by by_place))) h = tt
+  phases_named r n (action id place (views name parent (suffixes by by_place))) h = ((h, tt), tt)
+  phases_named r n (action id place (views name parent (shifts by))) h = ((h, tt), tt)
   phases_named r n (action id place (calls function arguments)) h = tt
 
   other_named : (r : source.Around) (n : ℕ) (other : MaybeAction) → IsNamedOther other → ListHolds named_facts tt (other_phases r n other)
@@ -111,9 +71,9 @@ mutual
   parts_named r n no_actions h = tt
   parts_named r n (action_then a rest) h = (phases_named r n a h.0, parts_named r (n + accesses_of a) rest h.1)
 
-named_each : (cs : List Located) → AllHold named_facts tt cs → AllByRecursion (λ (c : Located). StoresReach c.command) cs
-named_each [] h = tt
-named_each (c ∷ cs) h = (named_reaches c.command h.0, named_each cs h.1)
+pub all_named : (cs : List Located) → AllHold named_facts tt cs → AllByRecursion (λ (c : Located). IsNamedAction c.command) cs
+all_named [] h = tt
+all_named (c ∷ cs) h = (h.0, all_named cs h.1)
 
 -- How many phases make an access.
 
@@ -213,12 +173,12 @@ module _ (p : Program) (plan : PlainPlan) (k : ℕ) (a : SourceAccess) (at : acc
   weighed true = omega arith
   weighed false = omega arith
 
-  straight_sum : (cs : List Located) (block : ℕ) → AllByRecursion (λ (c : Located). StoresReach c.command) cs → UsesStraight p plan (core_commands known cs) block → sum_over f (block ∷ []) ≡ bit (any_makes k cs) * weight
-  straight_sum cs block reach u =
+  straight_sum : (cs : List Located) (block : ℕ) → AllByRecursion (λ (c : Located). IsNamedAction c.command) cs → UsesStraight p plan (core_commands known cs) block → sum_over f (block ∷ []) ≡ bit (any_makes k cs) * weight
+  straight_sum cs block named u =
       alone (f block)
       ∙ (pick block (λ number. any_makes number u.located) u.uses
       ∙ (weighed (any_makes k u.located)
-      ∙ ap (λ b. bit b * weight) (sym (commands_tell k known u.located (all_reach u.located u.named)) ∙ (ap (commands_hold k) (sym u.are) ∙ commands_tell k known cs reach))))
+      ∙ ap (λ b. bit b * weight) (sym (commands_tell k u.known u.located u.named) ∙ (ap (commands_hold k) (sym u.are) ∙ commands_tell k known cs named))))
     where
       alone : (n : ℕ) → n + 0 ≡ n
       alone n = omega arith
@@ -226,7 +186,7 @@ module _ (p : Program) (plan : PlainPlan) (k : ℕ) (a : SourceAccess) (at : acc
   test_sum : (c : Located) (block : ℕ) → UsesTest p plan (core_test known c) block → f block ≡ bit (test_makes k c) * weight
   test_sum c block u =
       pick block (λ number. test_makes number u.tested) u.uses
-      ∙ (weighed (test_makes k u.tested) ∙ ap (λ b. bit b * weight) (sym (test_tells k known u.tested) ∙ (ap (term_holds k) (sym u.is) ∙ test_tells k known c)))
+      ∙ (weighed (test_makes k u.tested) ∙ ap (λ b. bit b * weight) (sym (test_tells k u.known u.tested) ∙ (ap (term_holds k) (sym u.is) ∙ test_tells k known c)))
 
   two_sums : (f_sum g_sum x y : ℕ) → f_sum ≡ x * weight → g_sum ≡ y * weight → f_sum + g_sum ≡ (x + y) * weight
   two_sums f_sum g_sum x y e g = let m = add-mul x y weight in omega (arith, e, g, m)
@@ -241,7 +201,7 @@ module _ (p : Program) (plan : PlainPlan) (k : ℕ) (a : SourceAccess) (at : acc
         ∙ two_sums (sum_over f (node_blocks n)) (sum_over f (blocks_of ns)) (held_in k q) (held_of k ps) (node_sum rounds q n named.0 h.0) (nodes_sum rounds ps ns named.1 h.1)
 
     node_sum : (rounds : List Round) (q : Phase) (n : Node) → PhaseHolds named_facts tt q → IsNodeOf (used_tie p plan) rounds (core_phase known q) n → sum_over f (node_blocks n) ≡ held_in k q * weight
-    node_sum rounds (straight cs) (block_node block) named h = straight_sum cs block (named_each cs named) h
+    node_sum rounds (straight cs) (block_node block) named h = straight_sum cs block (all_named cs named) h
     node_sum rounds (straight cs) (turns_node counter count body) named h = absurd h
     node_sum rounds (straight cs) (loop_node block flag body) named h = absurd h
     node_sum rounds (straight cs) (choice_node block flag one other) named h = absurd h

@@ -59,13 +59,13 @@ then_of es fs n i a long e =
     ∙ (ap (λ m. slice_get (accesses_in es ++ accesses_in fs) (m + i)) (sym long) ∙ behind (accesses_in es) (accesses_in fs) i a e)
 
 -- where an access stands among events
-record CutAt (es : List SourceEvent) (k : ℕ) (a : SourceAccess) : Type 0 where
-  before : List SourceEvent
-  after : List SourceEvent
-  cut : es ≡ before ++ accesses a ∷ after
-  counted : count before ≡ k
+pub record CutAt (es : List SourceEvent) (k : ℕ) (a : SourceAccess) : Type 0 where
+  pub before : List SourceEvent
+  pub after : List SourceEvent
+  pub cut : es ≡ before ++ accesses a ∷ after
+  pub counted : count before ≡ k
 
-cut_at : (es : List SourceEvent) (k : ℕ) (a : SourceAccess) → slice_get (accesses_in es) k ≡ Some a → CutAt es k a
+pub cut_at : (es : List SourceEvent) (k : ℕ) (a : SourceAccess) → slice_get (accesses_in es) k ≡ Some a → CutAt es k a
 cut_at [] k a e = absurd (cc)
 cut_at (assigned entity ∷ es) k a e = let c = cut_at es k a e in record { before = assigned entity ∷ c.before; after = c.after; cut = ap (λ (l : List SourceEvent). assigned entity ∷ l) c.cut; counted = c.counted }
 cut_at (accesses b ∷ es) zero a e = let same : b ≡ a = cc in record { before = []; after = es; cut = ap (λ (x : SourceAccess). accesses x ∷ es) same; counted = refl }

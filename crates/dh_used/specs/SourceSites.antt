@@ -10,8 +10,9 @@ use Rattle.dh_meaning.specs.CoreOf.{form_of, memory_of, test_of}
 use Rattle.dh_meaning.specs.OnePhase.{any_makes, test_makes}
 use Rattle.dh_meaning.specs.Phases.{Located}
 use Rattle.dh_meets.specs.SourceEvents.{SourceAccess, trace}
-use Rattle.dh_events.specs.Accesses.{element_in}
+use Rattle.dh_events.specs.Accesses.{element_in, entity_in}
 use Rattle.dh_sound.specs.PhaseFacts.{StandsAmong}
+use Rattle.dh_sound.specs.Straight.{IsNamedAction}
 use Rattle.dh_sound.specs.ToldEvents.{access_at}
 use Rattle.dh_expressions.specs.declared.paths.Level.{Level}
 use Rattle.dh_expressions.specs.declared.scenes.Around.{Around}
@@ -22,7 +23,6 @@ use Rattle.dh_formed.specs.Formed.{Site}
 use Rattle.dh_commands.specs.declared.buildings.Building.{Building}
 use Rattle.dh_commands.specs.LanesRun.{paths_counted}
 use Rattle.dh_laid.specs.BlockSites.{MadeEach, block_sites, test_sites}
-use Rattle.dh_laid.specs.LaidNumbers.{StoresReach}
 
 -- a site is that of an access of the source, inside these loops, at so many paths
 pub record IsSiteOf (scene : Scene) (levels : List Level) (paths : ℕ) (s : Site) (a : SourceAccess) : Type 0 where
@@ -32,6 +32,7 @@ pub record IsSiteOf (scene : Scene) (levels : List Level) (paths : ℕ) (s : Sit
   pub ref : Ref
   pub entity_is : ref.entity ≡ a.entity
   pub form : TermForm
+  pub named_is : entity_in form ≡ a.entity
   pub element_is : element_in form ≡ a.element
   pub is : s ≡ record { memory = memory_of (known_in scene) ref; standing = standing_at scene around (memory_of (known_in scene) ref) a.place form a.writes }
 
@@ -57,7 +58,7 @@ AllStand scene cs = AllByRecursion (λ (c : Located). StandsAmong 0 (trace (prog
 
 abbrev pub BlocksAreSited : Type 0
 BlocksAreSited =
-    (scene : Scene) (around : Around) (cs : List Located) (old new : Building) (m : MadeEach scene around cs old new) → AllByRecursion (λ (c : Located). StoresReach c.command) cs → AllStand scene cs
+    (scene : Scene) (around : Around) (cs : List Located) (old new : Building) (m : MadeEach scene around cs old new) → AllByRecursion (λ (c : Located). IsNamedAction c.command) cs → AllStand scene cs
     → AreSited scene around (λ number. any_makes number cs) (block_sites scene around cs old new m)
 
 -- and those of a test

@@ -4,7 +4,7 @@ use Rattle.std.specs.Prelude.{◌≡◌, ℕ, ◌<◌, List, [], length}
 use Rattle.std.specs.List.{AllByRecursion}
 use Rattle.dh_tree.specs.PlainTrees.{Program}
 use Rattle.dh_meaning.specs.Core.{CoreCommands, CoreTerm}
-use Rattle.dh_meaning.specs.CoreOf.{core_commands, core_of, core_test, known_of}
+use Rattle.dh_meaning.specs.CoreOf.{Known, core_commands, core_of, core_test}
 use Rattle.dh_meaning.specs.OnePhase.{any_makes, test_makes}
 use Rattle.dh_meaning.specs.Phases.{Located}
 use Rattle.dh_plan.specs.DoneProgram.{ProbesByPaths, UsesByKeys}
@@ -15,16 +15,19 @@ use Rattle.dh_sound.specs.Straight.{IsNamedAction}
 pub use Rattle.dh_gathering.specs.NamedOnce.{listed}
 use Rattle.dh_used.specs.UsedBlocks.{UsesAsMade}
 
--- a block of straight commands, or of a test, that uses what they make
+-- A block of straight commands, or of a test, that uses what they make, which are told by their core: by whatever is known
+-- of names.
 pub record UsesStraight (p : Program) (plan : PlainPlan) (cs : CoreCommands) (block : ℕ) : Type 0 where
+  pub known : Known
   pub located : List Located
-  pub are : cs ≡ core_commands (known_of p) located
+  pub are : cs ≡ core_commands known located
   pub named : AllByRecursion (λ (c : Located). IsNamedAction c.command) located
   pub uses : UsesAsMade p plan block (λ number. any_makes number located)
 
 pub record UsesTest (p : Program) (plan : PlainPlan) (test : CoreTerm) (block : ℕ) : Type 0 where
+  pub known : Known
   pub tested : Located
-  pub is : test ≡ core_test (known_of p) tested
+  pub is : test ≡ core_test known tested
   pub uses : UsesAsMade p plan block (λ number. test_makes number tested)
 
 abbrev pub used_tie : Program → PlainPlan → Tie

@@ -14,7 +14,7 @@ check_ports-requires c =
       told = record {
         ready = ready;
         table = c.ready_programs_have_tables.ensures p ready;
-        banks = c.ready_accesses_are_told.ensures.banks p ready.indices;
+        banks = c.ready_accesses_are_told.ensures.banks p ready.indices ready.views;
         copies = c.ready_accesses_are_told.ensures.copies p ready.indices ready.limits;
       };
     }

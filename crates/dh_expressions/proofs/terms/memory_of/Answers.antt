@@ -1,7 +1,11 @@
-use Rattle.dh_meaning.specs.CoreOf.{known_of}
-use Rattle.dh_tree.specs.Seen.{program_seen}
-use Rattle.dh_code.proofs.Entries.{nothing_meant}
+use Rattle.std.proofs.Common.{ap, sym, ◌∙◌}
+use Rattle.dh_tree.specs.Memories.{number_in}
+use Rattle.dh_meaning.specs.CoreOf.{entity_number}
+use Rattle.dh_code.proofs.CommandsFlattened.{own_base}
+use Rattle.dh_expressions.specs.Evaluated.{known_in}
 use Rattle.dh_expressions.proofs.terms.memory_of.Goals as goal
 
-pub returns-in_default : goal.returns-in_default
-returns-in_default c = nothing_meant (known_of (program_seen c.args.scene.now.program.now)).memories c.args.of.now c.in_default.is
+pub returns : goal.returns
+returns c =
+    let ms = (known_in c.args.scene.now).memories in
+    c.number_of.ensures ∙ sym (ap (λ o. entity_number (number_in ms o)) (own_base ms c.args.of.now.entity))

@@ -4,13 +4,15 @@ use Rattle.std.proofs.lemmas.Result.{IfOk-weaker}
 use Rattle.dh_accesses.proofs.CountedParts.{left_first, next_command}
 use Rattle.dh_tree.proofs.SeenActions as known
 use Rattle.dh_tree.specs.PlainTrees.{action, repeats, counts, decides}
-use Rattle.dh_tree.specs.Seen.{action_seen, action_form_seen, all_parts_seen, maybe_block_seen, term_seen, placed, unrolled}
+use Rattle.dh_tree.specs.Seen.{action_seen, action_form_seen, all_parts_seen, maybe_block_seen, plan_seen, term_seen, placed, unrolled}
+use Rattle.dh_tree.specs.ViewOffsets.{moves}
 use Rattle.dh_meaning.specs.AccessNumbers.{groups_accesses}
 use Rattle.dh_expressions.specs.Levels.{levels_inside}
-use Rattle.dh_gathering.specs.Gathered.{Chooses, GathersGroups, all_kept, all_numbered}
-use Rattle.dh_gathering.proofs.EachNamedOnce.{once_arms, once_body, once_counts, once_joined, once_nothing, once_part}
+use Rattle.dh_gathering.specs.OpenAccesses.{numbered}
+use Rattle.dh_gathering.specs.Gathered.{Chooses, GathersGroups, all_kept, all_numbered, view_kept}
+use Rattle.dh_gathering.proofs.EachNamedOnce.{once_arms, once_body, once_counts, once_joined, once_nothing, once_part, once_view}
 use Rattle.dh_gathering.proofs.PartsGathered.{command_turn, commands_begin, left_all, left_begin, left_end, part_end, parts_begin, parts_end}
-use Rattle.dh_gathering.proofs.PhasesGathered.{block_of_code, choice_of_code, found_of_code, gathers_as, loop_of_code, turns_of_code}
+use Rattle.dh_gathering.proofs.PhasesGathered.{block_of_code, choice_of_code, found_of_code, gathers_as, loop_of_code, turns_of_code, view_of_code}
 use Rattle.dh_gathering.proofs.gathering.+gathering.Goals as goal
 
 pub gather-returns-in_ok-forms-in-If-clause-gathers : goal.gather-returns-in_ok-forms-in-If-clause-gathers
@@ -39,6 +41,19 @@ gather-returns-in_ok-forms-in-For-clause-gathers t c =
     c.args.first c.in_ok-body-in-For.next c.args.command.now.id c.args.command.now.place c.in-For.iterator c.in-For.declared (placed c.in-For.low c.in-For.low_place) (placed c.in-For.high c.in-For.high_place) (unrolled c.in-For.factor c.in-For.factor_place c.in-For.unroll_place)
     (action_seen c.deref-in-For.result.now) (maybe_block_seen c.in-For.combine) c.in-For.combine_place c.turn_count-count.result
     c.turn_count-count.ensures c.if-count-eq0.false (c.in_ok-within-in-For.ensures.levels ∙ ap (λ e. levels_inside c.args.paths.now.levels.items (Some e) c.in-For.factor) c.entity_of-entity.ensures) c.in_ok-within-in-For.ensures.count c.in_ok-body-in-For.ensures.next c.in_ok-body-in-For.ensures.gathers c.in_ok-folds-in-For.ensures.gathers c.in_ok-turn-in-For.ensures c.in_ok-forms-in-For.ensures.made)
+
+pub gather-returns-in-View-clause-gathers : goal.gather-returns-in-View-clause-gathers
+gather-returns-in-View-clause-gathers t c =
+    let seen = ap action_form_seen c.in-View.is ∙ known.view_is c.in-View.name c.in-View.parent c.in-View.form in
+    IfOk-weaker c.view_phases.result _ _
+    (λ g is. gathers_as c.args.scene.now c.args.paths.now c.args.made.now c.args.made.now (all_kept g.0.items) c.args.first c.args.command.now.id c.args.command.now.place (action_form_seen c.args.command.now.form) _ seen
+    (view_of_code c.args.scene.now c.args.paths.now c.args.made.now (all_kept g.0.items) c.args.first c.args.command.now.id c.args.command.now.place c.in-View.name c.in-View.parent (plan_seen c.in-View.form)
+    (is ∙ ap (λ f. view_kept (moves (plan_seen c.in-View.form)) (numbered (action c.args.command.now.id c.args.command.now.place f) c.args.first)) seen)))
+    c.view_phases.ensures.forms
+
+pub gather-returns-in-View-clause-once : goal.gather-returns-in-View-clause-once
+gather-returns-in-View-clause-once t c =
+    IfOk-weaker c.view_phases.result _ _ (λ g is. once_view c.args.made.now (all_kept g.0.items) (moves (plan_seen c.in-View.form)) (numbered (action_seen c.args.command.now) c.args.first) is) c.view_phases.ensures.forms
 
 pub gather-returns-in-Block-clause-gathers : goal.gather-returns-in-Block-clause-gathers
 gather-returns-in-Block-clause-gathers t c =

@@ -6,12 +6,13 @@ use Rattle.dh_tree.specs.declared.trees.commands.Command.{Command}
 use Rattle.dh_tree.specs.PlainTrees.{assigns, blocks, calls, counts, decides, lets, lets_memory, reduces, repeats, stores, views}
 use Rattle.dh_tree.specs.Seen.{action_form_seen, action_seen, groups, maybe_seen, part_seen, placed, plan_seen, term_seen, unrolled}
 use Rattle.dh_tree.proofs.SeenActions.{assign_is, block_is, call_is, for_is, if_is, let_is, let_memory_is, reduce_is, store_is, view_is, while_is}
+use Rattle.dh_tree.specs.ViewOffsets.{moves}
 use Rattle.dh_meaning.specs.AccessNumbers.{accesses_of, other_accesses}
 use Rattle.dh_meaning.specs.Phases.{other_phases, phases}
 use Rattle.dh_events.specs.Tables.{numbered}
 use Rattle.dh_lengths.specs.HeldLevels.{count}
 use Rattle.dh_lengths.specs.PhaseWalks.{IsWalked, TellOther, TellsStages}
-use Rattle.dh_lengths.proofs.PhaseWalking.{by_form, groups_begin, groups_turn, never_more, part_begin, part_turn, put_released, walked_block, walked_choice, walked_none, walked_nothing, walked_repeat, walked_turns, where_none, where_one}
+use Rattle.dh_lengths.proofs.PhaseWalking.{by_form, groups_begin, groups_turn, never_more, view_few, part_begin, part_turn, put_released, walked_block, walked_choice, walked_none, walked_nothing, walked_repeat, walked_turns, where_none, where_one}
 use Rattle.dh_lengths.proofs.Zeros.{drop_past}
 use Rattle.dh_lengths.proofs.lengths.+walking.Goals as goal
 
@@ -25,44 +26,44 @@ walk_command-returns-then-stage-eq1 t c = on_ok_weaker c.walk_straight.result (�
     where_one c.args.stages.now c.args.walk.now c.walk_straight.new.walk c.args.command.now c.get_at-stage.result c.get_at-stage.ensures c.if-stage-eq1.true walked) c.walk_straight.ensures
 
 pub walk_command-loop-part-init : goal.walk_command-loop-part-init
-walk_command-loop-part-init t c = λ known r base line tells s. groups_begin c.args.stages.now known r base line c.args.walk.now c.as_slice-part-items.result.now tells s
+walk_command-loop-part-init t c = λ known u r base line tells s. groups_begin c.args.stages.now known r base line c.args.walk.now c.as_slice-part-items.result.now tells s
 
 pub walk_command-loop-command-init : goal.walk_command-loop-command-init
-walk_command-loop-command-init t c = λ known r base line tells s. part_begin c.args.stages.now known r base line (put_released c.loop-part.walk) c.as_slice-command-items.result.now tells s
+walk_command-loop-command-init t c = λ known u r base line tells s. part_begin c.args.stages.now known r base line (put_released c.loop-part.walk) c.as_slice-command-items.result.now tells s
 
 pub walk_command-loop-command-preserved : goal.walk_command-loop-command-preserved
-walk_command-loop-command-preserved t c = λ known r base line tells s.
-    part_turn c.args.stages.now known r base line (put_released c.loop-part.walk) c.loop-command.walk c.walk_command.new.walk c.as_slice-command-items.result.now c.loop-command.command-index c.command-item.result
-    c.loop-command-test.true c.command-item.is c.in_ok-walk_command-in-Block.ensures (c.loop-command.invariant known r base line tells s)
+walk_command-loop-command-preserved t c = λ known u r base line tells s.
+    part_turn c.args.stages.now known u r base line (put_released c.loop-part.walk) c.loop-command.walk c.walk_command.new.walk c.as_slice-command-items.result.now c.loop-command.command-index c.command-item.result
+    c.loop-command-test.true c.command-item.is c.in_ok-walk_command-in-Block.ensures (c.loop-command.invariant known u r base line tells s)
 
 pub walk_command-loop-part-preserved : goal.walk_command-loop-part-preserved
-walk_command-loop-part-preserved t c = λ known r base line tells s.
+walk_command-loop-part-preserved t c = λ known u r base line tells s.
     groups_turn c.args.stages.now known r base line c.args.walk.now c.loop-part.walk c.loop-command.walk c.as_slice-part-items.result.now c.loop-part.part-index c.part-item.result c.as_slice-command-items.result.now _
     c.loop-part-test.true c.part-item.is c.as_slice-command-items.ensures.value (drop_past c.as_slice-command-items.result.now c.loop-command.command-index c.loop-command-test.false)
-    (λ tell l stands. c.loop-command.invariant known r base l tell stands) (c.loop-part.invariant known r base line tells s)
+    (λ tell l stands. c.loop-command.invariant known u r base l tell stands) (c.loop-part.invariant known u r base line tells s)
 
 pub walk_command-returns-after-loop-part : goal.walk_command-returns-after-loop-part
 walk_command-returns-after-loop-part t c =
-    by_form c.args.stages.now c.args.walk.now (put_released c.loop-part.walk) c.args.command.now (blocks (groups (map part_seen c.as_slice-part-items.result.now)))
+    by_form c.args.ways.now c.args.stages.now c.args.walk.now (put_released c.loop-part.walk) c.args.command.now (blocks (groups (map part_seen c.as_slice-part-items.result.now)))
     (ap action_form_seen c.in-Block.is ∙ (block_is c.in-Block.body ∙ ap (λ l. blocks (groups (map part_seen l))) (sym c.as_slice-part-items.ensures.value))) c.get_at-stage.result c.get_at-stage.ensures c.if-stage-eq0.false c.if-stage-eq1.false
     (walked_block c.args.stages.now c.args.walk.now c.loop-part.walk c.args.command.now _ c.as_slice-part-items.result.now (drop_past c.as_slice-part-items.result.now c.loop-part.part-index c.loop-part-test.false) c.loop-part.invariant)
 
 pub walk_command-returns-in_ok-walk_other-in-If : goal.walk_command-returns-in_ok-walk_other-in-If
 walk_command-returns-in_ok-walk_other-in-If t c = on_ok_weaker c.close-in-If.result (λ closes.
-    by_form c.args.stages.now c.args.walk.now c.close-in-If.new.walk c.args.command.now (decides (term_seen c.in-If.test) (action_seen c.deref.result.now) (maybe_seen (option_map (λ b. action_seen b.value) c.in-If.other)))
+    by_form c.args.ways.now c.args.stages.now c.args.walk.now c.close-in-If.new.walk c.args.command.now (decides (term_seen c.in-If.test) (action_seen c.deref.result.now) (maybe_seen (option_map (λ b. action_seen b.value) c.in-If.other)))
     (ap action_form_seen c.in-If.is ∙ (if_is c.in-If.test c.in-If.then c.in-If.other ∙ ap (λ x. decides (term_seen c.in-If.test) (action_seen x) (maybe_seen (option_map (λ b. action_seen b.value) c.in-If.other))) (sym c.deref.ensures))) c.get_at-stage.result c.get_at-stage.ensures c.if-stage-eq0.false c.if-stage-eq1.false
     (walked_choice c.args.stages.now c.args.walk.now c.walk_test.new.walk c.walk_command-in-If.new.walk c.close.new.walk c.walk_other.new.walk c.close-in-If.new.walk c.args.command.now c.deref.result.now c.in-If.test (maybe_seen (option_map (λ b. action_seen b.value) c.in-If.other))
     c.in_ok-walk_test-in-If.ensures c.in_ok-walk_command-in-If.ensures c.in_ok-close-in-If.ensures c.in_ok-walk_other-in-If.ensures closes)) c.close-in-If.ensures
 
 pub walk_command-returns-in_ok-walk_command-in-While : goal.walk_command-returns-in_ok-walk_command-in-While
 walk_command-returns-in_ok-walk_command-in-While t c = on_ok_weaker c.close-in-While.result (λ closes.
-    by_form c.args.stages.now c.args.walk.now c.close-in-While.new.walk c.args.command.now (repeats (term_seen c.in-While.test) (action_seen c.deref-in-While.result.now))
+    by_form c.args.ways.now c.args.stages.now c.args.walk.now c.close-in-While.new.walk c.args.command.now (repeats (term_seen c.in-While.test) (action_seen c.deref-in-While.result.now))
     (ap action_form_seen c.in-While.is ∙ (while_is c.in-While.test c.in-While.body ∙ ap (λ x. repeats (term_seen c.in-While.test) (action_seen x)) (sym c.deref-in-While.ensures))) c.get_at-stage.result c.get_at-stage.ensures c.if-stage-eq0.false c.if-stage-eq1.false
     (walked_repeat c.args.stages.now c.args.walk.now c.walk_test-in-While.new.walk c.walk_command-in-While.new.walk c.close-in-While.new.walk c.args.command.now c.deref-in-While.result.now c.in-While.test c.in_ok-walk_test-in-While.ensures c.in_ok-walk_command-in-While.ensures closes)) c.close-in-While.ensures
 
 pub walk_command-returns-in_ok-walk_other-in-For : goal.walk_command-returns-in_ok-walk_other-in-For
 walk_command-returns-in_ok-walk_other-in-For t c = on_ok_weaker c.close-in-For-2.result (λ closes.
-    by_form c.args.stages.now c.args.walk.now c.close-in-For-2.new.walk c.args.command.now (counts c.in-For.iterator c.in-For.declared (placed c.in-For.low c.in-For.low_place) (placed c.in-For.high c.in-For.high_place) (unrolled c.in-For.factor c.in-For.factor_place c.in-For.unroll_place) (action_seen c.deref-in-For.result.now) (maybe_seen (option_map (λ b. action_seen b.value) c.in-For.combine)) c.in-For.combine_place)
+    by_form c.args.ways.now c.args.stages.now c.args.walk.now c.close-in-For-2.new.walk c.args.command.now (counts c.in-For.iterator c.in-For.declared (placed c.in-For.low c.in-For.low_place) (placed c.in-For.high c.in-For.high_place) (unrolled c.in-For.factor c.in-For.factor_place c.in-For.unroll_place) (action_seen c.deref-in-For.result.now) (maybe_seen (option_map (λ b. action_seen b.value) c.in-For.combine)) c.in-For.combine_place)
     (ap action_form_seen c.in-For.is
     ∙ (for_is c.in-For.iterator c.in-For.declared c.in-For.low c.in-For.low_place c.in-For.high c.in-For.high_place c.in-For.factor c.in-For.factor_place c.in-For.unroll_place c.in-For.body c.in-For.combine c.in-For.combine_place
     ∙ ap (λ x. counts c.in-For.iterator c.in-For.declared (placed c.in-For.low c.in-For.low_place) (placed c.in-For.high c.in-For.high_place) (unrolled c.in-For.factor c.in-For.factor_place c.in-For.unroll_place) (action_seen x) (maybe_seen (option_map (λ b. action_seen b.value) c.in-For.combine)) c.in-For.combine_place) (sym c.deref-in-For.ensures))) c.get_at-stage.result c.get_at-stage.ensures c.if-stage-eq0.false c.if-stage-eq1.false
@@ -70,33 +71,33 @@ walk_command-returns-in_ok-walk_other-in-For t c = on_ok_weaker c.close-in-For-2
     c.in_ok-close-in-For.ensures c.in_ok-walk_command-in-For.ensures c.in_ok-walk_other-in-For.ensures closes)) c.close-in-For-2.ensures
 
 pub walk_command-returns-in-Let : goal.walk_command-returns-in-Let
-walk_command-returns-in-Let t c = by_form c.args.stages.now c.args.walk.now c.args.walk.now c.args.command.now (lets c.in-Let.name c.in-Let.declared (option_map term_seen c.in-Let.value)) (ap action_form_seen c.in-Let.is ∙ let_is _ _ _) c.get_at-stage.result c.get_at-stage.ensures c.if-stage-eq0.false c.if-stage-eq1.false (never_more c.args.stages.now c.args.walk.now c.args.command.now (lets c.in-Let.name c.in-Let.declared (option_map term_seen c.in-Let.value)) (λ r. refl))
+walk_command-returns-in-Let t c = by_form c.args.ways.now c.args.stages.now c.args.walk.now c.args.walk.now c.args.command.now (lets c.in-Let.name c.in-Let.declared (option_map term_seen c.in-Let.value)) (ap action_form_seen c.in-Let.is ∙ let_is _ _ _) c.get_at-stage.result c.get_at-stage.ensures c.if-stage-eq0.false c.if-stage-eq1.false (never_more c.args.stages.now c.args.walk.now c.args.command.now (lets c.in-Let.name c.in-Let.declared (option_map term_seen c.in-Let.value)) (λ r. refl))
 
 pub walk_command-returns-in-Assign : goal.walk_command-returns-in-Assign
-walk_command-returns-in-Assign t c = by_form c.args.stages.now c.args.walk.now c.args.walk.now c.args.command.now (assigns c.in-Assign.target (term_seen c.in-Assign.value)) (ap action_form_seen c.in-Assign.is ∙ assign_is _ _) c.get_at-stage.result c.get_at-stage.ensures c.if-stage-eq0.false c.if-stage-eq1.false (never_more c.args.stages.now c.args.walk.now c.args.command.now (assigns c.in-Assign.target (term_seen c.in-Assign.value)) (λ r. refl))
+walk_command-returns-in-Assign t c = by_form c.args.ways.now c.args.stages.now c.args.walk.now c.args.walk.now c.args.command.now (assigns c.in-Assign.target (term_seen c.in-Assign.value)) (ap action_form_seen c.in-Assign.is ∙ assign_is _ _) c.get_at-stage.result c.get_at-stage.ensures c.if-stage-eq0.false c.if-stage-eq1.false (never_more c.args.stages.now c.args.walk.now c.args.command.now (assigns c.in-Assign.target (term_seen c.in-Assign.value)) (λ r. refl))
 
 pub walk_command-returns-in-Store : goal.walk_command-returns-in-Store
-walk_command-returns-in-Store t c = by_form c.args.stages.now c.args.walk.now c.args.walk.now c.args.command.now (stores (term_seen c.in-Store.target) (term_seen c.in-Store.value)) (ap action_form_seen c.in-Store.is ∙ store_is _ _) c.get_at-stage.result c.get_at-stage.ensures c.if-stage-eq0.false c.if-stage-eq1.false (never_more c.args.stages.now c.args.walk.now c.args.command.now (stores (term_seen c.in-Store.target) (term_seen c.in-Store.value)) (λ r. refl))
+walk_command-returns-in-Store t c = by_form c.args.ways.now c.args.stages.now c.args.walk.now c.args.walk.now c.args.command.now (stores (term_seen c.in-Store.target) (term_seen c.in-Store.value)) (ap action_form_seen c.in-Store.is ∙ store_is _ _) c.get_at-stage.result c.get_at-stage.ensures c.if-stage-eq0.false c.if-stage-eq1.false (never_more c.args.stages.now c.args.walk.now c.args.command.now (stores (term_seen c.in-Store.target) (term_seen c.in-Store.value)) (λ r. refl))
 
 pub walk_command-returns-in-Reduce : goal.walk_command-returns-in-Reduce
-walk_command-returns-in-Reduce t c = by_form c.args.stages.now c.args.walk.now c.args.walk.now c.args.command.now (reduces c.in-Reduce.target c.in-Reduce.op (term_seen c.in-Reduce.value)) (ap action_form_seen c.in-Reduce.is ∙ reduce_is _ _ _) c.get_at-stage.result c.get_at-stage.ensures c.if-stage-eq0.false c.if-stage-eq1.false (never_more c.args.stages.now c.args.walk.now c.args.command.now (reduces c.in-Reduce.target c.in-Reduce.op (term_seen c.in-Reduce.value)) (λ r. refl))
+walk_command-returns-in-Reduce t c = by_form c.args.ways.now c.args.stages.now c.args.walk.now c.args.walk.now c.args.command.now (reduces c.in-Reduce.target c.in-Reduce.op (term_seen c.in-Reduce.value)) (ap action_form_seen c.in-Reduce.is ∙ reduce_is _ _ _) c.get_at-stage.result c.get_at-stage.ensures c.if-stage-eq0.false c.if-stage-eq1.false (never_more c.args.stages.now c.args.walk.now c.args.command.now (reduces c.in-Reduce.target c.in-Reduce.op (term_seen c.in-Reduce.value)) (λ r. refl))
 
 pub walk_command-returns-in-LetMemory : goal.walk_command-returns-in-LetMemory
-walk_command-returns-in-LetMemory t c = by_form c.args.stages.now c.args.walk.now c.args.walk.now c.args.command.now (lets_memory c.in-LetMemory.name c.in-LetMemory.shape.value c.in-LetMemory.shape_places.value (option_map term_seen c.in-LetMemory.value)) (ap action_form_seen c.in-LetMemory.is ∙ let_memory_is _ _ _ _) c.get_at-stage.result c.get_at-stage.ensures c.if-stage-eq0.false c.if-stage-eq1.false (never_more c.args.stages.now c.args.walk.now c.args.command.now (lets_memory c.in-LetMemory.name c.in-LetMemory.shape.value c.in-LetMemory.shape_places.value (option_map term_seen c.in-LetMemory.value)) (λ r. refl))
+walk_command-returns-in-LetMemory t c = by_form c.args.ways.now c.args.stages.now c.args.walk.now c.args.walk.now c.args.command.now (lets_memory c.in-LetMemory.name c.in-LetMemory.shape.value c.in-LetMemory.shape_places.value (option_map term_seen c.in-LetMemory.value)) (ap action_form_seen c.in-LetMemory.is ∙ let_memory_is _ _ _ _) c.get_at-stage.result c.get_at-stage.ensures c.if-stage-eq0.false c.if-stage-eq1.false (never_more c.args.stages.now c.args.walk.now c.args.command.now (lets_memory c.in-LetMemory.name c.in-LetMemory.shape.value c.in-LetMemory.shape_places.value (option_map term_seen c.in-LetMemory.value)) (λ r. refl))
 
 pub walk_command-returns-in-View : goal.walk_command-returns-in-View
-walk_command-returns-in-View t c = by_form c.args.stages.now c.args.walk.now c.args.walk.now c.args.command.now (views c.in-View.name c.in-View.parent (plan_seen c.in-View.form)) (ap action_form_seen c.in-View.is ∙ view_is _ _ _) c.get_at-stage.result c.get_at-stage.ensures c.if-stage-eq0.false c.if-stage-eq1.false (never_more c.args.stages.now c.args.walk.now c.args.command.now (views c.in-View.name c.in-View.parent (plan_seen c.in-View.form)) (λ r. refl))
+walk_command-returns-in-View t c = by_form c.args.ways.now c.args.stages.now c.args.walk.now c.args.walk.now c.args.command.now (views c.in-View.name c.in-View.parent (plan_seen c.in-View.form)) (ap action_form_seen c.in-View.is ∙ view_is _ _ _) c.get_at-stage.result c.get_at-stage.ensures c.if-stage-eq0.false c.if-stage-eq1.false (never_more c.args.stages.now c.args.walk.now c.args.command.now (views c.in-View.name c.in-View.parent (plan_seen c.in-View.form)) (λ r. view_few (moves (plan_seen c.in-View.form)) _))
 
 pub walk_command-returns-in-Call : goal.walk_command-returns-in-Call
-walk_command-returns-in-Call t c = by_form c.args.stages.now c.args.walk.now c.args.walk.now c.args.command.now (calls c.in-Call.function (map term_seen c.in-Call.arguments.items)) (ap action_form_seen c.in-Call.is ∙ call_is _ _) c.get_at-stage.result c.get_at-stage.ensures c.if-stage-eq0.false c.if-stage-eq1.false (never_more c.args.stages.now c.args.walk.now c.args.command.now (calls c.in-Call.function (map term_seen c.in-Call.arguments.items)) (λ r. refl))
+walk_command-returns-in-Call t c = by_form c.args.ways.now c.args.stages.now c.args.walk.now c.args.walk.now c.args.command.now (calls c.in-Call.function (map term_seen c.in-Call.arguments.items)) (ap action_form_seen c.in-Call.is ∙ call_is _ _) c.get_at-stage.result c.get_at-stage.ensures c.if-stage-eq0.false c.if-stage-eq1.false (never_more c.args.stages.now c.args.walk.now c.args.command.now (calls c.in-Call.function (map term_seen c.in-Call.arguments.items)) (λ r. refl))
 
 pub walk_other-returns-in-Some : goal.walk_other-returns-in-Some
-walk_other-returns-in-Some t c = on_ok_weaker c.walk_command.result (λ g known r base line tells s.
+walk_other-returns-in-Some t c = on_ok_weaker c.walk_command.result (λ g known u r base line tells s.
     subst (λ (o : Option (Box Command Global)). TellOther (numbered c.args.stages.now) (maybe_seen (option_map (λ b. action_seen b.value) o)) → IsWalked known base line c.args.walk.now c.walk_command.new.walk (other_phases r (count c.args.walk.now.held) (maybe_seen (option_map (λ b. action_seen b.value) o))) (other_accesses (maybe_seen (option_map (λ b. action_seen b.value) o)))) (sym c.in-Some.is)
     (λ tell. subst (λ (x : Command). IsWalked known base line c.args.walk.now c.walk_command.new.walk (phases r (count c.args.walk.now.held) (action_seen x)) (accesses_of (action_seen x))) c.deref.ensures
-    (g known r base line (subst (λ (x : Command). TellsStages (numbered c.args.stages.now) (action_seen x)) (sym c.deref.ensures) tell) s)) tells) c.walk_command.ensures
+    (g known u r base line (subst (λ (x : Command). TellsStages (numbered c.args.stages.now) (action_seen x)) (sym c.deref.ensures) tell) s)) tells) c.walk_command.ensures
 
 pub walk_other-returns-in-None : goal.walk_other-returns-in-None
-walk_other-returns-in-None t c = λ known r base line tells s.
+walk_other-returns-in-None t c = λ known u r base line tells s.
     subst (λ (o : Option (Box Command Global)). IsWalked known base line c.args.walk.now c.args.walk.now (other_phases r (count c.args.walk.now.held) (maybe_seen (option_map (λ b. action_seen b.value) o))) (other_accesses (maybe_seen (option_map (λ b. action_seen b.value) o)))) (sym c.in-None.is)
     (walked_nothing known base line c.args.walk.now s)

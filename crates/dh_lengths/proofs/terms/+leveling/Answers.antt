@@ -19,8 +19,8 @@ level_term-returns-in-Variable t c = variable_level c.args.held.now c.args.outer
 pub level_term-returns-in_ok-level-in-Access : goal.level_term-returns-in_ok-level-in-Access
 level_term-returns-in_ok-level-in-Access t c =
     IfOk-weaker c.read.result _ _ (λ level reads.
-    access_level c.args.held.now c.level_terms.new.held c.read.new.self c.args.outer c.in_ok-level-in-Access.level level c.args.value.now c.in-Access.of c.as_slice.result.now
-    (ap form_seen c.in-Access.is ∙ (access_is c.in-Access.of c.in-Access.indices ∙ ap (λ l. accessed c.in-Access.of (terms (map term_seen l))) (sym c.as_slice.ensures.value))) c.in_ok-level-in-Access.ensures reads) c.read.ensures
+    access_level c.args.held.now c.level_terms.new.held c.read.new.self c.args.outer c.in_ok-level-in-Access.level c.level_through-through.result level c.args.value.now c.in-Access.of c.as_slice.result.now
+    (ap form_seen c.in-Access.is ∙ (access_is c.in-Access.of c.in-Access.indices ∙ ap (λ l. accessed c.in-Access.of (terms (map term_seen l))) (sym c.as_slice.ensures.value))) c.in_ok-level-in-Access.ensures c.level_through-through.ensures reads) c.read.ensures
 
 pub level_term-returns-in_ok-level-in-Physical : goal.level_term-returns-in_ok-level-in-Physical
 level_term-returns-in_ok-level-in-Physical t c =
@@ -41,13 +41,13 @@ level_term-returns-in-Cast t c =
     (ap form_seen c.in-Cast.is ∙ (cast_is c.in-Cast.inner c.in-Cast.to ∙ ap (λ x. converted (term_seen x) c.in-Cast.to) (sym c.deref-in-Cast.ensures))) h) c.level_term-in-Cast.ensures
 
 pub level_terms-loop-index-init : goal.level_terms-loop-index-init
-level_terms-loop-index-init t c = λ known s low. terms_begin known c.args.held.now c.args.outer c.args.indices.now s low
+level_terms-loop-index-init t c = λ known u s low. terms_begin known c.args.held.now c.args.outer c.args.indices.now u s low
 
 pub level_terms-loop-index-preserved : goal.level_terms-loop-index-preserved
-level_terms-loop-index-preserved t c = λ known s low.
+level_terms-loop-index-preserved t c = λ known u s low.
     terms_turn known c.args.held.now c.loop-index.held c.level_term.new.held c.args.outer c.loop-index.most c.in_ok-level_term.field-0 c.max-most.result c.args.indices.now c.loop-index.index-index c.index-item.result
-    c.loop-index-test.true c.index-item.is c.max-most.ensures c.in_ok-level_term.ensures (c.loop-index.invariant known s low)
+    c.loop-index-test.true c.index-item.is c.max-most.ensures c.in_ok-level_term.ensures (c.loop-index.invariant known u s low)
 
 pub level_terms-returns : goal.level_terms-returns
-level_terms-returns t c = λ known s low.
-    terms_end known c.args.held.now c.loop-index.held c.args.outer c.loop-index.most _ c.args.indices.now (drop_past c.args.indices.now c.loop-index.index-index c.loop-index-test.false) (c.loop-index.invariant known s low)
+level_terms-returns t c = λ known u s low.
+    terms_end known c.args.held.now c.loop-index.held c.args.outer c.loop-index.most _ c.args.indices.now (drop_past c.args.indices.now c.loop-index.index-index c.loop-index-test.false) (c.loop-index.invariant known u s low)

@@ -7,5 +7,5 @@ use Rattle.dh_lengths.proofs.undoing.join.Goals as goal
 pub loop-mark-preserved : goal.loop-mark-preserved
 loop-mark-preserved c =
     let m = get_or c.args.marks.now c.loop-mark.mark-index (mark 0 0) in
-    let set : numbered c.set_at.new.numbers.items ≡ with_number (numbered c.loop-mark.variables.items) m.entity (max c.args.test (max (numbered c.loop-mark.variables.items m.entity) m.level)) = search rules in
+    let set : numbered c.set_number.new.numbers.items ≡ with_number (numbered c.loop-mark.variables.items) m.entity (max c.args.test (max (numbered c.loop-mark.variables.items m.entity) m.level)) = search rules in
     join_turn c.args.test c.args.marks.now c.loop-mark.mark-index (mark 0 0) _ _ _ c.loop-mark-test.true set c.loop-mark.invariant

@@ -27,6 +27,7 @@ claim-requires c = record {
   layout = c.requires.layout;
   copies = copies_at c.args.layout.now.rounds.items c.args.events.now c.loop-event.event _ c.requires.copies c.loop-event-test.true c.in-Touch.access c.in-Touch.writes c.in-Touch.phase c.in-Touch.round c.in-Touch.element c.in-Touch.newest c.in-Touch.is;
   moment = c.loop-event.invariant.1.0;
+  unled = c.requires.unled;
 }
 
 pub loop-event-preserved : goal.loop-event-preserved

@@ -3,7 +3,7 @@ use Rattle.std.proofs.lemmas.Result.{on_ok_weaker}
 use Rattle.dh_tree.specs.declared.trees.counters.Counter.{Counter}
 use Rattle.dh_tree.specs.Memories.{table_of}
 use Rattle.dh_tree.specs.Seen.{program_seen}
-use Rattle.dh_meaning.specs.Bindings.{bindings_of}
+use Rattle.dh_meaning.specs.Ways.{all_bindings_of}
 use Rattle.dh_events.specs.Accesses.{loops_in}
 use Rattle.dh_ports.specs.Claims.{counts_to, source_of}
 use Rattle.dh_ports.specs.Copies.{copies_round}
@@ -15,7 +15,7 @@ use Rattle.dh_ports.proofs.moves.claim.Goals as goal
 
 pub returns-in_default : goal.returns-in_default
 returns-in_default c = record {
-  claims = nothing_added c.args.moves.now.items _ (none_claimed c.args.typed.now (c.args.moment - 1) (loops_in c.args.layout.now.rounds.items c.args.round) c.args.writes c.args.access.now c.memory_of.result c.memory_of.ensures c.in_default.is);
+  claims = nothing_added c.args.moves.now.items _ (none_claimed c.args.typed.now (c.args.moment - 1) (loops_in c.args.layout.now.rounds.items c.args.round) c.args.writes c.args.access.now (c.requires.unled _) c.memory_of.result c.memory_of.ensures c.in_default.is);
   unseen = seen_later (numbered c.args.seen.now.moments.items) c.args.moment c.requires.moment;
 }
 
@@ -23,7 +23,7 @@ pub returns-in_default-get : goal.returns-in_default-get
 returns-in_default-get c =
     let past : length c.as_slice.result.now ≤ c.in-Some.memory = search rules in
     record {
-      claims = nothing_added c.args.moves.now.items _ (past_claimed c.args.typed.now (c.args.moment - 1) (loops_in c.args.layout.now.rounds.items c.args.round) c.args.writes c.args.access.now c.memory_of.result c.in-Some.memory c.memory_of.ensures c.in-Some.is
+      claims = nothing_added c.args.moves.now.items _ (past_claimed c.args.typed.now (c.args.moment - 1) (loops_in c.args.layout.now.rounds.items c.args.round) c.args.writes c.args.access.now (c.requires.unled _) c.memory_of.result c.in-Some.memory c.memory_of.ensures c.in-Some.is
           (none_at (table_of (program_seen c.args.typed.now)) c.as_slice.result.now c.in-Some.memory (c.as_slice.ensures ∙ c.memories.ensures) past));
       unseen = seen_later (numbered c.args.seen.now.moments.items) c.args.moment c.requires.moment;
     }
@@ -69,7 +69,7 @@ returns-then-is_empty c =
     let is : c.in-Some-get.entry.now ≡ get_or c.as_slice.result.now c.in-Some.memory c.in-Some-get.entry.now = search rules in
     let same = c.as_slice.ensures ∙ c.memories.ensures in
     let loops_are = c.loops_round-loops.ensures ∙ ap (λ rounds. loops_in rounds c.args.round) c.as_slice-2.ensures.value in
-    let claims = one_claimed c.args.typed.now (c.args.moment - 1) (loops_in c.args.layout.now.rounds.items c.args.round) c.args.writes c.args.access.now c.memory_of.result c.in-Some.memory c.memory_of.ensures c.in-Some.is
+    let claims = one_claimed c.args.typed.now (c.args.moment - 1) (loops_in c.args.layout.now.rounds.items c.args.round) c.args.writes c.args.access.now (c.requires.unled _) c.memory_of.result c.in-Some.memory c.memory_of.ensures c.in-Some.is
     c.in-Some-get.entry.now (entry_at (table_of p) c.as_slice.result.now c.in-Some.memory c.in-Some-get.entry.now same within is) c.as_slice-dims.result.now c.as_slice-dims.ensures c.index-base.result.now c.bank_count-banks.result
     (base_at (table_of p) c.as_slice.result.now c.args.layout.now.bases.items c.in-Some.memory c.index-base.result.now same c.requires.layout.bases within c.index-base.ensures) c.bank_count-banks.ensures
     (sym loops_are ∙ no_loop c.loops_round-loops.result.now c.is_empty.result c.is_empty.ensures c.if-is_empty.true) c.bank_reached.result c.bank_reached.ensures in
@@ -91,9 +91,10 @@ keys_reaching-requires c =
       few = shape.few;
       banks = c.bank_count-banks.ensures;
       copies = subst (λ (ls : List Counter). copies_round ls ≤ most_copies) (sym loops_are) c.requires.copies;
-      scopes = kept_scopes (bindings_of p) c.args.layout.now.scopes.items c.as_slice-scopes.result.now c.as_slice-scopes.ensures.value
+      scopes = kept_scopes (all_bindings_of p) c.args.layout.now.scopes.items c.as_slice-scopes.result.now c.as_slice-scopes.ensures.value
           (scopes_at p c.args.layout.now c.requires.layout c.args.round (λ none. some_loop c.loops_round-loops.result.now c.is_empty.result c.is_empty.ensures c.if-is_empty.false (loops_are ∙ none)));
       moment = c.requires.moment;
+      unled = c.requires.unled;
     }
 
 pub claim_all-requires : goal.claim_all-requires
@@ -115,7 +116,7 @@ returns c =
     let is : c.in-Some-get.entry.now ≡ get_or c.as_slice.result.now c.in-Some.memory c.in-Some-get.entry.now = search rules in
     let same = c.as_slice.ensures ∙ c.memories.ensures in
     let loops_are = c.loops_round-loops.ensures ∙ ap (λ rounds. loops_in rounds c.args.round) c.as_slice-2.ensures.value in
-    let claims = all_claimed c.args.typed.now (c.args.moment - 1) (loops_in c.args.layout.now.rounds.items c.args.round) c.args.writes c.args.access.now c.memory_of.result c.in-Some.memory c.memory_of.ensures c.in-Some.is
+    let claims = all_claimed c.args.typed.now (c.args.moment - 1) (loops_in c.args.layout.now.rounds.items c.args.round) c.args.writes c.args.access.now (c.requires.unled _) c.memory_of.result c.in-Some.memory c.memory_of.ensures c.in-Some.is
     c.in-Some-get.entry.now (entry_at (table_of p) c.as_slice.result.now c.in-Some.memory c.in-Some-get.entry.now same within is) c.as_slice-dims.result.now c.as_slice-dims.ensures c.index-base.result.now c.bank_count-banks.result
     (base_at (table_of p) c.as_slice.result.now c.args.layout.now.bases.items c.in-Some.memory c.index-base.result.now same c.requires.layout.bases within c.index-base.ensures) c.bank_count-banks.ensures
     c.as_slice-3.result.now (c.as_slice-3.ensures.value ∙ (c.in_ok-counts.ensures.counts ∙ ap (λ (ls : List Counter). counts_to p c.as_slice-dims.result.now (source_of ls c.args.writes c.args.access.now) c.bank_count-banks.result) loops_are)) in

@@ -3,10 +3,10 @@ use Rattle.std.proofs.lemmas.List.{drop_all}
 use Rattle.std.proofs.lemmas.Result.{IfOk-weaker}
 use Rattle.dh_tree.proofs.SeenActions as known
 use Rattle.dh_tree.specs.PlainTrees.{repeats, counts, decides}
-use Rattle.dh_tree.specs.Seen.{action_seen, action_form_seen, term_seen, maybe_seen, placed, unrolled}
+use Rattle.dh_tree.specs.Seen.{action_seen, action_form_seen, term_seen, maybe_seen, placed, plan_seen, unrolled}
 use Rattle.dh_meaning.specs.Phases.{other_phases}
 use Rattle.dh_sem.specs.Gathered.{GathersGroups, GathersOf, Kept, all_kept, commands_seen}
-use Rattle.dh_sem.proofs.GatheredCommands.{alone_as, choice_as, loop_as, nothing_as}
+use Rattle.dh_sem.proofs.GatheredCommands.{alone_as, choice_as, loop_as, nothing_as, view_as}
 use Rattle.dh_sem.proofs.GatheredLoops.{block_as, found_as, idle_as, lacks_as, turns_as}
 use Rattle.dh_sem.proofs.GatheredLists.{PartsAt, command_turn, commands_begin, part_end, parts_begin, parts_end}
 use Rattle.dh_sem.proofs.gathering.+gathering.Goals.{phases_in-in-Some+in_ok-other-in-Some, phases_in-in-None, phases_in-in-Some-combine+in_ok-folds-in-Some-combine, phases_in-in-None-combine}
@@ -32,7 +32,8 @@ pub phases_in-returns-in-LetMemory : goal.phases_in-returns-in-LetMemory
 phases_in-returns-in-LetMemory t c = nothing_as c.args.names.now c.args.paths c.args.made.now (all_kept c.new-in-LetMemory.result.items) c.args.command.now _ (ap action_form_seen c.in-LetMemory.is ∙ known.let_memory_is c.in-LetMemory.name c.in-LetMemory.shape c.in-LetMemory.shape_places c.in-LetMemory.value) (λ r n. refl) (ap all_kept c.new-in-LetMemory.ensures.items)
 
 pub phases_in-returns-in-View : goal.phases_in-returns-in-View
-phases_in-returns-in-View t c = nothing_as c.args.names.now c.args.paths c.args.made.now (all_kept c.new-in-View.result.items) c.args.command.now _ (ap action_form_seen c.in-View.is ∙ known.view_is c.in-View.name c.in-View.parent c.in-View.form) (λ r n. refl) (ap all_kept c.new-in-View.ensures.items)
+phases_in-returns-in-View t c =
+    IfOk-weaker c.view_phases.result _ _ (λ forms is. view_as c.args.names.now c.args.paths c.args.made.now (all_kept forms.items) c.args.command.now c.in-View.name c.in-View.parent (plan_seen c.in-View.form) (ap action_form_seen c.in-View.is ∙ known.view_is c.in-View.name c.in-View.parent c.in-View.form) is) c.view_phases.ensures
 
 pub phases_in-returns-in-Call : goal.phases_in-returns-in-Call
 phases_in-returns-in-Call t c = nothing_as c.args.names.now c.args.paths c.args.made.now (all_kept c.new-in-Call.result.items) c.args.command.now _ (ap action_form_seen c.in-Call.is ∙ known.call_is c.in-Call.function c.in-Call.arguments) (λ r n. refl) (ap all_kept c.new-in-Call.ensures.items)

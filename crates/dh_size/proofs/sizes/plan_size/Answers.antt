@@ -9,6 +9,7 @@ use Rattle.dh_events.specs.Rounds.{rounds_of}
 use Rattle.dh_lengths.specs.SharedReads.{TellsShares}
 use Rattle.dh_ports.proofs.FirstTold.{events_seen}
 use Rattle.dh_ports.proofs.LayoutFacts.{rounds_noted}
+use Rattle.dh_ways.proofs.NoWays.{no_way_to}
 use Rattle.dh_size.specs.Sizes.{sizes_from}
 use Rattle.dh_size.specs.Summed.{summed, unit_size}
 use Rattle.dh_size.proofs.EventSizes.{events_few, events_sized, size_done}
@@ -40,5 +41,5 @@ returns c =
     c.new-stages.ensures.items c.in_ok-note_stages.ensures.noted c.as_slice.ensures.value c.new-notes.ensures.empty c.in_ok-note_body.ensures.adds c.as_slice-events.ensures.value in
     let shares : TellsShares p c.as_slice-3.result.now = subst (λ (ss : List (Option _)). TellsShares p ss) (sym c.as_slice-3.ensures.value) (c.in_ok-shares.ensures p h.of_text.first body h.of_text.numbered) in
     size_done p (sizes_from p (loops_in c.as_slice-2.result.now) c.as_slice-3.result.now 0 (all_seen c.as_slice-events.result.now)) c.in_ok-accesses.accesses c.with_command.result c.min.result c.in_ok-accesses.ensures
-    (events_sized p h.of_text.first h.of_text.numbered c.as_slice-2.result.now noted c.as_slice-events.result.now seen c.as_slice-3.result.now shares)
+    (events_sized p h.of_text.first h.of_text.numbered c.as_slice-2.result.now noted c.as_slice-events.result.now seen c.as_slice-3.result.now (no_way_to p h.built) shares)
     (c.with_command.ensures ∙ ap (λ a. summed c.in_ok-accesses.accesses (unit_size a)) (sym body)) c.min.ensures

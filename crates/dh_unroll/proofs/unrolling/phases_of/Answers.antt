@@ -1,4 +1,4 @@
-use Rattle.std.proofs.Common.{List, Option, ap, sym, subst, ◌∙◌}
+use Rattle.std.proofs.Common.{List, [], ◌++◌, Option, ap, sym, subst, ◌∙◌}
 use Rattle.dh_tree.specs.Seen.{action_seen}
 use Rattle.dh_meaning.specs.Bindings.{bindings}
 use Rattle.dh_events.specs.declared.dependence.Scope.{Scope}
@@ -19,5 +19,5 @@ returns c =
     told (record { alloc = c.args.alloc; program = c.args.program; held = c.as_slice-2.result; scopes = c.as_slice-3.result; shares = c.as_slice-4.result })
     c.tree-tree.result.now c.in_ok-places.places.held.items c.in_ok-places.places.count c.len.result c.in_ok-shared.shared.items c.phases_made.result
     c.requires c.tree-tree.ensures.tree (c.len.ensures ∙ c.tree-tree.result.now.entities.ok.0) c.in_ok-places.ensures c.as_slice-2.ensures.value
-    (subst (λ (l : List (Option Scope)). AreScopes (bindings 0 (action_seen c.tree-tree.result.now.body)) l) (sym c.as_slice-3.ensures.value) c.in_ok-scopes.ensures)
+    (subst (λ (l : List (Option Scope)). AreScopes (bindings 0 (action_seen c.tree-tree.result.now.body) ++ []) l) (sym c.as_slice-3.ensures.value) c.in_ok-scopes.ensures)
     c.in_ok-shared.ensures (c.as_slice-4.ensures.value ∙ (c.in_ok-shares.ensures ∙ ap narrow_shares c.as_slice.ensures.value)) c.phases_made.ensures

@@ -1,0 +1,2 @@
+pub mod MadeCopies
+pub mod ReachedThrough

@@ -1,0 +1,74 @@
+-- The levels of the values that a view keeps, one by one, and what is held behind them.
+use Rattle.std.specs.Prelude.{◌≡◌, ℕ, suc, ◌+◌, ◌≤◌, ◌&&◌, nat_le, nat_lt, List, [], ◌∷◌, ◌++◌, length, map, Option, Some, None}
+use Rattle.std.specs.List.{AllByRecursion}
+use Rattle.dh_tree.specs.declared.trees.commands.ViewForm.{ViewForm}
+use Rattle.dh_tree.specs.declared.trees.expressions.Ref.{Ref}
+use Rattle.dh_tree.specs.PlainTrees.{Term}
+use Rattle.dh_tree.specs.Seen.{plan_seen, terms}
+use Rattle.dh_tree.specs.ViewOffsets.{offsets_of}
+use Rattle.dh_meaning.specs.AccessNumbers.{plan_accesses, terms_accesses}
+use Rattle.dh_meaning.specs.Core.{CoreTerms, no_terms, term_and, no_commands}
+use Rattle.dh_meaning.specs.CoreOf.{core_terms, kept_by, way_of}
+use Rattle.dh_meaning.specs.Levels.{Levels, term_leveled, with_value, with_variables}
+use Rattle.dh_meaning.specs.Ways.{Hidden, hidden_in, way_in}
+use Rattle.dh_ways.specs.declared.ways.Led.{Led}
+use Rattle.dh_ways.specs.Seen.{led_seen}
+use Rattle.dh_events.specs.Tables.{numbered}
+use Rattle.dh_lengths.specs.declared.held.Held.{Held}
+use Rattle.dh_lengths.specs.declared.undoing.Mark.{Mark}
+use Rattle.dh_lengths.specs.SharedReads.{told}
+use Rattle.dh_lengths.specs.Undone.{has_mark, undone}
+use Rattle.dh_lengths.specs.HeldLevels.{count, levels_seen, IsSound, KeepsVariables, Leveling}
+use Rattle.dh_lengths.specs.LeveledCommands.{GivesCommands}
+
+abbrev pub each_level : (shared : ℕ → Option ℕ) → (outer : ℕ) → CoreTerms → Levels → List ℕ
+each_level shared outer no_terms l = []
+each_level shared outer (term_and t ts) l = (term_leveled shared outer t l).level ∷ each_level shared outer ts (term_leveled shared outer t l).levels
+
+abbrev pub levels_behind : (shared : ℕ → Option ℕ) → (outer : ℕ) → CoreTerms → Levels → Levels
+levels_behind shared outer no_terms l = l
+levels_behind shared outer (term_and t ts) l = levels_behind shared outer ts (term_leveled shared outer t l).levels
+
+-- variables from one on are set to levels, the last of them first
+abbrev pub set_from : (first : ℕ) → List ℕ → Levels → Levels
+set_from first [] l = l
+set_from first (n ∷ ns) l = with_variables (set_from (suc first) ns l) (with_value (set_from (suc first) ns l).variables first n)
+
+-- the level of each value, with the levels behind them
+pub record GivesEach (old new : Held) (each : List ℕ) (behind : Levels) (levels : List ℕ) (n : ℕ) : Type 0 where
+  pub is : levels ≡ each
+  pub seen : levels_seen new ≡ behind
+  pub sound : IsSound new
+  pub low : AllByRecursion (λ level. level ≤ count new) levels
+  pub counted : count new ≡ count old + n
+  pub keeps : KeepsVariables old new
+
+abbrev pub LevelsEach : List Led → (old new : Held) → (outer : ℕ) → List Term → (levels : List ℕ) → Type 0
+LevelsEach ways old new outer ts levels =
+    Leveling ways old outer (λ known.
+    GivesEach old new (each_level (told old.shares.now) outer (core_terms known (count old) (terms ts)) (levels_seen old)) (levels_behind (told old.shares.now) outer (core_terms known (count old) (terms ts)) (levels_seen old)) levels (terms_accesses (terms ts)))
+
+-- the variables from one on have these levels
+pub record SetsLevels (old new : Held) (first : ℕ) (levels : List ℕ) : Type 0 where
+  pub seen : levels_seen new ≡ set_from first levels (levels_seen old)
+  pub reads : new.reads.items ≡ old.reads.items
+  pub shares : new.shares.now ≡ old.shares.now
+  pub begun : new.first ≡ old.first
+  pub changes : List Mark
+  pub log : new.log.items ≡ old.log.items ++ changes
+  pub undoes : undone changes (numbered new.variables.items) ≡ numbered old.variables.items
+  pub marks : (e : ℕ) → has_mark e changes ≡ (nat_le first e && nat_lt e (first + length levels))
+
+-- the number of the first variable that keeps an offset on the way of a name
+abbrev pub first_of : List Hidden → Option ℕ
+first_of [] = None
+first_of (h ∷ hs) = Some h.entity
+
+abbrev pub first_kept : List Led → Option ℕ → Option ℕ
+first_kept ways entity = first_of (hidden_in (way_in (map led_seen ways) entity))
+
+-- a view's command
+abbrev pub LevelsView : List Led → (old new : Held) → (outer : ℕ) → Ref → ViewForm → Type 0
+LevelsView ways old new outer name form =
+    Leveling ways old outer (λ known.
+    GivesCommands old new outer (kept_by (hidden_in (way_of known name)) (core_terms known (count old) (terms (offsets_of (plan_seen form)))) no_commands) (plan_accesses (plan_seen form)))

@@ -1,0 +1,26 @@
+-- The variables that keep the offsets of a program's views, in text order; and what is known of those on a way.
+use Rattle.std.specs.Prelude.{◌≡◌, ℕ, zero, suc, ◌+◌, ◌<◌, ◌≤◌, List, [], ◌∷◌, ◌++◌, length, map}
+use Rattle.std.specs.List.{AllByRecursion}
+use Rattle.dh_tree.specs.PlainTrees.{Program}
+use Rattle.dh_meaning.specs.Ways.{Hidden, Standing, Way, behind_hidden, hidden_of, standings}
+
+-- those of views where they stand, of which the first is this entity
+abbrev pub all_hidden : (first : ℕ) → List Standing → List Hidden
+all_hidden first [] = []
+all_hidden first (s ∷ ss) = hidden_of first s ++ all_hidden (behind_hidden first s) ss
+
+abbrev pub hidden_variables : Program → List Hidden
+hidden_variables p = all_hidden (length p.entities) (standings 0 p.body)
+
+-- so many numbers from one on
+abbrev pub numbers_from : (first count : ℕ) → List ℕ
+numbers_from first zero = []
+numbers_from first (suc count) = first ∷ numbers_from (suc first) count
+
+-- the offsets on a way are kept in variables from `low` on, below `high`, and none deeper than its deepest view that
+-- moves, of which a shift is one
+pub record IsWayWithin (low high : ℕ) (w : Way) : Type 0 where
+  pub least : AllByRecursion (λ h. low ≤ h.entity) w.hidden
+  pub below : AllByRecursion (λ h. h.entity < high) w.hidden
+  pub deep : AllByRecursion (λ h. h.depth ≤ w.deepest) w.hidden
+  pub shifts : w.shifts ≤ w.deepest

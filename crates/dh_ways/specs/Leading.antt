@@ -1,0 +1,29 @@
+-- Views on a way that follow one another: each has the shape of its sort, and its parent's dimensions are those of the
+-- next one, the last one's those of the memory.
+use Rattle.std.specs.Prelude.{◌≡◌, List, [], ◌∷◌, Some}
+use Rattle.dh_tree.specs.declared.tables.Dim.{Dim}
+use Rattle.dh_tree.specs.declared.viewing.Viewed.{Viewed}
+use Rattle.dh_tree.specs.Memories.{Memory, memory_in}
+use Rattle.dh_tree.specs.ViewShapes.{IsViewMap}
+use Rattle.dh_meaning.specs.Ways.{Led, Step, Way}
+
+-- the dimensions of what is named, by views or the memory itself
+abbrev pub next_dims : List Step → (memory : List Dim) → List Dim
+next_dims [] memory = memory
+next_dims (s ∷ ss) memory = s.is.shape.dims
+
+abbrev pub StepsLead : List Step → (memory : List Dim) → Type 0
+StepsLead [] memory = Unit {0}
+StepsLead (s ∷ ss) memory = IsViewMap s.is × ((s.is.parent.dims ≡ next_dims ss memory) × StepsLead ss memory)
+
+-- a way leads from the view that is named to a memory
+pub record LeadsTo (ms : List Memory) (w : Way) : Type 0 where
+  pub memory : Memory
+  pub found : memory_in ms w.memory ≡ Some memory
+  pub own : IsViewMap w.is
+  pub steps : StepsLead w.steps memory.shape.dims
+  pub first : next_dims w.steps memory.shape.dims ≡ w.is.shape.dims
+
+-- the view of a way
+abbrev pub viewed_of_led : Led → Viewed
+viewed_of_led l = record { entity = l.entity; is = l.way.is }

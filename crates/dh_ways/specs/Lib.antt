@@ -1,0 +1,4 @@
+pub mod Leading
+pub mod SpotsThrough
+pub mod HiddenVariables
+pub mod Seen
