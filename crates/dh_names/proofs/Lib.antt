@@ -1,7 +1,7 @@
 pub mod Entered
 pub mod Keeping
+pub mod InArms
 pub mod TermForms
-pub mod NamelessForms
 pub mod Extended
 pub mod FormsDone
 pub mod ListsDone

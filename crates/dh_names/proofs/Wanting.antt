@@ -1,6 +1,6 @@
 -- Want of memory: where a part of a tree declares a name, the whole does, so that what the part answers holds
 -- of the whole.
-use Rattle.std.proofs.Common.{◌≡◌, ℕ, ◌+◌, ◌<◌, List, [], ◌∷◌, length, Result, Ok, Err, IsErr, sym, ap, ◌∙◌, arith}
+use Rattle.std.proofs.Common.{◌≡◌, ℕ, ◌+◌, ◌<◌, List, length, Result, Ok, Err, IsErr, sym, ap, ◌∙◌, arith}
 use Rattle.std.specs.Result.{IsErrAnd, OnOk}
 use Rattle.dh_base.specs.declared.lists.NoMemory.{NoMemory}
 use Rattle.dh_base.specs.declared.faults.PassFault.{PassFault}

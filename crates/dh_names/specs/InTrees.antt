@@ -1,17 +1,10 @@
 -- That the names of expressions of the code take their entities.
-use Rattle.std.specs.Prelude.{◌≡◌, ℕ, Bool, true, false, List, map, Option, option_map, Vec}
+use Rattle.std.specs.Prelude.{◌≡◌, ℕ, List, map, Option, option_map, Vec}
 use Rattle.std.specs.Global.{Global}
 use Rattle.dh_tree.specs.declared.trees.expressions.Expr.{Expr}
 use Rattle.dh_tree.specs.Seen.{term_seen, expressions_seen, factor_seen}
-use Rattle.dh_tree.specs.PlainTrees.{TermForm, number, truth_value}
 use Rattle.dh_tree.specs.Scopes.{Binding}
 use Rattle.dh_tree.specs.Resolved.{resolved_term, resolved_offset}
-
--- an expression that has no parts and is no name
-abbrev pub is_nameless : TermForm → Bool
-is_nameless (number negative value) = true
-is_nameless (truth_value value) = true
-is_nameless _ = false
 
 -- the names of an expression take their entities where these names are visible; so do those of expressions in
 -- order, of one that may lack, and of the offsets of factors

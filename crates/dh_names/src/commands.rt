@@ -9,13 +9,6 @@ use crate::walks::Walk;
 use dh_base::NoMemory;
 use dh_tree::{Command, CommandForm, Sort};
 use std::alloc::Global;
-use std::mem;
-
-// Want of memory, where a form was not done. A call, in the place of the drop of each of the form's parts.
-fn refused(form: CommandForm) -> NoMemory {
-    form.let_go();
-    NoMemory
-}
 
 impl Walk {
     /// Gives the names of a command their numbers. Names that a block declares stay visible.
@@ -24,194 +17,102 @@ impl Walk {
         ensures { MatchResult result (λ _. NumbersCommand self.old self.new command.old command.new)
             (λ _. 0 < declared_in (action_seen command.old)) }
     {
-        let blank = CommandForm::Block {
-            body: Vec::new(alloc),
-        };
-        let form = mem::replace(&mut command.form, blank);
-        let done = self.form(alloc, form)?;
-        mem::replace(&mut command.form, done).let_go();
-        Ok(())
+        self.form(alloc, &mut command.form)
     }
 
-    // The form with the numbers of its names.
+    // What a command is, by its form, which stays where it is.
     #[cycle(commands)]
-    fn form(&mut self, alloc: Global, form: CommandForm) -> Result<CommandForm, NoMemory>
-        ensures { MatchResult result (λ done. NumbersForm self.old self.new form done)
-            (λ _. 0 < declared_in_form (action_form_seen form)) }
+    fn form(&mut self, alloc: Global, form: &mut CommandForm) -> Result<(), NoMemory>
+        ensures { MatchResult result (λ _. NumbersForm self.old self.new form.old form.new)
+            (λ _. 0 < declared_in_form (action_form_seen form.old)) }
     {
         match form {
-            CommandForm::Let {
-                mut name,
-                declared,
-                value,
-            } => {
-                let value = self.value(value);
-                let known = self.declare(alloc, &mut name, Sort::Variable);
-                let form = CommandForm::Let {
-                    name,
-                    declared,
-                    value,
-                };
-                match known {
-                    Ok(()) => Ok(form),
-                    Err(NoMemory) => Err(refused(form)),
-                }
+            CommandForm::Let { name, value, .. } => {
+                self.value(value);
+                self.declare(alloc, name, Sort::Variable)?;
+                Ok(())
             }
-            CommandForm::LetMemory {
-                mut name,
-                shape,
-                shape_places,
-                value,
-            } => {
-                let value = self.value(value);
-                let known = self.declare(alloc, &mut name, Sort::Memory);
-                let form = CommandForm::LetMemory {
-                    name,
-                    shape,
-                    shape_places,
-                    value,
-                };
-                match known {
-                    Ok(()) => Ok(form),
-                    Err(NoMemory) => Err(refused(form)),
-                }
+            CommandForm::LetMemory { name, value, .. } => {
+                self.value(value);
+                self.declare(alloc, name, Sort::Memory)?;
+                Ok(())
             }
-            CommandForm::View {
-                mut name,
-                mut parent,
-                form,
-            } => {
-                self.use_name(&mut parent);
-                let form = self.plan(form);
-                self.declare(alloc, &mut name, Sort::View)?;
-                Ok(CommandForm::View { name, parent, form })
+            CommandForm::View { name, parent, form } => {
+                self.use_name(parent);
+                self.plan(form);
+                self.declare(alloc, name, Sort::View)?;
+                Ok(())
             }
-            CommandForm::Assign {
-                mut target,
-                mut value,
-            } => {
-                self.use_name(&mut target);
-                self.expression(&mut value);
-                Ok(CommandForm::Assign { target, value })
+            CommandForm::Assign { target, value } => {
+                self.use_name(target);
+                self.expression(value);
+                Ok(())
             }
-            CommandForm::Store {
-                mut target,
-                mut value,
-            } => {
-                self.expression(&mut target);
-                self.expression(&mut value);
-                Ok(CommandForm::Store { target, value })
+            CommandForm::Store { target, value } => {
+                self.expression(target);
+                self.expression(value);
+                Ok(())
             }
-            CommandForm::Reduce {
-                mut target,
-                op,
-                mut value,
-            } => {
-                self.use_name(&mut target);
-                self.expression(&mut value);
-                Ok(CommandForm::Reduce { target, op, value })
+            CommandForm::Reduce { target, value, .. } => {
+                self.use_name(target);
+                self.expression(value);
+                Ok(())
             }
             CommandForm::Call {
-                mut function,
-                mut arguments,
+                function,
+                arguments,
             } => {
-                self.use_name(&mut function);
-                self.expressions(&mut arguments);
-                Ok(CommandForm::Call {
-                    function,
-                    arguments,
-                })
+                self.use_name(function);
+                self.expressions(arguments);
+                Ok(())
             }
-            CommandForm::Block { mut body } => {
+            CommandForm::Block { body } => {
                 for part in body.iter_mut() {
                     self.part(alloc, part)?;
                 }
-                Ok(CommandForm::Block { body })
+                Ok(())
             }
-            CommandForm::If {
-                mut test,
-                mut then,
-                other,
-            } => {
-                self.expression(&mut test);
+            CommandForm::If { test, then, other } => {
+                self.expression(test);
                 let start = self.own_names();
-                let Ok(()) = self.inner(alloc, &mut then) else {
-                    return Err(refused(CommandForm::If { test, then, other }));
-                };
-                match self.optional(alloc, other) {
-                    Ok(other) => {
-                        self.leave(start);
-                        Ok(CommandForm::If { test, then, other })
-                    }
-                    Err(NoMemory) => Err(refused(CommandForm::If {
-                        test,
-                        then,
-                        other: None,
-                    })),
-                }
+                self.inner(alloc, then)?;
+                self.optional(alloc, other)?;
+                self.leave(start);
+                Ok(())
             }
-            CommandForm::While { mut test, mut body } => {
-                self.expression(&mut test);
-                let done = self.inner(alloc, &mut body);
-                let form = CommandForm::While { test, body };
-                match done {
-                    Ok(()) => Ok(form),
-                    Err(NoMemory) => Err(refused(form)),
-                }
+            CommandForm::While { test, body } => {
+                self.expression(test);
+                self.inner(alloc, body)?;
+                Ok(())
             }
             CommandForm::For {
-                mut iterator,
-                declared,
-                low,
-                low_place,
-                high,
-                high_place,
-                factor,
-                factor_place,
-                unroll_place,
-                mut body,
+                iterator,
+                body,
                 combine,
-                combine_place,
+                ..
             } => {
                 let start = self.own_names();
-                self.declare(alloc, &mut iterator, Sort::Iterator)?;
-                self.command(alloc, &mut body)?;
-                let combine = self.optional(alloc, combine)?;
+                self.declare(alloc, iterator, Sort::Iterator)?;
+                self.command(alloc, body)?;
+                self.optional(alloc, combine)?;
                 self.leave(start);
-                Ok(CommandForm::For {
-                    iterator,
-                    declared,
-                    low,
-                    low_place,
-                    high,
-                    high_place,
-                    factor,
-                    factor_place,
-                    unroll_place,
-                    body,
-                    combine,
-                    combine_place,
-                })
+                Ok(())
             }
         }
     }
 
     // A block that may lack. Names that it declares stay visible.
     #[cycle(commands)]
-    fn optional(
-        &mut self,
-        alloc: Global,
-        block: Option<Box<Command>>,
-    ) -> Result<Option<Box<Command>>, NoMemory>
-        ensures { MatchResult result (λ done. NumbersOptional self.old self.new block done)
-            (λ _. 0 < declared_in_other (maybe_block_seen block)) }
+    fn optional(&mut self, alloc: Global, block: &mut Option<Box<Command>>) -> Result<(), NoMemory>
+        ensures { MatchResult result (λ _. NumbersOptional self.old self.new block.old block.new)
+            (λ _. 0 < declared_in_other (maybe_block_seen block.old)) }
     {
         match block {
-            Some(mut command) => {
-                self.command(alloc, &mut command)?;
-                Ok(Some(command))
+            Some(command) => {
+                self.command(alloc, command)?;
+                Ok(())
             }
-            None => Ok(None),
+            None => Ok(()),
         }
     }
 

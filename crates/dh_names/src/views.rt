@@ -13,21 +13,15 @@ use dh_tree::{Expr, ViewForm};
 
 impl Walk {
     /// Gives the names of a view's offsets their numbers.
-    pub fn plan(&mut self, form: ViewForm) -> ViewForm
-        ensures tree { plan_seen result ≡ resolved_plan (visible self.old.names) (plan_seen form) }
-        ensures state { FindsBy plan_breaches self.old self.new (plan_seen form) }
+    pub fn plan(&mut self, form: &mut ViewForm)
+        ensures tree { plan_seen form.new ≡ resolved_plan (visible self.old.names) (plan_seen form.old) }
+        ensures state { FindsBy plan_breaches self.old self.new (plan_seen form.old) }
     {
         match form {
-            ViewForm::Shrink { by, by_place } => ViewForm::Shrink { by, by_place },
-            ViewForm::Split { by, by_place } => ViewForm::Split { by, by_place },
-            ViewForm::Suffix { mut by, by_place } => {
-                self.offsets(&mut by);
-                ViewForm::Suffix { by, by_place }
-            }
-            ViewForm::Shift { mut by } => {
-                self.expressions(&mut by);
-                ViewForm::Shift { by }
-            }
+            ViewForm::Shrink { .. } => {}
+            ViewForm::Split { .. } => {}
+            ViewForm::Suffix { by, .. } => self.offsets(by),
+            ViewForm::Shift { by } => self.expressions(by),
         }
     }
 

@@ -43,16 +43,13 @@ impl Walk {
     }
 
     /// Gives the names of an expression, which may lack, their numbers.
-    pub fn value(&mut self, value: Option<Expr>) -> Option<Expr>
-        ensures tree { ResolvesValue (visible self.old.names) value result }
-        ensures state { FindsBy value_breaches self.old self.new (option_map term_seen value) }
+    pub fn value(&mut self, value: &mut Option<Expr>)
+        ensures tree { ResolvesValue (visible self.old.names) value.old value.new }
+        ensures state { FindsBy value_breaches self.old self.new (option_map term_seen value.old) }
     {
         match value {
-            Some(mut term) => {
-                self.expression(&mut term);
-                Some(term)
-            }
-            None => None,
+            Some(term) => self.expression(term),
+            None => {}
         }
     }
 

@@ -118,8 +118,10 @@ mutual
       (λ b. filled_bare facts (left_want o want true true None) left b) (λ b. filled_bare facts (right_want o want true true None) right b)
 
 -- a form that is no operation stays as it is
-pub filled_kept : (facts : Facts) (want : Option Kind) (form g : ExprForm) (p : TermForm) → form ≡ g → form_seen g ≡ p → filled_in_form facts want p ≡ p → form_seen g ≡ filled_in_form facts want (form_seen form)
-filled_kept facts want form g p is seen same = seen ∙ sym same ∙ sym (ap (λ f. filled_in_form facts want f) (ap form_seen is ∙ seen))
+pub filled_kept : (facts : Facts) (want : Option Kind) (form g : ExprForm) (p : TermForm) → form ≡ g → form_seen g ≡ p → filled_in_form facts want p ≡ p → form_seen form ≡ filled_in_form facts want (form_seen form)
+filled_kept facts want form g p is seen same =
+    let e = ap form_seen is ∙ seen in
+    e ∙ sym same ∙ sym (ap (λ f. filled_in_form facts want f) e)
 
 module _ (facts : Facts) where
   -- an expression that is settled and not bare

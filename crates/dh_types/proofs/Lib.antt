@@ -1,7 +1,7 @@
 pub mod LeastKept
 pub mod Indices
+pub mod InArms
 pub mod Forms
-pub mod FormsKept
 pub mod Lists
 pub mod Known
 pub mod FormsDone

@@ -1,23 +1,8 @@
 -- Expressions whose kinds are found up to the bare ones, which wait for the kind of their place.
-use Rattle.std.specs.Prelude.{Bool, true, false, Option, None, if◌then◌else◌}
+use Rattle.std.specs.Prelude.{Bool, true, Option, None, if◌then◌else◌}
 use Rattle.dh_value.specs.declared.kinds.Kind.{Kind}
 use Rattle.dh_tree.specs.PlainTrees.{Term, term, TermForm, number, truth_value, named, accessed, in_bank, applied, converted}
 use Rattle.dh_tree.specs.Kinds.{Facts, is_bare, is_bare_form, form_found, left_want, right_want, typed_term, typed_form}
-
--- a number, the one form that is bare and has no parts
-abbrev pub is_number_form : TermForm → Bool
-is_number_form (number negative n) = true
-is_number_form _ = false
-
--- a name, which has no parts
-abbrev pub is_named_form : TermForm → Bool
-is_named_form (named r) = true
-is_named_form _ = false
-
--- an operation, the one form whose parts may be bare
-abbrev pub is_operation : TermForm → Bool
-is_operation (applied o left right) = true
-is_operation _ = false
 
 -- a bare expression as it is, and any other one with its kinds
 abbrev pub settled : Facts → Term → Term

@@ -11,7 +11,6 @@ use crate::walks::Walk;
 use dh_base::NoMemory;
 use dh_tree::{Command, CommandForm, Kind};
 use std::alloc::Global;
-use std::mem;
 
 // The kind of an iterator: the unsigned one of 32 bits where none is written.
 fn iterator_kind(declared: Option<Kind>) -> Kind
@@ -23,12 +22,6 @@ fn iterator_kind(declared: Option<Kind>) -> Kind
     }
 }
 
-// Want of memory, where a form was not done. A call, in the place of the drop of each of the form's parts.
-fn refused(form: CommandForm) -> NoMemory {
-    form.let_go();
-    NoMemory
-}
-
 impl Walk {
     /// Gives the expressions of a command their kinds.
     #[cycle(commands)]
@@ -36,126 +29,72 @@ impl Walk {
         ensures { MatchResult result (λ _. TypesCommand self.old self.new command.old command.new)
             (λ _. 0 < declared_in (action_seen command.old)) }
     {
-        let blank = CommandForm::Block {
-            body: Vec::new(alloc),
-        };
-        let form = mem::replace(&mut command.form, blank);
-        let done = self.form(alloc, form)?;
-        mem::replace(&mut command.form, done).let_go();
-        Ok(())
+        self.form(alloc, &mut command.form)
     }
 
-    // The form with the kinds of its expressions.
+    // The expressions of a command, by its form, which stays where it is.
     #[cycle(commands)]
-    fn form(&mut self, alloc: Global, form: CommandForm) -> Result<CommandForm, NoMemory>
-        ensures { MatchResult result (λ done. TypesCommandForm self.old self.new form done)
-            (λ _. 0 < declared_in_form (action_form_seen form)) }
+    fn form(&mut self, alloc: Global, form: &mut CommandForm) -> Result<(), NoMemory>
+        ensures { MatchResult result (λ _. TypesCommandForm self.old self.new form.old form.new)
+            (λ _. 0 < declared_in_form (action_form_seen form.old)) }
     {
         match form {
             CommandForm::Let {
-                name,
                 declared,
                 value,
+                ..
             } => {
-                let value = self.value(declared, value);
-                let learned = self.learn(variable_fact(declared, &value));
-                let form = CommandForm::Let {
-                    name,
-                    declared,
-                    value,
-                };
-                match learned {
-                    Ok(()) => Ok(form),
-                    Err(NoMemory) => Err(refused(form)),
-                }
+                self.value(*declared, value);
+                self.learn(variable_fact(*declared, value))?;
+                Ok(())
             }
-            CommandForm::LetMemory {
-                name,
-                shape,
-                shape_places,
-                value,
-            } => {
-                let value = self.value(Some(shape.kind), value);
-                let learned = self.learn(memory_fact(&shape));
-                let form = CommandForm::LetMemory {
-                    name,
-                    shape,
-                    shape_places,
-                    value,
-                };
-                match learned {
-                    Ok(()) => Ok(form),
-                    Err(NoMemory) => Err(refused(form)),
-                }
+            CommandForm::LetMemory { shape, value, .. } => {
+                self.value(Some(shape.kind), value);
+                self.learn(memory_fact(shape))?;
+                Ok(())
             }
-            CommandForm::View { name, parent, form } => {
-                self.parent(&parent);
-                let form = self.plan(form);
-                self.learn(self.view(&parent, &form))?;
-                Ok(CommandForm::View { name, parent, form })
+            CommandForm::View { parent, form, .. } => {
+                self.parent(parent);
+                self.plan(form);
+                self.learn(self.view(parent, form))?;
+                Ok(())
             }
-            CommandForm::Assign { target, mut value } => {
-                self.assignment(&target, &mut value);
-                Ok(CommandForm::Assign { target, value })
+            CommandForm::Assign { target, value } => {
+                self.assignment(target, value);
+                Ok(())
             }
-            CommandForm::Store {
-                mut target,
-                mut value,
-            } => {
-                self.access(&mut target);
-                self.right_side(target.kind, &mut value);
-                Ok(CommandForm::Store { target, value })
+            CommandForm::Store { target, value } => {
+                self.access(target);
+                self.right_side(target.kind, value);
+                Ok(())
             }
-            CommandForm::Reduce {
-                target,
-                op,
-                mut value,
-            } => {
-                self.reduction(&target, &mut value);
-                Ok(CommandForm::Reduce { target, op, value })
+            CommandForm::Reduce { target, value, .. } => {
+                self.reduction(target, value);
+                Ok(())
             }
             CommandForm::Call {
                 function,
-                mut arguments,
+                arguments,
             } => {
-                self.arguments(&function, &mut arguments);
-                Ok(CommandForm::Call {
-                    function,
-                    arguments,
-                })
+                self.arguments(function, arguments);
+                Ok(())
             }
-            CommandForm::Block { mut body } => {
+            CommandForm::Block { body } => {
                 for part in body.iter_mut() {
                     self.part(alloc, part)?;
                 }
-                Ok(CommandForm::Block { body })
+                Ok(())
             }
-            CommandForm::If {
-                mut test,
-                mut then,
-                other,
-            } => {
-                self.condition(&mut test);
-                let Ok(()) = self.command(alloc, &mut then) else {
-                    return Err(refused(CommandForm::If { test, then, other }));
-                };
-                match self.optional(alloc, other) {
-                    Ok(other) => Ok(CommandForm::If { test, then, other }),
-                    Err(NoMemory) => Err(refused(CommandForm::If {
-                        test,
-                        then,
-                        other: None,
-                    })),
-                }
+            CommandForm::If { test, then, other } => {
+                self.condition(test);
+                self.command(alloc, then)?;
+                self.optional(alloc, other)?;
+                Ok(())
             }
-            CommandForm::While { mut test, mut body } => {
-                self.condition(&mut test);
-                let done = self.command(alloc, &mut body);
-                let form = CommandForm::While { test, body };
-                match done {
-                    Ok(()) => Ok(form),
-                    Err(NoMemory) => Err(refused(form)),
-                }
+            CommandForm::While { test, body } => {
+                self.condition(test);
+                self.command(alloc, body)?;
+                Ok(())
             }
             CommandForm::For {
                 iterator,
@@ -164,52 +103,32 @@ impl Walk {
                 low_place,
                 high,
                 high_place,
-                factor,
-                factor_place,
-                unroll_place,
-                mut body,
+                body,
                 combine,
-                combine_place,
+                ..
             } => {
-                let kind = iterator_kind(declared);
-                self.bounds(&iterator, kind, (low, low_place), (high, high_place));
+                let kind = iterator_kind(*declared);
+                self.bounds(iterator, kind, (*low, *low_place), (*high, *high_place));
                 self.learn(Fact::Iterator { kind })?;
-                self.command(alloc, &mut body)?;
-                let combine = self.optional(alloc, combine)?;
-                Ok(CommandForm::For {
-                    iterator,
-                    declared,
-                    low,
-                    low_place,
-                    high,
-                    high_place,
-                    factor,
-                    factor_place,
-                    unroll_place,
-                    body,
-                    combine,
-                    combine_place,
-                })
+                self.command(alloc, body)?;
+                self.optional(alloc, combine)?;
+                Ok(())
             }
         }
     }
 
     // A block that may lack.
     #[cycle(commands)]
-    fn optional(
-        &mut self,
-        alloc: Global,
-        block: Option<Box<Command>>,
-    ) -> Result<Option<Box<Command>>, NoMemory>
-        ensures { MatchResult result (λ done. TypesOptional self.old self.new block done)
-            (λ _. 0 < declared_in_other (maybe_block_seen block)) }
+    fn optional(&mut self, alloc: Global, block: &mut Option<Box<Command>>) -> Result<(), NoMemory>
+        ensures { MatchResult result (λ _. TypesOptional self.old self.new block.old block.new)
+            (λ _. 0 < declared_in_other (maybe_block_seen block.old)) }
     {
         match block {
-            Some(mut command) => {
-                self.command(alloc, &mut command)?;
-                Ok(Some(command))
+            Some(command) => {
+                self.command(alloc, command)?;
+                Ok(())
             }
-            None => Ok(None),
+            None => Ok(()),
         }
     }
 

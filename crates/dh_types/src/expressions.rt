@@ -4,7 +4,6 @@ ghost use Rattle.std.specs.Prelude.{◌≡◌, ◌&&◌};
 ghost use Rattle.dh_tree.specs.Seen.{term_seen, form_seen};
 ghost use Rattle.dh_tree.specs.Kinds as rules;
 ghost use Rattle.dh_types.specs.Facts.{facts_seen};
-ghost use Rattle.dh_types.specs.Bare as forms;
 ghost use Rattle.dh_types.specs.Bare.{settled, settled_form, filled_in, filled_in_form};
 ghost use Rattle.dh_types.specs.InTrees.{TypesTerm, TypesTerms, Fills, wanted_left, wanted_right};
 
@@ -14,7 +13,6 @@ use crate::operands::{left_want, right_want};
 use crate::sorts::{for_numbers, keeps_bare};
 use dh_tree::{Expr, ExprForm, Kind};
 use dh_value::Op;
-use std::mem;
 
 /// Gives a bare expression its kinds: its numbers take the kind that is wanted. It looks at numbers and
 /// operations alone.
@@ -22,49 +20,28 @@ use std::mem;
 pub fn fill(facts: &[Fact], want: Option<Kind>, term: &mut Expr)
     ensures { term_seen term.new ≡ filled_in (facts_seen facts.now) want (term_seen term.old) }
 {
-    if !is_operation(&term.form) {
-        // no part is to be filled, and the form stays where it is
-        term.kind = kind_found(facts, want, &term.form);
-        return;
-    }
-    let form = mem::replace(&mut term.form, ExprForm::Truth { value: false });
-    term.form = filled_form(facts, want, form);
+    fill_form(facts, want, &mut term.form);
     term.kind = kind_found(facts, want, &term.form);
 }
 
-// The bare form with its kinds.
+// The kinds within a bare form, which stays where it is.
 #[cycle(bare)]
 #[tactic(auto, using(dh_tree::proofs::SeenTerms::terms_are))]
-fn filled_form(facts: &[Fact], want: Option<Kind>, form: ExprForm) -> ExprForm
-    ensures { form_seen result ≡ filled_in_form (facts_seen facts.now) want (form_seen form) }
+fn fill_form(facts: &[Fact], want: Option<Kind>, form: &mut ExprForm)
+    ensures { form_seen form.new ≡ filled_in_form (facts_seen facts.now) want (form_seen form.old) }
 {
     match form {
-        ExprForm::Binary {
-            op,
-            mut left,
-            mut right,
-        } => {
-            fill(facts, left_want(op, want, true, None), &mut left);
-            fill(facts, right_want(op, want, true, None), &mut right);
-            ExprForm::Binary { op, left, right }
+        ExprForm::Binary { op, left, right } => {
+            fill(facts, left_want(*op, want, true, None), left);
+            fill(facts, right_want(*op, want, true, None), right);
         }
-        ExprForm::Number { negative, value } => ExprForm::Number { negative, value },
-        // no other form is bare
-        ExprForm::Truth { value } => ExprForm::Truth { value },
-        ExprForm::Variable { of } => ExprForm::Variable { of },
-        ExprForm::Access { of, indices } => ExprForm::Access { of, indices },
-        ExprForm::Physical {
-            of,
-            bank,
-            bank_place,
-            row,
-        } => ExprForm::Physical {
-            of,
-            bank,
-            bank_place,
-            row,
-        },
-        ExprForm::Cast { inner, to } => ExprForm::Cast { inner, to },
+        // no other form has parts that are bare
+        ExprForm::Number { .. } => {}
+        ExprForm::Truth { .. } => {}
+        ExprForm::Variable { .. } => {}
+        ExprForm::Access { .. } => {}
+        ExprForm::Physical { .. } => {}
+        ExprForm::Cast { .. } => {}
     }
 }
 
@@ -75,69 +52,44 @@ pub fn settle(facts: &[Fact], term: &mut Expr) -> bool
     ensures bare { result ≡ rules.is_bare (term_seen term.old) }
     ensures tree { term_seen term.new ≡ settled (facts_seen facts.now) (term_seen term.old) }
 {
-    // a number and a name have no parts, and stay where they are
-    if is_number_form(&term.form) {
-        return true;
-    }
-    if is_named_form(&term.form) {
-        term.kind = kind_found(facts, None, &term.form);
-        return false;
-    }
-    let form = mem::replace(&mut term.form, ExprForm::Truth { value: false });
-    let (form, bare) = settle_form(facts, form);
-    term.form = form;
+    let bare = settle_form(facts, &mut term.form);
     if !bare {
         term.kind = kind_found(facts, None, &term.form);
     }
     bare
 }
 
-// The form with its kinds, if it is not bare, and whether it is.
+// The kinds within a form that is not bare, and whether it is. The form stays where it is.
 #[cycle(expressions)]
 #[tactic(auto, using(dh_tree::proofs::SeenTerms::terms_are))]
-fn settle_form(facts: &[Fact], form: ExprForm) -> (ExprForm, bool)
-    ensures bare { result.1 ≡ rules.is_bare_form (form_seen form) }
-    ensures tree { form_seen result.0 ≡ settled_form (facts_seen facts.now) (form_seen form) }
+fn settle_form(facts: &[Fact], form: &mut ExprForm) -> bool
+    ensures bare { result ≡ rules.is_bare_form (form_seen form.old) }
+    ensures tree { form_seen form.new ≡ settled_form (facts_seen facts.now) (form_seen form.old) }
 {
     match form {
-        ExprForm::Number { negative, value } => (ExprForm::Number { negative, value }, true),
-        ExprForm::Truth { value } => (ExprForm::Truth { value }, false),
-        ExprForm::Variable { of } => (ExprForm::Variable { of }, false),
-        ExprForm::Access { of, mut indices } => {
-            type_terms(facts, &mut indices);
-            (ExprForm::Access { of, indices }, false)
+        ExprForm::Number { .. } => true,
+        ExprForm::Truth { .. } => false,
+        ExprForm::Variable { .. } => false,
+        ExprForm::Access { indices, .. } => {
+            type_terms(facts, indices);
+            false
         }
-        ExprForm::Physical {
-            of,
-            bank,
-            bank_place,
-            mut row,
-        } => {
-            type_term(facts, None, &mut row);
-            let form = ExprForm::Physical {
-                of,
-                bank,
-                bank_place,
-                row,
-            };
-            (form, false)
+        ExprForm::Physical { row, .. } => {
+            type_term(facts, None, row);
+            false
         }
-        ExprForm::Binary {
-            op,
-            mut left,
-            mut right,
-        } => {
-            let bare_left = settle(facts, &mut left);
-            let bare_right = settle(facts, &mut right);
-            if is_bare(op, bare_left, bare_right) {
-                return (ExprForm::Binary { op, left, right }, true);
+        ExprForm::Binary { op, left, right } => {
+            let bare_left = settle(facts, left);
+            let bare_right = settle(facts, right);
+            if is_bare(*op, bare_left, bare_right) {
+                return true;
             }
-            fill_operands(facts, op, (bare_left, bare_right), &mut left, &mut right);
-            (ExprForm::Binary { op, left, right }, false)
+            fill_operands(facts, *op, (bare_left, bare_right), left, right);
+            false
         }
-        ExprForm::Cast { mut inner, to } => {
-            type_term(facts, for_numbers(Some(to)), &mut inner);
-            (ExprForm::Cast { inner, to }, false)
+        ExprForm::Cast { inner, to } => {
+            type_term(facts, for_numbers(Some(*to)), inner);
+            false
         }
     }
 }
@@ -159,54 +111,6 @@ pub fn type_terms(facts: &[Fact], terms: &mut Vec<Expr>)
 {
     for term in terms.iter_mut() {
         type_term(facts, None, term);
-    }
-}
-
-// Whether an expression is a number.
-#[tactic(auto, using(dh_tree::proofs::SeenTerms::terms_are))]
-fn is_number_form(form: &ExprForm) -> bool
-    ensures { result ≡ forms.is_number_form (form_seen form.now) }
-{
-    match form {
-        ExprForm::Number { .. } => true,
-        ExprForm::Truth { .. } => false,
-        ExprForm::Variable { .. } => false,
-        ExprForm::Access { .. } => false,
-        ExprForm::Physical { .. } => false,
-        ExprForm::Binary { .. } => false,
-        ExprForm::Cast { .. } => false,
-    }
-}
-
-// Whether an expression is a name.
-#[tactic(auto, using(dh_tree::proofs::SeenTerms::terms_are))]
-fn is_named_form(form: &ExprForm) -> bool
-    ensures { result ≡ forms.is_named_form (form_seen form.now) }
-{
-    match form {
-        ExprForm::Variable { .. } => true,
-        ExprForm::Number { .. } => false,
-        ExprForm::Truth { .. } => false,
-        ExprForm::Access { .. } => false,
-        ExprForm::Physical { .. } => false,
-        ExprForm::Binary { .. } => false,
-        ExprForm::Cast { .. } => false,
-    }
-}
-
-// Whether an expression is an operation.
-#[tactic(auto, using(dh_tree::proofs::SeenTerms::terms_are))]
-fn is_operation(form: &ExprForm) -> bool
-    ensures { result ≡ forms.is_operation (form_seen form.now) }
-{
-    match form {
-        ExprForm::Binary { .. } => true,
-        ExprForm::Number { .. } => false,
-        ExprForm::Truth { .. } => false,
-        ExprForm::Variable { .. } => false,
-        ExprForm::Access { .. } => false,
-        ExprForm::Physical { .. } => false,
-        ExprForm::Cast { .. } => false,
     }
 }
 

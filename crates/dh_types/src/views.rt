@@ -13,21 +13,15 @@ use dh_tree::{Expr, ViewForm};
 
 impl Walk {
     /// Gives the offsets of a view their kinds.
-    pub fn plan(&mut self, form: ViewForm) -> ViewForm
-        ensures tree { TypesPlan self.old.facts.items form result }
-        ensures state { NotesBy plan_breaches self.old self.new (plan_seen result) }
+    pub fn plan(&mut self, form: &mut ViewForm)
+        ensures tree { TypesPlan self.old.facts.items form.old form.new }
+        ensures state { NotesBy plan_breaches self.old self.new (plan_seen form.new) }
     {
         match form {
-            ViewForm::Shrink { by, by_place } => ViewForm::Shrink { by, by_place },
-            ViewForm::Split { by, by_place } => ViewForm::Split { by, by_place },
-            ViewForm::Suffix { mut by, by_place } => {
-                self.suffixes(&mut by);
-                ViewForm::Suffix { by, by_place }
-            }
-            ViewForm::Shift { mut by } => {
-                self.shifts(&mut by);
-                ViewForm::Shift { by }
-            }
+            ViewForm::Shrink { .. } => {}
+            ViewForm::Split { .. } => {}
+            ViewForm::Suffix { by, .. } => self.suffixes(by),
+            ViewForm::Shift { by } => self.shifts(by),
         }
     }
 

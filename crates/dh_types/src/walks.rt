@@ -66,16 +66,13 @@ impl Walk {
     }
 
     /// Gives a right side, which may lack, its kinds.
-    pub fn value(&mut self, target: Option<Kind>, value: Option<Expr>) -> Option<Expr>
-        ensures tree { TypesValue self.old.facts.items target value result }
-        ensures state { NotesBy (maybe_breaches_for target) self.old self.new (value_seen result) }
+    pub fn value(&mut self, target: Option<Kind>, value: &mut Option<Expr>)
+        ensures tree { TypesValue self.old.facts.items target value.old value.new }
+        ensures state { NotesBy (maybe_breaches_for target) self.old self.new (value_seen value.new) }
     {
         match value {
-            Some(mut term) => {
-                self.right_side(target, &mut term);
-                Some(term)
-            }
-            None => None,
+            Some(term) => self.right_side(target, term),
+            None => {}
         }
     }
 

@@ -1,12 +1,13 @@
 use Rattle.std.proofs.Common.{◌∙◌, ap, sym, map, refl, length, arith}
-use Rattle.dh_tree.specs.Seen.{term_seen, form_seen}
+use Rattle.dh_tree.specs.Seen.{term_seen}
 use Rattle.dh_tree.specs.LeastBreach.{least_of}
-use Rattle.dh_tree.specs.Breaches.{term_breaches, list_breaches}
-use Rattle.dh_tree.specs.Resolved.{resolved_term}
+use Rattle.dh_tree.specs.Breaches.{unknown, term_breaches, list_breaches}
+use Rattle.dh_tree.specs.Resolved.{used, resolved_term}
+use Rattle.dh_tree.specs.contracts.trees.expressions.ExprForm.{enum}
+use Rattle.dh_names.proofs.InArms.{holds, holds_some}
 use Rattle.dh_names.specs.Visible.{visible}
 use Rattle.dh_base.proofs.InPlace.{start, turn, finish, written}
 use Rattle.dh_names.proofs.TermForms.{access_done, access_least, physical_done, binary_done, cast_done, term_step, term_made, terms_made, terms_run}
-use Rattle.dh_names.proofs.NamelessForms.{nameless_same, nameless_least}
 use Rattle.dh_names.proofs.expressions.+expressions.Goals as goal
 
 pub resolve_terms-loop-term-init : goal.resolve_terms-loop-term-init
@@ -38,35 +39,43 @@ resolve_terms-returns-clause-least t c =
     ∙ terms_run bs c.args.least.now (map term_seen c.deref_mut-term-items.result.now)
     ∙ ap (λ l. least_of c.args.least.now (list_breaches bs (map term_seen l))) c.deref_mut-term-items.ensures.value
 
-pub resolved_form-returns-in-Access-clause-tree : goal.resolved_form-returns-in-Access-clause-tree
-resolved_form-returns-in-Access-clause-tree t c = access_done _ _ _ _ _ _ c.in-Access.is c.resolve_use-in-Access.ensures.tree c.resolve_terms.ensures.tree
-
-pub resolved_form-returns-in-Access-clause-least : goal.resolved_form-returns-in-Access-clause-least
-resolved_form-returns-in-Access-clause-least t c = access_least _ _ _ _ _ _ _ c.in-Access.is c.resolve_use-in-Access.ensures.least c.resolve_terms.ensures.least
-
-pub resolved_form-returns-in-Physical-clause-tree : goal.resolved_form-returns-in-Physical-clause-tree
-resolved_form-returns-in-Physical-clause-tree t c =
+pub resolve_form-returns-in-Access-clause-tree : goal.resolve_form-returns-in-Access-clause-tree
+resolve_form-returns-in-Access-clause-tree t c =
     let bs = visible c.args.names.now in
-    physical_done bs _ _ _ _ _ _ _ c.in-Physical.is c.resolve_use-in-Physical.ensures.tree
-    (c.resolve_term.ensures.tree ∙ ap (λ e. resolved_term bs (term_seen e)) c.deref_mut.ensures.value)
+    access_done bs _ _ _ _ _ c.in-Access.is
+    (c.resolve_use-in-Access.ensures.tree ∙ ap (λ r. used bs r) c.in-Access.of-is)
+    (c.resolve_terms.ensures.tree ∙ ap (λ v. map (resolved_term bs) (map term_seen v.items)) c.in-Access.indices-is)
 
-pub resolved_form-returns-in-Binary-clause-tree : goal.resolved_form-returns-in-Binary-clause-tree
-resolved_form-returns-in-Binary-clause-tree t c =
+pub resolve_form-returns-in-Access-clause-least : goal.resolve_form-returns-in-Access-clause-least
+resolve_form-returns-in-Access-clause-least t c =
     let bs = visible c.args.names.now in
-    binary_done bs _ _ _ _ _ _ c.in-Binary.is
-    (c.resolve_term-in-Binary.ensures.tree ∙ ap (λ e. resolved_term bs (term_seen e)) c.deref_mut-in-Binary.ensures.value)
-    (c.resolve_term-in-Binary-2.ensures.tree ∙ ap (λ e. resolved_term bs (term_seen e)) c.deref_mut-in-Binary-2.ensures.value)
+    access_least bs _ _ _ _ _ _ c.in-Access.is
+    (c.resolve_use-in-Access.ensures.least ∙ ap (λ r. least_of c.args.least.now (unknown bs r)) c.in-Access.of-is)
+    (c.resolve_terms.ensures.least ∙ ap (λ v. least_of c.resolve_use-in-Access.new.least (list_breaches bs (map term_seen v.items))) c.in-Access.indices-is)
 
-pub resolved_form-returns-in-Cast-clause-tree : goal.resolved_form-returns-in-Cast-clause-tree
-resolved_form-returns-in-Cast-clause-tree t c =
+pub resolve_form-returns-in-Physical-clause-tree : goal.resolve_form-returns-in-Physical-clause-tree
+resolve_form-returns-in-Physical-clause-tree t c =
     let bs = visible c.args.names.now in
-    cast_done bs _ _ _ _ c.in-Cast.is (c.resolve_term-in-Cast.ensures.tree ∙ ap (λ e. resolved_term bs (term_seen e)) c.deref_mut-in-Cast.ensures.value)
+    let held = holds enum 4 (c.in-Physical.of, (c.in-Physical.bank, (c.in-Physical.bank_place, (c.in-Physical.row, tt)))) _ c.in-Physical.is in
+    rw held
+    (physical_done bs _ _ _ _ _ _ _ c.in-Physical.is
+    (c.resolve_use-in-Physical.ensures.tree ∙ ap (λ r. used bs r) c.in-Physical.of-is)
+    (c.resolve_term.ensures.tree ∙ ap (λ e. resolved_term bs (term_seen e)) (c.deref_mut.ensures.value ∙ ap (λ b. b.value) c.in-Physical.row-is)))
 
-pub resolve_term-returns-then-is_nameless-clause-tree : goal.resolve_term-returns-then-is_nameless-clause-tree
-resolve_term-returns-then-is_nameless-clause-tree t c =
-    let e = c.args.term.now in
-    nameless_same (visible c.args.names.now) e.place e.kind (form_seen e.form) (sym c.is_nameless.ensures ∙ c.if-is_nameless.true)
+pub resolve_form-returns-in-Binary-clause-tree : goal.resolve_form-returns-in-Binary-clause-tree
+resolve_form-returns-in-Binary-clause-tree t c =
+    let bs = visible c.args.names.now in
+    let held = holds enum 5 (c.in-Binary.op, (c.in-Binary.left, (c.in-Binary.right, tt))) _ c.in-Binary.is in
+    rw held
+    (binary_done bs _ _ _ _ _ _ c.in-Binary.is
+    (c.resolve_term-in-Binary.ensures.tree ∙ ap (λ e. resolved_term bs (term_seen e)) (c.deref_mut-in-Binary.ensures.value ∙ ap (λ b. b.value) c.in-Binary.left-is))
+    (c.resolve_term-in-Binary-2.ensures.tree ∙ ap (λ e. resolved_term bs (term_seen e)) (c.deref_mut-in-Binary-2.ensures.value ∙ ap (λ b. b.value) c.in-Binary.right-is)))
 
-pub resolve_term-returns-then-is_nameless-clause-least : goal.resolve_term-returns-then-is_nameless-clause-least
-resolve_term-returns-then-is_nameless-clause-least t c =
-    nameless_least (visible c.args.names.now) c.args.least.now (form_seen c.args.term.now.form) (sym c.is_nameless.ensures ∙ c.if-is_nameless.true)
+pub resolve_form-returns-in-Cast-clause-tree : goal.resolve_form-returns-in-Cast-clause-tree
+resolve_form-returns-in-Cast-clause-tree t c =
+    let bs = visible c.args.names.now in
+    let whole = holds_some enum 6 (c.in-Cast.inner, (c.in-Cast.to, tt)) _ c.in-Cast.is in
+    let held = holds enum 6 (c.in-Cast.inner, (c.in-Cast.to, tt)) _ c.in-Cast.is in
+    rw (whole, held)
+    (cast_done bs _ _ _ _ c.in-Cast.is
+    (c.resolve_term-in-Cast.ensures.tree ∙ ap (λ e. resolved_term bs (term_seen e)) (c.deref_mut-in-Cast.ensures.value ∙ ap (λ b. b.value) c.in-Cast.inner-is)))

@@ -1,90 +1,106 @@
 use Rattle.std.proofs.Common.{◌∙◌, ◌<◌, ap, subst, refl, map, option_map, arith}
 use Rattle.std.specs.Box.{with_value}
 use Rattle.std.specs.Vec.{with_items}
-use Rattle.dh_tree.specs.Seen.{term_seen, plan_seen, action_seen, action_form_seen, part_seen, groups, maybe_seen, placed, unrolled}
+use Rattle.dh_tree.specs.Seen.{term_seen, plan_seen, action_seen, action_form_seen, part_seen, groups, maybe_seen, maybe_block_seen, placed, unrolled}
 use Rattle.dh_tree.proofs.SeenActions.{let_is, let_memory_is, view_is, assign_is, store_is, reduce_is, call_is, block_is, if_is, while_is, for_is}
 use Rattle.dh_tree.specs.Kinds.{of_iterator}
-use Rattle.dh_tree.specs.NameCounts.{declared_in}
+use Rattle.dh_tree.specs.NameCounts.{declared_in, declared_in_other}
 use Rattle.dh_tree.proofs.DeclaringParts.{wanting, counted_as, in_left, in_right, some_command, some_part}
 use Rattle.dh_types.specs.Walks.{state_of}
 use Rattle.dh_base.proofs.InPlace.{start, turn}
 use Rattle.dh_types.proofs.ListsDone.{action_step, action_made, part_step, part_made, action_turn, part_turn, part_done, parts_done}
 use Rattle.dh_types.proofs.FormsDone.{form_done, lets_done, memory_read, views_done, assigns_done, stores_done, reduces_done, calls_done, blocks_done, repeats_done, decides_done, counts_done, types_at}
+use Rattle.dh_tree.specs.contracts.trees.commands.CommandForm.{enum}
+use Rattle.dh_types.proofs.InArms.{holds, holds_some, reading}
 use Rattle.dh_types.proofs.walks.Walk.+commands.Goals as goal
 
-pub form-returns-in-Ok : goal.form-returns-in-Ok
-form-returns-in-Ok t c =
-    form_done _ _ _ _ _ _ (ap action_form_seen c.in-Let.is ∙ let_is c.in-Let.name c.in-Let.declared c.in-Let.value) (let_is c.in-Let.name c.in-Let.declared c.value-value.result)
-    (lets_done (state_of c.args.self.now) (state_of c.value-value.new.self) (state_of c.learn-learned.new.self) c.in-Let.name c.in-Let.declared (option_map term_seen c.in-Let.value) (option_map term_seen c.value-value.result) _
-    c.value-value.ensures.tree c.value-value.ensures.state c.variable_fact.ensures c.in-Ok.ensures)
+pub form-returns-in_ok-learn-in-Let : goal.form-returns-in_ok-learn-in-Let
+form-returns-in_ok-learn-in-Let t c =
+    let r = reading enum 0 (c.in-Let.name, (c.in-Let.declared, (c.in-Let.value, tt))) _ c.in-Let.is in
+    form_done _ _ _ _ _ _ (ap action_form_seen r.1 ∙ let_is r.0.0 r.0.1.0 r.0.1.1.0) (let_is r.0.0 r.0.1.0 c.value.new.value)
+    (lets_done (state_of c.args.self.now) (state_of c.value.new.self) (state_of c.learn.new.self) r.0.0 r.0.1.0 (option_map term_seen r.0.1.1.0) (option_map term_seen c.value.new.value) _
+    c.value.ensures.tree c.value.ensures.state c.variable_fact.ensures c.in_ok-learn-in-Let.ensures)
 
-pub form-returns-in-Ok-learned : goal.form-returns-in-Ok-learned
-form-returns-in-Ok-learned t c =
-    form_done _ _ _ _ _ _ (ap action_form_seen c.in-LetMemory.is ∙ let_memory_is c.in-LetMemory.name c.in-LetMemory.shape c.in-LetMemory.shape_places c.in-LetMemory.value)
-    (let_memory_is c.in-LetMemory.name c.in-LetMemory.shape c.in-LetMemory.shape_places c.value-value-in-LetMemory.result)
-    (memory_read (state_of c.args.self.now) (state_of c.value-value-in-LetMemory.new.self) (state_of c.learn-learned-in-LetMemory.new.self) c.in-LetMemory.name c.in-LetMemory.shape.value c.deref.result.now c.deref-in-LetMemory.result.now c.in-LetMemory.shape_places.value
-    (option_map term_seen c.in-LetMemory.value) (option_map term_seen c.value-value-in-LetMemory.result) _
-    c.deref.ensures c.deref-in-LetMemory.ensures c.value-value-in-LetMemory.ensures.tree c.value-value-in-LetMemory.ensures.state c.memory_fact.ensures c.in-Ok-learned.ensures)
+pub form-returns-in_ok-learn-in-LetMemory : goal.form-returns-in_ok-learn-in-LetMemory
+form-returns-in_ok-learn-in-LetMemory t c =
+    let r = reading enum 1 (c.in-LetMemory.name, (c.in-LetMemory.shape, (c.in-LetMemory.shape_places, (c.in-LetMemory.value, tt)))) _ c.in-LetMemory.is in
+    form_done _ _ _ _ _ _ (ap action_form_seen r.1 ∙ let_memory_is r.0.0 r.0.1.0 r.0.1.1.0 r.0.1.1.1.0) (let_memory_is r.0.0 r.0.1.0 r.0.1.1.0 c.value-in-LetMemory.new.value)
+    (memory_read (state_of c.args.self.now) (state_of c.value-in-LetMemory.new.self) (state_of c.learn-in-LetMemory.new.self) r.0.0 r.0.1.0.value c.deref.result.now c.deref-in-LetMemory.result.now r.0.1.1.0.value
+    (option_map term_seen r.0.1.1.1.0) (option_map term_seen c.value-in-LetMemory.new.value) _
+    c.deref.ensures c.deref-in-LetMemory.ensures c.value-in-LetMemory.ensures.tree c.value-in-LetMemory.ensures.state c.memory_fact.ensures c.in_ok-learn-in-LetMemory.ensures)
 
 pub form-returns-in_ok-learn-in-View : goal.form-returns-in_ok-learn-in-View
 form-returns-in_ok-learn-in-View t c =
-    form_done _ _ _ _ _ _ (ap action_form_seen c.in-View.is ∙ view_is c.in-View.name c.in-View.parent c.in-View.form) (view_is c.in-View.name c.in-View.parent c.plan-form.result)
-    (views_done (state_of c.args.self.now) (state_of c.parent.new.self) (state_of c.plan-form.new.self) (state_of c.learn.new.self) c.in-View.name c.in-View.parent (plan_seen c.in-View.form) (plan_seen c.plan-form.result) _
-    c.parent.ensures c.plan-form.ensures.tree c.plan-form.ensures.state c.view.ensures c.in_ok-learn-in-View.ensures)
+    let r = reading enum 2 (c.in-View.name, (c.in-View.parent, (c.in-View.form, tt))) _ c.in-View.is in
+    form_done _ _ _ _ _ _ (ap action_form_seen r.1 ∙ view_is r.0.0 r.0.1.0 r.0.1.1.0) (view_is r.0.0 r.0.1.0 c.plan.new.form)
+    (views_done (state_of c.args.self.now) (state_of c.parent.new.self) (state_of c.plan.new.self) (state_of c.learn-in-View.new.self) r.0.0 r.0.1.0 (plan_seen r.0.1.1.0) (plan_seen c.plan.new.form) _
+    c.parent.ensures c.plan.ensures.tree c.plan.ensures.state c.view.ensures c.in_ok-learn-in-View.ensures)
 
 pub form-returns-in-Assign : goal.form-returns-in-Assign
 form-returns-in-Assign t c =
-    form_done _ _ _ _ _ _ (ap action_form_seen c.in-Assign.is ∙ assign_is c.in-Assign.target c.in-Assign.value) (assign_is c.in-Assign.target c.assignment.new.value)
-    (assigns_done (state_of c.args.self.now) (state_of c.assignment.new.self) c.in-Assign.target (term_seen c.in-Assign.value) (term_seen c.assignment.new.value) c.assignment.ensures.tree c.assignment.ensures.state)
+    let r = reading enum 3 (c.in-Assign.target, (c.in-Assign.value, tt)) _ c.in-Assign.is in
+    form_done _ _ _ _ _ _ (ap action_form_seen r.1 ∙ assign_is r.0.0 r.0.1.0) (assign_is r.0.0 c.assignment.new.value)
+    (assigns_done (state_of c.args.self.now) (state_of c.assignment.new.self) r.0.0 (term_seen r.0.1.0) (term_seen c.assignment.new.value) c.assignment.ensures.tree c.assignment.ensures.state)
 
 pub form-returns-in-Store : goal.form-returns-in-Store
 form-returns-in-Store t c =
-    form_done _ _ _ _ _ _ (ap action_form_seen c.in-Store.is ∙ store_is c.in-Store.target c.in-Store.value) (store_is c.access.new.target c.right_side.new.value)
-    (stores_done (state_of c.args.self.now) (state_of c.access.new.self) (state_of c.right_side.new.self) (term_seen c.in-Store.target) (term_seen c.access.new.target) (term_seen c.in-Store.value) (term_seen c.right_side.new.value)
+    let r = reading enum 4 (c.in-Store.target, (c.in-Store.value, tt)) _ c.in-Store.is in
+    form_done _ _ _ _ _ _ (ap action_form_seen r.1 ∙ store_is r.0.0 r.0.1.0) (store_is c.access.new.target c.right_side.new.value)
+    (stores_done (state_of c.args.self.now) (state_of c.access.new.self) (state_of c.right_side.new.self) (term_seen r.0.0) (term_seen c.access.new.target) (term_seen r.0.1.0) (term_seen c.right_side.new.value)
     c.access.ensures.tree c.access.ensures.state c.right_side.ensures.tree c.right_side.ensures.state)
 
 pub form-returns-in-Reduce : goal.form-returns-in-Reduce
 form-returns-in-Reduce t c =
-    form_done _ _ _ _ _ _ (ap action_form_seen c.in-Reduce.is ∙ reduce_is c.in-Reduce.target c.in-Reduce.op c.in-Reduce.value) (reduce_is c.in-Reduce.target c.in-Reduce.op c.reduction.new.value)
-    (reduces_done (state_of c.args.self.now) (state_of c.reduction.new.self) c.in-Reduce.target c.in-Reduce.op (term_seen c.in-Reduce.value) (term_seen c.reduction.new.value) c.reduction.ensures.tree c.reduction.ensures.state)
+    let r = reading enum 5 (c.in-Reduce.target, (c.in-Reduce.op, (c.in-Reduce.value, tt))) _ c.in-Reduce.is in
+    form_done _ _ _ _ _ _ (ap action_form_seen r.1 ∙ reduce_is r.0.0 r.0.1.0 r.0.1.1.0) (reduce_is r.0.0 r.0.1.0 c.reduction.new.value)
+    (reduces_done (state_of c.args.self.now) (state_of c.reduction.new.self) r.0.0 r.0.1.0 (term_seen r.0.1.1.0) (term_seen c.reduction.new.value) c.reduction.ensures.tree c.reduction.ensures.state)
 
 pub form-returns-in-Call : goal.form-returns-in-Call
 form-returns-in-Call t c =
-    form_done _ _ _ _ _ _ (ap action_form_seen c.in-Call.is ∙ call_is c.in-Call.function c.in-Call.arguments) (call_is c.in-Call.function c.arguments.new.arguments)
-    (calls_done (state_of c.args.self.now) (state_of c.arguments.new.self) c.in-Call.function (map term_seen c.in-Call.arguments.items) (map term_seen c.arguments.new.arguments.items) c.arguments.ensures.tree c.arguments.ensures.state)
+    let r = reading enum 6 (c.in-Call.function, (c.in-Call.arguments, tt)) _ c.in-Call.is in
+    form_done _ _ _ _ _ _ (ap action_form_seen r.1 ∙ call_is r.0.0 r.0.1.0) (call_is r.0.0 c.arguments.new.arguments)
+    (calls_done (state_of c.args.self.now) (state_of c.arguments.new.self) r.0.0 (map term_seen r.0.1.0.items) (map term_seen c.arguments.new.arguments.items) c.arguments.ensures.tree c.arguments.ensures.state)
 
 pub form-returns-after-loop-part : goal.form-returns-after-loop-part
 form-returns-after-loop-part t c =
-    form_done _ _ _ _ _ _ (ap action_form_seen c.in-Block.is ∙ block_is c.in-Block.body) (block_is (with_items c.in-Block.body c.loop-part.part-items))
+    let whole = holds_some enum 7 (c.in-Block.body, tt) _ c.in-Block.is in
+    let held = holds enum 7 (c.in-Block.body, tt) _ c.in-Block.is in
+    rw (whole, held)
+    (form_done _ _ _ _ _ _ (ap action_form_seen c.in-Block.is ∙ block_is c.in-Block.body) (block_is (with_items c.in-Block.body c.loop-part.part-items))
     (blocks_done (state_of c.args.self.now) (state_of c.loop-part.self) (groups (map part_seen c.in-Block.body.items)) (groups (map part_seen (with_items c.in-Block.body c.loop-part.part-items).items))
     (parts_done (state_of c.args.self.now) (state_of c.loop-part.self) c.in-Block.body c.deref_mut-part-items.result.now c.loop-part.part-items c.loop-part.part-index
-    c.deref_mut-part-items.ensures.value c.deref_mut-part-items.ensures.len c.loop-part-test.false c.loop-part.invariant.0 c.loop-part.invariant.1))
+    (c.deref_mut-part-items.ensures.value ∙ ap (λ v. v.items) c.in-Block.body-is) (c.deref_mut-part-items.ensures.len ∙ ap (λ v. v.len) c.in-Block.body-is) c.loop-part-test.false c.loop-part.invariant.0 c.loop-part.invariant.1)))
 
-pub form-returns-in-Ok-optional : goal.form-returns-in-Ok-optional
-form-returns-in-Ok-optional t c =
-    form_done _ _ _ _ _ _ (ap action_form_seen c.in-If.is ∙ if_is c.in-If.test c.in-If.then c.in-If.other) (if_is c.condition.new.test (with_value c.in-If.then c.command.new.command) c.in-Ok-optional.other)
+pub form-returns-in_ok-optional-in-If : goal.form-returns-in_ok-optional-in-If
+form-returns-in_ok-optional-in-If t c =
+    let r = reading enum 8 (c.in-If.test, (c.in-If.then, (c.in-If.other, tt))) _ c.in-If.is in
+    form_done _ _ _ _ _ _ (ap action_form_seen r.1 ∙ if_is r.0.0 r.0.1.0 r.0.1.1.0) (if_is c.condition.new.test (with_value r.0.1.0 c.command.new.command) c.optional.new.block)
     (decides_done (state_of c.args.self.now) (state_of c.condition.new.self) (state_of c.command.new.self) (state_of c.optional.new.self)
-    (term_seen c.in-If.test) (term_seen c.condition.new.test) (action_seen c.in-If.then.value) (action_seen c.command.new.command)
-    (maybe_seen (option_map (λ b. action_seen b.value) c.in-If.other)) (maybe_seen (option_map (λ b. action_seen b.value) c.in-Ok-optional.other))
-    c.condition.ensures.tree c.condition.ensures.state (types_at _ _ _ _ _ c.deref_mut.ensures.value c.in-Ok-command.ensures) c.in-Ok-optional.ensures)
+    (term_seen r.0.0) (term_seen c.condition.new.test) (action_seen r.0.1.0.value) (action_seen c.command.new.command)
+    (maybe_seen (option_map (λ b. action_seen b.value) r.0.1.1.0)) (maybe_seen (option_map (λ b. action_seen b.value) c.optional.new.block))
+    c.condition.ensures.tree c.condition.ensures.state (types_at _ _ _ _ _ c.deref_mut.ensures.value c.in_ok-command-in-If.ensures) c.in_ok-optional-in-If.ensures)
 
-pub form-returns-in-Ok-done : goal.form-returns-in-Ok-done
-form-returns-in-Ok-done t c =
-    form_done _ _ _ _ _ _ (ap action_form_seen c.in-While.is ∙ while_is c.in-While.test c.in-While.body) (while_is c.condition-in-While.new.test (with_value c.in-While.body c.command-done.new.command))
-    (repeats_done (state_of c.args.self.now) (state_of c.condition-in-While.new.self) (state_of c.command-done.new.self) (term_seen c.in-While.test) (term_seen c.condition-in-While.new.test) (action_seen c.in-While.body.value) (action_seen c.command-done.new.command)
-    c.condition-in-While.ensures.tree c.condition-in-While.ensures.state (types_at _ _ _ _ _ c.deref_mut-in-While.ensures.value c.in-Ok-done.ensures))
+pub form-returns-in_ok-command-in-While : goal.form-returns-in_ok-command-in-While
+form-returns-in_ok-command-in-While t c =
+    let r = reading enum 9 (c.in-While.test, (c.in-While.body, tt)) _ c.in-While.is in
+    form_done _ _ _ _ _ _ (ap action_form_seen r.1 ∙ while_is r.0.0 r.0.1.0) (while_is c.condition-in-While.new.test (with_value r.0.1.0 c.command-in-While.new.command))
+    (repeats_done (state_of c.args.self.now) (state_of c.condition-in-While.new.self) (state_of c.command-in-While.new.self) (term_seen r.0.0) (term_seen c.condition-in-While.new.test) (action_seen r.0.1.0.value) (action_seen c.command-in-While.new.command)
+    c.condition-in-While.ensures.tree c.condition-in-While.ensures.state (types_at _ _ _ _ _ c.deref_mut-in-While.ensures.value c.in_ok-command-in-While.ensures))
 
-pub form-returns-in_ok-combine-in-For : goal.form-returns-in_ok-combine-in-For
-form-returns-in_ok-combine-in-For t c =
-    form_done _ _ _ _ _ _
+pub form-returns-in_ok-optional-in-For : goal.form-returns-in_ok-optional-in-For
+form-returns-in_ok-optional-in-For t c =
+    let held = holds enum 10 (c.in-For.iterator, (c.in-For.declared, (c.in-For.low, (c.in-For.low_place, (c.in-For.high, (c.in-For.high_place, (c.in-For.factor, (c.in-For.factor_place, (c.in-For.unroll_place, (c.in-For.body, (c.in-For.combine, (c.in-For.combine_place, tt)))))))))))) _ c.in-For.is in
+    rw held
+    (form_done _ _ _ _ _ _
     (ap action_form_seen c.in-For.is ∙ for_is c.in-For.iterator c.in-For.declared c.in-For.low c.in-For.low_place c.in-For.high c.in-For.high_place c.in-For.factor c.in-For.factor_place c.in-For.unroll_place c.in-For.body c.in-For.combine c.in-For.combine_place)
-    (for_is c.in-For.iterator c.in-For.declared c.in-For.low c.in-For.low_place c.in-For.high c.in-For.high_place c.in-For.factor c.in-For.factor_place c.in-For.unroll_place (with_value c.in-For.body c.command-in-For.new.command) c.in_ok-combine-in-For.combine c.in-For.combine_place)
+    (for_is c.in-For.iterator c.in-For.declared c.in-For.low c.in-For.low_place c.in-For.high c.in-For.high_place c.in-For.factor c.in-For.factor_place c.in-For.unroll_place (with_value c.in-For.body c.command-in-For.new.command) c.optional-in-For.new.block c.in-For.combine_place)
     (counts_done (state_of c.args.self.now) (state_of c.bounds.new.self) (state_of c.learn-in-For.new.self) (state_of c.command-in-For.new.self) (state_of c.optional-in-For.new.self)
     c.in-For.iterator c.in-For.declared c.iterator_kind-kind.result (placed c.in-For.low c.in-For.low_place) (placed c.in-For.high c.in-For.high_place) (unrolled c.in-For.factor c.in-For.factor_place c.in-For.unroll_place)
     (action_seen c.in-For.body.value) (action_seen c.command-in-For.new.command)
-    (maybe_seen (option_map (λ b. action_seen b.value) c.in-For.combine)) (maybe_seen (option_map (λ b. action_seen b.value) c.in_ok-combine-in-For.combine)) c.in-For.combine_place (of_iterator c.iterator_kind-kind.result)
-    c.iterator_kind-kind.ensures c.bounds.ensures refl c.in_ok-learn-in-For.ensures
-    (types_at _ _ _ _ _ c.deref_mut-in-For.ensures.value c.in_ok-command-in-For.ensures) c.in_ok-combine-in-For.ensures)
+    (maybe_seen (option_map (λ b. action_seen b.value) c.in-For.combine)) (maybe_seen (option_map (λ b. action_seen b.value) c.optional-in-For.new.block)) c.in-For.combine_place (of_iterator c.iterator_kind-kind.result)
+    (rw held at c.iterator_kind-kind.ensures) (rw held at c.bounds.ensures) refl c.in_ok-learn-in-For.ensures
+    (types_at _ _ _ _ _ (c.deref_mut-in-For.ensures.value ∙ ap (λ b. b.value) c.in-For.body-is) c.in_ok-command-in-For.ensures)
+    (rw held at c.in_ok-optional-in-For.ensures)))
 
 pub part-loop-command-init : goal.part-loop-command-init
 part-loop-command-init t c = ((refl, λ k d past. refl), start action_seen action_step action_made _ _)
@@ -109,39 +125,51 @@ form-loop-part-preserved t c =
     turn part_seen part_step part_made c.deref_mut-part-items.result.now c.loop-part.part-items c.loop-part.part-index (state_of c.args.self.now) (state_of c.loop-part.self) (state_of c.part.new.self) c.part-item.result c.part.new.part
     (omega (arith, c.loop-part-test.true, c.loop-part.auto.part-items)) c.loop-part.invariant.0 c.loop-part.invariant.1 c.part-item.is made.0 made.1
 
-pub form-returns-in-Err : goal.form-returns-in-Err
-form-returns-in-Err t c =
-    counted_as _ _ _ c.in-Let.is (let_is c.in-Let.name c.in-Let.declared c.in-Let.value) (omega arith)
+pub part-returns-in_err-command : goal.part-returns-in_err-command
+part-returns-in_err-command t c =
+    wanting _ _ c.from_residual.ensures
+    (some_command c.args.part.now c.deref_mut-command-items.result.now c.loop-command.command-items c.loop-command.command-index c.command-item.result c.deref_mut-command-items.ensures.value
+    (omega (arith, c.loop-command-test.true, c.loop-command.auto.command-items)) c.loop-command.invariant.0 c.in_err-command.ensures)
 
-pub form-returns-in-Err-learned : goal.form-returns-in-Err-learned
-form-returns-in-Err-learned t c =
-    counted_as _ _ _ c.in-LetMemory.is (let_memory_is c.in-LetMemory.name c.in-LetMemory.shape c.in-LetMemory.shape_places c.in-LetMemory.value) (omega arith)
+pub form-returns-in_err-learn-in-Let : goal.form-returns-in_err-learn-in-Let
+form-returns-in_err-learn-in-Let t c =
+    wanting _ _ c.from_residual.ensures
+    (counted_as _ _ _ c.in-Let.is (let_is c.in-Let.name c.in-Let.declared c.in-Let.value) (omega arith))
+
+pub form-returns-in_err-learn-in-LetMemory : goal.form-returns-in_err-learn-in-LetMemory
+form-returns-in_err-learn-in-LetMemory t c =
+    wanting _ _ c.from_residual-in_err-learn-in-LetMemory.ensures
+    (counted_as _ _ _ c.in-LetMemory.is (let_memory_is c.in-LetMemory.name c.in-LetMemory.shape c.in-LetMemory.shape_places c.in-LetMemory.value) (omega arith))
 
 pub form-returns-in_err-learn-in-View : goal.form-returns-in_err-learn-in-View
 form-returns-in_err-learn-in-View t c =
-    wanting _ _ c.from_residual.ensures
+    wanting _ _ c.from_residual-in_err-learn-in-View.ensures
     (counted_as _ _ _ c.in-View.is (view_is c.in-View.name c.in-View.parent c.in-View.form) (omega arith))
 
 pub form-returns-in_err-part-in-Block : goal.form-returns-in_err-part-in-Block
 form-returns-in_err-part-in-Block t c =
     wanting _ _ c.from_residual-in_err-part-in-Block.ensures
     (counted_as _ _ _ c.in-Block.is (block_is c.in-Block.body)
-    (some_part c.in-Block.body c.deref_mut-part-items.result.now c.loop-part.part-items c.loop-part.part-index c.part-item.result c.deref_mut-part-items.ensures.value
+    (some_part c.in-Block.body c.deref_mut-part-items.result.now c.loop-part.part-items c.loop-part.part-index c.part-item.result (c.deref_mut-part-items.ensures.value ∙ ap (λ v. v.items) c.in-Block.body-is)
     (omega (arith, c.loop-part-test.true, c.loop-part.auto.part-items)) c.loop-part.invariant.0 c.in_err-part-in-Block.ensures))
 
-pub form-returns-in_default : goal.form-returns-in_default
-form-returns-in_default t c =
-    counted_as _ _ _ c.in-If.is (if_is c.in-If.test c.in-If.then c.in-If.other)
-    (in_left _ _ (subst (λ z. 0 < declared_in (action_seen z)) c.deref_mut.ensures.value c.in_default.ensures))
+pub form-returns-in_err-command-in-If : goal.form-returns-in_err-command-in-If
+form-returns-in_err-command-in-If t c =
+    wanting _ _ c.from_residual-in_err-command-in-If.ensures
+    (counted_as _ _ _ c.in-If.is (if_is c.in-If.test c.in-If.then c.in-If.other)
+    (in_left _ _ (subst (λ z. 0 < declared_in (action_seen z)) (c.deref_mut.ensures.value ∙ ap (λ b. b.value) c.in-If.then-is) c.in_err-command-in-If.ensures)))
 
-pub form-returns-in-Err-optional : goal.form-returns-in-Err-optional
-form-returns-in-Err-optional t c =
-    counted_as _ _ _ c.in-If.is (if_is c.in-If.test c.in-If.then c.in-If.other) (in_right (declared_in (action_seen c.in-If.then.value)) _ c.in-Err-optional.ensures)
+pub form-returns-in_err-optional-in-If : goal.form-returns-in_err-optional-in-If
+form-returns-in_err-optional-in-If t c =
+    wanting _ _ c.from_residual-in_err-optional-in-If.ensures
+    (counted_as _ _ _ c.in-If.is (if_is c.in-If.test c.in-If.then c.in-If.other)
+    (in_right (declared_in (action_seen c.in-If.then.value)) _ (subst (λ b. 0 < declared_in_other (maybe_block_seen b)) c.in-If.other-is c.in_err-optional-in-If.ensures)))
 
-pub form-returns-in-Err-done : goal.form-returns-in-Err-done
-form-returns-in-Err-done t c =
-    counted_as _ _ _ c.in-While.is (while_is c.in-While.test c.in-While.body)
-    (subst (λ z. 0 < declared_in (action_seen z)) c.deref_mut-in-While.ensures.value c.in-Err-done.ensures)
+pub form-returns-in_err-command-in-While : goal.form-returns-in_err-command-in-While
+form-returns-in_err-command-in-While t c =
+    wanting _ _ c.from_residual-in_err-command-in-While.ensures
+    (counted_as _ _ _ c.in-While.is (while_is c.in-While.test c.in-While.body)
+    (subst (λ z. 0 < declared_in (action_seen z)) (c.deref_mut-in-While.ensures.value ∙ ap (λ b. b.value) c.in-While.body-is) c.in_err-command-in-While.ensures))
 
 pub form-returns-in_err-learn-in-For : goal.form-returns-in_err-learn-in-For
 form-returns-in_err-learn-in-For t c =
@@ -157,15 +185,9 @@ form-returns-in_err-command-in-For t c =
     (for_is c.in-For.iterator c.in-For.declared c.in-For.low c.in-For.low_place c.in-For.high c.in-For.high_place c.in-For.factor c.in-For.factor_place c.in-For.unroll_place c.in-For.body c.in-For.combine c.in-For.combine_place)
     (omega arith))
 
-pub form-returns-in_err-combine-in-For : goal.form-returns-in_err-combine-in-For
-form-returns-in_err-combine-in-For t c =
-    wanting _ _ c.from_residual-in_err-combine-in-For.ensures
+pub form-returns-in_err-optional-in-For : goal.form-returns-in_err-optional-in-For
+form-returns-in_err-optional-in-For t c =
+    wanting _ _ c.from_residual-in_err-optional-in-For.ensures
     (counted_as _ _ _ c.in-For.is
     (for_is c.in-For.iterator c.in-For.declared c.in-For.low c.in-For.low_place c.in-For.high c.in-For.high_place c.in-For.factor c.in-For.factor_place c.in-For.unroll_place c.in-For.body c.in-For.combine c.in-For.combine_place)
     (omega arith))
-
-pub part-returns-in_err-command : goal.part-returns-in_err-command
-part-returns-in_err-command t c =
-    wanting _ _ c.from_residual.ensures
-    (some_command c.args.part.now c.deref_mut-command-items.result.now c.loop-command.command-items c.loop-command.command-index c.command-item.result c.deref_mut-command-items.ensures.value
-    (omega (arith, c.loop-command-test.true, c.loop-command.auto.command-items)) c.loop-command.invariant.0 c.in_err-command.ensures)
