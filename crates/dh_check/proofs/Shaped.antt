@@ -10,6 +10,7 @@ use Rattle.dh_tree.specs.Placements.{placement_breaches}
 use Rattle.dh_tree.specs.PlainTrees.{Program}
 use Rattle.dh_tree.specs.Told.{TellsLeast, MayTellLeast}
 use Rattle.dh_tree.specs.ViewBreaches.{shapes_breaches_of}
+use Rattle.dh_views.specs.Wanting.{WantsForViews}
 use Rattle.dh_check.specs.declared.checking.CheckFault.{CheckFault}
 use Rattle.dh_check.specs.declared.checking.CheckFault.TheVariants as fault
 use Rattle.dh_check.specs.Ready.{of_pass, TellsBreach, TellsShapes}
@@ -24,9 +25,10 @@ no_excess None h = refl
 no_excess (Some first) h = absurd h
 
 -- the first of these passes refuses
-pub shapes_refused : (p : Program) (e : PassFault) → MayTellLeast {A = Unit {0}} (shapes_breaches_of p) (Err e) → TellsShapes {A = Unit {0}} p (Err (of_pass e))
-shapes_refused p (pass.Refused rule place) h = inl h
-shapes_refused p pass.NoMemory h = tt
+pub shapes_refused : (p : Program) (e : PassFault) → MayTellLeast {A = Unit {0}} (shapes_breaches_of p) (Err e) → WantsForViews {A = Unit {0}} p (Err e)
+    → TellsShapes {A = Unit {0}} p (Err (of_pass e))
+shapes_refused p (pass.Refused rule place) h wanted = inl h
+shapes_refused p pass.NoMemory h wanted = wanted
 
 -- the second
 pub limits_refused : (p : Program) (x : Excess) → shapes_breaches_of p ≡ [] → TellsExcess {A = Unit {0}} (first_excess p) (Err x) → TellsShapes {A = Unit {0}} p (Err (fault.TooLarge x.limit x.count))

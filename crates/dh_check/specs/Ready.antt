@@ -13,6 +13,7 @@ use Rattle.dh_tree.specs.Placements.{placement_breaches}
 use Rattle.dh_tree.specs.Ready.{IsReady}
 use Rattle.dh_tree.specs.Seen.{program_seen}
 use Rattle.dh_tree.specs.ViewBreaches.{shapes_breaches_of}
+use Rattle.dh_views.specs.Wanting.{DeclaresViews}
 use Rattle.dh_check.specs.Verdicts.{Verdict, FaultTells, JudgedLast, JudgedTyped, JudgedTree, IsVerdict}
 use Rattle.dh_check.specs.declared.checking.CheckFault.{CheckFault}
 use Rattle.dh_check.specs.declared.checking.CheckFault.TheVariants as fault
@@ -42,12 +43,13 @@ pub record BreaksPlaces (p : Program) (b : Breach) : Type 0 where
   pub limits : first_excess p ≡ None
   pub least : IsLeast (placement_breaches p) b
 
--- the rules on shapes, indices, bounds and views, then the limits on memories, then the rules on places
+-- the rules on shapes, indices, bounds and views, then the limits on memories, then the rules on places; memory
+-- is wanted by a program that declares a view alone
 abbrev pub TellsShapes : {A : Type 0} → Program → Result A CheckFault → Type 0
 TellsShapes p (Ok a) = (shapes_breaches_of p ≡ []) × ((first_excess p ≡ None) × (placement_breaches p ≡ []))
 TellsShapes p (Err (fault.Refused rule place)) = IsLeast (shapes_breaches_of p) (breach rule place) ⊎ BreaksPlaces p (breach rule place)
 TellsShapes p (Err (fault.TooLarge limit count)) = (shapes_breaches_of p ≡ []) × (first_excess p ≡ Some (record { limit = limit; count = count }))
-TellsShapes p (Err fault.NoMemory) = Unit {0}
+TellsShapes p (Err fault.NoMemory) = DeclaresViews p
 
 -- of a program whose names are resolved: kinds, shapes, limits and places
 abbrev pub TellsNamed : Program → Result Typed CheckFault → Type 0

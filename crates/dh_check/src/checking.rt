@@ -199,7 +199,7 @@ fn ready_named(alloc: Global, named: Named) -> Result<Typed, CheckFault>
 }
 
 /// The rules on shapes, indices, bounds and views, then the limits on memories, then the rules on where
-/// memories stand and what is assigned to. Takes memory only where there are views.
+/// memories stand and what is assigned to. Takes memory only where a view is declared.
 fn shaped(alloc: Global, typed: &Typed) -> Result<(), CheckFault>
     ensures { TellsShapes (program_seen typed.now) result }
 {

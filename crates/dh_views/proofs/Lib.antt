@@ -1,3 +1,4 @@
 pub mod KeptIndices
 pub mod Lookups
 pub mod Turns
+pub mod DeclaredViews

@@ -1,3 +1,4 @@
 pub mod Kept
 pub mod Walked
 pub mod Through
+pub mod Wanting

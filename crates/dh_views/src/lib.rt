@@ -5,6 +5,7 @@
 
 mod accesses;
 mod declared;
+mod declaring;
 mod keeping;
 mod through;
 mod walks;

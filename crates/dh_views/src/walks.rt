@@ -1,15 +1,17 @@
 //! The walk over a program.
 
-ghost use Rattle.std.specs.Prelude.{◌≡◌, None, IfOk, OnOk};
+ghost use Rattle.std.specs.Prelude.{◌≡◌, OnOk};
 ghost use Rattle.dh_tree.specs.LeastBreach.{least_of};
 ghost use Rattle.dh_tree.specs.Seen.{action_form_seen, program_seen};
 ghost use Rattle.dh_tree.specs.Told.{MayTellLeast};
 ghost use Rattle.dh_tree.specs.ViewBreaches.{shapes_breaches_of, view_breaches_of};
 ghost use Rattle.dh_views.specs.Kept.{loop_breaches};
+ghost use Rattle.dh_views.specs.Wanting.{FindsBreach, KeepsViews, WantsForViews};
 ghost use Rattle.dh_views.specs.Walked.{term_broken, terms_broken, maybe_broken, command_broken, other_broken, parts_broken};
 
 use crate::accesses::{keep_access, keep_physical};
 use crate::declared::{keep_decls, keep_shape};
+use crate::declaring::declares;
 use crate::keeping::keep_if;
 use crate::through::keep_viewed_command;
 use dh_base::{NoMemory, PassFault, Rule};
@@ -169,7 +171,7 @@ fn keep_groups(typed: &Typed, kept: &mut Option<Breach>, parts: &[Vec<Command>])
 }
 
 /// Those of the rules on views.
-fn keep_views(alloc: Global, typed: &Typed, kept: &mut Option<Breach>) -> Result<(), NoMemory>
+fn keep_declared(alloc: Global, typed: &Typed, kept: &mut Option<Breach>) -> Result<(), NoMemory>
     ensures { OnOk result (kept.new ≡ least_of kept.old (view_breaches_of (program_seen typed.now))) }
 {
     let tree = typed.tree();
@@ -185,10 +187,22 @@ fn keep_views(alloc: Global, typed: &Typed, kept: &mut Option<Breach>) -> Result
     }
 }
 
+/// Those of the rules on views, where a view is declared.
+fn keep_views(alloc: Global, typed: &Typed, kept: &mut Option<Breach>) -> Result<(), NoMemory>
+    ensures { KeepsViews (program_seen typed.now) kept.old kept.new result }
+{
+    let tree = typed.tree();
+    if declares(&tree.body) {
+        keep_declared(alloc, typed, kept)
+    } else {
+        Ok(())
+    }
+}
+
 /// The first breach of a program, if there is one.
 #[tactic(auto, using(dh_tree::proofs::Leasts::least_append))]
 fn first_breach(alloc: Global, typed: &Typed) -> Result<Option<Breach>, NoMemory>
-    ensures { IfOk result (λ b. b ≡ least_of None (shapes_breaches_of (program_seen typed.now))) }
+    ensures { FindsBreach (program_seen typed.now) result }
 {
     let tree = typed.tree();
     let mut kept = None;
@@ -200,14 +214,15 @@ fn first_breach(alloc: Global, typed: &Typed) -> Result<Option<Breach>, NoMemory
 
 /// Tells whether the sizes, banks, indices, bounds and views of a program keep the rules on shapes. Its time
 /// is linear in the source, but for accesses to a bank, each of which costs as much as its memory has
-/// dimensions. Takes memory only where there are views.
+/// dimensions.
 ///
 /// # Errors
 ///
 /// `Refused` with the breach of `BankDivides`, `UnrollDivides`, `BankUnroll`, `DynamicBank`,
-/// `ConstantRange` or `ViewFactor` that stands first; or `NoMemory`, of which no clause tells when it comes.
+/// `ConstantRange` or `ViewFactor` that stands first; or `NoMemory`, of a program that declares a view alone.
 pub fn shapes(alloc: Global, typed: &Typed) -> Result<(), PassFault>
-    ensures { MayTellLeast (shapes_breaches_of (program_seen typed.now)) result }
+    ensures breach { MayTellLeast (shapes_breaches_of (program_seen typed.now)) result }
+    ensures memory { WantsForViews (program_seen typed.now) result }
 {
     let Ok(first) = first_breach(alloc, typed) else {
         return Err(PassFault::NoMemory);
