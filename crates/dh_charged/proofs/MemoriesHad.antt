@@ -15,9 +15,11 @@ use Rattle.dh_meaning.specs.CoreOf.{entity_number}
 use Rattle.dh_meaning.specs.Paths.{Path}
 use Rattle.dh_meets.specs.Charges.{bank_reached, indices_in}
 use Rattle.dh_meets.specs.SourceEvents.{Element, with_indices, in_row, SourceAccess, accesses_in, trace}
+use Rattle.dh_ways.proofs.NoWays.{no_way_to}
 use Rattle.dh_sound.specs.BlockTold.{IsOfMemory}
 use Rattle.dh_sound.proofs.BanksReached.{declared_dims, numbered}
 use Rattle.dh_sound.proofs.IndicesKeep.{BankLies, access_keeps}
+use Rattle.dh_sound.proofs.OwnMemories.{itself}
 use Rattle.dh_sound.proofs.PortsKept.{typed_program}
 use Rattle.dh_sound.proofs.SortsOfPrograms.{accesses_declared}
 use Rattle.dh_expressions.proofs.ListPlaces.{place_within}
@@ -48,7 +50,8 @@ module _ (p : Program) (ready : IsReady p) (few : length (table_of p) ≤ 2 ^ 32
   of_small : (a : SourceAccess) (k : ℕ) → slice_get (accesses_in (trace p)) k ≡ Some a → IsOfMemory p a → IsOfSmallMemory p a
   of_small a k at m =
       let place = numbered (memories_of p) (Some m.entity) m.memory m.declared in
-      let here : memory_in (memories_of p) a.entity ≡ Some m.memory = subst (λ (o : Option ℕ). memory_in (memories_of p) o ≡ Some m.memory) (sym m.is) m.declared in
+      let own : a.entity ≡ Some m.entity = itself p a.entity m.entity (no_way_to p ready.built a.entity) m.is in
+      let here : memory_in (memories_of p) a.entity ≡ Some m.memory = subst (λ (o : Option ℕ). memory_in (memories_of p) o ≡ Some m.memory) (sym own) m.declared in
       let keeps = access_keeps p ready.indices ready.views k a at m.memory here in
       let small : banks_of m.memory.shape.dims ≤ 2 ^ 32 =
       subst (λ (ds : List Dim). banks_of ds ≤ 2 ^ 32) (declared_dims (memories_of p) (Some m.entity) m.memory m.declared) (banks (entity_number (number_in (memories_of p) (Some m.entity))))
@@ -57,7 +60,7 @@ module _ (p : Program) (ready : IsReady p) (few : length (table_of p) ≤ 2 ^ 32
         entity = m.entity;
         memory = m.memory;
         number = place.0;
-        is = m.is;
+        is = own;
         declared = m.declared;
         number_is = place.1.0;
         small = below place.0 (length (table_of p)) (place_within (table_of p) place.0 (entry_of m.memory) place.1.1) few;

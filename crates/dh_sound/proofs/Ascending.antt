@@ -10,7 +10,7 @@ use Rattle.dh_meaning.specs.Core.{Reach, CoreTerm, CoreCommand, choose, CoreComm
 use Rattle.dh_meaning.specs.CoreOf.{Known, entity_number, depth_of, kind_of, assigned, first_value, core_term, core_terms, store_to, folded_into, core_action, core_action_form, core_other, core_part, core_groups, core_commands, reach_of, memory_of}
 use Rattle.dh_meaning.specs.CoreOf as meaning
 use Rattle.dh_value.specs.Words as words
-use Rattle.dh_meaning.specs.Effects.{Begun, Variables, Event, reads, writes, faults, read_made, write_made, kept_bits, term_events, terms_events, spot_by_indices, spot_by_row, values_of, value_of, holds_at}
+use Rattle.dh_meaning.specs.Effects.{Begun, Variables, Event, reads, writes, faults, read_made, write_made, kept_bits, term_events, terms_events, spot_by_row, value_of, holds_at}
 use Rattle.dh_meaning.specs.OnePhase.{in_one_phase}
 use Rattle.dh_meaning.specs.Paths.{Path}
 use Rattle.dh_meaning.specs.Phases.{Located}
@@ -22,7 +22,7 @@ use Rattle.dh_sound.proofs.OnePath.{left_by, made_by, all_made_by}
 use Rattle.dh_sound.proofs.BlockWalks.{located_counted}
 use Rattle.dh_sound.proofs.TermWalks.{operation_events}
 use Rattle.dh_sound.specs.Trails.{count, of_located, Follows}
-use Rattle.dh_ways.proofs.TargetsOnWays.{target_is, target_makes}
+use Rattle.dh_ways.proofs.TargetsOnWays.{target_makes}
 use Rattle.dh_tree.specs.Seen.{terms}
 use Rattle.dh_tree.specs.ViewOffsets.{offsets_of}
 use Rattle.dh_meaning.specs.Core.{keep}

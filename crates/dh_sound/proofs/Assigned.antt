@@ -1,16 +1,15 @@
 -- Commands leave a variable as it was at every path, if they do not assign to it. By induction over commands: a
 -- store and a test change no variable, an assignment another one; an `if` is its test, then its arms, each at
 -- some of the paths.
-use Rattle.std.proofs.Common.{◌≡◌, ℕ, ◌==◌, ◌&&◌, ◌||◌, Bool, true, false, if◌then◌else◌, List, [], ◌∷◌, refl, ◌∙◌, ap, suc, ◌+◌, nat_le, nat_lt, length, sym, subst, arith}
+use Rattle.std.proofs.Common.{◌≡◌, ℕ, ◌==◌, ◌&&◌, ◌||◌, Bool, true, false, if◌then◌else◌, List, [], ◌∷◌, refl, ◌∙◌, ap, ◌+◌, nat_le, nat_lt}
 use Rattle.std.specs.Prelude.{take, ℤ}
 use Rattle.dh_value.specs.Words as words
 use Rattle.dh_meaning.specs.Paths.{Path, same_path}
 use Rattle.dh_meaning.specs.Core.{Reach, CoreTerm, Target, CoreCommand, store, assign, choose, CoreCommands, no_commands, command_and}
 use Rattle.dh_meaning.specs.Effects.{Begun, Variables, set_variable, Effect, at_each, stored_at, assigned_at, tested_at, paths_where, holds_at, value_of, command_run, commands_run}
 use Rattle.dh_meaning.specs.Levels.{assigns_to, any_assigns}
-use Rattle.dh_meaning.specs.Core.{CoreTerms, no_terms, term_and, count_terms, keep}
-use Rattle.dh_meaning.specs.Effects.{kept_at, set_from, values_of}
-use Rattle.std.proofs.lemmas.Bool.Decides.{nat_tests}
+use Rattle.dh_meaning.specs.Core.{CoreTerms, count_terms, keep}
+use Rattle.dh_meaning.specs.Effects.{kept_at}
 use Rattle.dh_ways.proofs.KeptVariables.{others_kept}
 
 neither : (a b : Bool) → (a || b) ≡ false → (a ≡ false) × (b ≡ false)

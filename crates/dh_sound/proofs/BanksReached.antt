@@ -29,16 +29,17 @@ use Rattle.dh_tree.specs.Memories.{Memory, memories_of, memory_in, number_in, ta
 use Rattle.dh_tree.specs.PlainTrees.{term, TermForm, number, truth_value, named, accessed, in_bank, applied, converted, Terms, no_terms, term_then, Program}
 use Rattle.dh_tree.specs.Shapes.{IsDim}
 use Rattle.dh_meaning.specs.AccessNumbers.{term_accesses}
-use Rattle.dh_meaning.specs.Core.{Reach}
-use Rattle.dh_meaning.specs.CoreOf.{Known, known_of, entity_number, core_term, core_terms}
+use Rattle.dh_meaning.specs.Core.{Reach, Target, by_indices, by_row}
+use Rattle.dh_meaning.specs.CoreOf.{Known, known_of, dims_by, entity_number, core_term, core_terms}
 use Rattle.dh_meaning.specs.Effects.{Begun, Variables, is_inside, is_row, spot_by_indices, spot_by_row, value_of, values_of, spot_reached}
 use Rattle.dh_meaning.specs.Paths.{Path}
 use Rattle.dh_meets.specs.Charges.{level_of_loop, index_in, indices_in, bank_reached, reaches_in}
 use Rattle.dh_meets.specs.SourceEvents.{Element, with_indices, in_row, SourceAccess}
-use Rattle.dh_sound.specs.IndexValues.{AllHaveIndexKinds, copy_at, AllInTurn, IsUnrolled, IsIndexValue, HasCopy, target_of, HasElementKinds, ElementInTurn, element_breaches, IsAccess, IsReached}
+use Rattle.dh_sound.specs.IndexValues.{AllHaveIndexKinds, copy_at, AllInTurn, IsUnrolled, IsIndexValue, HasCopy, HasElementKinds, ElementInTurn, element_breaches, IsAccess, IsReached}
 use Rattle.dh_sound.proofs.ValuesOfIndices.{index_value}
 use Rattle.dh_meets.specs.Charges.{reaches_by}
-use Rattle.dh_ways.proofs.NoWays.{memory_unled}
+use Rattle.dh_meaning.specs.Ways.{Way, base_of, way_to}
+use Rattle.dh_sound.proofs.OwnMemories.{itself}
 
 -- One dimension.
 
@@ -280,10 +281,15 @@ abbrev element_reached : List Counter → (loops : List Counter) → List Dim �
 element_reached cs loops dims path (with_indices indices) = bank_of dims (indices_in cs loops path indices)
 element_reached cs loops dims path (in_row bank row) = bank
 
+-- what an element of a memory is known by
+abbrev pub own_target : Known → (n : ℕ) → Element → Target
+own_target known n (with_indices indices) = by_indices (core_terms known n indices)
+own_target known n (in_row bank row) = by_row bank (core_term known n row)
+
 -- where an element lies, in dimensions that are those of its memory
 element_bank : (b : Begun) (v : Variables) (path : Path) (known : Known) (cs loops : List Counter) (n : ℕ) (r : Reach) (element : Element) (dims : List Dim) (s : Spot)
     → AllByRecursion HasCopy cs → dims_at b.table r.memory ≡ dims → AllByRecursion IsDim dims → HasElementKinds cs element → ElementInTurn known cs loops path v element → element_breaches cs dims element ≡ []
-    → spot_reached b v path r (target_of known n element) ≡ Some s
+    → spot_reached b v path r (own_target known n element) ≡ Some s
     → (s.memory ≡ r.memory) × (s.bank ≡ element_reached cs loops dims path element)
 element_bank b v path known cs loops n r (with_indices indices) dims s copies is h k t e f =
     let there = spot_indices b.table r.memory (values_of b v path (core_terms known n indices)) s f in
@@ -294,15 +300,20 @@ reached_is : (cs : List Counter) (dims : List Dim) (a : SourceAccess) (path : Pa
 reached_is cs dims a path (with_indices indices) = refl
 reached_is cs dims a path (in_row bank row) = refl
 
--- the element that an access reaches lies in a bank that the rules take it to reach at its path
-pub access_reaches : (p : Program) (b : Begun) (path : Path) (v : Variables) (a : SourceAccess) (n : ℕ) (r : Reach) (s : Spot) (h : IsAccess p b path v a n r) → spot_reached b v path r (target_of (known_of p) n a.element) ≡ Some s → IsReached p a path h.entity r s
-access_reaches p b path v a n r s h f =
-    let declared : memory_in (memories_of p) a.entity ≡ Some h.memory = ap (memory_in (memories_of p)) h.is ∙ h.declared in
+-- the element of a memory that an access reaches lies in a bank that the rules take it to reach at its path
+pub itself_reaches : (p : Program) (b : Begun) (path : Path) (v : Variables) (a : SourceAccess) (n : ℕ) (r : Reach) (s : Spot) (h : IsAccess p b path v a n r) → way_to p a.entity ≡ None
+    → spot_reached b v path r (own_target (known_of p) n a.element) ≡ Some s → IsReached p a path h.entity r s
+itself_reaches p b path v a n r s h none f =
+    let is : a.entity ≡ Some h.entity = itself p a.entity h.entity none h.is in
+    let declared : memory_in (memories_of p) a.entity ≡ Some h.memory = ap (memory_in (memories_of p)) is ∙ h.declared in
+    let number : r.memory ≡ entity_number (number_in (memories_of p) a.entity) = h.number ∙ ap (λ o. entity_number (number_in (memories_of p) (base_of o a.entity))) none in
     let dims : dims_at b.table r.memory ≡ h.memory.shape.dims =
-    ap (λ t. dims_at t r.memory) h.table ∙ (ap (dims_at (table_of p)) h.number ∙ declared_dims (memories_of p) a.entity h.memory declared) in
-    let there = element_bank b v path (known_of p) (counters_of p) a.site.loops n r a.element h.memory.shape.dims s h.factors dims h.dims h.kinds h.turns h.keeps f in
+    ap (λ t. dims_at t r.memory) h.table ∙ (ap (dims_at (table_of p)) number ∙ declared_dims (memories_of p) a.entity h.memory declared) in
+    let own : AllByRecursion IsDim h.memory.shape.dims = subst (λ (o : Option Way). AllByRecursion IsDim (dims_by h.memory.shape.dims o)) none h.dims in
+    let keeps : element_breaches (counters_of p) h.memory.shape.dims a.element ≡ [] = subst (λ (o : Option Way). element_breaches (counters_of p) (dims_by h.memory.shape.dims o) a.element ≡ []) none h.keeps in
+    let there = element_bank b v path (known_of p) (counters_of p) a.site.loops n r a.element h.memory.shape.dims s h.factors dims own h.kinds h.turns keeps f in
     let bank : s.bank ≡ bank_reached (counters_of p) h.memory.shape.dims a path a.element = there.1 ∙ reached_is (counters_of p) h.memory.shape.dims a path a.element in
-    let same : same_entity a.entity (Some h.entity) ≡ true = ap (λ o. same_entity o (Some h.entity)) h.is ∙ eq-eqb h.entity h.entity refl in
+    let same : same_entity a.entity (Some h.entity) ≡ true = ap (λ o. same_entity o (Some h.entity)) is ∙ eq-eqb h.entity h.entity refl in
     let at : reaches_in (counters_of p) (memory_in (memories_of p) (Some h.entity)) a path s.bank ≡ true =
     ap (λ o. reaches_in (counters_of p) o a path s.bank) h.declared ∙ eq-eqb _ _ (sym bank) in
-    record { memory = there.0; bank = ap (λ w. reaches_by p w a path h.entity s.bank) (memory_unled p a.entity h.memory declared) ∙ (ap (λ x. x && reaches_in (counters_of p) (memory_in (memories_of p) (Some h.entity)) a path s.bank) same ∙ at) }
+    record { memory = there.0; bank = ap (λ w. reaches_by p w a path h.entity s.bank) none ∙ (ap (λ x. x && reaches_in (counters_of p) (memory_in (memories_of p) (Some h.entity)) a path s.bank) same ∙ at) }

@@ -14,20 +14,22 @@ use Rattle.dh_meaning.specs.Phases.{Located, Phase, straight, turns, repeated, d
 use Rattle.dh_meaning.specs.Sites.{nothing_around}
 use Rattle.dh_meets.specs.Charges.{factors_of}
 use Rattle.dh_meets.specs.SourceEvents.{trace}
-use Rattle.dh_sound.specs.AssignsInside.{AssignsInside}
+use Rattle.dh_sound.specs.AssignsInside.{AllInside, AssignsInside}
 use Rattle.dh_sound.specs.Blocks.{factors, StandsIn, StandsInPhase}
 use Rattle.dh_sound.specs.LoopsMatch.{unrolled, EachMatches}
 use Rattle.dh_sound.specs.NamesInScope.{IsScoped}
-use Rattle.dh_sound.specs.Trails.{Follows}
+use Rattle.dh_sound.specs.Trails.{StandsBehind}
+use Rattle.dh_sound.specs.ViewTrails.{FollowsViews, StandsViews}
 use Rattle.dh_sound.specs.PhaseFacts.{HasStraightIn, HaveStraight, HasStraight, HasTestIn, HaveTest, HasTest}
-use Rattle.dh_sound.proofs.AssignsInside.{AllInside, IsSplit, PhaseSplit, AreSplit, ListSplit, phases_split, phases_inside}
-use Rattle.dh_sound.proofs.BlocksOfPhases.{straight_along, tested_along, own_around, phases_follow}
+use Rattle.dh_sound.proofs.AssignsInside.{IsSplit, PhaseSplit, AreSplit, ListSplit, phases_split, phases_inside}
+use Rattle.dh_sound.proofs.BlocksOfPhases.{straight_by, tested_along, own_around}
 use Rattle.dh_sound.proofs.DepthsNamed.{inside_count}
-use Rattle.dh_sound.proofs.Folds.{makes_more, follows_less}
-use Rattle.dh_sound.proofs.LoopsMatch.{unrolled_both, match_factors, EachInside, IsInside, AreInside, ListInside, action_inside, same_loops, StraightMatches, TestMatches}
+use Rattle.dh_sound.proofs.Folds.{makes_more, less_by}
+use Rattle.dh_sound.proofs.LoopsMatch.{unrolled_both, match_factors, EachInside, IsInside, AreInside, ListInside, action_inside, loops_by, StraightMatches, TestMatches}
 use Rattle.dh_sound.proofs.NamedPrograms.{ready_named}
 use Rattle.dh_sound.proofs.NamesInScope.{EachScoped, PhaseScoped, PhasesScoped, ListScoped, action_scoped, body_scoped, any_named, test_named, StraightNames, TestNames}
-use Rattle.dh_sound.proofs.Trails.{Tops}
+use Rattle.dh_sound.proofs.Trails.{Tops, TopsBy, follows_plain, phases_stand, tops_so}
+use Rattle.dh_sound.proofs.ViewsBefore.{stands_behind}
 
 module _ (known : Known) where
   -- What is found of a block in loops: the straight commands or the command with the test that it is made of, and what
@@ -103,11 +105,12 @@ module _ (known : Known) where
       found_more (HasStraight ps) (HasStraight (p ∷ ps)) (HasTest ps) (HasTest (p ∷ ps)) loops b (λ cs g. inr g) (λ c g. inr g) (find_listed ps round loops b i.1 n.1 d.1 s)
 
 -- A block is that of straight commands, whose loops match those round it, whose indices name only what is in scope there,
--- and which assign to what is declared inside, but for reducers behind them.
+-- which assign to what is declared inside, but for reducers behind them, and which stand behind their views.
 pub record StraightFound (p : Program) (loops : List Turning) (block : Block) : Type 0 where
   pub matches : StraightMatches p loops block
   pub names : StraightNames p loops matches.of.done
   pub inside : AllInside (known_of p) (length (factors loops)) matches.of.done
+  pub views : FollowsViews p matches.of.round [] (trace p) matches.of.done
 
 -- A block is that of a test, whose loops match those round it, and whose indices name only what is in scope there.
 pub record TestFound (p : Program) (loops : List Turning) (block : Block) : Type 0 where
@@ -121,13 +124,19 @@ block_found p r inside loops block s =
     by (find_listed (known_of p) (phases_of p) [] loops block (action_inside (known_of p) nothing_around [] 0 p.body (ready_named p r) tt)
     (action_scoped (known_of p) nothing_around [] 0 p.body (body_scoped p r)) (phases_inside (known_of p) p.body 0 nothing_around 0 inside) s)
   where
-    tops : Tops nothing_around [] (trace p) (phases_of p)
-    tops = phases_follow p r.of_text.first r.of_text.numbered (ready_named p r)
+    tops : TopsBy (λ round es c. StandsViews p round es c) nothing_around [] (trace p) (phases_of p)
+    tops = phases_stand p r.of_text.first r.of_text.numbered (ready_named p r) (stands_behind p r)
+
+    plain : Tops nothing_around [] (trace p) (phases_of p)
+    plain = tops_so (λ round es c. StandsViews p round es c) (λ round es c. StandsBehind round es c) (λ round es c s. s.stands) nothing_around [] (trace p) (phases_of p) tops
 
     by : Found (known_of p) (HasStraight (phases_of p)) (HasTest (phases_of p)) loops block → StraightFound p loops block ⊎ TestFound p loops block
     by (inl (cs, (is, (has, (matched, (names, split)))))) =
-        let w = same_loops (known_of p) [] (trace p) (unrolled loops) cs (straight_along [] (trace p) nothing_around (phases_of p) cs tops has) matched in
+        let w = loops_by (known_of p) (λ round es c. StandsViews p round es c) (λ round es c x. x.stands.around) [] (trace p) (unrolled loops) cs
+        (straight_by (λ round es c. StandsViews p round es c) [] (trace p) nothing_around (phases_of p) cs tops has) matched in
         let same : factors loops ≡ factors_of w.0.loops = match_factors (known_of p) loops w.0.loops w.1.1 in
+        let views : FollowsViews p w.0 [] (trace p) split.done =
+        less_by (λ round es c. StandsViews p round es c) w.0 [] (trace p) split.done split.folds (subst (λ (x : List Located). FollowsViews p w.0 [] (trace p) x) split.is w.1.0) in
         inl (record {
           matches = record {
             of = record {
@@ -137,7 +146,7 @@ block_found p r inside loops block s =
               is = is ∙ ap (λ (x : List Located). commands (core_commands (known_of p) x)) split.is;
               has = subst (λ (x : List Located). HasStraight (phases_of p) x) split.is has;
               round = w.0;
-              follows = follows_less w.0 [] (trace p) split.done split.folds (subst (λ (x : List Located). Follows w.0 [] (trace p) x) split.is w.1.0);
+              follows = follows_plain p w.0 [] (trace p) split.done views;
               inside = same;
               paths = ap paths_in same;
             };
@@ -145,9 +154,10 @@ block_found p r inside loops block s =
           };
           names = λ k a m g. any_named p r loops k a g cs cs has (λ c h. h) names (subst (λ (x : List Located). any_makes k x ≡ true) (sym split.is) (makes_more k split.done split.folds m));
           inside = split.inside;
+          views = views;
         })
     by (inr (c, (is, (has, (matched, names))))) =
-        let f = own_around [] (trace p) c (tested_along [] (trace p) nothing_around (phases_of p) c tops has) in
+        let f = own_around [] (trace p) c (tested_along [] (trace p) nothing_around (phases_of p) c plain has) in
         let same : factors loops ≡ factors_of c.around.loops = match_factors (known_of p) loops c.around.loops matched in
         inr (record {
           matches = record { of = record { tested = c; is = is; has = has; follows = f; inside = same; paths = ap paths_in same }; loops_match = matched };

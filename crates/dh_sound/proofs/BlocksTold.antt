@@ -153,6 +153,8 @@ module _ (p : Program) (ready : IsReady p) (typed : IsTypedProgram p) (loops : L
     straight_told : StraightTold p loops block
     straight_told = record {
       of = f.matches.of;
+      views = f.views;
+      inside = f.inside;
       deep = as_deep (known_of p) (length (factors loops)) done (commands_deep (known_of p) (length (factors loops)) f.matches.of.done f.inside);
       indices = λ v turns. record {
         names = λ k a path other m e h g.
@@ -161,6 +163,10 @@ module _ (p : Program) (ready : IsReady p) (typed : IsTypedProgram p) (loops : L
             a.element (f.names k a m e);
         turns = λ k a path w m e h near.
             straight_access p ready loops block stands f.matches spared v w path turns near (as_path path (paths_inside loops) h) a (round_same k a m e) (loops_round p typed k a e);
+        inside = λ e path t h.
+            let long = inside_long loops path (as_path path (paths_inside loops) h) in
+            let deep = touched_inside e t in
+            omega (arith, long, deep);
       };
     }
 
@@ -180,6 +186,7 @@ module _ (p : Program) (ready : IsReady p) (typed : IsTypedProgram p) (loops : L
             a.element (f.names k a m e);
         turns = λ k a path w m e h near.
             test_access p ready loops block stands f.matches v w path turns near (as_path path (paths_inside loops) h) a (test_round k a m e) (loops_round p typed k a e);
+        inside = λ e path t h. absurd cc;
       };
     }
 

@@ -24,7 +24,7 @@ use Rattle.dh_meaning.specs.Phases.{Located}
 use Rattle.dh_meaning.specs.Sites.{Around}
 use Rattle.dh_meets.specs.SourceEvents.{SourceEvent}
 use Rattle.dh_sound.specs.SimpleForms.{IsVariable, IsFoldForm, IsFold, AreFolds}
-use Rattle.dh_sound.specs.Trails.{of_located, Follows}
+use Rattle.dh_sound.specs.Trails.{of_located, Follows, FollowsBy, StandsBehind}
 use Rattle.dh_tree.specs.Seen.{terms}
 use Rattle.dh_tree.specs.ViewOffsets.{offsets_of}
 use Rattle.dh_meaning.specs.Ways.{Hidden, hidden_in}
@@ -248,7 +248,10 @@ makes_less k (c ∷ cs) folds h e = by (makes k c.first c.command) e (makes_less
     by true f more = refl
     by false f more = more f
 
--- the commands in front stand along the trace
+-- the commands in front stand along the trace, whatever is asked of each
+pub less_by : (S : Around → List SourceEvent → Located → Type 0) (r : Around) (before part : List SourceEvent) (cs folds : List Located) → FollowsBy S r before part (cs ++ folds) → FollowsBy S r before part cs
+less_by S r before part [] folds f = tt
+less_by S r before part (c ∷ cs) folds (gap, (rest, (is, (stands, more)))) = (gap, (rest, (is, (stands, less_by S r ((before ++ gap) ++ of_located c) rest cs folds more))))
+
 pub follows_less : (r : Around) (before part : List SourceEvent) (cs folds : List Located) → Follows r before part (cs ++ folds) → Follows r before part cs
-follows_less r before part [] folds f = tt
-follows_less r before part (c ∷ cs) folds (gap, (rest, (is, (stands, more)))) = (gap, (rest, (is, (stands, follows_less r ((before ++ gap) ++ of_located c) rest cs folds more))))
+follows_less r before part cs folds f = less_by (λ round es c. StandsBehind round es c) r before part cs folds f

@@ -102,11 +102,15 @@ found_keeps (x ∷ ms) entity m h e = by (same_entity x.name.entity entity) e (f
     by false f r = r f
 
 -- each memory of a program keeps the rules on shapes
-memory_keeps : (p : Program) (entity : Option ℕ) (m : Memory) → index_breaches_of p ≡ [] → memory_in (memories_of p) entity ≡ Some m → shape_keeps m.shape ≡ true
+pub memory_keeps : (p : Program) (entity : Option ℕ) (m : Memory) → index_breaches_of p ≡ [] → memory_in (memories_of p) entity ≡ Some m → shape_keeps m.shape ≡ true
 memory_keeps p entity m e f =
     found_keeps (memories_of p) entity m
     (both_all Keeps (map outside_memory p.decls) (locals p.body) (decls_keep p.decls (first_none (decls_shape_breaches p.decls) _ e))
     (locals_keep (known_of p) p.body (second_none (decls_shape_breaches p.decls) _ e))) f
+
+-- and so its dimensions are
+pub memory_dims : (p : Program) (entity : Option ℕ) (m : Memory) → index_breaches_of p ≡ [] → memory_in (memories_of p) entity ≡ Some m → AllByRecursion IsDim m.shape.dims
+memory_dims p entity m e f = dims_are m.shape.dims (both_true (not (m.shape.ports == 0)) (dims_keep m.shape.dims) (memory_keeps p entity m e f)).1
 
 -- Accesses.
 

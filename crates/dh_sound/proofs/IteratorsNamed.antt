@@ -4,6 +4,7 @@
 -- the body, with the point of the text that stands before each command.
 use Rattle.std.proofs.Common.{◌≡◌, ℕ, ◌<◌, ◌≤◌, ◌||◌, Bool, true, false, if◌then◌else◌, List, [], ◌∷◌, ◌++◌, length, Option, Some, None, refl, sym, ◌∙◌, ap, subst, arith, length-append}
 use Rattle.std.specs.Prelude.{slice_get}
+use Rattle.std.specs.List.{AllByRecursion}
 use Rattle.std.specs.Option.{is_some}
 use Rattle.std.proofs.lemmas.List.{append_assoc, append-nil}
 use Rattle.dh_base.specs.declared.places.Place.{Place}
@@ -30,10 +31,10 @@ pub record GoesOn (es fs : List Entity) : Type 0 where
   pub more : List Entity
   pub is : fs ≡ es ++ more
 
-same_on : (es : List Entity) → GoesOn es es
+pub same_on : (es : List Entity) → GoesOn es es
 same_on es = record { more = []; is = sym (append-nil es) }
 
-then_on : (es fs gs : List Entity) → GoesOn es fs → GoesOn fs gs → GoesOn es gs
+pub then_on : (es fs gs : List Entity) → GoesOn es fs → GoesOn fs gs → GoesOn es gs
 then_on es fs gs a b = record { more = a.more ++ b.more; is = b.is ∙ (ap (λ x. x ++ b.more) a.is ∙ append_assoc es a.more b.more) }
 
 pub on_long : (es fs : List Entity) → GoesOn es fs → length es ≤ length fs
@@ -92,7 +93,7 @@ mutual
   groups_on (group_then g rest) s = then_on _ _ _ (part_on g s) (groups_on rest (actions_at_end s g))
 
 -- the first entity behind a list
-at_next : (es : List Entity) (e : Entity) (more : List Entity) → slice_get ((es ++ e ∷ []) ++ more) (length es) ≡ Some e
+pub at_next : (es : List Entity) (e : Entity) (more : List Entity) → slice_get ((es ++ e ∷ []) ++ more) (length es) ≡ Some e
 at_next [] e more = refl
 at_next (x ∷ es) e more = at_next es e more
 
@@ -164,18 +165,25 @@ module _ (es : List Entity) where
       (let n = length-append s.entities (entity r Iterator ∷ []) in omega (arith, n))
       (ap entity_iterates (ap (λ x. slice_get x (length s.entities)) on.is ∙ at_next s.entities (entity r Iterator) on.more)))
 
+  round_below : (n : ℕ) (is : List ℕ) → n ≤ length es → AreRound n is → AllByRecursion (λ i. i < length es) is
+  round_below n [] l r = tt
+  round_below n (i ∷ is) l r = (let below = r.0.0 in omega (arith, l, below), round_below n is l r.1)
+
   mutual
     leaves : (a : Action) (s : Scope) (c : Context) (is : List ℕ) → resolved_action s a ≡ a → breaches s a ≡ [] → action_placement_breaches es c a ≡ []
-        → FoldsElsewhere es a → GoesOn (at_end s a).entities es → AreRound (length s.entities) is → Leaves is a
+        → FoldsElsewhere es a → GoesOn (at_end s a).entities es → AreRound (length s.entities) is → Leaves (length es) is a
     leaves (action id place form) s c is e n p f on round =
         let same : resolved_form s form ≡ form = cc in form_leaves form s c place is same n p f on round
 
     form_leaves : (form : ActionForm) (s : Scope) (c : Context) (place : Place) (is : List ℕ) → resolved_form s form ≡ form → form_breaches s form ≡ []
-        → form_placement_breaches es c place form ≡ [] → FormFoldsElsewhere es form → GoesOn (form_at_end s form).entities es → AreRound (length s.entities) is → FormLeaves is form
+        → form_placement_breaches es c place form ≡ [] → FormFoldsElsewhere es form → GoesOn (form_at_end s form).entities es → AreRound (length s.entities) is → FormLeaves (length es) is form
     form_leaves (lets name declared value) s c place is e n p f on round =
         let named : Some (length s.entities) ≡ name.entity = cc in new_name s is name round named
     form_leaves (lets_memory name shape shape_places value) s c place is e n p f on round = tt
-    form_leaves (views name parent form) s c place is e n p f on round = tt
+    form_leaves (views name parent form) s c place is e n p f on round =
+        let first = on_long _ _ (declared_on s name View) in
+        let long = on_long _ _ on in
+        round_below (length s.entities) is (omega (arith, first, long)) round
     form_leaves (assigns target value) s c place is e n p f on round =
         let named : entity_of s.visible target.name ≡ target.entity = cc in
         used_name s is target round named (first_none (unknown s.visible target) _ n) (left_false (names_iterator es target.entity) _ (none_when (is_outer_write es c.first target.entity) _ p))
@@ -219,13 +227,13 @@ module _ (es : List Entity) where
         )
 
     other_leaves : (m : MaybeAction) (s : Scope) (c : Context) (is : List ℕ) → resolved_other s m ≡ m → other_breaches s m ≡ [] → other_placement_breaches es c m ≡ []
-        → OtherFoldsElsewhere es m → GoesOn (other_at_end s m).entities es → AreRound (length s.entities) is → OtherLeaves is m
+        → OtherFoldsElsewhere es m → GoesOn (other_at_end s m).entities es → AreRound (length s.entities) is → OtherLeaves (length es) is m
     other_leaves no_action s c is e n p f on round = tt
     other_leaves (one_action a) s c is e n p f on round =
         let same : resolved_action s a ≡ a = cc in leaves a s c is same n p f on round
 
     part_leaves : (part : Actions) (s : Scope) (c : Context) (is : List ℕ) → resolved_actions s part ≡ part → actions_breaches s part ≡ []
-        → actions_placement_breaches es c part ≡ [] → PartFoldsElsewhere es part → GoesOn (actions_at_end s part).entities es → AreRound (length s.entities) is → PartLeaves is part
+        → actions_placement_breaches es c part ≡ [] → PartFoldsElsewhere es part → GoesOn (actions_at_end s part).entities es → AreRound (length s.entities) is → PartLeaves (length es) is part
     part_leaves no_actions s c is e n p f on round = tt
     part_leaves (action_then a rest) s c is e n p f on round =
         let after : Scope = past s a (at_end s a) in
@@ -242,7 +250,7 @@ module _ (es : List Entity) where
         )
 
     groups_leave : (gs : Groups) (s : Scope) (c : Context) (is : List ℕ) → resolved_groups s gs ≡ gs → groups_breaches s gs ≡ []
-        → groups_placement_breaches es c gs ≡ [] → GroupsFoldElsewhere es gs → GoesOn (groups_at_end s gs).entities es → AreRound (length s.entities) is → GroupsLeave is gs
+        → groups_placement_breaches es c gs ≡ [] → GroupsFoldElsewhere es gs → GoesOn (groups_at_end s gs).entities es → AreRound (length s.entities) is → GroupsLeave (length es) is gs
     groups_leave no_groups s c is e n p f on round = tt
     groups_leave (group_then g rest) s c is e n p f on round =
         let after : Scope = actions_at_end s g in

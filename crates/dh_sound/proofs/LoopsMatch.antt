@@ -22,9 +22,9 @@ use Rattle.dh_meets.specs.SourceEvents.{SourceEvent}
 use Rattle.dh_sound.specs.Blocks.{factors}
 use Rattle.dh_sound.specs.LoopsMatch.{unrolled, LoopMatches, EachMatches, LoopsMatch}
 use Rattle.dh_sound.specs.Straight.{Stands, IsNamedAction, IsNamedForm, IsNamedOther, AreNamedGroups, AreNamedActions}
-use Rattle.dh_sound.proofs.BlocksOfPhases.{Along}
+use Rattle.dh_sound.proofs.BlocksOfPhases.{Along, AlongBy}
 use Rattle.dh_sound.specs.BlocksOfPhases.{OfStraight, OfTest}
-use Rattle.dh_sound.specs.Trails.{Follows}
+use Rattle.dh_sound.specs.Trails.{Follows, FollowsBy, StandsBehind}
 
 -- Unrolled loops.
 
@@ -214,11 +214,17 @@ module _ (known : Known) where
     parts_inside r ts n no_actions names e = tt
     parts_inside r ts n (action_then a rest) names e = (action_inside r ts n a names.0 e, parts_inside r ts (n + accesses_of a) rest names.1 e)
 
-  -- commands along the trace, with the loops round them
+  -- commands along the trace, with the loops round them, which are round each of them as it is asked
+  pub loops_by : (S : Around → List SourceEvent → Located → Type 0) → ((r : Around) (es : List SourceEvent) (c : Located) → S r es c → c.around ≡ r)
+      → (before part : List SourceEvent) (ts : List Turning) (cs : List Located) → AlongBy S before part cs → EachInside known ts cs
+      → (r : Around) × (FollowsBy S r before part cs × EachMatches known ts r.loops)
+  loops_by S round before part ts [] f i = (record { arms = []; loops = i.0 }, (tt, i.1))
+  loops_by S round before part ts (c ∷ cs) (r, (gap, (rest, (is, (stands, more))))) i =
+      (r, ((gap, (rest, (is, (stands, more)))), subst (λ (x : Around). EachMatches known ts x.loops) (round r (before ++ gap) c stands) i.0))
+
   pub same_loops : (before part : List SourceEvent) (ts : List Turning) (cs : List Located) → Along before part cs → EachInside known ts cs
       → (r : Around) × (Follows r before part cs × EachMatches known ts r.loops)
-  same_loops before part ts [] f i = (record { arms = []; loops = i.0 }, (tt, i.1))
-  same_loops before part ts (c ∷ cs) (r, f) i = (r, (f, subst (λ (x : Around). EachMatches known ts x.loops) f.1.1.1.0.around i.0))
+  same_loops before part ts cs f i = loops_by (λ round es c. StandsBehind round es c) (λ r es c s. s.around) before part ts cs f i
 
 -- A block is that of straight commands, whose loops match those round the block.
 pub record StraightMatches (p : Program) (loops : List Turning) (block : Block) : Type 0 where

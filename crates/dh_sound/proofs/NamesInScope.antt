@@ -3,15 +3,14 @@
 -- all the `for`s round its commands that have phases; a `for` without phases has no commands that a phase does. What
 -- holds of commands holds of the phases that do them: joining and folding puts straight commands of the same loops
 -- together and changes nothing else. And the indices of an access name nothing else than its command.
-use Rattle.std.proofs.Common.{◌≡◌, inl, inr, ℕ, ◌+◌, ◌<◌, ◌≤◌, ◌==◌, ◌&&◌, ◌||◌, Bool, true, false, if◌then◌else◌, List, [], ◌∷◌, ◌++◌, length, map, Some, None, refl, sym, ap, arith, length-append, ◌∙◌}
+use Rattle.std.proofs.Common.{◌≡◌, inl, inr, ℕ, ◌+◌, ◌<◌, ◌≤◌, ◌==◌, ◌&&◌, ◌||◌, Bool, true, false, if◌then◌else◌, List, [], ◌∷◌, ◌++◌, length, map, Some, refl, ap, arith, length-append}
 use Rattle.std.specs.Prelude.{slice_get}
-use Rattle.std.proofs.lemmas.List.{append-nil}
 use Rattle.dh_base.specs.declared.places.Place.{Place}
 use Rattle.dh_tree.specs.LeastBreach.{is_before}
 use Rattle.dh_tree.specs.PlainTrees.{shrinks, splits, suffixes, shifts, Action, action, ActionForm, lets, lets_memory, views, assigns, stores, reduces, calls, blocks, decides, repeats, counts, MaybeAction, no_action, one_action, Actions, no_actions, action_then, Groups, no_groups, group_then, Declared, Formal, Defined, Program}
 use Rattle.dh_tree.specs.Ready.{IsReady}
 use Rattle.dh_tree.specs.Resolved.{resolved_action}
-use Rattle.dh_tree.specs.Scopes.{entity, bind, Scope, declare, formal_sort, after_formals, body_start, after_function, after_functions, Item, memory_items, function_items, merged, items_of, after_items, first_scope, body_scope}
+use Rattle.dh_tree.specs.Scopes.{entity, bind, Scope, declare, formal_sort, after_formals, body_start, after_function, after_functions, Item, memory_items, function_items, merged, items_of, after_items, first_scope, body_scope, at_end}
 use Rattle.dh_tree.specs.Scopes as scopes
 use Rattle.dh_tree.specs.declared.trees.programs.Sort.TheVariants as sort
 use Rattle.dh_meaning.specs.AccessNumbers.{term_accesses, accesses_of, part_accesses}
@@ -24,19 +23,18 @@ use Rattle.dh_meaning.specs.Sites.{Around, in_arm, in_loop, loop_of}
 use Rattle.dh_meets.specs.SourceEvents.{SourceAccess, accesses_in, trace}
 use Rattle.dh_sound.specs.NamesInScope.{InScope, IsScoped, FormScoped, OtherScoped, GroupsScoped, PartScoped}
 use Rattle.dh_sound.specs.PhaseFacts.{HasStraight, HasTest}
-use Rattle.dh_sound.specs.SameKeys.{EachNameIn}
+use Rattle.dh_sound.specs.SameKeys.{EachNameIn, IsNoIterator}
 use Rattle.dh_sound.proofs.DepthsNamed.{size}
 use Rattle.dh_sound.proofs.IteratorsNamed.{on_long, declared_on, goes_on}
 use Rattle.dh_sound.proofs.KindsOfPrograms.{map_long}
 use Rattle.dh_sound.proofs.LocatedSites.{located_at, test_first}
 use Rattle.dh_sound.proofs.NamedPrograms.{ready_named}
 use Rattle.dh_sound.proofs.NamesOfEvents.{made_names, tested_names}
-use Rattle.dh_sound.proofs.NamesScoped.{AreVisible, plain_in, bind_in, all_from, all_less, none_behind, scoped}
+use Rattle.dh_sound.proofs.NamesScoped.{AllPast, AreVisible, plain_in, bind_in, all_from, all_less, none_past, past_both, scoped, two_past}
 use Rattle.dh_sound.proofs.Sited.{makes_within}
 use Rattle.dh_sound.proofs.Slices.{straight_stands, test_stands, straight_either, test_either}
 use Rattle.dh_sound.proofs.Pigeons.{Has}
-use Rattle.dh_meaning.specs.Ways.{all_bindings_of}
-use Rattle.dh_ways.proofs.NoWays.{own_bindings}
+use Rattle.dh_meaning.specs.Ways.{Hidden, Led, Standing, all_bindings_of, behind_hidden, hidden_binding, hidden_bindings, hidden_of, led_binding, standings, view_bindings, ways_of}
 
 -- Phases.
 
@@ -202,7 +200,7 @@ functions_long n s (f ∷ fs) =
     let rest = functions_long (n + 1) (after_function n s f) fs in
     omega (arith, first, inside, rest)
 
-body_long : (p : Program) → length p.decls + length p.functions ≤ size (body_scope p)
+pub body_long : (p : Program) → length p.decls + length p.functions ≤ size (body_scope p)
 body_long p =
     let both = length-append (map (λ (d : Declared). entity d.name sort.Memory) p.decls) (map (λ (f : Defined). entity f.name sort.Function) p.functions) in
     let first = map_long (λ (d : Declared). entity d.name sort.Memory) p.decls in
@@ -216,26 +214,47 @@ items_below p =
     merged_below (size (body_scope p)) (memory_items 0 p.decls) (function_items (length p.decls) p.functions)
     (memories_below (size (body_scope p)) 0 p.decls (omega (arith, l))) (functions_below (size (body_scope p)) (length p.decls) p.functions l)
 
-items_visible : (known : Known) (k : ℕ) (bs : List scopes.Binding) (items : List Item) → ((n : ℕ) → n < k → binding_in known.bindings n ≡ None) → ItemsBelow k items → AreVisible known [] bs
+items_visible : (known : Known) (k : ℕ) (bs : List scopes.Binding) (items : List Item) → ((n : ℕ) → n < k → IsNoIterator (binding_in known.bindings n)) → ItemsBelow k items → AreVisible known [] bs
     → AreVisible known [] (after_items bs items)
 items_visible known k bs [] out h v = v
 items_visible known k bs (i ∷ is) out h v =
-    items_visible known k (bind bs i.name.name i.entity) is out h.1 (bind_in known [] bs i.name.name i.entity v (plain_in known [] i.entity None (out i.entity h.0) tt))
+    items_visible known k (bind bs i.name.name i.entity) is out h.1 (bind_in known [] bs i.name.name i.entity v (plain_in known [] i.entity (binding_in known.bindings i.entity) refl (out i.entity h.0)))
+
+-- Views and what they keep iterate nothing.
+
+led_past : (k : ℕ) (ls : List Led) → AllPast k (map led_binding ls)
+led_past k [] = tt
+led_past k (l ∷ ls) = (inr refl, led_past k ls)
+
+hidden_past : (k : ℕ) (hs : List Hidden) → AllPast k (map hidden_binding hs)
+hidden_past k [] = tt
+hidden_past k (h ∷ hs) = (inr refl, hidden_past k hs)
+
+all_past : (k first : ℕ) (ss : List Standing) → AllPast k (hidden_bindings first ss)
+all_past k first [] = tt
+all_past k first (s ∷ ss) = past_both k (map hidden_binding (hidden_of first s)) (hidden_bindings (behind_hidden first s) ss) (hidden_past k (hidden_of first s)) (all_past k (behind_hidden first s) ss)
+
+views_past : (k : ℕ) (p : Program) → AllPast k (view_bindings p)
+views_past k p = past_both k (map led_binding (ways_of p)) (hidden_bindings (length p.entities) (standings 0 p.body)) (led_past k (ways_of p)) (all_past k (length p.entities) (standings 0 p.body))
 
 module _ (p : Program) (r : IsReady p) where
   same_body : resolved_action (body_scope p) p.body ≡ p.body
   same_body = ap (λ (x : Program). x.body) r.entities
 
-  -- what is visible there is no variable of the body
-  none_outside : (n : ℕ) → n < size (body_scope p) → binding_in (all_bindings_of p) n ≡ None
-  none_outside n l = ap (λ bs. binding_in bs n) (own_bindings p r.built) ∙ none_behind n (bindings_of p) (all_less (n + 1) (size (body_scope p)) (bindings_of p) (omega (arith, l)) (all_from p.body (body_scope p) 0 same_body))
+  -- what is visible there is no variable of the body, and no iterator
+  none_outside : (n : ℕ) → n < size (body_scope p) → IsNoIterator (binding_in (all_bindings_of p) n)
+  none_outside n l =
+      none_past n (all_bindings_of p)
+      (two_past (n + 1) (n + 1) (bindings_of p) (view_bindings p) (omega arith)
+      (all_less (n + 1) (size (body_scope p)) (bindings_of p) (omega (arith, l)) (all_from p.body (body_scope p) 0 same_body)) (views_past (n + 1) p))
 
   begins : AreVisible (known_of p) [] (body_scope p).visible
   begins = items_visible (known_of p) (size (body_scope p)) [] (items_of p) none_outside (items_below p) (λ name n e. absurd cc)
 
   -- the names of the body are in scope
   pub body_scoped : IsScoped (known_of p) [] p.body
-  body_scoped = (scoped (known_of p) p.body (body_scope p) 0 [] [] [] same_body (ready_named p r) (own_bindings p r.built ∙ sym (append-nil (bindings_of p))) tt tt begins).0
+  body_scoped =
+      (scoped (known_of p) p.body (body_scope p) 0 [] [] (view_bindings p) same_body (ready_named p r) refl tt (views_past (size (at_end (body_scope p) p.body)) p) begins).0
 
   -- Accesses.
   module _ (loops : List Turning) (k : ℕ) (a : SourceAccess) (is : slice_get (accesses_in (trace p)) k ≡ Some a) where

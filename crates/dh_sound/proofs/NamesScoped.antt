@@ -4,7 +4,7 @@
 -- is no variable of the body; a declaration keeps it, since the first variable of its number is the one that
 -- it declares, or none where a memory or a view is declared; a `for` makes its iterator visible in its body
 -- alone, where the loop is one of those round it. By one walk over the body, with the points of the text.
-use Rattle.std.proofs.Common.{◌≡◌, inl, inr, ℕ, suc, ◌+◌, ◌<◌, ◌≤◌, nat_lt, Bool, true, false, if◌then◌else◌, List, [], ◌∷◌, ◌++◌, length, Option, Some, None, option_map, refl, sym, ◌∙◌, ap, subst, arith, length-append}
+use Rattle.std.proofs.Common.{◌≡◌, ◌⊎◌, inl, inr, ℕ, suc, ◌+◌, ◌<◌, ◌≤◌, nat_lt, Bool, true, false, if◌then◌else◌, List, [], ◌∷◌, ◌++◌, length, Option, Some, None, option_map, refl, sym, ◌∙◌, ap, subst, arith, length-append}
 use Rattle.std.proofs.lemmas.Bool.Decides.{nat_tests}
 use Rattle.std.proofs.lemmas.List.{append_assoc}
 use Rattle.dh_tree.specs.declared.trees.expressions.Ref.{Ref}
@@ -125,9 +125,38 @@ is_later : (n : ℕ) (e : Option ℕ) → IsFrom (n + 1) e → same_entity e (So
 is_later n None h = refl
 is_later n (Some m) h = grind (arith, nat_tests, h)
 
-pub none_behind : (n : ℕ) (after : List Binding) → AllFrom (n + 1) after → binding_in after n ≡ None
-none_behind n [] f = refl
-none_behind n (b ∷ after) f = ap (λ t. if t then Some b else binding_in after n) (is_later n b.entity f.0) ∙ none_behind n after f.1
+-- Variables that come later, or iterate nothing.
+
+abbrev pub AllPast : ℕ → List Binding → Type 0
+AllPast k [] = Unit {0}
+AllPast k (b ∷ bs) = (IsFrom k b.entity ⊎ (b.iterates ≡ None)) × AllPast k bs
+
+past_less : (j k : ℕ) (bs : List Binding) → j ≤ k → AllPast k bs → AllPast j bs
+past_less j k [] l h = tt
+past_less j k (b ∷ bs) l (inl f, h) = (inl (from_less j k b.entity l f), past_less j k bs l h)
+past_less j k (b ∷ bs) l (inr e, h) = (inr e, past_less j k bs l h)
+
+pub past_both : (k : ℕ) (bs cs : List Binding) → AllPast k bs → AllPast k cs → AllPast k (bs ++ cs)
+past_both k [] cs h i = i
+past_both k (b ∷ bs) cs h i = (h.0, past_both k bs cs h.1 i)
+
+-- those of a command, with others behind
+pub two_past : (j k : ℕ) (bs cs : List Binding) → j ≤ k → AllFrom j bs → AllPast k cs → AllPast j (bs ++ cs)
+two_past j k [] cs l h i = past_less j k cs l i
+two_past j k (b ∷ bs) cs l h i = (inl h.0, two_past j k bs cs l h.1 i)
+
+-- what is found among them is no iterator
+pub none_past : (n : ℕ) (after : List Binding) → AllPast (n + 1) after → IsNoIterator (binding_in after n)
+none_past n [] f = tt
+none_past n (b ∷ after) f = by (same_entity b.entity (Some n)) refl (none_past n after f.1)
+  where
+    plain : same_entity b.entity (Some n) ≡ true → IsFrom (n + 1) b.entity ⊎ (b.iterates ≡ None) → b.iterates ≡ None
+    plain e (inl l) = let later = is_later n b.entity l in cc
+    plain e (inr h) = h
+
+    by : (t : Bool) → same_entity b.entity (Some n) ≡ t → IsNoIterator (binding_in after n) → IsNoIterator (if t then Some b else binding_in after n)
+    by true e h = plain e f.0
+    by false e h = h
 
 -- a name that stands for the iterator of a `for` whose binding is found
 iterator_of : (known : Known) (count : ℕ) (iterator : Ref) (declared : Option Kind) (low high : Placed) (factor : Unrolled) (body : Action) (combine : MaybeAction) (at : Place) (r : Ref) (e : ℕ) (c : Binding)
@@ -148,13 +177,13 @@ iterator_of known count iterator declared low high factor body combine at r e c 
     found : binding_in known.bindings (entity_number iterator.entity) ≡ Some c
     found = ap (λ n. binding_in known.bindings n) number ∙ bound
 
-none_found : (n : ℕ) (before after : List Binding) → AllBelow n before → AllFrom (n + 1) after → binding_in (before ++ after) n ≡ None
-none_found n [] after h f = none_behind n after f
+none_found : (n : ℕ) (before after : List Binding) → AllBelow n before → AllPast (n + 1) after → IsNoIterator (binding_in (before ++ after) n)
+none_found n [] after h f = none_past n after f
 none_found n (b ∷ before) after h f =
-    ap (λ t. if t then Some b else binding_in (before ++ after) n) (is_absent n b.entity h.0) ∙ none_found n before after h.1 f
+    subst (λ (o : Option Binding). IsNoIterator o) (sym (ap (λ t. if t then Some b else binding_in (before ++ after) n) (is_absent n b.entity h.0))) (none_found n before after h.1 f)
 
-next_from : (s : Scope) (r : Ref) (k : Sort) (after : List Binding) → AllFrom (size (declare s r k)) after → AllFrom (size s + 1) after
-next_from s r k after f = let long = declared_long s r k in all_less (size s + 1) (size (declare s r k)) after (omega (arith, long)) f
+next_from : (s : Scope) (r : Ref) (k : Sort) (after : List Binding) → AllPast (size (declare s r k)) after → AllPast (size s + 1) after
+next_from s r k after f = let long = declared_long s r k in past_less (size s + 1) (size (declare s r k)) after (omega (arith, long)) f
 
 -- an unrolled loop counts in its own depth
 deep_enough : (d f x : ℕ) → x ≡ depth_inside d f → 1 < f → 1 ≤ x
@@ -249,11 +278,11 @@ module _ (known : Known) where
   -- Commands.
 
   -- a declaration of what is no variable
-  other_declared : (loops : List Turning) (s : Scope) (r : Ref) (k : Sort) (before after : List Binding) → known.bindings ≡ before ++ after → AllBelow (size s) before → AllFrom (size (declare s r k)) after
+  other_declared : (loops : List Turning) (s : Scope) (r : Ref) (k : Sort) (before after : List Binding) → known.bindings ≡ before ++ after → AllBelow (size s) before → AllPast (size (declare s r k)) after
       → AreVisible loops s.visible → AreVisible loops (declare s r k).visible
   other_declared loops s r k before after is h f v =
       bind_in loops s.visible r.name (size s) v
-      (plain_in loops (size s) None (ap (λ l. binding_in l (size s)) is ∙ none_found (size s) before after h (next_from s r k after f)) tt)
+      (plain_in loops (size s) (binding_in (before ++ after) (size s)) (ap (λ l. binding_in l (size s)) is) (none_found (size s) before after h (next_from s r k after f)))
 
   -- a declaration of a variable
   variable_declared : (loops : List Turning) (s : Scope) (r : Ref) (k : Sort) (before : List Binding) (b : Binding) (after : List Binding) → known.bindings ≡ before ++ b ∷ after → Some (size s) ≡ b.entity → b.iterates ≡ None
@@ -264,13 +293,13 @@ module _ (known : Known) where
 
   mutual
     pub scoped : (a : Action) (s : Scope) (d : ℕ) (loops : List Turning) (before after : List Binding) → resolved_action s a ≡ a → IsNamedAction a
-        → known.bindings ≡ before ++ (bindings d a ++ after) → AllBelow (size s) before → AllFrom (size (at_end s a)) after → AreVisible loops s.visible
+        → known.bindings ≡ before ++ (bindings d a ++ after) → AllBelow (size s) before → AllPast (size (at_end s a)) after → AreVisible loops s.visible
         → IsScoped known loops a × AreVisible loops (at_end s a).visible
     scoped (action id place form) s d loops before after e n is h f v =
         let same : resolved_form s form ≡ form = cc in form_scoped form s d loops before after same n is h f v
 
     form_scoped : (x : ActionForm) (s : Scope) (d : ℕ) (loops : List Turning) (before after : List Binding) → resolved_form s x ≡ x → IsNamedForm x
-        → known.bindings ≡ before ++ (form_bindings d x ++ after) → AllBelow (size s) before → AllFrom (size (form_at_end s x)) after → AreVisible loops s.visible
+        → known.bindings ≡ before ++ (form_bindings d x ++ after) → AllBelow (size s) before → AllPast (size (form_at_end s x)) after → AreVisible loops s.visible
         → FormScoped known loops x × AreVisible loops (form_at_end s x).visible
     form_scoped (lets name declared value) s d loops before after e n is h f v =
         let own : Some (size s) ≡ name.entity = cc in
@@ -298,7 +327,7 @@ module _ (known : Known) where
         let first : resolved_action s chosen ≡ chosen = cc in
         let second : resolved_other inner other ≡ other = cc in
         let x = scoped chosen s d loops before (other_bindings d other ++ after) first n.1.0 (split_first known.bindings before (bindings d chosen) (other_bindings d other) after is) h
-        (two_from (size (at_end s chosen)) (size (other_at_end inner other)) (other_bindings d other) after (on_long _ _ (other_on other inner)) (other_from other inner d second) f) v in
+        (two_past (size (at_end s chosen)) (size (other_at_end inner other)) (other_bindings d other) after (on_long _ _ (other_on other inner)) (other_from other inner d second) f) v in
         let y = other_scoped other inner d loops (before ++ bindings d chosen) after second n.1.1 (split_second known.bindings before (bindings d chosen) (other_bindings d other) after is)
         (two_below (size s) (size inner) before (bindings d chosen) (on_long _ _ (goes_on chosen s)) h (all_below chosen s d first)) f v in
         ((term_in loops s.visible v test same n.0, (x.0, y.0)), v)
@@ -325,19 +354,19 @@ module _ (known : Known) where
         (λ r g. is_iterator (length loops) t (added_last loops t)
         (iterator_of known (turn_count low.value high.value factor.value) iterator declared low high factor body combine combine_place r (size s) b (g ∙ own) (sym own) found refl (deep_enough d factor.value _ deep))) in
         let x = scoped body inner di (loops ++ t ∷ []) round (other_bindings di combine ++ after) first n.1.0 (split_first known.bindings round (bindings di body) (other_bindings di combine) after inside) below
-        (two_from (size (at_end inner body)) (size (other_at_end (at_end inner body) combine)) (other_bindings di combine) after (on_long _ _ (other_on combine (at_end inner body))) (other_from combine (at_end inner body) di second) f) visible in
+        (two_past (size (at_end inner body)) (size (other_at_end (at_end inner body) combine)) (other_bindings di combine) after (on_long _ _ (other_on combine (at_end inner body))) (other_from combine (at_end inner body) di second) f) visible in
         let y = other_scoped combine (at_end inner body) di (loops ++ t ∷ []) (round ++ bindings di body) after second n.1.1 (split_second known.bindings round (bindings di body) (other_bindings di combine) after inside)
         (two_below (size inner) (size (at_end inner body)) round (bindings di body) (on_long _ _ (goes_on body inner)) below (all_below body inner di first)) f x.1 in
         ((x.0, y.0), v)
 
     other_scoped : (m : MaybeAction) (s : Scope) (d : ℕ) (loops : List Turning) (before after : List Binding) → resolved_other s m ≡ m → IsNamedOther m
-        → known.bindings ≡ before ++ (other_bindings d m ++ after) → AllBelow (size s) before → AllFrom (size (other_at_end s m)) after → AreVisible loops s.visible
+        → known.bindings ≡ before ++ (other_bindings d m ++ after) → AllBelow (size s) before → AllPast (size (other_at_end s m)) after → AreVisible loops s.visible
         → OtherScoped known loops m × AreVisible loops (other_at_end s m).visible
     other_scoped no_action s d loops before after e n is h f v = (tt, v)
     other_scoped (one_action a) s d loops before after e n is h f v = let same : resolved_action s a ≡ a = cc in scoped a s d loops before after same n is h f v
 
     part_scoped : (part : Actions) (s : Scope) (d : ℕ) (loops : List Turning) (before after : List Binding) → resolved_actions s part ≡ part → AreNamedActions part
-        → known.bindings ≡ before ++ (part_bindings d part ++ after) → AllBelow (size s) before → AllFrom (size (actions_at_end s part)) after → AreVisible loops s.visible
+        → known.bindings ≡ before ++ (part_bindings d part ++ after) → AllBelow (size s) before → AllPast (size (actions_at_end s part)) after → AreVisible loops s.visible
         → PartScoped known loops part × AreVisible loops (actions_at_end s part).visible
     part_scoped no_actions s d loops before after e n is h f v = (tt, v)
     part_scoped (action_then a rest) s d loops before after e n is h f v =
@@ -348,15 +377,15 @@ module _ (known : Known) where
         let long = on_long _ _ (goes_on a s) in
         let behind = on_long _ _ (part_on rest next) in
         let x = scoped a s d loops before (part_bindings d rest ++ after) first n.0 (split_first known.bindings before (bindings d a) (part_bindings d rest) after is) h
-        (all_less (size (at_end s a)) (size next) _ (omega (arith, same))
-        (two_from (size next) (size (actions_at_end next rest)) (part_bindings d rest) after behind (part_from rest next d second) f)) v in
+        (past_less (size (at_end s a)) (size next) _ (omega (arith, same))
+        (two_past (size next) (size (actions_at_end next rest)) (part_bindings d rest) after behind (part_from rest next d second) f)) v in
         let y = part_scoped rest next d loops (before ++ bindings d a) after second n.1 (split_second known.bindings before (bindings d a) (part_bindings d rest) after is)
         (all_more (size (at_end s a)) (size next) (before ++ bindings d a) (omega (arith, same))
         (two_below (size s) (size (at_end s a)) before (bindings d a) long h (all_below a s d first))) f (past_visible loops s a v x.1) in
         ((x.0, y.0), y.1)
 
     groups_scoped : (gs : Groups) (s : Scope) (d : ℕ) (loops : List Turning) (before after : List Binding) → resolved_groups s gs ≡ gs → AreNamedGroups gs
-        → known.bindings ≡ before ++ (groups_bindings d gs ++ after) → AllBelow (size s) before → AllFrom (size (groups_at_end s gs)) after → AreVisible loops s.visible
+        → known.bindings ≡ before ++ (groups_bindings d gs ++ after) → AllBelow (size s) before → AllPast (size (groups_at_end s gs)) after → AreVisible loops s.visible
         → GroupsScoped known loops gs × AreVisible loops (groups_at_end s gs).visible
     groups_scoped no_groups s d loops before after e n is h f v = (tt, v)
     groups_scoped (group_then g rest) s d loops before after e n is h f v =
@@ -364,7 +393,7 @@ module _ (known : Known) where
         let first : resolved_actions s g ≡ g = cc in
         let second : resolved_groups next rest ≡ rest = cc in
         let x = part_scoped g s d loops before (groups_bindings d rest ++ after) first n.0 (split_first known.bindings before (part_bindings d g) (groups_bindings d rest) after is) h
-        (two_from (size next) (size (groups_at_end next rest)) (groups_bindings d rest) after (on_long _ _ (groups_on rest next)) (groups_from rest next d second) f) v in
+        (two_past (size next) (size (groups_at_end next rest)) (groups_bindings d rest) after (on_long _ _ (groups_on rest next)) (groups_from rest next d second) f) v in
         let y = groups_scoped rest next d loops (before ++ part_bindings d g) after second n.1 (split_second known.bindings before (part_bindings d g) (groups_bindings d rest) after is)
         (two_below (size s) (size next) before (part_bindings d g) (on_long _ _ (part_on g s)) h (part_below g s d first)) f x.1 in
         ((x.0, y.0), y.1)

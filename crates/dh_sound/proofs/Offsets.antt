@@ -1,5 +1,5 @@
 -- What is known of the plan of a view is known of its offsets as one list of terms.
-use Rattle.std.proofs.Common.{◌≡◌, ℕ, List, [], ◌∷◌, ◌++◌, map, None, refl, sym, ap, ◌∙◌}
+use Rattle.std.proofs.Common.{◌≡◌, List, [], ◌∷◌, ◌++◌, map, None, refl, sym, ap, ◌∙◌}
 use Rattle.std.specs.List.{AllByRecursion}
 use Rattle.std.proofs.lemmas.List.{append_assoc}
 use Rattle.dh_tree.specs.Breaches.{offsets_breaches, list_breaches, terms_breaches, term_breaches}
@@ -7,7 +7,7 @@ use Rattle.dh_tree.specs.Breaches as names
 use Rattle.dh_tree.specs.KindBreaches as kinds
 use Rattle.dh_tree.specs.KindBreaches.{indices_kind_breaches, offset_breaches, shifts_breaches, suffixes_breaches, term_kind_breaches}
 use Rattle.dh_tree.specs.Kinds.{Facts, found, index_breaches, place_of, typed_offset, typed_plan, typed_term, typed_terms}
-use Rattle.dh_tree.specs.PlainTrees.{Term, Terms, no_terms, term_then, Suffixed, ViewPlan, shrinks, splits, suffixes, shifts}
+use Rattle.dh_tree.specs.PlainTrees.{Term, term_then, Suffixed, ViewPlan, shrinks, splits, suffixes, shifts}
 use Rattle.dh_tree.specs.Resolved.{resolved_offset, resolved_plan, resolved_term, resolved_terms}
 use Rattle.dh_tree.specs.Scopes.{Binding}
 use Rattle.dh_tree.specs.Seen.{terms}

@@ -1,18 +1,20 @@
 -- A block makes one read at two paths with one key: then the paths are one, or the read leads to one element at both.
 -- Equal keys mean that the paths agree wherever the indices depend, so wherever any variable in them does. If one
--- of these variables is declared inside all the loops the paths are one; else each of them is settled.
-use Rattle.std.proofs.Common.{◌≡◌, ◌⊎◌, inl, inr, ℕ, Bool, false, List, length, sym, ◌∙◌, Option}
+-- of these variables is declared inside all the loops the paths are one; else each of them is settled, and so are the
+-- offsets of the ways at paths that differ.
+use Rattle.std.proofs.Common.{◌≡◌, ◌⊎◌, inl, inr, ℕ, Bool, true, false, List, length, refl, sym, ◌∙◌, subst, Option}
 use Rattle.dh_tree.specs.declared.trees.expressions.Ref.{Ref}
 use Rattle.dh_tree.specs.PlainTrees.{Term, term, number, truth_value, named, accessed, in_bank, applied, converted, Terms, no_terms, term_then}
 use Rattle.dh_meaning.specs.Core.{Turning}
 use Rattle.dh_meaning.specs.CoreOf.{Known}
 use Rattle.dh_meaning.specs.Effects.{Begun, Variables}
-use Rattle.dh_meaning.specs.Paths.{Path}
+use Rattle.dh_meaning.specs.Paths.{Path, same_path}
 use Rattle.dh_meets.specs.Charges.{entity_depends, term_depends, terms_depend, element_depends, depends, key_of}
 use Rattle.dh_meets.specs.SourceEvents.{Element, with_indices, in_row, SourceAccess}
 use Rattle.dh_sound.specs.SameKeys.{CopiesAgree, NameAgrees, IsSettled, EachName, EachNameOf, EachNameIn, IsNearTo, NameFacts, is_plain, is_turned, is_full, IsIteratorOf}
 use Rattle.dh_sound.specs.Blocks.{paths_inside, IsPath}
 use Rattle.dh_sound.specs.IteratorsAt.{TurnAt}
+use Rattle.dh_sound.proofs.Counting.{same_list, whole_list}
 use Rattle.dh_sound.proofs.SourceValues.{source_spot}
 use Rattle.dh_sound.proofs.SameKeys.{keys_agree, agree_less, agree_left, agree_right, or_right, same_keys}
 use Rattle.dh_sound.proofs.SettledNames.{inside_long, plain_settled, iterator_settled, full_depth_same}
@@ -60,16 +62,26 @@ module _ (b : Begun) (known : Known) (v0 v w : Variables) (touched : ℕ → Boo
 
   -- a read of a block at two paths with one key leads to one element, or the paths are one
   pub one_element : (a : SourceAccess) → a.writes ≡ false → key_of known.bindings a p ≡ key_of known.bindings a q → EachNameIn (NameFacts known v0 touched p q) a.element
-      → ((entity : Option ℕ) → CopiesAgree (λ l. entity_depends known.bindings l entity) p q → offsets_at b v p (way_at known.memories known.ways entity) ≡ offsets_at b w q (way_at known.memories known.ways entity))
+      → ((p ≡ q → ⊥) → (entity : Option ℕ) → CopiesAgree (λ l. entity_depends known.bindings l entity) p q → offsets_at b v p (way_at known.memories known.ways entity) ≡ offsets_at b w q (way_at known.memories known.ways entity))
       → (p ≡ q) ⊎ (source_spot b known v p a.entity a.element ≡ source_spot b known w q a.entity a.element)
-  one_element a reads e facts still =
-      elim (each_or_in (p ≡ q) known p q (NameFacts known v0 touched p q) (IsSettled known v w p q) name_settled a.element agree facts) [
-        | inl same ↦ inl same
-        | inr settled ↦ inr (same_keys b known v w p q still a reads n e settled)
-      ]
+  one_element a reads e facts still = by (same_path p q) refl
     where
       agree : CopiesAgree (λ l. element_depends known.bindings l a.element) p q
       agree = agree_less (depends known.bindings a) (λ l. element_depends known.bindings l a.element) p q (λ l h. or_right a.writes _ (or_right (entity_depends known.bindings l a.entity) (element_depends known.bindings l a.element) h)) (keys_agree known a p q n e)
+
+      differ : same_path p q ≡ false → p ≡ q → ⊥
+      differ s same = none (sym s ∙ subst (λ (z : Path). same_path p z ≡ true) same (whole_list p))
+        where
+          none : false ≡ true → ⊥
+          none f = cc
+
+      by : (t : Bool) → same_path p q ≡ t → (p ≡ q) ⊎ (source_spot b known v p a.entity a.element ≡ source_spot b known w q a.entity a.element)
+      by true s = inl (same_list p q s)
+      by false s =
+          elim (each_or_in (p ≡ q) known p q (NameFacts known v0 touched p q) (IsSettled known v w p q) name_settled a.element agree facts) [
+            | inl same ↦ inl same
+            | inr settled ↦ inr (same_keys b known v w p q (still (differ s)) a reads n e settled)
+          ]
 
 -- What is given of a block's paths.
 

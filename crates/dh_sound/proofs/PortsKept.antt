@@ -48,10 +48,16 @@ use Rattle.dh_sound.proofs.TermWalks.{IsGood, IsMadeOf, as_read, as_write}
 use Rattle.dh_sound.proofs.TestsMeet.{test_together}
 use Rattle.dh_sound.specs.BlocksOfPhases.{OfStraight, OfTest, StraightTold, TestTold, TellsBlocks}
 use Rattle.dh_sound.specs.BlocksCovered.{AreCovered, events_in, BlocksCovered, BlocksKept}
+use Rattle.dh_sound.specs.AssignsInside.{AllInside}
 use Rattle.dh_sound.specs.Trails.{count}
+use Rattle.dh_sound.specs.ViewTrails.{FollowsViews}
 use Rattle.dh_sound.specs.Deep.{AreDeep}
-use Rattle.dh_sound.specs.Unled.{IsUnled}
-use Rattle.dh_ways.proofs.NoWays.{no_way_to}
+use Rattle.dh_sound.specs.ViewsBound.{ViewsBound}
+use Rattle.dh_sound.proofs.ViewsBound.{views_bound}
+use Rattle.dh_meaning.specs.Ways.{Way, way_to}
+use Rattle.dh_ways.specs.Leading.{LeadsTo}
+use Rattle.dh_sound.proofs.ShiftsOnWays.{HoldsShifts, ways_shift}
+use Rattle.dh_sound.proofs.ViewedWays.{kept_ways_lead}
 
 -- the access of a good event
 module _ (p : Program) (b : Begun) (known : Known) (path : Path) (in_block : ℕ → Bool) (share : (j k : ℕ) → in_one_phase p j k ≡ true → in_block k ≡ true → in_block j ≡ true) (v : Variables) (touched : ℕ → Bool)
@@ -73,10 +79,12 @@ only_path : (path : Path) → Has path outer_paths → path ≡ []
 only_path path (inl e) = e
 only_path path (inr none) = elim none [ ]
 
-module _ (p : Program) (typed : IsTypedProgram p) (rules : KeepsIndexRules p) (declared : AccessesDeclared p) (unled : IsUnled (known_of p)) (first : ℕ) (numbered : IsNumbered first p.body)
+module _ (p : Program) (typed : IsTypedProgram p) (rules : KeepsIndexRules p) (declared : AccessesDeclared p) (bound : ViewsBound p)
+    (lead_all : (entity : Option ℕ) (w : Way) → way_to p entity ≡ Some w → LeadsTo (memories_of p) w) (shift_all : (entity : Option ℕ) (w : Way) → way_to p entity ≡ Some w → HoldsShifts w) (first : ℕ) (numbered : IsNumbered first p.body)
     (b : Begun) (table : b.table ≡ table_of p) (loops : List Turning) (v : Variables) where
   -- The commands of a Straight phase.
   module _ (block : Block) (o : OfStraight p loops block) (deep : AreDeep (length (factors loops)) (core_commands (known_of p) o.done))
+      (views : FollowsViews p o.round [] (trace p) o.done) (all : AllInside (known_of p) (length (factors loops)) o.done)
       (indices : IndicesTold p (λ k. any_makes k o.done) (λ e. any_assigns e (core_commands (known_of p) o.done)) (paths_inside loops) v) where
     abbrev phase_commands : CoreCommands
     phase_commands = core_commands (known_of p) o.done
@@ -85,12 +93,12 @@ module _ (p : Program) (typed : IsTypedProgram p) (rules : KeepsIndexRules p) (d
     phase_events = block_events b (length (factors loops)) (paths_inside loops) (inside_copies b loops) phase_commands deep v
 
     straight_good : (path : Path) → Has path (paths_inside loops) → (ev : Event) → Has ev (all_made_by b path phase_commands v)
-        → IsGood p b (known_of p) path (λ k. any_makes k o.done) (phase_shares p b (known_of p) path o.done o.folds o.quiet o.has v) v (λ e. any_assigns e phase_commands) o.round (all_made_by b path phase_commands v) ev
-    straight_good path h ev m = phase_good p b (known_of p) path o.done o.folds o.quiet o.has v unled o.round o.follows ev m
+        → IsGood p b (known_of p) path (λ k. any_makes k o.done) (phase_shares p b path o.done o.folds o.quiet o.has v) v (λ e. any_assigns e phase_commands) o.round (all_made_by b path phase_commands v) ev
+    straight_good path h ev m = phase_good p b path o.done o.folds o.quiet o.has v (length (factors loops)) all o.round views ev m
 
     straight_ascends : (path : Path) → Has path (paths_inside loops) → (low : ℕ) × ((high : ℕ) × Ascends low (all_made_by b path phase_commands v) high)
     straight_ascends path h =
-        (count [], (count [] + count (trace p), located_ascend p b (known_of p) path (λ k. any_makes k o.done) (phase_shares p b (known_of p) path o.done o.folds o.quiet o.has v) v (λ e. any_assigns e phase_commands) o.round [] (trace p) v o.done o.follows))
+        (count [], (count [] + count (trace p), located_ascend p b (known_of p) path (λ k. any_makes k o.done) (phase_shares p b path o.done o.folds o.quiet o.has v) v (λ e. any_assigns e phase_commands) o.round [] (trace p) v o.done o.follows))
 
     straight_together : (x y : Event) → Has x phase_events → Has y phase_events → Apart (meets_in p) (number_of x) (number_of y) → ⊥
     straight_together x y hx hy apart =
@@ -99,13 +107,13 @@ module _ (p : Program) (typed : IsTypedProgram p) (rules : KeepsIndexRules p) (d
         both mx.0 mx.1 my.0 my.1 (straight_good (path_of x) mx.0 x mx.1) (straight_good (path_of y) my.0 y my.1)
       where
         both : Has (path_of x) (paths_inside loops) → Has x (all_made_by b (path_of x) phase_commands v) → Has (path_of y) (paths_inside loops) → Has y (all_made_by b (path_of y) phase_commands v)
-            → IsGood p b (known_of p) (path_of x) (λ k. any_makes k o.done) (phase_shares p b (known_of p) (path_of x) o.done o.folds o.quiet o.has v) v (λ e. any_assigns e phase_commands) o.round (all_made_by b (path_of x) phase_commands v) x
-            → IsGood p b (known_of p) (path_of y) (λ k. any_makes k o.done) (phase_shares p b (known_of p) (path_of y) o.done o.folds o.quiet o.has v) v (λ e. any_assigns e phase_commands) o.round (all_made_by b (path_of y) phase_commands v) y → ⊥
+            → IsGood p b (known_of p) (path_of x) (λ k. any_makes k o.done) (phase_shares p b (path_of x) o.done o.folds o.quiet o.has v) v (λ e. any_assigns e phase_commands) o.round (all_made_by b (path_of x) phase_commands v) x
+            → IsGood p b (known_of p) (path_of y) (λ k. any_makes k o.done) (phase_shares p b (path_of y) o.done o.folds o.quiet o.has v) v (λ e. any_assigns e phase_commands) o.round (all_made_by b (path_of y) phase_commands v) y → ⊥
         both px mx py my gx gy =
-            let lx = good_listed p b (known_of p) (path_of x) (λ k. any_makes k o.done) (phase_shares p b (known_of p) (path_of x) o.done o.folds o.quiet o.has v) v (λ e. any_assigns e phase_commands) o.round (all_made_by b (path_of x) phase_commands v) x gx in
-            let ly = good_listed p b (known_of p) (path_of y) (λ k. any_makes k o.done) (phase_shares p b (known_of p) (path_of y) o.done o.folds o.quiet o.has v) v (λ e. any_assigns e phase_commands) o.round (all_made_by b (path_of y) phase_commands v) y gy in
-            let ix = good_inside p b (known_of p) (path_of x) (λ k. any_makes k o.done) (phase_shares p b (known_of p) (path_of x) o.done o.folds o.quiet o.has v) v (λ e. any_assigns e phase_commands) o.round (all_made_by b (path_of x) phase_commands v) x gx in
-            let iy = good_inside p b (known_of p) (path_of y) (λ k. any_makes k o.done) (phase_shares p b (known_of p) (path_of y) o.done o.folds o.quiet o.has v) v (λ e. any_assigns e phase_commands) o.round (all_made_by b (path_of y) phase_commands v) y gy in
+            let lx = good_listed p b (known_of p) (path_of x) (λ k. any_makes k o.done) (phase_shares p b (path_of x) o.done o.folds o.quiet o.has v) v (λ e. any_assigns e phase_commands) o.round (all_made_by b (path_of x) phase_commands v) x gx in
+            let ly = good_listed p b (known_of p) (path_of y) (λ k. any_makes k o.done) (phase_shares p b (path_of y) o.done o.folds o.quiet o.has v) v (λ e. any_assigns e phase_commands) o.round (all_made_by b (path_of y) phase_commands v) y gy in
+            let ix = good_inside p b (known_of p) (path_of x) (λ k. any_makes k o.done) (phase_shares p b (path_of x) o.done o.folds o.quiet o.has v) v (λ e. any_assigns e phase_commands) o.round (all_made_by b (path_of x) phase_commands v) x gx in
+            let iy = good_inside p b (known_of p) (path_of y) (λ k. any_makes k o.done) (phase_shares p b (path_of y) o.done o.folds o.quiet o.has v) v (λ e. any_assigns e phase_commands) o.round (all_made_by b (path_of y) phase_commands v) y gy in
             let opposite = apart_opposite p (o.done ++ o.folds) (number_of x) (number_of y) o.has (makes_more (number_of x) o.done o.folds ix) (makes_more (number_of y) o.done o.folds iy) apart gx.of gy.of lx ly in
             let none : o.round.loops ≡ [] = sym gx.loops ∙ opposite.single in
             let outer : paths_inside loops ≡ outer_paths = o.paths ∙ ap (λ ls. paths_in (factors_of ls)) none in
@@ -115,12 +123,12 @@ module _ (p : Program) (typed : IsTypedProgram p) (rules : KeepsIndexRules p) (d
 
     pub straight_covered : (entity memory bank : ℕ) → number_in (memories_of p) (Some entity) ≡ Some memory → AreCovered p phase_events entity memory bank
     straight_covered =
-        bank_covered p typed rules declared unled b table (λ k. any_makes k o.done) (λ path. phase_shares p b (known_of p) path o.done o.folds o.quiet o.has v) (λ e. any_assigns e phase_commands) o.round
+        bank_covered p typed rules declared bound lead_all shift_all b table (λ k. any_makes k o.done) (λ path. phase_shares p b path o.done o.folds o.quiet o.has v) (λ e. any_assigns e phase_commands) o.round
         loops phase_commands deep v straight_good straight_ascends indices o.paths straight_together
 
     pub straight_keeps : KeepsPorts p → (memory bank : ℕ) → spent phase_events memory bank ≤ ports_at (table_of p) memory
     straight_keeps =
-        block_keeps p typed rules declared unled b table (λ k. any_makes k o.done) (λ path. phase_shares p b (known_of p) path o.done o.folds o.quiet o.has v) (λ e. any_assigns e phase_commands) o.round
+        block_keeps p typed rules declared bound lead_all shift_all b table (λ k. any_makes k o.done) (λ path. phase_shares p b path o.done o.folds o.quiet o.has v) (λ e. any_assigns e phase_commands) o.round
         loops phase_commands deep v straight_good straight_ascends indices o.paths straight_together
 
   -- A test.
@@ -136,19 +144,19 @@ module _ (p : Program) (typed : IsTypedProgram p) (rules : KeepsIndexRules p) (d
     test_made_events = block_events b (length (factors loops)) (paths_inside loops) (inside_copies b loops) test_commands test_deep v
 
     own_good : (path : Path) → Has path (paths_inside loops) → (ev : Event) → Has ev (all_made_by b path test_commands v)
-        → IsGood p b (known_of p) path (λ k. test_makes k o.tested) (test_shares p b (known_of p) path o.tested o.has v) v (λ e. false) o.tested.around (all_made_by b path test_commands v) ev
+        → IsGood p b (known_of p) path (λ k. test_makes k o.tested) (test_shares p b path o.tested o.has v) v (λ e. false) o.tested.around (all_made_by b path test_commands v) ev
     own_good path h ev m =
         let same = test_made b path (core_test (known_of p) o.tested) v in
-        subst (λ (es : List Event). IsGood p b (known_of p) path (λ k. test_makes k o.tested) (test_shares p b (known_of p) path o.tested o.has v) v (λ e. false) o.tested.around es ev) (sym same)
-        (test_good p b (known_of p) path o.tested o.has v unled o.follows ev (subst (λ (es : List Event). Has ev es) same m))
+        subst (λ (es : List Event). IsGood p b (known_of p) path (λ k. test_makes k o.tested) (test_shares p b path o.tested o.has v) v (λ e. false) o.tested.around es ev) (sym same)
+        (test_good p b path o.tested o.has v o.follows ev (subst (λ (es : List Event). Has ev es) same m))
 
     own_together : (x y : Event) → Has x test_made_events → Has y test_made_events → Apart (meets_in p) (number_of x) (number_of y) → ⊥
     own_together x y hx hy apart =
         let mx = made_at b (length (factors loops)) (paths_inside loops) (inside_copies b loops) test_commands test_deep v x hx in
         let my = made_at b (length (factors loops)) (paths_inside loops) (inside_copies b loops) test_commands test_deep v y hy in
         test_together p o.tested (number_of x) (number_of y) o.has
-        (good_inside p b (known_of p) (path_of x) (λ k. test_makes k o.tested) (test_shares p b (known_of p) (path_of x) o.tested o.has v) v (λ e. false) o.tested.around (all_made_by b (path_of x) test_commands v) x (own_good (path_of x) mx.0 x mx.1))
-        (good_inside p b (known_of p) (path_of y) (λ k. test_makes k o.tested) (test_shares p b (known_of p) (path_of y) o.tested o.has v) v (λ e. false) o.tested.around (all_made_by b (path_of y) test_commands v) y (own_good (path_of y) my.0 y my.1))
+        (good_inside p b (known_of p) (path_of x) (λ k. test_makes k o.tested) (test_shares p b (path_of x) o.tested o.has v) v (λ e. false) o.tested.around (all_made_by b (path_of x) test_commands v) x (own_good (path_of x) mx.0 x mx.1))
+        (good_inside p b (known_of p) (path_of y) (λ k. test_makes k o.tested) (test_shares p b (path_of y) o.tested o.has v) v (λ e. false) o.tested.around (all_made_by b (path_of y) test_commands v) y (own_good (path_of y) my.0 y my.1))
         apart
 
     own_ascends : (path : Path) → Has path (paths_inside loops) → (low : ℕ) × ((high : ℕ) × Ascends low (all_made_by b path test_commands v) high)
@@ -158,16 +166,16 @@ module _ (p : Program) (typed : IsTypedProgram p) (rules : KeepsIndexRules p) (d
       where
         tests_ascend : (q : Path) (n : ℕ) (t : Option Term) → (high : ℕ) × Ascends n (term_events b v q (core_test_of (known_of p) n t)) high
         tests_ascend q n None = (n, omega arith)
-        tests_ascend q n (Some t) = (n + term_accesses t, term_ascends p b (known_of p) q (λ k. test_makes k o.tested) (test_shares p b (known_of p) q o.tested o.has v) v (λ e. false) v n t)
+        tests_ascend q n (Some t) = (n + term_accesses t, term_ascends p b (known_of p) q (λ k. test_makes k o.tested) (test_shares p b q o.tested o.has v) v (λ e. false) v n t)
 
     pub tested_covered : (entity memory bank : ℕ) → number_in (memories_of p) (Some entity) ≡ Some memory → AreCovered p test_made_events entity memory bank
     tested_covered =
-        bank_covered p typed rules declared unled b table (λ k. test_makes k o.tested) (λ path. test_shares p b (known_of p) path o.tested o.has v) (λ e. false) o.tested.around
+        bank_covered p typed rules declared bound lead_all shift_all b table (λ k. test_makes k o.tested) (λ path. test_shares p b path o.tested o.has v) (λ e. false) o.tested.around
         loops test_commands test_deep v own_good own_ascends indices o.paths own_together
 
     pub tested_keeps : KeepsPorts p → (memory bank : ℕ) → spent test_made_events memory bank ≤ ports_at (table_of p) memory
     tested_keeps =
-        block_keeps p typed rules declared unled b table (λ k. test_makes k o.tested) (λ path. test_shares p b (known_of p) path o.tested o.has v) (λ e. false) o.tested.around
+        block_keeps p typed rules declared bound lead_all shift_all b table (λ k. test_makes k o.tested) (λ path. test_shares p b path o.tested o.has v) (λ e. false) o.tested.around
         loops test_commands test_deep v own_good own_ascends indices o.paths own_together
 
 pub typed_program : (p : Program) → IsReady p → IsTypedProgram p
@@ -191,10 +199,10 @@ module _ (p : Program) (ready : IsReady p) (rules : KeepsIndexRules p) (declared
       by : StraightTold p loops block ⊎ TestTold p loops block → AreCovered p (events_in p loops block memories v) entity memory bank
       by (inl o) =
           subst (λ (es : List Event). AreCovered p es entity memory bank) (sym (own_events loops block o.of memories v))
-          (straight_covered p (typed_program p ready) rules declared (no_way_to p ready.built) ready.of_text.first ready.of_text.numbered (begun_with memories) refl loops v block o.of o.deep (o.indices v turns) entity memory bank n)
+          (straight_covered p (typed_program p ready) rules declared (views_bound p ready) (kept_ways_lead p ready) (ways_shift p ready) ready.of_text.first ready.of_text.numbered (begun_with memories) refl loops v block o.of o.deep o.views o.inside (o.indices v turns) entity memory bank n)
       by (inr o) =
           subst (λ (c : Block). AreCovered p (events_in p loops c memories v) entity memory bank) (sym o.of.is)
-          (tested_covered p (typed_program p ready) rules declared (no_way_to p ready.built) ready.of_text.first ready.of_text.numbered (begun_with memories) refl loops v block o.of (o.indices v turns) entity memory bank n)
+          (tested_covered p (typed_program p ready) rules declared (views_bound p ready) (kept_ways_lead p ready) (ways_shift p ready) ready.of_text.first ready.of_text.numbered (begun_with memories) refl loops v block o.of (o.indices v turns) entity memory bank n)
 
   -- If it keeps its ports, each block keeps the ports of every bank.
   module _ (keeps : KeepsPorts p) where
@@ -205,10 +213,10 @@ module _ (p : Program) (ready : IsReady p) (rules : KeepsIndexRules p) (declared
         by : StraightTold p loops block ⊎ TestTold p loops block → spent (block_run (begun_with memories) (paths_inside loops) block (record { variables = v; events = [] })).events memory bank ≤ ports_at (core_of p).table memory
         by (inl o) =
             subst (λ (es : List Event). spent es memory bank ≤ ports_at (core_of p).table memory) (sym (own_events loops block o.of memories v))
-            (straight_keeps p (typed_program p ready) rules declared (no_way_to p ready.built) ready.of_text.first ready.of_text.numbered (begun_with memories) refl loops v block o.of o.deep (o.indices v turns) keeps memory bank)
+            (straight_keeps p (typed_program p ready) rules declared (views_bound p ready) (kept_ways_lead p ready) (ways_shift p ready) ready.of_text.first ready.of_text.numbered (begun_with memories) refl loops v block o.of o.deep o.views o.inside (o.indices v turns) keeps memory bank)
         by (inr o) =
             subst (λ (c : Block). spent (block_run (begun_with memories) (paths_inside loops) c (record { variables = v; events = [] })).events memory bank ≤ ports_at (core_of p).table memory) (sym o.of.is)
-            (tested_keeps p (typed_program p ready) rules declared (no_way_to p ready.built) ready.of_text.first ready.of_text.numbered (begun_with memories) refl loops v block o.of (o.indices v turns) keeps memory bank)
+            (tested_keeps p (typed_program p ready) rules declared (views_bound p ready) (kept_ways_lead p ready) (ways_shift p ready) ready.of_text.first ready.of_text.numbered (begun_with memories) refl loops v block o.of (o.indices v turns) keeps memory bank)
 
     pub blocks_keep : BlocksKeepPorts (core_of p)
     blocks_keep = record { within = block_within }

@@ -15,11 +15,10 @@ use Rattle.dh_sound.proofs.NeverStuck.{blocks_never_stuck}
 use Rattle.dh_sound.proofs.PhasesKept.{iterators_kept}
 use Rattle.dh_sound.proofs.PlacementsSplit.{folds_none}
 use Rattle.dh_sound.proofs.IteratorsNamed.{names_keep}
-use Rattle.dh_ways.proofs.NoWays.{no_way_to}
 
 -- a program that is ready keeps its iterators where it is run
 pub ready_keeps : (p : Program) → IsReady p → KeepsIterators (core_of p)
-ready_keeps p r = iterators_kept p (no_way_to p r.built) (names_keep p (record {
+ready_keeps p r = iterators_kept p (names_keep p (record {
   names = r.names;
   entities = r.entities;
   placements = r.placements;

@@ -11,7 +11,7 @@ use Rattle.dh_tree.specs.PlainTrees.{Term, term, number, truth_value, named, acc
 use Rattle.dh_meaning.specs.AccessNumbers.{term_accesses}
 use Rattle.dh_meaning.specs.Bindings.{kind_or_first, kind_found}
 use Rattle.dh_meaning.specs.CoreOf.{Known, core_term, core_terms}
-use Rattle.dh_meaning.specs.Effects.{Begun, Variables, value_of, values_of, spot_by_indices, spot_by_row}
+use Rattle.dh_meaning.specs.Effects.{Begun, Variables, value_of, values_of, spot_by_row}
 use Rattle.dh_meaning.specs.Paths.{Path}
 use Rattle.dh_meets.specs.Charges.{entity_depends, term_depends, terms_depend, element_depends, depends, picked, key_of}
 use Rattle.dh_meets.specs.SourceEvents.{Element, with_indices, in_row, SourceAccess}

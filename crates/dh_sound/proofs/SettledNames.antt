@@ -131,7 +131,7 @@ iterator_settled known v0 v w touched p q r loop turn near close n i left here t
 -- Variables of full depth.
 
 -- a path is its part of its own length or more
-long_part : (d : ℕ) (p : Path) → length p ≤ d → take d p ≡ p
+pub long_part : (d : ℕ) (p : Path) → length p ≤ d → take d p ≡ p
 long_part zero [] l = refl
 long_part (suc d) [] l = refl
 long_part zero (x ∷ p) l = let none : ⊥ = omega (arith, l) in elim none [ ]

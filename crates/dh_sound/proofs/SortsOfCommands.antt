@@ -2,35 +2,45 @@
 -- inside all the unrolled loops round it. By recursion over commands, with what each visible name stands for at each
 -- point of the text: a declaration of a variable has the depth of the point; inside a loop of several copies only
 -- what is declared there is numbered from its iterator on, and the rule on outer writes lets nothing else be assigned
--- to. Reducers join copies alone, and make no access. Views and calls are not built.
+-- to. A view keeps its offsets as deep as it stands. Reducers join copies alone, and make no access. Calls are not built.
 use Rattle.std.proofs.Common.{◌≡◌, ℕ, ◌≤◌, nat_lt, true, false, List, [], ◌∷◌, ◌++◌, length, Option, Some, refl, sym, ◌∙◌, ap, subst, arith, inl}
 use Rattle.std.specs.Option.{option_map}
 use Rattle.dh_value.specs.declared.kinds.Kind.{Kind}
 use Rattle.dh_tree.specs.declared.trees.programs.Sort.TheVariants as sort
 use Rattle.dh_tree.specs.Breaches.{unknown, twice, term_breaches, value_breaches, breaches, form_breaches, other_breaches, actions_breaches, groups_breaches}
-use Rattle.dh_tree.specs.KindBreaches.{term_kind_breaches, assigned_breaches, truth_breaches, condition_breaches, target_breaches, iterator_breaches, low_breaches, high_breaches, action_kind_breaches, action_form_kind_breaches, other_kind_breaches, actions_kind_breaches, groups_kind_breaches}
-use Rattle.dh_tree.specs.Kinds.{of_iterator, of_memory, Facts, fact_of, found, place_of, target_kind, variable_fact, iterator_kind, facts_after, facts_after_form, facts_after_other, facts_after_actions, facts_after_groups}
+use Rattle.dh_tree.specs.KindBreaches.{term_kind_breaches, assigned_breaches, parent_breaches, truth_breaches, condition_breaches, target_breaches, iterator_breaches, low_breaches, high_breaches, action_kind_breaches, action_form_kind_breaches, other_kind_breaches, actions_kind_breaches, groups_kind_breaches}
+use Rattle.dh_tree.specs.Kinds.{of_iterator, of_memory, Facts, fact_of, found, place_of, target_kind, variable_fact, view_dims, view_fact, iterator_kind, facts_after, facts_after_form, facts_after_other, facts_after_actions, facts_after_groups}
 use Rattle.dh_tree.specs.Memories.{Memory, memories_of, locals, form_locals, other_locals, part_locals, groups_locals}
 use Rattle.dh_tree.specs.PlainTrees.{converted, applied, in_bank, accessed, named, truth_value, number, term, Term, Action, action, ActionForm, lets, lets_memory, views, assigns, stores, reduces, calls, blocks, decides, repeats, counts, MaybeAction, no_action, one_action, Actions, no_actions, action_then, Groups, no_groups, group_then, Program}
-use Rattle.dh_tree.specs.Resolved.{resolved_term, resolved_action, resolved_form, resolved_other, resolved_actions, resolved_groups}
+use Rattle.dh_tree.specs.Ready.{IsReady}
+use Rattle.dh_tree.specs.Seen.{terms}
+use Rattle.dh_tree.specs.ViewOffsets.{offsets_of}
+use Rattle.dh_tree.specs.Breaches as names
+use Rattle.dh_tree.specs.Resolved.{resolved_plan, resolved_term, resolved_action, resolved_form, resolved_other, resolved_actions, resolved_groups}
 use Rattle.dh_tree.specs.Scopes.{entity_of, bind, Scope, declare, leave, past, at_end, form_at_end, other_at_end, actions_at_end, groups_at_end}
 use Rattle.dh_tree.proofs.EmptyLists.{first_none, second_none}
 use Rattle.dh_meaning.specs.Bindings.{depth_inside, binding_in, depth_bound}
 use Rattle.dh_meaning.specs.CoreOf.{known_of, entity_number}
 use Rattle.dh_meaning.specs.Sites.{Around, in_arm, in_loop, loop_of}
 use Rattle.dh_meets.specs.SourceEvents.{Site, SourceEvent, site_of, term_events, maybe_events, events, command_events, other_events, groups_events, part_events}
-use Rattle.dh_sound.specs.AssignsInside.{AssignsInside, FormAssignsInside, OtherAssignsInside, GroupsAssignInside, PartAssignsInside}
+use Rattle.dh_sound.specs.AssignsInside.{KeepsInside, AssignsInside, FormAssignsInside, OtherAssignsInside, GroupsAssignInside, PartAssignsInside}
 use Rattle.dh_sound.specs.BlockTold.{IsOfMemory}
 use Rattle.dh_sound.specs.OuterWrites.{first_inside, outer_breaches, outer_form_breaches, outer_other_breaches, outer_part_breaches, outer_groups_breaches}
-use Rattle.dh_sound.specs.SimpleForms.{IsVariable, FoldsOnly, FormFoldsOnly, GroupsFoldOnly, PartFoldsOnly, JoinsFolds, IsSimple, FormSimple, OtherSimple, GroupsSimple, PartSimple}
+use Rattle.dh_sound.specs.SimpleForms.{IsVariable, FoldsOnly, FormFoldsOnly, GroupsFoldOnly, PartFoldsOnly, JoinsFolds, FoldsInJoins, FormFoldsInJoins, OtherFoldsInJoins, GroupsFoldInJoins, PartFoldsInJoins}
 use Rattle.dh_sound.specs.Trails.{EachAccess}
 use Rattle.dh_sound.proofs.DepthsNamed.{size, Deep, FormDeep, OtherDeep, GroupsDeep, PartDeep}
 use Rattle.dh_sound.proofs.FactsGrow.{appended, grows, form_grows, InStep, next_in_step, past_in_step, in_step, part_in_step}
 use Rattle.dh_sound.proofs.NamedPrograms.{used_stands}
 use Rattle.dh_sound.proofs.Pigeons.{Has, has_left, has_right}
 use Rattle.dh_sound.proofs.Sites.{each_both}
-use Rattle.dh_sound.proofs.SortsOfNames.{memory_found, IsDeepFrom, memory_is, variable_is, iterator_is, AreSorted, later_sorted, all_later, inner_sorted, bind_sorted, next_fact, declared_sorted, past_sorted, let_is, target_inside, term_told, write_told, maybe_told}
-use Rattle.dh_meaning.specs.Ways.{all_bindings_of}
+use Rattle.dh_sound.proofs.SortsOfNames.{memory_found, IsDeepFrom, memory_is, variable_is, iterator_is, AreSorted, later_sorted, all_later, inner_sorted, bind_sorted, next_fact, declared_sorted, past_sorted, let_is, target_inside, term_told, write_told, maybe_told, fact_there, parent_of, terms_told, view_is}
+use Rattle.std.proofs.lemmas.Option.{slice_get_within}
+use Rattle.dh_meaning.specs.Ways.{Standing, Way, all_bindings_of, form_standings, groups_standings, hidden_in, other_standings, part_standings, standings, way_to}
+use Rattle.dh_ways.specs.Leading.{LeadsTo}
+use Rattle.dh_sound.proofs.Offsets.{offsets_kinds, offsets_named, offsets_visible}
+use Rattle.dh_sound.proofs.ViewedWays.{kept_ways_lead}
+use Rattle.dh_sound.proofs.ViewsBound.{views_bound}
+use Rattle.dh_sound.proofs.ViewsLed.{is_led, keeps_inside}
 
 -- commands lead to a point of the text where names are sorted, with accesses of memories and assignments inside
 pub record CommandTold (p : Program) (facts : Facts) (first depth : ℕ) (end : Scope) (es : List SourceEvent) (Inside : Type 0) : Type 0 where
@@ -38,7 +48,10 @@ pub record CommandTold (p : Program) (facts : Facts) (first depth : ℕ) (end : 
   pub events : EachAccess (IsOfMemory p) es
   pub inside : Inside
 
-module _ (p : Program) where
+module _ (p : Program) (ready : IsReady p) where
+  abbrev leads : (entity : Option ℕ) (w : Way) → way_to p entity ≡ Some w → LeadsTo (memories_of p) w
+  leads = kept_ways_lead p ready
+
   -- a variable that is declared has the depth of the point
   let_deep : (r : Option ℕ) (n first d : ℕ) → Some n ≡ r → depth_bound (binding_in (all_bindings_of p) (entity_number r)) ≡ d → IsDeepFrom p first d n
   let_deep r n first d own q l =
@@ -99,26 +112,26 @@ module _ (p : Program) where
 
   mutual
     pub told : (a : Action) (facts : Facts) (s : Scope) (r : Around) (first d : ℕ) → InStep s facts → AreSorted p facts first d s.visible
-        → resolved_action s a ≡ a → breaches s a ≡ [] → action_kind_breaches facts a ≡ [] → IsSimple a → outer_breaches first a ≡ [] → Deep (all_bindings_of p) d a → ((m : Memory) → Has m (locals a) → Has m (memories_of p))
-        → CommandTold p (facts_after facts a) first d (at_end s a) (events r a) (AssignsInside (known_of p) d a)
-    told (action id place form) facts s r first d l k e v b x o q w =
+        → resolved_action s a ≡ a → breaches s a ≡ [] → action_kind_breaches facts a ≡ [] → FoldsInJoins a → outer_breaches first a ≡ [] → Deep (all_bindings_of p) d a → ((m : Memory) → Has m (locals a) → Has m (memories_of p))
+        → ((y : Standing) → Has y (standings d a) → Has y (standings 0 p.body)) → CommandTold p (facts_after facts a) first d (at_end s a) (events r a) (AssignsInside (known_of p) d a)
+    told (action id place form) facts s r first d l k e v b x o q w z =
         let same : resolved_form s form ≡ form = cc in
-        form_told form facts s r id first d l k same v b x o q w
+        form_told form facts s r id first d l k same v b x o q w z
 
     form_told : (f : ActionForm) (facts : Facts) (s : Scope) (r : Around) (id first d : ℕ) → InStep s facts → AreSorted p facts first d s.visible
-        → resolved_form s f ≡ f → form_breaches s f ≡ [] → action_form_kind_breaches facts f ≡ [] → FormSimple f → outer_form_breaches first f ≡ [] → FormDeep (all_bindings_of p) d f → ((m : Memory) → Has m (form_locals f) → Has m (memories_of p))
-        → CommandTold p (facts_after_form facts f) first d (form_at_end s f) (command_events r (site_of r id) f) (FormAssignsInside (known_of p) d f)
-    form_told (lets name declared value) facts s r id first d l k e v b x o q w =
+        → resolved_form s f ≡ f → form_breaches s f ≡ [] → action_form_kind_breaches facts f ≡ [] → FormFoldsInJoins f → outer_form_breaches first f ≡ [] → FormDeep (all_bindings_of p) d f → ((m : Memory) → Has m (form_locals f) → Has m (memories_of p))
+        → ((y : Standing) → Has y (form_standings d f) → Has y (standings 0 p.body)) → CommandTold p (facts_after_form facts f) first d (form_at_end s f) (command_events r (site_of r id) f) (FormAssignsInside (known_of p) d f)
+    form_told (lets name declared value) facts s r id first d l k e v b x o q w z =
         let own : Some (size s) ≡ name.entity = cc in
         let right : option_map (resolved_term s.visible) value ≡ value = cc in
         let fact = let_is declared value in
         record {
           names = declared_sorted p facts s name sort.Variable (variable_fact declared value) first d k
               (variable_is fact.0 (next_fact facts s (variable_fact declared value) l ∙ ap Some fact.1) (let_deep name.entity (size s) first d own q));
-          events = each_both _ (maybe_events (site_of r id) value) _ (maybe_told p facts first d s.visible k (site_of r id) declared value right (first_none (value_breaches s.visible value) _ v) b) tt;
+          events = each_both _ (maybe_events (site_of r id) value) _ (maybe_told p leads facts first d s.visible k (site_of r id) declared value right (first_none (value_breaches s.visible value) _ v) b) tt;
           inside = no_less _ d q;
         }
-    form_told (lets_memory name shape shape_places value) facts s r id first d l k e v b x o q w =
+    form_told (lets_memory name shape shape_places value) facts s r id first d l k e v b x o q w z =
         let own : Some (size s) ≡ name.entity = cc in
         record {
           names = declared_sorted p facts s name sort.Memory (of_memory (Some shape.kind) (length shape.dims)) first d k
@@ -127,33 +140,53 @@ module _ (p : Program) where
           events = tt;
           inside = tt;
         }
-    form_told (views name parent form) facts s r id first d l k e v b x o q w = elim x [ ]
-    form_told (assigns target value) facts s r id first d l k e v b x o q w =
+    form_told (views name parent form) facts s r id first d l k e v b x o q w z =
+        let own : Some (size s) ≡ name.entity = cc in
+        let plan : resolved_plan s.visible form ≡ form = cc in
+        let above : entity_of s.visible parent.name ≡ parent.entity = cc in
+        let seen = second_none (unknown s.visible parent) _ v in
+        let stands = used_stands s.visible parent above (first_none (unknown s.visible parent) _ v) in
+        let of = parent_of p leads facts first d parent stands.0 parent.place stands.1 (k parent.name stands.0 (above ∙ stands.1)) (first_none (parent_breaches (fact_of facts parent) parent.place) _ b) in
+        let fact : view_fact (fact_of facts parent) form ≡ of_memory of.kind (view_dims form of.dims) = ap (λ o. view_fact o form) (sym (fact_there p leads facts first d parent stands.0 (of_memory of.kind of.dims) stands.1 of.at)) in
+        let one : Standing = record { name = name; parent = parent; form = form; depth = d } in
+        let step : size s ≡ length facts = l in
+        let below = slice_get_within facts stands.0 (of_memory of.kind of.dims) of.at in
+        let led = is_led p ready one (z one (inl refl)) (size s) stands.0 (sym own) stands.1 (omega (arith, below, step)) of.named in
+        let way : way_to p name.entity ≡ Some led.way = ap (λ o. way_to p o) (sym own) ∙ led.found in
+        record {
+          names = declared_sorted p facts s name sort.View (view_fact (fact_of facts parent) form) first d k
+              (view_is of.kind (view_dims form of.dims) (next_fact facts s (view_fact (fact_of facts parent) form) l ∙ ap Some fact) (led.way, led.found));
+          events = terms_told p leads facts first d s.visible k (site_of r id) (terms (offsets_of form)) (offsets_named s.visible form plan) (offsets_visible s.visible form ∙ first_none (names.plan_breaches s.visible form) _ seen)
+              (offsets_kinds facts form ∙ second_none (parent_breaches (fact_of facts parent) parent.place) _ b);
+          inside = subst (λ (o : Option Way). KeepsInside (known_of p) d (hidden_in o) (length (offsets_of form))) (sym way)
+              (keeps_inside p d led.first (offsets_of form) led.rest led.way.hidden led.hidden ((views_bound p ready).kept name.entity led.way way));
+        }
+    form_told (assigns target value) facts s r id first d l k e v b x o q w z =
         let left : entity_of s.visible target.name ≡ target.entity = cc in
         let right : resolved_term s.visible value ≡ value = cc in
         let stands = used_stands s.visible target left (first_none (unknown s.visible target) _ v) in
         record {
           names = k;
           events = each_both _ (term_events (site_of r id) value) _
-              (term_told p facts first d s.visible k (site_of r id) value right (second_none (unknown s.visible target) _ v)
+              (term_told p leads facts first d s.visible k (site_of r id) value right (second_none (unknown s.visible target) _ v)
               (second_none (assigned_breaches (target_kind (fact_of facts target)) (found value) (place_of value)) _ (second_none (target_breaches (fact_of facts target) target.place) _ b))) tt;
-          inside = target_inside p facts first d target stands.0 stands.1 (k target.name stands.0 (left ∙ stands.1)) (first_none (target_breaches (fact_of facts target) target.place) _ b) o;
+          inside = target_inside p leads facts first d target stands.0 stands.1 (k target.name stands.0 (left ∙ stands.1)) (first_none (target_breaches (fact_of facts target) target.place) _ b) o;
         }
-    form_told (stores target value) facts s r id first d l k e v b x o q w =
+    form_told (stores target value) facts s r id first d l k e v b x o q w z =
         let left : resolved_term s.visible target ≡ target = cc in
         let right : resolved_term s.visible value ≡ value = cc in
         record {
           names = k;
           events = each_both _ (term_events (site_of r id) value) _
-              (term_told p facts first d s.visible k (site_of r id) value right (second_none (term_breaches s.visible target) _ v)
+              (term_told p leads facts first d s.visible k (site_of r id) value right (second_none (term_breaches s.visible target) _ v)
               (second_none (assigned_breaches (found target) (found value) (place_of value)) _ (second_none (term_kind_breaches facts target) _ b)))
-              (write_told p facts first d s.visible k (site_of r id) target left (first_none (term_breaches s.visible target) _ v) (first_none (term_kind_breaches facts target) _ b));
+              (write_told p leads facts first d s.visible k (site_of r id) target left (first_none (term_breaches s.visible target) _ v) (first_none (term_kind_breaches facts target) _ b));
           inside = tt;
         }
-    form_told (reduces target op value) facts s r id first d l k e v b x o q w = elim x [ ]
-    form_told (calls function arguments) facts s r id first d l k e v b x o q w = elim x [ ]
-    form_told (blocks body) facts s r id first d l k e v b x o q w = groups_told body facts s r first d l k (let f = e in cc) v b x o q w
-    form_told (decides test chosen other) facts s r id first d l k e v b x o q w =
+    form_told (reduces target op value) facts s r id first d l k e v b x o q w z = elim x [ ]
+    form_told (calls function arguments) facts s r id first d l k e v b x o q w z = elim x [ ]
+    form_told (blocks body) facts s r id first d l k e v b x o q w z = groups_told body facts s r first d l k (let f = e in cc) v b x o q w z
+    form_told (decides test chosen other) facts s r id first d l k e v b x o q w z =
         let inner : Scope = leave s (at_end s chosen) in
         let test_same : resolved_term s.visible test ≡ test = cc in
         let first_same : resolved_action s chosen ≡ chosen = cc in
@@ -161,31 +194,31 @@ module _ (p : Program) where
         let seen = second_none (term_breaches s.visible test) _ v in
         let kinds = second_none (condition_breaches facts test) _ b in
         let one = told chosen facts s (in_arm r id true) first d l k first_same (first_none (breaches s chosen) _ seen) (first_none (action_kind_breaches facts chosen) _ kinds) x.0
-        (first_none (outer_breaches first chosen) _ o) q.0 (λ m h. w m (has_left m (locals chosen) (other_locals other) h)) in
+        (first_none (outer_breaches first chosen) _ o) q.0 (λ m h. w m (has_left m (locals chosen) (other_locals other) h)) (λ y h. z y (has_left y (standings d chosen) (other_standings d other) h)) in
         let two = other_told other (facts_after facts chosen) inner (in_arm r id false) first d (in_step s facts chosen l) (all_later p facts (facts_after facts chosen) first d s.visible (grows facts chosen) k)
         second_same (second_none (breaches s chosen) _ seen) (second_none (action_kind_breaches facts chosen) _ kinds) x.1
-        (second_none (outer_breaches first chosen) _ o) q.1 (λ m h. w m (has_right m (locals chosen) (other_locals other) h)) in
+        (second_none (outer_breaches first chosen) _ o) q.1 (λ m h. w m (has_right m (locals chosen) (other_locals other) h)) (λ y h. z y (has_right y (standings d chosen) (other_standings d other) h)) in
         record {
           names = all_later p facts (facts_after_other (facts_after facts chosen) other) first d s.visible (form_grows facts (decides test chosen other)) k;
           events = each_both _ (term_events (site_of r id) test) _
-              (term_told p facts first d s.visible k (site_of r id) test test_same (first_none (term_breaches s.visible test) _ v)
+              (term_told p leads facts first d s.visible k (site_of r id) test test_same (first_none (term_breaches s.visible test) _ v)
               (second_none (truth_breaches (found test) (place_of test)) _ (first_none (condition_breaches facts test) _ b)))
               (each_both _ (events (in_arm r id true) chosen) _ one.events two.events);
           inside = (one.inside, two.inside);
         }
-    form_told (repeats test body) facts s r id first d l k e v b x o q w =
+    form_told (repeats test body) facts s r id first d l k e v b x o q w z =
         let test_same : resolved_term s.visible test ≡ test = cc in
         let body_same : resolved_action s body ≡ body = cc in
-        let one = told body facts s r first d l k body_same (second_none (term_breaches s.visible test) _ v) (second_none (condition_breaches facts test) _ b) x o q w in
+        let one = told body facts s r first d l k body_same (second_none (term_breaches s.visible test) _ v) (second_none (condition_breaches facts test) _ b) x o q w z in
         record {
           names = all_later p facts (facts_after facts body) first d s.visible (grows facts body) k;
           events = each_both _ (term_events (site_of r id) test) _
-              (term_told p facts first d s.visible k (site_of r id) test test_same (first_none (term_breaches s.visible test) _ v)
+              (term_told p leads facts first d s.visible k (site_of r id) test test_same (first_none (term_breaches s.visible test) _ v)
               (second_none (truth_breaches (found test) (place_of test)) _ (first_none (condition_breaches facts test) _ b)))
               one.events;
           inside = one.inside;
         }
-    form_told (counts iterator declared low high factor body combine combine_place) facts s r id first d l k e v b x o q w =
+    form_told (counts iterator declared low high factor body combine combine_place) facts s r id first d l k e v b x o q w z =
         let j : Kind = iterator_kind declared in
         let more : Facts = facts ++ of_iterator (iterator_kind declared) ∷ [] in
         let inner : Scope = declare s iterator sort.Iterator in
@@ -200,7 +233,8 @@ module _ (p : Program) where
         (enters facts s first d factor.value (iterator_kind declared) iterator.name l k deep) in
         let one = told body (facts ++ of_iterator (iterator_kind declared) ∷ []) (declare s iterator sort.Iterator) (in_loop r (loop_of iterator low high factor)) (first_inside first factor.value iterator.entity) (depth_inside d factor.value)
         (next_in_step s facts iterator sort.Iterator (of_iterator (iterator_kind declared)) l) sorted same (first_none (breaches inner body) _ seen) (first_none (action_kind_breaches more body) _ kinds) x.0 (first_none (outer_breaches (first_inside first factor.value iterator.entity) body) _ o) q.1.0
-        (λ m h. w m (has_left m (locals body) (other_locals combine) h)) in
+        (λ m h. w m (has_left m (locals body) (other_locals combine) h))
+        (λ y h. z y (has_left y (standings (depth_inside d factor.value) body) (other_standings (depth_inside d factor.value) combine) h)) in
         record {
           names = all_later p facts (facts_after_other (facts_after (facts ++ of_iterator (iterator_kind declared) ∷ []) body) combine) first d s.visible (form_grows facts (counts iterator declared low high factor body combine combine_place)) k;
           events = each_both _ (events (in_loop r (loop_of iterator low high factor)) body) _ one.events (join_told combine (in_loop r (loop_of iterator low high factor)) x.1);
@@ -208,39 +242,39 @@ module _ (p : Program) where
         }
 
     other_told : (m : MaybeAction) (facts : Facts) (s : Scope) (r : Around) (first d : ℕ) → InStep s facts → AreSorted p facts first d s.visible
-        → resolved_other s m ≡ m → other_breaches s m ≡ [] → other_kind_breaches facts m ≡ [] → OtherSimple m → outer_other_breaches first m ≡ [] → OtherDeep (all_bindings_of p) d m → ((x : Memory) → Has x (other_locals m) → Has x (memories_of p))
-        → CommandTold p (facts_after_other facts m) first d (other_at_end s m) (other_events r m) (OtherAssignsInside (known_of p) d m)
-    other_told no_action facts s r first d l k e v b x o q w = record { names = k; events = tt; inside = tt }
-    other_told (one_action a) facts s r first d l k e v b x o q w = let same : resolved_action s a ≡ a = cc in told a facts s r first d l k same v b x o q w
+        → resolved_other s m ≡ m → other_breaches s m ≡ [] → other_kind_breaches facts m ≡ [] → OtherFoldsInJoins m → outer_other_breaches first m ≡ [] → OtherDeep (all_bindings_of p) d m → ((x : Memory) → Has x (other_locals m) → Has x (memories_of p))
+        → ((y : Standing) → Has y (other_standings d m) → Has y (standings 0 p.body)) → CommandTold p (facts_after_other facts m) first d (other_at_end s m) (other_events r m) (OtherAssignsInside (known_of p) d m)
+    other_told no_action facts s r first d l k e v b x o q w z = record { names = k; events = tt; inside = tt }
+    other_told (one_action a) facts s r first d l k e v b x o q w z = let same : resolved_action s a ≡ a = cc in told a facts s r first d l k same v b x o q w z
 
     part_told : (part : Actions) (facts : Facts) (s : Scope) (r : Around) (first d : ℕ) → InStep s facts → AreSorted p facts first d s.visible
-        → resolved_actions s part ≡ part → actions_breaches s part ≡ [] → actions_kind_breaches facts part ≡ [] → PartSimple part → outer_part_breaches first part ≡ [] → PartDeep (all_bindings_of p) d part
+        → resolved_actions s part ≡ part → actions_breaches s part ≡ [] → actions_kind_breaches facts part ≡ [] → PartFoldsInJoins part → outer_part_breaches first part ≡ [] → PartDeep (all_bindings_of p) d part
         → ((m : Memory) → Has m (part_locals part) → Has m (memories_of p))
-        → CommandTold p (facts_after_actions facts part) first d (actions_at_end s part) (part_events r part) (PartAssignsInside (known_of p) d part)
-    part_told no_actions facts s r first d l k e v b x o q w = record { names = k; events = tt; inside = tt }
-    part_told (action_then a rest) facts s r first d l k e v b x o q w =
+        → ((y : Standing) → Has y (part_standings d part) → Has y (standings 0 p.body)) → CommandTold p (facts_after_actions facts part) first d (actions_at_end s part) (part_events r part) (PartAssignsInside (known_of p) d part)
+    part_told no_actions facts s r first d l k e v b x o q w z = record { names = k; events = tt; inside = tt }
+    part_told (action_then a rest) facts s r first d l k e v b x o q w z =
         let after : Scope = past s a (at_end s a) in
         let first_same : resolved_action s a ≡ a = cc in
         let second_same : resolved_actions after rest ≡ rest = cc in
         let one = told a facts s r first d l k first_same (first_none (breaches s a) _ v) (first_none (action_kind_breaches facts a) _ b) x.0 (first_none (outer_breaches first a) _ o) q.0
-        (λ m h. w m (has_left m (locals a) (part_locals rest) h)) in
+        (λ m h. w m (has_left m (locals a) (part_locals rest) h)) (λ y h. z y (has_left y (standings d a) (part_standings d rest) h)) in
         let two = part_told rest (facts_after facts a) (past s a (at_end s a)) r first d (past_in_step s (at_end s a) (facts_after facts a) a (in_step s facts a l))
         (past_sorted p (facts_after facts a) first d s a (all_later p facts (facts_after facts a) first d s.visible (grows facts a) k) one.names)
         second_same (second_none (breaches s a) _ v) (second_none (action_kind_breaches facts a) _ b) x.1 (second_none (outer_breaches first a) _ o) q.1
-        (λ m h. w m (has_right m (locals a) (part_locals rest) h)) in
+        (λ m h. w m (has_right m (locals a) (part_locals rest) h)) (λ y h. z y (has_right y (standings d a) (part_standings d rest) h)) in
         record { names = two.names; events = each_both _ (events r a) _ one.events two.events; inside = (one.inside, two.inside) }
 
     groups_told : (gs : Groups) (facts : Facts) (s : Scope) (r : Around) (first d : ℕ) → InStep s facts → AreSorted p facts first d s.visible
-        → resolved_groups s gs ≡ gs → groups_breaches s gs ≡ [] → groups_kind_breaches facts gs ≡ [] → GroupsSimple gs → outer_groups_breaches first gs ≡ [] → GroupsDeep (all_bindings_of p) d gs
+        → resolved_groups s gs ≡ gs → groups_breaches s gs ≡ [] → groups_kind_breaches facts gs ≡ [] → GroupsFoldInJoins gs → outer_groups_breaches first gs ≡ [] → GroupsDeep (all_bindings_of p) d gs
         → ((m : Memory) → Has m (groups_locals gs) → Has m (memories_of p))
-        → CommandTold p (facts_after_groups facts gs) first d (groups_at_end s gs) (groups_events r gs) (GroupsAssignInside (known_of p) d gs)
-    groups_told no_groups facts s r first d l k e v b x o q w = record { names = k; events = tt; inside = tt }
-    groups_told (group_then part rest) facts s r first d l k e v b x o q w =
+        → ((y : Standing) → Has y (groups_standings d gs) → Has y (standings 0 p.body)) → CommandTold p (facts_after_groups facts gs) first d (groups_at_end s gs) (groups_events r gs) (GroupsAssignInside (known_of p) d gs)
+    groups_told no_groups facts s r first d l k e v b x o q w z = record { names = k; events = tt; inside = tt }
+    groups_told (group_then part rest) facts s r first d l k e v b x o q w z =
         let first_same : resolved_actions s part ≡ part = cc in
         let second_same : resolved_groups (actions_at_end s part) rest ≡ rest = cc in
         let one = part_told part facts s r first d l k first_same (first_none (actions_breaches s part) _ v) (first_none (actions_kind_breaches facts part) _ b) x.0 (first_none (outer_part_breaches first part) _ o) q.0
-        (λ m h. w m (has_left m (part_locals part) (groups_locals rest) h)) in
+        (λ m h. w m (has_left m (part_locals part) (groups_locals rest) h)) (λ y h. z y (has_left y (part_standings d part) (groups_standings d rest) h)) in
         let two = groups_told rest (facts_after_actions facts part) (actions_at_end s part) r first d (part_in_step s facts part l) one.names
         second_same (second_none (actions_breaches s part) _ v) (second_none (actions_kind_breaches facts part) _ b) x.1 (second_none (outer_part_breaches first part) _ o) q.1
-        (λ m h. w m (has_right m (part_locals part) (groups_locals rest) h)) in
+        (λ m h. w m (has_right m (part_locals part) (groups_locals rest) h)) (λ y h. z y (has_right y (part_standings d part) (groups_standings d rest) h)) in
         record { names = two.names; events = each_both _ (part_events r part) _ one.events two.events; inside = (one.inside, two.inside) }

@@ -1,7 +1,8 @@
--- What a visible name stands for, by what is known of its entity: a memory that is declared, a function, or a variable or
--- an iterator that is declared inside the unrolled loops round the point where it is numbered inside the innermost
--- of them. Views are not built. So an access of a typed program that breaks no rule on kinds is of a memory, and
--- what is assigned to is a variable or an iterator. Every name has the entity that it stands for where it is visible.
+-- What a visible name stands for, by what is known of its entity: a memory that is declared, a view that has a way, a
+-- function, or a variable or an iterator that is declared inside the unrolled loops round the point where it is numbered
+-- inside the innermost of them. So an access of a typed program that breaks no rule on kinds is of a memory, or leads to
+-- one, and what is assigned to is a variable or an iterator. Every name has the entity that it stands for where it is
+-- visible.
 use Rattle.std.proofs.Common.{◌≡◌, ℕ, suc, ◌≤◌, nat_lt, Bool, true, false, if◌then◌else◌, List, [], ◌∷◌, ◌++◌, length, Option, Some, None, refl, sym, ◌∙◌, ap, subst, arith, ◌⊎◌, inl, inr}
 use Rattle.std.specs.Prelude.{slice_get}
 use Rattle.std.specs.Option.{option_map}
@@ -35,7 +36,10 @@ use Rattle.dh_sound.proofs.KindsOfCommands.{added_found}
 use Rattle.dh_sound.proofs.NamedPrograms.{used_stands}
 use Rattle.dh_sound.proofs.Pigeons.{Has}
 use Rattle.dh_sound.proofs.Sites.{each_both}
-use Rattle.dh_meaning.specs.Ways.{all_bindings_of}
+use Rattle.dh_meaning.specs.Ways.{Way, all_bindings_of, base_of, way_to}
+use Rattle.dh_ways.specs.Leading.{LeadsTo}
+use Rattle.dh_ways.proofs.NoWays.{memory_unled}
+use Rattle.dh_sound.proofs.ViewsLed.{IsNamed}
 
 -- Memories.
 
@@ -58,6 +62,26 @@ memory_found (y ∷ ys) m n h e = by (same_entity y.name.entity (Some n)) refl h
     by false f (inl same) more = let t = own y.name.entity (ap (λ (x : Memory). x.name.entity) (sym same) ∙ e) in absurd cc
     by false f (inr g) more = more g e
 
+-- an entity is a view that has a way
+abbrev pub IsView : Program → ℕ → Type 0
+IsView p n = (w : Way) × (way_to p (Some n) ≡ Some w)
+
+none_named : (o : Option ℕ) → same_entity o None ≡ false
+none_named None = refl
+none_named (Some n) = refl
+
+none_there : (ms : List Memory) → memory_in ms None ≡ None
+none_there [] = refl
+none_there (m ∷ ms) = ap (λ t. if t then Some m else memory_in ms None) (none_named m.name.entity) ∙ none_there ms
+
+-- what a memory is found of is an entity
+some_memory : (ms : List Memory) (o : Option ℕ) (m : Memory) → memory_in ms o ≡ Some m → (n : ℕ) × (o ≡ Some n)
+some_memory ms None m e = absurd (wrong (sym (none_there ms) ∙ e))
+  where
+    wrong : None ≡ Some m → ⊥
+    wrong f = cc
+some_memory ms (Some n) m e = (n, refl)
+
 -- Names.
 
 -- an entity that is numbered inside the innermost unrolled loop is declared inside so many
@@ -67,6 +91,7 @@ IsDeepFrom p first depth n = first ≤ n → depth ≤ depth_bound (binding_in (
 -- What an entity is, at a point of the text inside so many unrolled loops, with the first number inside the innermost.
 pub data IsSorted (p : Program) (facts : Facts) (first depth n : ℕ) : Type 0 where
   memory_is : (k : Option Kind) → (dims : ℕ) → slice_get facts n ≡ Some (of_memory k dims) → IsMemory p n → IsSorted p facts first depth n
+  view_is : (k : Option Kind) → (dims : ℕ) → slice_get facts n ≡ Some (of_memory k dims) → IsView p n → IsSorted p facts first depth n
   variable_is : (k : Option Kind) → slice_get facts n ≡ Some (of_variable k) → IsDeepFrom p first depth n → IsSorted p facts first depth n
   iterator_is : (k : Kind) → slice_get facts n ≡ Some (of_iterator k) → IsDeepFrom p first depth n → IsSorted p facts first depth n
   function_is : (ks : List Kind) → slice_get facts n ≡ Some (of_function ks) → IsSorted p facts first depth n
@@ -78,6 +103,7 @@ AreSorted p facts first depth bs = (name : List ℕ) (n : ℕ) → entity_of bs 
 -- when more is known
 pub later_sorted : (p : Program) (facts later : Facts) (first depth n : ℕ) → Extends later facts → IsSorted p facts first depth n → IsSorted p later first depth n
 later_sorted p facts later first depth n x (memory_is k dims at m) = memory_is k dims (x n _ at) m
+later_sorted p facts later first depth n x (view_is k dims at m) = view_is k dims (x n _ at) m
 later_sorted p facts later first depth n x (variable_is k at deep) = variable_is k (x n _ at) deep
 later_sorted p facts later first depth n x (iterator_is k at deep) = iterator_is k (x n _ at) deep
 later_sorted p facts later first depth n x (function_is ks at) = function_is ks (x n _ at)
@@ -93,6 +119,7 @@ pub inner_sorted : (t : Bool) (p : Program) (facts : Facts) (first depth n m : �
     → IsSorted p facts (if t then m else first) (if t then suc depth else depth) n
 inner_sorted false p facts first depth n m e h = h
 inner_sorted true p facts first depth n m e (memory_is k dims at i) = memory_is k dims at i
+inner_sorted true p facts first depth n m e (view_is k dims at i) = view_is k dims at i
 inner_sorted true p facts first depth n m e (variable_is k at deep) = variable_is k at (above_known p facts (of_variable k) m (suc depth) n e at)
 inner_sorted true p facts first depth n m e (iterator_is k at deep) = iterator_is k at (above_known p facts (of_iterator k) m (suc depth) n e at)
 inner_sorted true p facts first depth n m e (function_is ks at) = function_is ks at
@@ -138,25 +165,51 @@ let_is None None = (Some kind.Bool, refl)
 let_is None (Some t) = (found t, refl)
 
 -- Accesses and assignments.
-module _ (p : Program) (facts : Facts) (first depth : ℕ) where
-  fact_there : (r : Ref) (n : ℕ) (f : Fact) → r.entity ≡ Some n → slice_get facts n ≡ Some f → Some f ≡ fact_of facts r
+module _ (p : Program) (leads : (entity : Option ℕ) (w : Way) → way_to p entity ≡ Some w → LeadsTo (memories_of p) w) (facts : Facts) (first depth : ℕ) where
+  pub fact_there : (r : Ref) (n : ℕ) (f : Fact) → r.entity ≡ Some n → slice_get facts n ≡ Some f → Some f ≡ fact_of facts r
   fact_there r n f is at = sym (ap (fact_at facts) is ∙ at)
 
   -- an entity of an access
   abbrev pub OfMemory : Option ℕ → Type 0
-  OfMemory entity = (n : ℕ) × ((entity ≡ Some n) × IsMemory p n)
+  OfMemory entity = (n : ℕ) × ((base_of (way_to p entity) entity ≡ Some n) × IsMemory p n)
+
+  of_itself : (entity : Option ℕ) (n : ℕ) → entity ≡ Some n → IsMemory p n → OfMemory entity
+  of_itself entity n is m = (n, (ap (λ o. base_of o entity) (memory_unled p entity m.0 (ap (memory_in (memories_of p)) is ∙ m.1)) ∙ is, m))
+
+  of_view : (entity : Option ℕ) (n : ℕ) → entity ≡ Some n → IsView p n → OfMemory entity
+  of_view entity n is (w, e) =
+      let way : way_to p entity ≡ Some w = ap (λ o. way_to p o) is ∙ e in
+      let lead = leads entity w way in
+      let some = some_memory (memories_of p) w.memory lead.memory lead.found in
+      (some.0, (ap (λ o. base_of o entity) way ∙ some.1, (lead.memory, ap (memory_in (memories_of p)) (sym some.1) ∙ lead.found)))
 
   access_of : (r : Ref) (n : ℕ) (place : Place) (indices : Terms) → r.entity ≡ Some n → IsSorted p facts first depth n → access_breaches (fact_of facts r) place indices ≡ [] → OfMemory r.entity
-  access_of r n place indices is (memory_is k dims at m) e = (n, (is, m))
+  access_of r n place indices is (memory_is k dims at m) e = of_itself r.entity n is m
+  access_of r n place indices is (view_is k dims at m) e = of_view r.entity n is m
   access_of r n place indices is (variable_is k at deep) e = not_none _ _ (ap (λ o. access_breaches o place indices) (fact_there r n (of_variable k) is at) ∙ e)
   access_of r n place indices is (iterator_is k at deep) e = not_none _ _ (ap (λ o. access_breaches o place indices) (fact_there r n (of_iterator k) is at) ∙ e)
   access_of r n place indices is (function_is ks at) e = not_none _ _ (ap (λ o. access_breaches o place indices) (fact_there r n (of_function ks) is at) ∙ e)
 
   bank_of_memory : (r : Ref) (n : ℕ) (place : Place) → r.entity ≡ Some n → IsSorted p facts first depth n → bank_breaches (fact_of facts r) place ≡ [] → OfMemory r.entity
-  bank_of_memory r n place is (memory_is k dims at m) e = (n, (is, m))
+  bank_of_memory r n place is (memory_is k dims at m) e = of_itself r.entity n is m
+  bank_of_memory r n place is (view_is k dims at m) e = of_view r.entity n is m
   bank_of_memory r n place is (variable_is k at deep) e = not_none _ _ (ap (λ o. bank_breaches o place) (fact_there r n (of_variable k) is at) ∙ e)
   bank_of_memory r n place is (iterator_is k at deep) e = not_none _ _ (ap (λ o. bank_breaches o place) (fact_there r n (of_iterator k) is at) ∙ e)
   bank_of_memory r n place is (function_is ks at) e = not_none _ _ (ap (λ o. bank_breaches o place) (fact_there r n (of_function ks) is at) ∙ e)
+
+  -- the parent of a view: a memory, or a view that has a way
+  pub record Parent (n : ℕ) : Type 0 where
+    pub kind : Option Kind
+    pub dims : ℕ
+    pub at : slice_get facts n ≡ Some (of_memory kind dims)
+    pub named : IsNamed (memory_in (memories_of p) (Some n)) (way_to p (Some n))
+
+  pub parent_of : (r : Ref) (n : ℕ) (place : Place) → r.entity ≡ Some n → IsSorted p facts first depth n → bank_breaches (fact_of facts r) place ≡ [] → Parent n
+  parent_of r n place is (memory_is k dims at m) e = record { kind = k; dims = dims; at = at; named = inl m }
+  parent_of r n place is (view_is k dims at w) e = record { kind = k; dims = dims; at = at; named = inr w }
+  parent_of r n place is (variable_is k at deep) e = not_none _ _ (ap (λ o. bank_breaches o place) (fact_there r n (of_variable k) is at) ∙ e)
+  parent_of r n place is (iterator_is k at deep) e = not_none _ _ (ap (λ o. bank_breaches o place) (fact_there r n (of_iterator k) is at) ∙ e)
+  parent_of r n place is (function_is ks at) e = not_none _ _ (ap (λ o. bank_breaches o place) (fact_there r n (of_function ks) is at) ∙ e)
 
   -- what is assigned to is declared inside, unless it leads out of the body of several copies
   inside_first : (r : Ref) (n : ℕ) → r.entity ≡ Some n → when (is_from_outside first r.entity) (breach OuterWrite r.place ∷ []) ≡ [] → first ≤ n
@@ -171,6 +224,7 @@ module _ (p : Program) (facts : Facts) (first depth : ℕ) where
   pub target_inside : (r : Ref) (n : ℕ) → r.entity ≡ Some n → IsSorted p facts first depth n → target_breaches (fact_of facts r) r.place ≡ [] → when (is_from_outside first r.entity) (breach OuterWrite r.place ∷ []) ≡ []
       → depth ≤ depth_of (known_of p) r
   target_inside r n is (memory_is k dims at m) e o = not_none _ _ (ap (λ x. target_breaches x r.place) (fact_there r n (of_memory k dims) is at) ∙ e)
+  target_inside r n is (view_is k dims at m) e o = not_none _ _ (ap (λ x. target_breaches x r.place) (fact_there r n (of_memory k dims) is at) ∙ e)
   target_inside r n is (variable_is k at deep) e o = deep_name r n is (deep (inside_first r n is o))
   target_inside r n is (iterator_is k at deep) e o = deep_name r n is (deep (inside_first r n is o))
   target_inside r n is (function_is ks at) e o = not_none _ _ (ap (λ x. target_breaches x r.place) (fact_there r n (of_function ks) is at) ∙ e)
@@ -220,7 +274,7 @@ module _ (p : Program) (facts : Facts) (first depth : ℕ) where
           let same : resolved_term bs t ≡ t = cc in
           term_told t same v (second_none (cast_breaches place (found t) to) _ b)
 
-      terms_told : (ts : Terms) → resolved_terms bs ts ≡ ts → terms_breaches bs ts ≡ [] → indices_kind_breaches facts ts ≡ [] → EachAccess (IsOfMemory p) (terms_events site ts)
+      pub terms_told : (ts : Terms) → resolved_terms bs ts ≡ ts → terms_breaches bs ts ≡ [] → indices_kind_breaches facts ts ≡ [] → EachAccess (IsOfMemory p) (terms_events site ts)
       terms_told no_terms e v b = tt
       terms_told (term_then t ts) e v b =
           let first_same : resolved_term bs t ≡ t = cc in

@@ -4,7 +4,6 @@
 use Rattle.std.proofs.Common.{◌≡◌, ℕ, zero, suc, ◌+◌, Bool, true, false, if◌then◌else◌, List, [], ◌∷◌, length, map, Some, inl, inr, refl, ap, sym, ◌∙◌, subst, arith}
 use Rattle.std.specs.Prelude.{slice_get}
 use Rattle.std.specs.List.{AllByRecursion}
-use Rattle.std.proofs.lemmas.List.{append-nil}
 use Rattle.dh_tree.specs.Breaches.{items_breaches, functions_breaches}
 use Rattle.dh_tree.specs.Forms.{unbuilt_functions}
 use Rattle.dh_tree.specs.KindBreaches.{functions_kind_breaches}
@@ -25,7 +24,7 @@ use Rattle.dh_sound.specs.IndexValues.{IsTypedProgram}
 use Rattle.dh_sound.specs.Trails.{EachAccess}
 use Rattle.dh_sound.proofs.DepthsNamed.{deep}
 use Rattle.dh_sound.proofs.FactsGrow.{appended}
-use Rattle.dh_sound.proofs.JoinsKept.{simple_kept}
+use Rattle.dh_sound.proofs.JoinsKept.{joins_kept}
 use Rattle.dh_sound.proofs.KindsOfPrograms.{functions_grow, body_in_step, mapped_at, behind_at, map_long, resolved_body, next_number}
 use Rattle.dh_sound.proofs.Pigeons.{Has, has_right, has_left, has_mapped}
 use Rattle.dh_sound.proofs.PlacementsSplit.{folds_none, outer_none}
@@ -131,12 +130,12 @@ each_at P (assigned entity ∷ es) k a h e = each_at P es k a h e
 module _ (p : Program) (ready : IsReady p) (typed : IsTypedProgram p) where
   body_told : CommandTold p (facts_after (body_facts p) p.body) 0 0 (at_end (body_scope p) p.body) (trace p) (AssignsInside (known_of p) 0 p.body)
   body_told =
-      told p p.body (body_facts p) (body_scope p) nothing_around 0 0 (body_in_step p) (body_sorted p typed) (resolved_body p typed)
+      told p ready p.body (body_facts p) (body_scope p) nothing_around 0 0 (body_in_step p) (body_sorted p typed) (resolved_body p typed)
       (second_none (functions_breaches (length p.decls) (first_scope p) p.functions) _ (second_none (items_breaches [] (items_of p)) _ ready.names))
       (second_none (functions_kind_breaches (first_facts p) p.functions) _ ready.suits)
-      (simple_kept p.entities p.body (second_none (unbuilt_functions p.functions) _ ready.built) (folds_none p ready.placements)) (outer_none p ready.placements)
+      (joins_kept p.entities p.body (second_none (unbuilt_functions p.functions) _ ready.built) (folds_none p ready.placements)) (outer_none p ready.placements)
       (deep (all_bindings_of p) p.body (body_scope p) 0 [] (view_bindings p) (resolved_body p typed) refl tt)
-      (λ m h. has_right m (map outside_memory p.decls) (locals p.body) h)
+      (λ m h. has_right m (map outside_memory p.decls) (locals p.body) h) (λ y h. h)
 
   -- each access is of a memory
   pub accesses_declared : AccessesDeclared p

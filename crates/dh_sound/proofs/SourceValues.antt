@@ -20,7 +20,7 @@ use Rattle.dh_meaning.specs.AccessNumbers.{term_accesses, terms_accesses}
 use Rattle.dh_meaning.specs.Bindings.{kind_or_first, kind_found, binding_in, depth_bound}
 use Rattle.dh_meaning.specs.Core.{CoreTerm}
 use Rattle.dh_meaning.specs.CoreOf.{reach_of, way_of, Known, entity_number, depth_of, extended, extended_both, operation_of, core_term, core_form, core_terms}
-use Rattle.dh_meaning.specs.Effects.{Begun, Variables, value_of, values_of, spot_by_indices, spot_by_row, bits_at, kind_in}
+use Rattle.dh_meaning.specs.Effects.{Begun, Variables, value_of, values_of, spot_by_row, bits_at, kind_in}
 use Rattle.dh_meaning.specs.Paths.{Path}
 use Rattle.dh_sound.specs.Straight.{IsNamedTerm, AreNamedTerms}
 use Rattle.dh_meets.specs.SourceEvents.{Element, with_indices, in_row}

@@ -1,8 +1,10 @@
 -- What a bank spends in a block is at most what the accesses that were made there charge: the events, read as accesses
 -- that were made, meet what counting asks of them.
-use Rattle.std.proofs.Common.{◌≡◌, inl, inr, ℕ, zero, suc, ◌+◌, ◌<◌, ◌≤◌, ◌&&◌, ◌||◌, not, Bool, true, false, if◌then◌else◌, List, [], ◌∷◌, ◌++◌, slice_get, Option, Some, None, refl, sym, ◌∙◌, ap, subst, arith}
-use Rattle.std.specs.Option.{is_some}
-use Rattle.std.specs.Set.{distinct_count, is_member}
+use Rattle.std.proofs.Common.{◌≡◌, inl, inr, ℕ, zero, suc, ◌+◌, ◌<◌, ◌≤◌, ◌&&◌, ◌||◌, nat_eq, not, Bool, true, false, if◌then◌else◌, List, [], ◌∷◌, ◌++◌, slice_get, Option, Some, None, refl, sym, ◌∙◌, ap, subst, arith}
+use Rattle.std.specs.Cmp.Lexicographic.{pointwise}
+use Rattle.std.specs.Set.{distinct_count}
+use Rattle.std.proofs.lemmas.Bool.Decides.{nat_tests}
+use Rattle.std.proofs.lemmas.Cmp.{nat_eq_equiv}
 use Rattle.std.proofs.lemmas.Option.{slice_get_within}
 use Rattle.dh_base.specs.declared.places.Place.{Place}
 use Rattle.dh_tree.specs.Elements.{Spot}
@@ -10,25 +12,21 @@ use Rattle.dh_tree.specs.PlainTrees.{Program}
 use Rattle.dh_meaning.specs.AccessNumbers.{accesses_of}
 use Rattle.dh_meaning.specs.Bindings.{Binding}
 use Rattle.dh_meaning.specs.Effects.{Event, reads, writes, faults, is_at, spent}
-use Rattle.dh_meaning.specs.Paths.{Path, same_path}
+use Rattle.dh_meaning.specs.Paths.{Path}
 use Rattle.dh_meaning.specs.Sites.{nothing_around}
-use Rattle.dh_meets.specs.Charges.{depends, entity_depends, element_depends, picked, keys_reaching, charge}
+use Rattle.dh_meets.specs.Charges.{depends, entity_depends, element_depends, picked, charge}
 use Rattle.dh_meets.specs.Sharing.{shared, shares_with, equal_reads}
 use Rattle.dh_meets.specs.SourceEvents.{SourceAccess, SourceEvent, accesses, assigned, accesses_in, trace}
 use Rattle.dh_meaning.specs.OnePhase.{in_one_phase}
 use Rattle.dh_sound.proofs.KnownReads.{shared_found}
-use Rattle.dh_sound.specs.ToldEvents.{key_from, access_at, key_at, keys_from, keys_at, IsOfAccess, AreTold}
-use Rattle.dh_sound.proofs.Counting.{Made, Among, IsMadeBy, WritesApart, WriteApart, charged_by, charge_from, sum_below, was_made, spent_charged}
+use Rattle.dh_sound.specs.ToldEvents.{key_from, key_at, IsOfAccess, AreTold}
+use Rattle.dh_sound.proofs.Counting.{Made, Among, IsMadeBy, WritesApart, WriteApart, charged_by, charge_from, same_list, sum_below, was_made, spent_charged, whole_list}
 use Rattle.dh_sound.proofs.EventCounts.{events_counted}
 use Rattle.dh_sound.proofs.MadeEvents.{read_there, write_there, made_there, spent_there, IsMadeThere, by_read, by_write, made_by_event, event_made}
 use Rattle.dh_sound.proofs.PathsOfEvents.{AreOnce, IsOnce}
-use Rattle.dh_sound.proofs.Pigeons.{Has}
+use Rattle.dh_sound.proofs.Pigeons.{Has, has_member}
 use Rattle.dh_sound.specs.Trails.{count}
 use Rattle.dh_meaning.specs.Ways.{all_bindings_of}
-use Rattle.dh_sound.specs.Unled.{IsUnled}
-use Rattle.dh_meaning.specs.CoreOf.{known_of}
-use Rattle.dh_meaning.specs.Ways.{way_to}
-use Rattle.dh_meets.specs.Charges.{charge_by}
 
 -- a write depends on every loop, so that its key is its path
 picked_all : (bs : List Binding) (a : SourceAccess) → a.writes ≡ true → (level : ℕ) (path : Path) → picked (depends bs a) level path ≡ path
@@ -67,7 +65,48 @@ writes_share_none p j a between k b w e = let r = left_true (equal_reads a b) _ 
     negated true e f = cc
     negated false e f = cc
 
-module _ (p : Program) (entity memory bank : ℕ) (es : List Event) (told : AreTold p entity memory bank es) where
+-- the keys with which accesses of a number were made
+abbrev pub keys_with : ℕ → List Made → List (List ℕ)
+keys_with n [] = []
+keys_with n (m ∷ ms) = if nat_eq m.number n then m.key ∷ keys_with n ms else keys_with n ms
+
+own_key : (m : Made) (ms : List Made) → Among m ms → Has m.key (keys_with m.number ms)
+own_key m [] h = elim h [ ]
+own_key m (o ∷ ms) (inl e) =
+    subst (λ (x : Made). Has x.key (if nat_eq o.number x.number then o.key ∷ keys_with x.number ms else keys_with x.number ms)) (sym e) (here (nat_eq o.number o.number) (nat_eq_equiv.refl o.number))
+  where
+    here : (t : Bool) → t ≡ true → Has o.key (if t then o.key ∷ keys_with o.number ms else keys_with o.number ms)
+    here true f = inl refl
+    here false f = cc
+own_key m (o ∷ ms) (inr h) = by (nat_eq o.number m.number) (own_key m ms h)
+  where
+    by : (t : Bool) → Has m.key (keys_with m.number ms) → Has m.key (if t then o.key ∷ keys_with m.number ms else keys_with m.number ms)
+    by true g = inr g
+    by false g = g
+
+-- an access that was made with a key
+pub record MadeWith (n : ℕ) (k : List ℕ) (ms : List Made) : Type 0 where
+  pub of : Made
+  pub among : Among of ms
+  pub number : of.number ≡ n
+  pub key : k ≡ of.key
+
+pub made_with : (n : ℕ) (ms : List Made) (k : List ℕ) → Has k (keys_with n ms) → MadeWith n k ms
+made_with n [] k h = elim h [ ]
+made_with n (o ∷ ms) k h = by (nat_eq o.number n) refl h (made_with n ms k)
+  where
+    same : nat_eq o.number n ≡ true → o.number ≡ n
+    same e = grind (arith, nat_tests)
+
+    further : MadeWith n k ms → MadeWith n k (o ∷ ms)
+    further w = record { of = w.of; among = inr w.among; number = w.number; key = w.key }
+
+    by : (t : Bool) → nat_eq o.number n ≡ t → Has k (if t then o.key ∷ keys_with n ms else keys_with n ms) → (Has k (keys_with n ms) → MadeWith n k ms) → MadeWith n k (o ∷ ms)
+    by true e (inl f) rest = record { of = o; among = inl refl; number = same e; key = f }
+    by true e (inr g) rest = further (rest g)
+    by false e g rest = further (rest g)
+
+module _ (p : Program) (entity memory bank : ℕ) (es : List Event) (told : AreTold p es) where
   abbrev made : List Event → List Made
   made fs = made_there (key_at p) memory bank fs
 
@@ -109,10 +148,6 @@ module _ (p : Program) (entity memory bank : ℕ) (es : List Event) (told : AreT
   made_below : (m : Made) → OfEvent m es → m.number < accesses_of p.body
   made_below m (as_read n place path s h at i) = subst (λ (o : Made). o.number < accesses_of p.body) (sym i) (below_count n false (told.read_of n place path s h))
   made_below m (as_write n place path s value h at i) = subst (λ (o : Made). o.number < accesses_of p.body) (sym i) (below_count n true (told.write_of n place path s value h))
-
-  made_reaches : (m : Made) → OfEvent m es → is_member same_path (keys_at p entity bank m.number) m.key ≡ true
-  made_reaches m (as_read n place path s h at i) = subst (λ (o : Made). is_member same_path (keys_at p entity bank o.number) o.key ≡ true) (sym i) (told.read_reaches n place path s h at)
-  made_reaches m (as_write n place path s value h at i) = subst (λ (o : Made). is_member same_path (keys_at p entity bank o.number) o.key ≡ true) (sym i) (told.write_reaches n place path s value h at)
 
   made_own : (m : Made) → OfEvent m es → m.writes ≡ true → shared p m.number ≡ None
   made_own m (as_read n place path s h at i) w = let f = ap (λ o. o.writes) i in cc
@@ -182,10 +217,14 @@ module _ (p : Program) (entity memory bank : ℕ) (es : List Event) (told : AreT
       by false more = more
   writes_apart (faults n place path kind ∷ fs) inside once = writes_apart fs (λ ev h. inside ev (inr h)) once.1
 
-  is_made : AreOnce es → IsMadeBy (accesses_of p.body) (shared p) (keys_at p entity bank) (made es)
+  -- the keys with which accesses of a number were made in the bank
+  abbrev pub keys_made : ℕ → List (List ℕ)
+  keys_made n = keys_with n (made es)
+
+  is_made : AreOnce es → IsMadeBy (accesses_of p.body) (shared p) keys_made (made es)
   is_made once = record {
     below = λ m a. made_below m (of_event m es a);
-    reaches = λ m a. made_reaches m (of_event m es a);
+    reaches = λ m a. has_member (pointwise nat_eq) same_list whole_list m.key (keys_made m.number) (own_key m (made es) a);
     own = λ m a w. made_own m (of_event m es a) w;
     shares = λ m earlier a e. made_shares m earlier (of_event m es a) e;
     one_row = λ m o a c w x e k. made_row m o (of_event m es a) (of_event o es c) w x e k;
@@ -194,31 +233,41 @@ module _ (p : Program) (entity memory bank : ℕ) (es : List Event) (told : AreT
   }
 
   -- Charges.
-  charges_same : IsUnled (known_of p) → (n : ℕ) → charged_by (shared p) (keys_at p entity bank) n ≡ charge p entity bank n
-  charges_same unled n = by (access_at p n) (shared p n)
+
+  -- of each number as many keys as its access charges, where it shares none
+  abbrev pub AreCharged : Type 0
+  AreCharged = (n : ℕ) → shared p n ≡ None → distinct_count (pointwise nat_eq) (keys_made n) ≤ charge p entity bank n
+
+  charged_within : AreCharged → (n : ℕ) → charged_by (shared p) keys_made n ≤ charge p entity bank n
+  charged_within all n = by (shared p n) refl
     where
-      charge_with : Option ℕ → Option SourceAccess → ℕ
-      charge_with s None = 0
-      charge_with s (Some a) = if is_some s then 0 else charge_by p (way_to p a.entity) a entity bank
+      by : (o : Option ℕ) → shared p n ≡ o → charge_from o (keys_made n) ≤ charge p entity bank n
+      by None e = all n e
+      by (Some j) e = omega arith
 
-      by : (o : Option SourceAccess) (s : Option ℕ) → charge_from s (keys_from p entity bank o) ≡ charge_with s o
-      by None None = refl
-      by None (Some j) = refl
-      by (Some a) None = sym (ap (λ w. charge_by p w a entity bank) (unled a.entity))
-      by (Some a) (Some j) = refl
-
-  sums_same : IsUnled (known_of p) → (chosen : ℕ → Bool) (n : ℕ) → sum_below (charged_by (shared p) (keys_at p entity bank)) chosen n ≡ sum_below (charge p entity bank) chosen n
-  sums_same unled chosen zero = refl
-  sums_same unled chosen (suc n) = ap (λ k. k + (if chosen n then charged_by (shared p) (keys_at p entity bank) n else 0)) (sums_same unled chosen n) ∙ ap (λ k. sum_below (charge p entity bank) chosen n + (if chosen n then k else 0)) (charges_same unled n)
+  sums_within : AreCharged → (chosen : ℕ → Bool) (n : ℕ) → sum_below (charged_by (shared p) keys_made) chosen n ≤ sum_below (charge p entity bank) chosen n
+  sums_within all chosen zero = omega arith
+  sums_within all chosen (suc n) = by (chosen n) (sums_within all chosen n) (charged_within all n)
+    where
+      by : (t : Bool) → sum_below (charged_by (shared p) keys_made) chosen n ≤ sum_below (charge p entity bank) chosen n → charged_by (shared p) keys_made n ≤ charge p entity bank n
+          → sum_below (charged_by (shared p) keys_made) chosen n + (if t then charged_by (shared p) keys_made n else 0) ≤ sum_below (charge p entity bank) chosen n + (if t then charge p entity bank n else 0)
+      by true l m = both_within _ _ _ _ l m
+        where
+          both_within : (a c d e : ℕ) → a ≤ c → d ≤ e → a + d ≤ c + e
+          both_within a c d e l m = omega (arith, l, m)
+      by false l m = more _ _ l
+        where
+          more : (a c : ℕ) → a ≤ c → a + 0 ≤ c + 0
+          more a c l = omega (arith, l)
 
   -- which accesses were made in the bank
   abbrev pub made_numbers : ℕ → Bool
   made_numbers n = was_made (made es) n
 
   -- what the bank spends is at most what they charge
-  pub spent_told : IsUnled (known_of p) → AreOnce es → spent es memory bank ≤ sum_below (charge p entity bank) made_numbers (accesses_of p.body)
-  spent_told unled once =
-      let l = spent_charged (shared p) (keys_at p entity bank) (made es) (accesses_of p.body) (is_made once) in
+  pub spent_told : AreCharged → AreOnce es → spent es memory bank ≤ sum_below (charge p entity bank) made_numbers (accesses_of p.body)
+  spent_told all once =
+      let l = spent_charged (shared p) keys_made (made es) (accesses_of p.body) (is_made once) in
       let s = spent_there (key_at p) memory bank es in
-      let c = sums_same unled made_numbers (accesses_of p.body) in
+      let c = sums_within all made_numbers (accesses_of p.body) in
       omega (arith, l, s, c)

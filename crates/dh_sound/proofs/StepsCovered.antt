@@ -1,8 +1,8 @@
 -- What a step of a run spends is covered, since the run stands at a block in its loops, and what that spends is covered.
 use Rattle.std.specs.Bool.{IsTrue}
-use Rattle.std.proofs.Common.{◌≡◌, ℕ, false, List, [], Some, sym, subst, arith}
+use Rattle.std.proofs.Common.{ℕ, false, List, [], sym, subst, arith}
 use Rattle.dh_tree.specs.Meets.{Meets, Together}
-use Rattle.dh_tree.specs.Memories.{memories_of, number_in, table_of}
+use Rattle.dh_tree.specs.Memories.{table_of}
 use Rattle.dh_tree.specs.PlainTrees.{Program}
 use Rattle.dh_tree.specs.Ready.{IsReady}
 use Rattle.dh_meaning.specs.CoreOf.{core_of}

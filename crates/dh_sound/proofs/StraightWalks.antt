@@ -1,20 +1,20 @@
 -- Straight commands at one path, along the trace of the program. An assignment sets its variable; of an `if` the
 -- arm that is taken is gone along, and the other is passed; a loop without turns is passed. By induction over
 -- the command.
-use Rattle.std.proofs.Common.{◌≡◌, ◌⊎◌, inl, inr, ℕ, suc, ◌+◌, ◌<◌, ◌≤◌, ◌&&◌, ◌||◌, nat_eq, Bool, true, false, if◌then◌else◌, List, [], ◌∷◌, ◌++◌, take, Option, Some, None, refl, sym, ◌∙◌, ap, subst, arith, ℤ}
+use Rattle.std.proofs.Common.{◌≡◌, ◌⊎◌, inl, inr, ℕ, suc, ◌+◌, ◌<◌, ◌≤◌, ◌&&◌, ◌||◌, nat_eq, nat_le, nat_lt, Bool, true, false, if◌then◌else◌, List, [], ◌∷◌, ◌++◌, take, Option, Some, None, refl, sym, ◌∙◌, ap, subst, arith, ℤ, length}
 use Rattle.std.proofs.lemmas.List.{append_assoc, append-nil}
 use Rattle.std.proofs.lemmas.Cmp.{nat_eq_equiv}
 use Rattle.std.proofs.lemmas.Bool.Decides.{nat_tests}
 use Rattle.dh_value.specs.Words as words
 use Rattle.dh_tree.specs.declared.trees.expressions.Ref.{Ref}
 use Rattle.dh_tree.specs.Numbers.{commands_in, commands_in_other, commands_in_part, IsNumbered, IsNumberedInside, IsNumberedOther, AreNumberedGroups, AreNumbered}
-use Rattle.dh_tree.specs.PlainTrees.{Program, Term, term, number, truth_value, named, accessed, in_bank, applied, converted, Action, action, ActionForm, lets, lets_memory, views, assigns, stores, reduces, calls, blocks, decides, repeats, counts, MaybeAction, no_action, one_action, Actions, no_actions, action_then, Groups, no_groups, group_then}
+use Rattle.dh_tree.specs.PlainTrees.{Program, Term, term, number, truth_value, named, accessed, in_bank, applied, converted, Action, action, ActionForm, lets, lets_memory, views, assigns, stores, reduces, calls, blocks, decides, repeats, counts, MaybeAction, no_action, one_action, Actions, no_actions, action_then, Groups, no_groups, group_then, ViewPlan}
 use Rattle.dh_meaning.specs.AccessNumbers.{term_accesses, terms_accesses, own_accesses, accesses_of, inner_accesses, other_accesses, groups_accesses, part_accesses}
 use Rattle.dh_meaning.specs.Bindings.{kind_found}
-use Rattle.dh_meaning.specs.Core.{CoreTerm, CoreCommand, choose, CoreCommands, no_commands, command_and}
-use Rattle.dh_meaning.specs.CoreOf.{Known, entity_number, depth_of, assigned, first_value, core_term, core_terms, store_to, folded_into, core_action, core_action_form, core_other, core_part, core_groups}
+use Rattle.dh_meaning.specs.Core.{CoreTerm, CoreTerms, CoreCommand, choose, keep, CoreCommands, no_commands, command_and}
+use Rattle.dh_meaning.specs.CoreOf.{Known, known_of, entity_number, depth_of, assigned, first_value, core_term, core_terms, store_to, folded_into, core_action, core_action_form, core_other, core_part, core_groups}
 use Rattle.dh_meaning.specs.CoreOf as meaning
-use Rattle.dh_meaning.specs.Effects.{Begun, Variables, set_variable, Event, write_made, value_of, term_events, kept_bits, spot_by_indices, spot_by_row, holds_at}
+use Rattle.dh_meaning.specs.Effects.{Begun, Variables, set_from, values_of, set_variable, Event, write_made, value_of, term_events, kept_bits, spot_by_row, holds_at}
 use Rattle.dh_meaning.specs.Levels.{assigns_to, any_assigns}
 use Rattle.dh_meaning.specs.OnePhase.{in_one_phase, is_within, makes, form_makes, other_makes, groups_make, part_makes}
 use Rattle.dh_meaning.specs.Paths.{Path, same_path}
@@ -23,40 +23,40 @@ use Rattle.dh_meets.specs.SourceEvents.{Element, with_indices, in_row, Site, Sou
 use Rattle.dh_meets.specs.SourceEvents as source
 use Rattle.std.specs.List.{list_any}
 use Rattle.dh_meets.specs.Sharing.{same_truth, same_arm, all_arms_of}
-use Rattle.dh_sound.specs.Straight.{Stands, IsNamedTerm, IsTarget, IsNamedAction, IsNamedForm, IsNamedOther, AreNamedGroups, AreNamedActions}
+use Rattle.dh_sound.specs.Straight.{IsNamedTerm, AreNamedTerms, IsTarget, IsNamedAction, IsNamedForm, IsNamedOther, AreNamedGroups, AreNamedActions}
 use Rattle.dh_sound.proofs.OnePath.{left_by, all_left_by, made_by, all_made_by}
-use Rattle.dh_sound.proofs.SourceValues.{SameOffsets, way_of_entity, spot_named, memory_at, AgreeBut, numbers_aside, all_numbers_aside}
+use Rattle.dh_sound.proofs.SourceValues.{spot_named, memory_at, AgreeBut, numbers_aside, all_numbers_aside}
 use Rattle.dh_sound.proofs.KnownReads.{count_joined, Knows, knows_passed, knows_assigned, knows_idle, HasNoArm, NoneInArm, knows_inside, knows_outside}
 use Rattle.dh_sound.proofs.TermWalks.{IsNear, as_write, IsGood, Walk, walk_none, walk_then, Starts, first_starts, then_starts, read_here, walk_term, walk_terms, term_counted, terms_counted, operation_events}
 use Rattle.dh_sound.proofs.Makes.{makes_within, other_within, groups_within, part_within, two_within, form_counted, action_counted, part_counted, is_within_so, within_is, Within}
 use Rattle.dh_sound.proofs.Sites.{each_both, each_so, arms_within, StandsWithin, term_stands, action_stands, other_stands, part_stands}
 use Rattle.dh_sound.specs.Trails.{count, EachAccess, ArmsWithin}
-use Rattle.std.specs.List.{AllByRecursion}
 use Rattle.dh_meaning.specs.CoreOf.{reach_of, target_to, way_of}
 use Rattle.dh_meaning.specs.Effects.{spot_reached, terms_events}
-use Rattle.dh_meaning.specs.Ways.{Hidden, hidden_in}
-use Rattle.dh_ways.proofs.TargetsOnWays.{target_is, target_makes, offsets_same}
+use Rattle.dh_meaning.specs.Ways.{Hidden, Way, behind_all, hidden_from, hidden_in, part_standings, standings, way_to}
+use Rattle.dh_ways.proofs.KeptVariables.{others_set, values_long}
+use Rattle.dh_ways.proofs.TargetsOnWays.{target_is, target_makes}
 use Rattle.dh_tree.specs.Seen.{terms}
 use Rattle.dh_meaning.specs.CoreOf.{kept_by}
+use Rattle.dh_tree.specs.ViewOffsets.{offsets_of}
+use Rattle.dh_sound.specs.AssignsInside.{AssignsInside, FormAssignsInside, GroupsAssignInside, KeepsInside, OtherAssignsInside, PartAssignsInside}
+use Rattle.dh_sound.specs.BehindViews.{ActionBehind, FormBehind, GroupsBehind, IsOwn, KeepsFrom, OtherBehind, PartBehind, TermsBehind}
+use Rattle.dh_sound.specs.ViewTrails.{IsBehind}
+use Rattle.dh_sound.proofs.EventsBehind.{behind_action, behind_part, behind_test, behind_then, terms_seen}
+use Rattle.dh_sound.proofs.KeptReads.{knows_kept}
+use Rattle.dh_sound.proofs.OwnVariables.{same_aside}
+use Rattle.dh_sound.proofs.ValuesBelow.{AgreeBelow, kept_above}
 
-module _ (p : Program) (b : Begun) (known : Known) (path : Path) (in_block : ℕ → Bool)
+module _ (p : Program) (b : Begun) (path : Path) (in_block : ℕ → Bool)
     (share : (j k : ℕ) → in_one_phase p j k ≡ true → in_block k ≡ true → in_block j ≡ true) (v0 : Variables) (touched : ℕ → Bool) where
+  abbrev known : Known
+  known = known_of p
+
   abbrev pub Steps : Around → (before part : List SourceEvent) → (v w : Variables) → (es fs : List Event) → Type 0
   Steps r before part v w es fs = Walk p b known path in_block share v0 touched r before part v w es fs
 
   abbrev Begins : Around → (before part : List SourceEvent) → Variables → List Event → (n : ℕ) → Type 0
   Begins r before part v es n = Starts p b known path in_block share v0 touched r before part v es n
-
-  -- no offset that a way keeps is touched: so it is by near variables what it was
-  abbrev pub AreStill : Type 0
-  AreStill = (entity : Option ℕ) → AllByRecursion (λ h. touched h.entity ≡ false) (hidden_in (way_of_entity b known entity))
-
-  near_offsets : (v w : Variables) → IsNear p b known path in_block share v0 touched v → IsNear p b known path in_block share v0 touched w → AreStill → SameOffsets b known v w path
-  near_offsets v w near close still entity = offsets_same b v w path (hidden_in (way_of_entity b known entity)) (each (hidden_in (way_of_entity b known entity)) (still entity))
-    where
-      each : (hs : List Hidden) → AllByRecursion (λ h. touched h.entity ≡ false) hs → AllByRecursion (λ h. v h.entity (take h.depth path) ≡ w h.entity (take h.depth path)) hs
-      each [] a = tt
-      each (h ∷ hs) a = (near h.entity (take h.depth path) a.0 ∙ sym (close h.entity (take h.depth path) a.0), each hs a.1)
 
   -- what a walk along a part of the trace starts from
   pub record Along (r : Around) (before part : List SourceEvent) (v : Variables) (es : List Event) (n : ℕ) : Type 0 where
@@ -65,11 +65,9 @@ module _ (p : Program) (b : Begun) (known : Known) (path : Path) (in_block : ℕ
     pub number : n ≡ count before
     pub near : IsNear p b known path in_block share v0 touched v
     pub knows : Knows b known path in_block r before v es
-    -- nothing touches what ways keep
-    pub still : AreStill
 
   pub along_first : (r : Around) (before one two : List SourceEvent) (v : Variables) (es : List Event) (n : ℕ) → Along r before (one ++ two) v es n → Along r before one v es n
-  along_first r before one two v es n s = record { after = two ++ s.after; cut = s.cut ∙ ap (λ l. before ++ l) (append_assoc one two s.after); number = s.number; near = s.near; knows = s.knows; still = s.still }
+  along_first r before one two v es n s = record { after = two ++ s.after; cut = s.cut ∙ ap (λ l. before ++ l) (append_assoc one two s.after); number = s.number; near = s.near; knows = s.knows }
 
   pub along_then : (r : Around) (before one two : List SourceEvent) (v w : Variables) (es fs : List Event) (n m : ℕ) → Along r before (one ++ two) v es n → m ≡ n + count one → Steps r before one v w es fs
       → Along r (before ++ one) two w (es ++ fs) m
@@ -79,7 +77,6 @@ module _ (p : Program) (b : Begun) (known : Known) (path : Path) (in_block : ℕ
     number = let c = count_joined before one in let f = s.number in omega (arith, c, e, f);
     near = walk.near;
     knows = walk.knows;
-    still = s.still;
   }
 
   pub starts_so : (r : Around) (before part : List SourceEvent) (v : Variables) (es : List Event) (n : ℕ) → ((k : ℕ) → n ≤ k → k < n + count part → in_block k ≡ true) → Along r before part v es n → Begins r before part v es n
@@ -235,17 +232,17 @@ module _ (p : Program) (b : Begun) (known : Known) (path : Path) (in_block : ℕ
   set_agrees : (v : Variables) (entity : ℕ) (q : Path) (z : ℤ) → AgreeBut b known entity v (set_variable v entity q z)
   set_agrees v entity q z e x other = sym (ap (λ c. if c && same_path x q then z else v e x) other)
 
-  pub assigned_done : (r : Around) (before part : List SourceEvent) (v : Variables) (es fs : List Event) (x : Ref) (value : CoreTerm) (rest : CoreCommands) → Stands x → Touches (command_and (assigned known x value) rest)
-      → term_events b v path value ≡ fs → AreStill → Steps r before part v v es fs
+  pub assigned_done : (r : Around) (before part : List SourceEvent) (v : Variables) (es fs : List Event) (x : Ref) (value : CoreTerm) (rest : CoreCommands) → IsOwn p x → Touches (command_and (assigned known x value) rest)
+      → term_events b v path value ≡ fs → Steps r before part v v es fs
       → Done r before (part ++ source.assigned x.entity ∷ []) v es (command_and (assigned known x value) rest) rest
-  assigned_done r before part v es fs x value rest (entity, is) t made still s = record {
+  assigned_done r before part v es fs x value rest (entity, (is, within)) t made s = record {
     after = w;
     made = fs;
     left_is = refl;
     made_is = ap (λ l. l ++ all_made_by b path rest w) made;
     steps = record {
       knows = subst (λ (l : List SourceEvent). Knows b known path in_block r l w (es ++ fs)) (append_assoc before part (source.assigned x.entity ∷ []))
-          (subst (λ (o : Option ℕ). Knows b known path in_block r ((before ++ part) ++ source.assigned o ∷ []) w (es ++ fs)) (sym is) (knows_assigned b known path in_block r (before ++ part) v w (es ++ fs) entity s.knows agree (near_offsets v w s.near near still)));
+          (subst (λ (o : Option ℕ). Knows b known path in_block r ((before ++ part) ++ source.assigned o ∷ []) w (es ++ fs)) (sym is) (knows_assigned b known path in_block r (before ++ part) v w (es ++ fs) entity s.knows agree (same_aside p b v w path entity within agree)));
       good = s.good;
       near = near;
     };
@@ -299,7 +296,7 @@ module _ (p : Program) (b : Begun) (known : Known) (path : Path) (in_block : ℕ
   }
 
   pub along_inside : (r : Around) (m : ℕ) (first : Bool) (before part : List SourceEvent) (v : Variables) (es : List Event) (n : ℕ) → BeforeBelow m before → Along r before part v es n → Along (in_arm r m first) before part v es n
-  along_inside r m first before part v es n f s = record { after = s.after; cut = s.cut; number = s.number; near = s.near; knows = knows_inside b known path in_block r before v es m first (fresh_arm m before f) s.knows; still = s.still }
+  along_inside r m first before part v es n f s = record { after = s.after; cut = s.cut; number = s.number; near = s.near; knows = knows_inside b known path in_block r before v es m first (fresh_arm m before f) s.knows }
 
   before_both : (m : ℕ) (one two : List SourceEvent) → BeforeBelow m one → BeforeBelow m two → BeforeBelow m (one ++ two)
   before_both m one two a c = each_both _ one two a c
@@ -401,6 +398,66 @@ module _ (p : Program) (b : Begun) (known : Known) (path : Path) (in_block : ℕ
   value_start r m before v es n t two c a l s =
       starts_so r before (source.term_events (site_of r m) t) v es n (λ k x y. own_inside n (term_accesses t) c a l k x (let d = term_counted (site_of r m) t in omega (arith, y, d))) (along_first r before (source.term_events (site_of r m) t) two v es n s)
 
+  -- a view keeps its offsets in variables behind all that is known
+  abbrev HeadIs : (x : ℕ) → List Hidden → List Term → Type 0
+  HeadIs x hs [] = Unit {0}
+  HeadIs x [] (t ∷ ts) = Unit {0}
+  HeadIs x (h ∷ hs) (t ∷ ts) = h.entity ≡ x
+
+  head_is : (d x : ℕ) (entity : Option ℕ) (form : ViewPlan) → ((w : Way) → way_to p entity ≡ Some w → KeepsFrom p d x form w) → HeadIs x (hidden_in (way_to p entity)) (offsets_of form)
+  head_is d x entity form keeps = by (way_to p entity) refl
+    where
+      none : (ts : List Term) → HeadIs x [] ts
+      none [] = tt
+      none (t ∷ ts) = tt
+
+      own : (ts : List Term) (rest : List Hidden) → HeadIs x (hidden_from x d ts ++ rest) ts
+      own [] rest = tt
+      own (t ∷ ts) rest = refl
+
+      by : (o : Option Way) → way_to p entity ≡ o → HeadIs x (hidden_in o) (offsets_of form)
+      by None e = none (offsets_of form)
+      by (Some w) e = let k = keeps w e in subst (λ (hs : List Hidden). HeadIs x hs (offsets_of form)) (sym k.is) (own (offsets_of form) k.rest)
+
+  -- what is kept is near, where it is touched
+  kept_near : (v : Variables) (depth first : ℕ) (vs : CoreTerms) (rest : CoreCommands) → Touches (command_and (keep depth first vs) rest) → IsNear p b known path in_block share v0 touched v
+      → IsNear p b known path in_block share v0 touched (set_from v first (take depth path) (values_of b v path vs))
+  kept_near v depth first vs rest t near e q out =
+      others_set v e first (take depth path) q (values_of b v path vs)
+      (subst (λ (n : ℕ). (nat_le first e && nat_lt e (first + n)) ≡ false) (sym (values_long b v path vs)) (not_true (assigns_to e (keep depth first vs)) (λ h. none (t e (or_left _ _ h)))))
+      ∙ near e q out
+    where
+      none : touched e ≡ true → ⊥
+      none h = let o = out in cc
+
+  walk_kept : (r : Around) (m d x e : ℕ) (before : List SourceEvent) (v : Variables) (es : List Event) (n : ℕ) (hs : List Hidden) (ts : List Term) (rest : CoreCommands)
+      → HeadIs x hs ts → TermsBehind p x (terms ts) → KeepsInside known e hs (length ts) → AreNamedTerms (terms ts) → IsBehind p x before
+      → Touches (kept_by hs (core_terms known n (terms ts)) rest) → Begins r before (source.terms_events (site_of r m) (terms ts)) v es n
+      → Done r before (source.terms_events (site_of r m) (terms ts)) v es (kept_by hs (core_terms known n (terms ts)) rest) rest
+  walk_kept r m d x e before v es n hs [] rest first hb ins nv seen t s = done_nothing r before [] v es rest (walk_none p b known path in_block share v0 touched r before v es s.near s.knows) t
+  walk_kept r m d x e before v es n [] (u ∷ ts) rest first hb ins nv seen t s = elim ins [ ]
+  walk_kept r m d x e before v es n (h ∷ hs) (u ∷ ts) rest first hb ins nv seen t s =
+      let all = terms (u ∷ ts) in
+      let vs = core_terms known n all in
+      let part = source.terms_events (site_of r m) all in
+      let walk = walk_terms p b known path in_block share v0 touched r m before v es n all nv s in
+      let behind : IsBehind p x (before ++ part) = behind_then p x x before part (omega arith) seen (terms_seen p x (site_of r m) all hb) in
+      let zs = values_of b v path vs in
+      let w = set_from v h.entity (take h.depth path) zs in
+      let agree : AgreeBelow x v w = subst (λ (k : ℕ). AgreeBelow x v (set_from v k (take h.depth path) zs)) (sym first) (kept_above v x (take h.depth path) zs) in
+      record {
+        after = w;
+        made = terms_events b v path vs;
+        left_is = refl;
+        made_is = refl;
+        steps = record {
+          knows = knows_kept p b path in_block r (before ++ part) v w (es ++ terms_events b v path vs) x behind.own agree behind.seen walk.knows;
+          good = walk.good;
+          near = kept_near v h.depth h.entity vs rest t s.near;
+        };
+        touches = λ y g. t y (or_right (assigns_to y (keep h.depth h.entity vs)) _ g);
+      }
+
   wants_less : (n c d : ℕ) (f : ℕ → Bool) → d ≤ c → Agrees n c f → Agrees n d f
   wants_less n c d f l a k w = a k (let x = w.0 in let u = w.1 in (x, omega (arith, u, l)))
 
@@ -467,17 +524,17 @@ module _ (p : Program) (b : Begun) (known : Known) (path : Path) (in_block : ℕ
       (out, record { after = d.after; made = d.made; left_is = d.left_is; made_is = d.made_is; steps = steps_outside r m false ((before ++ te) ++ events (in_arm r m true) chosen) oe v d.after es d.made d.steps; touches = d.touches })
 
   -- an `if`: its test, the arm that is taken, and the other
-  walk_choice : (r : Around) (m : ℕ) (before : List SourceEvent) (v : Variables) (es : List Event) (n : ℕ) (test : Term) (chosen : Action) (other : MaybeAction) (rest : CoreCommands) → IsNumbered (suc m) chosen × IsNumberedOther (suc m + commands_in chosen) other
+  walk_choice : (r : Around) (m d x : ℕ) (before : List SourceEvent) (v : Variables) (es : List Event) (n : ℕ) (test : Term) (chosen : Action) (other : MaybeAction) (rest : CoreCommands) → IsNumbered (suc m) chosen × IsNumberedOther (suc m + commands_in chosen) other
       → IsNamedTerm test × (IsNamedAction chosen × IsNamedOther other) → Agrees n (term_accesses test + (accesses_of chosen + other_accesses other)) (λ k. form_makes k n (decides test chosen other))
-      → ArmsBelow m r.arms → BeforeBelow m before → Touches (core_action_form known n (decides test chosen other) rest) → Along r before (command_events r (site_of r m) (decides test chosen other)) v es n
+      → FormBehind p d x (decides test chosen other) → ArmsBelow m r.arms → BeforeBelow m before → IsBehind p x before → Touches (core_action_form known n (decides test chosen other) rest) → Along r before (command_events r (site_of r m) (decides test chosen other)) v es n
       → ((before' : List SourceEvent) (v' : Variables) (es' : List Event) (n' : ℕ) (rest' : CoreCommands) → IsNumbered (suc m) chosen → IsNamedAction chosen → Agrees n' (accesses_of chosen) (λ k. makes k n' chosen)
-      → ArmsBelow (suc m) (in_arm r m true).arms → BeforeBelow (suc m) before' → Touches (core_action known n' chosen rest') → Along (in_arm r m true) before' (events (in_arm r m true) chosen) v' es' n'
+      → ArmsBelow (suc m) (in_arm r m true).arms → BeforeBelow (suc m) before' → IsBehind p x before' → Touches (core_action known n' chosen rest') → Along (in_arm r m true) before' (events (in_arm r m true) chosen) v' es' n'
       → Done (in_arm r m true) before' (events (in_arm r m true) chosen) v' es' (core_action known n' chosen rest') rest')
       → ((before' : List SourceEvent) (v' : Variables) (es' : List Event) (n' : ℕ) → IsNumberedOther (suc m + commands_in chosen) other → IsNamedOther other → Agrees n' (other_accesses other) (λ k. other_makes k n' other)
-      → ArmsBelow (suc m + commands_in chosen) (in_arm r m false).arms → BeforeBelow (suc m + commands_in chosen) before' → Touches (core_other known n' other) → Along (in_arm r m false) before' (other_events (in_arm r m false) other) v' es' n'
+      → ArmsBelow (suc m + commands_in chosen) (in_arm r m false).arms → BeforeBelow (suc m + commands_in chosen) before' → IsBehind p (behind_all x (standings d chosen)) before' → Touches (core_other known n' other) → Along (in_arm r m false) before' (other_events (in_arm r m false) other) v' es' n'
       → Done (in_arm r m false) before' (other_events (in_arm r m false) other) v' es' (core_other known n' other) no_commands)
       → Done r before (command_events r (site_of r m) (decides test chosen other)) v es (core_action_form known n (decides test chosen other) rest) rest
-  walk_choice r m before v es n test chosen other rest h nv a below fresh t s first second =
+  walk_choice r m d x before v es n test chosen other rest h nv a hb below fresh seen t s first second =
       let te = source.term_events (site_of r m) test in
       let ce = events (in_arm r m true) chosen in
       let oe = other_events (in_arm r m false) other in
@@ -493,86 +550,91 @@ module _ (p : Program) (b : Begun) (known : Known) (path : Path) (in_block : ℕ
       let fresh_te = before_both m before te fresh (part_below r m m te below (term_stands r m m m test)) in
       let at_chosen = along_first r (before ++ te) ce oe v _ n1 at_arms in
       let counted = action_counted (in_arm r m true) chosen nv.1.0 in
+      let tested = behind_test p x (site_of r m) before test seen hb.0 in
       choice_done r before te ce oe v es (core_term known n test) (core_action known n1 chosen no_commands) (core_other known n2 other) rest (holds_at b v (core_term known n test) path) refl t tw
       (λ yes_is. taken r m before te ce oe v es _ n1 n2 chosen other h below at_arms counted
-      (first (before ++ te) v _ n1 no_commands h.0 nv.1.0 chosen_agrees (arm_below m (suc m) r.arms true (omega arith) below) (before_up m (suc m) (before ++ te) (omega arith) fresh_te)
+      (first (before ++ te) v _ n1 no_commands h.0 nv.1.0 chosen_agrees (arm_below m (suc m) r.arms true (omega arith) below) (before_up m (suc m) (before ++ te) (omega arith) fresh_te) tested
       (λ e x. t e (or_left _ _ (or_left _ _ x))) (along_inside r m true (before ++ te) ce v _ n1 fresh_te at_chosen)))
       (λ not_is. passed r m before te ce oe v _ n1 n2 chosen other h below fresh_te at_arms at_chosen counted
-      (λ along bb. second ((before ++ te) ++ ce) v _ n2 h.1 nv.1.1 other_agrees (arm_below m (suc m + commands_in chosen) r.arms false (omega arith) below) bb (λ e x. t e (or_left _ _ (or_right (any_assigns e (core_action known n1 chosen no_commands)) _ x))) along))
+      (λ along bb. second ((before ++ te) ++ ce) v _ n2 h.1 nv.1.1 other_agrees (arm_below m (suc m + commands_in chosen) r.arms false (omega arith) below) bb (behind_action p d x (in_arm r m true) (before ++ te) chosen tested hb.1.0) (λ e x. t e (or_left _ _ (or_right (any_assigns e (core_action known n1 chosen no_commands)) _ x))) along))
 
   mutual
-    pub walk_action : (r : Around) (m : ℕ) (before : List SourceEvent) (v : Variables) (es : List Event) (n : ℕ) (a : Action) (rest : CoreCommands) → IsNumbered m a → IsNamedAction a → Agrees n (accesses_of a) (λ k. makes k n a)
-        → ArmsBelow m r.arms → BeforeBelow m before → Touches (core_action known n a rest) → Along r before (events r a) v es n → Done r before (events r a) v es (core_action known n a rest) rest
-    walk_action r m before v es n (action id place f) rest h nv a below fresh t s =
+    pub walk_action : (r : Around) (m d x e : ℕ) (before : List SourceEvent) (v : Variables) (es : List Event) (n : ℕ) (a : Action) (rest : CoreCommands) → ActionBehind p d x a → AssignsInside known e a → IsNumbered m a → IsNamedAction a → Agrees n (accesses_of a) (λ k. makes k n a)
+        → ArmsBelow m r.arms → BeforeBelow m before → IsBehind p x before → Touches (core_action known n a rest) → Along r before (events r a) v es n → Done r before (events r a) v es (core_action known n a rest) rest
+    walk_action r m d x e before v es n (action id place f) rest hb ins h nv a below fresh seen t s =
         subst (λ (i : ℕ). Along r before (command_events r (site_of r i) f) v es n → Done r before (command_events r (site_of r i) f) v es (core_action_form known n f rest) rest) (sym h.0)
-        (walk_form r m before v es n f rest h.1 nv a below fresh t) s
+        (walk_form r m d x e before v es n f rest hb ins h.1 nv a below fresh seen t) s
 
-    walk_form : (r : Around) (m : ℕ) (before : List SourceEvent) (v : Variables) (es : List Event) (n : ℕ) (f : ActionForm) (rest : CoreCommands) → IsNumberedInside (suc m) f → IsNamedForm f
-        → Agrees n (own_accesses f + inner_accesses f) (λ k. form_makes k n f) → ArmsBelow m r.arms → BeforeBelow m before → Touches (core_action_form known n f rest) → Along r before (command_events r (site_of r m) f) v es n
+    walk_form : (r : Around) (m d x e : ℕ) (before : List SourceEvent) (v : Variables) (es : List Event) (n : ℕ) (f : ActionForm) (rest : CoreCommands) → FormBehind p d x f → FormAssignsInside known e f → IsNumberedInside (suc m) f → IsNamedForm f
+        → Agrees n (own_accesses f + inner_accesses f) (λ k. form_makes k n f) → ArmsBelow m r.arms → BeforeBelow m before → IsBehind p x before → Touches (core_action_form known n f rest) → Along r before (command_events r (site_of r m) f) v es n
         → Done r before (command_events r (site_of r m) f) v es (core_action_form known n f rest) rest
-    walk_form r m before v es n (lets name declared None) rest h nv a below fresh t s =
-        assigned_done r before [] v es [] name (first_value known n declared None) rest nv.0 t refl s.still (walk_none p b known path in_block share v0 touched r before v es s.near s.knows)
-    walk_form r m before v es n (lets name declared (Some value)) rest h nv a below fresh t s =
-        assigned_done r before _ v es _ name (core_term known n value) rest nv.0 t refl s.still
+    walk_form r m d x e before v es n (lets name declared None) rest hb ins h nv a below fresh seen t s =
+        assigned_done r before [] v es [] name (first_value known n declared None) rest hb.0 t refl (walk_none p b known path in_block share v0 touched r before v es s.near s.knows)
+    walk_form r m d x e before v es n (lets name declared (Some value)) rest hb ins h nv a below fresh seen t s =
+        assigned_done r before _ v es _ name (core_term known n value) rest hb.0 t refl
         (walk_term p b known path in_block share v0 touched r m before v es n value nv.1 (value_start r m before v es n value (source.assigned name.entity ∷ []) (term_accesses value + 0) a (omega arith) s))
-    walk_form r m before v es n (assigns target value) rest h nv a below fresh t s =
-        assigned_done r before _ v es _ target (core_term known n value) rest nv.0 t refl s.still
+    walk_form r m d x e before v es n (assigns target value) rest hb ins h nv a below fresh seen t s =
+        assigned_done r before _ v es _ target (core_term known n value) rest hb.0 t refl
         (walk_term p b known path in_block share v0 touched r m before v es n value nv.1 (value_start r m before v es n value (source.assigned target.entity ∷ []) (term_accesses value + 0) a (omega arith) s))
-    walk_form r m before v es n (reduces target o value) rest h nv a below fresh t s =
-        assigned_done r before _ v es _ target _ rest nv.0 t (operation_events p b known path in_block share v0 touched v o (meaning.kind_of known target) (kind_found value) _ (core_term known n value)) s.still
+    walk_form r m d x e before v es n (reduces target o value) rest hb ins h nv a below fresh seen t s =
+        assigned_done r before _ v es _ target _ rest hb.0 t (operation_events p b known path in_block share v0 touched v o (meaning.kind_of known target) (kind_found value) _ (core_term known n value))
         (walk_term p b known path in_block share v0 touched r m before v es n value nv.1 (value_start r m before v es n value (source.assigned target.entity ∷ []) (term_accesses value + 0) a (omega arith) s))
-    walk_form r m before v es n (stores target value) rest h nv a below fresh t s =
+    walk_form r m d x e before v es n (stores target value) rest hb ins h nv a below fresh seen t s =
         command_done r before _ v es (store_to known (n + term_accesses value) target (core_term known n value)) rest (store_left (n + term_accesses value) target (core_term known n value) v nv.0) t
         (write_steps r m before v es n (n + term_accesses value) target value nv.0 nv.1 refl
         (starts_so r before (source.term_events (site_of r m) value ++ write_events (site_of r m) target) v es n
         (λ k l u. own_inside n (term_accesses value + term_accesses target) (term_accesses value + term_accesses target + 0) a (omega arith) k l
         (let c = form_counted r (site_of r m) m (stores target value) nv refl in omega (arith, u, c))) s))
-    walk_form r m before v es n (lets_memory name shape shape_places value) rest h nv a below fresh t s = done_nothing r before [] v es rest (walk_none p b known path in_block share v0 touched r before v es s.near s.knows) t
-    walk_form r m before v es n (views name parent form) rest h nv a below fresh t s =
-        let kept : List Term → CoreCommands = (λ ts. kept_by (hidden_in (way_of known name)) (core_terms known n (terms ts)) rest) in
-        subst (λ (ts : List Term). Done r before (source.terms_events (site_of r m) (terms ts)) v es (kept ts) rest) (sym nv.1)
-        (done_nothing r before [] v es rest (walk_none p b known path in_block share v0 touched r before v es s.near s.knows) (subst (λ (ts : List Term). Touches (kept ts)) nv.1 t))
-    walk_form r m before v es n (calls function arguments) rest h nv a below fresh t s = done_nothing r before [] v es rest (walk_none p b known path in_block share v0 touched r before v es s.near s.knows) t
-    walk_form r m before v es n (repeats test body) rest h nv a below fresh t s =
+    walk_form r m d x e before v es n (lets_memory name shape shape_places value) rest hb ins h nv a below fresh seen t s = done_nothing r before [] v es rest (walk_none p b known path in_block share v0 touched r before v es s.near s.knows) t
+    walk_form r m d x e before v es n (views name parent form) rest hb ins h nv a below fresh seen t s =
+        walk_kept r m d x e before v es n (hidden_in (way_of known name)) (offsets_of form) rest (head_is d x name.entity form hb.0) hb.1 ins nv.0 seen t
+        (starts_so r before (source.terms_events (site_of r m) (terms (offsets_of form))) v es n
+        (λ k l u. own_inside n (terms_accesses (terms (offsets_of form))) (terms_accesses (terms (offsets_of form)) + 0) a (omega arith) k l
+        (let c = terms_counted (site_of r m) (terms (offsets_of form)) in omega (arith, u, c))) s)
+    walk_form r m d x e before v es n (calls function arguments) rest hb ins h nv a below fresh seen t s = done_nothing r before [] v es rest (walk_none p b known path in_block share v0 touched r before v es s.near s.knows) t
+    walk_form r m d x e before v es n (repeats test body) rest hb ins h nv a below fresh seen t s =
         idle_done r before (command_events r (site_of r m) (repeats test body)) v es n (term_accesses test + accesses_of body) rest (form_counted r (site_of r m) m (repeats test body) nv refl) a t s
-    walk_form r m before v es n (counts iterator declared low high factor body combine combine_place) rest h nv a below fresh t s =
+    walk_form r m d x e before v es n (counts iterator declared low high factor body combine combine_place) rest hb ins h nv a below fresh seen t s =
         subst (λ (q : List SourceEvent). Done r before q v es rest rest) refl
         (idle_done r before (command_events r (site_of r m) (counts iterator declared low high factor body combine combine_place)) v es n (0 + (accesses_of body + other_accesses combine)) rest (form_counted r (site_of r m) m (counts iterator declared low high factor body combine combine_place) nv refl) a t s)
-    walk_form r m before v es n (blocks body) rest h nv a below fresh t s =
-        walk_groups r (suc m) before v es n body rest h nv (wants_less n (0 + groups_accesses body) (groups_accesses body) (λ k. groups_make k n body) (omega arith) a) (arms_up m (suc m) r.arms (omega arith) below) (before_up m (suc m) before (omega arith) fresh) t s
-    walk_form r m before v es n (decides test chosen other) rest h nv a below fresh t s =
-        walk_choice r m before v es n test chosen other rest h nv a below fresh t s
-        (λ b2 v2 e2 n2 r2. walk_action (in_arm r m true) (suc m) b2 v2 e2 n2 chosen r2) (λ b2 v2 e2 n2. walk_other (in_arm r m false) (suc m + commands_in chosen) b2 v2 e2 n2 other)
+    walk_form r m d x e before v es n (blocks body) rest hb ins h nv a below fresh seen t s =
+        walk_groups r (suc m) d x e before v es n body rest hb ins h nv (wants_less n (0 + groups_accesses body) (groups_accesses body) (λ k. groups_make k n body) (omega arith) a) (arms_up m (suc m) r.arms (omega arith) below) (before_up m (suc m) before (omega arith) fresh) seen t s
+    walk_form r m d x e before v es n (decides test chosen other) rest hb ins h nv a below fresh seen t s =
+        walk_choice r m d x before v es n test chosen other rest h nv a hb below fresh seen t s
+        (λ b2 v2 e2 n2 r2. walk_action (in_arm r m true) (suc m) d x e b2 v2 e2 n2 chosen r2 hb.1.0 ins.0)
+        (λ b2 v2 e2 n2. walk_other (in_arm r m false) (suc m + commands_in chosen) d (behind_all x (standings d chosen)) e b2 v2 e2 n2 other hb.1.1 ins.1)
 
-    pub walk_other : (r : Around) (m : ℕ) (before : List SourceEvent) (v : Variables) (es : List Event) (n : ℕ) (o : MaybeAction) → IsNumberedOther m o → IsNamedOther o → Agrees n (other_accesses o) (λ k. other_makes k n o)
-        → ArmsBelow m r.arms → BeforeBelow m before → Touches (core_other known n o) → Along r before (other_events r o) v es n → Done r before (other_events r o) v es (core_other known n o) no_commands
-    walk_other r m before v es n no_action h nv a below fresh t s = done_nothing r before [] v es no_commands (walk_none p b known path in_block share v0 touched r before v es s.near s.knows) t
-    walk_other r m before v es n (one_action x) h nv a below fresh t s = walk_action r m before v es n x no_commands h nv a below fresh t s
+    pub walk_other : (r : Around) (m d x e : ℕ) (before : List SourceEvent) (v : Variables) (es : List Event) (n : ℕ) (o : MaybeAction) → OtherBehind p d x o → OtherAssignsInside known e o → IsNumberedOther m o → IsNamedOther o → Agrees n (other_accesses o) (λ k. other_makes k n o)
+        → ArmsBelow m r.arms → BeforeBelow m before → IsBehind p x before → Touches (core_other known n o) → Along r before (other_events r o) v es n → Done r before (other_events r o) v es (core_other known n o) no_commands
+    walk_other r m d x e before v es n no_action hb ins h nv a below fresh seen t s = done_nothing r before [] v es no_commands (walk_none p b known path in_block share v0 touched r before v es s.near s.knows) t
+    walk_other r m d x e before v es n (one_action q) hb ins h nv a below fresh seen t s = walk_action r m d x e before v es n q no_commands hb ins h nv a below fresh seen t s
 
-    pub walk_groups : (r : Around) (m : ℕ) (before : List SourceEvent) (v : Variables) (es : List Event) (n : ℕ) (gs : Groups) (rest : CoreCommands) → AreNumberedGroups m gs → AreNamedGroups gs → Agrees n (groups_accesses gs) (λ k. groups_make k n gs)
-        → ArmsBelow m r.arms → BeforeBelow m before → Touches (core_groups known n gs rest) → Along r before (groups_events r gs) v es n → Done r before (groups_events r gs) v es (core_groups known n gs rest) rest
-    walk_groups r m before v es n no_groups rest h nv a below fresh t s = done_nothing r before [] v es rest (walk_none p b known path in_block share v0 touched r before v es s.near s.knows) t
-    walk_groups r m before v es n (group_then part more) rest h nv a below fresh t s =
-        let d = walk_part r m before v es n part (core_groups known (n + part_accesses part) more rest) h.0 nv.0
-        (first_agrees n (part_accesses part) (groups_accesses more) (λ k. part_makes k n part) (λ k. groups_make k (n + part_accesses part) more) a (λ k e. groups_within k (n + part_accesses part) more e)) below fresh t
+    pub walk_groups : (r : Around) (m d x e : ℕ) (before : List SourceEvent) (v : Variables) (es : List Event) (n : ℕ) (gs : Groups) (rest : CoreCommands) → GroupsBehind p d x gs → GroupsAssignInside known e gs → AreNumberedGroups m gs → AreNamedGroups gs → Agrees n (groups_accesses gs) (λ k. groups_make k n gs)
+        → ArmsBelow m r.arms → BeforeBelow m before → IsBehind p x before → Touches (core_groups known n gs rest) → Along r before (groups_events r gs) v es n → Done r before (groups_events r gs) v es (core_groups known n gs rest) rest
+    walk_groups r m d x e before v es n no_groups rest hb ins h nv a below fresh seen t s = done_nothing r before [] v es rest (walk_none p b known path in_block share v0 touched r before v es s.near s.knows) t
+    walk_groups r m d x e before v es n (group_then part more) rest hb ins h nv a below fresh seen t s =
+        let first = walk_part r m d x e before v es n part (core_groups known (n + part_accesses part) more rest) hb.0 ins.0 h.0 nv.0
+        (first_agrees n (part_accesses part) (groups_accesses more) (λ k. part_makes k n part) (λ k. groups_make k (n + part_accesses part) more) a (λ k e. groups_within k (n + part_accesses part) more e)) below fresh seen t
         (along_first r before (part_events r part) (groups_events r more) v es n s) in
-        done_then r before (part_events r part) (groups_events r more) v es _ (core_groups known (n + part_accesses part) more rest) rest d
-        (walk_groups r (m + commands_in_part part) (before ++ part_events r part) d.after (es ++ d.made) (n + part_accesses part) more rest h.1 nv.1
+        done_then r before (part_events r part) (groups_events r more) v es _ (core_groups known (n + part_accesses part) more rest) rest first
+        (walk_groups r (m + commands_in_part part) d (behind_all x (part_standings d part)) e (before ++ part_events r part) first.after (es ++ first.made) (n + part_accesses part) more rest hb.1 ins.1 h.1 nv.1
         (then_agrees n (part_accesses part) (groups_accesses more) (λ k. part_makes k n part) (λ k. groups_make k (n + part_accesses part) more) a (λ k e. part_within k n part e))
         (arms_up m (m + commands_in_part part) r.arms (omega arith) below)
         (before_both (m + commands_in_part part) before (part_events r part) (before_up m (m + commands_in_part part) before (omega arith) fresh) (part_below r m (m + commands_in_part part) (part_events r part) (arms_up m (m + commands_in_part part) r.arms (omega arith) below) (part_stands r m part h.0)))
-        d.touches (along_then r before (part_events r part) (groups_events r more) v d.after es d.made n (n + part_accesses part) s (ap (λ c. n + c) (sym (part_counted r part nv.0))) d.steps))
+        (behind_part p d x r before part seen hb.0)
+        first.touches (along_then r before (part_events r part) (groups_events r more) v first.after es first.made n (n + part_accesses part) s (ap (λ c. n + c) (sym (part_counted r part nv.0))) first.steps))
 
-    pub walk_part : (r : Around) (m : ℕ) (before : List SourceEvent) (v : Variables) (es : List Event) (n : ℕ) (q : Actions) (rest : CoreCommands) → AreNumbered m q → AreNamedActions q → Agrees n (part_accesses q) (λ k. part_makes k n q)
-        → ArmsBelow m r.arms → BeforeBelow m before → Touches (core_part known n q rest) → Along r before (part_events r q) v es n → Done r before (part_events r q) v es (core_part known n q rest) rest
-    walk_part r m before v es n no_actions rest h nv a below fresh t s = done_nothing r before [] v es rest (walk_none p b known path in_block share v0 touched r before v es s.near s.knows) t
-    walk_part r m before v es n (action_then x more) rest h nv a below fresh t s =
-        let d = walk_action r m before v es n x (core_part known (n + accesses_of x) more rest) h.0 nv.0
-        (first_agrees n (accesses_of x) (part_accesses more) (λ k. makes k n x) (λ k. part_makes k (n + accesses_of x) more) a (λ k e. part_within k (n + accesses_of x) more e)) below fresh t
-        (along_first r before (events r x) (part_events r more) v es n s) in
-        done_then r before (events r x) (part_events r more) v es _ (core_part known (n + accesses_of x) more rest) rest d
-        (walk_part r (m + commands_in x) (before ++ events r x) d.after (es ++ d.made) (n + accesses_of x) more rest h.1 nv.1
-        (then_agrees n (accesses_of x) (part_accesses more) (λ k. makes k n x) (λ k. part_makes k (n + accesses_of x) more) a (λ k e. makes_within k n x e))
-        (arms_up m (m + commands_in x) r.arms (omega arith) below)
-        (before_both (m + commands_in x) before (events r x) (before_up m (m + commands_in x) before (omega arith) fresh) (part_below r m (m + commands_in x) (events r x) (arms_up m (m + commands_in x) r.arms (omega arith) below) (action_stands r m x h.0)))
-        d.touches (along_then r before (events r x) (part_events r more) v d.after es d.made n (n + accesses_of x) s (ap (λ c. n + c) (sym (action_counted r x nv.0))) d.steps))
+    pub walk_part : (r : Around) (m d x e : ℕ) (before : List SourceEvent) (v : Variables) (es : List Event) (n : ℕ) (q : Actions) (rest : CoreCommands) → PartBehind p d x q → PartAssignsInside known e q → AreNumbered m q → AreNamedActions q → Agrees n (part_accesses q) (λ k. part_makes k n q)
+        → ArmsBelow m r.arms → BeforeBelow m before → IsBehind p x before → Touches (core_part known n q rest) → Along r before (part_events r q) v es n → Done r before (part_events r q) v es (core_part known n q rest) rest
+    walk_part r m d x e before v es n no_actions rest hb ins h nv a below fresh seen t s = done_nothing r before [] v es rest (walk_none p b known path in_block share v0 touched r before v es s.near s.knows) t
+    walk_part r m d x e before v es n (action_then c more) rest hb ins h nv a below fresh seen t s =
+        let first = walk_action r m d x e before v es n c (core_part known (n + accesses_of c) more rest) hb.0 ins.0 h.0 nv.0
+        (first_agrees n (accesses_of c) (part_accesses more) (λ k. makes k n c) (λ k. part_makes k (n + accesses_of c) more) a (λ k e. part_within k (n + accesses_of c) more e)) below fresh seen t
+        (along_first r before (events r c) (part_events r more) v es n s) in
+        done_then r before (events r c) (part_events r more) v es _ (core_part known (n + accesses_of c) more rest) rest first
+        (walk_part r (m + commands_in c) d (behind_all x (standings d c)) e (before ++ events r c) first.after (es ++ first.made) (n + accesses_of c) more rest hb.1 ins.1 h.1 nv.1
+        (then_agrees n (accesses_of c) (part_accesses more) (λ k. makes k n c) (λ k. part_makes k (n + accesses_of c) more) a (λ k e. makes_within k n c e))
+        (arms_up m (m + commands_in c) r.arms (omega arith) below)
+        (before_both (m + commands_in c) before (events r c) (before_up m (m + commands_in c) before (omega arith) fresh) (part_below r m (m + commands_in c) (events r c) (arms_up m (m + commands_in c) r.arms (omega arith) below) (action_stands r m c h.0)))
+        (behind_action p d x r before c seen hb.0)
+        first.touches (along_then r before (events r c) (part_events r more) v first.after es first.made n (n + accesses_of c) s (ap (λ c. n + c) (sym (action_counted r c nv.0))) first.steps))

@@ -18,7 +18,7 @@ use Rattle.dh_value.specs.declared.operators.Op.{Op}
 use Rattle.dh_value.specs.declared.operators.Op.TheVariants as op
 use Rattle.dh_tree.specs.WiderKinds.{wider}
 use Rattle.dh_meaning.specs.CoreOf.{Known, extended, extended_both, operation_of, core_term, core_terms}
-use Rattle.dh_meaning.specs.Effects.{Begun, Variables, Event, read_made, write_made, term_events, terms_events, spot_by_indices, spot_by_row}
+use Rattle.dh_meaning.specs.Effects.{Begun, Variables, Event, read_made, write_made, term_events, terms_events, spot_by_row}
 use Rattle.dh_meaning.specs.OnePhase.{in_one_phase}
 use Rattle.dh_meaning.specs.Paths.{Path}
 use Rattle.dh_meaning.specs.Sites.{Arm, Around}

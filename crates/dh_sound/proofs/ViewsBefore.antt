@@ -1,7 +1,7 @@
 -- The names of a ready program stand behind their views. Entities are numbered in text order: so the ways that are found
 -- so far are those of all names that are visible, and a view that comes behind has none of their numbers. By one walk
 -- over the body, with the points of the text, the ways so far and the first hidden variable behind them.
-use Rattle.std.proofs.Common.{◌≡◌, ◌⊎◌, inl, inr, ℕ, suc, ◌+◌, ◌<◌, ◌≤◌, Bool, true, false, if◌then◌else◌, List, [], ◌∷◌, ◌++◌, length, Option, Some, None, option_map, refl, sym, ◌∙◌, ap, subst, arith, length-append}
+use Rattle.std.proofs.Common.{◌≡◌, ◌⊎◌, inl, inr, ℕ, ◌+◌, ◌<◌, ◌≤◌, Bool, true, false, if◌then◌else◌, List, [], ◌∷◌, ◌++◌, length, Option, Some, None, option_map, refl, sym, ◌∙◌, ap, subst, arith, length-append}
 use Rattle.std.specs.List.{AllByRecursion}
 use Rattle.std.proofs.lemmas.Bool.Decides.{nat_tests}
 use Rattle.std.proofs.lemmas.List.{append_assoc, append-nil}
@@ -22,8 +22,7 @@ use Rattle.dh_tree.specs.ViewOffsets.{offsets_of}
 use Rattle.dh_tree.specs.Views.{map_of}
 use Rattle.dh_tree.proofs.EmptyLists.{first_none, second_none}
 use Rattle.dh_meaning.specs.Bindings.{depth_inside}
-use Rattle.dh_meaning.specs.Ways.{Hidden, Led, Standing, Way, behind_all, behind_hidden, form_standings, groups_standings, hidden_from, hidden_in, hidden_of, led_after, led_behind, led_of, other_standings, part_standings, shape_named, standings, way_at, way_behind, way_in, way_to, way_unless, ways_of}
-use Rattle.dh_ways.specs.HiddenVariables.{IsWayWithin}
+use Rattle.dh_meaning.specs.Ways.{Hidden, Led, Standing, Way, behind_all, behind_hidden, form_standings, groups_standings, hidden_from, hidden_in, led_after, led_behind, led_of, other_standings, part_standings, shape_named, standings, way_at, way_behind, way_in, way_to, way_unless, ways_of}
 use Rattle.dh_ways.proofs.HiddenApart.{AllWithin, all_within}
 use Rattle.dh_sound.specs.BehindViews.{WayBelow, IsOwn, TermBehind, TermFormBehind, TermsBehind, MaybeBehind, KeepsFrom, ActionBehind, FormBehind, OtherBehind, GroupsBehind, PartBehind, StandsBehindViews}
 use Rattle.dh_sound.proofs.DepthsNamed.{size}
@@ -113,14 +112,14 @@ mutual
 -- Ways so far.
 
 -- each is of a number below this one
-abbrev AllLedBelow : ℕ → List Led → Type 0
+abbrev pub AllLedBelow : ℕ → List Led → Type 0
 AllLedBelow k ls = AllByRecursion (λ (l : Led). (n : ℕ) × ((l.entity ≡ Some n) × (n < k))) ls
 
-led_more : (j k : ℕ) → j ≤ k → (ls : List Led) → AllLedBelow j ls → AllLedBelow k ls
+pub led_more : (j k : ℕ) → j ≤ k → (ls : List Led) → AllLedBelow j ls → AllLedBelow k ls
 led_more j k l [] a = tt
 led_more j k l (x ∷ ls) a = let y = a.0.1.1 in ((a.0.0, (a.0.1.0, omega (arith, l, y))), led_more j k l ls a.1)
 
-led_both_below : (k : ℕ) (ls more : List Led) → AllLedBelow k ls → AllLedBelow k more → AllLedBelow k (ls ++ more)
+pub led_both_below : (k : ℕ) (ls more : List Led) → AllLedBelow k ls → AllLedBelow k more → AllLedBelow k (ls ++ more)
 led_both_below k [] more a b = b
 led_both_below k (l ∷ ls) more a b = (a.0, led_both_below k ls more a.1 b)
 
@@ -138,11 +137,11 @@ absent m n e is (inr l) = ap (λ o. same_entity o (Some n)) is ∙ higher m n l
     higher : (a b : ℕ) → b < a → same_entity (Some a) (Some b) ≡ false
     higher a b l = grind (arith, nat_tests, l)
 
-there : (n : ℕ) → same_entity (Some n) (Some n) ≡ true
+pub there : (n : ℕ) → same_entity (Some n) (Some n) ≡ true
 there n = grind (arith, nat_tests)
 
 -- none of theirs is found among ways of lower numbers
-not_below : (n : ℕ) (ls : List Led) → AllLedBelow n ls → way_in ls (Some n) ≡ None
+pub not_below : (n : ℕ) (ls : List Led) → AllLedBelow n ls → way_in ls (Some n) ≡ None
 not_below n [] a = refl
 not_below n (l ∷ ls) a = ap (λ b. if b then Some l.way else way_in ls (Some n)) (absent a.0.0 n l.entity a.0.1.0 (inl a.0.1.1)) ∙ not_below n ls a.1
 
@@ -150,7 +149,7 @@ found_first : (ls more : List Led) (n : ℕ) → way_in more (Some n) ≡ None �
 found_first [] more n e = e
 found_first (l ∷ ls) more n e = ap (λ o. if same_entity l.entity (Some n) then Some l.way else o) (found_first ls more n e)
 
-passed_over : (ls more : List Led) (n : ℕ) → way_in ls (Some n) ≡ None → way_in (ls ++ more) (Some n) ≡ way_in more (Some n)
+pub passed_over : (ls more : List Led) (n : ℕ) → way_in ls (Some n) ≡ None → way_in (ls ++ more) (Some n) ≡ way_in more (Some n)
 passed_over [] more n e = refl
 passed_over (l ∷ ls) more n e = by (same_entity l.entity (Some n)) e (passed_over ls more n)
   where
@@ -165,7 +164,7 @@ one_absent x m n s None o is d = refl
 one_absent x m n s (Some shape) o is d = ap (λ b. if b then Some (way_behind x s (map_of s.form shape) o) else None) (absent m n s.name.entity is d)
 
 -- views behind have higher numbers
-abbrev AllFrom : ℕ → List Standing → Type 0
+abbrev pub AllFrom : ℕ → List Standing → Type 0
 AllFrom k [] = Unit {0}
 AllFrom k (s ∷ ss) = ((n : ℕ) × ((s.name.entity ≡ Some n) × (k ≤ n))) × AllFrom k ss
 
@@ -181,7 +180,7 @@ from_both : (k : ℕ) (ss more : List Standing) → AllFrom k ss → AllFrom k m
 from_both k [] more a b = b
 from_both k (s ∷ ss) more a b = (a.0, from_both k ss more a.1 b)
 
-later_kept : (ms : List Memory) (x : ℕ) (before : List Led) (ss : List Standing) (k n : ℕ) → AllFrom k ss → n < k → way_in (led_behind ms x before ss) (Some n) ≡ way_in before (Some n)
+pub later_kept : (ms : List Memory) (x : ℕ) (before : List Led) (ss : List Standing) (k n : ℕ) → AllFrom k ss → n < k → way_in (led_behind ms x before ss) (Some n) ≡ way_in before (Some n)
 later_kept ms x before [] k n a l = refl
 later_kept ms x before (s ∷ ss) k n a l =
     let low = a.0.1.1 in
@@ -189,7 +188,7 @@ later_kept ms x before (s ∷ ss) k n a l =
     ∙ found_first before (led_after ms x before s) n
     (one_absent x a.0.0 n s (shape_named (memory_in ms s.parent.entity) (way_in before s.parent.entity)) (way_at ms before s.parent.entity) a.0.1.0 (inr (omega (arith, low, l))))
 
-one_below : (x n k : ℕ) (s : Standing) (shape : Option Shape) (o : Option Way) → s.name.entity ≡ Some n → n < k → AllLedBelow k (led_of x s shape o)
+pub one_below : (x n k : ℕ) (s : Standing) (shape : Option Shape) (o : Option Way) → s.name.entity ≡ Some n → n < k → AllLedBelow k (led_of x s shape o)
 one_below x n k s None o is l = tt
 one_below x n k s (Some shape) o is l = ((n, (is, l)), tt)
 
@@ -201,7 +200,7 @@ led_below ms x before (s ∷ ss) low k a b =
     (one_below x b.0.0 k s (shape_named (memory_in ms s.parent.entity) (way_in before s.parent.entity)) (way_at ms before s.parent.entity) b.0.1.0 b.0.1.1.1)) b.1
 
 -- hidden variables of what is found
-way_hidden : (P : Hidden → Type 0) (ls : List Led) (e : Option ℕ) → AllByRecursion (λ (l : Led). AllByRecursion P l.way.hidden) ls → AllByRecursion P (hidden_in (way_in ls e))
+pub way_hidden : (P : Hidden → Type 0) (ls : List Led) (e : Option ℕ) → AllByRecursion (λ (l : Led). AllByRecursion P l.way.hidden) ls → AllByRecursion P (hidden_in (way_in ls e))
 way_hidden P [] e a = tt
 way_hidden P (l ∷ ls) e a = by (same_entity l.entity e) (way_hidden P ls e a.1)
   where
@@ -209,7 +208,7 @@ way_hidden P (l ∷ ls) e a = by (same_entity l.entity e) (way_hidden P ls e a.1
     by true rest = a.0
     by false rest = rest
 
-unless_hidden : (P : Hidden → Type 0) (m : Option Memory) (o : Option Way) → AllByRecursion P (hidden_in o) → AllByRecursion P (hidden_in (way_unless m o))
+pub unless_hidden : (P : Hidden → Type 0) (m : Option Memory) (o : Option Way) → AllByRecursion P (hidden_in o) → AllByRecursion P (hidden_in (way_unless m o))
 unless_hidden P (Some m) o a = tt
 unless_hidden P None o a = a
 

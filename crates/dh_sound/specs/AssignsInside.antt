@@ -1,18 +1,20 @@
 -- A command of the source assigns only to variables that are declared inside all the unrolled loops round it, so that
 -- they have a value for each copy; but for reducers in blocks that join copies.
-use Rattle.std.specs.Prelude.{ℕ, ◌+◌, ◌≤◌, ◌<◌, List, [], ◌∷◌, length}
+use Rattle.std.specs.Prelude.{ℕ, zero, suc, ◌+◌, ◌≤◌, ◌<◌, List, [], ◌∷◌, length}
 use Rattle.dh_tree.specs.PlainTrees.{Action, action, ActionForm, lets, lets_memory, views, assigns, stores, reduces, calls, blocks, decides, repeats, counts, MaybeAction, no_action, one_action, Actions, no_actions, action_then, Groups, no_groups, group_then}
 use Rattle.dh_meaning.specs.Bindings.{depth_inside}
 use Rattle.dh_tree.specs.ViewOffsets.{offsets_of}
 use Rattle.dh_meaning.specs.Bindings.{binding_in, depth_bound}
 use Rattle.dh_meaning.specs.CoreOf.{Known, depth_of, way_of}
+use Rattle.dh_meaning.specs.Phases.{Located}
 use Rattle.dh_meaning.specs.Ways.{Hidden, hidden_in}
 use Rattle.dh_sound.specs.SimpleForms.{JoinsFolds}
 
 -- a view keeps so many offsets, from the first of these variables on: all are declared inside, as they are kept
 abbrev pub KeepsInside : Known → (depth : ℕ) → List Hidden → (count : ℕ) → Type 0
-KeepsInside known d [] count = Unit {0}
-KeepsInside known d (h ∷ hs) count = (d ≤ h.depth) × ((e : ℕ) → h.entity ≤ e → e < h.entity + count → d ≤ depth_bound (binding_in known.bindings e))
+KeepsInside known d hs zero = Unit {0}
+KeepsInside known d [] (suc n) = ⊥
+KeepsInside known d (h ∷ hs) (suc n) = (d ≤ h.depth) × ((e : ℕ) → h.entity ≤ e → e < h.entity + suc n → d ≤ depth_bound (binding_in known.bindings e))
 
 abbrev mutual
   -- so many unrolled loops stand round it
@@ -44,3 +46,8 @@ abbrev mutual
   pub PartAssignsInside : Known → (depth : ℕ) → Actions → Type 0
   PartAssignsInside known d no_actions = Unit {0}
   PartAssignsInside known d (action_then a rest) = AssignsInside known d a × PartAssignsInside known d rest
+
+-- each of these commands assigns to variables of this depth or more
+abbrev pub AllInside : Known → (depth : ℕ) → List Located → Type 0
+AllInside known d [] = Unit {0}
+AllInside known d (c ∷ cs) = AssignsInside known d c.command × AllInside known d cs

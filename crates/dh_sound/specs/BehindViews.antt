@@ -8,7 +8,8 @@ use Rattle.dh_tree.specs.PlainTrees.{Term, term, TermForm, number, truth_value, 
 use Rattle.dh_tree.specs.Seen.{terms}
 use Rattle.dh_tree.specs.ViewOffsets.{offsets_of}
 use Rattle.dh_meaning.specs.Bindings.{depth_inside}
-use Rattle.dh_meaning.specs.Ways.{Hidden, Way, behind_all, hidden_from, hidden_in, other_standings, part_standings, standings, way_to}
+use Rattle.dh_meaning.specs.Ways.{Hidden, Way, behind_all, hidden_from, hidden_in, part_standings, standings, way_to}
+use Rattle.dh_meets.specs.SourceEvents.{Element, with_indices, in_row, SourceAccess}
 
 -- the offsets on the way of a name are kept below this variable
 abbrev pub WayBelow : Program → (x : ℕ) → Option ℕ → Type 0
@@ -38,6 +39,14 @@ abbrev mutual
 abbrev pub MaybeBehind : Program → (x : ℕ) → Option Term → Type 0
 MaybeBehind p x None = Unit {0}
 MaybeBehind p x (Some t) = TermBehind p x t
+
+-- an element stands behind views, and an access
+abbrev pub ElementBehind : Program → (x : ℕ) → Element → Type 0
+ElementBehind p x (with_indices ts) = TermsBehind p x ts
+ElementBehind p x (in_row bank t) = TermBehind p x t
+
+abbrev pub AccessBehind : Program → (x : ℕ) → SourceAccess → Type 0
+AccessBehind p x a = WayBelow p x a.entity × ElementBehind p x a.element
 
 -- a view that has a way keeps its own offsets from this variable on, inside so many unrolled loops; those of the other
 -- views on its way are kept below

@@ -11,12 +11,14 @@ use Rattle.dh_meaning.specs.Phases.{Located, phases_of}
 use Rattle.dh_meaning.specs.Sites.{Around}
 use Rattle.dh_meets.specs.Charges.{factors_of}
 use Rattle.dh_meets.specs.SourceEvents.{trace}
+use Rattle.dh_sound.specs.AssignsInside.{AllInside}
 use Rattle.dh_sound.specs.Blocks.{factors, paths_inside, StandsIn, AreInTurn}
 use Rattle.dh_sound.specs.BlockTold.{IndicesTold}
 use Rattle.dh_sound.specs.Deep.{AreDeep}
 use Rattle.dh_sound.specs.PhaseFacts.{HasStraight, HasTest}
 use Rattle.dh_sound.specs.SimpleForms.{AreFolds}
 use Rattle.dh_sound.specs.Trails.{Follows}
+use Rattle.dh_sound.specs.ViewTrails.{FollowsViews}
 
 -- A block is that of straight commands, which stand along the trace in its loops, and behind them of reducers that join
 -- copies, which make no access.
@@ -40,10 +42,12 @@ pub record OfTest (p : Program) (loops : List Turning) (block : Block) : Type 0 
   pub inside : factors loops ≡ factors_of tested.around.loops
   pub paths : paths_inside loops ≡ paths_in (factors_of tested.around.loops)
 
--- What is told of a block of straight commands: what it assigns has a value for each copy, and while its loops are in
--- turns, what stands in the indices of its accesses.
+-- What is told of a block of straight commands: what it assigns has a value for each copy and is declared inside, they
+-- stand behind their views, and while its loops are in turns, what stands in the indices of its accesses.
 pub record StraightTold (p : Program) (loops : List Turning) (block : Block) : Type 0 where
   pub of : OfStraight p loops block
+  pub views : FollowsViews p of.round [] (trace p) of.done
+  pub inside : AllInside (known_of p) (length (factors loops)) of.done
   pub deep : AreDeep (length (factors loops)) (core_commands (known_of p) of.done)
   pub indices : (v : Variables) → AreInTurn [] loops v → IndicesTold p (λ k. any_makes k of.done) (λ e. any_assigns e (core_commands (known_of p) of.done)) (paths_inside loops) v
 

@@ -1,6 +1,6 @@
 -- What is to be known of an index for its value in a run to be told: the kinds of it and of its parts, and that
 -- the iterators that it names are in turns of their loops. And what the value then is.
-use Rattle.std.specs.Prelude.{◌≡◌, ℕ, ◌+◌, ◌-◌, ◌*◌, ◌/◌, ◌<◌, ◌≤◌, nat_lt, Bool, true, false, if◌then◌else◌, List, [], take, slice_index_or, Some, ℤ, pos, ◌+ℤ◌, int_le}
+use Rattle.std.specs.Prelude.{◌≡◌, ℕ, ◌+◌, ◌-◌, ◌*◌, ◌/◌, ◌<◌, ◌≤◌, nat_lt, Bool, true, false, if◌then◌else◌, List, [], take, slice_index_or, Option, Some, ℤ, pos, ◌+ℤ◌, int_le}
 use Rattle.std.specs.List.{AllByRecursion}
 use Rattle.dh_value.specs.declared.kinds.Kind.{Kind}
 use Rattle.dh_value.specs.declared.operators.Op.{Op}
@@ -22,12 +22,14 @@ use Rattle.dh_tree.specs.PlainTrees.{Term, TermForm, number, truth_value, named,
 use Rattle.dh_tree.specs.Resolved.{HasEntities}
 use Rattle.dh_tree.specs.Shapes.{IsDim}
 use Rattle.dh_tree.specs.Widths.{HasWidths}
-use Rattle.dh_meaning.specs.Core.{Reach, Target, by_indices, by_row}
-use Rattle.dh_meaning.specs.CoreOf.{Known, known_of, entity_number, depth_of, core_term, core_terms}
+use Rattle.dh_meaning.specs.Core.{Reach, Target, by_row}
+use Rattle.dh_meaning.specs.CoreOf.{Known, known_of, entity_number, depth_of, dims_by, core_term, core_terms, target_to}
 use Rattle.dh_meaning.specs.Effects.{Begun, Variables, spot_reached}
 use Rattle.dh_meaning.specs.Paths.{Path}
+use Rattle.dh_meaning.specs.Ways.{Way, base_of, way_at, way_to}
 use Rattle.dh_meets.specs.Charges.{level_of_loop, reaches}
 use Rattle.dh_meets.specs.SourceEvents.{Element, with_indices, in_row, SourceAccess}
+use Rattle.dh_ways.specs.Leading.{LeadsTo}
 use Rattle.dh_sound.specs.ToldEvents.{access_at}
 
 -- Kinds.
@@ -170,10 +172,15 @@ IsIndexValue Asked loops path dynamic z = Unit {0}
 
 -- Elements.
 
--- what an element is known by as the program is run
-abbrev pub target_of : Known → (n : ℕ) → Element → Target
-target_of known n (with_indices indices) = by_indices (core_terms known n indices)
-target_of known n (in_row bank row) = by_row bank (core_term known n row)
+-- what an element of what an entity is, a memory or a view, is known by as the program is run
+abbrev pub target_of : Known → (n : ℕ) → (entity : Option ℕ) → Element → Target
+target_of known n entity (with_indices indices) = target_to (way_at known.memories known.ways entity) (core_terms known n indices)
+target_of known n entity (in_row bank row) = by_row bank (core_term known n row)
+
+-- an element that is named by indices, as each one through a view is
+abbrev pub IsByIndices : Element → Type 0
+IsByIndices (with_indices indices) = Unit {0}
+IsByIndices (in_row bank row) = ⊥
 
 -- the kinds of the indices of an element, and the turns of unrolled loops in which it finds their iterators
 abbrev pub HasElementKinds : List Counter → Element → Type 0
@@ -196,33 +203,36 @@ HasCopy c = 1 ≤ c.factor
 
 -- where an access stands in a run: the memory that it is of, and how its element is found there
 pub record IsAccess (p : Program) (b : Begun) (path : Path) (v : Variables) (a : SourceAccess) (n : ℕ) (r : Reach) : Type 0 where
-  -- the memory of which it is an element
+  -- the memory of which it is an element, or to which the views lead through which it goes
   pub entity : ℕ
-  pub is : a.entity ≡ Some entity
+  pub is : base_of (way_to p a.entity) a.entity ≡ Some entity
   pub memory : Memory
   pub declared : memory_in (memories_of p) (Some entity) ≡ Some memory
+  pub leads : (w : Way) → way_to p a.entity ≡ Some w → LeadsTo (memories_of p) w
   -- the step begins with the memories of the program
   pub table : b.table ≡ table_of p
-  pub number : r.memory ≡ entity_number (number_in (memories_of p) a.entity)
+  pub number : r.memory ≡ entity_number (number_in (memories_of p) (base_of (way_to p a.entity) a.entity))
   -- every loop has a copy
   pub factors : AllByRecursion HasCopy (counters_of p)
-  -- the shape and the indices break no rule
-  pub dims : AllByRecursion IsDim memory.shape.dims
-  pub keeps : element_breaches (counters_of p) memory.shape.dims a.element ≡ []
+  -- the shape of what is named and the indices break no rule
+  pub dims : AllByRecursion IsDim (dims_by memory.shape.dims (way_to p a.entity))
+  pub keeps : element_breaches (counters_of p) (dims_by memory.shape.dims (way_to p a.entity)) a.element ≡ []
+  pub through : (w : Way) → way_to p a.entity ≡ Some w → IsByIndices a.element
   -- the kinds of its indices, and the turns of the iterators in them
   pub kinds : HasElementKinds (counters_of p) a.element
   pub turns : ElementInTurn (known_of p) (counters_of p) a.site.loops path v a.element
 
 -- the same without what the rules that a program keeps tell: the run's own facts
 pub record IsMade (p : Program) (b : Begun) (path : Path) (v : Variables) (a : SourceAccess) (r : Reach) : Type 0 where
-  -- the memory of which it is an element, which every access of a program without views has
+  -- the memory of which it is an element, or to which the views lead through which it goes
   pub entity : ℕ
-  pub is : a.entity ≡ Some entity
+  pub is : base_of (way_to p a.entity) a.entity ≡ Some entity
   pub memory : Memory
   pub declared : memory_in (memories_of p) (Some entity) ≡ Some memory
+  pub leads : (w : Way) → way_to p a.entity ≡ Some w → LeadsTo (memories_of p) w
   -- the step begins with the memories of the program, and the access leads to that one
   pub table : b.table ≡ table_of p
-  pub number : r.memory ≡ entity_number (number_in (memories_of p) a.entity)
+  pub number : r.memory ≡ entity_number (number_in (memories_of p) (base_of (way_to p a.entity) a.entity))
   -- the iterators of unrolled loops that its indices name are in turns
   pub turns : ElementInTurn (known_of p) (counters_of p) a.site.loops path v a.element
 
@@ -235,4 +245,4 @@ pub record IsReached (p : Program) (a : SourceAccess) (path : Path) (entity : �
 abbrev pub AccessesReachBanks : Program → Type 0
 AccessesReachBanks p =
     (b : Begun) (path : Path) (v : Variables) (k : ℕ) (a : SourceAccess) (n : ℕ) (r : Reach) (s : Spot)
-    → access_at p k ≡ Some a → (made : IsMade p b path v a r) → spot_reached b v path r (target_of (known_of p) n a.element) ≡ Some s → IsReached p a path made.entity r s
+    → access_at p k ≡ Some a → (made : IsMade p b path v a r) → spot_reached b v path r (target_of (known_of p) n a.entity a.element) ≡ Some s → IsReached p a path made.entity r s

@@ -1,6 +1,7 @@
--- A command of the source that keeps the iterators of the loops round it: it assigns to none of them, and declares
--- none of them again.
-use Rattle.std.specs.Prelude.{◌≡◌, ℕ, false, List, [], ◌∷◌, ◌++◌}
+-- A command of the source that keeps the iterators of the loops round it: it assigns to none of them, declares none of
+-- them again, and keeps offsets of views in variables from the ground on, where none of them is.
+use Rattle.std.specs.Prelude.{◌≡◌, ℕ, ◌<◌, false, List, [], ◌∷◌, ◌++◌, length}
+use Rattle.std.specs.List.{AllByRecursion}
 use Rattle.dh_tree.specs.declared.trees.expressions.Ref.{Ref}
 use Rattle.dh_tree.specs.declared.trees.programs.Entity.{Entity}
 use Rattle.dh_tree.specs.Breaches.{KeepsNames}
@@ -23,38 +24,38 @@ abbrev pub also : List ℕ → Ref → List ℕ
 also iterators r = iterators ++ entity_number r.entity ∷ []
 
 abbrev mutual
-  pub Leaves : (iterators : List ℕ) → Action → Type 0
-  Leaves is (action id place form) = FormLeaves is form
+  pub Leaves : (ground : ℕ) (iterators : List ℕ) → Action → Type 0
+  Leaves ground is (action id place form) = FormLeaves ground is form
 
-  pub FormLeaves : (iterators : List ℕ) → ActionForm → Type 0
-  FormLeaves is (lets name declared value) = NamesOther name is
-  FormLeaves is (lets_memory name shape shape_places value) = Unit {0}
-  FormLeaves is (views name parent form) = Unit {0}
-  FormLeaves is (assigns target value) = NamesOther target is
-  FormLeaves is (stores target value) = Unit {0}
-  FormLeaves is (reduces target op value) = NamesOther target is
-  FormLeaves is (calls function arguments) = Unit {0}
-  FormLeaves is (blocks body) = GroupsLeave is body
-  FormLeaves is (decides test chosen other) = Leaves is chosen × OtherLeaves is other
-  FormLeaves is (repeats test body) = Leaves is body
-  FormLeaves is (counts iterator declared low high factor body combine combine_place) =
-      NamesOther iterator is × (Leaves (also is iterator) body × OtherLeaves (also is iterator) combine)
+  pub FormLeaves : (ground : ℕ) (iterators : List ℕ) → ActionForm → Type 0
+  FormLeaves ground is (lets name declared value) = NamesOther name is
+  FormLeaves ground is (lets_memory name shape shape_places value) = Unit {0}
+  FormLeaves ground is (views name parent form) = AllByRecursion (λ i. i < ground) is
+  FormLeaves ground is (assigns target value) = NamesOther target is
+  FormLeaves ground is (stores target value) = Unit {0}
+  FormLeaves ground is (reduces target op value) = NamesOther target is
+  FormLeaves ground is (calls function arguments) = Unit {0}
+  FormLeaves ground is (blocks body) = GroupsLeave ground is body
+  FormLeaves ground is (decides test chosen other) = Leaves ground is chosen × OtherLeaves ground is other
+  FormLeaves ground is (repeats test body) = Leaves ground is body
+  FormLeaves ground is (counts iterator declared low high factor body combine combine_place) =
+      NamesOther iterator is × (Leaves ground (also is iterator) body × OtherLeaves ground (also is iterator) combine)
 
-  pub OtherLeaves : (iterators : List ℕ) → MaybeAction → Type 0
-  OtherLeaves is no_action = Unit {0}
-  OtherLeaves is (one_action a) = Leaves is a
+  pub OtherLeaves : (ground : ℕ) (iterators : List ℕ) → MaybeAction → Type 0
+  OtherLeaves ground is no_action = Unit {0}
+  OtherLeaves ground is (one_action a) = Leaves ground is a
 
-  pub GroupsLeave : (iterators : List ℕ) → Groups → Type 0
-  GroupsLeave is no_groups = Unit {0}
-  GroupsLeave is (group_then part rest) = PartLeaves is part × GroupsLeave is rest
+  pub GroupsLeave : (ground : ℕ) (iterators : List ℕ) → Groups → Type 0
+  GroupsLeave ground is no_groups = Unit {0}
+  GroupsLeave ground is (group_then part rest) = PartLeaves ground is part × GroupsLeave ground is rest
 
-  pub PartLeaves : (iterators : List ℕ) → Actions → Type 0
-  PartLeaves is no_actions = Unit {0}
-  PartLeaves is (action_then a rest) = Leaves is a × PartLeaves is rest
+  pub PartLeaves : (ground : ℕ) (iterators : List ℕ) → Actions → Type 0
+  PartLeaves ground is no_actions = Unit {0}
+  PartLeaves ground is (action_then a rest) = Leaves ground is a × PartLeaves ground is rest
 
 -- the program does
 abbrev pub LeavesIterators : Program → Type 0
-LeavesIterators p = Leaves [] p.body
+LeavesIterators p = Leaves (length p.entities) [] p.body
 
 -- What the rules on places say of assignments, said of reducers: none puts anything into an iterator.
 abbrev mutual

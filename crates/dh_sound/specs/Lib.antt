@@ -29,3 +29,5 @@ pub mod Joins
 pub mod StraightKinds
 pub mod Unled
 pub mod BehindViews
+pub mod ViewTrails
+pub mod ViewsBound

@@ -96,3 +96,33 @@ abbrev mutual
   pub PartSimple : Actions → Type 0
   PartSimple no_actions = Unit {0}
   PartSimple (action_then a rest) = IsSimple a × PartSimple rest
+
+-- Reducers stand in blocks that join copies alone, and nothing is called.
+abbrev mutual
+  pub FoldsInJoins : Action → Type 0
+  FoldsInJoins (action id place form) = FormFoldsInJoins form
+
+  pub FormFoldsInJoins : ActionForm → Type 0
+  FormFoldsInJoins (lets name declared value) = Unit {0}
+  FormFoldsInJoins (lets_memory name shape shape_places value) = Unit {0}
+  FormFoldsInJoins (views name parent form) = Unit {0}
+  FormFoldsInJoins (assigns target value) = Unit {0}
+  FormFoldsInJoins (stores target value) = Unit {0}
+  FormFoldsInJoins (reduces target o value) = ⊥
+  FormFoldsInJoins (calls function arguments) = ⊥
+  FormFoldsInJoins (blocks body) = GroupsFoldInJoins body
+  FormFoldsInJoins (decides test chosen other) = FoldsInJoins chosen × OtherFoldsInJoins other
+  FormFoldsInJoins (repeats test body) = FoldsInJoins body
+  FormFoldsInJoins (counts iterator declared low high factor body combine combine_place) = FoldsInJoins body × JoinsFolds combine
+
+  pub OtherFoldsInJoins : MaybeAction → Type 0
+  OtherFoldsInJoins no_action = Unit {0}
+  OtherFoldsInJoins (one_action a) = FoldsInJoins a
+
+  pub GroupsFoldInJoins : Groups → Type 0
+  GroupsFoldInJoins no_groups = Unit {0}
+  GroupsFoldInJoins (group_then part rest) = PartFoldsInJoins part × GroupsFoldInJoins rest
+
+  pub PartFoldsInJoins : Actions → Type 0
+  PartFoldsInJoins no_actions = Unit {0}
+  PartFoldsInJoins (action_then a rest) = FoldsInJoins a × PartFoldsInJoins rest

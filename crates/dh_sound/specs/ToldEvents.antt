@@ -1,11 +1,10 @@
 -- What is told of the events of a step, as the rules on ports see them: of which access each is, and with which key.
 use Rattle.std.specs.Prelude.{◌≡◌, ◌⊎◌, ℕ, ◌<◌, Bool, true, false, List, [], ◌∷◌, Option, Some, None, slice_get}
-use Rattle.std.specs.Set.{is_member}
 use Rattle.dh_base.specs.declared.places.Place.{Place}
 use Rattle.dh_tree.specs.Elements.{Spot}
 use Rattle.dh_tree.specs.PlainTrees.{Program}
-use Rattle.dh_meaning.specs.Effects.{Event, reads, writes, is_at}
-use Rattle.dh_meaning.specs.Paths.{Path, same_path}
+use Rattle.dh_meaning.specs.Effects.{Event, reads, writes}
+use Rattle.dh_meaning.specs.Paths.{Path}
 use Rattle.dh_meets.specs.Charges.{key_of, keys_reaching}
 use Rattle.dh_meets.specs.Sharing.{shared}
 use Rattle.dh_meets.specs.SourceEvents.{SourceAccess, accesses_in, trace}
@@ -46,14 +45,10 @@ pub record IsOfAccess (p : Program) (n : ℕ) (writing : Bool) : Type 0 where
   pub listed : access_at p n ≡ Some of
   pub writes_it : of.writes ≡ writing
 
--- What is told of the events that a block makes and that reach a bank of the memory that is an entity, whose number
--- in the table is `memory`.
-pub record AreTold (p : Program) (entity memory bank : ℕ) (es : List Event) : Type 0 where
+-- What is told of the events that a block makes.
+pub record AreTold (p : Program) (es : List Event) : Type 0 where
   pub read_of : (n : ℕ) (place : Place) (path : Path) (s : Spot) → IsAmong (reads n place path s) es → IsOfAccess p n false
   pub write_of : (n : ℕ) (place : Place) (path : Path) (s : Spot) (value : ℕ) → IsAmong (writes n place path s value) es → IsOfAccess p n true
   pub read_shares : (n : ℕ) (place : Place) (path : Path) (s : Spot) (earlier : ℕ) → IsAmong (reads n place path s) es → shared p n ≡ Some earlier → SharedRead p es n path s earlier
-  -- the key is one with which the access reaches the bank
-  pub read_reaches : (n : ℕ) (place : Place) (path : Path) (s : Spot) → IsAmong (reads n place path s) es → is_at s memory bank ≡ true → is_member same_path (keys_at p entity bank n) (key_at p n path) ≡ true
-  pub write_reaches : (n : ℕ) (place : Place) (path : Path) (s : Spot) (value : ℕ) → IsAmong (writes n place path s value) es → is_at s memory bank ≡ true → is_member same_path (keys_at p entity bank n) (key_at p n path) ≡ true
   -- reads of one access with one key lead to one element
   pub one_element : (n : ℕ) (place later : Place) (path other : Path) (s t : Spot) → IsAmong (reads n place path s) es → IsAmong (reads n later other t) es → key_at p n path ≡ key_at p n other → s ≡ t

@@ -43,7 +43,11 @@ pub record StandsBehind (r : Around) (before : List SourceEvent) (c : Located) :
 abbrev pub of_located : Located → List SourceEvent
 of_located c = events c.around c.command
 
+-- commands stand in their order among these events, each behind those before as it is asked
+abbrev pub FollowsBy : (Around → List SourceEvent → Located → Type 0) → Around → (before part : List SourceEvent) → List Located → Type 0
+FollowsBy S r before part [] = Unit {0}
+FollowsBy S r before part (c ∷ cs) = (gap : List SourceEvent) × ((rest : List SourceEvent) × ((part ≡ gap ++ (of_located c ++ rest)) × (S r (before ++ gap) c × FollowsBy S r ((before ++ gap) ++ of_located c) rest cs)))
+
 -- commands stand in their order among these events, behind those before
 abbrev pub Follows : Around → (before part : List SourceEvent) → List Located → Type 0
-Follows r before part [] = Unit {0}
-Follows r before part (c ∷ cs) = (gap : List SourceEvent) × ((rest : List SourceEvent) × ((part ≡ gap ++ (of_located c ++ rest)) × (StandsBehind r (before ++ gap) c × Follows r ((before ++ gap) ++ of_located c) rest cs)))
+Follows r before part cs = FollowsBy (λ round es c. StandsBehind round es c) r before part cs

@@ -22,12 +22,14 @@ use Rattle.dh_meaning.specs.Phases.{Located}
 use Rattle.dh_meaning.specs.Sites as source
 use Rattle.dh_meaning.specs.Sites.{in_arm}
 use Rattle.dh_meets.specs.SourceEvents.{Element, Site, SourceAccess, SourceEvent, accesses, accesses_in, assigned, events, groups_events, in_row, one_access, other_events, part_events, site_of, term_events, terms_events, trace, with_indices, write_events}
+use Rattle.dh_ways.proofs.NoWays.{no_way_to}
 use Rattle.dh_sound.specs.BlockTold.{IsOfMemory}
 use Rattle.dh_sound.specs.IndexValues.{AllHaveIndexKinds, HasElementKinds, element_breaches}
 use Rattle.dh_sound.specs.Trails.{EachAccess}
 use Rattle.dh_sound.proofs.BanksReached.{declared_dims}
 use Rattle.dh_sound.proofs.IndicesKeep.{KeepsIn, access_keeps}
 use Rattle.dh_sound.proofs.KindsOfPrograms.{indices_have_kinds}
+use Rattle.dh_sound.proofs.OwnMemories.{itself}
 use Rattle.dh_sound.proofs.PortsKept.{typed_program}
 use Rattle.dh_sound.proofs.SortsOfPrograms.{accesses_declared}
 use Rattle.dh_expressions.specs.declared.paths.Level.{Level}
@@ -76,7 +78,9 @@ module _ (scene : Scene) (ready : IsReady (program_seen scene.program.now)) wher
       own = accesses_declared (program_seen scene.program.now) ready (typed_program (program_seen scene.program.now) ready) k a at
 
       here : memory_in (memories_of (program_seen scene.program.now)) a.entity ≡ Some own.memory
-      here = subst (λ (o : Option ℕ). memory_in (memories_of (program_seen scene.program.now)) o ≡ Some own.memory) (sym own.is) own.declared
+      here =
+          subst (λ (o : Option ℕ). memory_in (memories_of (program_seen scene.program.now)) o ≡ Some own.memory)
+          (sym (itself (program_seen scene.program.now) a.entity own.entity (no_way_to (program_seen scene.program.now) ready.built a.entity) own.is)) own.declared
 
       keeps : KeepsIn (counters_of (program_seen scene.program.now)) own.memory a.element
       keeps = access_keeps (program_seen scene.program.now) ready.indices ready.views k a at own.memory here

@@ -26,6 +26,7 @@ use Rattle.dh_sound.proofs.Folds.{follows_less}
 use Rattle.dh_sound.proofs.LoopsMatch.{match_factors, same_loops, EachInside, ListInside, action_inside}
 use Rattle.dh_sound.proofs.NamedPrograms.{ready_named}
 use Rattle.dh_sound.proofs.Trails.{Tops}
+use Rattle.dh_sound.proofs.ViewsBefore.{stands_behind}
 use Rattle.dh_typed_blocks.proofs.PhasesHolding.{EachGroup, OfOther, OtherOnlyFolds, EachOf, EachFold, IsReducer, IsSplit, ListSplit, inside, Holding, body_holds, body_splits}
 
 as_fold : (a : Action) → IsFoldForm (form_of a) → IsFold a
@@ -58,7 +59,7 @@ module _ (p : Program) (P : List Turning → Action → Type 0) (F : List Turnin
         × OtherOnlyFolds F (inside (known_of p) P F d (turn_count low.value high.value factor.value) (counts iterator declared low high factor body combine combine_place)) combine)
         (holds : P [] p.body) where
       tops : Tops nothing_around [] (trace p) (phases_of p)
-      tops = phases_follow p ready.of_text.first ready.of_text.numbered (ready_named p ready)
+      tops = phases_follow p ready.of_text.first ready.of_text.numbered (ready_named p ready) (stands_behind p ready)
 
       -- straight commands that stand in these loops, split so
       pub straight_of : (loops : List Turning) (block : Block) (cs : List Located) → block ≡ commands (core_commands (known_of p) cs) → HasStraight (phases_of p) cs → EachInside (known_of p) (unrolled loops) cs

@@ -14,10 +14,9 @@ use Rattle.dh_meaning.specs.CoreOf.{Known, depth_of, entity_number, form_of, kin
 use Rattle.dh_meaning.specs.Phases.{Located, turn_count}
 use Rattle.dh_plan.specs.Correspondence.{Round}
 use Rattle.dh_runnable.specs.ActionsRun.{table_in}
-use Rattle.dh_sound.specs.AssignsInside.{AssignsInside, OtherAssignsInside, GroupsAssignInside, PartAssignsInside}
+use Rattle.dh_sound.specs.AssignsInside.{AllInside, AssignsInside, OtherAssignsInside, GroupsAssignInside, PartAssignsInside}
 use Rattle.dh_sound.specs.Blocks.{factors}
 use Rattle.dh_sound.specs.SimpleForms.{IsSimple, OtherSimple, GroupsSimple, PartSimple}
-use Rattle.dh_sound.proofs.AssignsInside.{AllInside}
 use Rattle.dh_sound.proofs.DepthsNamed.{inside_count}
 use Rattle.dh_code.specs.Declarations.{placing_of}
 use Rattle.dh_code.specs.Slots.{Placing, held_at}
