@@ -5,17 +5,18 @@ use Rattle.std.specs.List.{AllByRecursion}
 use Rattle.std.proofs.lemmas.List.{length-append, length-drop, take-append-le}
 use Rattle.std.proofs.lemmas.Option.{slice_get_within}
 use Rattle.dh_tree.specs.declared.tables.MemEntry.{MemEntry}
-use Rattle.dh_meaning.specs.Core.{Reach, CoreTerm, CoreCommand, store, assign, choose, keep, CoreCommands, no_commands, command_and}
+use Rattle.dh_meaning.specs.Core.{Reach, CoreTerm, CoreTerms, CoreCommand, store, assign, choose, keep, CoreCommands, no_commands, command_and}
 use Rattle.dh_meaning.specs.Core as core
 use Rattle.dh_code.specs.declared.codes.Access.{Access}
 use Rattle.dh_code.specs.declared.codes.Action.{Action}
-use Rattle.dh_code.specs.declared.codes.Action.TheVariants.{Store, Assign, Choose}
+use Rattle.dh_code.specs.declared.codes.Action.TheVariants.{Store, Assign, Keep, Choose}
+use Rattle.dh_code.specs.declared.codes.Operand.{Operand}
 use Rattle.dh_code.specs.declared.codes.Code.{Code}
 use Rattle.dh_code.specs.declared.codes.Flat.{Flat}
 use Rattle.dh_code.specs.declared.codes.Operation.{Operation}
 use Rattle.dh_code.specs.declared.codes.Step.{Step}
 use Rattle.dh_code.specs.declared.places.Held.{Held}
-use Rattle.dh_code.specs.Coded.{AreCoded, Extends, IsCoded, IsFlat, IsFlatStore}
+use Rattle.dh_code.specs.Coded.{AreCoded, AreFlat, Extends, IsCoded, IsFlat, IsFlatStore, operands_kept}
 use Rattle.dh_code.specs.Flattening.{Adds, AddsStep}
 use Rattle.dh_code.specs.Operated.{IsOperation}
 use Rattle.dh_code.specs.Scenes.{IsAction, IsEarlier, IsHeld, IsSoundCode, IsStep}
@@ -88,12 +89,18 @@ longer a b n h within = by (length a.operations) (length h.operations) (length b
     by : (x y z : ℕ) → z ≡ x + y → n ≤ x → n ≤ z
     by x y z e f = omega (arith, e, f)
 
+pub range_stays : (a b : Code) (from to : ℕ) → Extends a b → from ≤ to → to ≤ length a.operations → slice_range b.operations from to ≡ slice_range a.operations from to
+range_stays a b from to h le within = ap (λ l. slice_range l from to) h.are ∙ range_before a.operations h.operations from to le within
+
 same_range : (a b : Code) (f : Flat) → Extends a b → f.from ≤ f.to → f.to ≤ length a.operations → slice_range b.operations f.from f.to ≡ slice_range a.operations f.from f.to
-same_range a b f h le within = ap (λ l. slice_range l f.from f.to) h.are ∙ range_before a.operations h.operations f.from f.to le within
+same_range a b f h le within = range_stays a b f.from f.to h le within
 
 module _ (held : List Held) (table : List MemEntry) (a b : Code) (h : Extends a b) where
   pub flat_stays : (t : CoreTerm) (f : Flat) → IsFlat held table a t f → IsFlat held table b t f
   flat_stays t f i = record { within = i.within; there = longer a b f.to h i.there; operations = same_range a b f h i.within i.there ∙ i.operations; value = i.value }
+
+  pub values_stay : (ts : CoreTerms) (from to : ℕ) (os : List Operand) → AreFlat held table a ts from to os → AreFlat held table b ts from to os
+  values_stay ts from to os i = record { within = i.within; there = longer a b to h i.there; operations = range_stays a b from to h i.within i.there ∙ i.operations; values = i.values }
 
   pub store_stays : (r : Reach) (target : core.Target) (t : CoreTerm) (f : Flat) (x : Access) → IsFlatStore held table a r target t f x → IsFlatStore held table b r target t f x
   store_stays r target t f x i = record { within = i.within; there = longer a b f.to h i.there; operations = same_range a b f h i.within i.there ∙ i.operations; value = i.value; access = i.access }
@@ -115,6 +122,10 @@ module _ (held : List Held) (table : List MemEntry) (a b : Code) (h : Extends a 
     one_stays (Assign f first depth) (assign deep entity value) i = (flat_stays value f i.0, i.1)
     one_stays (Assign f first depth) (choose test chosen other) i = absurd i
     one_stays (Assign f first depth) (keep deep entity values) i = absurd i
+    one_stays (Keep from to values depth) (store r target value) i = absurd i
+    one_stays (Keep from to values depth) (assign deep entity value) i = absurd i
+    one_stays (Keep from to values depth) (choose test chosen other) i = absurd i
+    one_stays (Keep from to values depth) (keep deep entity terms) i = (values_stay terms from to (operands_kept values) i.0, i.1)
     one_stays (Choose f one two) (store r target value) i = absurd i
     one_stays (Choose f one two) (assign depth entity value) i = absurd i
     one_stays (Choose f one two) (keep depth first values) i = absurd i
@@ -143,6 +154,7 @@ held_stays a b f h i = record { within = i.within; there = longer a b f.to h i.t
 action_stays : (table : List MemEntry) (a b : Code) (at : ℕ) (x : Action) → Extends a b → IsAction table a.operations at x → IsAction table b.operations at x
 action_stays table a b at (Store f y) h i = (held_stays a b f h i.0, i.1)
 action_stays table a b at (Assign f first depth) h i = held_stays a b f h i
+action_stays table a b at (Keep from to values depth) h i = record { within = i.within; there = longer a b to h i.there; operands = i.operands }
 action_stays table a b at (Choose f one two) h i = (held_stays a b f h i.0, i.1)
 
 pub sound_added : (table : List MemEntry) (a b : Code) (xs : List Operation) → Adds a b xs → AllByRecursion (IsOperation table) xs → IsSoundCode table a → IsSoundCode table b

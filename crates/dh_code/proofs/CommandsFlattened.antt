@@ -11,7 +11,7 @@ use Rattle.dh_tree.specs.declared.tables.MemEntry.{MemEntry}
 use Rattle.dh_tree.specs.declared.trees.expressions.Ref.{Ref}
 use Rattle.dh_tree.specs.declared.trees.commands.Command.{Command}
 use Rattle.dh_tree.specs.PlainTrees as plain
-use Rattle.dh_tree.specs.PlainTrees.{Action as PlainAction, ActionForm, Actions, Groups, ViewPlan}
+use Rattle.dh_tree.specs.PlainTrees.{Action as PlainAction, ActionForm, Actions, Groups}
 use Rattle.dh_tree.specs.Seen.{action_form_seen, action_seen, actions, groups, part_seen}
 use Rattle.dh_tree.specs.Memories.{Memory, memory_in}
 use Rattle.dh_tree.specs.Seen.{terms}
@@ -20,21 +20,22 @@ use Rattle.dh_meaning.specs.AccessNumbers.{accesses_of, part_accesses, terms_acc
 use Rattle.dh_meaning.specs.Core.{Reach, by_indices, by_row, CoreTerm, variable, truth_literal, CoreTerms, no_terms, term_and, CoreCommand, store, assign, choose, CoreCommands, no_commands, command_and}
 use Rattle.dh_meaning.specs.Core as core
 use Rattle.dh_meaning.specs.Phases.{Located}
-use Rattle.dh_meaning.specs.CoreOf.{Known, core_action, core_action_form, core_commands, core_groups, core_part, core_term, core_terms, depth_of, entity_number, folded_into, kept_by, kind_of, memory_of, operation_of, reach_of, store_to, target_to, way_of}
-use Rattle.dh_meaning.specs.Ways.{Hidden, Way, base_of, hidden_in, way_at, way_unless}
+use Rattle.dh_meaning.specs.CoreOf.{Known, core_action, core_action_form, core_commands, core_groups, core_part, core_term, core_terms, depth_of, entity_number, folded_into, kept_by, kind_of, memory_of, operation_of, reach_of, store_to, way_of}
+use Rattle.dh_meaning.specs.Ways.{Hidden, base_of, hidden_in, way_at, way_unless}
 use Rattle.dh_code.specs.declared.codes.Access.{Access}
 use Rattle.dh_code.specs.declared.codes.Action.TheVariants.{Store, Assign, Choose}
 use Rattle.dh_code.specs.declared.codes.Code.{Code}
 use Rattle.dh_code.specs.declared.codes.Flat.{Flat}
 use Rattle.dh_code.specs.declared.codes.Operand.{Operand}
 use Rattle.dh_code.specs.declared.codes.Operand.TheVariants.{Constant}
-use Rattle.dh_code.specs.declared.codes.Target.TheVariants.{Indices, Row}
+use Rattle.dh_code.specs.declared.codes.Target.{Target}
+use Rattle.dh_code.specs.declared.codes.Target.TheVariants.{Row}
 use Rattle.dh_code.specs.declared.flattening.Names.{Names}
 use Rattle.dh_code.specs.declared.places.Held.{Held}
 use Rattle.dh_code.specs.Coded.{AreSlotsOf}
 use Rattle.dh_code.specs.Extended.{extension_of}
-use Rattle.dh_code.specs.Flattening.{Adds, AddsBinary, AddsStep, AreMade, ExtendsTo, FlattensCommand, IsAimed, IsFlatMade, IsInFront, IsMade, IsPlacingOf, IsStillAt, aimed_at, is_aimed, known_in, table_in}
-use Rattle.dh_code.specs.Made.{Made, access_to, target_made, term_made, terms_made, variable_operand}
+use Rattle.dh_code.specs.Flattening.{Adds, AddsBinary, AddsStep, Aims, AreMade, ExtendsTo, FlattensCommand, IsAimed, IsFlatMade, IsInFront, IsMade, IsPlacingOf, IsStillAt, aimed_at, is_aimed, known_in, table_in}
+use Rattle.dh_code.specs.Made.{Aimed, Made, access_to, aimed_target, target_made, term_made, terms_made, variable_operand}
 use Rattle.dh_code.specs.Operated.{IsAccess, IsOperand, IsOperation}
 use Rattle.dh_code.specs.Slots.{Placing, held_at}
 use Rattle.dh_code.specs.Suited.{AreSuited, CanDoAll, IsSuited}
@@ -42,6 +43,7 @@ use Rattle.dh_code.proofs.CommandForms.{flat_held, flat_is, in_front}
 use Rattle.dh_code.proofs.CommandsCoded.{adds_extend, begins_before, coded_stays, extends_none, extends_then, flat_stays, front_coded, held_stays, range_added, sound_added, sound_step, step_extends}
 use Rattle.dh_code.proofs.Flattened.{adds_long, adds_none, adds_then, binary_flat}
 use Rattle.dh_code.proofs.MadeParts.{all_append, made_done, operands_suited, target_done}
+use Rattle.dh_code.proofs.TargetsMade.{aimed_made, first_suited}
 
 -- What a store to a target is.
 
@@ -58,7 +60,7 @@ store_by known n (plain.term at kind (plain.named r)) value = refl
 store_by known n (plain.term at kind (plain.applied o left right)) value = refl
 store_by known n (plain.term at kind (plain.converted inner to)) value = refl
 
--- Code knows no views yet.
+-- Where no ways are known, no name has one.
 
 pub no_way : (ms : List Memory) (entity : Option ℕ) → way_at ms [] entity ≡ None
 no_way ms entity = by (memory_in ms entity)
@@ -71,15 +73,22 @@ pub own_base : (ms : List Memory) (entity : Option ℕ) → base_of (way_at ms [
 own_base ms entity = ap (λ w. base_of w entity) (no_way ms entity)
 
 -- an access by indices, and in a row of a bank
-pub aimed_by_indices : (names : Names) (old new : Code) (n : ℕ) (target : plain.Term) (place : _) (kind : Option Kind) (r : Ref) (indices : List plain.Term) (memory : ℕ) (os : List Operand) → target ≡ plain.term place kind (plain.accessed r (terms indices)) → memory ≡ memory_of (known_in names) r
+pub aimed_by_indices : (names : Names) (old new : Code) (n : ℕ) (target : plain.Term) (place : _) (kind : Option Kind) (r : Ref) (indices : List plain.Term) (memory : ℕ) (os : List Operand) (t : Target) → target ≡ plain.term place kind (plain.accessed r (terms indices)) → memory ≡ memory_of (known_in names) r
     → ((n : ℕ) → AreSuited (table_in names) (core_terms (known_in names) n (terms indices)) → AreMade old new os (terms_made names.places.now (table_in names) (length old.operations) (core_terms (known_in names) n (terms indices))))
-    → IsAimed names old new (aimed_at (known_in names) n target) (Some (record { place = place; memory = memory; target = Indices os }))
-aimed_by_indices names old new n target place kind r indices memory os is number_is flat =
-    subst (λ (t : plain.Term). IsAimed names old new (aimed_at (known_in names) n t) (Some (record { place = place; memory = memory; target = Indices os }))) (sym is)
-    (subst (λ (w : Option Way). IsAimed names old new (Some (reach_of (known_in names) (n + terms_accesses (terms indices)) place r, target_to w (core_terms (known_in names) n (terms indices)))) (Some (record { place = place; memory = memory; target = Indices os })))
-    (sym (no_way (known_in names).memories r.entity)) (λ suits.
-    let m = flat n suits.1 in
-    (m.adds, ap (λ x. record { place = place; memory = x; target = Indices os }) number_is ∙ ap (λ x. record { place = place; memory = memory_of (known_in names) r; target = Indices x }) m.values)))
+    → Aims names r os t → IsAimed names old new (aimed_at (known_in names) n target) (Some (record { place = place; memory = memory; target = t }))
+aimed_by_indices names old new n target place kind r indices memory os t is number_is flat aims =
+    subst (λ (x : plain.Term). IsAimed names old new (aimed_at (known_in names) n x) (Some (record { place = place; memory = memory; target = t }))) (sym is)
+    (λ suits.
+    let w = way_of (known_in names) r in
+    let ts = core_terms (known_in names) n (terms indices) in
+    let reach = reach_of (known_in names) (n + terms_accesses (terms indices)) place r in
+    let m = flat n (first_suited (table_in names) (memory_of (known_in names) r) w ts suits) in
+    let made = aimed_made names.places.now (table_in names) (length old.operations) w ts in (
+      subst (λ (x : Aimed). Adds old new x.operations) (sym made) m.adds,
+      ap (λ x. record { place = place; memory = x; target = t }) number_is
+          ∙ (ap (λ x. record { place = place; memory = memory_of (known_in names) r; target = x }) (aims ∙ ap (λ l. aimed_target names.places.now w l) m.values)
+          ∙ ap (λ (x : Aimed). access_to reach x.target) (sym made)),
+    ))
 
 pub aimed_by_row : (names : Names) (old new : Code) (n : ℕ) (target : plain.Term) (place : _) (kind : Option Kind) (r : Ref) (bank : ℕ) (bank_place : _) (row : plain.Term) (memory : ℕ) (o : Operand) → target ≡ plain.term place kind (plain.in_bank r bank bank_place row) → memory ≡ memory_of (known_in names) r
     → ((n : ℕ) → IsSuited (table_in names) (core_term (known_in names) n row) → IsMade old new o (term_made names.places.now (table_in names) (length old.operations) (core_term (known_in names) n row)))
@@ -251,18 +260,6 @@ front_then names a b c x y z cs ds es h k = record {
   coded = λ i. k.coded (h.coded i);
   sound = λ entries i s. k.sound entries (h.coded i) (h.sound entries i s);
 }
-
--- a view stands in front of nothing
-pub view_front : (names : Names) (c : Code) (next : Option ℕ) (n : ℕ) (name parent : Ref) (form : ViewPlan) (rest : CoreCommands) → IsInFront names c c next next (core_action_form (known_in names) n (plain.views name parent form) rest) rest
-view_front names c next n name parent form rest =
-    subst (λ (cs : CoreCommands). IsInFront names c c next next cs rest) (sym (ap (λ w. kept_by (hidden_in w) offsets rest) (no_way (known_in names).memories name.entity) ∙ none offsets)) (front_none names c next rest)
-  where
-    offsets : CoreTerms
-    offsets = core_terms (known_in names) n (terms (offsets_of form))
-
-    none : (ts : CoreTerms) → kept_by [] ts rest ≡ rest
-    none no_terms = refl
-    none (term_and t ts) = refl
 
 module _ (known : Known) (table : List MemEntry) (p : Placing) (loops : List ℕ) where
   behind_kept : (hidden : List Hidden) (ts : CoreTerms) (rest : CoreCommands) → CanDoAll table p loops (kept_by hidden ts rest) → CanDoAll table p loops rest

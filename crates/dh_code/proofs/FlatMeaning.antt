@@ -59,7 +59,7 @@ mutual
   none_aimed b v path (by_views steps n terms) = none_in b v path terms
   none_aimed b v path (by_row bank row) = none_written b v path row
 
-  none_in : (b : Begun) (v : Variables) (path : Path) (ts : CoreTerms) → writes_in (terms_events b v path ts) ≡ []
+  pub none_in : (b : Begun) (v : Variables) (path : Path) (ts : CoreTerms) → writes_in (terms_events b v path ts) ≡ []
   none_in b v path no_terms = refl
   none_in b v path (term_and t ts) = written_both (term_events b v path t) (terms_events b v path ts) (none_written b v path t) (none_in b v path ts)
 

@@ -18,7 +18,8 @@ use Rattle.dh_code.specs.declared.codes.Operand.{Operand}
 use Rattle.dh_code.specs.declared.codes.Operand.TheVariants.{Given}
 use Rattle.dh_code.specs.declared.codes.Operation.{Operation}
 use Rattle.dh_code.specs.declared.codes.Operation.TheVariants.{Binary, Convert, Read}
-use Rattle.dh_code.specs.declared.codes.Target.TheVariants.{Indices, Row}
+use Rattle.dh_code.specs.declared.codes.Target.{Target}
+use Rattle.dh_code.specs.declared.codes.Target.TheVariants.{Row}
 use Rattle.dh_code.specs.declared.places.Held.{Held}
 use Rattle.dh_code.specs.Extended.{extension_of}
 use Rattle.dh_code.specs.Flattening.{Adds, AreMade, IsMade, IsOneMore, extended_made}
@@ -78,14 +79,14 @@ binary_flat held table a middle c o op j k to l r left is h i =
     one = term_made held table (length a.operations) l
 
 -- an element that is read by its indices, or in a row
-pub read_flat : (table : List MemEntry) (a b c : Code) (o : Operand) (reach : Reach) (place : Place) (memory : ℕ) (os : List Operand) (m : AllMade) → place ≡ reach.place → memory ≡ reach.memory → AreMade a b os m
-    → IsOneMore b c (Read (record { place = place; memory = memory; target = Indices os })) (kind_in table memory) o → IsMade a c o (read_of table (length a.operations) reach m.operations (Indices m.values))
-read_flat table a b c o reach place memory os m p n h i =
-    subst (λ (z : ℕ). IsMade a c o (one_more (length a.operations) m.operations (Read (access_to reach (Indices m.values))) (kind_in table z))) n
-    (made_more a b c m.operations _ (Read (access_to reach (Indices m.values))) (kind_in table memory) o h.adds
-    (ap (λ x. Read (record { place = x; memory = memory; target = Indices os })) p
-    ∙ (ap (λ x. Read (record { place = reach.place; memory = x; target = Indices os })) n
-    ∙ ap (λ x. Read (record { place = reach.place; memory = reach.memory; target = Indices x })) h.values)) i)
+pub read_flat : (table : List MemEntry) (a b c : Code) (o : Operand) (reach : Reach) (place : Place) (memory : ℕ) (xs : List Operation) (t t' : Target) → place ≡ reach.place → memory ≡ reach.memory → Adds a b xs → t ≡ t'
+    → IsOneMore b c (Read (record { place = place; memory = memory; target = t })) (kind_in table memory) o → IsMade a c o (read_of table (length a.operations) reach xs t')
+read_flat table a b c o reach place memory xs t t' p n h same i =
+    subst (λ (z : ℕ). IsMade a c o (one_more (length a.operations) xs (Read (access_to reach t')) (kind_in table z))) n
+    (made_more a b c xs _ (Read (access_to reach t')) (kind_in table memory) o h
+    (ap (λ x. Read (record { place = x; memory = memory; target = t })) p
+    ∙ (ap (λ x. Read (record { place = reach.place; memory = x; target = t })) n
+    ∙ ap (λ x. Read (record { place = reach.place; memory = reach.memory; target = x })) same)) i)
 
 pub row_flat : (table : List MemEntry) (a b c : Code) (o : Operand) (reach : Reach) (place : Place) (memory bank : ℕ) (row : Operand) (m : Made) → place ≡ reach.place → memory ≡ reach.memory → IsMade a b row m
     → IsOneMore b c (Read (record { place = place; memory = memory; target = Row bank row })) (kind_in table memory) o → IsMade a c o (read_of table (length a.operations) reach m.operations (Row bank m.value))

@@ -17,23 +17,22 @@ use Rattle.dh_tree.specs.Seen.{form_seen, term_seen, terms}
 use Rattle.dh_tree.proofs.SeenTerms.{binary_is, cast_is, physical_is}
 use Rattle.dh_meaning.specs.AccessNumbers.{term_accesses, terms_accesses}
 use Rattle.dh_meaning.specs.Bindings.{kind_found}
-use Rattle.std.specs.Prelude.{Option, None}
-use Rattle.dh_meaning.specs.Core.{CoreTerm, read}
-use Rattle.dh_meaning.specs.Ways.{Way}
-use Rattle.dh_meaning.specs.CoreOf.{Known, core_form, core_term, core_terms, entity_number, memory_of, reach_of, target_to, way_of}
+use Rattle.dh_meaning.specs.CoreOf.{Known, core_form, core_term, core_terms, entity_number, memory_of, reach_of, way_of}
 use Rattle.dh_meaning.specs.Effects.{bits_of, kind_in}
 use Rattle.dh_code.specs.declared.codes.Code.{Code}
 use Rattle.dh_code.specs.declared.codes.Operand.{Operand}
 use Rattle.dh_code.specs.declared.codes.Operand.TheVariants.{Constant}
 use Rattle.dh_code.specs.declared.codes.Operation.TheVariants.{Read}
-use Rattle.dh_code.specs.declared.codes.Target.TheVariants.{Indices, Row}
+use Rattle.dh_code.specs.declared.codes.Target.{Target}
+use Rattle.dh_code.specs.declared.codes.Target.TheVariants.{Row}
 use Rattle.dh_code.specs.declared.places.Held.{Held}
 use Rattle.dh_code.specs.Extended.{extension_of}
 use Rattle.dh_code.specs.Flattening.{AddsBinary, AreMade, ConvertsTo, ExtendsTo, IsMade, IsOneMore}
-use Rattle.dh_code.specs.Made.{term_made, terms_made, variable_operand}
+use Rattle.dh_code.specs.Made.{Aimed, aimed_target, read_of, term_made, terms_made, variable_operand}
 use Rattle.dh_code.specs.Suited.{AreSuited, IsSuited}
 use Rattle.dh_code.proofs.Flattened.{adds_none, binary_flat, read_flat, row_flat}
 use Rattle.dh_code.proofs.MadeParts.{operands_suited}
+use Rattle.dh_code.proofs.TargetsMade.{aimed_made, first_suited}
 
 -- what is seen of an operation, a cast and a row of a bank, whose parts stand in boxes
 pub binary_form : (form : ExprForm) (o : Op) (left right : _) → form ≡ Binary o left right → (l r : Expr) → l ≡ left.value → r ≡ right.value → form_seen form ≡ applied o (term_seen l) (term_seen r)
@@ -64,14 +63,18 @@ module _ (known : Known) (held : List Held) (table : List MemEntry) (place : Pla
   variable_flat a n r o is worth =
       subst (flats a a o n) (sym is) (λ h. still_made a o (variable_operand held k (entity_number r.entity)) (worth ∙ ap (λ j. variable_operand held j (entity_number r.entity)) kinds))
 
-  pub access_flat : (a b c : Code) (n : ℕ) (r : Ref) (indices : List plain.Term) (memory : ℕ) (os : List Operand) (o : Operand) → f ≡ accessed r (terms indices) → way_of known r ≡ None → memory ≡ memory_of known r
+  pub access_flat : (a b c : Code) (n : ℕ) (r : Ref) (indices : List plain.Term) (memory : ℕ) (os : List Operand) (t : Target) (o : Operand) → f ≡ accessed r (terms indices) → memory ≡ memory_of known r
       → ((n : ℕ) → AreSuited table (core_terms known n (terms indices)) → AreMade a b os (terms_made held table (length a.operations) (core_terms known n (terms indices))))
-      → IsOneMore b c (Read (record { place = place; memory = memory; target = Indices os })) (kind_in table memory) o → flats a c o n f
-  access_flat a b c n r indices memory os o is way number_is flat more =
-      subst (flats a c o n) (sym is) (subst (λ (w : Option Way). IsSuited table (by_target w) → IsMade a c o (term_made held table (length a.operations) (by_target w))) (sym way) (λ h. read_flat table a b c o (reach_of known (n + terms_accesses (terms indices)) place r) place memory os (terms_made held table (length a.operations) (core_terms known n (terms indices))) refl number_is (flat n h.1) more))
-    where
-      by_target : Option Way → CoreTerm
-      by_target w = read (reach_of known (n + terms_accesses (terms indices)) place r) (target_to w (core_terms known n (terms indices)))
+      → t ≡ aimed_target held (way_of known r) os → IsOneMore b c (Read (record { place = place; memory = memory; target = t })) (kind_in table memory) o → flats a c o n f
+  access_flat a b c n r indices memory os t o is number_is flat aims more =
+      subst (flats a c o n) (sym is) (λ h.
+      let w = way_of known r in
+      let ts = core_terms known n (terms indices) in
+      let reach = reach_of known (n + terms_accesses (terms indices)) place r in
+      let m = flat n (first_suited table (memory_of known r) w ts h) in
+      subst (λ (x : Aimed). IsMade a c o (read_of table (length a.operations) reach x.operations x.target)) (sym (aimed_made held table (length a.operations) w ts))
+      (read_flat table a b c o reach place memory (terms_made held table (length a.operations) ts).operations t (aimed_target held w (terms_made held table (length a.operations) ts).values) refl number_is m.adds
+      (aims ∙ ap (λ l. aimed_target held w l) m.values) more))
 
   pub bank_flat : (a b c : Code) (n : ℕ) (r : Ref) (bank : ℕ) (bank_place : Place) (row : plain.Term) (memory : ℕ) (x o : Operand) → f ≡ in_bank r bank bank_place row → memory ≡ memory_of known r
       → ((n : ℕ) → IsSuited table (core_term known n row) → IsMade a b x (term_made held table (length a.operations) (core_term known n row)))

@@ -1,4 +1,5 @@
 pub mod Located
+pub mod NumbersLocated
 pub mod RowsRead
 pub mod BanksSpent
 pub mod Entries
@@ -18,13 +19,16 @@ pub mod Making
 pub mod Operating
 pub mod OperandMasks
 pub mod MadeParts
+pub mod TargetsMade
 pub mod Declaring
 pub mod Flattened
 pub mod CommandsCoded
 pub mod LiteralWords
+pub mod LinksPassed
 pub mod FoundSpots
 pub mod StatesKept
 pub mod StoresKept
+pub mod KeptValues
 pub mod PathCommands
 pub mod ChoicesDone
 pub mod ListsRun
@@ -33,4 +37,6 @@ pub mod CommandForms
 pub mod PathsInOrder
 pub mod SmallWrites
 pub mod CommandsFlattened
+pub mod ViewsFlattened
+pub mod NamesLed
 pub mod KindsHeld

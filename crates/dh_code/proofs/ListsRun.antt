@@ -7,7 +7,7 @@ use Rattle.dh_meaning.specs.Paths.{Path}
 use Rattle.dh_meaning.specs.Core.{CoreTerm, store, assign, choose, keep, CoreCommands, no_commands, command_and}
 use Rattle.dh_meaning.specs.Effects.{Begun, Effect, at_each, command_run, commands_run, holds_at, paths_where, tested_at}
 use Rattle.dh_code.specs.declared.codes.Action.{Action}
-use Rattle.dh_code.specs.declared.codes.Action.TheVariants.{Store, Assign, Choose}
+use Rattle.dh_code.specs.declared.codes.Action.TheVariants.{Store, Assign, Keep, Choose}
 use Rattle.dh_code.specs.declared.codes.Flat.{Flat}
 use Rattle.dh_code.specs.declared.codes.Step.{Step}
 use Rattle.dh_code.specs.declared.evaluating.Scene.{Scene}
@@ -254,11 +254,13 @@ next_low s scene n step get = earlier_low n step.next (scene.code.steps n step g
 abbrev pub action_depth : Action → ℕ
 action_depth (Store f a) = 0
 action_depth (Assign f first depth) = 0
+action_depth (Keep from to values depth) = 0
 action_depth (Choose f one two) = max (list_depth one) (list_depth two)
 
 arms_under : (table : List MemEntry) (os : List Operation) (n : ℕ) (a : Action) → IsAction table os n a → action_depth a ≤ n
 arms_under table os n (Store f a) h = omega arith
 arms_under table os n (Assign f first depth) h = omega arith
+arms_under table os n (Keep from to values depth) h = omega arith
 arms_under table os n (Choose f one two) h = less (list_depth one) (list_depth two) (earlier_low n one h.1.0) (earlier_low n two h.1.1)
   where
     less : (a b : ℕ) → a ≤ n → b ≤ n → max a b ≤ n
@@ -279,6 +281,7 @@ can_be_done s scene n step get = by step.action (scene.code.steps n step get).ac
     by : (a : Action) → IsAction s.entries.now s.code.now.operations n a → CanBeDone s a
     by (Store f a) h = h
     by (Assign f first depth) h = h
+    by (Keep from to values depth) h = h
     by (Choose f one two) h = h.0
 
 pub arm_lower : (one two : Option ℕ) (b : Bool) → 4 * list_depth (if b then one else two) < 4 * max (list_depth one) (list_depth two) + 1

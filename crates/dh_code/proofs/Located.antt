@@ -33,7 +33,7 @@ pub record Leading (whole : List Dim) (all : List ℤ) (ds : List Dim) (is : Lis
   pub dims : AllByRecursion IsDim ds
   pub long : length is ≡ length ds
 
-nothing_yet : (many rest : ℕ) → Part 0 many rest many rest
+pub nothing_yet : (many rest : ℕ) → Part 0 many rest many rest
 nothing_yet many rest = record { is = none; room = one }
   where
     none : 0 * many + rest ≡ rest
@@ -87,7 +87,7 @@ module _ (whole : List Dim) (all : List ℤ) (d : Dim) (ds : List Dim) (z : ℤ)
   abbrev test : Bool
   test = int_le (pos 0) z && int_lt z (pos d.size)
 
-  leads_nowhere : index_within d.size z ≡ None → is_inside whole all ≡ false
+  pub leads_nowhere : index_within d.size z ≡ None → is_inside whole all ≡ false
   leads_nowhere e = sym h.inside ∙ ap (λ t. t && is_inside ds is) (refused test (unsigned_abs z) e)
 
   module _ (n : ℕ) (below : n < d.size) (e : index_within d.size z ≡ Some n) where
@@ -97,7 +97,7 @@ module _ (whole : List Dim) (all : List ℤ) (d : Dim) (ds : List Dim) (z : ℤ)
     some_banks : 0 < d.banks
     some_banks = let x = h.dims.0.banks in omega (arith, x)
 
-    leads_next : Leading whole all ds is (spread_behind s d n)
+    pub leads_next : Leading whole all ds is (spread_behind s d n)
     leads_next = record {
       inside = sym (ap (λ t. t && is_inside ds is) so.0) ∙ h.inside;
       bank = part_more s.bank d.banks (banks_of ds) (n % d.banks) (bank_of ds (map unsigned_abs is)) (banks_of whole) (bank_of whole (map unsigned_abs all)) (mod-lt n some_banks)
@@ -113,7 +113,7 @@ module _ (whole : List Dim) (all : List ℤ) (d : Dim) (ds : List Dim) (z : ℤ)
         less : (a b : ℕ) → suc a ≡ suc b → a ≡ b
         less a b e = omega (arith, e)
 
-    room_next : AreDims whole → HasRoom s d n
+    pub room_next : AreDims whole → HasRoom s d n
     room_next are = record {
       bank = few _ _ (part_below _ _ _ _ _ (banks_some ds h.dims.1) leads_next.bank) (banks_fit whole are.dims) are.few;
       row = few _ _ (part_below _ _ _ _ _ (rows_some ds h.dims.1) leads_next.row) (rows_fit whole are.dims) are.few;
@@ -127,7 +127,7 @@ module _ (whole : List Dim) (all : List ℤ) (d : Dim) (ds : List Dim) (z : ℤ)
         least n = omega arith
 
 -- nothing is to come
-leads_to : (whole : List Dim) (all : List ℤ) (s : Spread) → Leading whole all [] [] s → Spreads whole all (Some s) × IsSpread whole (Some s)
+pub leads_to : (whole : List Dim) (all : List ℤ) (s : Spread) → Leading whole all [] [] s → Spreads whole all (Some s) × IsSpread whole (Some s)
 leads_to whole all s h = (
   (sym h.inside, (last s.bank _ h.bank.is, (last s.row _ h.row.is, last s.position _ h.position.is))),
   (within s.bank _ h.bank.room, (within s.row _ h.row.room, within s.position _ h.position.room)),
@@ -140,7 +140,7 @@ leads_to whole all s h = (
     within n m e = omega (arith, e)
 
 -- as many indices as dimensions are wanted
-not_as_many : (ds : List Dim) (is : List ℤ) → (length is ≡ length ds → ⊥) → is_inside ds is ≡ false
+pub not_as_many : (ds : List Dim) (is : List ℤ) → (length is ≡ length ds → ⊥) → is_inside ds is ≡ false
 not_as_many [] [] h = absurd (h refl)
 not_as_many [] (i ∷ is) h = refl
 not_as_many (d ∷ ds) [] h = refl

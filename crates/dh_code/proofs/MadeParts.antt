@@ -1,5 +1,5 @@
 -- The code of parts of expressions: how it is put together, and that it can be done.
-use Rattle.std.proofs.Common.{◌≡◌, ℕ, ◌+◌, Bool, true, false, if◌then◌else◌, List, [], ◌∷◌, ◌++◌, length, refl, ap, sym, ◌∙◌, subst, arith}
+use Rattle.std.proofs.Common.{◌≡◌, ℕ, suc, ◌+◌, Bool, true, false, if◌then◌else◌, List, [], ◌∷◌, ◌++◌, length, refl, ap, sym, ◌∙◌, subst, arith}
 use Rattle.std.specs.List.{AllByRecursion}
 use Rattle.dh_value.specs.declared.kinds.Kind.{Kind}
 use Rattle.dh_value.specs.declared.kinds.Kind.TheVariants as kind
@@ -12,7 +12,10 @@ use Rattle.dh_value.proofs.WordLaws.{truth_is_word}
 use Rattle.dh_tree.specs.declared.tables.MemEntry.{MemEntry}
 use Rattle.dh_tree.specs.WiderKinds.{wider}
 use Rattle.dh_tree.specs.Shapes.{IsMemory}
-use Rattle.dh_meaning.specs.Core.{Reach, CoreTerm, literal, truth_literal, variable, read, binary, convert, by_indices, by_row, by_views, CoreTerms, no_terms, term_and}
+use Rattle.dh_tree.specs.Elements.{dims_at}
+use Rattle.dh_meaning.specs.Ways.{Step}
+use Rattle.dh_code.specs.Passing.{StepsFit}
+use Rattle.dh_meaning.specs.Core.{Reach, CoreTerm, literal, truth_literal, variable, read, binary, convert, by_indices, by_row, by_views, CoreTerms, no_terms, term_and, count_terms}
 use Rattle.dh_meaning.specs.Core as core
 use Rattle.dh_meaning.specs.CoreOf.{extended, operation_of}
 use Rattle.dh_meaning.specs.Effects.{kind_in}
@@ -90,6 +93,10 @@ module _ (held : List Held) (table : List MemEntry) where
   operands_suited op.Eq j k l r h = both_suited op.Eq j k l r h
   operands_suited op.Ne j k l r h = both_suited op.Ne j k l r h
 
+pub values_made : (held : List Held) (table : List MemEntry) (at : ℕ) (ts : CoreTerms) → length (terms_made held table at ts).values ≡ count_terms ts
+values_made held table at no_terms = refl
+values_made held table at (term_and t ts) = ap suc (values_made held table (at + length (term_made held table at t).operations) ts)
+
 pub all_append : {A : Type 0} (P : A → Type 0) (xs ys : List A) → AllByRecursion P xs → AllByRecursion P ys → AllByRecursion P (xs ++ ys)
 all_append P [] ys h k = k
 all_append P (x ∷ xs) ys h k = (h.0, all_append P xs ys h.1 k)
@@ -108,7 +115,7 @@ module _ (held : List Held) (table : List MemEntry) (entries : AllByRecursion Is
   kind_sized (truth_literal value) h = (omega arith, omega arith)
   kind_sized (variable kind depth entity) h = h
   kind_sized (read r (by_indices indices)) h = sized_at table r.memory entries h.0
-  kind_sized (read r (by_views steps n terms)) h = absurd h
+  kind_sized (read r (by_views steps n terms)) h = sized_at table r.memory entries h.0
   kind_sized (read r (by_row bank row)) h = sized_at table r.memory entries h.0.0
   kind_sized (binary o left right) h = of_result o (term_kind table left) (kind_sized left h.1.0)
     where
@@ -166,10 +173,21 @@ module _ (held : List Held) (table : List MemEntry) (entries : AllByRecursion Is
 
     pub target_done : (at memory : ℕ) (target : core.Target) → IsSuitedTarget table memory target → AllByRecursion (IsOperation table) (target_made held table at target).operations × IsTarget table memory (target_made held table at target).target
     target_done at memory (by_indices indices) h = let a = all_done at indices h.1 in (a.0, (h.0, a.1))
-    target_done at memory (by_views steps n terms) h = absurd h
+    target_done at memory (by_views steps n terms) h =
+        let a = all_done at terms h.1.1 in (
+          a.0,
+          (
+            h.0,
+            (
+              subst (λ (ss : List Step). StepsFit (dims_at table memory) ss n (length (terms_made held table at terms).values)) (sym h.1.0.are)
+                  (subst (λ (k : ℕ). StepsFit (dims_at table memory) steps n k) (sym (values_made held table at terms)) h.1.0),
+              a.1,
+            ),
+          ),
+        )
     target_done at memory (by_row bank row) h = let a = made_done at row h.1 in (a.operations, (h.0, a.value))
 
-    all_done : (at : ℕ) (ts : CoreTerms) → AreSuited table ts → AllByRecursion (IsOperation table) (terms_made held table at ts).operations × AllByRecursion IsOperand (terms_made held table at ts).values
+    pub all_done : (at : ℕ) (ts : CoreTerms) → AreSuited table ts → AllByRecursion (IsOperation table) (terms_made held table at ts).operations × AllByRecursion IsOperand (terms_made held table at ts).values
     all_done at no_terms h = (tt, tt)
     all_done at (term_and t ts) h =
         let a = made_done at t h.0 in

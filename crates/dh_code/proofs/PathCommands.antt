@@ -6,7 +6,8 @@ use Rattle.dh_meaning.specs.Core.{CoreCommand, store, assign, choose, keep}
 use Rattle.dh_meaning.specs.Effects.{Begun, Effect, assigned_at, at_each, kept_at, stored_at, tested_at}
 use Rattle.dh_code.specs.declared.codes.Access.{Access}
 use Rattle.dh_code.specs.declared.codes.Action.{Action}
-use Rattle.dh_code.specs.declared.codes.Action.TheVariants.{Store, Assign}
+use Rattle.dh_code.specs.declared.codes.Action.TheVariants.{Store, Assign, Keep}
+use Rattle.dh_code.specs.declared.codes.Kept.{Kept}
 use Rattle.dh_code.specs.declared.codes.Flat.{Flat}
 use Rattle.dh_code.specs.declared.evaluating.Scene.{Scene}
 use Rattle.dh_code.specs.declared.evaluating.Stop.{Stop}
@@ -14,7 +15,7 @@ use Rattle.dh_code.specs.declared.running.State.{State}
 use Rattle.dh_code.specs.Coded.{IsCoded}
 use Rattle.dh_code.specs.Scenes.{begun_in}
 use Rattle.dh_code.specs.Slots.{Placing}
-use Rattle.dh_code.specs.States.{AreRanks, AreRows, Assigns, DoesOne, Ends, IsReady, Keeps, KeepsBack, Runs, Stores}
+use Rattle.dh_code.specs.States.{AreRanks, AreRows, Assigns, DoesOne, Ends, IsReady, Keeps, KeepsAll, KeepsBack, Runs, Stores}
 use Rattle.dh_code.specs.Suited.{CanDo}
 use Rattle.dh_code.proofs.PathLoops.{Going, Grows, go_end, go_first, go_stop, go_turn, ranks_now}
 
@@ -117,3 +118,19 @@ stores_all s old new result rows numbers f a h p factors paths (store r target v
 stores_all s old new result rows numbers f a h p factors paths (assign deep entity t) are coded can e k = absurd coded
 stores_all s old new result rows numbers f a h p factors paths (choose test chosen other) are coded can e k = absurd coded
 stores_all s old new result rows numbers f a h p factors paths (keep deep entity values) are coded can e k = absurd coded
+
+pub keeps_one : {A : Type 0} (s : Scene) (now new : State) (result : Result A Stop) (ranks : List ℕ) (from to : ℕ) (ks : List Kept) (depth : ℕ) → KeepsAll s now result new ranks from to ks depth
+    → (p : Placing) (factors : List ℕ) (path : Path) (c : CoreCommand) → AreRanks factors ranks path → IsCoded p.held s.entries.now s.code.now (Keep from to ks depth) c → CanDo s.entries.now p factors c → Runs p s now result new (at_one (begun_in s) c path)
+keeps_one s now new result ranks from to ks depth h p factors path (store r target value) at coded can = absurd coded
+keeps_one s now new result ranks from to ks depth h p factors path (assign deep entity t) at coded can = absurd coded
+keeps_one s now new result ranks from to ks depth h p factors path (keep deep entity ts) at coded can = h p factors path deep entity ts at coded.0 coded.1 can.0 can.1
+keeps_one s now new result ranks from to ks depth h p factors path (choose test chosen other) at coded can = absurd coded
+
+pub keeps_all : {A : Type 0} (s : Scene) (old new : State) (result : Result A Stop) (rows : List (List ℕ)) (numbers : List ℕ) (from to : ℕ) (ks : List Kept) (depth : ℕ)
+    → ((p : Placing) (factors : List ℕ) (paths : List Path) (c : CoreCommand) → AreRows factors rows numbers paths → IsCoded p.held s.entries.now s.code.now (Keep from to ks depth) c → CanDo s.entries.now p factors c
+    → (e : Effect) → Keeps p s.entries.now e s.step old → Ends p s.entries.now (at_each (at_one (begun_in s) c) paths e) s.step result new)
+    → DoesOne s old result new rows numbers (Keep from to ks depth)
+keeps_all s old new result rows numbers from to ks depth h p factors paths (store r target value) are coded can e k = absurd coded
+keeps_all s old new result rows numbers from to ks depth h p factors paths (assign deep entity t) are coded can e k = absurd coded
+keeps_all s old new result rows numbers from to ks depth h p factors paths (keep deep entity ts) are coded can e k = h p factors paths (keep deep entity ts) are coded can e k
+keeps_all s old new result rows numbers from to ks depth h p factors paths (choose test chosen other) are coded can e k = absurd coded

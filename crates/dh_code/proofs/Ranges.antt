@@ -8,13 +8,13 @@ use Rattle.std.proofs.lemmas.List.{length-take-le, length-drop}
 pub length_range : {A : Type 0} (xs : List A) (a b : ℕ) → b ≤ length xs → length (slice_range xs a b) ≡ b - a
 length_range xs a b within = length-take-le (b - a) (drop a xs) (subst (λ (n : ℕ). b - a ≤ n) (sym (length-drop a xs)) (omega (arith, within)))
 
-all_taken : {A : Type 0} (P : A → Type 0) (xs : List A) (n : ℕ) → AllByRecursion P xs → AllByRecursion P (take n xs)
+pub all_taken : {A : Type 0} (P : A → Type 0) (xs : List A) (n : ℕ) → AllByRecursion P xs → AllByRecursion P (take n xs)
 all_taken P [] zero h = tt
 all_taken P [] (suc n) h = tt
 all_taken P (x ∷ xs) zero h = tt
 all_taken P (x ∷ xs) (suc n) h = (h.0, all_taken P xs n h.1)
 
-all_dropped : {A : Type 0} (P : A → Type 0) (xs : List A) (n : ℕ) → AllByRecursion P xs → AllByRecursion P (drop n xs)
+pub all_dropped : {A : Type 0} (P : A → Type 0) (xs : List A) (n : ℕ) → AllByRecursion P xs → AllByRecursion P (drop n xs)
 all_dropped P [] zero h = tt
 all_dropped P [] (suc n) h = tt
 all_dropped P (x ∷ xs) zero h = h

@@ -1,5 +1,5 @@
 -- The slots of variables, where one copy of one of them is set.
-use Rattle.std.proofs.Common.{◌≡◌, ℕ, zero, suc, ◌+◌, ◌*◌, ◌<◌, ◌≤◌, ◌^◌, ◌==◌, ◌&&◌, Bool, true, false, if◌then◌else◌, List, [], ◌∷◌, length, ℤ, refl, ap, sym, ◌∙◌, ◌⊎◌, inl, inr, subst, arith}
+use Rattle.std.proofs.Common.{◌≡◌, ℕ, zero, suc, ◌+◌, ◌*◌, ◌<◌, ◌≤◌, ◌^◌, ◌==◌, ◌&&◌, Bool, true, false, if◌then◌else◌, List, [], ◌∷◌, length, ℤ, refl, ap, sym, ◌∙◌, ◌⊎◌, inl, inr, subst, arith, drop}
 use Rattle.std.specs.Prelude.{slice_index, slice_set}
 use Rattle.std.specs.Cmp.Lexicographic.{same_text, other_text}
 use Rattle.std.proofs.lemmas.Bool.{eqb-true, eq-eqb, cases_Bool}
@@ -115,3 +115,18 @@ held_past (x ∷ held) (suc n) h = held_past held n (less (length held) n h)
   where
     less : (m l : ℕ) → suc m ≤ suc l → m ≤ l
     less m l e = omega (arith, e)
+
+-- those behind others
+pub held_dropped : (held : List Held) (e n : ℕ) → held_at (drop e held) n ≡ held_at held (e + n)
+held_dropped held zero n = ap (λ k. held_at held k) (none n)
+  where
+    none : (n : ℕ) → n ≡ 0 + n
+    none n = omega arith
+held_dropped [] (suc e) n = held_past [] n (least n) ∙ sym (held_past [] (suc e + n) (least (suc e + n)))
+  where
+    least : (n : ℕ) → length {A = Held} [] ≤ n
+    least n = omega arith
+held_dropped (x ∷ held) (suc e) n = held_dropped held e n ∙ ap (λ k. held_at (x ∷ held) k) (moved e n)
+  where
+    moved : (a b : ℕ) → suc (a + b) ≡ suc a + b
+    moved a b = omega arith

@@ -1,5 +1,5 @@
 -- What the code of an expression gives is the value of the expression, with its accesses and faults in order.
-use Rattle.std.proofs.Common.{◌≡◌, ℕ, ◌+◌, ◌<◌, ◌≤◌, Bool, true, false, if◌then◌else◌, List, [], ◌∷◌, ◌++◌, length, take, Some, None, refl, ap, sym, ◌∙◌, subst, arith, append-nil}
+use Rattle.std.proofs.Common.{◌≡◌, ℕ, ◌+◌, ◌<◌, ◌≤◌, Bool, true, false, if◌then◌else◌, List, [], ◌∷◌, ◌++◌, length, take, drop, Some, None, refl, ap, sym, ◌∙◌, subst, arith, append-nil}
 use Rattle.std.specs.Prelude.{Option, slice_index}
 use Rattle.std.specs.List.{AllByRecursion}
 use Rattle.std.proofs.lemmas.Bool.{eqb-true}
@@ -20,7 +20,7 @@ use Rattle.dh_tree.specs.Shapes.{IsMemory}
 use Rattle.dh_meaning.specs.Paths.{Path}
 use Rattle.dh_meaning.specs.Core.{Reach, CoreTerm, literal, truth_literal, variable, read, binary, convert, by_indices, by_row, by_views, CoreTerms, no_terms, term_and}
 use Rattle.dh_meaning.specs.Core as core
-use Rattle.dh_meaning.specs.Effects.{Begun, Event, Variables, bits_at, kind_in, read_made, spot_by_indices, spot_by_row, spot_reached, target_events, term_events, terms_events, value_of, values_of}
+use Rattle.dh_meaning.specs.Effects.{Begun, Event, Variables, bits_at, kind_in, read_made, spot_by_indices, spot_by_row, spot_by_views, spot_reached, target_events, term_events, terms_events, value_of, values_of}
 use Rattle.dh_code.specs.declared.codes.Operand.{Operand}
 use Rattle.dh_code.specs.declared.codes.Operand.TheVariants.{Variable}
 use Rattle.dh_code.specs.declared.codes.Operation.{Operation}
@@ -28,6 +28,7 @@ use Rattle.dh_code.specs.declared.codes.Operation.TheVariants.{Binary, Convert, 
 use Rattle.dh_code.specs.declared.places.Held.{Held}
 use Rattle.dh_code.specs.Made.{Made, access_to, one_more, same_kind, target_made, term_made, terms_made}
 use Rattle.dh_code.specs.Operated.{Sight, access_spot, events_after, index_values, kind_of_operand, lowest_word, mask_of, operand_word, operation_events, operation_word, sight_after, target_spot}
+use Rattle.dh_code.specs.Passing.{steps_of, views_of}
 use Rattle.dh_code.specs.Plain.{all_plain, plain}
 use Rattle.dh_code.specs.Ranks.{IsPath, rank_of, ranks_of}
 use Rattle.dh_code.specs.Scenes.{AreSmall}
@@ -291,7 +292,13 @@ module _ (p : Placing) (b : Begun) (v : Variables) (factors : List ℕ) (path : 
     leads w at r (by_indices indices) s h i room =
         let g = gives_all w at indices s h.1 i room in
         record { spot = ap (λ l. spot_by_indices b.table r.memory l) g.values; events = g.events }
-    leads w at r (by_views steps n terms) s h i room = absurd h
+    leads w at r (by_views steps n terms) s h i room =
+        let g = gives_all w at terms s h.1.1 i room in
+        record {
+          spot = ap (λ l. spot_by_views b.table r.memory (steps_of (views_of steps)) (take n l) (drop n l)) g.values
+              ∙ ap (λ ss. spot_by_views b.table r.memory ss (take n (values_of b v path terms)) (drop n (values_of b v path terms))) h.1.0.are;
+          events = g.events;
+        }
     leads w at r (by_row bank row) s h i room =
         let g = gives w at row s h.1 i room in
         record { spot = ap (λ (x : Word). spot_by_row b.table r.memory bank (words.value_of x)) g.value; events = g.events }

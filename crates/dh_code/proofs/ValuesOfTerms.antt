@@ -71,7 +71,7 @@ module _ (b : Begun) (variables : Variables) (path : Path) where
 
   memory_there : (r : Reach) (target : Target) → IsSuitedTarget b.table r.memory target → r.memory < length b.table
   memory_there r (by_indices indices) h = h.0
-  memory_there r (by_views steps n terms) h = absurd h
+  memory_there r (by_views steps n terms) h = h.0
   memory_there r (by_row bank row) h = h.0.0
 
   -- an expression that suits has a word for its value

@@ -1,11 +1,10 @@
 -- The banks of all memories in one list: those of a memory stand behind those of the memories before it.
-use Rattle.std.specs.Prelude.{◌≡◌, ℕ, ◌+◌, ◌*◌, ◌/◌, ◌%◌, ◌^◌, ◌<◌, ◌≤◌, zero, suc, ◌&&◌, true, false, if◌then◌else◌, List, [], ◌∷◌, length, get_or, map, Option, Some, None, ℤ, pos, int_le, int_lt, unsigned_abs}
-use Rattle.std.specs.List.{AllByRecursion}
+use Rattle.std.specs.Prelude.{◌≡◌, ℕ, ◌+◌, ◌*◌, ◌/◌, ◌%◌, ◌^◌, ◌<◌, zero, suc, ◌&&◌, true, false, if◌then◌else◌, List, [], ◌∷◌, length, get_or, map, Option, Some, None, ℤ, pos, int_le, int_lt, unsigned_abs}
 use Rattle.dh_tree.specs.declared.tables.Dim.{Dim}
 use Rattle.dh_tree.specs.declared.tables.MemEntry.{MemEntry}
 use Rattle.dh_tree.specs.Elements.{banks_of, rows_of, bank_of, row_of, position_of, position_in_bank, dims_at}
 use Rattle.dh_meaning.specs.Effects.{is_inside, is_row}
-use Rattle.dh_tree.specs.Tables.{elements_of, most_elements}
+use Rattle.dh_tree.specs.Tables.{elements_of}
 use Rattle.dh_code.specs.declared.spots.Spread.{Spread}
 
 -- the number of the first bank of a memory

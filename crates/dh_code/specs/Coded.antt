@@ -1,5 +1,5 @@
 -- The code of commands: lists that lead from one to the next, of the expressions' operations and values.
-use Rattle.std.specs.Prelude.{◌≡◌, ℕ, ◌+◌, ◌≤◌, List, ◌++◌, length, slice_get, slice_range, Option, Some, None}
+use Rattle.std.specs.Prelude.{◌≡◌, ℕ, suc, ◌+◌, ◌≤◌, List, [], ◌∷◌, ◌++◌, length, map, slice_get, slice_range, Option, Some, None}
 use Rattle.dh_tree.specs.declared.tables.MemEntry.{MemEntry}
 use Rattle.dh_meaning.specs.Core.{Reach, CoreTerm, CoreTerms, CoreCommand, store, assign, choose, keep, CoreCommands, no_commands, command_and}
 use Rattle.dh_meaning.specs.Core as core
@@ -7,12 +7,14 @@ use Rattle.dh_code.specs.declared.codes.Access.{Access}
 use Rattle.dh_code.specs.declared.codes.Operation.{Operation}
 use Rattle.dh_code.specs.declared.codes.Flat.{Flat}
 use Rattle.dh_code.specs.declared.codes.Action.{Action}
-use Rattle.dh_code.specs.declared.codes.Action.TheVariants.{Store, Assign, Choose}
+use Rattle.dh_code.specs.declared.codes.Action.TheVariants.{Store, Assign, Keep, Choose}
+use Rattle.dh_code.specs.declared.codes.Kept.{Kept}
+use Rattle.dh_code.specs.declared.codes.Operand.{Operand}
 use Rattle.dh_code.specs.declared.codes.Step.{Step}
 use Rattle.dh_code.specs.declared.codes.Code.{Code}
 use Rattle.dh_code.specs.declared.places.Held.{Held}
 use Rattle.dh_code.specs.Slots.{held_at}
-use Rattle.dh_code.specs.Made.{term_made, target_made, access_to}
+use Rattle.dh_code.specs.Made.{term_made, terms_made, target_made, access_to}
 
 -- further operations and commands behind those that there are
 pub record Extends (old new : Code) : Type 0 where
@@ -42,6 +44,21 @@ pub record AreSlotsOf (held : List Held) (entity first depth : ℕ) : Type 0 whe
   pub first_is : first ≡ (held_at held entity).first
   pub depth_is : depth ≡ (held_at held entity).depth
 
+-- the operations of values stand in code, and these are their operands
+pub record AreFlat (held : List Held) (table : List MemEntry) (code : Code) (ts : CoreTerms) (from to : ℕ) (operands : List Operand) : Type 0 where
+  pub within : from ≤ to
+  pub there : to ≤ length code.operations
+  pub operations : slice_range code.operations from to ≡ (terms_made held table from ts).operations
+  pub values : operands ≡ (terms_made held table from ts).values
+
+abbrev pub operands_kept : List Kept → List Operand
+operands_kept ks = map (λ k. k.value) ks
+
+-- the slots of variables that are set, whose entities follow one another
+abbrev pub AreSlotsFrom : List Held → (entity depth : ℕ) → List Kept → Type 0
+AreSlotsFrom held entity depth [] = Unit {0}
+AreSlotsFrom held entity depth (k ∷ ks) = AreSlotsOf held entity k.first depth × AreSlotsFrom held (suc entity) depth ks
+
 abbrev mutual
   -- the commands that begin at a number are these
   pub AreCoded : List Held → List MemEntry → Code → Option ℕ → CoreCommands → Type 0
@@ -61,6 +78,10 @@ abbrev mutual
   IsCoded held table code (Assign f first depth) (assign deep entity value) = IsFlat held table code value f × AreSlotsOf held entity first depth
   IsCoded held table code (Assign f first depth) (choose test chosen other) = ⊥
   IsCoded held table code (Assign f first depth) (keep deep entity values) = ⊥
+  IsCoded held table code (Keep from to values depth) (store reach target value) = ⊥
+  IsCoded held table code (Keep from to values depth) (assign deep entity value) = ⊥
+  IsCoded held table code (Keep from to values depth) (choose test chosen other) = ⊥
+  IsCoded held table code (Keep from to values depth) (keep deep entity terms) = AreFlat held table code terms from to (operands_kept values) × AreSlotsFrom held entity depth values
   IsCoded held table code (Choose f one two) (store reach target value) = ⊥
   IsCoded held table code (Choose f one two) (assign depth entity value) = ⊥
   IsCoded held table code (Choose f one two) (keep depth first values) = ⊥

@@ -1,5 +1,5 @@
 -- What the calls that make code add to it.
-use Rattle.std.specs.Prelude.{◌≡◌, ℕ, ◌+◌, ◌<◌, Bool as Truth, true, false, List, [], ◌∷◌, ◌++◌, length, map, Option, Some, None, option_map, Box}
+use Rattle.std.specs.Prelude.{◌≡◌, ℕ, suc, ◌+◌, ◌<◌, Bool as Truth, true, false, List, [], ◌∷◌, ◌++◌, length, map, Option, Some, None, option_map, Box}
 use Rattle.dh_value.specs.declared.kinds.Kind.{Kind}
 use Rattle.dh_value.specs.declared.kinds.Kind.TheVariants.{Bool, Unsigned, Signed}
 use Rattle.dh_value.specs.declared.operators.Op.{Op}
@@ -12,34 +12,41 @@ use Rattle.std.specs.List.{AllByRecursion}
 use Rattle.dh_tree.specs.Memories.{memories_of, table_of}
 use Rattle.dh_tree.specs.Shapes.{IsMemory}
 use Rattle.dh_tree.specs.PlainTrees as plain
-use Rattle.dh_tree.specs.Seen.{action_seen, maybe_seen, program_seen, term_seen, terms}
+use Rattle.dh_tree.specs.declared.trees.commands.ViewForm.{ViewForm}
+use Rattle.dh_tree.specs.Seen.{action_seen, maybe_seen, plan_seen, program_seen, term_seen, terms}
+use Rattle.dh_tree.specs.ViewOffsets.{offsets_of}
 use denote.Ref.{Bor}
 use Rattle.dh_meaning.specs.AccessNumbers.{term_accesses, terms_accesses}
-use Rattle.dh_meaning.specs.Bindings.{binding_in, bindings_of, kind_bound, kind_found}
+use Rattle.dh_meaning.specs.Bindings.{binding_in, kind_bound, kind_found}
+use Rattle.dh_meaning.specs.Ways.{all_bindings_of, hidden_in}
+use Rattle.dh_ways.specs.Seen.{led_seen}
 use Rattle.dh_value.specs.Operations.{truth}
 use Rattle.dh_meaning.specs.Phases.{Located}
 use Rattle.dh_meaning.specs.Core as core
 use Rattle.dh_meaning.specs.Core.{Reach, by_row, CoreTerm, CoreTerms, CoreCommands, command_and, no_commands}
-use Rattle.dh_meaning.specs.CoreOf.{Known, core_action, core_commands, core_other, core_term, core_terms, entity_number, first_value, folded_into, reach_of, store_to, target_to, way_of}
+use Rattle.dh_meaning.specs.CoreOf.{Known, core_action, core_commands, core_other, core_term, core_terms, entity_number, first_value, folded_into, kept_by, reach_of, store_to, target_to, way_of}
 use Rattle.dh_code.specs.declared.codes.Access.{Access}
 use Rattle.dh_code.specs.declared.codes.Action.{Action}
 use Rattle.dh_code.specs.declared.codes.Action.TheVariants.{Assign, Choose}
 use Rattle.dh_code.specs.declared.codes.Code.{Code}
+use Rattle.dh_code.specs.declared.codes.Kept.{Kept}
+use Rattle.dh_code.specs.declared.codes.Target.{Target}
 use Rattle.dh_code.specs.declared.codes.Operand.{Operand}
 use Rattle.dh_code.specs.declared.codes.Operand.TheVariants.{Constant, Given}
 use Rattle.dh_code.specs.declared.codes.Operation.{Operation}
 use Rattle.dh_code.specs.declared.codes.Flat.{Flat}
 use Rattle.dh_code.specs.declared.flattening.Names.{Names}
 use Rattle.dh_code.specs.Coded.{AreCoded, Extends}
-use Rattle.dh_code.specs.Made.{AllMade, Made, access_to, binary_made, converted_made, target_made, term_made, terms_made}
+use Rattle.dh_code.specs.Made.{AllMade, Made, access_to, aimed_target, binary_made, converted_made, target_made, term_made, terms_made}
 use Rattle.dh_code.specs.Operated.{mask_of}
 use Rattle.dh_code.specs.Scenes.{IsSoundCode}
+use Rattle.dh_code.specs.declared.places.Held.{Held}
 use Rattle.dh_code.specs.Slots.{Placing, held_at}
 use Rattle.dh_code.specs.Suited.{AreSuited, CanDoAll, IsSuited, IsSuitedTarget}
 
--- what code knows of the names of a program: its memories and its variables, and no views yet
+-- what code knows of the names of a program
 abbrev pub known_in : Names → Known
-known_in names = record { memories = memories_of (program_seen names.program.now); bindings = bindings_of (program_seen names.program.now); ways = [] }
+known_in names = record { memories = memories_of (program_seen names.program.now); bindings = all_bindings_of (program_seen names.program.now); ways = map led_seen names.ways.now }
 
 abbrev pub table_in : Names → List MemEntry
 table_in names = table_of (program_seen names.program.now)
@@ -73,6 +80,25 @@ abbrev pub FlattensAll : Names → (old new : Code) → List Expr → List Opera
 FlattensAll names old new es os =
     (n : ℕ) → AreSuited (table_in names) (core_terms (known_in names) n (terms (map term_seen es)))
     → AreMade old new os (terms_made names.places.now (table_in names) (length old.operations) (core_terms (known_in names) n (terms (map term_seen es))))
+
+-- the element that operands name
+abbrev pub Aims : Names → Ref → List Operand → Target → Type 0
+Aims names r os t = t ≡ aimed_target names.places.now (way_of (known_in names) r) os
+
+-- the offsets of a suffix, without its factors
+abbrev pub offsets_by : List (ℕ × Expr) → List Expr
+offsets_by pairs = map (λ p. p.1) pairs
+
+-- the code of the offsets of a view
+abbrev pub FlattensOffsets : Names → (old new : Code) → ViewForm → List Operand → Type 0
+FlattensOffsets names old new form os =
+    (n : ℕ) → AreSuited (table_in names) (core_terms (known_in names) n (terms (offsets_of (plan_seen form))))
+    → AreMade old new os (terms_made names.places.now (table_in names) (length old.operations) (core_terms (known_in names) n (terms (offsets_of (plan_seen form)))))
+
+-- operands that are kept in variables whose entities follow one another
+abbrev pub kept_from : List Held → (entity : ℕ) → List Operand → List Kept
+kept_from held entity [] = []
+kept_from held entity (o ∷ os) = record { value = o; first = (held_at held entity).first } ∷ kept_from held (suc entity) os
 
 -- a value in another kind, behind whatever was made of it
 abbrev pub ConvertsTo : (old new : Code) → Operand → Kind → Operand → Type 0
@@ -172,6 +198,12 @@ abbrev pub IsStoredIn : Names → (old new : Code) → (target value : Expr) →
 IsStoredIn names old new target value next first =
     (n : ℕ) (rest : CoreCommands)
     → StandsInFront names old new first next (command_and (store_to (known_in names) (n + term_accesses (term_seen value)) (term_seen target) (core_term (known_in names) n (term_seen value))) rest) rest
+
+-- a view
+abbrev pub IsKeptIn : Names → (old new : Code) → Ref → ViewForm → (next first : Option ℕ) → Type 0
+IsKeptIn names old new r form next first =
+    (n : ℕ) (rest : CoreCommands)
+    → StandsInFront names old new first next (kept_by (hidden_in (way_of (known_in names) r)) (core_terms (known_in names) n (terms (offsets_of (plan_seen form)))) rest) rest
 
 -- the access that a target is, or that it is none
 abbrev pub aimed_at : Known → (n : ℕ) → plain.Term → Option (Reach × core.Target)

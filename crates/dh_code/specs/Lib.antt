@@ -6,6 +6,8 @@ pub mod Ranks
 pub mod Slots
 pub mod Declarations
 pub mod Placed
+pub mod Passing
+pub mod Passed
 pub mod Operated
 pub mod Suited
 pub mod Made

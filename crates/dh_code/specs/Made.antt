@@ -1,5 +1,5 @@
 -- The code of an expression: the operations that are added behind so many, and the operand that is its value then.
-use Rattle.std.specs.Prelude.{ℕ, ◌+◌, ◌==◌, Bool, true, false, if◌then◌else◌, List, [], ◌∷◌, ◌++◌, length}
+use Rattle.std.specs.Prelude.{ℕ, ◌+◌, ◌==◌, Bool, true, false, if◌then◌else◌, List, [], ◌∷◌, ◌++◌, length, map, Option, Some, None}
 use Rattle.dh_value.specs.declared.kinds.Kind.{Kind}
 use Rattle.dh_value.specs.declared.kinds.Kind.TheVariants as kind
 use Rattle.dh_value.specs.declared.operators.Op.{Op}
@@ -13,11 +13,13 @@ use Rattle.dh_meaning.specs.Effects.{bits_of, kind_in}
 use Rattle.dh_code.specs.declared.codes.Operand.{Operand}
 use Rattle.dh_code.specs.declared.codes.Operand.TheVariants.{Constant, Variable, Given}
 use Rattle.dh_code.specs.declared.codes.Target.{Target}
-use Rattle.dh_code.specs.declared.codes.Target.TheVariants.{Indices, Row}
+use Rattle.dh_code.specs.declared.codes.Target.TheVariants.{Indices, Row, Through}
 use Rattle.dh_code.specs.declared.codes.Access.{Access}
 use Rattle.dh_code.specs.declared.codes.Operation.{Operation}
 use Rattle.dh_code.specs.declared.codes.Operation.TheVariants.{Binary, Convert, Read}
 use Rattle.dh_code.specs.declared.places.Held.{Held}
+use Rattle.dh_meaning.specs.Ways.{Hidden, Way}
+use Rattle.dh_code.specs.Passing.{views_of}
 use Rattle.dh_code.specs.Slots.{held_at}
 use Rattle.dh_code.specs.Operated.{kind_of_operand, mask_of}
 
@@ -77,6 +79,15 @@ aimed operations target = record { operations = operations; target = target }
 abbrev pub variable_operand : List Held → Kind → (entity : ℕ) → Operand
 variable_operand held kind entity = Variable (held_at held entity).first (held_at held entity).depth kind (mask_of kind)
 
+-- a variable that keeps an offset of a view
+abbrev pub hidden_operand : List Held → Hidden → Operand
+hidden_operand held h = variable_operand held h.kind h.entity
+
+-- which element these values of indices name, of a memory or through the views on a way
+abbrev pub aimed_target : List Held → Option Way → List Operand → Target
+aimed_target held None os = Indices os
+aimed_target held (Some w) os = Through (views_of w.steps) (length os) (os ++ map (hidden_operand held) w.hidden)
+
 abbrev mutual
   pub term_made : List Held → List MemEntry → (at : ℕ) → CoreTerm → Made
   term_made held table at (literal kind negative n) = made [] (Constant (with_bits kind (bits_of kind negative n)))
@@ -89,8 +100,7 @@ abbrev mutual
 
   pub target_made : List Held → List MemEntry → (at : ℕ) → core.Target → Aimed
   target_made held table at (by_indices indices) = aimed (terms_made held table at indices).operations (Indices (terms_made held table at indices).values)
-  -- (of a view no code is made yet: see IsSuitedTarget)
-  target_made held table at (by_views steps n terms) = aimed (terms_made held table at terms).operations (Indices (terms_made held table at terms).values)
+  target_made held table at (by_views steps n terms) = aimed (terms_made held table at terms).operations (Through (views_of steps) n (terms_made held table at terms).values)
   target_made held table at (by_row bank row) = aimed (term_made held table at row).operations (Row bank (term_made held table at row).value)
 
   pub terms_made : List Held → List MemEntry → (at : ℕ) → CoreTerms → AllMade

@@ -1,6 +1,6 @@
 -- What operations give, and the accesses and faults that they make, at a path of given ranks: each access with
 -- number 0 and at the empty path, since code keeps neither.
-use Rattle.std.specs.Prelude.{◌≡◌, ℕ, ◌+◌, ◌-◌, ◌/◌, ◌%◌, ◌^◌, ◌<◌, List, [], ◌∷◌, ◌++◌, map, length, slice_index, slice_set, Option, ℤ}
+use Rattle.std.specs.Prelude.{◌≡◌, ℕ, ◌+◌, ◌-◌, ◌/◌, ◌%◌, ◌^◌, ◌<◌, List, [], ◌∷◌, ◌++◌, map, take, drop, length, slice_index, slice_set, Option, ℤ}
 use Rattle.std.specs.List.{AllByRecursion}
 use Rattle.dh_value.specs.declared.kinds.Kind.{Kind}
 use Rattle.dh_value.specs.declared.operators.Op.{Op}
@@ -9,15 +9,16 @@ use Rattle.dh_value.specs.Words as words
 use Rattle.dh_value.specs.Words.{IsKind, IsInteger, IsWord, width_of, with_bits, word_of}
 use Rattle.dh_value.specs.Operations.{Suits, binary_of}
 use Rattle.dh_tree.specs.declared.tables.MemEntry.{MemEntry}
-use Rattle.dh_tree.specs.Elements.{Spot}
+use Rattle.dh_tree.specs.Elements.{Spot, dims_at}
 use Rattle.dh_meaning.specs.Core.{Reach}
-use Rattle.dh_meaning.specs.Effects.{Begun, Event, bits_at, kind_in, read_made, spot_by_indices, spot_by_row}
+use Rattle.dh_meaning.specs.Effects.{Begun, Event, bits_at, kind_in, read_made, spot_by_indices, spot_by_row, spot_by_views}
 use Rattle.dh_code.specs.Banks.{HasBank}
+use Rattle.dh_code.specs.Passing.{StepsFit, steps_of}
 use Rattle.dh_code.specs.declared.codes.Operand.{Operand}
 use Rattle.dh_code.specs.declared.codes.Operand.TheVariants.{Constant, Variable, Given}
 use Rattle.dh_code.specs.declared.operands.View.{View}
 use Rattle.dh_code.specs.declared.codes.Target.{Target}
-use Rattle.dh_code.specs.declared.codes.Target.TheVariants.{Indices, Row}
+use Rattle.dh_code.specs.declared.codes.Target.TheVariants.{Indices, Row, Through}
 use Rattle.dh_code.specs.declared.codes.Access.{Access}
 use Rattle.dh_code.specs.declared.codes.Operation.{Operation}
 use Rattle.dh_code.specs.declared.codes.Operation.TheVariants.{Binary, Convert, Read}
@@ -61,6 +62,7 @@ index_values s operands = map (λ o. words.value_of (operand_word s o)) operands
 -- where an access leads, None where it is out of range
 abbrev pub target_spot : Begun → Sight → (memory : ℕ) → Target → Option Spot
 target_spot b s memory (Indices operands) = spot_by_indices b.table memory (index_values s operands)
+target_spot b s memory (Through views n operands) = spot_by_views b.table memory (steps_of views) (take n (index_values s operands)) (drop n (index_values s operands))
 target_spot b s memory (Row bank row) = spot_by_row b.table memory bank (words.value_of (operand_word s row))
 
 abbrev pub access_spot : Begun → Sight → Access → Option Spot
@@ -112,6 +114,8 @@ IsOperand (Given kind at mask) = IsKind kind × (mask ≡ mask_of kind)
 
 abbrev pub IsTarget : List MemEntry → (memory : ℕ) → Target → Type 0
 IsTarget table memory (Indices operands) = (memory < length table) × AllByRecursion IsOperand operands
+IsTarget table memory (Through views n operands) =
+    (memory < length table) × (StepsFit (dims_at table memory) (steps_of views) n (length operands) × AllByRecursion IsOperand operands)
 IsTarget table memory (Row bank row) = HasBank table memory bank × IsOperand row
 
 abbrev pub IsAccess : List MemEntry → Access → Type 0

@@ -13,7 +13,8 @@ use Rattle.dh_code.specs.declared.codes.Access.{Access}
 use Rattle.dh_code.specs.declared.codes.Operation.{Operation}
 use Rattle.dh_code.specs.declared.codes.Flat.{Flat}
 use Rattle.dh_code.specs.declared.codes.Action.{Action}
-use Rattle.dh_code.specs.declared.codes.Action.TheVariants.{Store, Assign, Choose}
+use Rattle.dh_code.specs.declared.codes.Action.TheVariants.{Store, Assign, Keep, Choose}
+use Rattle.dh_code.specs.declared.codes.Kept.{Kept}
 use Rattle.dh_code.specs.declared.codes.Step.{Step}
 use Rattle.dh_code.specs.declared.codes.Code.{Code}
 use Rattle.dh_code.specs.declared.evaluating.Scene.{Scene}
@@ -42,6 +43,12 @@ pub record IsHeld (os : List Operation) (f : Flat) : Type 0 where
   pub there : f.to ≤ length os
   pub operand : IsOperand f.value
 
+-- the operations of values stand in code, and they are operands
+pub record AreHeld (os : List Operation) (from to : ℕ) (values : List Kept) : Type 0 where
+  pub within : from ≤ to
+  pub there : to ≤ length os
+  pub operands : AllByRecursion (λ k. IsOperand k.value) values
+
 -- a list of commands begins before a number
 abbrev pub IsEarlier : (at : ℕ) → Option ℕ → Type 0
 IsEarlier at None = Unit {0}
@@ -50,6 +57,7 @@ IsEarlier at (Some n) = n < at
 abbrev pub IsAction : List MemEntry → List Operation → (at : ℕ) → Action → Type 0
 IsAction table os at (Store f a) = IsHeld os f × IsAccess table a
 IsAction table os at (Assign f first depth) = IsHeld os f
+IsAction table os at (Keep from to values depth) = AreHeld os from to values
 IsAction table os at (Choose f one two) = IsHeld os f × (IsEarlier at one × IsEarlier at two)
 
 -- a command that can be done, whatever it is the code of

@@ -1,18 +1,20 @@
 -- What a step keeps of what its commands did so far.
-use Rattle.std.specs.Prelude.{◌≡◌, ℕ, ◌<◌, ◌≤◌, ◌^◌, Vec, Bool, true, false, if◌then◌else◌, List, [], ◌∷◌, ◌++◌, length, map, slice_set, slice_index_or, Option, Some, Result, Ok, Err, IfOk}
+use Rattle.std.specs.Prelude.{◌≡◌, ℕ, ◌+◌, ◌<◌, ◌≤◌, ◌^◌, Vec, Bool, true, false, if◌then◌else◌, List, [], ◌∷◌, ◌++◌, length, map, slice_set, slice_index, slice_index_or, Option, Some, Result, Ok, Err, IfOk}
 use Rattle.std.specs.List.{AllByRecursion}
 use Rattle.std.specs.Global.{Global}
 use Rattle.dh_value.specs.declared.words.Word.{Word}
-use Rattle.dh_value.specs.Words.{width_of}
+use Rattle.dh_value.specs.Words as words
+use Rattle.dh_value.specs.Words.{residue, width_of}
 use Rattle.dh_base.specs.declared.places.Place.{Place}
 use Rattle.dh_tree.specs.declared.tables.MemEntry.{MemEntry}
 use Rattle.dh_meaning.specs.Paths.{Path}
-use Rattle.dh_meaning.specs.Core.{Reach, CoreTerm, CoreCommand, CoreCommands}
+use Rattle.dh_meaning.specs.Core.{Reach, CoreTerm, CoreTerms, CoreCommand, CoreCommands}
 use Rattle.dh_meaning.specs.Core as core
-use Rattle.dh_meaning.specs.Effects.{Event, reads, writes, faults, Effect, assigned_at, at_each, command_run, commands_run, holds_at, kept_bits, kind_in, paths_where, stop_after, stored_at, tested_at}
+use Rattle.dh_meaning.specs.Effects.{Event, reads, writes, faults, Effect, assigned_at, at_each, command_run, commands_run, holds_at, kept_at, kept_bits, kind_in, paths_where, stop_after, stored_at, tested_at}
 use Rattle.dh_code.specs.declared.codes.Access.{Access}
 use Rattle.dh_code.specs.declared.codes.Action.{Action}
-use Rattle.dh_code.specs.declared.codes.Action.TheVariants.{Store, Assign, Choose}
+use Rattle.dh_code.specs.declared.codes.Action.TheVariants.{Store, Assign, Keep, Choose}
+use Rattle.dh_code.specs.declared.codes.Kept.{Kept}
 use Rattle.dh_code.specs.declared.codes.Flat.{Flat}
 use Rattle.dh_code.specs.declared.evaluating.Scene.{Scene}
 use Rattle.dh_code.specs.declared.evaluating.Stop.{Stop}
@@ -22,15 +24,15 @@ use Rattle.dh_code.specs.declared.running.Change.{Change}
 use Rattle.dh_code.specs.declared.running.State.{State}
 use Rattle.dh_code.specs.declared.spots.Element.{Element}
 use Rattle.dh_code.specs.Banks.{all_banks}
-use Rattle.dh_code.specs.Coded.{AreCoded, AreSlotsOf, IsCoded, IsFlat, IsFlatStore}
-use Rattle.dh_code.specs.Operated.{IsAccess, Sight, sight}
+use Rattle.dh_code.specs.Coded.{AreCoded, AreFlat, AreSlotsFrom, AreSlotsOf, IsCoded, IsFlat, IsFlatStore, operands_kept}
+use Rattle.dh_code.specs.Operated.{IsAccess, Sight, operand_word, sight}
 use Rattle.dh_code.specs.Plain.{all_plain}
 use Rattle.dh_code.specs.Ranks.{ArePaths, IsPath, ranks_of}
 use Rattle.dh_code.specs.Rows.{contents_of, spot_seen}
-use Rattle.dh_code.specs.Scenes.{IsHeld, Spends, SpendsMore, begun_in, flat_events}
+use Rattle.dh_code.specs.Scenes.{AreHeld, IsHeld, Spends, SpendsMore, begun_in, flat_events}
 use Rattle.dh_code.specs.Slots.{Holds, Placing}
 use Rattle.dh_code.specs.Spent.{AreUsedBy, HaveSpent}
-use Rattle.dh_code.specs.Suited.{CanDo, CanDoAll, CanEvaluate, IsInside, IsSuitedTarget, TargetInside}
+use Rattle.dh_code.specs.Suited.{AreInsideFrom, CanDo, CanDoAll, CanEvaluate, CanEvaluateAll, IsInside, IsSuitedTarget, TargetInside}
 
 -- the writes among events, in order
 abbrev pub writes_in : List Event → List Write
@@ -142,6 +144,23 @@ Assigns s old result new ranks f first depth =
     → IsInside p factors deep entity → CanEvaluate s.entries.now p factors t
     → Runs p s old result new (assigned_at (begun_in s) deep entity t path)
 
+-- what operands that are kept show, modulo 2^64
+abbrev pub bits_kept : Sight → List Kept → List ℕ
+bits_kept w ks = map (λ k. residue (2 ^ 64) (words.value_of (operand_word w k.value))) ks
+
+-- the slots with these bits in those of the variables, at a path of these ranks
+abbrev pub slots_kept : (slots ranks : List ℕ) → (depth : ℕ) → List Kept → (bits : List ℕ) → List ℕ
+slots_kept slots ranks depth [] bits = slots
+slots_kept slots ranks depth (k ∷ ks) [] = slots
+slots_kept slots ranks depth (k ∷ ks) (b ∷ bs) = slots_kept (slice_set slots (k.first + slice_index ranks depth) b) ranks depth ks bs
+
+abbrev pub KeepsAll : {A : Type 0} → Scene → State → Result A Stop → State → (ranks : List ℕ) → (from to : ℕ) → List Kept → (depth : ℕ) → Type 0
+KeepsAll s old result new ranks from to values depth =
+    (p : Placing) (factors : List ℕ) (path : Path) (deep entity : ℕ) (ts : CoreTerms) → AreRanks factors ranks path
+    → AreFlat p.held s.entries.now s.code.now ts from to (operands_kept values) → AreSlotsFrom p.held entity depth values
+    → AreInsideFrom p factors deep entity ts → CanEvaluateAll s.entries.now p factors ts
+    → Runs p s old result new (kept_at (begun_in s) deep entity ts path)
+
 abbrev pub Stores : {A : Type 0} → Scene → State → Result A Stop → State → (ranks : List ℕ) → Flat → Access → Type 0
 Stores s old result new ranks f a =
     (p : Placing) (factors : List ℕ) (path : Path) (reach : Reach) (target : core.Target) (t : CoreTerm) → AreRanks factors ranks path
@@ -183,6 +202,7 @@ Parts s old result new rows numbers f =
 abbrev pub CanBeDone : Scene → Action → Type 0
 CanBeDone s (Store f a) = IsHeld s.code.now.operations f × IsAccess s.entries.now a
 CanBeDone s (Assign f first depth) = IsHeld s.code.now.operations f
+CanBeDone s (Keep from to values depth) = AreHeld s.code.now.operations from to values
 CanBeDone s (Choose f one two) = IsHeld s.code.now.operations f
 
 -- a list of commands is done at paths

@@ -1,14 +1,16 @@
 -- What it is for the expressions and commands of a program's core to suit their operators, and for the variables
 -- that they name to have slots where they stand.
-use Rattle.std.specs.Prelude.{◌≡◌, ℕ, ◌<◌, ◌≤◌, List, length, take}
+use Rattle.std.specs.Prelude.{◌≡◌, ℕ, suc, ◌<◌, ◌≤◌, List, length, take}
 use Rattle.dh_value.specs.declared.kinds.Kind.{Kind}
 use Rattle.dh_value.specs.declared.kinds.Kind.TheVariants as kind
 use Rattle.dh_value.specs.Words.{IsKind, IsInteger}
 use Rattle.dh_value.specs.Operations.{Suits, result_of}
 use Rattle.dh_tree.specs.declared.tables.MemEntry.{MemEntry}
-use Rattle.dh_meaning.specs.Core.{CoreTerm, literal, truth_literal, variable, read, binary, convert, Target, by_indices, by_row, by_views, CoreTerms, no_terms, term_and, CoreCommand, store, assign, choose, keep, CoreCommands, no_commands, command_and}
+use Rattle.dh_meaning.specs.Core.{CoreTerm, literal, truth_literal, variable, read, binary, convert, Target, by_indices, by_row, by_views, CoreTerms, no_terms, term_and, count_terms, CoreCommand, store, assign, choose, keep, CoreCommands, no_commands, command_and}
+use Rattle.dh_tree.specs.Elements.{dims_at}
 use Rattle.dh_meaning.specs.Effects.{kind_in}
 use Rattle.dh_code.specs.Banks.{HasBank}
+use Rattle.dh_code.specs.Passing.{StepsFit}
 use Rattle.dh_code.specs.Slots.{Placing, held_at}
 
 -- the kind of the value of an expression
@@ -32,8 +34,8 @@ abbrev mutual
 
   pub IsSuitedTarget : List MemEntry → (memory : ℕ) → Target → Type 0
   IsSuitedTarget table memory (by_indices indices) = (memory < length table) × AreSuited table indices
-  -- (accesses through views have no code yet)
-  IsSuitedTarget table memory (by_views steps n terms) = ⊥
+  IsSuitedTarget table memory (by_views steps n terms) =
+      (memory < length table) × (StepsFit (dims_at table memory) steps n (count_terms terms) × AreSuited table terms)
   IsSuitedTarget table memory (by_row bank row) = HasBank table memory bank × IsSuited table row
 
   pub AreSuited : List MemEntry → CoreTerms → Type 0
@@ -70,6 +72,15 @@ abbrev mutual
 abbrev pub CanEvaluate : List MemEntry → Placing → (loops : List ℕ) → CoreTerm → Type 0
 CanEvaluate table p loops t = IsSuited table t × AreInside p loops t
 
+-- values that can be evaluated so
+abbrev pub CanEvaluateAll : List MemEntry → Placing → (loops : List ℕ) → CoreTerms → Type 0
+CanEvaluateAll table p loops ts = AreSuited table ts × AllInside p loops ts
+
+-- variables whose entities follow one another, one for each of these values
+abbrev pub AreInsideFrom : Placing → (loops : List ℕ) → (depth first : ℕ) → CoreTerms → Type 0
+AreInsideFrom p loops depth first no_terms = Unit {0}
+AreInsideFrom p loops depth first (term_and t ts) = IsInside p loops depth first × AreInsideFrom p loops depth (suc first) ts
+
 -- a condition
 abbrev pub CanTest : List MemEntry → Placing → (loops : List ℕ) → CoreTerm → Type 0
 CanTest table p loops test = (term_kind table test ≡ kind.Bool) × CanEvaluate table p loops test
@@ -79,8 +90,7 @@ abbrev mutual
   pub CanDo : List MemEntry → Placing → (loops : List ℕ) → CoreCommand → Type 0
   CanDo table p loops (store reach target value) = (IsSuitedTarget table reach.memory target × TargetInside p loops target) × CanEvaluate table p loops value
   CanDo table p loops (assign depth entity value) = IsInside p loops depth entity × CanEvaluate table p loops value
-  -- (views that move have no code yet)
-  CanDo table p loops (keep depth first values) = ⊥
+  CanDo table p loops (keep depth first values) = AreInsideFrom p loops depth first values × CanEvaluateAll table p loops values
   CanDo table p loops (choose test chosen other) = CanTest table p loops test × (CanDoAll table p loops chosen × CanDoAll table p loops other)
 
   pub CanDoAll : List MemEntry → Placing → (loops : List ℕ) → CoreCommands → Type 0

@@ -5,6 +5,7 @@ ghost use Rattle.std.specs.Prelude.{◌≡◌};
 ghost use Rattle.dh_code.specs.Operated.{kind_of_operand};
 
 use dh_base::{Items, Place};
+use dh_tree::ViewMap;
 use dh_value::{Kind, Op, Word};
 
 /// A value that an operation takes.
@@ -51,6 +52,15 @@ pub enum Target {
         bank: u64,
         /// The row.
         row: Operand,
+    },
+    /// That of indices of a view, through the views on the way to the memory.
+    Through {
+        /// The views, the named one first.
+        views: Items<ViewMap>,
+        /// How many of the operands are indices, in order.
+        count: usize,
+        /// The indices, and behind them the offsets of the views in the same order.
+        operands: Items<Operand>,
     },
 }
 
@@ -102,6 +112,15 @@ pub struct Flat {
     pub value: Operand,
 }
 
+/// A value that is kept in a variable.
+#[derive(Clone, Copy)]
+pub struct Kept {
+    /// The value.
+    pub value: Operand,
+    /// The slot of the variable's first copy.
+    pub first: u32,
+}
+
 /// What a command does.
 #[derive(Drop)]
 pub enum Action {
@@ -119,6 +138,17 @@ pub enum Action {
         /// The slot of the variable's first copy.
         first: u32,
         /// Of how many loops round it each copy has a slot.
+        depth: u32,
+    },
+    /// Sets variables, once all values are found.
+    Keep {
+        /// The number of the first operation of the values.
+        from: usize,
+        /// The number behind that of the last one.
+        to: usize,
+        /// The values, and where they are kept.
+        values: Items<Kept>,
+        /// Of how many loops round it each copy of the variables has a slot.
         depth: u32,
     },
     /// Does commands by a test.

@@ -16,6 +16,7 @@ ghost use Rattle.dh_code.specs.Scenes.{IsScene, LeadsTo, SpendsMore, begun_in, e
 
 use crate::codes::{Access, Code, Operand, Operation, Target};
 use crate::operands::{View, element_of, value_at};
+use crate::passing::locate_through;
 use crate::spending::{Bank, read_row};
 use crate::spots::{Element, Spread, index_below, locate};
 use dh_base::{FaultKind, NoMemory, Outcome, Place};
@@ -160,6 +161,14 @@ pub fn reached(
         Target::Row { bank, row } => {
             let dims = scene.entries[access.memory].shape.dims.as_slice();
             in_row(dims, *bank, number(value_at(&view, row)))
+        }
+        Target::Through {
+            views,
+            count,
+            operands,
+        } => {
+            let dims = scene.entries[access.memory].shape.dims.as_slice();
+            locate_through(&view, dims, views.as_slice(), *count, operands.as_slice())
         }
     }
 }

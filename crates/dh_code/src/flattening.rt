@@ -1,20 +1,28 @@
 //! Code from expressions and commands.
 
-ghost use Rattle.std.specs.Prelude.{◌≡◌, IfOk};
-ghost use Rattle.dh_tree.specs.Memories.{number_in};
+ghost use Rattle.std.specs.Prelude.{◌≡◌, ◌∷◌, ◌++◌, Some, map, option_map, slice_get, IfOk};
+ghost use Rattle.std.specs.Option.{is_some};
+ghost use Rattle.dh_tree.specs.Memories.{memory_in, number_in};
 ghost use Rattle.dh_tree.specs.Seen.{term_seen};
-ghost use Rattle.dh_meaning.specs.CoreOf.{entity_number, memory_of};
+ghost use Rattle.dh_meaning.specs.CoreOf.{entity_number, memory_of, way_of};
+ghost use Rattle.dh_meaning.specs.Ways.{hidden_in};
+ghost use Rattle.dh_ways.specs.Seen.{hidden_seen, way_seen};
 ghost use Rattle.dh_meaning.specs.Effects.{kind_in};
 ghost use Rattle.dh_code.specs.declared.codes.Operation.TheVariants.{Read};
-ghost use Rattle.dh_code.specs.Flattening.{AddsBinary, AddsNothing, ConvertsTo, ExtendsTo, Flattens, FlattensAll, FlattensCommand, FlattensCommands, FlattensOther, HoldsFirst, HoldsFlat, IsAimedAt, IsAssignedIn, IsOneMore, IsReducedIn, IsStillAt, IsStoredIn, AddsStep, is_aimed, known_in, table_in};
-ghost use Rattle.dh_code.specs.Made.{same_kind, variable_operand};
+ghost use Rattle.dh_code.specs.Flattening.{Aims, FlattensOffsets, IsKeptIn, kept_from, offsets_by, AddsBinary, AddsNothing, ConvertsTo, ExtendsTo, Flattens, FlattensAll, FlattensCommand, FlattensCommands, FlattensOther, HoldsFirst, HoldsFlat, IsAimedAt, IsAssignedIn, IsOneMore, IsReducedIn, IsStillAt, IsStoredIn, AddsStep, is_aimed, known_in, table_in};
+ghost use Rattle.dh_code.specs.Made.{aimed_target, hidden_operand, same_kind, variable_operand};
 
-use crate::codes::{Access, Action, Code, Flat, Operand, Operation, Step, Target, operand_kind};
+use crate::codes::{
+    Access, Action, Code, Flat, Kept, Operand, Operation, Step, Target, operand_kind,
+};
 use crate::operands::{extension, kind_found, kind_mask, literal, result_kind, truth};
-use crate::places::{Held, place_of};
+use crate::places::{Held, place_at, place_behind, place_of};
 use dh_base::{Items, NoMemory};
-use dh_tree::{Command, CommandForm, Expr, ExprForm, Kind, MemEntry, Ref, Typed};
+use dh_tree::{
+    Command, CommandForm, Expr, ExprForm, Kind, MemEntry, Ref, Typed, ViewForm, ViewMap,
+};
 use dh_value::Op;
+use dh_ways::{Hidden, Led, Way, way_among};
 use std::alloc::Global;
 
 /// What is known of the names of a program.
@@ -24,6 +32,8 @@ pub struct Names<'a> {
     pub alloc: Global,
     /// The program.
     pub program: &'a Typed,
+    /// The ways of its views.
+    pub ways: &'a [Led],
     /// The slots of its variables.
     pub places: &'a [Held],
 }
@@ -41,11 +51,101 @@ fn number_of(names: &Names<'_>, of: Option<u32>) -> usize
     }
 }
 
-/// The number of the memory that a name stands for.
+/// Whether an entity is a memory.
+fn is_memory(names: &Names<'_>, of: Option<u32>) -> bool
+    ensures { result ≡ is_some (memory_in (known_in names.now).memories of) }
+{
+    let Some(entity) = of else {
+        return false;
+    };
+    names.program.memory_number(entity).is_some()
+}
+
+/// The way of what a name stands for, where that is a view.
+fn way_of<'a>(names: &Names<'a>, of: &Ref) -> Option<&'a Way>
+    ensures { option_map (λ w. way_seen w.now) result ≡ way_of (known_in names.now) of.now }
+{
+    if is_memory(names, of.entity) {
+        None
+    } else {
+        way_among(names.ways, of.entity)
+    }
+}
+
+/// The number of the memory that a name stands for, or leads to.
 fn memory_of(names: &Names<'_>, of: &Ref) -> usize
     ensures { result ≡ memory_of (known_in names.now) of.now }
 {
-    number_of(names, of.entity)
+    match way_of(names, of) {
+        Some(way) => number_of(names, way.memory),
+        None => number_of(names, of.entity),
+    }
+}
+
+/// What a variable that keeps an offset holds.
+fn hidden_value(names: &Names<'_>, hidden: &Hidden) -> Operand
+    ensures { result ≡ hidden_operand names.now.places.now (hidden_seen hidden.now) }
+{
+    let held = place_at(names.places, hidden.entity as usize);
+    Operand::Variable {
+        first: held.first,
+        depth: held.depth,
+        kind: hidden.kind,
+        mask: kind_mask(hidden.kind),
+    }
+}
+
+/// The views on a way.
+fn views_on(alloc: Global, way: &Way) -> Result<Items<ViewMap>, NoMemory>
+    ensures { IfOk result (λ views. views ≡ way.now.view ∷ way.now.behind) }
+{
+    let mut views = Items::new(alloc);
+    views.push(way.view.try_clone(alloc)?)?;
+    for view in way.behind.as_slice() {
+        views.push(view.try_clone(alloc)?)?;
+    }
+    Ok(views)
+}
+
+/// These operands, and behind them what the variables hold that keep offsets.
+fn with_offsets(
+    names: &Names<'_>,
+    operands: Items<Operand>,
+    hidden: &[Hidden],
+) -> Result<Items<Operand>, NoMemory>
+    ensures { IfOk result (λ all. all ≡ operands
+        ++ map (λ h. hidden_operand names.now.places.now (hidden_seen h)) hidden.now) }
+{
+    let mut all = operands;
+    for one in hidden {
+        all.push(hidden_value(names, one))?;
+    }
+    Ok(all)
+}
+
+/// The element that these operands name as indices, through the views on a way.
+fn through(names: &Names<'_>, way: &Way, operands: Items<Operand>) -> Result<Target, NoMemory>
+    ensures { IfOk result (λ t. t ≡ aimed_target names.now.places.now (Some (way_seen way.now))
+        operands) }
+{
+    let count = operands.len();
+    let operands = with_offsets(names, operands, way.hidden.as_slice())?;
+    let views = views_on(names.alloc, way)?;
+    Ok(Target::Through {
+        views,
+        count,
+        operands,
+    })
+}
+
+/// The element that these operands name as indices.
+fn aim(names: &Names<'_>, of: &Ref, operands: Items<Operand>) -> Result<Target, NoMemory>
+    ensures { IfOk result (λ t. Aims names.now of.now operands t) }
+{
+    match way_of(names, of) {
+        Some(way) => through(names, way, operands),
+        None => Ok(Target::Indices { operands }),
+    }
 }
 
 /// What a variable holds, as a value of a kind.
@@ -151,7 +251,7 @@ fn flatten(names: &Names<'_>, code: &mut Code, value: &Expr) -> Result<Operand, 
         ExprForm::Variable { of } => Ok(variable(names, of, kind)),
         ExprForm::Access { of, indices } => {
             let operands = flatten_all(names, code, indices.as_slice())?;
-            let target = Target::Indices { operands };
+            let target = aim(names, of, operands)?;
             let memory = memory_of(names, of);
             let place = value.place;
             add_read(
@@ -320,10 +420,11 @@ fn element(names: &Names<'_>, code: &mut Code, target: &Expr) -> Result<Option<A
     match &target.form {
         ExprForm::Access { of, indices } => {
             let operands = flatten_all(names, code, indices.as_slice())?;
+            let aimed = aim(names, of, operands)?;
             Ok(Some(Access {
                 place: target.place,
                 memory: memory_of(names, of),
-                target: Target::Indices { operands },
+                target: aimed,
             }))
         }
         ExprForm::Physical { of, bank, row, .. } => {
@@ -398,6 +499,104 @@ fn add_store(
     }
 }
 
+/// Adds the operations of the offsets of a suffix. Gives their values.
+fn flatten_pairs(
+    names: &Names<'_>,
+    code: &mut Code,
+    by: &[(u64, Expr)],
+) -> Result<Items<Operand>, NoMemory>
+    ensures { IfOk result (λ os. FlattensAll names.now code.old code.new (offsets_by by.now) os) }
+{
+    let mut operands = Items::new(names.alloc);
+    for pair in by {
+        let operand = flatten(names, code, &pair.1)?;
+        operands.push(operand)?;
+    }
+    Ok(operands)
+}
+
+/// Adds the operations of the offsets of a view. Gives their values.
+fn flatten_offsets(
+    names: &Names<'_>,
+    code: &mut Code,
+    form: &ViewForm,
+) -> Result<Items<Operand>, NoMemory>
+    ensures { IfOk result (λ os. FlattensOffsets names.now code.old code.new form.now os) }
+{
+    match form {
+        ViewForm::Shrink { .. } => Ok(Items::new(names.alloc)),
+        ViewForm::Split { .. } => Ok(Items::new(names.alloc)),
+        ViewForm::Suffix { by, .. } => flatten_pairs(names, code, by.as_slice()),
+        ViewForm::Shift { by } => flatten_all(names, code, by.as_slice()),
+    }
+}
+
+/// The first of these variables, if there is one.
+fn first_of(hidden: &[Hidden]) -> Option<Hidden>
+    ensures { result ≡ slice_get hidden.now 0 }
+{
+    match hidden.first() {
+        Some(one) => Some(*one),
+        None => None,
+    }
+}
+
+/// The first variable that keeps an offset on the way of a view, if there is one.
+fn first_hidden(names: &Names<'_>, of: &Ref) -> Option<Hidden>
+    ensures { option_map hidden_seen result
+        ≡ slice_get (hidden_in (way_of (known_in names.now) of.now)) 0 }
+{
+    match way_of(names, of) {
+        Some(way) => first_of(way.hidden.as_slice()),
+        None => None,
+    }
+}
+
+/// These operands, with the variables in which they are kept; their entities follow one another.
+fn kept_in(names: &Names<'_>, first: u32, offsets: &[Operand]) -> Result<Items<Kept>, NoMemory>
+    ensures { IfOk result (λ ks. ks ≡ kept_from names.now.places.now first offsets.now) }
+{
+    let mut kept = Items::new(names.alloc);
+    for (i, offset) in offsets.iter().enumerate() {
+        let held = place_behind(names.places, first, i);
+        kept.push(Kept {
+            value: *offset,
+            first: held.first,
+        })?;
+    }
+    Ok(kept)
+}
+
+/// Adds a view: one that moves evaluates its offsets and keeps them.
+fn add_view(
+    names: &Names<'_>,
+    code: &mut Code,
+    name: &Ref,
+    form: &ViewForm,
+    next: Option<usize>,
+) -> Result<Option<usize>, NoMemory>
+    ensures { IfOk result (λ first. IsKeptIn names.now code.old code.new name.now form.now next
+        first) }
+{
+    let Some(hidden) = first_hidden(names, name) else {
+        return Ok(next);
+    };
+    let from = code.operations.len();
+    let offsets = flatten_offsets(names, code, form)?;
+    if offsets.is_empty() {
+        return Ok(next);
+    }
+    let to = code.operations.len();
+    let values = kept_in(names, hidden.entity, offsets.as_slice())?;
+    let action = Action::Keep {
+        from,
+        to,
+        values,
+        depth: hidden.depth,
+    };
+    add_step(code, action, next)
+}
+
 /// Adds a command in front of those behind it. Gives the number of the first of all.
 #[cycle(flatten_command)]
 #[tactic(auto, using(dh_tree::proofs::SeenActions::actions_are))]
@@ -450,7 +649,7 @@ pub fn flatten_command(
             Ok(first)
         }
         CommandForm::LetMemory { .. } => Ok(next),
-        CommandForm::View { .. } => Ok(next),
+        CommandForm::View { name, form, .. } => add_view(names, code, name, form, next),
         CommandForm::Call { .. } => Ok(next),
         CommandForm::While { .. } => Ok(next),
         CommandForm::For { .. } => Ok(next),

@@ -1,12 +1,14 @@
 //! Programs as flat code: the operations of all expressions in one array, the commands in another,
 //! and the variables in numbered slots, one for each copy. How code is made from a program's tree,
-//! and what it does in a logical step. Stands on `dh_meaning`, `dh_tree`, `dh_value` and `dh_base`.
+//! and what it does in a logical step. Stands on `dh_ways`, `dh_viewing`, `dh_extents`, `dh_meaning`,
+//! `dh_tree`, `dh_value` and `dh_base`.
 #![tactic(auto)]
 
 mod codes;
 mod evaluating;
 mod flattening;
 mod operands;
+mod passing;
 mod places;
 mod running;
 mod spending;

@@ -1,6 +1,6 @@
 //! The variables of a program: where each has its slots.
 
-ghost use Rattle.std.specs.Prelude.{◌≡◌, ◌≤◌, List, [], ℕ, None, length, option_map, replicate, IfOk, OnOk};
+ghost use Rattle.std.specs.Prelude.{◌≡◌, ◌+◌, ◌≤◌, List, [], ℕ, None, drop, length, option_map, replicate, IfOk, OnOk};
 ghost use Rattle.std.specs.List.{AllByRecursion};
 ghost use Rattle.dh_tree.specs.Seen.{action_seen, term_seen};
 ghost use Rattle.dh_meaning.specs.Bindings as bindings;
@@ -260,12 +260,39 @@ pub fn place_all(alloc: Global, body: &Command, entities: usize) -> Result<Place
     laid(alloc, found.as_slice())
 }
 
+/// The slots of the variable that is an entity.
+pub fn place_at(places: &[Held], entity: usize) -> Held
+    ensures { result ≡ held_at places.now entity }
+{
+    match places.get(entity) {
+        Some(held) => *held,
+        None => slots_of(None, 0),
+    }
+}
+
+/// Those behind so many.
+fn behind(places: &[Held], count: usize) -> &[Held]
+    requires { count ≤ length places.now }
+    ensures { result.now ≡ drop count places.now }
+{
+    &places[count..]
+}
+
+/// The slots of the variable whose entity stands so many behind another.
+pub fn place_behind(places: &[Held], entity: u32, number: usize) -> Held
+    ensures { result ≡ held_at places.now (entity + number) }
+{
+    let entity = entity as usize;
+    if entity < places.len() {
+        place_at(behind(places, entity), number)
+    } else {
+        slots_of(None, 0)
+    }
+}
+
 /// The slots of the variable that a name stands for.
 pub fn place_of(places: &[Held], of: &Ref) -> Held
     ensures { result ≡ held_at places.now (entity_number of.now.entity) }
 {
-    match places.get(entity_of(of) as usize) {
-        Some(held) => *held,
-        None => slots_of(None, 0),
-    }
+    place_at(places, entity_of(of) as usize)
 }

@@ -1,20 +1,21 @@
 //! What commands do in a logical step.
 
-ghost use Rattle.std.specs.Prelude.{◌≡◌, ◌∷◌, [], if◌then◌else◌, IfOk, length, slice_set, slice_index_or};
+ghost use Rattle.std.specs.Prelude.{◌≡◌, ◌∷◌, ◌++◌, [], if◌then◌else◌, IfOk, OnOk, length, slice_set, slice_index_or};
+ghost use Rattle.std.specs.List.{AllByRecursion};
 ghost use Rattle.dh_value.specs.Words.{IsWord};
-ghost use Rattle.dh_code.specs.declared.codes.Action.TheVariants.{Assign, Choose, Store};
+ghost use Rattle.dh_code.specs.declared.codes.Action.TheVariants.{Assign, Choose, Keep, Store};
 ghost use Rattle.dh_code.specs.Banks.{HasBank, all_banks};
 ghost use Rattle.dh_code.specs.Operated.{IsAccess, IsOperand, operand_word};
 ghost use Rattle.dh_code.specs.Rows.{contents_of};
-ghost use Rattle.dh_code.specs.Scenes.{IsHeld, IsScene, LeadsTo, SpendsWrite, flat_sight};
+ghost use Rattle.dh_code.specs.Scenes.{AreHeld, IsHeld, IsScene, LeadsTo, SpendsWrite, flat_sight};
 ghost use Rattle.dh_code.specs.Spent.{StayUsed};
-ghost use Rattle.dh_code.specs.States.{AreWritten, Assigns, CanBeDone, Decides, DoesAll, DoesOne, GoBackAlike, IsAside, IsAssigned, IsReady, KeepsBack, KeepsSlots, KeepsVariables, Parts, Puts, SpendsFlat, Stores, sight_in, undone};
+ghost use Rattle.dh_code.specs.States.{AreWritten, Assigns, CanBeDone, Decides, DoesAll, DoesOne, GoBackAlike, IsAside, IsAssigned, IsReady, KeepsAll, KeepsBack, KeepsSlots, KeepsVariables, Parts, Puts, SpendsFlat, Stores, bits_kept, sight_in, slots_kept, undone};
 
-use crate::codes::{Access, Action, Flat, Operand};
+use crate::codes::{Access, Action, Flat, Kept, Operand};
 use crate::evaluating::{
     Scene, Stop, bank_at, element_at, operate, out_of_range, reached, set_number, stuck,
 };
-use crate::operands::{View, number_at, slot, value_at, whole};
+use crate::operands::{View, number_at, slot, truth, value_at, whole};
 use crate::spending::{Bank, write_row};
 use crate::spots::{Element, Spread};
 use dh_base::{NoMemory, Place};
@@ -127,6 +128,73 @@ fn assign(
     evaluate(scene, state, ranks, value)?;
     let word = value_in(state, ranks, &value.value);
     set(state, slot(first, depth, ranks), whole(word))?;
+    Ok(())
+}
+
+/// Adds what operands show, modulo 2^64, as a state sees them at a path of these ranks.
+fn find(state: &State, ranks: &[u32], values: &[Kept], found: &mut Vec<u64>) -> Result<(), NoMemory>
+    requires operands { AllByRecursion (λ k. IsOperand k.value) values.now }
+    ensures { OnOk result (found.new.items
+        ≡ found.old.items ++ bits_kept (sight_in state.now ranks.now) values.now) }
+{
+    for kept in values {
+        found.push(whole(value_in(state, ranks, &kept.value)))?;
+    }
+    Ok(())
+}
+
+/// Sets variables to what was found of their values.
+fn set_all(
+    state: &mut State,
+    ranks: &[u32],
+    values: &[Kept],
+    depth: u32,
+    found: &[u64],
+) -> Result<(), NoMemory>
+    requires long { length found.now ≡ length values.now }
+    ensures banks { state.new.banks ≡ state.old.banks }
+    ensures given { state.new.given ≡ state.old.given }
+    ensures writes { state.new.writes ≡ state.old.writes }
+    ensures kept { length state.new.variables.items ≡ length state.old.variables.items }
+    ensures set { IfOk result (λ _. state.new.variables.items
+        ≡ slots_kept state.old.variables.items ranks.now depth values.now found.now) }
+    ensures back { GoBackAlike state.old state.new }
+{
+    for (i, kept) in values.iter().enumerate() {
+        set(state, slot(kept.first, depth, ranks), found[i])?;
+    }
+    Ok(())
+}
+
+/// Evaluates values at a path and then keeps them in variables. (`found` is a list that is used again
+/// at each path.)
+fn keep(
+    scene: &Scene<'_>,
+    state: &mut State,
+    ranks: &[u32],
+    range: (usize, usize),
+    values: &[Kept],
+    depth: u32,
+    found: &mut Vec<u64>,
+) -> Result<(), Stop>
+    requires scene { IsScene scene.now }
+    requires ready { IsReady scene.now state.old }
+    requires held { AreHeld scene.now.code.now.operations range.0 range.1 values.now }
+    ensures ready { IsReady scene.now state.new }
+    ensures back { KeepsBack state.old state.new }
+    ensures ran { KeepsAll scene.now state.old result state.new ranks.now range.0 range.1
+        values.now depth }
+{
+    let word = truth(false);
+    let all = Flat {
+        from: range.0,
+        to: range.1,
+        value: Operand::Constant { word },
+    };
+    evaluate(scene, state, ranks, &all)?;
+    found.clear();
+    find(state, ranks, values, found)?;
+    set_all(state, ranks, values, depth, found.as_slice())?;
     Ok(())
 }
 
@@ -270,6 +338,39 @@ fn assign_all(
 {
     for path in paths {
         assign(scene, state, ranks_at(rows, *path), value, first, depth)?;
+    }
+    Ok(())
+}
+
+/// Evaluates values at each path in order and keeps them in variables.
+fn keep_all(
+    scene: &Scene<'_>,
+    state: &mut State,
+    rows: &[Vec<u32>],
+    paths: &[usize],
+    range: (usize, usize),
+    values: &[Kept],
+    depth: u32,
+) -> Result<(), Stop>
+    requires scene { IsScene scene.now }
+    requires ready { IsReady scene.now state.old }
+    requires held { AreHeld scene.now.code.now.operations range.0 range.1 values.now }
+    ensures ready { IsReady scene.now state.new }
+    ensures back { KeepsBack state.old state.new }
+    ensures ran { DoesOne scene.now state.old result state.new (contents_of rows.now) paths.now
+        (Keep range.0 range.1 values.now depth) }
+{
+    let mut found = Vec::new(scene.alloc);
+    for path in paths {
+        keep(
+            scene,
+            state,
+            ranks_at(rows, *path),
+            range,
+            values,
+            depth,
+            &mut found,
+        )?;
     }
     Ok(())
 }
@@ -420,6 +521,20 @@ fn run_one(
             first,
             depth,
         } => assign_all(scene, state, rows, paths, value, *first, *depth),
+        Action::Keep {
+            from,
+            to,
+            values,
+            depth,
+        } => keep_all(
+            scene,
+            state,
+            rows,
+            paths,
+            (*from, *to),
+            values.as_slice(),
+            *depth,
+        ),
         Action::Choose {
             test,
             chosen,

@@ -103,7 +103,7 @@ fn rows_behind(row: u64, dim: &Dim) -> u64
 }
 
 /// Where an index of the next dimension leads, from where those before it led.
-fn next_spread(spread: Spread, dim: &Dim, index: u64) -> Spread
+pub fn next_spread(spread: Spread, dim: &Dim, index: u64) -> Spread
     requires some { 1 ≤ dim.now.banks }
     requires room { HasRoom spread dim.now index }
     ensures { result ≡ spread_behind spread dim.now index }

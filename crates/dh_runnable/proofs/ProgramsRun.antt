@@ -28,9 +28,9 @@ use Rattle.dh_tree.specs.Widths.{ActionSized}
 use Rattle.dh_tree.proofs.ShapeRules.{shape_without}
 use Rattle.dh_runnable.proofs.ElementsFound.{Sees, sees_later}
 use Rattle.dh_tree.proofs.EmptyLists.{first_none, second_none, not_none}
-use Rattle.dh_meaning.specs.Bindings.{Binding as Bound, bindings_of}
+use Rattle.dh_meaning.specs.Bindings.{Binding as Bound}
 use Rattle.dh_meaning.specs.CoreOf.{Known, known_of}
-use Rattle.dh_meaning.specs.Ways.{Led, all_bindings_of}
+use Rattle.dh_meaning.specs.Ways.{all_bindings_of}
 use Rattle.dh_ways.proofs.NoWays.{no_ways, own_bindings}
 use Rattle.dh_meaning.specs.Sites.{nothing_around}
 use Rattle.dh_tree.specs.Ready.{IsReady, most_tokens}
@@ -206,15 +206,9 @@ entities_few q h =
     bounded : (n last first decls functions inside body : ℕ) → last ≡ n → last ≡ first + body → first ≡ decls → (decls + functions) + (inside + body) ≤ most_tokens → n ≤ most_entities
     bounded n last first decls functions inside body e f g few = omega (arith, e, f, g, few)
 
--- where there are no views, its variables are those of its declarations, and nothing else is known of its names
+-- where there are no views, its variables are those of its declarations
 pub body_same : (q : Program) → unbuilt_forms q ≡ [] → AreSame (declarations [] q.body) (all_bindings_of q)
 body_same q e = subst (λ (bs : List Bound). AreSame (declarations [] q.body) bs) (sym (own_bindings q e)) (all_same q.body [] 0 refl)
-
-abbrev known_by : Program → List Bound → List Led → Known
-known_by q bs ls = record { memories = memories_of q; bindings = bs; ways = ls }
-
-plain_known : (q : Program) → unbuilt_forms q ≡ [] → known_of q ≡ known_by q (bindings_of q) []
-plain_known q e = ap (λ (ls : List Led). known_by q (all_bindings_of q) ls) (no_ways q e) ∙ ap (λ (bs : List Bound). known_by q bs []) (own_bindings q e)
 
 -- a program of which the passes tell enough
 pub enough_runs : (q : Program) → TellsEnough q → IsRunnable q
@@ -234,7 +228,8 @@ enough_runs q h =
       phases = phases_of_command_can (known_of q) (placing_of q) q.body [] nothing_around 0 runs;
       copies = action_few (known_of q) (placing_of q) q.body [] one_path runs;
       entities = entities_few q h;
-      known = plain_known q h.built;
+      ways = no_ways q h.built;
+      bindings = own_bindings q h.built;
     }
   where
     at_most : (m n : ℕ) → m ≡ n → m ≤ n

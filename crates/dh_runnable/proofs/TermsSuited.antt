@@ -103,7 +103,7 @@ memory_way known r m e = ap (λ o. way_unless o (way_in known.ways r.entity)) e
 -- an access by indices that suits is of a memory that is there
 pub access_there : (table : List MemEntry) (memory : ℕ) (w : Option Way) (ts : CoreTerms) → IsSuitedTarget table memory (target_to w ts) → memory < length table
 access_there table memory None ts h = h.0
-access_there table memory (Some w) ts h = absurd h
+access_there table memory (Some w) ts h = h.0
 
 -- a read of what a name stands for, whose way is this
 abbrev read_by : Known → (n : ℕ) → Place → Ref → Target → Option Way → CoreTerm

@@ -1,13 +1,16 @@
 -- What is made of a whole program before its first step.
-use Rattle.std.proofs.Common.{◌≡◌, ℕ, ◌<◌, List, [], length, ap, sym, ◌∙◌, subst}
+use Rattle.std.proofs.Common.{◌≡◌, ℕ, ◌<◌, List, [], length, map, ap, sym, ◌∙◌, subst}
 use Rattle.std.specs.Prelude.{Option}
 use Rattle.dh_tree.specs.declared.trees.commands.Command.{Command}
 use Rattle.dh_tree.specs.declared.trees.programs.Tree.{Tree}
-use Rattle.dh_tree.specs.Memories.{table_of}
+use Rattle.dh_tree.specs.Memories.{memories_of, table_of}
 use Rattle.dh_tree.specs.PlainTrees.{Action, Program}
 use Rattle.dh_tree.specs.Seen.{action_seen, program_seen}
 use Rattle.dh_tree.specs.Shapes.{IsProgramTable}
-use Rattle.dh_meaning.specs.CoreOf.{Known, core_of, core_phases}
+use Rattle.dh_meaning.specs.Bindings.{binding_in, kind_bound}
+use Rattle.dh_meaning.specs.CoreOf.{Known, core_of, core_phases, known_of}
+use Rattle.dh_meaning.specs.Ways.{Led, all_bindings_of}
+use Rattle.dh_ways.specs.Seen.{led_seen}
 use Rattle.dh_meaning.specs.Phases as source
 use Rattle.dh_meaning.specs.Phases.{phases}
 use Rattle.dh_meaning.specs.Sites.{nothing_around}
@@ -34,20 +37,28 @@ module _ (names : Names) (old new : Made) (body : Command) (first : Option ℕ) 
   abbrev p : Program
   p = program_seen names.program.now
 
-  placing_is : names.places.now ≡ (placing_of p).held → IsPlacingOf (placing_of p) names
-  placing_is is = record {
+  placing_is : IsRunnable p → names.places.now ≡ (placing_of p).held → IsPlacingOf (placing_of p) names
+  placing_is runnable is = record {
     held = sym is;
-    kinds = λ e h. kinds_held p.body (length p.entities) e (subst (λ (n : ℕ). e < n) (length_held (declarations [] p.body) 0 0 (length p.entities)) h);
+    kinds = λ e h. kinds_held p.body (length p.entities) e (subst (λ (n : ℕ). e < n) (length_held (declarations [] p.body) 0 0 (length p.entities)) h)
+        ∙ ap (λ bs. kind_bound (binding_in bs e)) (sym runnable.bindings);
   }
 
-  pub made_first : names.places.now ≡ (placing_of p).held → action_seen body ≡ p.body → IsProgramTable (table_of p) → IsRunnable p → AreFirstLanes old.lanes.items → IsSoundMade (table_of p) old
+  abbrev known_by : List Led → Known
+  known_by ls = record { memories = memories_of p; bindings = all_bindings_of p; ways = ls }
+
+  known_is : IsRunnable p → names.ways.now ≡ [] → known_in names ≡ known_of p
+  known_is runnable none = ap (λ (ls : List Led). known_by ls) (ap (map led_seen) none ∙ sym runnable.ways)
+
+  pub made_first : names.places.now ≡ (placing_of p).held → names.ways.now ≡ [] → action_seen body ≡ p.body → IsProgramTable (table_of p) → IsRunnable p → AreFirstLanes old.lanes.items → IsSoundMade (table_of p) old
       → IsSoundMade (table_of p) new × (IsEarlier (length new.phases.items) first × ArePhases (table_of p) (placing_of p) (course_made new) [] first (core_of p).phases)
-  made_first is seen table runnable lanes sound =
-      let all = holds (placing_of p) (placing_is is) (subst (λ (a : Action). CanRunList (table_of p) (known_in names) (placing_of p) [] (phases nothing_around 0 a)) (sym seen) (subst (λ (k : Known). CanRunAll (table_of p) (placing_of p) [] (core_phases k (source.of_list (source.phases_of p)))) runnable.known runnable.phases)) table.entries lanes.lead sound in (
+  made_first is none seen table runnable lanes sound =
+      let all = holds (placing_of p) (placing_is runnable is) (subst (λ (a : Action). CanRunList (table_of p) (known_in names) (placing_of p) [] (phases nothing_around 0 a)) (sym seen)
+      (subst (λ (k : Known). CanRunAll (table_of p) (placing_of p) [] (core_phases k (source.of_list (source.phases_of p)))) (sym (known_is runnable none)) runnable.phases)) table.entries lanes.lead sound in (
         all.0,
         (
           all.1.0,
-          subst (λ (k : Known). ArePhases (table_of p) (placing_of p) (course_made new) [] first (core_phases k (source.of_list (source.phases_of p)))) (sym runnable.known)
+          subst (λ (k : Known). ArePhases (table_of p) (placing_of p) (course_made new) [] first (core_phases k (source.of_list (source.phases_of p)))) (known_is runnable none)
               (subst (λ (a : Action). ArePhases (table_of p) (placing_of p) (course_made new) [] first (core_phases (known_in names) (source.of_list (phases nothing_around 0 a)))) seen all.1.1),
         ),
       )

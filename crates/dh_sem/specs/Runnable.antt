@@ -4,9 +4,9 @@ use Rattle.std.specs.Prelude.{◌≡◌, ℕ, ◌+◌, ◌*◌, ◌-◌, ◌≤�
 use Rattle.dh_tree.specs.declared.tables.MemEntry.{MemEntry}
 use Rattle.dh_tree.specs.PlainTrees.{Program}
 use Rattle.dh_meaning.specs.Core.{Turning, CorePhase, straightly, turning, looping, choosing, CorePhases, no_core_phases, phase_and}
-use Rattle.dh_tree.specs.Memories.{memories_of}
 use Rattle.dh_meaning.specs.Bindings.{bindings_of}
-use Rattle.dh_meaning.specs.CoreOf.{core_of, known_of}
+use Rattle.dh_meaning.specs.CoreOf.{core_of}
+use Rattle.dh_meaning.specs.Ways.{all_bindings_of, ways_of}
 use Rattle.dh_code.specs.Declarations.{declarations, factors_inside, placing_of}
 use Rattle.dh_code.specs.Placed.{AreFew, most_entities}
 use Rattle.dh_code.specs.Ranks.{copies_in, most_paths}
@@ -36,5 +36,6 @@ pub record IsRunnable (p : Program) : Type 0 where
   pub phases : CanRunAll (core_of p).table (placing_of p) [] (core_of p).phases
   pub copies : AreFew (declarations [] p.body)
   pub entities : length p.entities ≤ most_entities
-  -- code knows no views yet
-  pub known : known_of p ≡ record { memories = memories_of p; bindings = bindings_of p; ways = [] }
+  -- programs that are run have no views yet
+  pub ways : ways_of p ≡ []
+  pub bindings : all_bindings_of p ≡ bindings_of p

@@ -19,6 +19,7 @@ use dh_base::{Items, NoMemory, Outcome};
 use dh_code::{Code, Names, Scene, State, Stop, place_all, unused};
 use dh_extents::measure;
 use dh_tree::{MemEntry, Memories, Typed};
+use dh_ways::Led;
 use std::alloc::Global;
 use std::marker::Model;
 use std::mem;
@@ -159,9 +160,12 @@ impl<'a> Interp<'a> {
         let entries = program.memories().as_slice();
         let tree = program.tree();
         let held = place_all(alloc, &tree.body, tree.entities.len())?;
+        let ways: Items<Led> = Items::new(alloc);
+        let led = ways.as_slice();
         let names = Names {
             alloc,
             program,
+            ways: led,
             places: held.held.as_slice(),
         };
         let mut made = Made {

@@ -8,7 +8,6 @@ use Rattle.dh_meaning.specs.Bindings.{kind_found, kind_or_first}
 use Rattle.dh_code.specs.Extended.{extension_of}
 use Rattle.dh_code.specs.Flattening.{known_in, table_in}
 use Rattle.dh_code.proofs.FlattenedForms.{access_flat, bank_flat, bank_form, binary_form, cast_flat, cast_form, number_flat, operation_flat, truth_flat, variable_flat}
-use Rattle.dh_code.proofs.CommandsFlattened.{no_way}
 use Rattle.dh_code.proofs.Flattened.{indices_end, indices_turn}
 use Rattle.dh_code.proofs.Ranges.{drop_past}
 use Rattle.dh_code.proofs.flattening.+flatten.Goals as goal
@@ -25,12 +24,12 @@ pub flatten-returns-in-Variable : goal.flatten-returns-in-Variable
 flatten-returns-in-Variable t c = λ n. variable_flat (known_in c.args.names.now) c.args.names.now.places.now (table_in c.args.names.now) c.args.value.now.place (kind_or_first c.args.value.now.kind) c.kind_found-kind.result c.kind_found-kind.ensures (form_seen c.args.value.now.form) c.args.code.now n c.in-Variable.of c.variable.result
     (ap form_seen c.in-Variable.is ∙ variable_is c.in-Variable.of) c.variable.ensures
 
-pub flatten-returns-in_ok-operands-in-Access : goal.flatten-returns-in_ok-operands-in-Access
-flatten-returns-in_ok-operands-in-Access t c =
+pub flatten-returns-in_ok-target-in-Access : goal.flatten-returns-in_ok-target-in-Access
+flatten-returns-in_ok-target-in-Access t c =
     IfOk-weaker c.add_read.result _ _ (λ o more n. access_flat (known_in c.args.names.now) c.args.names.now.places.now (table_in c.args.names.now) c.args.value.now.place (kind_or_first c.args.value.now.kind) c.kind_found-kind.result c.kind_found-kind.ensures (form_seen c.args.value.now.form)
-    c.args.code.now c.flatten_all.new.code c.add_read.new.code n c.in-Access.of (map term_seen c.as_slice.result.now) c.memory_of-memory.result c.in_ok-operands-in-Access.operands o
+    c.args.code.now c.flatten_all.new.code c.add_read.new.code n c.in-Access.of (map term_seen c.as_slice.result.now) c.memory_of-memory.result c.in_ok-operands-in-Access.operands c.in_ok-target-in-Access.target o
     (ap form_seen c.in-Access.is ∙ (access_is c.in-Access.of c.in-Access.indices ∙ ap (λ l. accessed c.in-Access.of (terms (map term_seen l))) (sym c.as_slice.ensures.value)))
-    (no_way (known_in c.args.names.now).memories c.in-Access.of.entity) c.memory_of-memory.ensures c.in_ok-operands-in-Access.ensures more) c.add_read.ensures
+    c.memory_of-memory.ensures c.in_ok-operands-in-Access.ensures c.in_ok-target-in-Access.ensures more) c.add_read.ensures
 
 pub flatten-returns-in_ok-row-in-Physical : goal.flatten-returns-in_ok-row-in-Physical
 flatten-returns-in_ok-row-in-Physical t c =

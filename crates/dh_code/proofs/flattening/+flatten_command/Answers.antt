@@ -11,7 +11,7 @@ use Rattle.dh_meaning.specs.Core.{no_commands}
 use Rattle.dh_meaning.specs.CoreOf.{core_action, core_other, core_term, depth_of, entity_number, first_value}
 use Rattle.dh_code.specs.Flattening.{IsInFront, known_in, table_in}
 use Rattle.dh_code.specs.Suited.{CanDoAll}
-use Rattle.dh_code.proofs.CommandsFlattened.{FlattensGroups, FlattensPart, assign_front, choose_front, front_as, front_none, groups_begin, groups_turn, part_begins, part_turn, view_front}
+use Rattle.dh_code.proofs.CommandsFlattened.{FlattensGroups, FlattensPart, assign_front, choose_front, front_as, front_none, groups_begin, groups_turn, part_begins, part_turn}
 use Rattle.dh_code.proofs.Ranges.{drop_none}
 use Rattle.dh_code.proofs.flattening.+flatten_command.Goals as goal
 
@@ -74,7 +74,9 @@ pub flatten_command-returns-in-LetMemory : goal.flatten_command-returns-in-LetMe
 flatten_command-returns-in-LetMemory t c = front_as c.args.names.now c.args.code.now c.args.code.now c.args.command.now c.args.next c.args.next _ (ap action_form_seen c.in-LetMemory.is ∙ let_memory_is _ _ _ _) (λ p loops n rest placing can. front_none c.args.names.now c.args.code.now c.args.next rest)
 
 pub flatten_command-returns-in-View : goal.flatten_command-returns-in-View
-flatten_command-returns-in-View t c = front_as c.args.names.now c.args.code.now c.args.code.now c.args.command.now c.args.next c.args.next (views c.in-View.name c.in-View.parent (plan_seen c.in-View.form)) (ap action_form_seen c.in-View.is ∙ view_is c.in-View.name c.in-View.parent c.in-View.form) (λ p loops n rest placing can. view_front c.args.names.now c.args.code.now c.args.next n c.in-View.name c.in-View.parent (plan_seen c.in-View.form) rest)
+flatten_command-returns-in-View t c =
+    IfOk-weaker c.add_view.result _ _ (λ first h. front_as c.args.names.now c.args.code.now c.add_view.new.code c.args.command.now first c.args.next (views c.in-View.name c.in-View.parent (plan_seen c.in-View.form))
+    (ap action_form_seen c.in-View.is ∙ view_is c.in-View.name c.in-View.parent c.in-View.form) (λ p loops n rest placing can. h n rest p loops placing can)) c.add_view.ensures
 
 pub flatten_command-returns-in-Call : goal.flatten_command-returns-in-Call
 flatten_command-returns-in-Call t c = front_as c.args.names.now c.args.code.now c.args.code.now c.args.command.now c.args.next c.args.next _ (ap action_form_seen c.in-Call.is ∙ call_is _ _) (λ p loops n rest placing can. front_none c.args.names.now c.args.code.now c.args.next rest)

@@ -7,11 +7,11 @@ use Rattle.dh_code.proofs.CommandsFlattened.{aimed_by_indices, aimed_by_row}
 use Rattle.dh_code.proofs.FlattenedForms.{bank_form}
 use Rattle.dh_code.proofs.flattening.element.Goals as goal
 
-pub returns-in_ok-operands-in-Access : goal.returns-in_ok-operands-in-Access
-returns-in_ok-operands-in-Access c = λ n.
-    aimed_by_indices c.args.names.now c.args.code.now c.flatten_all.new.code n (term_seen c.args.target.now) c.args.target.now.place c.args.target.now.kind c.in-Access.of (map term_seen c.as_slice.result.now) c.memory_of.result c.in_ok-operands-in-Access.operands
+pub returns-in_ok-aimed-in-Access : goal.returns-in_ok-aimed-in-Access
+returns-in_ok-aimed-in-Access c = λ n.
+    aimed_by_indices c.args.names.now c.args.code.now c.flatten_all.new.code n (term_seen c.args.target.now) c.args.target.now.place c.args.target.now.kind c.in-Access.of (map term_seen c.as_slice.result.now) c.memory_of.result c.in_ok-operands-in-Access.operands c.in_ok-aimed-in-Access.aimed
     (ap (λ (f : TermForm). term c.args.target.now.place c.args.target.now.kind f) (ap form_seen c.in-Access.is ∙ (access_is c.in-Access.of c.in-Access.indices ∙ ap (λ l. accessed c.in-Access.of (terms (map term_seen l))) (sym c.as_slice.ensures.value))))
-    c.memory_of.ensures c.in_ok-operands-in-Access.ensures
+    c.memory_of.ensures c.in_ok-operands-in-Access.ensures c.in_ok-aimed-in-Access.ensures
 
 pub returns-in_ok-row-in-Physical : goal.returns-in_ok-row-in-Physical
 returns-in_ok-row-in-Physical c = λ n.

@@ -3,11 +3,13 @@ use Rattle.std.specs.Prelude.{Option, Vec, slice_index}
 use Rattle.std.specs.Global.{Global}
 use Rattle.std.proofs.lemmas.Bool.{ltb-true}
 use Rattle.std.proofs.lemmas.Result.{err_from_is_err_and}
-use Rattle.dh_code.specs.declared.codes.Action.TheVariants.{Choose}
+use Rattle.dh_code.specs.declared.codes.Action.{Action}
+use Rattle.dh_code.specs.declared.codes.Action.TheVariants.{Choose, Keep}
+use Rattle.dh_code.specs.declared.codes.Kept.{Kept}
 use Rattle.dh_code.specs.Rows.{contents_of}
 use Rattle.dh_meaning.specs.Effects.{holds_at, paths_where}
-use Rattle.dh_code.specs.Scenes.{begun_in}
-use Rattle.dh_code.specs.States.{AreRows, DoesAll, DoesOne}
+use Rattle.dh_code.specs.Scenes.{AreHeld, begun_in}
+use Rattle.dh_code.specs.States.{AreRows, CanBeDone, DoesAll, DoesOne}
 use Rattle.dh_code.proofs.ListsRun.{action_depth, action_lower, can_be_done, choose_both, choose_one, choose_stop, choose_stop_first, choose_stop_one, found_step, lost_step, next_low, only_path, run_end, run_first, run_lost, run_stop, run_turn}
 use Rattle.dh_code.proofs.running.+run.Goals as goal
 
@@ -44,6 +46,17 @@ run-returns-in_default-get-clause-ran t c =
 
 pub run-returns-clause-ran : goal.run-returns-clause-ran
 run-returns-clause-ran t c = run_end c.args.scene.now c.args.state.now (contents_of c.args.rows.now) c.args.paths.now c.args.list c.loop-list.state c.loop-list.list c.loop-list.invariant (Unit {0}) tt c.in_default.is
+
+-- a view that keeps its offsets
+pub run_one-keep_all-requires-clause-held : goal.run_one-keep_all-requires-clause-held
+run_one-keep_all-requires-clause-held t c =
+    let has = subst (λ (a : Action). CanBeDone c.args.scene.now a) c.in-Keep.is c.requires.done in
+    subst (λ (ks : List Kept). AreHeld c.args.scene.now.code.now.operations c.in-Keep.from c.in-Keep.to ks) (sym c.as_slice.ensures) has
+
+pub run_one-returns-in-Keep-clause-ran : goal.run_one-returns-in-Keep-clause-ran
+run_one-returns-in-Keep-clause-ran t c =
+    subst (λ (a : Action). DoesOne c.args.scene.now c.args.state.now c.keep_all.result c.keep_all.new.state (contents_of c.args.rows.now) c.args.paths.now a) (sym c.in-Keep.is)
+    (subst (λ (ks : List Kept). DoesOne c.args.scene.now c.args.state.now c.keep_all.result c.keep_all.new.state (contents_of c.args.rows.now) c.args.paths.now (Keep c.in-Keep.from c.in-Keep.to ks c.in-Keep.depth)) c.as_slice.ensures c.keep_all.ensures.ran)
 
 -- an `if` at several paths
 pub choose-returns-in_err-first-clause-ran : goal.choose-returns-in_err-first-clause-ran
