@@ -29,7 +29,8 @@ fn row(alloc: Global, first: u32, end: u32) -> Result<Meets, NoMemory>
 /// Two parts of which accesses may meet.
 #[tactic(auto, using(dh_plan::proofs::SeenMeets::meets_are))]
 fn both(alloc: Global, first: Meets, second: Meets) -> Result<Meets, NoMemory>
-    ensures { IfOk result (λ m. SameMeets (meets_seen m) (all (meets_seen first) (meets_seen second))) }
+    ensures { IfOk result (λ m. SameMeets (meets_seen m)
+        (all (meets_seen first) (meets_seen second))) }
 {
     let mut parts = Vec::new(alloc);
     parts.push(first)?;
@@ -40,7 +41,8 @@ fn both(alloc: Global, first: Meets, second: Meets) -> Result<Meets, NoMemory>
 /// Two parts of which no accesses meet.
 #[tactic(auto, using(dh_plan::proofs::SeenMeets::meets_are))]
 fn either(alloc: Global, first: Meets, second: Meets) -> Result<Meets, NoMemory>
-    ensures { IfOk result (λ m. SameMeets (meets_seen m) (one (meets_seen first) (meets_seen second))) }
+    ensures { IfOk result (λ m. SameMeets (meets_seen m)
+        (one (meets_seen first) (meets_seen second))) }
 {
     let mut parts = Vec::new(alloc);
     parts.push(first)?;

@@ -1,30 +1,30 @@
 -- What is put down of an access: tests, a guard, row and bank, of values that stand; and the access in a row, which takes
 -- all that the old one took.
-use Rattle.std.proofs.Common.{◌≡◌, ℕ, zero, suc, ◌<◌, ◌≤◌, ◌==◌, Some, None, List, Bool, true, false, not, length, map, refl, sym, ap, subst, ◌∙◌, arith}
-use Rattle.std.specs.Prelude.{[], ◌∷◌, ◌++◌, Option, slice_get}
+use Rattle.std.proofs.Common.{◌≡◌, ℕ, ◌<◌, ◌≤◌, ◌==◌, Some, None, List, Bool, true, false, not, length, map, refl, sym, subst, ◌∙◌, arith}
+use Rattle.std.specs.Prelude.{[], ◌∷◌, ◌++◌, Option}
 use Rattle.std.specs.List.{AllByRecursion}
 use Rattle.std.proofs.lemmas.Bool.Decides.{nat_tests}
 use Rattle.dh_value.specs.declared.kinds.Kind.{Kind}
 use Rattle.dh_value.specs.declared.kinds.Kind.TheVariants as kind
 use Rattle.dh_value.specs.Words.{IsInteger}
-use Rattle.dh_tree.specs.declared.tables.Dim.{Dim}
+use Rattle.dh_tree.specs.declared.tables.MemEntry.{MemEntry}
 use Rattle.dh_tree.specs.Elements.{dims_at}
 use Rattle.dh_tree.specs.Shapes.{IsProgramTable}
 use Rattle.dh_plan.specs.declared.operations.Operation.{Operation}
 use Rattle.dh_plan.specs.declared.operations.Reach.{Reach}
-use Rattle.dh_plan.specs.declared.operations.ReachStep.{ReachStep}
-use Rattle.dh_tree.specs.declared.viewing.ViewMap.{ViewMap}
 use Rattle.dh_plan.specs.Ordered.{one_or_none, offsets_taken, reach_takes}
 use Rattle.dh_plan.specs.PlainPlans.{PlainPlan}
-use Rattle.dh_plan.specs.PlanKinds.{ReachSuits, NamesElement, StepFits, AreSteps}
-use Rattle.dh_plan.proofs.ValuesAlike.{all_left, all_right, all_map}
+use Rattle.dh_plan.specs.PlanKinds.{ReachSuits}
+use Rattle.dh_plan.proofs.ValuesAlike.{all_left, all_right}
 use Rattle.dh_rows.specs.Readings.{Readings, Obeys, IsEarlier, Grows, Adds, IsValue, IsValueOrNone}
 use Rattle.dh_rows.specs.RowsShown.{IsInput}
-use Rattle.dh_rows.proofs.Growing.{grows_self, grows_on, grown_length, value_later, maybe_later, adds_self, adds_on, earlier_later}
+use Rattle.dh_rows.proofs.Growing.{grows_self, grows_on, value_later, maybe_later, adds_self, adds_on, earlier_later}
 use Rattle.dh_address.specs.declared.literals.LiteralPlace.{LiteralPlace}
+use Rattle.dh_address.specs.declared.operands.Operand.{Operand}
 use Rattle.dh_address.specs.LiteralPlaces.{literal_places}
-use Rattle.dh_address.specs.Pieces.{Around, new_number, new_or_none, known_kind, ranges_by, ranges_in, ranges_of, aimed, is_banked, aim_width, waited, IsAimed}
-use Rattle.dh_address.proofs.TestedRanges.{IsTestable, begun_later}
+use Rattle.dh_address.specs.Pieces.{Around, new_number, new_or_none, known_kind, all_taken, values_of, aimed, is_banked, aim_width, waited, IsAimed}
+use Rattle.dh_address.specs.WaysMade.{operand_of}
+use Rattle.dh_address.proofs.TestedRanges.{IsThere, all_there, begun_later}
 use Rattle.dh_address.proofs.AimedRows.{HasSelect, PlaceFits, index_aim_put, waited_put, IsInputOrNone}
 use Rattle.dh_address.proofs.LiteralMeans.{dims_formed, elements_below, width_suffices, literal_place_is}
 
@@ -32,28 +32,10 @@ pub all_join : {A : Type 0} (P : A → Type 0) (xs ys : List A) → AllByRecursi
 all_join P [] ys h k = k
 all_join P (x ∷ xs) ys h k = (h.0, all_join P xs ys h.1 k)
 
--- Shapes of accesses.
-
--- an access by indices, where there are no views, has no steps, and an index for each dimension
-pub record IsPlainAccess (p : PlainPlan) (r : Reach) : Type 0 where
-  pub steps : r.steps ≡ []
-  pub long : length r.indices ≡ length (dims_at p.table r.memory)
-
-no_item : (vs : List ViewMap) (i : ℕ) → vs ≡ [] → slice_get vs i ≡ None
-no_item [] zero e = refl
-no_item [] (suc i) e = refl
-no_item (v ∷ vs) i e = absurd (cc)
-
-steps_plain : (p : PlainPlan) (first : ℕ) (kinds : List Kind) → p.views ≡ [] → (r : Reach) (steps : List ReachStep) (dims : List Dim) → AreSteps p first kinds r.memory steps dims
-    → (steps ≡ []) × (dims ≡ dims_at p.table r.memory)
-steps_plain p first kinds none r [] dims h = (refl, h)
-steps_plain p first kinds none r (s ∷ ss) dims h =
-    absurd (subst (λ (o : Option ViewMap). StepFits p first kinds s.offsets o dims (AreSteps p first kinds r.memory ss)) (no_item p.views s.view none) h)
-
-pub element_plain : (p : PlainPlan) (first : ℕ) (kinds : List Kind) → p.views ≡ [] → (r : Reach) → NamesElement p first kinds r None → IsPlainAccess p r
-element_plain p first kinds none r (dims, (long, steps)) =
-    let s = steps_plain p first kinds none r r.steps dims steps in
-    record { steps = s.0; long = long ∙ ap (λ (ds : List Dim). length ds) s.1 }
+-- indices are as many as the memory's dimensions, where there is no row
+abbrev pub HasMany : List MemEntry → Reach → (row : Option ℕ) → List Operand → Type 0
+HasMany table r None is = length is ≡ length (dims_at table r.memory)
+HasMany table r (Some row) is = Unit {0}
 
 -- What is put down.
 
@@ -78,10 +60,6 @@ module _ (x : Readings) (clock : ℕ) (a : Around) where
   maybe_input os None h = tt
   maybe_input os (Some v) h = λ o. h.0.earlier
 
-  inputs : (os : List Operation) (vs : List ℕ) → AllByRecursion (IsInputOf (length os)) vs → AllByRecursion (λ i. IsInput x clock os i) (map (new_number a) vs)
-  inputs os [] h = tt
-  inputs os (v ∷ vs) h = (λ o. h.0.earlier, inputs os vs h.1)
-
   pub input_later : (own next v : ℕ) → own ≤ next → IsInputOf own v → IsInputOf next v
   input_later own next v l h = record { earlier = earlier_later x clock own next (new_number a v) l h.earlier; kind_is = h.kind_is }
 
@@ -90,26 +68,17 @@ module _ (x : Readings) (clock : ℕ) (a : Around) where
   abbrev pub IsNumberKnown : ℕ → Type 0
   IsNumberKnown v = IsInteger (known_kind a v)
 
-  testables_by : (os : List Operation) (dims : List Dim) (indices : List ℕ) → AllByRecursion IsNumberKnown indices → AllByRecursion (IsInputOf (length os)) indices
-      → AllByRecursion (IsTestable x clock a os) (ranges_by dims indices)
-  testables_by os [] is k h = tt
-  testables_by os (d ∷ ds) [] k h = tt
-  testables_by os (d ∷ ds) (i ∷ is) k h = (record { sized = k.0; stands = input_value os i h.0 }, testables_by os ds is k.1 h.1)
+  -- what a value of the old plan has become is there
+  pub operand_there : (os : List Operation) (v : ℕ) → IsNumberKnown v → IsInputOf (length os) v → IsThere x clock os (operand_of a v)
+  operand_there os v k h = record { sized = k; stands = input_value os v h }
 
-  testables_in : (os : List Operation) (dims : List Dim) (row : Option ℕ) (indices : List ℕ) → AllByRecursion IsNumberKnown indices → AllByRecursion IsNumberKnown (one_or_none row)
-      → AllByRecursion (IsInputOf (length os)) indices → AllByRecursion (IsInputOf (length os)) (one_or_none row)
-      → AllByRecursion (IsTestable x clock a os) (ranges_in dims row indices)
-  testables_in os dims None indices k l h g = testables_by os dims indices k h
-  testables_in os dims (Some row) indices k l h g = (record { sized = l.0; stands = input_value os row g.0 }, tt)
+  pub operands_there : (os : List Operation) (vs : List ℕ) → AllByRecursion IsNumberKnown vs → AllByRecursion (IsInputOf (length os)) vs → AllByRecursion (IsThere x clock os) (map (operand_of a) vs)
+  operands_there os [] k h = tt
+  operands_there os (v ∷ vs) k h = (operand_there os v k.0 h.0, operands_there os vs k.1 h.1)
 
-  module _ (p : PlainPlan) (r : Reach) (suits : ReachSuits p a.first a.kinds r) where
-    pub testables : (os : List Operation) → AllByRecursion (IsInputOf (length os)) (reach_takes r) → AllByRecursion (IsTestable x clock a os) (ranges_of a r)
-    testables os h =
-        let P = IsInputOf (length os) in
-        let behind = all_right P r.indices _ h in
-        let last = all_right P (offsets_taken r.steps) _ behind in
-        testables_in os (dims_at a.table r.memory) r.row r.indices (all_left IsNumberKnown r.indices (offsets_taken r.steps) suits.indices) suits.row
-        (all_left P r.indices _ h) (all_right P (one_or_none r.select) (one_or_none r.row) last)
+  there_inputs : (os : List Operation) (is : List Operand) → AllByRecursion (IsThere x clock os) is → AllByRecursion (λ i. IsInput x clock os i) (values_of is)
+  there_inputs os [] h = tt
+  there_inputs os (i ∷ is) h = (λ o. (h.0.stands o).earlier, there_inputs os is h.1)
 
   -- Rows and banks.
 
@@ -175,70 +144,73 @@ module _ (x : Readings) (clock : ℕ) (a : Around) where
   counts_there old None k h = tt
   counts_there old (Some v) k h = (λ o. (h.0.earlier, (k.0.0, h.0.kind_is ∙ k.0.1)), tt)
 
-  module _ (p : PlainPlan) (none : p.views ≡ []) (tables : a.table ≡ p.table) (formed : IsProgramTable p.table) (r : Reach) (suits : ReachSuits p a.first a.kinds r) where
-    place_fits : (place : Option LiteralPlace) → literal_places a.operations a.first (dims_at a.table r.memory) r.indices 0 0 ≡ place → length r.indices ≡ length (dims_at a.table r.memory)
+  -- indices and offsets at their new numbers
+  taken_there : (old os : List Operation) → Grows old os → (r : Reach) → AllByRecursion IsNumberKnown (r.indices ++ offsets_taken r.steps) → AllByRecursion (IsInputOf (length old)) (reach_takes r)
+      → AllByRecursion (IsNumberThere os) (all_taken a r)
+  taken_there old os g r k h =
+      let P = IsInputOf (length old) in
+      let behind = all_right P r.indices _ h in
+      all_join (IsNumberThere os) (map (new_number a) r.indices) (map (new_number a) (offsets_taken r.steps))
+      (numbers_there old os g r.indices (all_left IsNumberKnown r.indices (offsets_taken r.steps) k) (all_left P r.indices _ h))
+      (numbers_there old os g (offsets_taken r.steps) (all_right IsNumberKnown r.indices (offsets_taken r.steps) k) (all_left P (offsets_taken r.steps) _ behind))
+
+  module _ (p : PlainPlan) (tables : a.table ≡ p.table) (formed : IsProgramTable p.table) (r : Reach) (suits : ReachSuits p a.first a.kinds r) where
+    place_fits : (is : List Operand) (place : Option LiteralPlace) → literal_places (dims_at a.table r.memory) is 0 0 ≡ place → length is ≡ length (dims_at a.table r.memory)
         → PlaceFits x clock (aim_width (dims_at a.table r.memory)) place
-    place_fits None e long = tt
-    place_fits (Some place) e long =
+    place_fits is None e long = tt
+    place_fits is (Some place) e long =
         let of_a = subst (λ (t : _). IsProgramTable t) (sym tables) formed in
-        let l = literal_place_is a.operations a.first (dims_at a.table r.memory) r.indices place (dims_formed a.table r.memory of_a.entries) (elements_below a.table r.memory of_a) long e in
+        let l = literal_place_is (dims_at a.table r.memory) is place (dims_formed a.table r.memory of_a.entries) (elements_below a.table r.memory of_a) long e in
         let w = (width_suffices a.table r.memory of_a).most in
         (less place.row _ _ l.row_small w, less place.bank _ _ l.bank_small w)
       where
         less : (n m b : ℕ) → n < m → m < b → n < b
         less n m b l k = omega (arith, l, k)
 
-    pub aims_put : (row : Option ℕ) → r.row ≡ row → IsPicksGiven r row → (old last : List Operation) (t : Reach) → IsAimed a r row old last t → x.first ≤ length old
-        → AllByRecursion (IsInputOf (length old)) (reach_takes r) → PutsAccess r old last t
-    aims_put None e picks old last t h begun taken =
+    pub aims_put : (row : Option ℕ) → r.row ≡ row → IsPicksGiven r row → (is : List Operand) (old last : List Operation) (t : Reach) → IsAimed a r row is old last t → x.first ≤ length old
+        → HasMany a.table r row is → AllByRecursion (IsThere x clock old) is → AllByRecursion (IsInputOf (length old)) (reach_takes r) → PutsAccess r old last t
+    aims_put None e picks is old last t h begun long there taken =
         let P = IsInputOf (length old) in
-        let plain = element_plain p a.first a.kinds none r (subst (λ (o : Option ℕ). NamesElement p a.first a.kinds r o) e suits.element) in
-        let long : length r.indices ≡ length (dims_at a.table r.memory) = plain.long ∙ ap (λ (tb : _). length (dims_at tb r.memory)) (sym tables) in
         let behind = all_right P r.indices _ taken in
         let last_taken = all_right P (offsets_taken r.steps) _ behind in
         let select_in = all_left P (one_or_none r.select) (one_or_none r.row) last_taken in
-        let indices_in = all_left P r.indices _ taken in
-        let numbers = all_left IsNumberKnown r.indices (offsets_taken r.steps) suits.indices in
         let w = waited_put x clock old (new_or_none a r.select) begun (maybe_input old r.select select_in) in
         let mid = (waited old (new_or_none a r.select)).operations in
         let g = w.adds.grows in
         let wide = width_suffices a.table r.memory (subst (λ (tb : _). IsProgramTable tb) (sym tables) formed) in
-        let at_mid = all_map (IsInputOf (length old)) (IsInputOf (length mid)) r.indices (λ v. input_later (length old) (length mid) v (grown_length old mid g)) indices_in in
-        let aim = index_aim_put x clock (literal_places a.operations a.first (dims_at a.table r.memory) r.indices 0 0) (aim_width (dims_at a.table r.memory)) (dims_at a.table r.memory)
-        (map (new_number a) r.indices) (is_banked r) mid last h.row h.select h.aim wide (place_fits _ refl long) (begun_later x old mid g begun) (inputs mid r.indices at_mid)
+        let aim = index_aim_put x clock (literal_places (dims_at a.table r.memory) is 0 0) (aim_width (dims_at a.table r.memory)) (dims_at a.table r.memory)
+        (values_of is) (is_banked r) mid last h.row h.select h.aim wide (place_fits is _ refl long) (begun_later x old mid g begun) (there_inputs mid is (all_there x clock old mid g is there))
         in
         record {
           adds = adds_on x clock old mid last w.adds aim.adds;
-          taken = map (new_number a) r.indices ++ one_or_none (waited old (new_or_none a r.select)).sum;
+          taken = all_taken a r ++ one_or_none (waited old (new_or_none a r.select)).sum;
           row = h.row;
           select = h.select;
           reach = h.reach;
           taken_there =
-              all_join (IsNumberThere last) (map (new_number a) r.indices) (one_or_none (waited old (new_or_none a r.select)).sum)
-              (numbers_there old last (grows_on old mid last g aim.adds.grows) r.indices numbers indices_in)
+              all_join (IsNumberThere last) (all_taken a r) (one_or_none (waited old (new_or_none a r.select)).sum)
+              (taken_there old last (grows_on old mid last g aim.adds.grows) r suits.indices taken)
               (maybe_number last 1 (waited old (new_or_none a r.select)).sum (omega arith, omega arith)
               (maybe_later x clock mid last (kind.Unsigned 1) (waited old (new_or_none a r.select)).sum aim.adds.grows w.stands));
           row_there = number_there last (kind.Unsigned (aim_width (dims_at a.table r.memory))) h.row wide.sized aim.row_stands;
           select_there = maybe_count last (aim_width (dims_at a.table r.memory)) h.select aim.select_stands;
           picks = picked r h.select aim.has;
         }
-    aims_put (Some row) e picks old last t h begun taken =
+    aims_put (Some row) e picks is old last t h begun long there taken =
         let P = IsInputOf (length old) in
         let behind = all_right P r.indices _ taken in
         let last_taken = all_right P (offsets_taken r.steps) _ behind in
         let select_in = all_left P (one_or_none r.select) (one_or_none r.row) last_taken in
         let row_in = subst (λ (o : Option ℕ). AllByRecursion P (one_or_none o)) e (all_right P (one_or_none r.select) (one_or_none r.row) last_taken) in
         let row_number = subst (λ (o : Option ℕ). AllByRecursion IsNumberKnown (one_or_none o)) e suits.row in
-        let indices_in = all_left P r.indices _ taken in
-        let numbers = all_left IsNumberKnown r.indices (offsets_taken r.steps) suits.indices in
         subst (λ (os : List Operation). PutsAccess r old os t) (sym h.0)
         (record {
           adds = adds_self x clock old;
-          taken = map (new_number a) r.indices;
+          taken = all_taken a r;
           row = new_number a row;
           select = new_or_none a r.select;
           reach = h.1;
-          taken_there = numbers_there old old (grows_self old) r.indices numbers indices_in;
+          taken_there = taken_there old old (grows_self old) r suits.indices taken;
           row_there = number_there old (known_kind a row) (new_number a row) row_number.0 (input_value old row row_in.0);
           select_there = counts_there old r.select suits.select select_in;
           picks = picks_given r r.select picks;

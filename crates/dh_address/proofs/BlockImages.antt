@@ -15,6 +15,7 @@ use Rattle.dh_plan.specs.PlainPlans.{PlainPlan, operations_before, block_operati
 use Rattle.dh_plan.specs.SoundPlans.{Counting, IsStepOf, IsSound, IsFormed}
 use Rattle.dh_plan.proofs.FittingValues.{plan_values_fit}
 use Rattle.dh_plan.proofs.SameStates.{plans_run_alike}
+use Rattle.dh_address.proofs.WaySizes.{HasMaps}
 use Rattle.dh_address.specs.Images.{operations_until, around_block, ArePieces, IsBlockImage, IsImage}
 use Rattle.dh_address.proofs.EventsAlike.{block_so}
 use Rattle.dh_address.proofs.GoodPieces.{AreGoodPieces}
@@ -58,7 +59,7 @@ until_next [] n = nothing n
 until_next (b ∷ bs) zero = ap (λ (os : List Operation). b.operations ++ os) (until_none bs) ∙ nothing_more b.operations
 until_next (b ∷ bs) (suc n) = ap (λ (os : List Operation). b.operations ++ os) (until_next bs n) ∙ sym (append_assoc b.operations (operations_until bs n) _)
 
-module _ (p : PlainPlan) (none : p.views ≡ []) (sound : IsFormed p) (bs : List PlanBlock) (block : ℕ) where
+module _ (p : PlainPlan) (maps : HasMaps p) (sound : IsFormed p) (bs : List PlanBlock) (block : ℕ) where
   abbrev pub front : List Operation
   front = operations_until bs block
 
@@ -66,7 +67,7 @@ module _ (p : PlainPlan) (none : p.views ≡ []) (sound : IsFormed p) (bs : List
   begins = until_long bs block
 
   -- as the block begins nothing is known
-  first_known : IsKnown p none sound.table bs block front begins (sound.blocks block) [] [] 0 (operations_in p block) front
+  first_known : IsKnown p maps sound.table bs block front begins (sound.blocks block) [] [] 0 (operations_in p block) front
   first_known = record {
     there = λ j o e. subst (λ (k : ℕ). slice_get (operations_in p block) k ≡ Some o) (nothing j) e;
     numbers_long = refl;
@@ -88,38 +89,38 @@ module _ (p : PlainPlan) (none : p.views ≡ []) (sound : IsFormed p) (bs : List
 
   pub record IsKnownBlock : Type 0 where
     pub numbers : List ℕ
-    pub known : AllKnown p none sound.table bs block front begins (sound.blocks block) numbers [] [] 0 (operations_in p block) front
+    pub known : AllKnown p maps sound.table bs block front begins (sound.blocks block) numbers [] [] 0 (operations_in p block) front
 
   pub block_known : IsBlockImage p bs block → IsKnownBlock
   block_known h = record {
     numbers = h.numbers;
-    known = all_known p none sound.table bs block front begins (sound.blocks block) (operations_in p block) [] [] 0 front h.numbers
+    known = all_known p maps sound.table bs block front begins (sound.blocks block) (operations_in p block) [] [] 0 front h.numbers
         (subst (λ (os : List Operation). ArePieces p.registers (around_block p block) (operations_in p block) front os h.numbers) (until_next bs block) h.pieces) first_known;
   }
 
 -- Steps.
 
-module _ (p : PlainPlan) (none : p.views ≡ []) (sound : IsSound p) (bs : List PlanBlock) (images : (block : ℕ) → IsBlockImage p bs block) where
-  abbrev known : (block : ℕ) → IsKnownBlock p none sound.formed bs block
-  known block = block_known p none sound.formed bs block (images block)
+module _ (p : PlainPlan) (maps : HasMaps p) (sound : IsSound p) (bs : List PlanBlock) (images : (block : ℕ) → IsBlockImage p bs block) where
+  abbrev known : (block : ℕ) → IsKnownBlock p maps sound.formed bs block
+  known block = block_known p maps sound.formed bs block (images block)
 
   module _ (block : ℕ) (loops : List Counting) (step : IsStepOf [] p.body (block ∷ []) loops) (registers : List ℕ) (memories : List (List ℕ)) (fit : FitKinds p.registers registers) (fits : Fits p.table memories)
       (turns : AllByRecursion (λ c. slice_index registers c.counter < c.turns) loops) where
     -- accesses reach banks of their lists
-    pub listed_in_step : ReachesListed p none sound.formed.table bs block (front p none sound.formed bs block) (begins p none sound.formed bs block) (sound.formed.blocks block) (known block).known.all_formed registers memories
+    pub listed_in_step : ReachesListed p maps sound.formed.table bs block (front p maps sound.formed bs block) (begins p maps sound.formed bs block) (sound.formed.blocks block) (known block).known.all_formed registers memories
     listed_in_step i o r spot there uses on leads =
         (sound.steps (block ∷ []) loops step registers memories fit fits turns).listed block i r spot
         (record { active = inl refl; operation = o; there = there; uses = uses; on = on; leads = leads })
 
-    pub words_in_step : AreGoodPieces p none sound.formed.table bs block (front p none sound.formed bs block) (begins p none sound.formed bs block) (sound.formed.blocks block)
-        (SameWord p none sound.formed.table bs block (front p none sound.formed bs block) (begins p none sound.formed bs block) (sound.formed.blocks block) (known block).known.all_formed registers memories)
-        [] [] 0 (operations_in p block) (front p none sound.formed bs block)
-    words_in_step = words_alike p none sound.formed.table bs block (front p none sound.formed bs block) (begins p none sound.formed bs block) (sound.formed.blocks block) (known block).known.all_formed registers memories
+    pub words_in_step : AreGoodPieces p maps sound.formed.table bs block (front p maps sound.formed bs block) (begins p maps sound.formed bs block) (sound.formed.blocks block)
+        (SameWord p maps sound.formed.table bs block (front p maps sound.formed bs block) (begins p maps sound.formed bs block) (sound.formed.blocks block) (known block).known.all_formed registers memories)
+        [] [] 0 (operations_in p block) (front p maps sound.formed bs block)
+    words_in_step = words_alike p maps sound.formed.table bs block (front p maps sound.formed bs block) (begins p maps sound.formed bs block) (sound.formed.blocks block) (known block).known.all_formed registers memories
         (plan_values_fit p block registers memories (sound.formed.blocks block) fit fits) listed_in_step (known block).numbers (known block).known
 
     pub does_alike : DoesAlike p (image_of p bs) block registers memories
     does_alike =
-        let so = block_so p none sound.formed.table bs block (front p none sound.formed bs block) (begins p none sound.formed bs block) (sound.formed.blocks block) (known block).known.all_formed registers memories
+        let so = block_so p maps sound.formed.table bs block (front p maps sound.formed bs block) (begins p maps sound.formed bs block) (sound.formed.blocks block) (known block).known.all_formed registers memories
         (plan_values_fit p block registers memories (sound.formed.blocks block) fit fits) listed_in_step words_in_step
         in
         record { fault = so.fault_is; puts = λ e. so.writes_are; sets = λ e. so.sets_are }

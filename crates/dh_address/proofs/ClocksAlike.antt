@@ -19,17 +19,20 @@ use Rattle.dh_plan.specs.declared.operations.Reach.{Reach}
 use Rattle.dh_plan.specs.LegalSchedules.{is_read, there_at, value_clock, greatest_of, least_clocks}
 use Rattle.dh_plan.specs.Ordered.{one_or_none, offsets_taken, reach_takes, form_takes, operation_takes}
 use Rattle.dh_plan.specs.PlainPlans.{PlainPlan, first_in, operations_in}
-use Rattle.dh_plan.specs.PlanKinds.{kind_of_value, kinds_of, NamesElement, ReachSuits, PicksBank, FormSuits, IsFormedBlock}
+use Rattle.dh_plan.specs.PlanKinds.{kind_of_value, kinds_of, ReachSuits, PicksBank, FormSuits, IsFormedBlock}
 use Rattle.dh_plan.specs.PlanRuns.{start_at}
 use Rattle.dh_plan.proofs.ValuesAlike.{all_left, all_right, all_map}
 use Rattle.dh_rows.specs.Readings.{Readings, Obeys, IsEarlier, Grows, Adds, IsValueOrNone}
 use Rattle.dh_rows.specs.MadeOperations.{pushed, IsMade}
 use Rattle.dh_rows.proofs.Growing.{grows_self, grows_on, grown_length, kept_there, pushed_grows, obeys_before, maybe_later, adds_on, pushed_adds, pushed_value}
-use Rattle.dh_address.specs.Pieces.{Around, Range, aimed, is_probe, is_probe_form, new_number, new_or_none, ranges_of, check_made, AreChecked, false_behind_all, false_word, new_takes, waited, is_banked, IsProbeValue, IsAimed, IsAccessMade, IsReadMade, IsWriteMade, IsProbed, IsFormMade}
+use Rattle.dh_address.proofs.WaySizes.{HasMaps}
+use Rattle.dh_address.specs.Pieces.{Around, aimed, all_taken, is_probe, is_probe_form, new_number, new_or_none, check_made, AreChecked, false_behind_all, false_word, new_takes, waited, is_banked, IsProbeValue, IsAimed, IsAccessMade, IsReadMade, IsWriteMade, IsProbed, IsFormMade}
+use Rattle.dh_address.specs.declared.operands.Operand.{Operand}
+use Rattle.dh_address.specs.declared.operands.Ranged.{Ranged}
 use Rattle.dh_address.specs.LiteralPlaces.{literal_places}
 use Rattle.dh_address.specs.Renumbered.{renumbered}
 use Rattle.dh_rows.specs.RowsShown.{IsInput}
-use Rattle.dh_address.proofs.AccessesPut.{IsInputOf, input_later, maybe_value, testables, aims_put, all_join, element_plain, IsPicked, IsPicksGiven, PutsAccess, IsNumberThere, IsCountThere}
+use Rattle.dh_address.proofs.AccessesPut.{IsInputOf, input_later, maybe_value, aims_put, all_join, IsPicked, IsPicksGiven, PutsAccess, IsNumberThere, IsCountThere}
 use Rattle.dh_address.proofs.BlockEquations.{clock_solved}
 use Rattle.dh_address.proofs.FalsePut.{many_false_put, many_late}
 use Rattle.dh_address.proofs.GoodPieces.{obeys_all, IsGoodStep}
@@ -37,9 +40,11 @@ use Rattle.dh_address.proofs.ImageReadings.{block_readings, FormedBelow, clock_g
 use Rattle.dh_address.proofs.KnownPieces.{HasMeaning, IsKnownValue, IsPieceAt}
 use Rattle.dh_address.proofs.PartsOfPieces.{AllBetween, place_of, between_on, made_between, nothing_between}
 use Rattle.dh_address.proofs.PieceForms.{image_of, around}
-use Rattle.dh_address.proofs.PiecesGrow.{access_grows, aimed_grows, checked_grows, value_grows, but_aim_grows}
+use Rattle.dh_address.proofs.PiecesGrow.{access_grows, aimed_grows, checked_grows, probed_grows, value_grows, but_aim_grows}
+use Rattle.dh_address.proofs.WayLengths.{passed_long}
+use Rattle.dh_address.proofs.WaysPut.{PutsPassed, passed_put}
 use Rattle.dh_address.proofs.SuitsKnown.{all_two}
-use Rattle.dh_address.proofs.TestedRanges.{PutsMaybe, IsTestable, tested_put, testable_later, check_grows, checks_grow, begun_later, guards_put, guards_come, ComesFrom}
+use Rattle.dh_address.proofs.TestedRanges.{PutsMaybe, IsTestable, all_there, tested_put, testable_later, check_grows, checks_grow, begun_later, guards_put, guards_come, ComesFrom}
 
 -- Greatest numbers.
 
@@ -73,7 +78,7 @@ clocks_mapped f k new (v ∷ vs) h =
     let y = clocks_mapped f k new vs h.1 in
     cc
 
-module _ (p : PlainPlan) (none : p.views ≡ []) (tables : IsProgramTable p.table) (bs : List PlanBlock) (block : ℕ) (front : List Operation) (begins : length front ≡ first_in (image_of p bs) block)
+module _ (p : PlainPlan) (maps : HasMaps p) (tables : IsProgramTable p.table) (bs : List PlanBlock) (block : ℕ) (front : List Operation) (begins : length front ≡ first_in (image_of p bs) block)
     (formed : IsFormedBlock p block) (all_formed : FormedBelow (image_of p bs) block front begins (length (front ++ operations_in (image_of p bs) block))) where
   abbrev q : PlainPlan
   q = image_of p bs
@@ -101,7 +106,7 @@ module _ (p : PlainPlan) (none : p.views ≡ []) (tables : IsProgramTable p.tabl
   SameClock v m = x.clock m ≡ old_clock v
 
   obeys : Obeys x all
-  obeys = obeys_all p none tables bs block front begins formed (start_at q [] []) all_formed
+  obeys = obeys_all p maps tables bs block front begins formed (start_at q [] []) all_formed
 
   -- the clock of an operation of the new block
   new_clock : (n : ℕ) (u : Operation) → first ≤ n → slice_get all n ≡ Some u → x.clock n ≡ there_at u.form (greatest_of (map x.clock (operation_takes u)))
@@ -132,7 +137,7 @@ module _ (p : PlainPlan) (none : p.views ≡ []) (tables : IsProgramTable p.tabl
       taken_obeys new g m =
           obeys_before x (take m new) new (record { more = drop m new; appended = sym (take-append-drop m new) }) (obeys_before x new all g obeys)
 
-  module _ (ns : List ℕ) (ks : List Kind) (i : ℕ) (o : Operation) (old mid : List Operation) (n : ℕ) (at : IsPieceAt p none tables bs block front begins formed ns ks i o old mid n)
+  module _ (ns : List ℕ) (ks : List Kind) (i : ℕ) (o : Operation) (old mid : List Operation) (n : ℕ) (at : IsPieceAt p maps tables bs block front begins formed ns ks i o old mid n)
       (takes : AllByRecursion (λ v. SameClock v (renumbered old_first ns v)) (operation_takes o)) where
     abbrev a : Around
     a = around p block ns ks
@@ -161,7 +166,7 @@ module _ (p : PlainPlan) (none : p.views ≡ []) (tables : IsProgramTable p.tabl
 
     -- the new values are there by then
     pub record IsKnownInTime (v : ℕ) : Type 0 where
-      pub known : IsKnownValue p none tables bs block front begins formed (length old) v (renumbered old_first ns v)
+      pub known : IsKnownValue p maps tables bs block front begins formed (length old) v (renumbered old_first ns v)
       pub kind_same : kind_of_value old_first ks v ≡ kind_of_value old_first (kinds_of p block) v
 
     inputs : AllByRecursion Input (operation_takes o)
@@ -171,7 +176,7 @@ module _ (p : PlainPlan) (none : p.views ≡ []) (tables : IsProgramTable p.tabl
           earlier = record { begun = h.known.begun; before = h.known.before; there = (let c = t.0 in let l = t.1 in omega (arith, c, l)) };
           kind_is = h.known.kind_is ∙ sym h.kind_same;
         })
-        (all_two (λ v. IsKnownValue p none tables bs block front begins formed (length old) v (renumbered old_first ns v)) (λ v. kind_of_value old_first ks v ≡ kind_of_value old_first (kinds_of p block) v)
+        (all_two (λ v. IsKnownValue p maps tables bs block front begins formed (length old) v (renumbered old_first ns v)) (λ v. kind_of_value old_first ks v ≡ kind_of_value old_first (kinds_of p block) v)
         IsKnownInTime (operation_takes o) (λ v h e. record { known = h; kind_same = e }) at.known at.kinds_same)
         (all_two (λ v. SameClock v (renumbered old_first ns v)) (λ v. old_clock v ≤ needed) (λ v. (SameClock v (renumbered old_first ns v)) × (old_clock v ≤ needed)) (operation_takes o) (λ v c l. (c, l)) takes
         (greatest_least old_clock (operation_takes o)))
@@ -255,43 +260,45 @@ module _ (p : PlainPlan) (none : p.views ≡ []) (tables : IsProgramTable p.tabl
         ((let c = t.0 in let m = l.0 in let k = h.0 in omega (arith, c, m, k)), tt)
 
     module _ (r : Reach) (suits : ReachSuits p old_first ks r) (taken : AllByRecursion Timed (reach_takes r)) where
-      no_steps : r.steps ≡ []
-      no_steps = of r.row suits.element
-        where
-          of : (row : Option ℕ) → NamesElement p old_first ks r row → r.steps ≡ []
-          of None h = (element_plain p old_first ks none r h).steps
-          of (Some row) h = h
-
-      no_offsets : (P : ℕ → Type 0) → AllByRecursion P (offsets_taken r.steps)
-      no_offsets P = subst (λ (ss : _). AllByRecursion P (offsets_taken ss)) (sym no_steps) tt
+      offsets_timed : AllByRecursion Timed (offsets_taken r.steps)
+      offsets_timed = all_left Timed (offsets_taken r.steps) _ (all_right Timed r.indices _ taken)
 
       rest_timed : AllByRecursion Timed (one_or_none r.select ++ one_or_none r.row)
       rest_timed = all_right Timed (offsets_taken r.steps) _ (all_right Timed r.indices _ taken)
 
-      together : (bound : ℕ) → AllByRecursion (λ v. old_clock v ≤ bound) r.indices → AllByRecursion (λ v. old_clock v ≤ bound) (one_or_none r.select) → AllByRecursion (λ v. old_clock v ≤ bound) (one_or_none r.row)
+      together : (bound : ℕ) → AllByRecursion (λ v. old_clock v ≤ bound) r.indices → AllByRecursion (λ v. old_clock v ≤ bound) (offsets_taken r.steps)
+          → AllByRecursion (λ v. old_clock v ≤ bound) (one_or_none r.select) → AllByRecursion (λ v. old_clock v ≤ bound) (one_or_none r.row)
           → AllByRecursion (λ v. old_clock v ≤ bound) (reach_takes r)
-      together bound h k l =
-          all_join (λ v. old_clock v ≤ bound) r.indices _ h (all_join (λ v. old_clock v ≤ bound) (offsets_taken r.steps) _ (no_offsets (λ v. old_clock v ≤ bound))
+      together bound h e k l =
+          all_join (λ v. old_clock v ≤ bound) r.indices _ h (all_join (λ v. old_clock v ≤ bound) (offsets_taken r.steps) _ e
           (all_join (λ v. old_clock v ≤ bound) (one_or_none r.select) (one_or_none r.row) k l))
 
-      aims_back : (row : Option ℕ) → r.row ≡ row → (here last : List Operation) (t : Reach) → IsAimed a r row here last t → first ≤ length here → Grows last all
+      -- of indices and offsets
+      all_back : (bound : ℕ) → AllByRecursion (λ m. x.clock m ≤ bound) (all_taken a r) → AllByRecursion (λ v. old_clock v ≤ bound) (one_or_none r.select) → AllByRecursion (λ v. old_clock v ≤ bound) (one_or_none r.row)
+          → AllByRecursion (λ v. old_clock v ≤ bound) (reach_takes r)
+      all_back bound h k l =
+          let P = λ (m : ℕ). x.clock m ≤ bound in
+          together bound (back bound r.indices (all_left Timed r.indices _ taken) (all_left P (map (new_number a) r.indices) (map (new_number a) (offsets_taken r.steps)) h))
+          (back bound (offsets_taken r.steps) offsets_timed (all_right P (map (new_number a) r.indices) (map (new_number a) (offsets_taken r.steps)) h)) k l
+
+      aims_back : (row : Option ℕ) → r.row ≡ row → (is : List Operand) (here last : List Operation) (t : Reach) → IsAimed a r row is here last t → first ≤ length here → Grows last all
           → (bound : ℕ) → AllByRecursion (λ m. x.clock m ≤ bound) (reach_takes t) → AllByRecursion (λ v. old_clock v ≤ bound) (reach_takes r)
-      aims_back None e here last t h begun grows bound below =
+      aims_back None e is here last t h begun grows bound below =
           let P = λ (m : ℕ). x.clock m ≤ bound in
           let w = waited here (new_or_none a r.select) in
           let b = subst (λ (u : Reach). AllByRecursion P (reach_takes u)) h.reach below in
-          let first_part = all_left P (map (new_number a) r.indices ++ one_or_none w.sum) _ b in
-          let to_last = but_aim_grows (literal_places a.operations a.first (dims_at p.table r.memory) r.indices 0 0) _ _ _ (is_banked r) w.operations last h.row h.select h.aim in
-          together bound (back bound r.indices (all_left Timed r.indices _ taken) (all_left P (map (new_number a) r.indices) _ first_part))
-          (waited_back bound here r.select begun (grows_on w.operations last all to_last grows) (all_left Timed (one_or_none r.select) (one_or_none r.row) rest_timed) (all_right P (map (new_number a) r.indices) _ first_part))
+          let first_part = all_left P (all_taken a r ++ one_or_none w.sum) _ b in
+          let to_last = but_aim_grows (literal_places (dims_at p.table r.memory) is 0 0) _ _ _ (is_banked r) w.operations last h.row h.select h.aim in
+          all_back bound (all_left P (all_taken a r) _ first_part)
+          (waited_back bound here r.select begun (grows_on w.operations last all to_last grows) (all_left Timed (one_or_none r.select) (one_or_none r.row) rest_timed) (all_right P (all_taken a r) _ first_part))
           (subst (λ (o : Option ℕ). AllByRecursion (λ v. old_clock v ≤ bound) (one_or_none o)) (sym e) tt)
-      aims_back (Some row) e here last t h begun grows bound below =
+      aims_back (Some row) e is here last t h begun grows bound below =
           let P = λ (m : ℕ). x.clock m ≤ bound in
           let b = subst (λ (u : Reach). AllByRecursion P (reach_takes u)) h.1 below in
-          let rest = all_right P (map (new_number a) r.indices) _ b in
+          let rest = all_right P (all_taken a r) _ b in
           let row_timed = subst (λ (o : Option ℕ). AllByRecursion Timed (one_or_none o)) e (all_right Timed (one_or_none r.select) (one_or_none r.row) rest_timed) in
           let row_below = all_right P (one_or_none (new_or_none a r.select)) (new_number a row ∷ []) rest in
-          together bound (back bound r.indices (all_left Timed r.indices _ taken) (all_left P (map (new_number a) r.indices) _ b))
+          all_back bound (all_left P (all_taken a r) _ b)
           (maybe_back bound r.select (all_left Timed (one_or_none r.select) (one_or_none r.row) rest_timed) (all_left P (one_or_none (new_or_none a r.select)) (new_number a row ∷ []) rest))
           (subst (λ (o : Option ℕ). AllByRecursion (λ v. old_clock v ≤ bound) (one_or_none o)) (sym e) ((let c = row_timed.0 in let l = row_below.0 in omega (arith, c, l)), tt))
 
@@ -335,28 +342,32 @@ module _ (p : PlainPlan) (none : p.views ≡ []) (tables : IsProgramTable p.tabl
               → AllByRecursion (λ v. x.clock v ≤ needed) (reach_takes t)
           aimed_bound vs row select e h = subst (λ (u : Reach). AllByRecursion (λ v. x.clock v ≤ needed) (reach_takes u)) (sym e) h
 
-      of_guards : (last : List Operation) (on : Option ℕ) (t : Reach) (h : IsAccessMade a (new_or_none a o.guard) r old last on t) → Grows last all → PutsMaybe x needed old h.guarded kind.Bool on
+      of_guards : (last : List Operation) (on : Option ℕ) (t : Reach) (h : IsAccessMade a (new_or_none a o.guard) r old last on t) → Grows last all → PutsPassed x needed old h.passed h.ranges h.indices
           → AllByRecursion Input (reach_takes r) → IsPicksGiven x needed a r r.row → IsTimedUse last on t
-      of_guards last on t h grows guards input picks =
-          let begun = begun_later x old h.guarded guards.adds.grows at.begun in
-          let later = all_map Input (IsInputOf x needed a (length h.guarded)) (reach_takes r) (λ v k. input_later x needed a (length old) (length h.guarded) v (grown_length old h.guarded guards.adds.grows) k) input in
-          let so = of_access h.guarded last on t guards (aims_put x needed a p none refl tables r suits r.row refl picks h.guarded last t h.aims begun later) grows in
+      of_guards last on t h grows w input picks =
+          let at_passed = begun_later x old h.passed w.adds.grows at.begun in
+          let guard_in = all_map Input (IsInputOf x needed a (length h.passed)) (one_or_none o.guard) (λ v k. input_later x needed a (length old) (length h.passed) v (grown_length old h.passed w.adds.grows) k) guard_inputs in
+          let tests = guards_put x needed (new_or_none a o.guard) h.ranges h.passed h.guarded on h.guards at_passed w.ranges (maybe_value x needed a h.passed kind.Bool o.guard at.suits.guard guard_in) in
+          let adds = adds_on x needed old h.passed h.guarded w.adds tests.adds in
+          let begun = begun_later x old h.guarded adds.grows at.begun in
+          let later = all_map Input (IsInputOf x needed a (length h.guarded)) (reach_takes r) (λ v k. input_later x needed a (length old) (length h.guarded) v (grown_length old h.guarded adds.grows) k) input in
+          let so = of_access h.guarded last on t (record { adds = adds; stands = tests.stands })
+          (aims_put x needed a p refl tables r suits r.row refl picks h.indices h.guarded last t h.aims begun (passed_long a p maps refl r suits old h.passed h.ranges h.indices h.passes)
+          (all_there x needed h.passed h.guarded tests.adds.grows h.indices w.indices) later) grows
+          in
           record {
             before = so.0;
             on_by_then = so.1.0;
             takes_by_then = so.1.1;
             guard_back = λ bound below. from_guard last on o.guard guard_timed
-                (λ b c. guards_come x all both_late a (new_or_none a o.guard) (ranges_of a r) old h.guarded on b h.guards at.begun (grows_on h.guarded last all (aimed_grows a r r.row h.guarded last t h.aims) grows) c) bound below;
-            takes_back = λ bound below. aims_back r.row refl h.guarded last t h.aims begun grows bound below;
+                (λ b c. guards_come x all both_late (new_or_none a o.guard) h.ranges h.passed h.guarded on b h.guards at_passed (grows_on h.guarded last all (aimed_grows a r r.row h.indices h.guarded last t h.aims) grows) c) bound below;
+            takes_back = λ bound below. aims_back r.row refl h.indices h.guarded last t h.aims begun grows bound below;
           }
 
       use_timed : PicksBank p old_first ks r r.row r.select → AllByRecursion Input (reach_takes r) → (last : List Operation) (on : Option ℕ) (t : Reach) → IsAccessMade a (new_or_none a o.guard) r old last on t
           → Grows last all → IsTimedUse last on t
       use_timed picks input last on t h grows =
-          of_guards last on t h grows
-          (guards_put x needed a (new_or_none a o.guard) (ranges_of a r) old h.guarded on h.guards at.begun (testables x needed a p r suits old input)
-          (maybe_value x needed a old kind.Bool o.guard at.suits.guard guard_inputs))
-          input (given r.row picks)
+          of_guards last on t h grows (passed_put x needed a p maps tables refl r suits old h.passed h.ranges h.indices h.passes at.begun input) input (given r.row picks)
         where
           given : (row : Option ℕ) → PicksBank p old_first ks r row r.select → IsPicksGiven x needed a r row
           given None h = tt
@@ -427,22 +438,22 @@ module _ (p : PlainPlan) (none : p.views ≡ []) (tables : IsProgramTable p.tabl
         let most = most_of_map x.clock (one_or_none g ++ (test ∷ [])) needed (all_join P (one_or_none g) (test ∷ []) (new_guard_bound o.guard guard_inputs) ((v h).earlier.there, tt)) in
         made_between (λ m u. x.clock m ≤ needed) here (check_made here g fault (Some test)) (length here) g (Check test fault) (refl, refl) (omega (arith, c, most))
 
-    checks_by_then : (fault : ℕ) (rs : List Range) (here there : List Operation) → AreChecked a (new_or_none a o.guard) fault rs here there → Grows there all → first ≤ length here
-        → AllByRecursion (IsTestable x needed a here) rs → AllBetween (λ m u. x.clock m ≤ needed) here there
+    checks_by_then : (fault : ℕ) (rs : List Ranged) (here there : List Operation) → AreChecked (new_or_none a o.guard) fault rs here there → Grows there all → first ≤ length here
+        → AllByRecursion (IsTestable x needed here) rs → AllBetween (λ m u. x.clock m ≤ needed) here there
     checks_by_then fault [] here there h grows begun testable = nothing_between (λ m u. x.clock m ≤ needed) here there h
     checks_by_then fault (r ∷ rs) here there (middle, (test, (tested, rest))) grows begun testable =
         let P = λ (m : ℕ) (u : Operation). x.clock m ≤ needed in
         let g = new_or_none a o.guard in
-        let behind = checks_grow a g fault rs (check_made middle g fault test) there rest in
+        let behind = checks_grow g fault rs (check_made middle g fault test) there rest in
         let check = check_grows middle g fault test in
         let to_check = grows_on (check_made middle g fault test) there all behind grows in
         let to_all = grows_on middle _ all check to_check in
-        let one = tested_put x needed a r here middle test tested begun testable.0 in
+        let one = tested_put x needed r here middle test tested begun testable.0 in
         let far = grows_on here middle _ one.adds.grows check in
         let at_middle = begun_later x here middle one.adds.grows begun in
         between_on P here middle there (grows_on middle _ there check behind) (added_by needed here middle one.adds to_all begun)
         (between_on P middle (check_made middle g fault test) there behind (check_by_then fault middle test at_middle to_check (obeys_before x middle all to_all obeys) one.stands)
-        (checks_by_then fault rs (check_made middle g fault test) there rest grows (begun_later x here _ far begun) (testable_later x needed a here _ far rs testable.1)))
+        (checks_by_then fault rs (check_made middle g fault test) there rest grows (begun_later x here _ far begun) (testable_later x needed here _ far rs testable.1)))
 
     -- what a probe gives, where it is taken
     module _ (r : Reach) (suits : ReachSuits p old_first ks r) (timed : AllByRecursion Timed (reach_takes r)) (input : AllByRecursion Input (reach_takes r)) (fault : ℕ) (e : o.form ≡ Probe r fault)
@@ -455,8 +466,10 @@ module _ (p : PlainPlan) (none : p.views ≡ []) (tables : IsProgramTable p.tabl
           let I = λ (v : ℕ). IsInput x needed here v in
           let later = all_map Input (IsInputOf x needed a (length here)) (reach_takes r) (λ v k. input_later x needed a (length old) (length here) v (grown_length old here g) k) input in
           let J = IsInputOf x needed a (length here) in
-          let rest = all_right J (offsets_taken r.steps) _ (all_right J r.indices _ later) in
-          all_join I (map (new_number a) r.indices) _ (mapped r.indices (all_left J r.indices _ later))
+          let behind = all_right J r.indices _ later in
+          let rest = all_right J (offsets_taken r.steps) _ behind in
+          all_join I (all_taken a r) _
+          (all_join I (map (new_number a) r.indices) (map (new_number a) (offsets_taken r.steps)) (mapped r.indices (all_left J r.indices _ later)) (mapped (offsets_taken r.steps) (all_left J (offsets_taken r.steps) _ behind)))
           (all_join I (one_or_none (new_or_none a r.select)) _ (maybe r.select (all_left J (one_or_none r.select) (one_or_none r.row) rest))
           (maybe r.row (all_right J (one_or_none r.select) (one_or_none r.row) rest)))
         where
@@ -471,9 +484,9 @@ module _ (p : PlainPlan) (none : p.views ≡ []) (tables : IsProgramTable p.tabl
       chain_back : (bound : ℕ) → AllByRecursion (λ m. x.clock m ≤ bound) (new_takes a r) → AllByRecursion (λ v. old_clock v ≤ bound) (reach_takes r)
       chain_back bound h =
           let P = λ (m : ℕ). x.clock m ≤ bound in
-          let rest = all_right P (map (new_number a) r.indices) _ h in
+          let rest = all_right P (all_taken a r) _ h in
           let t = rest_timed r suits timed in
-          together r suits timed bound (back bound r.indices (all_left Timed r.indices _ timed) (all_left P (map (new_number a) r.indices) _ h))
+          all_back r suits timed bound (all_left P (all_taken a r) _ h)
           (maybe_back bound r.select (all_left Timed (one_or_none r.select) (one_or_none r.row) t) (all_left P (one_or_none (new_or_none a r.select)) _ rest))
           (maybe_back bound r.row (all_right Timed (one_or_none r.select) (one_or_none r.row) t) (all_right P (one_or_none (new_or_none a r.select)) _ rest))
 
@@ -520,11 +533,14 @@ module _ (p : PlainPlan) (none : p.views ≡ []) (tables : IsProgramTable p.tabl
     probe_in_time : (r : Reach) (fault : ℕ) → o.form ≡ Probe r fault → IsProbed a (new_or_none a o.guard) r fault old mid n → IsInTime ((a.probed ≡ true) ⊎ (true ≡ false))
     probe_in_time r fault e h =
         let suits = suits_of (Probe r fault) e in
-        let checked = checked_grows a (new_or_none a o.guard) fault (ranges_of a r) old h.checked h.checks in
+        let checks = checked_grows (new_or_none a o.guard) fault h.ranges h.passed h.checked h.checks in
+        let checked = probed_grows a (new_or_none a o.guard) r fault old mid n h in
         let to_all = grows_on h.checked mid all (value_grows a.probed a (new_or_none a o.guard) r h.checked mid n h.value) at.grows in
         let input = form_inputs (Probe r fault) e in
+        let w = passed_put x needed a p maps tables refl r suits.0 old h.passed h.ranges h.indices h.passes at.begun input in
         value_in_time r suits.0 (form_timed (Probe r fault) e) input fault e h.checked checked
-        (checks_by_then fault (ranges_of a r) old h.checked h.checks to_all at.begun (testables x needed a p r suits.0 old input)) a.probed h.value
+        (between_on (λ m u. x.clock m ≤ needed) old h.passed h.checked checks (added_by needed old h.passed w.adds (grows_on h.passed h.checked all checks to_all) at.begun)
+        (checks_by_then fault h.ranges h.passed h.checked h.checks to_all (begun_later x old h.passed w.adds.grows at.begun) w.ranges)) a.probed h.value
 
     form_in_time : (f : OperationForm) → o.form ≡ f → IsFormMade a (new_or_none a o.guard) f old mid n → IsInTime ((a.probed ≡ true) ⊎ (is_probe_form f ≡ false))
     form_in_time (Constant word) e h = same_in_time _ (Constant word) (Constant word) e h refl (λ c. refl)
@@ -548,5 +564,5 @@ module _ (p : PlainPlan) (none : p.views ≡ []) (tables : IsProgramTable p.tabl
         place : (f i : ℕ) → f + i - f ≡ i
         place f i = omega arith
 
-  pub clocks_step : IsGoodStep p none tables bs block front begins formed SameClock
+  pub clocks_step : IsGoodStep p maps tables bs block front begins formed SameClock
   clocks_step ns ks i o old mid n at takes m = (in_time ns ks i o old mid n at takes).own (own_meaning ns ks i o old mid n at takes m)

@@ -6,9 +6,9 @@ use Rattle.std.specs.Option.{is_some}
 use Rattle.std.proofs.lemmas.List.{append_assoc, append_cancel_left}
 use Rattle.dh_value.specs.declared.kinds.Kind.{Kind}
 use Rattle.dh_value.specs.declared.words.Word.{Word}
-use Rattle.dh_value.specs.Words.{IsInteger, value_of}
+use Rattle.dh_value.specs.Words.{value_of}
 use Rattle.dh_value.specs.Operations.{is_true}
-use Rattle.dh_tree.specs.Elements.{Spot, dims_at}
+use Rattle.dh_tree.specs.Elements.{Spot}
 use Rattle.dh_tree.specs.Shapes.{IsProgramTable}
 use Rattle.dh_plan.specs.declared.operations.Operation.{Operation}
 use Rattle.dh_plan.specs.declared.operations.OperationForm.{OperationForm}
@@ -17,20 +17,22 @@ use Rattle.dh_plan.specs.declared.operations.PlanBlock.{PlanBlock}
 use Rattle.dh_plan.specs.declared.operations.Reach.{Reach}
 use Rattle.dh_plan.specs.Blocks.{StepStart, word_at, is_on, spot_of_reach, BlockEvent, fails_unless, fails_outside, puts_inside, form_events, operation_events, block_events, RegisterSet, form_sets, operation_sets, block_sets, first_fault, Put, puts_of}
 use Rattle.dh_plan.specs.BlockLaws.{fault_or}
-use Rattle.dh_plan.specs.Ordered.{one_or_none, offsets_taken, form_takes, operation_takes, IsBetween}
+use Rattle.dh_plan.specs.Ordered.{one_or_none, form_takes, operation_takes, IsBetween}
 use Rattle.dh_plan.specs.PlainPlans.{PlainPlan, first_in, operations_in}
-use Rattle.dh_plan.specs.PlanKinds.{kind_of_value, form_kind, FormSuits, IsFormedBlock}
+use Rattle.dh_plan.specs.PlanKinds.{form_kind, FormSuits, IsFormedBlock}
 use Rattle.dh_plan.specs.PlanRuns.{start_at, block_values}
 use Rattle.dh_plan.specs.SoundPlans.{use_in}
 use Rattle.dh_plan.specs.SoundRuns.{AreInKinds}
 use Rattle.dh_plan.proofs.Appends.{events_behind, sets_behind, fault_behind, puts_behind}
-use Rattle.dh_plan.proofs.ValuesAlike.{all_left, all_right, all_map}
+use Rattle.dh_plan.proofs.ValuesAlike.{all_right}
 use Rattle.dh_rows.specs.Readings.{Readings, Grows}
 use Rattle.dh_rows.specs.RowsShown.{HoldsOrNone, is_below_size}
 use Rattle.dh_rows.specs.MadeOperations.{pushed, IsMade}
 use Rattle.dh_rows.proofs.Growing.{grows_on, obeys_before}
-use Rattle.dh_address.specs.LiteralPlaces.{literal_within}
-use Rattle.dh_address.specs.Pieces.{Around, Range, new_number, new_or_none, ranges_of, check_made, AreChecked, IsProbed, IsReadMade, IsWriteMade, IsFormMade}
+use Rattle.dh_address.proofs.WaySizes.{HasMaps}
+use Rattle.dh_address.specs.declared.operands.Ranged.{Ranged}
+use Rattle.dh_address.specs.LiteralPlaces.{below_size}
+use Rattle.dh_address.specs.Pieces.{Around, new_number, new_or_none, check_made, AreChecked, IsProbed, IsReadMade, IsWriteMade, IsFormMade}
 use Rattle.dh_address.specs.Renumbered.{renumbered}
 use Rattle.dh_address.proofs.AccessesLead.{holds_on}
 use Rattle.dh_address.proofs.AccessesPut.{IsInputOf}
@@ -38,11 +40,11 @@ use Rattle.dh_address.proofs.GoodPieces.{obeys_all, AreGoodPieces}
 use Rattle.dh_address.proofs.ImageReadings.{block_readings, timeless, FormedBelow}
 use Rattle.dh_address.proofs.KnownPieces.{IsPieceAt}
 use Rattle.dh_address.proofs.PieceForms.{image_of, around}
-use Rattle.dh_address.proofs.PieceShapes.{GrowsQuietly, quietly_same, events_quiet, sets_quiet, access_quietly, test_quietly, testables_at, value_quietly, inputs_at}
-use Rattle.dh_address.proofs.PiecesGrow.{access_grows, checked_grows, value_grows}
+use Rattle.dh_address.proofs.PieceShapes.{GrowsQuietly, quietly_same, events_quiet, sets_quiet, adds_quietly, access_quietly, test_quietly, passed_at, value_quietly, inputs_at}
+use Rattle.dh_address.proofs.PiecesGrow.{access_grows, checked_grows, probed_grows, value_grows}
 use Rattle.dh_address.proofs.TestedRanges.{IsTestable, IsShown, all_in, tested_holds, test_grows, check_grows, checks_grow, begun_later, testable_later}
-use Rattle.dh_address.proofs.WordsAlike.{IsSame, IsSameInKind, all_in_reach, shown_in, plain_of}
-use Rattle.dh_address.proofs.WordsPass.{ReachesListed, SameWord, guard_same, guard_good, form_good, form_begun, means, put_grows, numbers_good}
+use Rattle.dh_address.proofs.WordsAlike.{IsSameInKind, passed_shows}
+use Rattle.dh_address.proofs.WordsPass.{ReachesListed, SameWord, guard_same, guard_good, form_good, form_begun, meant, means, put_grows}
 
 -- The fault of a check under a guard.
 abbrev pub missing : (on ok : Bool) → (fault : ℕ) → Option ℕ
@@ -168,7 +170,7 @@ so_as : (s : StepStart) (first : ℕ) (ws : List Word) (old new : List Operation
 so_as s first ws old new f g v w k l h e d c =
     subst (λ (x : Option ℕ). GrowsSo s first ws old new x w l) e (subst (λ (y : List Put). GrowsSo s first ws old new f y l) d (subst (λ (z : List RegisterSet). GrowsSo s first ws old new f v z) c h))
 
-module _ (p : PlainPlan) (none : p.views ≡ []) (tables : IsProgramTable p.table) (bs : List PlanBlock) (block : ℕ) (front : List Operation) (begins : length front ≡ first_in (image_of p bs) block)
+module _ (p : PlainPlan) (maps : HasMaps p) (tables : IsProgramTable p.table) (bs : List PlanBlock) (block : ℕ) (front : List Operation) (begins : length front ≡ first_in (image_of p bs) block)
     (formed : IsFormedBlock p block) (all_formed : FormedBelow (image_of p bs) block front begins (length (front ++ operations_in (image_of p bs) block)))
     (registers : List ℕ) (memories : List (List ℕ)) where
   abbrev q : PlainPlan
@@ -210,31 +212,31 @@ module _ (p : PlainPlan) (none : p.views ≡ []) (tables : IsProgramTable p.tabl
   DoesAsOne old new o =
       GrowsSo t first vs old new (first_fault (operation_events s old_first ws o)) (puts_of (operation_events s old_first ws o)) (operation_sets old_first ws o)
 
-  module _ (fits : AreInKinds p block ws) (listed : ReachesListed p none tables bs block front begins formed all_formed registers memories) where
-    module _ (ns : List ℕ) (ks : List Kind) (i : ℕ) (o : Operation) (old mid : List Operation) (n : ℕ) (at : IsPieceAt p none tables bs block front begins formed ns ks i o old mid n)
-        (takes : AllByRecursion (λ v. SameWord p none tables bs block front begins formed all_formed registers memories v (renumbered old_first ns v)) (operation_takes o)) where
+  module _ (fits : AreInKinds p block ws) (listed : ReachesListed p maps tables bs block front begins formed all_formed registers memories) where
+    module _ (ns : List ℕ) (ks : List Kind) (i : ℕ) (o : Operation) (old mid : List Operation) (n : ℕ) (at : IsPieceAt p maps tables bs block front begins formed ns ks i o old mid n)
+        (takes : AllByRecursion (λ v. SameWord p maps tables bs block front begins formed all_formed registers memories v (renumbered old_first ns v)) (operation_takes o)) where
       abbrev a : Around
       a = around p block ns ks
 
       abbrev Good : ℕ → Type 0
-      Good v = IsSameInKind p none tables bs block ns ks registers memories v
+      Good v = IsSameInKind p maps tables bs block ns ks registers memories v
 
       abbrev Begun : ℕ → Type 0
       Begun v = IsBetween old_first (old_first + i) v
 
       on_same : is_on first vs (new_or_none a o.guard) ≡ is_on old_first ws o.guard
-      on_same = guard_same p none tables bs block front begins formed all_formed registers memories fits listed ns ks i o old mid n at takes o.guard
-          (guard_good p none tables bs block front begins formed all_formed registers memories fits listed ns ks i o old mid n at takes)
+      on_same = guard_same p maps tables bs block front begins formed all_formed registers memories fits listed ns ks i o old mid n at takes o.guard
+          (guard_good p maps tables bs block front begins formed all_formed registers memories fits listed ns ks i o old mid n at takes)
 
       forms_good : AllByRecursion Good (form_takes o.form)
-      forms_good = form_good p none tables bs block front begins formed all_formed registers memories fits listed ns ks i o old mid n at takes
+      forms_good = form_good p maps tables bs block front begins formed all_formed registers memories fits listed ns ks i o old mid n at takes
 
       forms_begun : AllByRecursion Begun (form_takes o.form)
-      forms_begun = form_begun p none tables bs block front begins formed all_formed registers memories fits listed ns ks i o old mid n at takes
+      forms_begun = form_begun p maps tables bs block front begins formed all_formed registers memories fits listed ns ks i o old mid n at takes
 
       forms_input : AllByRecursion (IsInputOf y 0 a (length old)) (form_takes o.form)
       forms_input = all_right (IsInputOf y 0 a (length old)) (one_or_none o.guard) (form_takes o.form)
-          (inputs_at p none tables bs block front begins formed all_formed ns ks i o old mid n at)
+          (inputs_at p maps tables bs block front begins formed all_formed ns ks i o old mid n at)
 
       -- the same operation at new numbers
       same_so : (f f' : OperationForm) → o.form ≡ f → IsMade mid n (pushed old (new_or_none a o.guard) f') → form_events t first vs f' ≡ form_events s old_first ws f → form_sets first vs f' ≡ form_sets old_first ws f
@@ -256,9 +258,9 @@ module _ (p : PlainPlan) (none : p.views ≡ []) (tables : IsProgramTable p.tabl
       read_so r e h =
           let suits = subst (λ (f : OperationForm). FormSuits p old_first ks f) e at.suits.form in
           let input = subst (λ (f : OperationForm). AllByRecursion (IsInputOf y 0 a (length old)) (form_takes f)) e forms_input in
-          let quiet = access_quietly p none tables bs block front begins formed all_formed ns ks i o old mid n at r suits.0 suits.1 input h.last h.on h.reach h.access
+          let quiet = access_quietly p maps tables bs block front begins formed all_formed ns ks i o old mid n at r suits.0 suits.1 input h.last h.on h.reach h.access
           (access_grows a (new_or_none a o.guard) r old h.last h.on h.reach h.access)
-          (put_grows p none tables bs block front begins formed all_formed registers memories fits listed ns ks i o old mid n at takes h.last h.on (Read h.reach) h.read)
+          (put_grows p maps tables bs block front begins formed all_formed registers memories fits listed ns ks i o old mid n at takes h.last h.on (Read h.reach) h.read)
           in
           let own = made_so t first vs h.last mid n h.on (Read h.reach) h.read in
           let nothing = no_choice (is_on first vs h.on) [] refl in
@@ -274,9 +276,9 @@ module _ (p : PlainPlan) (none : p.views ≡ []) (tables : IsProgramTable p.tabl
           let input = subst (λ (f : OperationForm). AllByRecursion (IsInputOf y 0 a (length old)) (form_takes f)) e forms_input in
           let good = subst (λ (f : OperationForm). AllByRecursion Good (form_takes f)) e forms_good in
           let begun = subst (λ (f : OperationForm). AllByRecursion Begun (form_takes f)) e forms_begun in
-          let grows = put_grows p none tables bs block front begins formed all_formed registers memories fits listed ns ks i o old mid n at takes h.last h.on (Write h.reach (new_number a value)) h.write in
-          let m = means p none tables bs block front begins formed all_formed registers memories fits listed ns ks i o old mid n at takes r suits.0 good.1 begun.1 h.last h.on h.reach h.access grows in
-          let quiet = access_quietly p none tables bs block front begins formed all_formed ns ks i o old mid n at r suits.0 suits.1.0 input.1 h.last h.on h.reach h.access
+          let grows = put_grows p maps tables bs block front begins formed all_formed registers memories fits listed ns ks i o old mid n at takes h.last h.on (Write h.reach (new_number a value)) h.write in
+          let m = means p maps tables bs block front begins formed all_formed registers memories fits listed ns ks i o old mid n at takes r suits.0 good.1 begun.1 h.last h.on h.reach h.access grows in
+          let quiet = access_quietly p maps tables bs block front begins formed all_formed ns ks i o old mid n at r suits.0 suits.1.0 input.1 h.last h.on h.reach h.access
           (access_grows a (new_or_none a o.guard) r old h.last h.on h.reach h.access) grows
           in
           let own = made_so t first vs h.last mid n h.on (Write h.reach (new_number a value)) h.write in
@@ -307,29 +309,29 @@ module _ (p : PlainPlan) (none : p.views ≡ []) (tables : IsProgramTable p.tabl
           so_as t first vs here _ _ _ _ _ _ _ (made_so t first vs here (pushed here g (Check test fault)).operations (length here) g (Check test fault) (refl, refl))
           (ap first_fault same ∙ check_fault (is_on first vs g) c fault) (ap puts_of same ∙ check_puts (is_on first vs g) c fault) (no_set_chosen (is_on first vs g) [] refl)
 
-      checks_so : (fault : ℕ) (rs : List Range) (here there : List Operation) → AreChecked a (new_or_none a o.guard) fault rs here there → Grows there all → first ≤ length here
-          → AllByRecursion (IsTestable y 0 a here) rs → AllByRecursion (IsShown x a) rs
-          → GrowsSo t first vs here there (missing (is_on first vs (new_or_none a o.guard)) (all_in x a rs) fault) [] []
+      checks_so : (fault : ℕ) (rs : List Ranged) (here there : List Operation) → AreChecked (new_or_none a o.guard) fault rs here there → Grows there all → first ≤ length here
+          → AllByRecursion (IsTestable y 0 here) rs → AllByRecursion (IsShown x) rs
+          → GrowsSo t first vs here there (missing (is_on first vs (new_or_none a o.guard)) (all_in x rs) fault) [] []
       checks_so fault [] here there h grows begun testable shown =
           so_as t first vs here there None _ [] [] [] [] (grows_quiet t first vs here there (quietly_same here there h)) (missing_none (is_on first vs (new_or_none a o.guard)) fault) refl refl
       checks_so fault (r ∷ rs) here there (middle, (test, (tested, rest))) grows begun testable shown =
           let g = new_or_none a o.guard in
           let b = is_on first vs g in
-          let behind = checks_grow a g fault rs (check_made middle g fault test) there rest in
+          let behind = checks_grow g fault rs (check_made middle g fault test) there rest in
           let check = check_grows middle g fault test in
           let to_check = grows_on (check_made middle g fault test) there all behind grows in
           let to_all = grows_on middle _ all check to_check in
-          let quiet = test_quietly p none tables bs block front begins formed all_formed ns ks i o old mid n at r here middle test tested begun testable.0 to_all in
-          let grown = test_grows (literal_within a.operations a.first r.value r.size) here middle _ _ _ test tested in
+          let quiet = test_quietly p maps tables bs block front begins formed all_formed ns ks i o old mid n at r here middle test tested begun testable.0 to_all in
+          let grown = test_grows (below_size r.operand.literal r.size) here middle _ _ _ test tested in
           let far = grows_on here middle _ grown check in
-          let obeys = obeys_before x middle all to_all (obeys_all p none tables bs block front begins formed t all_formed) in
-          let holds = tested_holds x a r here middle test tested begun obeys shown.0 in
-          let c = is_below_size (value_of (x.word (new_number a r.value))) r.size in
-          let more = checks_so fault rs (check_made middle g fault test) there rest grows (begun_later x here _ far begun) (testable_later y 0 a here _ far rs testable.1) shown.1 in
+          let obeys = obeys_before x middle all to_all (obeys_all p maps tables bs block front begins formed t all_formed) in
+          let holds = tested_holds x r here middle test tested begun obeys shown.0 in
+          let c = is_below_size (value_of (x.word r.operand.value)) r.size in
+          let more = checks_so fault rs (check_made middle g fault test) there rest grows (begun_later x here _ far begun) (testable_later y 0 here _ far rs testable.1) shown.1 in
           so_as t first vs here there _ _ [] [] [] []
           (grows_both t first vs here middle there None _ [] [] [] [] (grows_quiet t first vs here middle quiet)
-          (grows_both t first vs middle (check_made middle g fault test) there (missing b c fault) (missing b (all_in x a rs) fault) [] [] [] [] (check_so g fault middle test c holds) more))
-          (missing_both b c (all_in x a rs) fault) refl refl
+          (grows_both t first vs middle (check_made middle g fault test) there (missing b c fault) (missing b (all_in x rs) fault) [] [] [] [] (check_so g fault middle test c holds) more))
+          (missing_both b c (all_in x rs) fault) refl refl
 
       probe_so : (r : Reach) (fault : ℕ) → o.form ≡ Probe r fault → IsProbed a (new_or_none a o.guard) r fault old mid n → DoesAsOne old mid o
       probe_so r fault e h =
@@ -337,26 +339,25 @@ module _ (p : PlainPlan) (none : p.views ≡ []) (tables : IsProgramTable p.tabl
           let input = subst (λ (f : OperationForm). AllByRecursion (IsInputOf y 0 a (length old)) (form_takes f)) e forms_input in
           let good = subst (λ (f : OperationForm). AllByRecursion Good (form_takes f)) e forms_good in
           let begun = subst (λ (f : OperationForm). AllByRecursion Begun (form_takes f)) e forms_begun in
-          let rest = all_right Good (offsets_taken r.steps) _ (all_right Good r.indices _ good) in
-          let brest = all_right Begun (offsets_taken r.steps) _ (all_right Begun r.indices _ begun) in
-          let number = numbers_good p none tables bs block front begins formed all_formed registers memories fits listed ns ks i o old mid n at takes in
-          let indices = number r.indices (all_left (λ v. IsInteger (kind_of_value old_first ks v)) r.indices (offsets_taken r.steps) suits.0.indices) (all_left Good r.indices _ good) (all_left Begun r.indices _ begun) in
-          let row = number (one_or_none r.row) suits.0.row (all_right Good (one_or_none r.select) (one_or_none r.row) rest) (all_right Begun (one_or_none r.select) (one_or_none r.row) brest) in
-          let select = all_map Good (IsSame p none tables bs block ns ks registers memories) (one_or_none r.select) (λ v g. g.same) (all_left Good (one_or_none r.select) (one_or_none r.row) rest) in
-          let checked = checked_grows a (new_or_none a o.guard) fault (ranges_of a r) old h.checked h.checks in
+          let m = meant p maps tables bs block front begins formed all_formed registers memories fits listed ns ks i o old mid n at takes r suits.0 good begun in
+          let w = passed_at p maps tables bs block front begins formed all_formed ns ks i o old mid n at r suits.0 input h.passed h.ranges h.indices h.passes in
+          let checks_grown = checked_grows (new_or_none a o.guard) fault h.ranges h.passed h.checked h.checks in
+          let checked = probed_grows a (new_or_none a o.guard) r fault old mid n h in
           let to_all = grows_on h.checked mid all (value_grows a.probed a (new_or_none a o.guard) r h.checked mid n h.value) at.grows in
+          let passed_all = grows_on h.passed h.checked all checks_grown to_all in
           let spot = spot_of_reach s old_first ws r in
-          let inside = all_in_reach p none tables bs block ns ks registers memories r.row r refl (plain_of p none tables bs block ns ks registers memories r suits.0 indices row select r.row refl) indices row in
-          let checks = checks_so fault (ranges_of a r) old h.checked h.checks to_all at.begun
-          (testables_at p none tables bs block front begins formed all_formed ns ks i o old mid n at r suits.0 input)
-          (shown_in p none tables bs block ns ks registers memories (dims_at p.table r.memory) r.row r.indices indices row)
-          in
-          let quiet = value_quietly p none tables bs block front begins formed all_formed ns ks i o old mid n at a.probed r h.checked h.value (begun_later x old h.checked checked at.begun) checked input in
+          let led = passed_shows p maps tables bs block ns ks registers memories r m old at.begun h.passed h.ranges h.indices h.passes
+          (obeys_before x h.passed all passed_all (obeys_all p maps tables bs block front begins formed t all_formed)) in
+          let inside : all_in x h.ranges ≡ is_some spot = led.in_range in
+          let quiet_way = grows_quiet t first vs old h.passed (adds_quietly p maps tables bs block front begins formed all_formed old h.passed w.adds passed_all) in
+          let checks = checks_so fault h.ranges h.passed h.checked h.checks to_all (begun_later x old h.passed w.adds.grows at.begun) w.ranges led.shown in
+          let quiet = value_quietly p maps tables bs block front begins formed all_formed ns ks i o old mid n at a.probed r h.checked h.value (begun_later x old h.checked checked at.begun) checked input in
           let old_events = ap (λ (f : OperationForm). if is_on old_first ws o.guard then form_events s old_first ws f else []) e in
           so_as t first vs old mid _ _ [] _ [] _
-          (grows_both t first vs old h.checked mid (missing (is_on first vs (new_or_none a o.guard)) (all_in x a (ranges_of a r)) fault) None [] [] [] [] checks (grows_quiet t first vs h.checked mid quiet))
-          (fault_alone (missing (is_on first vs (new_or_none a o.guard)) (all_in x a (ranges_of a r)) fault)
-          ∙ (ap (λ (b : Bool). missing b (all_in x a (ranges_of a r)) fault) on_same
+          (grows_both t first vs old h.checked mid (missing (is_on first vs (new_or_none a o.guard)) (all_in x h.ranges) fault) None [] [] [] []
+          (grows_both t first vs old h.passed h.checked None (missing (is_on first vs (new_or_none a o.guard)) (all_in x h.ranges) fault) [] [] [] [] quiet_way checks) (grows_quiet t first vs h.checked mid quiet))
+          (fault_alone (missing (is_on first vs (new_or_none a o.guard)) (all_in x h.ranges) fault)
+          ∙ (ap (λ (b : Bool). missing b (all_in x h.ranges) fault) on_same
           ∙ (ap (λ (c : Bool). missing (is_on old_first ws o.guard) c fault) inside ∙ sym (ap first_fault old_events ∙ probe_fault (is_on old_first ws o.guard) spot fault))))
           (sym (ap puts_of old_events ∙ probe_puts (is_on old_first ws o.guard) spot fault))
           (sym (ap (λ (f : OperationForm). if is_on old_first ws o.guard then form_sets old_first ws f else []) e ∙ no_set_chosen (is_on old_first ws o.guard) [] refl))
@@ -382,9 +383,9 @@ module _ (p : PlainPlan) (none : p.views ≡ []) (tables : IsProgramTable p.tabl
     -- All operations of the block.
 
     abbrev Words : ℕ → ℕ → Type 0
-    Words v m = SameWord p none tables bs block front begins formed all_formed registers memories v m
+    Words v m = SameWord p maps tables bs block front begins formed all_formed registers memories v m
 
-    pub pieces_so : (rest : List Operation) (ns : List ℕ) (ks : List Kind) (i : ℕ) (old : List Operation) → AreGoodPieces p none tables bs block front begins formed Words ns ks i rest old → DoesAs old all rest
+    pub pieces_so : (rest : List Operation) (ns : List ℕ) (ks : List Kind) (i : ℕ) (old : List Operation) → AreGoodPieces p maps tables bs block front begins formed Words ns ks i rest old → DoesAs old all rest
     pieces_so [] ns ks i old h = grows_quiet t first vs old all (quietly_same old all h)
     pieces_so (o ∷ rest) ns ks i old h =
         let one = piece_so ns ks i o old h.mid h.number h.piece.at h.piece.takes in
@@ -396,7 +397,7 @@ module _ (p : PlainPlan) (none : p.views ≡ []) (tables : IsProgramTable p.tabl
         (sym (fault_behind here others)) (sym (puts_behind here others)) refl
 
     -- the block does what it did
-    pub block_so : AreGoodPieces p none tables bs block front begins formed Words [] [] 0 (operations_in p block) front
+    pub block_so : AreGoodPieces p maps tables bs block front begins formed Words [] [] 0 (operations_in p block) front
         → DoesSo t first vs (operations_in q block) (first_fault (block_events s old_first ws (operations_in p block))) (puts_of (block_events s old_first ws (operations_in p block)))
         (block_sets old_first ws (operations_in p block))
     block_so h =

@@ -1,6 +1,6 @@
 -- The plan that is made of a sound one is sound: formed as it must be, and each step keeps the banks.
 use Rattle.std.proofs.Common.{◌≡◌, ℕ, ◌+◌, ◌⊎◌, inl, inr, Some, None, List, true, length, refl, sym, ap, subst, ◌∙◌, arith}
-use Rattle.std.specs.Prelude.{[], slice_get}
+use Rattle.std.specs.Prelude.{slice_get}
 use Rattle.dh_tree.specs.Meets.{In, Apart, Before}
 use Rattle.dh_plan.specs.declared.operations.Operation.{Operation}
 use Rattle.dh_plan.specs.declared.operations.OperationForm.{OperationForm}
@@ -12,6 +12,7 @@ use Rattle.dh_plan.specs.PlainPlans.{Node, block_node, turns_node, loop_node, ch
 use Rattle.dh_plan.specs.PlanKinds.{Names, IsFormedBlock}
 use Rattle.dh_plan.specs.SoundPlans.{access_in, HasAccess, countings, blocks_of, list_blocks, GoSideBySide, ThreadsMeet, NodeThreadsMeet, ListsMeet, IsNeverSet, KeepsCounter, IsFormed, IsSound}
 use Rattle.dh_plan.proofs.ValuesAlike.{all_map}
+use Rattle.dh_address.proofs.WaySizes.{HasMaps}
 use Rattle.dh_address.specs.Images.{IsImage}
 use Rattle.dh_address.proofs.BlockImages.{front, begins, block_known}
 use Rattle.dh_address.proofs.ImageReadings.{behind_front, FormedAt}
@@ -100,7 +101,7 @@ module _ (p q : PlainPlan) (side : (first second : List ℕ) → GoSideBySide p 
 
 -- The plan.
 
-module _ (p : PlainPlan) (none : p.views ≡ []) (sound : IsSound p) (bs : List PlanBlock) (h : IsImage p (image_of p bs)) where
+module _ (p : PlainPlan) (maps : HasMaps p) (sound : IsSound p) (bs : List PlanBlock) (h : IsImage p (image_of p bs)) where
   abbrev q : PlainPlan
   q = image_of p bs
 
@@ -108,13 +109,13 @@ module _ (p : PlainPlan) (none : p.views ≡ []) (sound : IsSound p) (bs : List 
   block_formed block =
       record { ordered = record { each = λ i o e. (at i o e).0 }; suits = λ i o e. (at i o e).1 }
     where
-      at : (i : ℕ) (o : Operation) → slice_get (operations_in q block) i ≡ Some o → FormedAt q block (front p none sound.formed bs block) (begins p none sound.formed bs block) (first_in q block + i) o
+      at : (i : ℕ) (o : Operation) → slice_get (operations_in q block) i ≡ Some o → FormedAt q block (front p maps sound.formed bs block) (begins p maps sound.formed bs block) (first_in q block + i) o
       at i o e =
-          let there = behind_front (front p none sound.formed bs block) (operations_in q block) i ∙ e in
-          let k = block_known p none sound.formed bs block (h.blocks block) in
-          let b = begins p none sound.formed bs block in
-          subst (λ (n : ℕ). FormedAt q block (front p none sound.formed bs block) (begins p none sound.formed bs block) (n + i) o) b
-          (k.known.all_formed (length (front p none sound.formed bs block) + i) o (omega (arith, b)) (place_of _ _ o there) there)
+          let there = behind_front (front p maps sound.formed bs block) (operations_in q block) i ∙ e in
+          let k = block_known p maps sound.formed bs block (h.blocks block) in
+          let b = begins p maps sound.formed bs block in
+          subst (λ (n : ℕ). FormedAt q block (front p maps sound.formed bs block) (begins p maps sound.formed bs block) (n + i) o) b
+          (k.known.all_formed (length (front p maps sound.formed bs block) + i) o (omega (arith, b)) (place_of _ _ o there) there)
 
   side_kept : (first second : List ℕ) → GoSideBySide p first second → GoSideBySide q first second
   side_kept first second g b c i j r t one other x y =
@@ -149,4 +150,4 @@ module _ (p : PlainPlan) (none : p.views ≡ []) (sound : IsSound p) (bs : List 
   }
 
   pub image_sound : IsSound q
-  image_sound = record { formed = image_formed; steps = steps_keep_banks p none sound bs h.blocks }
+  image_sound = record { formed = image_formed; steps = steps_keep_banks p maps sound bs h.blocks }

@@ -14,13 +14,14 @@ use Rattle.dh_plan.specs.Ordered.{operation_takes, IsBetween}
 use Rattle.dh_plan.specs.PlainPlans.{PlainPlan, first_in, operations_in}
 use Rattle.dh_plan.specs.PlanKinds.{form_kind, IsFormedBlock}
 use Rattle.dh_rows.specs.Readings.{Obeys}
+use Rattle.dh_address.proofs.WaySizes.{HasMaps}
 use Rattle.dh_address.specs.Renumbered.{renumbered}
 use Rattle.dh_address.proofs.ImageReadings.{block_readings, obeys_below, FormedBelow}
 use Rattle.dh_address.proofs.KnownPieces.{HasMeaning, number_kept, IsPieceAt, AreKnownPieces}
 use Rattle.dh_address.proofs.PieceForms.{image_of}
 use Rattle.dh_address.proofs.SuitsKnown.{all_two}
 
-module _ (p : PlainPlan) (none : p.views ≡ []) (tables : IsProgramTable p.table) (bs : List PlanBlock) (block : ℕ) (front : List Operation) (begins : length front ≡ first_in (image_of p bs) block)
+module _ (p : PlainPlan) (maps : HasMaps p) (tables : IsProgramTable p.table) (bs : List PlanBlock) (block : ℕ) (front : List Operation) (begins : length front ≡ first_in (image_of p bs) block)
     (formed : IsFormedBlock p block) where
   abbrev q : PlainPlan
   q = image_of p bs
@@ -54,7 +55,7 @@ module _ (p : PlainPlan) (none : p.views ≡ []) (tables : IsProgramTable p.tabl
   module _ (Good : ℕ → ℕ → Type 0) where
     -- it holds of all that this operation takes, and of itself
     pub record IsGoodPiece (ns : List ℕ) (ks : List Kind) (i : ℕ) (o : Operation) (old mid : List Operation) (n : ℕ) : Type 0 where
-      pub at : IsPieceAt p none tables bs block front begins formed ns ks i o old mid n
+      pub at : IsPieceAt p maps tables bs block front begins formed ns ks i o old mid n
       pub takes : AllByRecursion (λ v. Good v (renumbered old_first ns v)) (operation_takes o)
       pub own : HasMeaning os old_first (old_first + i) → Good (old_first + i) n
 
@@ -72,13 +73,13 @@ module _ (p : PlainPlan) (none : p.views ≡ []) (tables : IsProgramTable p.tabl
     -- of one operation it follows from what it takes
     abbrev pub IsGoodStep : Type 0
     IsGoodStep =
-        (ns : List ℕ) (ks : List Kind) (i : ℕ) (o : Operation) (old mid : List Operation) (n : ℕ) → IsPieceAt p none tables bs block front begins formed ns ks i o old mid n
+        (ns : List ℕ) (ks : List Kind) (i : ℕ) (o : Operation) (old mid : List Operation) (n : ℕ) → IsPieceAt p maps tables bs block front begins formed ns ks i o old mid n
         → AllByRecursion (λ v. Good v (renumbered old_first ns v)) (operation_takes o) → HasMeaning os old_first (old_first + i) → Good (old_first + i) n
 
     abbrev IsGoodBefore : (ns : List ℕ) → (i : ℕ) → Type 0
     IsGoodBefore ns i = (v : ℕ) → old_first ≤ v → v < old_first + i → HasMeaning os old_first v → Good v (renumbered old_first ns v)
 
-    good_next : (step : IsGoodStep) (ns : List ℕ) (ks : List Kind) (i : ℕ) (o : Operation) (old mid : List Operation) (n : ℕ) → IsPieceAt p none tables bs block front begins formed ns ks i o old mid n
+    good_next : (step : IsGoodStep) (ns : List ℕ) (ks : List Kind) (i : ℕ) (o : Operation) (old mid : List Operation) (n : ℕ) → IsPieceAt p maps tables bs block front begins formed ns ks i o old mid n
         → length ns ≡ i → IsGoodBefore ns i → IsGoodPiece ns ks i o old mid n × IsGoodBefore (ns ++ n ∷ []) (suc i)
     good_next step ns ks i o old mid n at long before = (record { at = at; takes = takes; own = step ns ks i o old mid n at takes }, next)
       where
@@ -105,7 +106,7 @@ module _ (p : PlainPlan) (none : p.views ≡ []) (tables : IsProgramTable p.tabl
                 (subst (λ (j : ℕ). Good (old_first + i) j) (sym number_is) (step ns ks i o old mid n at takes (subst (λ (u : ℕ). HasMeaning os old_first u) e h)))
 
     pub good_pieces : (step : IsGoodStep) (rest : List Operation) (ns : List ℕ) (ks : List Kind) (i : ℕ) (old : List Operation) (numbers : List ℕ)
-        → AreKnownPieces p none tables bs block front begins formed ns ks i rest old numbers → length ns ≡ i → IsGoodBefore ns i → AreGoodPieces ns ks i rest old
+        → AreKnownPieces p maps tables bs block front begins formed ns ks i rest old numbers → length ns ≡ i → IsGoodBefore ns i → AreGoodPieces ns ks i rest old
     good_pieces step [] ns ks i old numbers h long before = h.0
     good_pieces step (o ∷ rest) ns ks i old numbers h long before =
         let one = good_next step ns ks i o old h.mid h.number h.piece long before in
@@ -237,5 +238,5 @@ module _ (p : PlainPlan) (none : p.views ≡ []) (tables : IsProgramTable p.tabl
   abbrev pub Anything : ℕ → ℕ → Type 0
   Anything v m = Unit {0}
 
-  pub plain_pieces : (numbers : List ℕ) → AreKnownPieces p none tables bs block front begins formed [] [] 0 os front numbers → AreGoodPieces Anything [] [] 0 os front
+  pub plain_pieces : (numbers : List ℕ) → AreKnownPieces p maps tables bs block front begins formed [] [] 0 os front numbers → AreGoodPieces Anything [] [] 0 os front
   plain_pieces numbers h = good_pieces Anything (λ ns ks i o old mid n at takes m. tt) os [] [] 0 front numbers h refl (λ v l m k. tt)

@@ -17,6 +17,7 @@ use Rattle.dh_plan.specs.PlanRuns.{start_at}
 use Rattle.dh_plan.proofs.ValuesAlike.{all_map}
 use Rattle.dh_rows.specs.Readings.{Grows}
 use Rattle.dh_rows.proofs.Growing.{grown_length}
+use Rattle.dh_address.proofs.WaySizes.{HasMaps}
 use Rattle.dh_address.specs.Pieces.{any_takes_probe, takes_probe, is_of_probe, is_probe, is_probe_form, IsPiece}
 use Rattle.dh_address.specs.Images.{ArePieces}
 use Rattle.dh_address.specs.Renumbered.{renumbered}
@@ -70,7 +71,7 @@ numbers_longer (m ∷ ns) n = ap suc (numbers_longer ns n)
 pub number_kept : (first v : ℕ) (ns more : List ℕ) → v - first < length ns → renumbered first (ns ++ more) v ≡ renumbered first ns v
 number_kept first v ns more h = get_or_append_left ns more 0 (v - first) h
 
-module _ (p : PlainPlan) (none : p.views ≡ []) (tables : IsProgramTable p.table) (bs : List PlanBlock) (block : ℕ) (front : List Operation) (begins : length front ≡ first_in (image_of p bs) block)
+module _ (p : PlainPlan) (maps : HasMaps p) (tables : IsProgramTable p.table) (bs : List PlanBlock) (block : ℕ) (front : List Operation) (begins : length front ≡ first_in (image_of p bs) block)
     (formed : IsFormedBlock p block) where
   abbrev pub q : PlainPlan
   q = image_of p bs
@@ -167,8 +168,8 @@ module _ (p : PlainPlan) (none : p.views ≡ []) (tables : IsProgramTable p.tabl
         → IsInputOf (timeless q block (start_at q [] [])) 0 (around p block ns ks) (length old) v
     input v h e = record { earlier = record { begun = h.begun; before = h.before; there = omega arith }; kind_is = h.kind_is ∙ sym e }
 
-    put : PutsPiece p none tables bs block front begins ns ks mid n ((any_takes_probe os old_first ≡ true) ⊎ (is_probe_form o.form ≡ false)) (form_kind p.table p.registers old_first ks o.form)
-    put = piece_put p none tables bs block front begins ns ks o old mid n piece grows k.begun k.all_formed suits
+    put : PutsPiece p maps tables bs block front begins ns ks mid n ((any_takes_probe os old_first ≡ true) ⊎ (is_probe_form o.form ≡ false)) (form_kind p.table p.registers old_first ks o.form)
+    put = piece_put p maps tables bs block front begins ns ks o old mid n piece grows k.begun k.all_formed suits
         (all_two (λ v. IsKnownValue (length old) v (renumbered old_first ns v)) (λ v. kind_of_value old_first ks v ≡ kind_of_value old_first (kinds_of p block) v)
         (IsInputOf (timeless q block (start_at q [] [])) 0 (around p block ns ks) (length old)) (operation_takes o) input known kinds_same)
 

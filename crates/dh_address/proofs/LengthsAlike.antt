@@ -18,6 +18,7 @@ use Rattle.dh_plan.specs.SoundPlans.{IsSound}
 use Rattle.dh_plan.proofs.LeastLegal.{length_one_more}
 use Rattle.dh_rows.specs.Readings.{Readings}
 use Rattle.dh_rows.proofs.Growing.{grown_length}
+use Rattle.dh_address.proofs.WaySizes.{HasMaps}
 use Rattle.dh_address.specs.Images.{IsBlockImage}
 use Rattle.dh_address.specs.Pieces.{is_probe_form}
 use Rattle.dh_address.specs.Renumbered.{renumbered}
@@ -100,8 +101,8 @@ most_of_map : (f : ℕ → ℕ) (vs : List ℕ) (bound : ℕ) → AllByRecursion
 most_of_map f [] bound h = omega arith
 most_of_map f (v ∷ vs) bound h = let a = h.0 in let b = most_of_map f vs bound h.1 in omega (arith, a, b)
 
-module _ (p : PlainPlan) (none : p.views ≡ []) (tables : IsProgramTable p.table) (bs : List PlanBlock) (block : ℕ) (front : List Operation) (begins : length front ≡ first_in (image_of p bs) block)
-    (formed : IsFormedBlock p block) (numbers : List ℕ) (known : AllKnown p none tables bs block front begins formed numbers [] [] 0 (operations_in p block) front) where
+module _ (p : PlainPlan) (maps : HasMaps p) (tables : IsProgramTable p.table) (bs : List PlanBlock) (block : ℕ) (front : List Operation) (begins : length front ≡ first_in (image_of p bs) block)
+    (formed : IsFormedBlock p block) (numbers : List ℕ) (known : AllKnown p maps tables bs block front begins formed numbers [] [] 0 (operations_in p block) front) where
   abbrev q : PlainPlan
   q = image_of p bs
 
@@ -121,10 +122,10 @@ module _ (p : PlainPlan) (none : p.views ≡ []) (tables : IsProgramTable p.tabl
   x = block_readings q block (start_at q [] [])
 
   abbrev Clocks : ℕ → ℕ → Type 0
-  Clocks v m = SameClock p none tables bs block front begins formed known.all_formed v m
+  Clocks v m = SameClock p maps tables bs block front begins formed known.all_formed v m
 
-  pieces : AreGoodPieces p none tables bs block front begins formed Clocks [] [] 0 os front
-  pieces = good_pieces p none tables bs block front begins formed Clocks (clocks_step p none tables bs block front begins formed known.all_formed) os [] [] 0 front numbers known.pieces refl
+  pieces : AreGoodPieces p maps tables bs block front begins formed Clocks [] [] 0 os front
+  pieces = good_pieces p maps tables bs block front begins formed Clocks (clocks_step p maps tables bs block front begins formed known.all_formed) os [] [] 0 front numbers known.pieces refl
       (λ v l m h. absurd (past v l m))
     where
       past : (v : ℕ) → old_first ≤ v → v < old_first + 0 → ⊥
@@ -147,9 +148,9 @@ module _ (p : PlainPlan) (none : p.views ≡ []) (tables : IsProgramTable p.tabl
   -- no value of the new block comes later than the last of the old one
   new_no_later : (j : ℕ) (u : Operation) → slice_get (operations_in q block) j ≡ Some u → x.clock (first + j) ≤ own_last old_first os
   new_no_later j u e =
-      let s = stands_at p none tables bs block front begins formed known.all_formed Clocks pieces j u e in
+      let s = stands_at p maps tables bs block front begins formed known.all_formed Clocks pieces j u e in
       let at = s.of.piece.at in
-      let t = (in_time p none tables bs block front begins formed known.all_formed s.of.numbers s.of.kinds s.place s.operation s.of.old s.of.mid s.of.number at s.of.piece.takes).each
+      let t = (in_time p maps tables bs block front begins formed known.all_formed s.of.numbers s.of.kinds s.place s.operation s.of.old s.of.mid s.of.number at s.of.piece.takes).each
       (length front + j) u s.from (was_in s.of.mid at.grows (length front + j) u s.until (behind_front front (operations_in q block) j ∙ e))
       in
       let l = value_below old_first os s.place s.operation at.there in
@@ -157,15 +158,15 @@ module _ (p : PlainPlan) (none : p.views ≡ []) (tables : IsProgramTable p.tabl
 
   -- nor the other way
   module _ (i : ℕ) (o : Operation) (e : slice_get os i ≡ Some o) where
-    abbrev g : GoodPieceOf p none tables bs block front begins formed Clocks i o
-    g = good_piece_of p none tables bs block front begins formed Clocks pieces i o e
+    abbrev g : GoodPieceOf p maps tables bs block front begins formed Clocks i o
+    g = good_piece_of p maps tables bs block front begins formed Clocks pieces i o e
 
     abbrev last : ℕ
     last = own_last first (operations_in q block)
 
     taken_below : AllByRecursion (λ v. own_clock old_first os v ≤ last) (operation_takes o)
     taken_below =
-        all_two (λ v. IsKnownValue p none tables bs block front begins formed (length g.old) v (renumbered old_first g.numbers v)) (λ v. Clocks v (renumbered old_first g.numbers v))
+        all_two (λ v. IsKnownValue p maps tables bs block front begins formed (length g.old) v (renumbered old_first g.numbers v)) (λ v. Clocks v (renumbered old_first g.numbers v))
         (λ v. own_clock old_first os v ≤ last) (operation_takes o)
         (λ v k c. (let l = new_below (renumbered old_first g.numbers v) k.begun (within k.before) in omega (arith, l, c))) g.piece.at.known g.piece.takes
       where
@@ -185,7 +186,7 @@ module _ (p : PlainPlan) (none : p.views ≡ []) (tables : IsProgramTable p.tabl
             let l = most_of_map (own_clock old_first os) (operation_takes o) last taken_below in
             omega (arith, c, l)
         of false f =
-            let t = in_time p none tables bs block front begins formed known.all_formed g.numbers g.kinds i o g.old g.mid g.number g.piece.at g.piece.takes in
+            let t = in_time p maps tables bs block front begins formed known.all_formed g.numbers g.kinds i o g.old g.mid g.number g.piece.at g.piece.takes in
             let l = new_below g.number (t.begun (inr f)) (t.within (inr f)) in
             let c = t.own (inr f) in
             omega (arith, l, c)
@@ -196,7 +197,7 @@ module _ (p : PlainPlan) (none : p.views ≡ []) (tables : IsProgramTable p.tabl
       both_ways : {m n : ℕ} → m ≤ n → n ≤ m → m ≡ n
       both_ways l k = omega (arith, l, k)
 
-pub lengths_same : (p : PlainPlan) (none : p.views ≡ []) (sound : IsSound p) (bs : List PlanBlock) → ((block : ℕ) → IsBlockImage p bs block) → (block : ℕ) → block_clocks (image_of p bs) block ≡ block_clocks p block
-lengths_same p none sound bs images block =
-    let k = block_known p none sound.formed bs block (images block) in
-    length_same p none sound.formed.table bs block (front p none sound.formed bs block) (begins p none sound.formed bs block) (sound.formed.blocks block) k.numbers k.known
+pub lengths_same : (p : PlainPlan) (maps : HasMaps p) (sound : IsSound p) (bs : List PlanBlock) → ((block : ℕ) → IsBlockImage p bs block) → (block : ℕ) → block_clocks (image_of p bs) block ≡ block_clocks p block
+lengths_same p maps sound bs images block =
+    let k = block_known p maps sound.formed bs block (images block) in
+    length_same p maps sound.formed.table bs block (front p maps sound.formed bs block) (begins p maps sound.formed bs block) (sound.formed.blocks block) k.numbers k.known

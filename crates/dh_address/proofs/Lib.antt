@@ -6,6 +6,7 @@ pub mod AimedRows
 pub mod LiteralMeans
 pub mod FewElements
 pub mod RangeTurns
+pub mod ReadsMade
 pub mod PiecesGrow
 pub mod PiecesBy
 pub mod PiecesQuiet
@@ -18,6 +19,13 @@ pub mod IndexAims
 pub mod LiteralEnds
 pub mod AccessesPut
 pub mod SuitsKnown
+pub mod WaySizes
+pub mod WayLengths
+pub mod WaysPlain
+pub mod WayTurns
+pub mod WaysPut
+pub mod WaysShown
+pub mod WaysLed
 pub mod FalsePut
 pub mod PieceForms
 pub mod KnownPieces

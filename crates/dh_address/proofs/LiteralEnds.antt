@@ -2,19 +2,18 @@
 use Rattle.std.proofs.Common.{◌≡◌, ℕ, zero, suc, ◌≤◌, List, refl, arith, length, drop, min}
 use Rattle.std.specs.Prelude.{Some, [], ◌∷◌}
 use Rattle.dh_tree.specs.declared.tables.Dim.{Dim}
-use Rattle.dh_plan.specs.declared.operations.Operation.{Operation}
+use Rattle.dh_address.specs.declared.operands.Operand.{Operand}
 use Rattle.dh_address.specs.LiteralPlaces.{literal_places}
 
-module _ (os : List Operation) (first : ℕ) where
-  pub places_end : (dims : List Dim) (indices : List ℕ) (k row bank : ℕ) → min (length dims) (length indices) ≤ k
-      → literal_places os first (drop k dims) (drop k indices) row bank ≡ Some (record { row = row; bank = bank })
-  places_end [] indices zero row bank l = refl
-  places_end [] indices (suc k) row bank l = refl
-  places_end (d ∷ dims) [] zero row bank l = refl
-  places_end (d ∷ dims) [] (suc k) row bank l = none (drop k dims)
-    where
-      none : (ds : List Dim) → literal_places os first ds [] row bank ≡ Some (record { row = row; bank = bank })
-      none [] = refl
-      none (d ∷ ds) = refl
-  places_end (d ∷ dims) (i ∷ indices) zero row bank l = absurd (omega (arith, l))
-  places_end (d ∷ dims) (i ∷ indices) (suc k) row bank l = places_end dims indices k row bank (omega (arith, l))
+pub places_end : (dims : List Dim) (indices : List Operand) (k row bank : ℕ) → min (length dims) (length indices) ≤ k
+    → literal_places (drop k dims) (drop k indices) row bank ≡ Some (record { row = row; bank = bank })
+places_end [] indices zero row bank l = refl
+places_end [] indices (suc k) row bank l = refl
+places_end (d ∷ dims) [] zero row bank l = refl
+places_end (d ∷ dims) [] (suc k) row bank l = none (drop k dims)
+  where
+    none : (ds : List Dim) → literal_places ds [] row bank ≡ Some (record { row = row; bank = bank })
+    none [] = refl
+    none (d ∷ ds) = refl
+places_end (d ∷ dims) (i ∷ indices) zero row bank l = absurd (omega (arith, l))
+places_end (d ∷ dims) (i ∷ indices) (suc k) row bank l = places_end dims indices k row bank (omega (arith, l))

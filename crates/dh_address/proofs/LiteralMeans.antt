@@ -23,7 +23,8 @@ use Rattle.dh_rows.specs.RowsShown.{HasWidth, is_below_size}
 use Rattle.dh_rows.specs.MadeOperations.{bits_in}
 use Rattle.dh_rows.proofs.BitsOfNumbers.{bits_above, bits_most}
 use Rattle.dh_address.specs.declared.literals.LiteralPlace.{LiteralPlace}
-use Rattle.dh_address.specs.LiteralPlaces.{natural_in, literal_form, literal_guarded, literal_in, literal_at, below_size, literal_within, and_then, literal_places}
+use Rattle.dh_address.specs.declared.operands.Operand.{Operand}
+use Rattle.dh_address.specs.LiteralPlaces.{natural_in, literal_form, literal_guarded, literal_in, literal_at, below_size, and_then, literal_places}
 use Rattle.dh_address.specs.Pieces.{aim_width}
 
 -- Literals.
@@ -67,25 +68,19 @@ literal_means os place n e = of (slice_get os place) refl e
     of (Some o) there e = guarded_means os place n o.guard o.form there e
 
 -- a literal below a size
-pub record IsLiteralBelow (os : List Operation) (first value size n : ℕ) : Type 0 where
-  pub literal : literal_at os (value - first) ≡ Some n
-  pub below : n < size
-
-pub within_means : (os : List Operation) (first value size n : ℕ) → literal_within os first value size ≡ Some n → IsLiteralBelow os first value size n
-within_means os first value size n e = of (literal_at os (value - first)) refl e
+pub below_means : (o : Option ℕ) (size n : ℕ) → below_size o size ≡ Some n → (o ≡ Some n) × (n < size)
+below_means None size n e = absurd (cc)
+below_means (Some m) size n e = of (nat_lt m size) refl e
   where
-    some : (m : ℕ) (t : Bool) → nat_lt m size ≡ t → literal_at os (value - first) ≡ Some m → (if t then Some m else None) ≡ Some n → IsLiteralBelow os first value size n
-    some m true l there e =
-        let same : m ≡ n = cc in
-        record { literal = there ∙ ap (λ (k : ℕ). Some k) same; below = subst (λ (k : ℕ). k < size) same (less m size l) }
+    of : (t : Bool) → nat_lt m size ≡ t → (if t then Some m else None) ≡ Some n → (Some m ≡ Some n) × (n < size)
+    of true l e = (e, subst (λ (k : ℕ). k < size) (the e) (less m size l))
       where
+        the : Some m ≡ Some n → m ≡ n
+        the e = cc
+
         less : (m size : ℕ) → nat_lt m size ≡ true → m < size
         less m size l = grind (arith, nat_tests)
-    some m false l there e = absurd (cc)
-
-    of : (o : Option ℕ) → literal_at os (value - first) ≡ o → below_size o size ≡ Some n → IsLiteralBelow os first value size n
-    of None there e = absurd (cc)
-    of (Some m) there e = some m (nat_lt m size) refl there e
+    of false l e = absurd (cc)
 
 pub natural_range : (n size : ℕ) → is_below_size (pos n) size ≡ nat_lt n size
 natural_range n size = ap (λ t. t && nat_lt n size) (zero_least n)
@@ -102,14 +97,14 @@ literal_in_range n size l = natural_range n size ∙ less n size l
 -- Places.
 
 -- these indices are these literals, each below its size
-abbrev pub AreLiterals : List Operation → (first : ℕ) → List Dim → (indices : List ℕ) → (numbers : List ℕ) → Type 0
-AreLiterals os first [] [] [] = Unit {0}
-AreLiterals os first (d ∷ ds) (i ∷ is) (n ∷ ns) = (literal_within os first i d.size ≡ Some n) × AreLiterals os first ds is ns
-AreLiterals os first _ _ _ = ⊥
+abbrev pub AreLiterals : List Dim → (indices : List Operand) → (numbers : List ℕ) → Type 0
+AreLiterals [] [] [] = Unit {0}
+AreLiterals (d ∷ ds) (i ∷ is) (n ∷ ns) = (below_size i.literal d.size ≡ Some n) × AreLiterals ds is ns
+AreLiterals _ _ _ = ⊥
 
-pub record IsPlaceOf (os : List Operation) (first : ℕ) (dims : List Dim) (indices : List ℕ) (place : LiteralPlace) (row bank : ℕ) : Type 0 where
+pub record IsPlaceOf (dims : List Dim) (indices : List Operand) (place : LiteralPlace) (row bank : ℕ) : Type 0 where
   pub numbers : List ℕ
-  pub literals : AreLiterals os first dims indices numbers
+  pub literals : AreLiterals dims indices numbers
   pub row_is : place.row ≡ (row * rows_of dims + row_of dims numbers) % 2 ^ 64
   pub bank_is : place.bank ≡ (bank * banks_of dims + bank_of dims numbers) % 2 ^ 64
 
@@ -139,46 +134,45 @@ small_is n l = sym (mod-eq_of_lt l) ∙ ap (λ (k : ℕ). k % 2 ^ 64) (same n)
 below_word : (n : ℕ) → n % 2 ^ 64 < 2 ^ 64
 below_word n = mod-lt n {m = 2 ^ 64} (pow_pos 64)
 
-module _ (os : List Operation) (first : ℕ) where
-  places_are : (dims : List Dim) (indices : List ℕ) (row bank : ℕ) (place : LiteralPlace) → length indices ≡ length dims → row < 2 ^ 64 → bank < 2 ^ 64
-      → literal_places os first dims indices row bank ≡ Some place → IsPlaceOf os first dims indices place row bank
-  places_are [] [] row bank place long r b e =
-      let same : record { row = row; bank = bank } ≡ place = cc in
-      subst (λ (p : LiteralPlace). IsPlaceOf os first [] [] p row bank) same (record { numbers = []; literals = tt; row_is = small_is row r; bank_is = small_is bank b })
-  places_are [] (i ∷ is) row bank place long r b e = absurd (omega (arith, long))
-  places_are (d ∷ ds) [] row bank place long r b e = absurd (omega (arith, long))
-  places_are (d ∷ ds) (i ∷ is) row bank place long r b e =
-      of (literal_within os first i d.size) refl e
-      (λ n e'. places_are ds is ((row * (d.size / d.banks) % 2 ^ 64 + n / d.banks) % 2 ^ 64) ((bank * d.banks % 2 ^ 64 + n % d.banks) % 2 ^ 64) place (omega (arith, long))
-      (below_word (row * (d.size / d.banks) % 2 ^ 64 + n / d.banks)) (below_word (bank * d.banks % 2 ^ 64 + n % d.banks)) e')
-    where
-      of : (o : Option ℕ) → literal_within os first i d.size ≡ o
-          → and_then o (λ n. literal_places os first ds is ((row * (d.size / d.banks) % 2 ^ 64 + n / d.banks) % 2 ^ 64) ((bank * d.banks % 2 ^ 64 + n % d.banks) % 2 ^ 64)) ≡ Some place
-          → ((n : ℕ) → literal_places os first ds is ((row * (d.size / d.banks) % 2 ^ 64 + n / d.banks) % 2 ^ 64) ((bank * d.banks % 2 ^ 64 + n % d.banks) % 2 ^ 64) ≡ Some place
-          → IsPlaceOf os first ds is place ((row * (d.size / d.banks) % 2 ^ 64 + n / d.banks) % 2 ^ 64) ((bank * d.banks % 2 ^ 64 + n % d.banks) % 2 ^ 64))
-          → IsPlaceOf os first (d ∷ ds) (i ∷ is) place row bank
-      of None there e rest = absurd (cc)
-      of (Some n) there e rest =
-          let more = rest n e in
-          record {
-            numbers = n ∷ more.numbers;
-            literals = (there, more.literals);
-            row_is = more.row_is ∙ digit_wrapped row (d.size / d.banks) (n / d.banks) (rows_of ds) (row_of ds more.numbers) (2 ^ 64);
-            bank_is = more.bank_is ∙ digit_wrapped bank d.banks (n % d.banks) (banks_of ds) (bank_of ds more.numbers) (2 ^ 64);
-          }
+places_are : (dims : List Dim) (indices : List Operand) (row bank : ℕ) (place : LiteralPlace) → length indices ≡ length dims → row < 2 ^ 64 → bank < 2 ^ 64
+    → literal_places dims indices row bank ≡ Some place → IsPlaceOf dims indices place row bank
+places_are [] [] row bank place long r b e =
+    let same : record { row = row; bank = bank } ≡ place = cc in
+    subst (λ (p : LiteralPlace). IsPlaceOf [] [] p row bank) same (record { numbers = []; literals = tt; row_is = small_is row r; bank_is = small_is bank b })
+places_are [] (i ∷ is) row bank place long r b e = absurd (omega (arith, long))
+places_are (d ∷ ds) [] row bank place long r b e = absurd (omega (arith, long))
+places_are (d ∷ ds) (i ∷ is) row bank place long r b e =
+    of (below_size i.literal d.size) refl e
+    (λ n e'. places_are ds is ((row * (d.size / d.banks) % 2 ^ 64 + n / d.banks) % 2 ^ 64) ((bank * d.banks % 2 ^ 64 + n % d.banks) % 2 ^ 64) place (omega (arith, long))
+    (below_word (row * (d.size / d.banks) % 2 ^ 64 + n / d.banks)) (below_word (bank * d.banks % 2 ^ 64 + n % d.banks)) e')
+  where
+    of : (o : Option ℕ) → below_size i.literal d.size ≡ o
+        → and_then o (λ n. literal_places ds is ((row * (d.size / d.banks) % 2 ^ 64 + n / d.banks) % 2 ^ 64) ((bank * d.banks % 2 ^ 64 + n % d.banks) % 2 ^ 64)) ≡ Some place
+        → ((n : ℕ) → literal_places ds is ((row * (d.size / d.banks) % 2 ^ 64 + n / d.banks) % 2 ^ 64) ((bank * d.banks % 2 ^ 64 + n % d.banks) % 2 ^ 64) ≡ Some place
+        → IsPlaceOf ds is place ((row * (d.size / d.banks) % 2 ^ 64 + n / d.banks) % 2 ^ 64) ((bank * d.banks % 2 ^ 64 + n % d.banks) % 2 ^ 64))
+        → IsPlaceOf (d ∷ ds) (i ∷ is) place row bank
+    of None there e rest = absurd (cc)
+    of (Some n) there e rest =
+        let more = rest n e in
+        record {
+          numbers = n ∷ more.numbers;
+          literals = (there, more.literals);
+          row_is = more.row_is ∙ digit_wrapped row (d.size / d.banks) (n / d.banks) (rows_of ds) (row_of ds more.numbers) (2 ^ 64);
+          bank_is = more.bank_is ∙ digit_wrapped bank d.banks (n % d.banks) (banks_of ds) (bank_of ds more.numbers) (2 ^ 64);
+        }
 
-  literals_within : (dims : List Dim) (indices numbers : List ℕ) → AreLiterals os first dims indices numbers → is_within dims numbers ≡ true
-  literals_within [] [] [] h = refl
-  literals_within [] [] (n ∷ ns) h = absurd h
-  literals_within [] (i ∷ is) ns h = absurd h
-  literals_within (d ∷ ds) [] ns h = absurd h
-  literals_within (d ∷ ds) (i ∷ is) [] h = absurd h
-  literals_within (d ∷ ds) (i ∷ is) (n ∷ ns) h =
-      let l = (within_means os first i d.size n h.0).below in
-      ap (λ (t : Bool). t && is_within ds ns) (less n d.size l) ∙ literals_within ds is ns h.1
-    where
-      less : (n size : ℕ) → n < size → nat_lt n size ≡ true
-      less n size l = grind (arith, nat_tests)
+literals_within : (dims : List Dim) (indices : List Operand) (numbers : List ℕ) → AreLiterals dims indices numbers → is_within dims numbers ≡ true
+literals_within [] [] [] h = refl
+literals_within [] [] (n ∷ ns) h = absurd h
+literals_within [] (i ∷ is) ns h = absurd h
+literals_within (d ∷ ds) [] ns h = absurd h
+literals_within (d ∷ ds) (i ∷ is) [] h = absurd h
+literals_within (d ∷ ds) (i ∷ is) (n ∷ ns) h =
+    let l = (below_means i.literal d.size n h.0).1 in
+    ap (λ (t : Bool). t && is_within ds ns) (less n d.size l) ∙ literals_within ds is ns h.1
+  where
+    less : (n size : ℕ) → n < size → nat_lt n size ≡ true
+    less n size l = grind (arith, nat_tests)
 
 -- Sizes.
 
@@ -246,19 +240,19 @@ width_suffices table memory h =
 
 -- A place that is made of literals is row and bank of their element.
 
-pub record IsLiteralPlace (os : List Operation) (first : ℕ) (dims : List Dim) (indices : List ℕ) (place : LiteralPlace) : Type 0 where
+pub record IsLiteralPlace (dims : List Dim) (indices : List Operand) (place : LiteralPlace) : Type 0 where
   pub numbers : List ℕ
-  pub literals : AreLiterals os first dims indices numbers
+  pub literals : AreLiterals dims indices numbers
   pub row_is : place.row ≡ row_of dims numbers
   pub bank_is : place.bank ≡ bank_of dims numbers
   pub row_small : place.row < elements_of dims
   pub bank_small : place.bank < elements_of dims
 
-pub literal_place_is : (os : List Operation) (first : ℕ) (dims : List Dim) (indices : List ℕ) (place : LiteralPlace) → AllByRecursion IsDim dims → elements_of dims < 2 ^ 64
-    → length indices ≡ length dims → literal_places os first dims indices 0 0 ≡ Some place → IsLiteralPlace os first dims indices place
-literal_place_is os first dims indices place formed small long e =
-    let p = places_are os first dims indices 0 0 place long (pow_pos 64) (pow_pos 64) e in
-    let within = literals_within os first dims indices p.numbers p.literals in
+pub literal_place_is : (dims : List Dim) (indices : List Operand) (place : LiteralPlace) → AllByRecursion IsDim dims → elements_of dims < 2 ^ 64
+    → length indices ≡ length dims → literal_places dims indices 0 0 ≡ Some place → IsLiteralPlace dims indices place
+literal_place_is dims indices place formed small long e =
+    let p = places_are dims indices 0 0 place long (pow_pos 64) (pow_pos 64) e in
+    let within = literals_within dims indices p.numbers p.literals in
     let row = row_within dims p.numbers formed within in
     let bank = bank_below dims p.numbers formed within in
     let rows = rows_few dims formed in

@@ -19,10 +19,11 @@ use Rattle.dh_plan.specs.SoundPlans.{use_in}
 use Rattle.dh_rows.specs.Readings.{Grows, is_plain}
 use Rattle.dh_rows.specs.MadeOperations.{IsMade, pushed}
 use Rattle.dh_rows.proofs.Growing.{grown_length, grows_on, kept_there, was_there}
-use Rattle.dh_address.specs.Pieces.{Around, IsAccessMade, IsFormMade, IsPiece, new_number, new_or_none, ranges_of}
+use Rattle.dh_address.specs.Pieces.{Around, IsAccessMade, IsFormMade, IsPiece, new_number, new_or_none}
+use Rattle.dh_address.specs.declared.operands.Ranged.{Ranged}
 use Rattle.dh_address.specs.Images.{ArePieces, and_known}
 use Rattle.dh_address.proofs.ImageReadings.{at_last}
-use Rattle.dh_address.proofs.PiecesBy.{GrowsBy, each_at, AllowsCheck, by_on, checked_by, value_by, access_by}
+use Rattle.dh_address.proofs.PiecesBy.{GrowsBy, each_at, AllowsCheck, access_by, probed_by}
 use Rattle.dh_address.proofs.PiecesGrow.{piece_grows, pieces_grow}
 
 -- Operations that come behind.
@@ -56,9 +57,9 @@ form_unused (Set register value) e = refl
 plain_unused : (x : Operation) → is_plain x.form ≡ true → IsUnused x
 plain_unused x e = form_unused x.form e
 
-allows_unused : (a : Around) (g : Option ℕ) (fault : ℕ) (rs : List _) → AllByRecursion (AllowsCheck IsUnused plain_unused a g fault) rs
-allows_unused a g fault [] = tt
-allows_unused a g fault (r ∷ rs) = ((λ e test. refl), allows_unused a g fault rs)
+allows_unused : (g : Option ℕ) (fault : ℕ) (rs : List Ranged) → AllByRecursion (AllowsCheck IsUnused plain_unused g fault) rs
+allows_unused g fault [] = tt
+allows_unused g fault (r ∷ rs) = ((λ e test. refl), allows_unused g fault rs)
 
 -- the read or write of an operation
 pub record IsUsePut (a : Around) (f : OperationForm) (old new : List Operation) (t : Reach) : Type 0 where
@@ -109,9 +110,7 @@ module _ (a : Around) where
   form_use g (Select test b c) old new n h = no_use old new (Select test b c) (one_unused old new g _ n h refl)
   form_use g (Check ok fault) old new n h = no_use old new (Check ok fault) (one_unused old new g _ n h refl)
   form_use g (Probe r fault) old new n h =
-      no_use old new (Probe r fault)
-      (by_on IsUnused plain_unused old h.checked new (checked_by IsUnused plain_unused a g fault (ranges_of a r) old h.checked (allows_unused a g fault (ranges_of a r)) h.checks)
-      (value_by IsUnused plain_unused a.probed a g r h.checked new n h.value))
+      no_use old new (Probe r fault) (probed_by IsUnused plain_unused a g r fault old new n h (allows_unused g fault h.ranges))
   form_use g (Read r) old new n h = λ j x t l e used. own_use (Read r) old h.last new g h.on r h.reach t (Read h.reach) n h.access refl refl h.read j x l e used
   form_use g (Write r value) old new n h = λ j x t l e used. own_use (Write r value) old h.last new g h.on r h.reach t (Write h.reach (new_number a value)) n h.access refl refl h.write j x l e used
   form_use g (Set register value) old new n h = no_use old new (Set register value) (one_unused old new g _ n h refl)
@@ -166,6 +165,7 @@ module _ (base : List Operation) where
     pub table_is : around.table ≡ a.table
     pub operations_are : around.operations ≡ a.operations
     pub first_is : around.first ≡ a.first
+    pub views_is : around.views ≡ a.views
     pub known : length around.numbers ≡ length a.numbers + place
     pub before : List Operation
     pub after : List Operation
@@ -213,6 +213,7 @@ module _ (base : List Operation) where
         table_is = u.table_is;
         operations_are = u.operations_are;
         first_is = u.first_is;
+        views_is = u.views_is;
         known = (let s = long in let m = u.known in omega (arith, s, m));
         before = u.before;
         after = u.after;
@@ -231,6 +232,7 @@ module _ (base : List Operation) where
         table_is = refl;
         operations_are = refl;
         first_is = refl;
+        views_is = refl;
         known = omega arith;
         before = list;
         after = h.mid;

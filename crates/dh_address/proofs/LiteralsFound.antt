@@ -1,9 +1,9 @@
 -- Constants that are in range are literals: of an access that is named by constants and is always inside, each value is
 -- a literal below its size.
-use Rattle.std.proofs.Common.{◌≡◌, ℕ, ◌+◌, ◌-◌, ◌*◌, ◌/◌, ◌%◌, ◌^◌, ◌<◌, nat_lt, Bool, true, false, List, refl, sym, ap, ◌∙◌, subst, arith, pos, ◌-ℤ◌, int_le, int_lt}
-use Rattle.std.specs.Prelude.{Option, Some, None, [], ◌∷◌, ◌++◌, if◌then◌else◌, ℤ}
+use Rattle.std.proofs.Common.{◌≡◌, ℕ, ◌+◌, ◌-◌, ◌*◌, ◌/◌, ◌%◌, ◌^◌, ◌<◌, nat_lt, Bool, true, false, List, refl, sym, ap, ◌∙◌, subst, arith, pos, ◌-ℤ◌, int_le, int_lt, unsigned_abs, ◌&&◌}
+use Rattle.std.specs.Prelude.{Option, Some, None, [], ◌∷◌, ◌++◌, map, slice_get, slice_index, if◌then◌else◌, ℤ}
 use Rattle.std.specs.List.{AllByRecursion}
-use Rattle.std.proofs.Math.Nat.{add-sub_cancel_left}
+use Rattle.std.proofs.Math.Nat.{add-sub_cancel_left, mod-eq_of_lt}
 use Rattle.std.proofs.lemmas.Int.{ints}
 use Rattle.dh_value.specs.declared.kinds.Kind.{Kind}
 use Rattle.dh_value.specs.declared.kinds.Kind.TheVariants as kind
@@ -11,26 +11,43 @@ use Rattle.dh_value.specs.declared.words.Word.{Word}
 use Rattle.dh_value.specs.Words.{IsInteger, IsWord, value_in, value_of, width_of}
 use Rattle.dh_tree.specs.declared.tables.Dim.{Dim}
 use Rattle.dh_tree.specs.Elements.{Spot, dims_at, rows_of}
-use Rattle.dh_meaning.specs.Effects.{is_inside, is_row, spot_by_indices}
+use Rattle.dh_tree.specs.declared.tables.MemEntry.{MemEntry}
+use Rattle.dh_tree.specs.declared.viewing.ViewMap.{ViewMap}
+use Rattle.dh_tree.specs.declared.viewing.ViewSort.{ViewSort}
+use Rattle.dh_tree.specs.declared.viewing.ViewSort.TheVariants.{Shrink, Split, Suffix, Shift}
+use Rattle.dh_tree.specs.Shapes.{IsProgramTable}
+use Rattle.dh_tree.specs.ViewElements.{is_index, is_inside, dealt_index, split_index, first_banks, parent_index, named_by, where_inside}
+use Rattle.dh_tree.specs.ViewShapes.{AreSplitOf, IsShapeOf, IsViewMap}
+use Rattle.dh_meaning.specs.Effects.{is_row}
 use Rattle.dh_plan.specs.declared.operations.Operation.{Operation}
 use Rattle.dh_plan.specs.declared.operations.OperationForm.TheVariants.{Constant}
 use Rattle.dh_plan.specs.declared.operations.Reach.{Reach}
 use Rattle.dh_plan.specs.declared.operations.ReachStep.{ReachStep}
-use Rattle.dh_plan.specs.Blocks.{StepStart, in_memories, numbers_at, passages, spot_if_inside, spot_in_row, word_at}
-use Rattle.dh_plan.specs.DoneProgram.{IsConstantAt, NamedByConstants, HasLiterals}
-use Rattle.dh_plan.specs.Ordered.{one_or_none}
+use Rattle.dh_plan.specs.Blocks.{StepStart, in_memories, numbers_at, spot_if_inside, spot_in_row, word_at}
+use Rattle.dh_plan.specs.DoneProgram.{IsConstantAt, IsStill, IsStillSort, NamedByConstants, HasLiterals}
+use Rattle.dh_plan.specs.Ordered.{one_or_none, offsets_taken}
 use Rattle.dh_plan.specs.PlainPlans.{PlainPlan, first_in, operations_in}
-use Rattle.dh_plan.specs.PlanKinds.{IsFormedBlock, IsNumber, NamesElement, ReachSuits, kind_of_value, kinds_of}
+use Rattle.dh_plan.specs.PlanKinds.{AreSteps, IsFormedBlock, IsNumber, NamesElement, ReachSuits, StepFits, kind_of_value, kinds_of}
 use Rattle.dh_plan.specs.PlanRuns.{block_values, start_at}
-use Rattle.dh_plan.specs.Passages.{indices_behind}
+use Rattle.dh_plan.specs.Passages.{indices_behind, through_view}
 use Rattle.dh_plan.proofs.BlocksSolved.{block_solves}
-use Rattle.dh_plan.proofs.ValuesAlike.{memories_look_back}
+use Rattle.dh_plan.proofs.ValuesAlike.{all_left, memories_look_back}
+use Rattle.dh_rows.proofs.DealtIndices.{dealt_small}
 use Rattle.dh_rows.specs.RowsShown.{is_below_size}
 use Rattle.dh_address.specs.declared.literals.LiteralPlace.{LiteralPlace}
-use Rattle.dh_address.specs.LiteralPlaces.{and_then, below_size, literal_at, literal_in, literal_places, literal_within, natural_in}
-use Rattle.dh_address.specs.Pieces.{Range, ranges_by, ranges_in}
+use Rattle.dh_address.specs.declared.operands.Operand.{Operand}
+use Rattle.dh_address.specs.declared.operands.Ranged.{Ranged}
+use Rattle.dh_address.specs.Arounds.{Around}
+use Rattle.dh_address.specs.LiteralPlaces.{and_then, below_size, literal_at, literal_in, literal_places, natural_in}
+use Rattle.dh_address.specs.WaysMade.{Way, operand_of, ranges_by, split_made, dealt_known, passed_by, passed_if, step_passed, steps_passed, way_begun, passed_to, reach_passed}
 use Rattle.dh_address.proofs.AccessesLead.{both_true}
-use Rattle.dh_address.proofs.AccessesPut.{element_plain}
+use Rattle.dh_address.proofs.AccessesPut.{all_join}
+use Rattle.dh_address.proofs.FewElements.{rows_below}
+use Rattle.dh_address.proofs.LiteralMeans.{below_means}
+use Rattle.dh_address.proofs.WaySizes.{HasMaps, AreFew, one_of, view_few, way_few}
+use Rattle.dh_address.proofs.WaysLed.{passed_with}
+use Rattle.dh_address.proofs.WaysPut.{dealt_to, unwrapped}
+use Rattle.dh_address.proofs.WaysShown.{dealt_same}
 use Rattle.dh_address.proofs.BlockEquations.{kind_solved}
 
 -- Words.
@@ -55,23 +72,147 @@ below_found : (bits size : ℕ) → is_below_size (pos bits) size ≡ true → b
 below_found bits size e = ap (λ (b : Bool). if b then Some bits else None) (both_true (int_le (pos 0) (pos bits)) (nat_lt bits size) e).1
 
 -- a literal below a size
-abbrev pub IsLiteral : (os : List Operation) → (first : ℕ) → Range → Type 0
-IsLiteral os first r = (n : ℕ) × (literal_within os first r.value r.size ≡ Some n)
+abbrev pub IsLiteral : Ranged → Type 0
+IsLiteral r = (n : ℕ) × (below_size r.operand.literal r.size ≡ Some n)
+
+abbrev pub AreAllLiteral : List Ranged → Type 0
+AreAllLiteral rs = AllByRecursion IsLiteral rs
 
 -- Where all indices are literals there is a place of literals.
-pub places_found : (os : List Operation) (first : ℕ) (ds : List Dim) (is : List ℕ) (row bank : ℕ) → AllByRecursion (IsLiteral os first) (ranges_by ds is)
-    → (place : LiteralPlace) × (literal_places os first ds is row bank ≡ Some place)
-places_found os first [] is row bank h = (_, refl)
-places_found os first (d ∷ ds) [] row bank h = (_, refl)
-places_found os first (d ∷ ds) (i ∷ is) row bank h =
+pub places_found : (ds : List Dim) (is : List Operand) (row bank : ℕ) → AreAllLiteral (ranges_by ds is) → (place : LiteralPlace) × (literal_places ds is row bank ≡ Some place)
+places_found [] is row bank h = (_, refl)
+places_found (d ∷ ds) [] row bank h = (_, refl)
+places_found (d ∷ ds) (i ∷ is) row bank h =
     let n = h.0.0 in
-    let later = places_found os first ds is _ _ h.1 in
-    (later.0, ap (λ (o : Option ℕ). and_then o (λ n. literal_places os first ds is ((row * (d.size / d.banks) % 2 ^ 64 + n / d.banks) % 2 ^ 64) ((bank * d.banks % 2 ^ 64 + n % d.banks) % 2 ^ 64))) h.0.1 ∙ later.1)
+    let later = places_found ds is _ _ h.1 in
+    (later.0, ap (λ (o : Option ℕ). and_then o (λ n. literal_places ds is ((row * (d.size / d.banks) % 2 ^ 64 + n / d.banks) % 2 ^ 64) ((bank * d.banks % 2 ^ 64 + n % d.banks) % 2 ^ 64))) h.0.1 ∙ later.1)
+
+-- Operands that are literals.
+
+-- it is this whole number
+pub record IsKnownAs (o : Operand) (z : ℤ) : Type 0 where
+  pub number : ℕ
+  pub literal : o.literal ≡ Some number
+  pub value : z ≡ pos number
+
+abbrev pub AreKnownAs : List Operand → List ℤ → Type 0
+AreKnownAs [] [] = Unit {0}
+AreKnownAs (o ∷ os) (z ∷ zs) = IsKnownAs o z × AreKnownAs os zs
+AreKnownAs _ _ = ⊥
+
+known_below : (o : Operand) (z : ℤ) (size : ℕ) (k : IsKnownAs o z) → is_below_size z size ≡ true → below_size o.literal size ≡ Some k.number
+known_below o z size k e = ap (λ (l : Option ℕ). below_size l size) k.literal ∙ below_found k.number size (ap (λ (y : ℤ). is_below_size y size) (sym k.value) ∙ e)
+
+pub known_literal : (ds : List Dim) (os : List Operand) (zs : List ℤ) → AreKnownAs os zs → is_inside ds zs ≡ true → AreAllLiteral (ranges_by ds os)
+known_literal [] os zs h e = tt
+known_literal (d ∷ ds) [] zs h e = tt
+known_literal (d ∷ ds) (o ∷ os) [] h e = absurd h
+known_literal (d ∷ ds) (o ∷ os) (z ∷ zs) h e =
+    let b = both_true (is_below_size z d.size) (is_inside ds zs) e in
+    ((h.0.number, known_below o z d.size h.0 b.0), known_literal ds os zs h.1 b.1)
+
+literals_join : (rs ss : List Ranged) → AreAllLiteral rs → AreAllLiteral ss → AreAllLiteral (rs ++ ss)
+literals_join rs ss h k = all_join IsLiteral rs ss h k
 
 -- A test that some option comes of holds.
 pub some_if : {A : Type 0} (b : Bool) (x y : A) → (if b then Some x else None) ≡ Some y → b ≡ true
 some_if true x y e = refl
 some_if false x y e = absurd (cc)
+
+-- Ways of views that move nothing.
+
+split_known : (vs ps : List Dim) (ks : List ℕ) (is : List Operand) (zs : List ℤ) (os : List Operation) → AreSplitOf vs ps ks → AreFew vs → AreFew ps → AreKnownAs is zs → is_inside vs zs ≡ true
+    → AreKnownAs (split_made vs ps is os).indices (split_index (first_banks ps) (slice_index ks 0) zs)
+split_known [] ps ks is zs os h own few k e = absurd h
+split_known (v ∷ []) ps ks is zs os h own few k e = absurd h
+split_known (v ∷ (w ∷ (u ∷ vs))) ps ks is zs os h own few k e = absurd h
+split_known (v ∷ (w ∷ [])) [] ks is zs os h own few k e = absurd h
+split_known (v ∷ (w ∷ [])) (p ∷ (q ∷ ps)) ks is zs os h own few k e = absurd h
+split_known (v ∷ (w ∷ [])) (p ∷ []) [] is zs os h own few k e = absurd h
+split_known (v ∷ (w ∷ [])) (p ∷ []) (f ∷ (g ∷ ks)) is zs os h own few k e = absurd h
+split_known (v ∷ (w ∷ [])) (p ∷ []) (f ∷ []) is [] os h own few k e = absurd (cc)
+split_known (v ∷ (w ∷ [])) (p ∷ []) (f ∷ []) is (y ∷ []) os h own few k e = absurd (no_second (is_index v.size y) e)
+  where
+    no_second : (b : Bool) → (b && false) ≡ true → ⊥
+    no_second true c = cc
+    no_second false c = cc
+split_known (v ∷ (w ∷ [])) (p ∷ []) (f ∷ []) [] (y ∷ (z ∷ zs)) os h own few k e = absurd k
+split_known (v ∷ (w ∷ [])) (p ∷ []) (f ∷ []) (a ∷ []) (y ∷ (z ∷ zs)) os h own few k e = absurd k.1
+split_known (v ∷ (w ∷ [])) (p ∷ []) (f ∷ []) (a ∷ (b ∷ is)) (y ∷ (z ∷ zs)) os h own few k e =
+    let one = both_true (is_index v.size y) (is_index w.size z && is_inside [] zs) e in
+    let two = both_true (is_index w.size z) (is_inside [] zs) one.1 in
+    let na = k.0.number in
+    let nb = k.1.0.number in
+    let a_below = known_below a y v.size k.0 one.0 in
+    let b_below = known_below b z w.size k.1.0 two.0 in
+    let d = dealt_to v w p f h own.1.0.dim.size in
+    let all = d.all in
+    let small = few.0.small in
+    let own_small = own.1.0.small in
+    let s = dealt_small 64 v.size w na nb (record { dim = own.1.0.dim; small = omega (arith, own_small) }) (below_means a.literal v.size na a_below).1 (below_means b.literal w.size nb b_below).1 (omega (arith, all, small)) in (
+      record {
+        number = ((nb / w.banks * v.size % 2 ^ 64 + na) % 2 ^ 64 * w.banks % 2 ^ 64 + nb % w.banks) % 2 ^ 64;
+        literal = ap (λ (o : Option ℕ). dealt_known o (below_size b.literal w.size) v.size w) a_below ∙ ap (λ (o : Option ℕ). dealt_known (Some na) o v.size w) b_below;
+        value = ap (λ (x : ℤ). pos (dealt_index p.banks (p.banks / f) (unsigned_abs x) (unsigned_abs z))) k.0.value
+            ∙ (ap (λ (x : ℤ). pos (dealt_index p.banks (p.banks / f) na (unsigned_abs x))) k.1.0.value
+            ∙ ap pos (dealt_same v w p f h na nb ∙ sym (unwrapped (nb / w.banks) v.size na w.banks (nb % w.banks) (2 ^ 64) s.row s.number)));
+      },
+      tt,
+    )
+
+sort_known : (sort : ViewSort) (v : ViewMap) (es is : List Operand) (ez zs : List ℤ) (os : List Operation) (tested : List Ranged) → IsStillSort sort → IsShapeOf sort v.shape.dims v.parent.dims v.by → AreFew v.shape.dims
+    → AreFew v.parent.dims → AreKnownAs is zs → is_inside v.shape.dims zs ≡ true → AreAllLiteral tested
+    → AreAllLiteral (passed_by sort v es is os tested).ranges × AreKnownAs (passed_by sort v es is os tested).indices (parent_index sort (first_banks v.parent.dims) v.by ez zs)
+sort_known Shrink v es is ez zs os tested still h own few k e l = (l, k)
+sort_known Split v es is ez zs os tested still h own few k e l = (l, split_known v.shape.dims v.parent.dims v.by is zs os h own few k e)
+sort_known Suffix v es is ez zs os tested still h own few k e l = absurd still
+sort_known Shift v es is ez zs os tested still h own few k e l = absurd still
+
+module _ (p : PlainPlan) (maps : HasMaps p) (tables : IsProgramTable p.table) (first : ℕ) (kinds : List Kind) (memory : ℕ) (offsets : ReachStep → List ℤ) (spot : Spot) where
+  abbrev Leads : List ReachStep → List ℤ → Type 0
+  Leads ss zs = spot_if_inside p.table memory (indices_behind p.views (passed_with offsets ss) zs) ≡ Some spot
+
+  through_some : (b : Bool) (ys : List ℤ) (f : List ℤ → Option (List ℤ)) → spot_if_inside p.table memory (where_inside (if b then Some ys else None) f) ≡ Some spot
+      → (b ≡ true) × (spot_if_inside p.table memory (f ys) ≡ Some spot)
+  through_some true ys f e = (refl, e)
+  through_some false ys f e = absurd (cc)
+
+  -- what leads somewhere is within its first dimensions
+  pub first_inside : (ss : List ReachStep) (dims : List Dim) (zs : List ℤ) → AreSteps p first kinds memory ss dims → Leads ss zs → is_inside dims zs ≡ true
+  first_inside [] dims zs s e = subst (λ (ds : List Dim). is_inside ds zs ≡ true) (sym s) (some_if (is_inside (dims_at p.table memory) zs) _ spot e)
+  first_inside (t ∷ ts) dims zs s e = of (slice_get p.views t.view) s e
+    where
+      of : (o : Option ViewMap) → StepFits p first kinds t.offsets o dims (AreSteps p first kinds memory ts)
+          → spot_if_inside p.table memory (where_inside (through_view o (offsets t) zs) (indices_behind p.views (passed_with offsets ts))) ≡ Some spot → is_inside dims zs ≡ true
+      of None f g = absurd f
+      of (Some v) f g = subst (λ (ds : List Dim). is_inside ds zs ≡ true) f.0 (through_some (is_inside v.shape.dims zs) _ _ g).0
+
+  pub steps_known : (a : Around) → a.views ≡ p.views → (ss : List ReachStep) (dims : List Dim) (zs : List ℤ) (w : Way) → AreSteps p first kinds memory ss dims → AllByRecursion (λ s. IsStill (slice_get p.views s.view)) ss
+      → AreKnownAs w.indices zs → AreAllLiteral w.ranges → Leads ss zs
+      → AreAllLiteral (steps_passed a ss w).ranges × AreAllLiteral (ranges_by (dims_at p.table memory) (steps_passed a ss w).indices)
+  steps_known a views [] dims zs w s still k l e = (l, known_literal (dims_at p.table memory) w.indices zs k (some_if (is_inside (dims_at p.table memory) zs) _ spot e))
+  steps_known a views (t ∷ ts) dims zs w s still k l e =
+      of (slice_get p.views t.view) refl s still.0 (ap (λ (vs : List ViewMap). passed_if (slice_get vs t.view) (map (operand_of a) t.offsets) w) views) e
+      (λ ds ys next f g h i. steps_known a views ts ds ys next f still.1 g h i)
+    where
+      Result : Way → Type 0
+      Result last = AreAllLiteral last.ranges × AreAllLiteral (ranges_by (dims_at p.table memory) last.indices)
+
+      of : (o : Option ViewMap) → slice_get p.views t.view ≡ o → StepFits p first kinds t.offsets o dims (AreSteps p first kinds memory ts) → IsStill o
+          → step_passed a t w ≡ passed_if (slice_get p.views t.view) (map (operand_of a) t.offsets) w
+          → spot_if_inside p.table memory (where_inside (through_view o (offsets t) zs) (indices_behind p.views (passed_with offsets ts))) ≡ Some spot
+          → ((ds : List Dim) (ys : List ℤ) (next : Way) → AreSteps p first kinds memory ts ds → AreKnownAs next.indices ys → AreAllLiteral next.ranges → Leads ts ys → Result (steps_passed a ts next))
+          → Result (steps_passed a ts (step_passed a t w))
+      of None at f still same g rest = absurd f
+      of (Some v) at f still same g rest =
+          let is = same ∙ ap (λ (o : Option ViewMap). passed_if o (map (operand_of a) t.offsets) w) at in
+          let c = through_some (is_inside v.shape.dims zs) _ _ g in
+          let map_of = one_of IsViewMap p.views t.view v maps at in
+          let few = way_few p maps tables first kinds memory ts v.parent.dims f.1.1 in
+          let m = sort_known v.sort v (map (operand_of a) t.offsets) w.indices (offsets t) zs w.operations (w.ranges ++ ranges_by v.shape.dims w.indices) still map_of.shape (view_few v map_of few) few k c.0
+          (literals_join w.ranges (ranges_by v.shape.dims w.indices) l (known_literal v.shape.dims w.indices zs k c.0))
+          in
+          subst (λ (n : Way). Result (steps_passed a ts n)) (sym is) (rest v.parent.dims (named_by v (offsets t) zs) (passed_if (Some v) (map (operand_of a) t.offsets) w) f.1.1 m.1 m.0 c.1)
 
 module _ (p : PlainPlan) (block : ℕ) (formed : IsFormedBlock p block) where
   abbrev first : ℕ
@@ -98,10 +239,11 @@ module _ (p : PlainPlan) (block : ℕ) (formed : IsFormedBlock p block) where
   literal_here v c =
       ap (λ (n : ℕ). literal_at os n) (ap (λ (n : ℕ). n - first) c.own ∙ add-sub_cancel_left first c.place) ∙ ap (λ (o : Option Operation). literal_in o) c.there
 
-  pub constant_found : (v size : ℕ) → IsConstantAt p block v → IsNumber p first (kinds_of p block) v → (registers : List ℕ) (memories : List (List ℕ))
-      → is_below_size (value_of (word_at first (block_values p (start_at p registers memories) block) v)) size ≡ true → IsLiteral os first (record { value = v; size = size })
-  constant_found v size c number registers memories inside =
-      (c.word.bits, ap (λ (o : Option ℕ). below_size o size) (literal_here v c ∙ natural.literal) ∙ below_found c.word.bits size (sym (ap (λ (z : ℤ). is_below_size z size) natural.value) ∙ within))
+  pub constant_known : (v size : ℕ) → (c : IsConstantAt p block v) → IsNumber p first (kinds_of p block) v → (registers : List ℕ) (memories : List (List ℕ))
+      → is_below_size (value_of (word_at first (block_values p (start_at p registers memories) block) v)) size ≡ true
+      → (literal_at os (v - first) ≡ Some c.word.bits) × (value_of (word_at first (block_values p (start_at p registers memories) block) v) ≡ pos c.word.bits)
+  constant_known v size c number registers memories inside =
+      (literal_here v c ∙ natural.literal, ap value_of (constant_value registers memories v c) ∙ natural.value)
     where
       within : is_below_size (value_of c.word) size ≡ true
       within = sym (ap (λ (w : Word). is_below_size (value_of w) size) (constant_value registers memories v c)) ∙ inside
@@ -111,57 +253,71 @@ module _ (p : PlainPlan) (block : ℕ) (formed : IsFormedBlock p block) where
           natural_found c.word.kind c.word.bits (subst IsInteger (constant_kind v c) number) (constant_word v c).fits
           (both_true (int_le (pos 0) (value_of c.word)) (int_lt (value_of c.word) (pos size)) within).0
 
-  -- Indices.
-  inside_literals : (ds : List Dim) (is : List ℕ) → AllByRecursion (IsConstantAt p block) is → AllByRecursion (IsNumber p first (kinds_of p block)) is → (registers : List ℕ) (memories : List (List ℕ))
-      → is_inside ds (numbers_at first (block_values p (start_at p registers memories) block) is) ≡ true → AllByRecursion (IsLiteral os first) (ranges_by ds is)
-  inside_literals [] [] constants numbers registers memories e = tt
-  inside_literals [] (i ∷ is) constants numbers registers memories e = tt
-  inside_literals (d ∷ ds) [] constants numbers registers memories e = tt
-  inside_literals (d ∷ ds) (i ∷ is) constants numbers registers memories e =
-      let ws = block_values p (start_at p registers memories) block in
-      let two = both_true (is_below_size (value_of (word_at first ws i)) d.size) (is_inside ds (numbers_at first ws is)) e in
-      (constant_found i d.size constants.0 numbers.0 registers memories two.0, inside_literals ds is constants.1 numbers.1 registers memories two.1)
+  -- what the pass knows of a block
+  pub record IsOfBlock (a : Around) : Type 0 where
+    pub table : a.table ≡ p.table
+    pub views : a.views ≡ p.views
+    pub operations : a.operations ≡ os
+    pub first_is : a.first ≡ first
 
-  -- of an access that has literals each range is one
-  pub literal_ranges : (r : Reach) → p.views ≡ [] → ReachSuits p first (kinds_of p block) r → HasLiterals p block r
-      → AllByRecursion (IsLiteral os first) (ranges_in (dims_at p.table r.memory) r.row r.indices)
-  literal_ranges r none suits has = of r.row refl
-    where
-      start : StepStart
-      start = start_at p [] []
+  module _ (a : Around) (own : IsOfBlock a) where
+    literal_as : (v : ℕ) → literal_at a.operations (v - a.first) ≡ literal_at os (v - first)
+    literal_as v = ap (λ (l : List Operation). literal_at l (v - a.first)) own.operations ∙ ap (λ (n : ℕ). literal_at os (v - n)) own.first_is
 
-      ws : List Word
-      ws = block_values p start block
+    indices_known : (ds : List Dim) (is : List ℕ) → AllByRecursion (IsConstantAt p block) is → AllByRecursion (IsNumber p first (kinds_of p block)) is
+        → is_inside ds (numbers_at first (block_values p (start_at p [] []) block) is) ≡ true → AreKnownAs (map (operand_of a) is) (numbers_at first (block_values p (start_at p [] []) block) is)
+    indices_known ds [] constants numbers e = tt
+    indices_known [] (i ∷ is) constants numbers e = absurd (cc)
+    indices_known (d ∷ ds) (i ∷ is) constants numbers e =
+        let ws = block_values p (start_at p [] []) block in
+        let two = both_true (is_below_size (value_of (word_at first ws i)) d.size) (is_inside ds (numbers_at first ws is)) e in
+        let k = constant_known i d.size constants.0 numbers.0 [] [] two.0 in
+        (record { number = constants.0.word.bits; literal = literal_as i ∙ k.0; value = k.1 }, indices_known ds is constants.1 numbers.1 two.1)
 
-      spot : Spot
-      spot = (has.inside [] []).0
+    -- of an access that has literals all that is to be in range is one, and the indices of the memory
+    pub literal_ways : HasMaps p → IsProgramTable p.table → (r : Reach) → ReachSuits p first (kinds_of p block) r → HasLiterals p block r → (old : List Operation)
+        → AreAllLiteral (reach_passed a r old).ranges × (r.row ≡ None → AreAllLiteral (ranges_by (dims_at p.table r.memory) (reach_passed a r old).indices))
+    literal_ways maps tables r suits has old = to_literal r.row refl
+      where
+        start : StepStart
+        start = start_at p [] []
 
-      leads : spot_in_row start first ws r r.row ≡ Some spot
-      leads = (has.inside [] []).1
+        ws : List Word
+        ws = block_values p start block
 
-      numbers : (xs ys : List ℕ) → AllByRecursion (IsNumber p first (kinds_of p block)) (xs ++ ys) → AllByRecursion (IsNumber p first (kinds_of p block)) xs
-      numbers [] ys h = tt
-      numbers (x ∷ xs) ys h = (h.0, numbers xs ys h.1)
+        spot : Spot
+        spot = (has.inside [] []).0
 
-      by_row : (row : ℕ) → r.row ≡ Some row → AllByRecursion (IsLiteral os first) (ranges_in (dims_at p.table r.memory) (Some row) r.indices)
-      by_row row is =
-          let at : spot_in_row start first ws r (Some row) ≡ Some spot = subst (λ (o : Option ℕ). spot_in_row start first ws r o ≡ Some spot) is leads in
-          let number = subst (λ (o : Option ℕ). AllByRecursion (IsNumber p first (kinds_of p block)) (one_or_none o)) is suits.row in
-          let named = subst (λ (o : Option ℕ). NamedByConstants p block r o) is has.constants in
-          let inside = some_if (is_row (dims_at p.table r.memory) (value_of (word_at first ws row))) _ spot at in
-          (constant_found row (rows_of (dims_at p.table r.memory)) named.0 number.0 [] [] inside, tt)
+        leads : spot_in_row start first ws r r.row ≡ Some spot
+        leads = (has.inside [] []).1
 
-      by_indices : r.row ≡ None → AllByRecursion (IsLiteral os first) (ranges_in (dims_at p.table r.memory) None r.indices)
-      by_indices is =
-          let element = subst (λ (o : Option ℕ). NamesElement p first (kinds_of p block) r o) is suits.element in
-          let plain = element_plain p first (kinds_of p block) none r element in
-          let at : spot_in_row start first ws r None ≡ Some spot = subst (λ (o : Option ℕ). spot_in_row start first ws r o ≡ Some spot) is leads in
-          let direct : spot_by_indices p.table r.memory (numbers_at first ws r.indices) ≡ Some spot
-          = subst (λ (steps : List ReachStep). spot_if_inside p.table r.memory (indices_behind p.views (passages first ws steps) (numbers_at first ws r.indices)) ≡ Some spot) plain.steps at in
-          let named = subst (λ (o : Option ℕ). NamedByConstants p block r o) is has.constants in
-          let inside = some_if (is_inside (dims_at p.table r.memory) (numbers_at first ws r.indices)) _ spot direct in
-          inside_literals (dims_at p.table r.memory) r.indices named.0 (numbers r.indices _ suits.indices) [] [] inside
-
-      of : (row : Option ℕ) → r.row ≡ row → AllByRecursion (IsLiteral os first) (ranges_in (dims_at p.table r.memory) row r.indices)
-      of None is = by_indices is
-      of (Some row) is = by_row row is
+        to_literal : (row : Option ℕ) → r.row ≡ row → AreAllLiteral (passed_to a r row old).ranges × (row ≡ None → AreAllLiteral (ranges_by (dims_at p.table r.memory) (passed_to a r row old).indices))
+        to_literal None is =
+            let element = subst (λ (o : Option ℕ). NamesElement p first (kinds_of p block) r o) is suits.element in
+            let at : spot_in_row start first ws r None ≡ Some spot = subst (λ (o : Option ℕ). spot_in_row start first ws r o ≡ Some spot) is leads in
+            let named = subst (λ (o : Option ℕ). NamedByConstants p block r o) is has.constants in
+            let offsets : (ReachStep → List ℤ) = λ s. numbers_at first ws s.offsets in
+            let numbers = all_left (IsNumber p first (kinds_of p block)) r.indices (offsets_taken r.steps) suits.indices in
+            let inside = first_inside p maps tables first (kinds_of p block) r.memory offsets spot r.steps element.0 (numbers_at first ws r.indices) element.1.1 at in
+            let k = steps_known p maps tables first (kinds_of p block) r.memory offsets spot a own.views r.steps element.0 (numbers_at first ws r.indices) (way_begun a r old) element.1.1 named.1
+            (indices_known element.0 r.indices named.0 numbers inside) tt at
+            in (
+              subst (λ (t : List MemEntry). AreAllLiteral ((steps_passed a r.steps (way_begun a r old)).ranges ++ ranges_by (dims_at t r.memory) (steps_passed a r.steps (way_begun a r old)).indices)) (sym own.table)
+                  (literals_join (steps_passed a r.steps (way_begun a r old)).ranges _ k.0 k.1),
+              λ e. k.1,
+            )
+        to_literal (Some row) is =
+            let at : spot_in_row start first ws r (Some row) ≡ Some spot = subst (λ (o : Option ℕ). spot_in_row start first ws r o ≡ Some spot) is leads in
+            let number = subst (λ (o : Option ℕ). AllByRecursion (IsNumber p first (kinds_of p block)) (one_or_none o)) is suits.row in
+            let named = subst (λ (o : Option ℕ). NamedByConstants p block r o) is has.constants in
+            let rows = rows_of (dims_at p.table r.memory) in
+            let inside = some_if (is_row (dims_at p.table r.memory) (value_of (word_at first ws row))) _ spot at in
+            let k = constant_known row rows named.0 number.0 [] [] inside in
+            let below = below_found named.0.word.bits rows (ap (λ (z : ℤ). is_below_size z rows) (sym k.1) ∙ inside) in
+            let size : rows_of (dims_at a.table r.memory) % 2 ^ 64 ≡ rows = ap (λ (t : List MemEntry). rows_of (dims_at t r.memory) % 2 ^ 64) own.table ∙ mod-eq_of_lt (rows_below p.table r.memory tables) in (
+              ((named.0.word.bits, ap (λ (n : ℕ). below_size (literal_at a.operations (row - a.first)) n) size ∙ (ap (λ (l : Option ℕ). below_size l rows) (literal_as row ∙ k.0) ∙ below)), tt),
+              λ e. absurd (some_none e),
+            )
+          where
+            some_none : Some row ≡ None → ⊥
+            some_none e = cc

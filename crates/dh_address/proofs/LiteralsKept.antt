@@ -1,5 +1,5 @@
 -- Row and bank of a literal access are constants of the new plan; and what all this says of a plan's literals.
-use Rattle.std.proofs.Common.{◌≡◌, ℕ, zero, suc, ◌+◌, ◌-◌, ◌<◌, ◌≤◌, Bool, true, false, List, refl, sym, ap, ◌∙◌, subst, arith, length, map}
+use Rattle.std.proofs.Common.{◌≡◌, ℕ, zero, suc, ◌+◌, ◌-◌, ◌<◌, ◌≤◌, Bool, true, false, List, refl, sym, ap, ◌∙◌, subst, arith, length}
 use Rattle.std.specs.Prelude.{Option, Some, None, [], ◌∷◌, ◌++◌, slice_get, slice_index}
 use Rattle.std.specs.List.{AllByRecursion}
 use Rattle.std.proofs.Math.Nat.{add-sub_cancel_left}
@@ -9,6 +9,7 @@ use Rattle.dh_value.specs.declared.words.Word.{Word}
 use Rattle.dh_value.specs.Words.{with_bits}
 use Rattle.dh_tree.specs.declared.tables.MemEntry.{MemEntry}
 use Rattle.dh_tree.specs.Elements.{dims_at}
+use Rattle.dh_tree.specs.Shapes.{IsProgramTable}
 use Rattle.dh_plan.specs.declared.operations.Operation.{Operation}
 use Rattle.dh_plan.specs.declared.operations.OperationForm.{OperationForm}
 use Rattle.dh_plan.specs.declared.operations.OperationForm.TheVariants.{Constant, Old, Compute, Convert, Select, Check, Probe, Read, Write, Set}
@@ -22,15 +23,18 @@ use Rattle.dh_plan.specs.SoundPlans.{HasUse, access_in, use_in}
 use Rattle.dh_rows.specs.Readings.{Grows}
 use Rattle.dh_rows.specs.MadeOperations.{constant_made}
 use Rattle.dh_rows.proofs.Growing.{grown_length, grows_on, grows_self, kept_there}
+use Rattle.dh_address.proofs.WaySizes.{HasMaps}
 use Rattle.dh_address.specs.declared.literals.LiteralPlace.{LiteralPlace}
-use Rattle.dh_address.specs.LiteralPlaces.{literal_places}
-use Rattle.dh_address.specs.Pieces.{Around, IsAim, IsAimBut, IsAimed, IsAimedByIndices, aim_width, is_banked, new_number, new_or_none, ranges_in, ranges_of, waited}
+use Rattle.dh_address.specs.Pieces.{Around, IsAim, IsAimBut, IsAimed, IsAimedByIndices, aim_width, is_banked, new_number, new_or_none, values_of, waited}
+use Rattle.dh_address.specs.declared.operands.Operand.{Operand}
+use Rattle.dh_address.specs.WaysMade.{ranges_by, reach_passed}
 use Rattle.dh_address.specs.Images.{IsImage, around_block, operations_until}
 use Rattle.dh_address.proofs.ImageReadings.{at_last, behind_front}
 use Rattle.dh_address.proofs.PiecesGrow.{access_grows, guarded_grows, waited_grows}
 use Rattle.dh_address.proofs.PiecesQuiet.{IsRowOf, row_aimed}
 use Rattle.dh_address.proofs.PartsSeen.{until_block}
-use Rattle.dh_address.proofs.LiteralsFound.{IsLiteral, literal_ranges, places_found}
+use Rattle.dh_address.proofs.LiteralsFound.{AreAllLiteral, IsOfBlock, literal_ways, places_found}
+use Rattle.dh_address.proofs.WaysPlain.{passed_grows}
 use Rattle.dh_address.proofs.LiteralRows.{HasUsePut, IsKept, IsUsePut, KeepsConstants, kept_on, use_found}
 use Rattle.dh_address.proofs.ChecksPut.{checks_unliteral}
 
@@ -87,7 +91,7 @@ use_takes P g (Read t) r e h = let same : t ≡ r = cc in subst (λ (u : Reach).
 use_takes P g (Write t value) r e h = let same : t ≡ r = cc in subst (λ (u : Reach). AllByRecursion P (reach_takes u)) same (all_back P (one_or_none g) (value ∷ reach_takes t) h).1
 use_takes P g (Set register value) r e h = absurd (cc)
 
-module _ (p q : PlainPlan) (h : IsImage p q) (formed : (block : ℕ) → IsFormedBlock p block) (none : p.views ≡ []) (c : ℕ) where
+module _ (p q : PlainPlan) (h : IsImage p q) (formed : (block : ℕ) → IsFormedBlock p block) (maps : HasMaps p) (tables : IsProgramTable p.table) (c : ℕ) where
   abbrev base : List Operation
   base = operations_until q.blocks c
 
@@ -165,7 +169,7 @@ module _ (p q : PlainPlan) (h : IsImage p q) (formed : (block : ℕ) → IsForme
       r = put.old_reach
 
       row_of_old : IsRowOf r t
-      row_of_old = row_aimed a r r.row put.made.guarded put.last t put.made.aims
+      row_of_old = row_aimed a r r.row put.made.indices put.made.guarded put.last t put.made.aims
 
       literals : HasLiterals p c r
       literals = literal c u.place r (record { operation = u.operation; there = u.there; accesses = use_accesses u.operation.form r put.uses }) (sym row_of_old.access ∙ same)
@@ -180,7 +184,9 @@ module _ (p q : PlainPlan) (h : IsImage p q) (formed : (block : ℕ) → IsForme
       behind_last = grows_on put.last u.after whole put.grows u.grows
 
       begun_guarded : Grows base put.made.guarded
-      begun_guarded = grows_on base u.before put.made.guarded u.begun (guarded_grows a put.guard (ranges_of a r) u.before put.made.guarded put.on put.made.guards)
+      begun_guarded =
+          grows_on base u.before put.made.guarded u.begun (grows_on u.before put.made.passed put.made.guarded (passed_grows a r u.before put.made.passed put.made.ranges put.made.indices put.made.passes)
+          (guarded_grows put.guard put.made.ranges put.made.passed put.made.guarded put.on put.made.guards))
 
       behind_before : Grows u.before whole
       behind_before = grows_on u.before put.last whole (access_grows a put.guard r u.before put.last put.on t put.made) behind_last
@@ -193,7 +199,7 @@ module _ (p q : PlainPlan) (h : IsImage p q) (formed : (block : ℕ) → IsForme
 
       by_given : (row : ℕ) → r.row ≡ Some row → IsConstantOr q c t.row × IsConstantOr q c t.select
       by_given row is =
-          let aims = subst (λ (o : Option ℕ). IsAimed a r o put.made.guarded put.last t) is put.made.aims in
+          let aims = subst (λ (o : Option ℕ). IsAimed a r o put.made.indices put.made.guarded put.last t) is put.made.aims in
           let named = subst (λ (o : Option ℕ). NamedByConstants p c r o) is literals.constants in
           let Between = IsBetween (first_in p c) (first_in p c + u.place) in
           let behind = all_back Between (offsets_taken r.steps) (one_or_none r.select ++ one_or_none r.row) (all_back Between r.indices (offsets_taken r.steps ++ (one_or_none r.select ++ one_or_none r.row)) takes) in
@@ -205,16 +211,17 @@ module _ (p q : PlainPlan) (h : IsImage p q) (formed : (block : ℕ) → IsForme
 
       by_indices : r.row ≡ None → IsConstantOr q c t.row × IsConstantOr q c t.select
       by_indices is =
-          let aims : IsAimedByIndices a r put.made.guarded put.last t = subst (λ (o : Option ℕ). IsAimed a r o put.made.guarded put.last t) is put.made.aims in
-          let ranges = subst (λ (o : Option ℕ). AllByRecursion (IsLiteral (operations_in p c) (first_in p c)) (ranges_in (dims_at p.table r.memory) o r.indices)) is (literal_ranges p c (formed c) r none suits literals) in
-          let found = places_found (operations_in p c) (first_in p c) (dims_at p.table r.memory) r.indices 0 0 ranges in
-          let as_seen : literal_places a.operations a.first (dims_at a.table r.memory) r.indices 0 0 ≡ Some found.0
-          = ap (λ (os : List Operation). literal_places os a.first (dims_at a.table r.memory) r.indices 0 0) u.operations_are
-          ∙ (ap (λ n. literal_places (operations_in p c) n (dims_at a.table r.memory) r.indices 0 0) u.first_is
-          ∙ (ap (λ (table : List MemEntry). literal_places (operations_in p c) (first_in p c) (dims_at table r.memory) r.indices 0 0) u.table_is ∙ found.1)) in
-          let aim = subst (λ (o : Option LiteralPlace). IsAimBut o (aim_width (dims_at a.table r.memory)) (dims_at a.table r.memory) (map (new_number a) r.indices) (is_banked r)
-          (waited put.made.guarded (new_or_none a r.select)).operations put.last aims.row aims.select) as_seen aims.aim in
-          let two = aim_constants (is_banked r) (aim_width (dims_at a.table r.memory)) found.0.row found.0.bank (waited put.made.guarded (new_or_none a r.select)).operations put.last aims.row aims.select
+          let aims : IsAimedByIndices a r put.made.indices put.made.guarded put.last t = subst (λ (o : Option ℕ). IsAimed a r o put.made.indices put.made.guarded put.last t) is put.made.aims in
+          let own : IsOfBlock p c (formed c) a = record { table = u.table_is; views = u.views_is; operations = u.operations_are; first_is = u.first_is } in
+          let ranges = (literal_ways p c (formed c) a own maps tables r suits literals u.before).1 is in
+          let dims = dims_at a.table r.memory in
+          let at_own : AreAllLiteral (ranges_by dims put.made.indices)
+          = subst (λ (os : List Operand). AreAllLiteral (ranges_by dims os)) (sym put.made.passes.1.1) (subst (λ (t : List MemEntry). AreAllLiteral (ranges_by (dims_at t r.memory) (reach_passed a r u.before).indices)) (sym u.table_is) ranges)
+          in
+          let found = places_found dims put.made.indices 0 0 at_own in
+          let aim = subst (λ (o : Option LiteralPlace). IsAimBut o (aim_width dims) dims (values_of put.made.indices) (is_banked r)
+          (waited put.made.guarded (new_or_none a r.select)).operations put.last aims.row aims.select) found.1 aims.aim in
+          let two = aim_constants (is_banked r) (aim_width dims) found.0.row found.0.bank (waited put.made.guarded (new_or_none a r.select)).operations put.last aims.row aims.select
           (grows_on base put.made.guarded _ begun_guarded (waited_grows put.made.guarded (new_or_none a r.select))) behind_last aim in
           (or_as t.row (Some aims.row) (ap (λ (v : Reach). v.row) aims.reach) two.0, or_as t.select aims.select (ap (λ (v : Reach). v.select) aims.reach) two.1)
 
@@ -234,8 +241,8 @@ module _ (p q : PlainPlan) (h : IsImage p q) (formed : (block : ℕ) → IsForme
       from_none : (i : ℕ) (o : Operation) → slice_get (operations_in p c) i ≡ Some o → slice_get (operations_in p c) (0 + i) ≡ Some o
       from_none i o e = let none : 0 + i ≡ i = omega arith in subst (λ n. slice_get (operations_in p c) n ≡ Some o) (sym none) e
 
-pub literals_kept : (p q : PlainPlan) → IsImage p q → ((block : ℕ) → IsFormedBlock p block) → p.views ≡ [] → KeepsLiterals p q
-literals_kept p q h formed none = record {
-  unchecked = λ fault c j ok guard literal at. checks_unliteral p q h formed none fault c j ok guard literal at;
-  rows = λ number c j t literal used same. rows_constant p q h formed none c number j t literal used same;
+pub literals_kept : (p q : PlainPlan) → IsImage p q → ((block : ℕ) → IsFormedBlock p block) → HasMaps p → IsProgramTable p.table → KeepsLiterals p q
+literals_kept p q h formed maps tables = record {
+  unchecked = λ fault c j ok guard literal at. checks_unliteral p q h formed maps tables fault c j ok guard literal at;
+  rows = λ number c j t literal used same. rows_constant p q h formed maps tables c number j t literal used same;
 }

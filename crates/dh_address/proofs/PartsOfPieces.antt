@@ -20,15 +20,17 @@ use Rattle.dh_plan.proofs.ValuesAlike.{all_right}
 use Rattle.dh_rows.specs.Readings.{Readings, Grows}
 use Rattle.dh_rows.specs.MadeOperations.{pushed, IsMade}
 use Rattle.dh_rows.proofs.Growing.{grows_on}
-use Rattle.dh_address.specs.LiteralPlaces.{literal_within}
-use Rattle.dh_address.specs.Pieces.{Around, Range, new_number, new_or_none, ranges_of, IsTestBut, check_made, AreChecked, IsProbed, IsAccessMade, IsReadMade, IsWriteMade, IsFormMade}
+use Rattle.dh_address.proofs.WaySizes.{HasMaps}
+use Rattle.dh_address.specs.declared.operands.Ranged.{Ranged}
+use Rattle.dh_address.specs.LiteralPlaces.{below_size}
+use Rattle.dh_address.specs.Pieces.{Around, new_number, new_or_none, check_made, AreChecked, IsProbed, IsAccessMade, IsReadMade, IsWriteMade, IsFormMade}
 use Rattle.dh_address.proofs.AccessesPut.{IsInputOf}
 use Rattle.dh_address.proofs.GoodPieces.{AreGoodPieces, StandsInPiece, piece_around, around_rises, around_same}
 use Rattle.dh_address.proofs.ImageReadings.{timeless, FormedBelow, behind_front, was_in, at_last}
 use Rattle.dh_address.proofs.KnownPieces.{IsPieceAt}
 use Rattle.dh_address.proofs.PieceForms.{image_of, around, made_grows}
-use Rattle.dh_address.proofs.PieceShapes.{IsQuiet, GrowsQuietly, access_quietly, test_quietly, testables_at, value_quietly, inputs_at}
-use Rattle.dh_address.proofs.PiecesGrow.{access_grows, checked_grows, value_grows}
+use Rattle.dh_address.proofs.PieceShapes.{IsQuiet, GrowsQuietly, adds_quietly, access_quietly, test_quietly, passed_at, value_quietly, inputs_at}
+use Rattle.dh_address.proofs.PiecesGrow.{access_grows, checked_grows, probed_grows, value_grows}
 use Rattle.dh_address.proofs.TestedRanges.{IsTestable, test_grows, check_grows, checks_grow, begun_later, testable_later}
 
 -- of each operation put down between two lengths this holds
@@ -81,11 +83,6 @@ made_between P old mid n g f h own m u l e =
     last : (a m b : ℕ) → a ≤ m → m < b → b ≡ a + 1 → a ≡ m
     last a m b l k e = omega (arith, l, k, e)
 
--- some value of these may be out of range: it is no literal that is in range
-abbrev pub IsUnsure : Around → List Range → Type 0
-IsUnsure a [] = ⊥
-IsUnsure a (r ∷ rs) = (literal_within a.operations a.first r.value r.size ≡ None) ⊎ IsUnsure a rs
-
 -- a check of a probe
 pub record IsProbeCheck (a : Around) (o u : Operation) : Type 0 where
   pub reach : Reach
@@ -93,7 +90,6 @@ pub record IsProbeCheck (a : Around) (o u : Operation) : Type 0 where
   pub ok : ℕ
   pub form : o.form ≡ Probe reach fault
   pub check : u ≡ record { guard = new_or_none a o.guard; form = Check ok fault }
-  pub unsure : IsUnsure a (ranges_of a reach)
 
 -- an access as it was put down
 pub record IsUseOf (a : Around) (g : Option ℕ) (r : Reach) (old all : List Operation) (u : Operation) (t : Reach) : Type 0 where
@@ -117,7 +113,7 @@ IsOwnForm a g old all (Set register value) u = u ≡ record { guard = new_or_non
 abbrev pub IsPart : Around → (o : Operation) → (old all : List Operation) → (n m : ℕ) → Operation → Type 0
 IsPart a o old all n m u = IsQuiet u ⊎ (IsProbeCheck a o u ⊎ ((m ≡ n) × IsOwnForm a o.guard old all o.form u))
 
-module _ (p : PlainPlan) (none : p.views ≡ []) (tables : IsProgramTable p.table) (bs : List PlanBlock) (block : ℕ) (front : List Operation) (begins : length front ≡ first_in (image_of p bs) block)
+module _ (p : PlainPlan) (maps : HasMaps p) (tables : IsProgramTable p.table) (bs : List PlanBlock) (block : ℕ) (front : List Operation) (begins : length front ≡ first_in (image_of p bs) block)
     (formed : IsFormedBlock p block) (all_formed : FormedBelow (image_of p bs) block front begins (length (front ++ operations_in (image_of p bs) block))) where
   abbrev q : PlainPlan
   q = image_of p bs
@@ -134,7 +130,7 @@ module _ (p : PlainPlan) (none : p.views ≡ []) (tables : IsProgramTable p.tabl
   abbrev y : Readings
   y = timeless q block (start_at q [] [])
 
-  module _ (ns : List ℕ) (ks : List Kind) (i : ℕ) (o : Operation) (old mid : List Operation) (n : ℕ) (at : IsPieceAt p none tables bs block front begins formed ns ks i o old mid n) where
+  module _ (ns : List ℕ) (ks : List Kind) (i : ℕ) (o : Operation) (old mid : List Operation) (n : ℕ) (at : IsPieceAt p maps tables bs block front begins formed ns ks i o old mid n) where
     abbrev a : Around
     a = around p block ns ks
 
@@ -146,7 +142,7 @@ module _ (p : PlainPlan) (none : p.views ≡ []) (tables : IsProgramTable p.tabl
 
     forms_input : AllByRecursion (IsInputOf y 0 a (length old)) (form_takes o.form)
     forms_input = all_right (IsInputOf y 0 a (length old)) (one_or_none o.guard) (form_takes o.form)
-        (inputs_at p none tables bs block front begins formed all_formed ns ks i o old mid n at)
+        (inputs_at p maps tables bs block front begins formed all_formed ns ks i o old mid n at)
 
     same_parts : (f f' : OperationForm) → o.form ≡ f → IsMade mid n (pushed old (new_or_none a o.guard) f')
         → IsOwnForm a o.guard old all f (record { guard = new_or_none a o.guard; form = f' }) → AllBetween Part old mid
@@ -155,7 +151,7 @@ module _ (p : PlainPlan) (none : p.views ≡ []) (tables : IsProgramTable p.tabl
         (inr (inr (refl, subst (λ (g : OperationForm). IsOwnForm a o.guard old all g (record { guard = new_or_none a o.guard; form = f' })) (sym e) own)))
 
     made_all : (ps : List Operation) (g : Option ℕ) (f : OperationForm) → IsMade mid n (pushed ps g f) → Grows ps mid
-    made_all ps g f h = made_grows p none tables bs block front begins ns ks ps mid n g f h
+    made_all ps g f h = made_grows p maps tables bs block front begins ns ks ps mid n g f h
 
     read_parts : (r : Reach) → o.form ≡ Read r → IsReadMade a (new_or_none a o.guard) r old mid n → AllBetween Part old mid
     read_parts r e h =
@@ -163,7 +159,7 @@ module _ (p : PlainPlan) (none : p.views ≡ []) (tables : IsProgramTable p.tabl
         let input = subst (λ (f : OperationForm). AllByRecursion (IsInputOf y 0 a (length old)) (form_takes f)) e forms_input in
         let to_mid = made_all h.last h.on (Read h.reach) h.read in
         let grows = grows_on h.last mid all to_mid at.grows in
-        let quiet = access_quietly p none tables bs block front begins formed all_formed ns ks i o old mid n at r suits.0 suits.1 input h.last h.on h.reach h.access
+        let quiet = access_quietly p maps tables bs block front begins formed all_formed ns ks i o old mid n at r suits.0 suits.1 input h.last h.on h.reach h.access
         (access_grows a (new_or_none a o.guard) r old h.last h.on h.reach h.access) grows
         in
         let own : IsOwnForm a o.guard old all (Read r) (record { guard = h.on; form = Read h.reach }) = (h.reach, (refl, record { last = h.last; access = h.access; grows = grows })) in
@@ -176,7 +172,7 @@ module _ (p : PlainPlan) (none : p.views ≡ []) (tables : IsProgramTable p.tabl
         let input = subst (λ (f : OperationForm). AllByRecursion (IsInputOf y 0 a (length old)) (form_takes f)) e forms_input in
         let to_mid = made_all h.last h.on (Write h.reach (new_number a value)) h.write in
         let grows = grows_on h.last mid all to_mid at.grows in
-        let quiet = access_quietly p none tables bs block front begins formed all_formed ns ks i o old mid n at r suits.0 suits.1.0 input.1 h.last h.on h.reach h.access
+        let quiet = access_quietly p maps tables bs block front begins formed all_formed ns ks i o old mid n at r suits.0 suits.1.0 input.1 h.last h.on h.reach h.access
         (access_grows a (new_or_none a o.guard) r old h.last h.on h.reach h.access) grows
         in
         let own : IsOwnForm a o.guard old all (Write r value) (record { guard = h.on; form = Write h.reach (new_number a value) }) =
@@ -188,46 +184,43 @@ module _ (p : PlainPlan) (none : p.views ≡ []) (tables : IsProgramTable p.tabl
 
     -- Probes.
 
-    -- a check is put down for what is no literal alone
-    check_parts : (r : Reach) (fault : ℕ) → o.form ≡ Probe r fault → (literal : Option ℕ) (here there : List Operation) (k : Kind) (value size : ℕ) (test : Option ℕ) → IsTestBut literal here there k value size test
-        → (literal ≡ None → IsUnsure a (ranges_of a r)) → AllBetween Part there (check_made there (new_or_none a o.guard) fault test)
-    check_parts r fault e literal here there k value size None h unsure = nothing_between Part there there refl
-    check_parts r fault e None here there k value size (Some test) h unsure =
+    check_parts : (r : Reach) (fault : ℕ) → o.form ≡ Probe r fault → (there : List Operation) (test : Option ℕ) → AllBetween Part there (check_made there (new_or_none a o.guard) fault test)
+    check_parts r fault e there None = nothing_between Part there there refl
+    check_parts r fault e there (Some test) =
         made_between Part there (check_made there (new_or_none a o.guard) fault (Some test)) (length there) (new_or_none a o.guard) (Check test fault) (refl, refl)
-        (inr (inl (record { reach = r; fault = fault; ok = test; form = e; check = refl; unsure = unsure refl })))
-    check_parts r fault e (Some lit) here there k value size (Some test) h unsure = absurd (impossible h.1)
-      where
-        impossible : Some test ≡ None → ⊥
-        impossible c = cc
+        (inr (inl (record { reach = r; fault = fault; ok = test; form = e; check = refl })))
 
-    checks_parts : (r : Reach) (fault : ℕ) → o.form ≡ Probe r fault → (rs : List Range) (here there : List Operation) → AreChecked a (new_or_none a o.guard) fault rs here there → Grows there all → first ≤ length here
-        → AllByRecursion (IsTestable y 0 a here) rs → (IsUnsure a rs → IsUnsure a (ranges_of a r)) → AllBetween Part here there
-    checks_parts r fault e [] here there h grows begun testable unsure = nothing_between Part here there h
-    checks_parts r fault e (x ∷ rs) here there (middle, (test, (tested, rest))) grows begun testable unsure =
+    checks_parts : (r : Reach) (fault : ℕ) → o.form ≡ Probe r fault → (rs : List Ranged) (here there : List Operation) → AreChecked (new_or_none a o.guard) fault rs here there → Grows there all → first ≤ length here
+        → AllByRecursion (IsTestable y 0 here) rs → AllBetween Part here there
+    checks_parts r fault e [] here there h grows begun testable = nothing_between Part here there h
+    checks_parts r fault e (x ∷ rs) here there (middle, (test, (tested, rest))) grows begun testable =
         let g = new_or_none a o.guard in
-        let behind = checks_grow a g fault rs (check_made middle g fault test) there rest in
+        let behind = checks_grow g fault rs (check_made middle g fault test) there rest in
         let check = check_grows middle g fault test in
         let to_check = grows_on (check_made middle g fault test) there all behind grows in
         let to_all = grows_on middle _ all check to_check in
-        let quiet = test_quietly p none tables bs block front begins formed all_formed ns ks i o old mid n at x here middle test tested begun testable.0 to_all in
-        let grown = test_grows (literal_within a.operations a.first x.value x.size) here middle _ _ _ test tested in
+        let quiet = test_quietly p maps tables bs block front begins formed all_formed ns ks i o old mid n at x here middle test tested begun testable.0 to_all in
+        let grown = test_grows (below_size x.operand.literal x.size) here middle _ _ _ test tested in
         let far = grows_on here middle _ grown check in
         between_on Part here middle there (grows_on middle _ there check behind) (quiet_between Part as_quiet here middle quiet)
-        (between_on Part middle (check_made middle g fault test) there behind
-        (check_parts r fault e (literal_within a.operations a.first x.value x.size) here middle _ _ _ test tested (λ no. unsure (inl no)))
-        (checks_parts r fault e rs (check_made middle g fault test) there rest grows (begun_later y here _ far begun) (testable_later y 0 a here _ far rs testable.1) (λ more. unsure (inr more))))
+        (between_on Part middle (check_made middle g fault test) there behind (check_parts r fault e middle test)
+        (checks_parts r fault e rs (check_made middle g fault test) there rest grows (begun_later y here _ far begun) (testable_later y 0 here _ far rs testable.1)))
 
     probe_parts : (r : Reach) (fault : ℕ) → o.form ≡ Probe r fault → IsProbed a (new_or_none a o.guard) r fault old mid n → AllBetween Part old mid
     probe_parts r fault e h =
         let suits = subst (λ (f : OperationForm). FormSuits p old_first ks f) e at.suits.form in
         let input = subst (λ (f : OperationForm). AllByRecursion (IsInputOf y 0 a (length old)) (form_takes f)) e forms_input in
-        let checked = checked_grows a (new_or_none a o.guard) fault (ranges_of a r) old h.checked h.checks in
+        let w = passed_at p maps tables bs block front begins formed all_formed ns ks i o old mid n at r suits.0 input h.passed h.ranges h.indices h.passes in
+        let checked = probed_grows a (new_or_none a o.guard) r fault old mid n h in
+        let checks = checked_grows (new_or_none a o.guard) fault h.ranges h.passed h.checked h.checks in
         let value = value_grows a.probed a (new_or_none a o.guard) r h.checked mid n h.value in
+        let to_all = grows_on h.checked mid all value at.grows in
         between_on Part old h.checked mid value
-        (checks_parts r fault e (ranges_of a r) old h.checked h.checks (grows_on h.checked mid all value at.grows) at.begun
-        (testables_at p none tables bs block front begins formed all_formed ns ks i o old mid n at r suits.0 input) (λ u. u))
+        (between_on Part old h.passed h.checked checks
+        (quiet_between Part as_quiet old h.passed (adds_quietly p maps tables bs block front begins formed all_formed old h.passed w.adds (grows_on h.passed h.checked all checks to_all)))
+        (checks_parts r fault e h.ranges h.passed h.checked h.checks to_all (begun_later y old h.passed w.adds.grows at.begun) w.ranges))
         (quiet_between Part as_quiet h.checked mid
-        (value_quietly p none tables bs block front begins formed all_formed ns ks i o old mid n at a.probed r h.checked h.value (begun_later y old h.checked checked at.begun) checked input))
+        (value_quietly p maps tables bs block front begins formed all_formed ns ks i o old mid n at a.probed r h.checked h.value (begun_later y old h.checked checked at.begun) checked input))
 
     form_parts : (f : OperationForm) → o.form ≡ f → IsFormMade a (new_or_none a o.guard) f old mid n → AllBetween Part old mid
     form_parts (Constant word) e h = same_parts (Constant word) (Constant word) e h refl
@@ -246,11 +239,11 @@ module _ (p : PlainPlan) (none : p.views ≡ []) (tables : IsProgramTable p.tabl
 
   -- An operation of the new block.
 
-  module _ (Good : ℕ → ℕ → Type 0) (h : AreGoodPieces p none tables bs block front begins formed Good [] [] 0 (operations_in p block) front) where
+  module _ (Good : ℕ → ℕ → Type 0) (h : AreGoodPieces p maps tables bs block front begins formed Good [] [] 0 (operations_in p block) front) where
     -- where it stands
-    abbrev pub stands_at : (j : ℕ) (u : Operation) → slice_get (operations_in q block) j ≡ Some u → StandsInPiece p none tables bs block front begins formed Good 0 (length front + j)
+    abbrev pub stands_at : (j : ℕ) (u : Operation) → slice_get (operations_in q block) j ≡ Some u → StandsInPiece p maps tables bs block front begins formed Good 0 (length front + j)
     stands_at j u e =
-        piece_around p none tables bs block front begins formed Good (operations_in p block) [] [] 0 front h (length front + j) (begun_there (length front) j)
+        piece_around p maps tables bs block front begins formed Good (operations_in p block) [] [] 0 front h (length front + j) (begun_there (length front) j)
         (place_of all (length front + j) u (behind_front front (operations_in q block) j ∙ e))
 
     pub part_at : (j : ℕ) (u : Operation) (e : slice_get (operations_in q block) j ≡ Some u)
@@ -263,13 +256,13 @@ module _ (p : PlainPlan) (none : p.views ≡ []) (tables : IsProgramTable p.tabl
     -- later ones stand in later pieces, and of one piece one alone is the old operation itself
     pub stand_in_order : (j k : ℕ) (u v : Operation) (d : slice_get (operations_in q block) j ≡ Some u) (e : slice_get (operations_in q block) k ≡ Some v) → j ≤ k → (stands_at j u d).place ≤ (stands_at k v e).place
     stand_in_order j k u v d e l =
-        around_rises p none tables bs block front begins formed Good (operations_in p block) [] [] 0 front h (length front + j) (length front + k) (begun_there (length front) j)
+        around_rises p maps tables bs block front begins formed Good (operations_in p block) [] [] 0 front h (length front + j) (length front + k) (begun_there (length front) j)
         (place_of all (length front + j) u (behind_front front (operations_in q block) j ∙ d)) (begun_there (length front) k) (place_of all (length front + k) v (behind_front front (operations_in q block) k ∙ e)) (omega (arith, l))
 
     pub one_itself : (j k : ℕ) (u v : Operation) (d : slice_get (operations_in q block) j ≡ Some u) (e : slice_get (operations_in q block) k ≡ Some v) → (stands_at j u d).place ≡ (stands_at k v e).place
         → length front + j ≡ (stands_at j u d).of.number → length front + k ≡ (stands_at k v e).of.number → j ≡ k
     one_itself j k u v d e same own other =
-        let one = around_same p none tables bs block front begins formed Good (operations_in p block) [] [] 0 front h (length front + j) (length front + k) (begun_there (length front) j)
+        let one = around_same p maps tables bs block front begins formed Good (operations_in p block) [] [] 0 front h (length front + j) (length front + k) (begun_there (length front) j)
         (place_of all (length front + j) u (behind_front front (operations_in q block) j ∙ d)) (begun_there (length front) k) (place_of all (length front + k) v (behind_front front (operations_in q block) k ∙ e)) same
         in
         cancel (length front) j k (own ∙ (one ∙ sym other))

@@ -25,12 +25,16 @@ use Rattle.dh_rows.specs.Readings.{Readings, Obeys, Grows, Adds, IsValueOrNone}
 use Rattle.dh_rows.specs.MadeOperations.{pushed, IsMade}
 use Rattle.dh_rows.specs.RowsShown.{IsInput}
 use Rattle.dh_rows.proofs.Growing.{grows_on, grown_length, kept_there, pushed_grows, adds_on, maybe_later, pushed_adds, pushed_value}
-use Rattle.dh_address.specs.Pieces.{Around, Range, any_takes_probe, new_number, new_or_none, known_kind, ranges_of, check_made, AreChecked, is_probe_form, false_behind_all, false_word, new_takes, IsProbeValue, IsProbed, IsAimed, IsAccessMade, IsReadMade, IsWriteMade, IsFormMade, IsPiece, aimed}
-use Rattle.dh_address.proofs.AccessesPut.{IsInputOf, PutsAccess, IsPicked, IsPicksGiven, input_later, maybe_value, testables, aims_put, all_join, IsNumberThere, IsCountThere}
+use Rattle.dh_address.proofs.WaySizes.{HasMaps}
+use Rattle.dh_address.specs.Pieces.{Around, any_takes_probe, new_number, new_or_none, known_kind, all_taken, check_made, AreChecked, is_probe_form, false_behind_all, false_word, new_takes, IsProbeValue, IsProbed, IsAimed, IsAccessMade, IsReadMade, IsWriteMade, IsFormMade, IsPiece, aimed}
+use Rattle.dh_address.proofs.AccessesPut.{IsInputOf, PutsAccess, IsPicked, IsPicksGiven, input_later, maybe_value, aims_put, all_join, IsNumberThere, IsCountThere}
 use Rattle.dh_address.proofs.FalsePut.{many_false_put}
 use Rattle.dh_address.proofs.ImageReadings.{timeless, timeless_below, FormedAt, FormedBelow, kind_given, added_below, pushed_below, at_last}
+use Rattle.dh_address.specs.declared.operands.Ranged.{Ranged}
 use Rattle.dh_address.proofs.PiecesGrow.{access_grows, value_grows}
-use Rattle.dh_address.proofs.TestedRanges.{PutsMaybe, IsTestable, check_grows, checks_grow, tested_put, testable_later, begun_later, guards_put}
+use Rattle.dh_address.proofs.WayLengths.{passed_long}
+use Rattle.dh_address.proofs.WaysPut.{passed_put}
+use Rattle.dh_address.proofs.TestedRanges.{PutsMaybe, IsTestable, all_there, check_grows, checks_grow, tested_put, testable_later, begun_later, guards_put}
 
 -- the plan that the pass makes, of these blocks
 abbrev pub image_of : PlainPlan → List PlanBlock → PlainPlan
@@ -40,6 +44,7 @@ image_of p bs = record { table = p.table; views = []; registers = p.registers; b
 abbrev pub around : PlainPlan → (block : ℕ) → (numbers : List ℕ) → List Kind → Around
 around p block ns ks = record {
   table = p.table;
+  views = p.views;
   operations = operations_in p block;
   first = first_in p block;
   probed = any_takes_probe (operations_in p block) (first_in p block);
@@ -47,7 +52,7 @@ around p block ns ks = record {
   kinds = ks;
 }
 
-module _ (p : PlainPlan) (none : p.views ≡ []) (tables : IsProgramTable p.table) (bs : List PlanBlock) (block : ℕ) (front : List Operation) (begins : length front ≡ first_in (image_of p bs) block)
+module _ (p : PlainPlan) (maps : HasMaps p) (tables : IsProgramTable p.table) (bs : List PlanBlock) (block : ℕ) (front : List Operation) (begins : length front ≡ first_in (image_of p bs) block)
     (ns : List ℕ) (ks : List Kind) where
   abbrev q : PlainPlan
   q = image_of p bs
@@ -201,7 +206,7 @@ module _ (p : PlainPlan) (none : p.views ≡ []) (tables : IsProgramTable p.tabl
   pub memory_is : (g : Option ℕ) (r : Reach) (old last : List Operation) (on : Option ℕ) (t : Reach) → IsAccessMade a (new_or_none a g) r old last on t → t.memory ≡ r.memory
   memory_is g r old last on t h = of r.row h.aims
     where
-      of : (row : Option ℕ) → IsAimed a r row h.guarded last t → t.memory ≡ r.memory
+      of : (row : Option ℕ) → IsAimed a r row h.indices h.guarded last t → t.memory ≡ r.memory
       of None k = ap (λ (u : Reach). u.memory) k.reach
       of (Some row) k = ap (λ (u : Reach). u.memory) k.1
 
@@ -232,21 +237,21 @@ module _ (p : PlainPlan) (none : p.views ≡ []) (tables : IsProgramTable p.tabl
   as_aimed r old guarded last on t guards access grows begun formed suits =
       subst (λ (u : Reach). PutsUse r old last on u) (sym access.reach) (with_access r old guarded last on t guards access grows begun formed suits)
 
-  -- once the tests are put down
-  with_guards : (g : Option ℕ) (r : Reach) (old guarded last : List Operation) (on : Option ℕ) (t : Reach) → PutsMaybe x 0 old guarded kind.Bool on → IsAimed a r r.row guarded last t → Grows last all
-      → first ≤ length old → Formed (length old) → ReachSuits p (first_in p block) ks r → PicksBank p (first_in p block) ks r r.row r.select → AllByRecursion (Input (length old)) (reach_takes r) → PutsUse r old last on t
-  with_guards g r old guarded last on t guards aims grows begun formed suits picks taken =
-      let later = all_map (Input (length old)) (Input (length guarded)) (reach_takes r) (λ v i. input_later x 0 a (length old) (length guarded) v (grown_length old guarded guards.adds.grows) i) taken in
-      as_aimed r old guarded last on t guards
-      (aims_put x 0 a p none refl tables r suits r.row refl (picks_of r r.row picks) guarded last t aims (begun_later x old guarded guards.adds.grows begun) later) grows begun formed suits
+  pub inputs_later : (old mid : List Operation) → Grows old mid → (vs : List ℕ) → AllByRecursion (Input (length old)) vs → AllByRecursion (Input (length mid)) vs
+  inputs_later old mid g vs h = all_map (Input (length old)) (Input (length mid)) vs (λ v i. input_later x 0 a (length old) (length mid) v (grown_length old mid g) i) h
 
   pub use_put : (g : Option ℕ) (r : Reach) (old last : List Operation) (on : Option ℕ) (t : Reach) → IsAccessMade a (new_or_none a g) r old last on t → Grows last all → first ≤ length old → Formed (length old)
       → AllByRecursion (λ v. known_kind a v ≡ kind.Bool) (one_or_none g) → AllByRecursion (Input (length old)) (one_or_none g)
       → ReachSuits p (first_in p block) ks r → PicksBank p (first_in p block) ks r r.row r.select → AllByRecursion (Input (length old)) (reach_takes r) → PutsUse r old last on t
   use_put g r old last on t h grows begun formed gk gi suits picks taken =
-      with_guards g r old h.guarded last on t
-      (guards_put x 0 a (new_or_none a g) (ranges_of a r) old h.guarded on h.guards begun (testables x 0 a p r suits old taken) (maybe_value x 0 a old kind.Bool g gk gi))
-      h.aims grows begun formed suits picks taken
+      let w = passed_put x 0 a p maps tables refl r suits old h.passed h.ranges h.indices h.passes begun taken in
+      let at_passed = begun_later x old h.passed w.adds.grows begun in
+      let guards = guards_put x 0 (new_or_none a g) h.ranges h.passed h.guarded on h.guards at_passed w.ranges (maybe_value x 0 a h.passed kind.Bool g gk (inputs_later old h.passed w.adds.grows (one_or_none g) gi)) in
+      let adds = adds_on x 0 old h.passed h.guarded w.adds guards.adds in
+      as_aimed r old h.guarded last on t (record { adds = adds; stands = guards.stands })
+      (aims_put x 0 a p refl tables r suits r.row refl (picks_of r r.row picks) h.indices h.guarded last t h.aims (begun_later x old h.guarded adds.grows begun)
+      (passed_long a p maps refl r suits old h.passed h.ranges h.indices h.passes) (all_there x 0 h.passed h.guarded guards.adds.grows h.indices w.indices)
+      (inputs_later old h.guarded adds.grows (reach_takes r) taken)) grows begun formed suits
 
   -- the reads and writes themselves
   read_put : (g : Option ℕ) (r : Reach) (old mid : List Operation) (n : ℕ) (k : Kind) (gives : Type 0) → IsReadMade a (new_or_none a g) r old mid n → Grows mid all → first ≤ length old → Formed (length old)
@@ -292,24 +297,21 @@ module _ (p : PlainPlan) (none : p.views ≡ []) (tables : IsProgramTable p.tabl
         record { guard = maybe_truth (length mid) g gk gi; form = (s.kind_is, named) },
       )
 
-  pub inputs_later : (old mid : List Operation) → Grows old mid → (vs : List ℕ) → AllByRecursion (Input (length old)) vs → AllByRecursion (Input (length mid)) vs
-  inputs_later old mid g vs h = all_map (Input (length old)) (Input (length mid)) vs (λ v i. input_later x 0 a (length old) (length mid) v (grown_length old mid g) i) h
-
-  checks_put : (g : Option ℕ) (fault : ℕ) (rs : List Range) (old new : List Operation) → AreChecked a (new_or_none a g) fault rs old new → Grows new all → first ≤ length old → Formed (length old)
-      → AllByRecursion (IsTestable x 0 a old) rs → AllByRecursion (λ v. known_kind a v ≡ kind.Bool) (one_or_none g) → AllByRecursion (Input (length old)) (one_or_none g) → Names p.faults fault
+  checks_put : (g : Option ℕ) (fault : ℕ) (rs : List Ranged) (old new : List Operation) → AreChecked (new_or_none a g) fault rs old new → Grows new all → first ≤ length old → Formed (length old)
+      → AllByRecursion (IsTestable x 0 old) rs → AllByRecursion (λ v. known_kind a v ≡ kind.Bool) (one_or_none g) → AllByRecursion (Input (length old)) (one_or_none g) → Names p.faults fault
       → Formed (length new)
   checks_put g fault [] old new h grows begun formed testable gk gi named = subst (λ (os : List Operation). Formed (length os)) (sym h) formed
   checks_put g fault (r ∷ rs) old new (mid, (test, (tested, rest))) grows begun formed testable gk gi named =
-      let one = tested_put x 0 a r old mid test tested begun testable.0 in
+      let one = tested_put x 0 r old mid test tested begun testable.0 in
       let check = check_grows mid (new_or_none a g) fault test in
-      let behind = checks_grow a (new_or_none a g) fault rs (check_made mid (new_or_none a g) fault test) new rest in
+      let behind = checks_grow (new_or_none a g) fault rs (check_made mid (new_or_none a g) fault test) new rest in
       let far = grows_on old mid _ one.adds.grows check in
       let to_all = grows_on _ new all behind grows in
       let formed_mid = adds_formed old mid one.adds (grows_on mid _ all check to_all) formed in
       let begun_mid = begun_later x old mid one.adds.grows begun in
       checks_put g fault rs (check_made mid (new_or_none a g) fault test) new rest grows (begun_later x old _ far begun)
       (guard_put old mid g fault test to_all begun_mid formed_mid gk (inputs_later old mid one.adds.grows (one_or_none g) gi) one.stands named)
-      (testable_later x 0 a old _ far rs testable.1) gk (inputs_later old _ far (one_or_none g) gi) named
+      (testable_later x 0 old _ far rs testable.1) gk (inputs_later old _ far (one_or_none g) gi) named
 
   pub new_inputs : (os : List Operation) (vs : List ℕ) → AllByRecursion (Input (length os)) vs → AllByRecursion (λ v. IsInput x 0 os v) (map (new_number a) vs)
   new_inputs os [] h = tt
@@ -322,9 +324,13 @@ module _ (p : PlainPlan) (none : p.views ≡ []) (tables : IsProgramTable p.tabl
   pub takes_inputs : (os : List Operation) (r : Reach) → AllByRecursion (Input (length os)) (reach_takes r) → AllByRecursion (λ v. IsInput x 0 os v) (new_takes a r)
   takes_inputs os r h =
       let P = Input (length os) in
-      let last = all_right P (offsets_taken r.steps) _ (all_right P r.indices _ h) in
-      all_join (λ v. IsInput x 0 os v) (map (new_number a) r.indices) _ (new_inputs os r.indices (all_left P r.indices _ h))
-      (all_join (λ v. IsInput x 0 os v) (one_or_none (new_or_none a r.select)) _ (maybe_inputs os r.select (all_left P (one_or_none r.select) (one_or_none r.row) last))
+      let behind = all_right P r.indices _ h in
+      let last = all_right P (offsets_taken r.steps) _ behind in
+      let I = λ (v : ℕ). IsInput x 0 os v in
+      all_join I (all_taken a r) _
+      (all_join I (map (new_number a) r.indices) (map (new_number a) (offsets_taken r.steps)) (new_inputs os r.indices (all_left P r.indices _ h))
+      (new_inputs os (offsets_taken r.steps) (all_left P (offsets_taken r.steps) _ behind)))
+      (all_join I (one_or_none (new_or_none a r.select)) _ (maybe_inputs os r.select (all_left P (one_or_none r.select) (one_or_none r.row) last))
       (maybe_inputs os r.row (all_right P (one_or_none r.select) (one_or_none r.row) last)))
 
   value_put : (probed : Bool) (g : Option ℕ) (r : Reach) (old mid : List Operation) (n : ℕ) → IsProbeValue probed a (new_or_none a g) r old mid n → Grows mid all → first ≤ length old → Formed (length old)
@@ -364,11 +370,15 @@ module _ (p : PlainPlan) (none : p.views ≡ []) (tables : IsProgramTable p.tabl
       → ReachSuits p (first_in p block) ks r → Names p.faults fault → AllByRecursion (Input (length old)) (reach_takes r)
       → PutsPiece mid n ((a.probed ≡ true) ⊎ (true ≡ false)) kind.Bool
   probe_put g r fault old mid n h grows begun formed gk gi suits named taken =
-      let checks = checks_grow a (new_or_none a g) fault (ranges_of a r) old h.checked h.checks in
+      let w = passed_put x 0 a p maps tables refl r suits old h.passed h.ranges h.indices h.passes begun taken in
+      let checks = checks_grow (new_or_none a g) fault h.ranges h.passed h.checked h.checks in
+      let far = grows_on old h.passed h.checked w.adds.grows checks in
       let to_all = grows_on h.checked mid all (value_grows a.probed a (new_or_none a g) r h.checked mid n h.value) grows in
-      let formed_checked = checks_put g fault (ranges_of a r) old h.checked h.checks to_all begun formed (testables x 0 a p r suits old taken) gk gi named in
-      value_put a.probed g r h.checked mid n h.value grows (begun_later x old h.checked checks begun) formed_checked gk (inputs_later old h.checked checks (one_or_none g) gi)
-      (inputs_later old h.checked checks (reach_takes r) taken)
+      let formed_passed = adds_formed old h.passed w.adds (grows_on h.passed h.checked all checks to_all) formed in
+      let formed_checked = checks_put g fault h.ranges h.passed h.checked h.checks to_all (begun_later x old h.passed w.adds.grows begun) formed_passed w.ranges gk
+      (inputs_later old h.passed w.adds.grows (one_or_none g) gi) named in
+      value_put a.probed g r h.checked mid n h.value grows (begun_later x old h.checked far begun) formed_checked gk (inputs_later old h.checked far (one_or_none g) gi)
+      (inputs_later old h.checked far (reach_takes r) taken)
 
   -- One operation, whatever its form.
 

@@ -24,9 +24,14 @@ use Rattle.dh_plan.proofs.ValuesAlike.{all_left, all_right}
 use Rattle.dh_rows.specs.Readings.{Readings, Obeys, Grows, Adds, is_plain}
 use Rattle.dh_rows.specs.MadeOperations.{pushed}
 use Rattle.dh_rows.proofs.Growing.{grows_on, grown_length, adds_on, pushed_adds, pushed_value}
-use Rattle.dh_address.specs.Pieces.{Around, Range, new_or_none, ranges_of, IsTested, false_behind_all, false_word, new_takes, IsProbeValue, IsAccessMade}
+use Rattle.dh_address.proofs.WaySizes.{HasMaps}
+use Rattle.dh_address.specs.Pieces.{Around, new_or_none, IsTested, false_behind_all, false_word, new_takes, IsProbeValue, IsAccessMade}
 use Rattle.dh_address.specs.Renumbered.{renumbered}
-use Rattle.dh_address.proofs.AccessesPut.{IsInputOf, testables}
+use Rattle.dh_address.specs.declared.operands.Operand.{Operand}
+use Rattle.dh_address.specs.declared.operands.Ranged.{Ranged}
+use Rattle.dh_address.specs.WaysMade.{IsWay, reach_passed}
+use Rattle.dh_address.proofs.WaysPut.{PutsPassed, passed_put}
+use Rattle.dh_address.proofs.AccessesPut.{IsInputOf}
 use Rattle.dh_address.proofs.FalsePut.{many_false_put}
 use Rattle.dh_address.proofs.ImageReadings.{timeless, timeless_below, FormedBelow, behind_front, taken_front}
 use Rattle.dh_address.proofs.KnownPieces.{IsKnownValue, IsPieceAt}
@@ -112,7 +117,7 @@ sets_quiet first ws (o ∷ os) h =
 
 -- Pieces.
 
-module _ (p : PlainPlan) (none : p.views ≡ []) (tables : IsProgramTable p.table) (bs : List PlanBlock) (block : ℕ) (front : List Operation) (begins : length front ≡ first_in (image_of p bs) block)
+module _ (p : PlainPlan) (maps : HasMaps p) (tables : IsProgramTable p.table) (bs : List PlanBlock) (block : ℕ) (front : List Operation) (begins : length front ≡ first_in (image_of p bs) block)
     (formed : IsFormedBlock p block) (all_formed : FormedBelow (image_of p bs) block front begins (length (front ++ operations_in (image_of p bs) block))) where
   abbrev q : PlainPlan
   q = image_of p bs
@@ -150,12 +155,12 @@ module _ (p : PlainPlan) (none : p.views ≡ []) (tables : IsProgramTable p.tabl
   formed_at : (os : List Operation) → Grows os all → FormedBelow q block front begins (length os)
   formed_at os g n o l m there = (let far = grown_length os all g in all_formed n o l (omega (arith, m, far)) there)
 
-  module _ (ns : List ℕ) (ks : List Kind) (i : ℕ) (o : Operation) (old mid : List Operation) (n : ℕ) (at : IsPieceAt p none tables bs block front begins formed ns ks i o old mid n) where
+  module _ (ns : List ℕ) (ks : List Kind) (i : ℕ) (o : Operation) (old mid : List Operation) (n : ℕ) (at : IsPieceAt p maps tables bs block front begins formed ns ks i o old mid n) where
     abbrev a : Around
     a = around p block ns ks
 
     pub inputs_at : AllByRecursion (IsInputOf x 0 a (length old)) (operation_takes o)
-    inputs_at = all_two (λ v. IsKnownValue p none tables bs block front begins formed (length old) v (renumbered old_first ns v))
+    inputs_at = all_two (λ v. IsKnownValue p maps tables bs block front begins formed (length old) v (renumbered old_first ns v))
         (λ v. kind_of_value old_first ks v ≡ kind_of_value old_first (kinds_of p block) v) (IsInputOf x 0 a (length old)) (operation_takes o)
         (λ v h e. record { earlier = record { begun = h.begun; before = h.before; there = omega arith }; kind_is = h.kind_is ∙ sym e }) at.known at.kinds_same
 
@@ -170,15 +175,17 @@ module _ (p : PlainPlan) (none : p.views ≡ []) (tables : IsProgramTable p.tabl
         → (last : List Operation) (on : Option ℕ) (u : Reach) → IsAccessMade a (new_or_none a o.guard) r old last on u → Grows old last → Grows last all → GrowsQuietly old last
     access_quietly r suits picks taken last on u made grown grows =
         adds_quietly old last
-        (use_put p none tables bs block front begins ns ks o.guard r old last on u made grows at.begun (formed_at old (grows_on old last all grown grows)) at.suits.guard guard_inputs suits picks taken).adds
+        (use_put p maps tables bs block front begins ns ks o.guard r old last on u made grows at.begun (formed_at old (grows_on old last all grown grows)) at.suits.guard guard_inputs suits picks taken).adds
         grows
 
     -- of a test
-    pub test_quietly : (r : Range) (here there : List Operation) (test : Option ℕ) → IsTested a r here there test → first ≤ length here → IsTestable x 0 a here r → Grows there all → GrowsQuietly here there
-    test_quietly r here there test tested begun testable grows = adds_quietly here there (tested_put x 0 a r here there test tested begun testable).adds grows
+    pub test_quietly : (r : Ranged) (here there : List Operation) (test : Option ℕ) → IsTested r here there test → first ≤ length here → IsTestable x 0 here r → Grows there all → GrowsQuietly here there
+    test_quietly r here there test tested begun testable grows = adds_quietly here there (tested_put x 0 r here there test tested begun testable).adds grows
 
-    pub testables_at : (r : Reach) → ReachSuits p old_first ks r → AllByRecursion (IsInputOf x 0 a (length old)) (reach_takes r) → AllByRecursion (IsTestable x 0 a old) (ranges_of a r)
-    testables_at r suits taken = testables x 0 a p r suits old taken
+    -- before the tests
+    pub passed_at : (r : Reach) → ReachSuits p old_first ks r → AllByRecursion (IsInputOf x 0 a (length old)) (reach_takes r) → (passed : List Operation) (ranges : List Ranged) (indices : List Operand)
+        → IsWay passed ranges indices (reach_passed a r old) → PutsPassed x 0 old passed ranges indices
+    passed_at r suits taken passed ranges indices e = passed_put x 0 a p maps tables refl r suits old passed ranges indices e at.begun taken
 
     -- of what a probe gives
     pub value_quietly : (probed : Bool) (r : Reach) (checked : List Operation) → IsProbeValue probed a (new_or_none a o.guard) r checked mid n → first ≤ length checked → Grows old checked
@@ -191,9 +198,9 @@ module _ (p : PlainPlan) (none : p.views ≡ []) (tables : IsProgramTable p.tabl
         let first_stands = pushed_value x 0 checked (Constant false_word) refl begun (λ o. tt) (λ o. word) kind.Bool (λ o. refl) in
         let far = grows_on old checked begin.operations grown first_adds.grows in
         let chain = many_false_put x 0 begin (new_takes a r) (begun_later x checked begin.operations first_adds.grows begun) first_stands
-        (takes_inputs p none tables bs block front begins ns ks begin.operations r (inputs_later p none tables bs block front begins ns ks old begin.operations far (reach_takes r) taken))
+        (takes_inputs p maps tables bs block front begins ns ks begin.operations r (inputs_later p maps tables bs block front begins ns ks old begin.operations far (reach_takes r) taken))
         in
         let m = false_behind_all begin (new_takes a r) in
-        let to_all = grows_on m.operations mid all (made_grows p none tables bs block front begins ns ks m.operations mid n (new_or_none a o.guard) (Compute op.Either m.value m.value) h) at.grows in
+        let to_all = grows_on m.operations mid all (made_grows p maps tables bs block front begins ns ks m.operations mid n (new_or_none a o.guard) (Compute op.Either m.value m.value) h) at.grows in
         quietly_on checked m.operations mid (adds_quietly checked m.operations (adds_on x 0 checked begin.operations m.operations first_adds chain.adds) to_all)
         (subst (λ (os : List Operation). GrowsQuietly m.operations os) (sym h.0) (quietly_pushed m.operations (new_or_none a o.guard) (Compute op.Either m.value m.value) refl))

@@ -14,8 +14,12 @@ use Rattle.dh_plan.specs.declared.operations.Reach.{Reach}
 use Rattle.dh_rows.specs.Readings.{GrowsPlain, IsPlain, is_plain}
 use Rattle.dh_rows.specs.MadeOperations.{Made, pushed, computed, constant_made, or_zero}
 use Rattle.dh_address.specs.declared.literals.LiteralPlace.{LiteralPlace}
-use Rattle.dh_address.specs.LiteralPlaces.{literal_within, literal_places}
-use Rattle.dh_address.specs.Pieces.{Around, Range, IsTestBut, IsTested, both_made, IsGuarded, check_made, AreChecked, false_behind, false_behind_all, false_word, false_made, new_takes, IsProbeValue, IsAim, is_banked, IsAimBut, waited, IsAimed, IsAccessMade, known_kind, new_number, new_or_none}
+use Rattle.dh_address.specs.declared.operands.Operand.{Operand}
+use Rattle.dh_address.specs.declared.operands.Ranged.{Ranged}
+use Rattle.dh_address.specs.LiteralPlaces.{below_size, literal_places}
+use Rattle.dh_address.specs.Pieces.{Around, IsTestBut, IsTested, both_made, IsGuarded, check_made, AreChecked, false_behind, false_behind_all, false_word, false_made, new_takes, IsProbeValue, IsProbed, IsAim, is_banked, IsAimBut, waited, IsAimed, IsAccessMade, new_or_none}
+use Rattle.dh_address.specs.WaysMade.{IsWay, reach_passed}
+use Rattle.dh_address.proofs.WaysPlain.{passed_plain}
 
 -- operations come behind, and of each this holds
 pub record GrowsBy (P : Operation → Type 0) (old new : List Operation) : Type 0 where
@@ -29,8 +33,8 @@ each_at P (o ∷ os) zero x h e = let same : o ≡ x = cc in subst P same h.0
 each_at P (o ∷ os) (suc i) x h e = each_at P os i x h.1 e
 
 -- a range is of a constant that is in it
-abbrev pub range_literal : Around → Range → Option ℕ
-range_literal a r = literal_within a.operations a.first r.value r.size
+abbrev pub range_literal : Ranged → Option ℕ
+range_literal r = below_size r.operand.literal r.size
 
 module _ (P : Operation → Type 0) (plain : (o : Operation) → is_plain o.form ≡ true → P o) where
   pub by_self : (os : List Operation) → GrowsBy P os os
@@ -72,37 +76,36 @@ module _ (P : Operation → Type 0) (plain : (o : Operation) → is_plain o.form
   both_by os None (Some test) = by_self os
   both_by os (Some guard) (Some test) = by_pushed os None (Compute op.Both guard test) refl
 
-  module _ (a : Around) where
-    tested_by : (r : Range) (old new : List Operation) (test : Option ℕ) → IsTested a r old new test → GrowsBy P old new
-    tested_by r old new test h = but_by (literal_within a.operations a.first r.value r.size) old new _ _ _ test h
+  tested_by : (r : Ranged) (old new : List Operation) (test : Option ℕ) → IsTested r old new test → GrowsBy P old new
+  tested_by r old new test h = but_by (below_size r.operand.literal r.size) old new _ _ _ test h
 
-    pub guarded_by : (guard : Option ℕ) (rs : List Range) (old new : List Operation) (on : Option ℕ) → IsGuarded a guard rs old new on → GrowsBy P old new
-    guarded_by guard [] old new on h = by_same old new h.0
-    guarded_by guard (r ∷ rs) old new on (mid, (test, (t, g))) =
+  pub guarded_by : (guard : Option ℕ) (rs : List Ranged) (old new : List Operation) (on : Option ℕ) → IsGuarded guard rs old new on → GrowsBy P old new
+  guarded_by guard [] old new on h = by_same old new h.0
+  guarded_by guard (r ∷ rs) old new on (mid, (test, (t, g))) =
+      by_on old mid new (tested_by r old mid test t)
+      (by_on mid (both_made mid guard test).operations new (both_by mid guard test) (guarded_by (both_made mid guard test).sum rs (both_made mid guard test).operations new on g))
+
+  -- checks: of each one that is made this is to hold
+  module _ (guard : Option ℕ) (fault : ℕ) where
+    abbrev pub AllowsCheck : Ranged → Type 0
+    AllowsCheck r = range_literal r ≡ None → (test : ℕ) → P (record { guard = guard; form = Check test fault })
+
+    check_by : (r : Ranged) (old mid : List Operation) (test : Option ℕ) → AllowsCheck r → IsTested r old mid test → GrowsBy P mid (check_made mid guard fault test)
+    check_by r old mid test allows h = of (range_literal r) refl h
+      where
+        put : (test : Option ℕ) → range_literal r ≡ None → GrowsBy P mid (check_made mid guard fault test)
+        put None e = by_self mid
+        put (Some t) e = record { more = record { guard = guard; form = Check t fault } ∷ []; appended = refl; each = (allows e t, tt) }
+
+        of : (l : Option ℕ) → range_literal r ≡ l → IsTestBut l old mid r.operand.kind r.operand.value r.size test → GrowsBy P mid (check_made mid guard fault test)
+        of None e g = put test e
+        of (Some n) e g = subst (λ (t : Option ℕ). GrowsBy P mid (check_made mid guard fault t)) (sym g.1) (by_self mid)
+
+    pub checked_by : (rs : List Ranged) (old new : List Operation) → AllByRecursion AllowsCheck rs → AreChecked guard fault rs old new → GrowsBy P old new
+    checked_by [] old new allows h = by_same old new h
+    checked_by (r ∷ rs) old new allows (mid, (test, (t, g))) =
         by_on old mid new (tested_by r old mid test t)
-        (by_on mid (both_made mid guard test).operations new (both_by mid guard test) (guarded_by (both_made mid guard test).sum rs (both_made mid guard test).operations new on g))
-
-    -- checks: of each one that is made this is to hold
-    module _ (guard : Option ℕ) (fault : ℕ) where
-      abbrev pub AllowsCheck : Range → Type 0
-      AllowsCheck r = range_literal a r ≡ None → (test : ℕ) → P (record { guard = guard; form = Check test fault })
-
-      check_by : (r : Range) (old mid : List Operation) (test : Option ℕ) → AllowsCheck r → IsTested a r old mid test → GrowsBy P mid (check_made mid guard fault test)
-      check_by r old mid test allows h = of (range_literal a r) refl h
-        where
-          put : (test : Option ℕ) → range_literal a r ≡ None → GrowsBy P mid (check_made mid guard fault test)
-          put None e = by_self mid
-          put (Some t) e = record { more = record { guard = guard; form = Check t fault } ∷ []; appended = refl; each = (allows e t, tt) }
-
-          of : (l : Option ℕ) → range_literal a r ≡ l → IsTestBut l old mid (known_kind a r.value) (new_number a r.value) r.size test → GrowsBy P mid (check_made mid guard fault test)
-          of None e g = put test e
-          of (Some n) e g = subst (λ (t : Option ℕ). GrowsBy P mid (check_made mid guard fault t)) (sym g.1) (by_self mid)
-
-      pub checked_by : (rs : List Range) (old new : List Operation) → AllByRecursion AllowsCheck rs → AreChecked a guard fault rs old new → GrowsBy P old new
-      checked_by [] old new allows h = by_same old new h
-      checked_by (r ∷ rs) old new allows (mid, (test, (t, g))) =
-          by_on old mid new (tested_by r old mid test t)
-          (by_on mid (check_made mid guard fault test) new (check_by r old mid test allows.0 t) (checked_by rs (check_made mid guard fault test) new allows.1 g))
+        (by_on mid (check_made mid guard fault test) new (check_by r old mid test allows.0 t) (checked_by rs (check_made mid guard fault test) new allows.1 g))
 
   -- Probes.
 
@@ -151,12 +154,23 @@ module _ (P : Operation → Type 0) (plain : (o : Operation) → is_plain o.form
   waited_by os None = by_self os
   waited_by os (Some v) = by_pushed os None _ refl
 
+  pub passed_by : (a : Around) (r : Reach) (old passed : List Operation) (ranges : List Ranged) (indices : List Operand) → IsWay passed ranges indices (reach_passed a r old) → GrowsBy P old passed
+  passed_by a r old passed ranges indices e = by_plain old passed (passed_plain a r old passed ranges indices e)
+
   module _ (a : Around) where
-    aimed_by : (r : Reach) (row : Option ℕ) (old new : List Operation) (t : Reach) → IsAimed a r row old new t → GrowsBy P old new
-    aimed_by r None old new t h =
+    aimed_by : (r : Reach) (row : Option ℕ) (is : List Operand) (old new : List Operation) (t : Reach) → IsAimed a r row is old new t → GrowsBy P old new
+    aimed_by r None is old new t h =
         by_on old (waited old (new_or_none a r.select)).operations new (waited_by old (new_or_none a r.select))
-        (but_aim_by (literal_places a.operations a.first _ r.indices 0 0) _ _ _ (is_banked r) _ new h.row h.select h.aim)
-    aimed_by r (Some row) old new t h = by_same old new h.0
+        (but_aim_by (literal_places _ is 0 0) _ _ _ (is_banked r) _ new h.row h.select h.aim)
+    aimed_by r (Some row) is old new t h = by_same old new h.0
 
     pub access_by : (guard : Option ℕ) (r : Reach) (old last : List Operation) (on : Option ℕ) (t : Reach) → IsAccessMade a guard r old last on t → GrowsBy P old last
-    access_by guard r old last on t h = by_on old h.guarded last (guarded_by a guard _ old h.guarded on h.guards) (aimed_by r r.row h.guarded last t h.aims)
+    access_by guard r old last on t h =
+        by_on old h.passed last (passed_by a r old h.passed h.ranges h.indices h.passes)
+        (by_on h.passed h.guarded last (guarded_by guard h.ranges h.passed h.guarded on h.guards) (aimed_by r r.row h.indices h.guarded last t h.aims))
+
+    -- of a probe
+    pub probed_by : (guard : Option ℕ) (r : Reach) (fault : ℕ) (old new : List Operation) (n : ℕ) (h : IsProbed a guard r fault old new n) → AllByRecursion (AllowsCheck guard fault) h.ranges → GrowsBy P old new
+    probed_by guard r fault old new n h allows =
+        by_on old h.passed new (passed_by a r old h.passed h.ranges h.indices h.passes)
+        (by_on h.passed h.checked new (checked_by guard fault h.ranges h.passed h.checked allows h.checks) (value_by a.probed a guard r h.checked new n h.value))

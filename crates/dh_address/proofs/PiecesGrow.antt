@@ -13,9 +13,12 @@ use Rattle.dh_rows.specs.Readings.{Grows}
 use Rattle.dh_rows.specs.MadeOperations.{Made, IsMade, pushed, computed, constant_made, or_zero}
 use Rattle.dh_rows.proofs.Growing.{grows_self, grows_on, plain_grows, pushed_grows}
 use Rattle.dh_address.specs.declared.literals.LiteralPlace.{LiteralPlace}
-use Rattle.dh_address.specs.LiteralPlaces.{literal_within, literal_places}
-use Rattle.dh_address.specs.Pieces.{Around, Range, IsTestBut, IsTested, both_made, IsGuarded, check_made, AreChecked, false_behind, false_behind_all, false_word, false_made, new_takes, IsProbeValue, IsAim, is_banked, IsAimBut, waited, IsAimed, IsAccessMade, IsFormMade, IsPiece, new_or_none}
+use Rattle.dh_address.specs.declared.operands.Operand.{Operand}
+use Rattle.dh_address.specs.declared.operands.Ranged.{Ranged}
+use Rattle.dh_address.specs.LiteralPlaces.{below_size, literal_places}
+use Rattle.dh_address.specs.Pieces.{Around, IsTestBut, IsTested, both_made, IsGuarded, check_made, AreChecked, false_behind, false_behind_all, false_word, false_made, new_takes, IsProbeValue, IsProbed, IsAim, is_banked, IsAimBut, waited, IsAimed, IsAccessMade, IsFormMade, IsPiece, new_or_none}
 use Rattle.dh_address.specs.Images.{and_known, ArePieces}
+use Rattle.dh_address.proofs.WaysPlain.{passed_grows}
 
 pub grows_same : (old new : List Operation) → new ≡ old → Grows old new
 grows_same old new e = subst (λ (os : List Operation). Grows old os) (sym e) (grows_self old)
@@ -39,21 +42,20 @@ check_grows : (os : List Operation) (guard : Option ℕ) (fault : ℕ) (test : O
 check_grows os guard fault None = grows_self os
 check_grows os guard fault (Some test) = pushed_grows os guard (Check test fault)
 
-module _ (a : Around) where
-  tested_grows : (r : Range) (old new : List Operation) (test : Option ℕ) → IsTested a r old new test → Grows old new
-  tested_grows r old new test h = but_grows (literal_within a.operations a.first r.value r.size) old new _ _ _ test h
+tested_grows : (r : Ranged) (old new : List Operation) (test : Option ℕ) → IsTested r old new test → Grows old new
+tested_grows r old new test h = but_grows (below_size r.operand.literal r.size) old new _ _ _ test h
 
-  pub guarded_grows : (guard : Option ℕ) (rs : List Range) (old new : List Operation) (on : Option ℕ) → IsGuarded a guard rs old new on → Grows old new
-  guarded_grows guard [] old new on h = grows_same old new h.0
-  guarded_grows guard (r ∷ rs) old new on (mid, (test, (t, g))) =
-      grows_on old mid new (tested_grows r old mid test t)
-      (grows_on mid (both_made mid guard test).operations new (both_grows mid guard test) (guarded_grows (both_made mid guard test).sum rs (both_made mid guard test).operations new on g))
+pub guarded_grows : (guard : Option ℕ) (rs : List Ranged) (old new : List Operation) (on : Option ℕ) → IsGuarded guard rs old new on → Grows old new
+guarded_grows guard [] old new on h = grows_same old new h.0
+guarded_grows guard (r ∷ rs) old new on (mid, (test, (t, g))) =
+    grows_on old mid new (tested_grows r old mid test t)
+    (grows_on mid (both_made mid guard test).operations new (both_grows mid guard test) (guarded_grows (both_made mid guard test).sum rs (both_made mid guard test).operations new on g))
 
-  pub checked_grows : (guard : Option ℕ) (fault : ℕ) (rs : List Range) (old new : List Operation) → AreChecked a guard fault rs old new → Grows old new
-  checked_grows guard fault [] old new h = grows_same old new h
-  checked_grows guard fault (r ∷ rs) old new (mid, (test, (t, g))) =
-      grows_on old mid new (tested_grows r old mid test t)
-      (grows_on mid (check_made mid guard fault test) new (check_grows mid guard fault test) (checked_grows guard fault rs (check_made mid guard fault test) new g))
+pub checked_grows : (guard : Option ℕ) (fault : ℕ) (rs : List Ranged) (old new : List Operation) → AreChecked guard fault rs old new → Grows old new
+checked_grows guard fault [] old new h = grows_same old new h
+checked_grows guard fault (r ∷ rs) old new (mid, (test, (t, g))) =
+    grows_on old mid new (tested_grows r old mid test t)
+    (grows_on mid (check_made mid guard fault test) new (check_grows mid guard fault test) (checked_grows guard fault rs (check_made mid guard fault test) new g))
 
 -- Probes.
 
@@ -101,14 +103,21 @@ waited_grows os None = grows_self os
 waited_grows os (Some v) = pushed_grows os None _
 
 module _ (a : Around) where
-  pub aimed_grows : (r : Reach) (row : Option ℕ) (old new : List Operation) (t : Reach) → IsAimed a r row old new t → Grows old new
-  aimed_grows r None old new t h =
+  pub aimed_grows : (r : Reach) (row : Option ℕ) (is : List Operand) (old new : List Operation) (t : Reach) → IsAimed a r row is old new t → Grows old new
+  aimed_grows r None is old new t h =
       grows_on old (waited old (new_or_none a r.select)).operations new (waited_grows old (new_or_none a r.select))
-      (but_aim_grows (literal_places a.operations a.first _ r.indices 0 0) _ _ _ (is_banked r) _ new h.row h.select h.aim)
-  aimed_grows r (Some row) old new t h = grows_same old new h.0
+      (but_aim_grows (literal_places _ is 0 0) _ _ _ (is_banked r) _ new h.row h.select h.aim)
+  aimed_grows r (Some row) is old new t h = grows_same old new h.0
 
   pub access_grows : (guard : Option ℕ) (r : Reach) (old last : List Operation) (on : Option ℕ) (t : Reach) → IsAccessMade a guard r old last on t → Grows old last
-  access_grows guard r old last on t h = grows_on old h.guarded last (guarded_grows a guard _ old h.guarded on h.guards) (aimed_grows r r.row h.guarded last t h.aims)
+  access_grows guard r old last on t h =
+      grows_on old h.passed last (passed_grows a r old h.passed h.ranges h.indices h.passes)
+      (grows_on h.passed h.guarded last (guarded_grows guard h.ranges h.passed h.guarded on h.guards) (aimed_grows r r.row h.indices h.guarded last t h.aims))
+
+  -- of a probe
+  pub probed_grows : (guard : Option ℕ) (r : Reach) (fault : ℕ) (old new : List Operation) (n : ℕ) → (h : IsProbed a guard r fault old new n) → Grows old h.checked
+  probed_grows guard r fault old new n h =
+      grows_on old h.passed h.checked (passed_grows a r old h.passed h.ranges h.indices h.passes) (checked_grows guard fault h.ranges h.passed h.checked h.checks)
 
   form_grows : (g : Option ℕ) (f : OperationForm) (old new : List Operation) (n : ℕ) → IsFormMade a g f old new n → Grows old new
   form_grows g (Constant word) old new n h = grows_made old new n _ (pushed_grows old g _) h
@@ -118,7 +127,7 @@ module _ (a : Around) where
   form_grows g (Select test b c) old new n h = grows_made old new n _ (pushed_grows old g _) h
   form_grows g (Check ok fault) old new n h = grows_made old new n _ (pushed_grows old g _) h
   form_grows g (Probe r fault) old new n h =
-      grows_on old h.checked new (checked_grows a g fault _ old h.checked h.checks) (value_grows a.probed a g r h.checked new n h.value)
+      grows_on old h.checked new (probed_grows g r fault old new n h) (value_grows a.probed a g r h.checked new n h.value)
   form_grows g (Read r) old new n h =
       grows_on old h.last new (access_grows g r old h.last h.on h.reach h.access) (grows_made h.last new n _ (pushed_grows h.last h.on _) h.read)
   form_grows g (Write r value) old new n h =

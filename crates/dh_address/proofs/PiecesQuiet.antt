@@ -13,9 +13,11 @@ use Rattle.dh_plan.specs.declared.operations.Reach.{Reach}
 use Rattle.dh_plan.specs.PlanKinds.{form_kind}
 use Rattle.dh_rows.specs.Readings.{is_cheap, is_plain}
 use Rattle.dh_rows.specs.MadeOperations.{IsMade, pushed}
-use Rattle.dh_address.specs.Pieces.{Around, Range, IsAimed, IsFormMade, IsPiece, new_number, new_or_none, ranges_of}
+use Rattle.dh_address.specs.Pieces.{Around, IsAimed, IsFormMade, IsPiece, new_number, new_or_none}
+use Rattle.dh_address.specs.declared.operands.Operand.{Operand}
+use Rattle.dh_address.specs.declared.operands.Ranged.{Ranged}
 use Rattle.dh_address.specs.Images.{and_known, ArePieces}
-use Rattle.dh_address.proofs.PiecesBy.{GrowsBy, AllowsCheck, by_on, checked_by, value_by, access_by}
+use Rattle.dh_address.proofs.PiecesBy.{GrowsBy, AllowsCheck, access_by, probed_by}
 
 abbrev pub is_quiet : OperationForm → Bool
 is_quiet (Constant w) = true
@@ -47,9 +49,9 @@ plain_quiet (Set register value) e = cc
 plain_ones : (o : Operation) → is_plain o.form ≡ true → IsQuiet o
 plain_ones o e = plain_quiet o.form e
 
-all_checks : (a : Around) (guard : Option ℕ) (fault : ℕ) (rs : List Range) → AllByRecursion (AllowsCheck IsQuiet plain_ones a guard fault) rs
-all_checks a guard fault [] = tt
-all_checks a guard fault (r ∷ rs) = ((λ e test. refl), all_checks a guard fault rs)
+all_checks : (guard : Option ℕ) (fault : ℕ) (rs : List Ranged) → AllByRecursion (AllowsCheck IsQuiet plain_ones guard fault) rs
+all_checks guard fault [] = tt
+all_checks guard fault (r ∷ rs) = ((λ e test. refl), all_checks guard fault rs)
 
 -- The image of an operation itself.
 
@@ -121,9 +123,9 @@ behind f old mid new g h n grows made to same = record {
   part = record { quiet = grows.more; main = record { guard = g; form = h } ∷ []; all = grows.each; joined = refl; image = to (record { own = record { guard = g; form = h }; only = refl; same = same }) };
 }
 
-pub row_aimed : (a : Around) (r : Reach) (row : Option ℕ) (old new : List Operation) (t : Reach) → IsAimed a r row old new t → IsRowOf r t
-row_aimed a r None old new t h = subst (λ (u : Reach). IsRowOf r u) (sym h.reach) (record { access = refl; memory = refl; banks = refl; row = h.row; in_row = refl })
-row_aimed a r (Some row) old new t h = subst (λ (u : Reach). IsRowOf r u) (sym h.1) (record { access = refl; memory = refl; banks = refl; row = new_number a row; in_row = refl })
+pub row_aimed : (a : Around) (r : Reach) (row : Option ℕ) (is : List Operand) (old new : List Operation) (t : Reach) → IsAimed a r row is old new t → IsRowOf r t
+row_aimed a r None is old new t h = subst (λ (u : Reach). IsRowOf r u) (sym h.reach) (record { access = refl; memory = refl; banks = refl; row = h.row; in_row = refl })
+row_aimed a r (Some row) is old new t h = subst (λ (u : Reach). IsRowOf r u) (sym h.1) (record { access = refl; memory = refl; banks = refl; row = new_number a row; in_row = refl })
 
 module _ (a : Around) where
   form_part : (g : Option ℕ) (f : OperationForm) (old new : List Operation) (n : ℕ) → IsFormMade a g f old new n → PutsPart f old new
@@ -134,15 +136,14 @@ module _ (a : Around) where
   form_part g (Select test b c) old new n h = alone (Select test b c) old new g _ n h (λ m. m) (_, (_, (_, refl)))
   form_part g (Check ok fault) old new n h = alone (Check ok fault) old new g _ n h (λ m. m) (_, refl)
   form_part g (Probe r fault) old new n h =
-      let grows = by_on IsQuiet plain_ones old h.checked new (checked_by IsQuiet plain_ones a g fault (ranges_of a r) old h.checked (all_checks a g fault (ranges_of a r)) h.checks)
-      (value_by IsQuiet plain_ones a.probed a g r h.checked new n h.value) in
+      let grows = probed_by IsQuiet plain_ones a g r fault old new n h (all_checks g fault h.ranges) in
       record { more = grows.more; appended = grows.appended; part = record { quiet = grows.more; main = []; all = grows.each; joined = sym (append-nil grows.more); image = refl } }
   form_part g (Read r) old new n h =
       behind (Read r) old h.last new h.on (Read h.reach) n (access_by IsQuiet plain_ones a g r old h.last h.on h.reach h.access) h.read (λ m. m)
-      (h.reach, (refl, row_aimed a r r.row h.access.guarded h.last h.reach h.access.aims))
+      (h.reach, (refl, row_aimed a r r.row h.access.indices h.access.guarded h.last h.reach h.access.aims))
   form_part g (Write r value) old new n h =
       behind (Write r value) old h.last new h.on (Write h.reach (new_number a value)) n (access_by IsQuiet plain_ones a g r old h.last h.on h.reach h.access) h.write (λ m. m)
-      (h.reach, (new_number a value, (refl, row_aimed a r r.row h.access.guarded h.last h.reach h.access.aims)))
+      (h.reach, (new_number a value, (refl, row_aimed a r r.row h.access.indices h.access.guarded h.last h.reach h.access.aims)))
   form_part g (Set register value) old new n h = alone (Set register value) old new g _ n h (λ m. m) (_, refl)
 
   pub piece_part : (o : Operation) (old new : List Operation) (n : ℕ) → IsPiece a o old new n → PutsPart o.form old new

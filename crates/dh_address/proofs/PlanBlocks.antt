@@ -6,6 +6,7 @@ use Rattle.std.proofs.lemmas.List.{length-append}
 use Rattle.std.proofs.lemmas.Option.{slice_get-get_or, slice_get_past}
 use Rattle.dh_value.specs.declared.kinds.Kind.{Kind}
 use Rattle.dh_tree.specs.declared.tables.MemEntry.{MemEntry}
+use Rattle.dh_tree.specs.declared.viewing.ViewMap.{ViewMap}
 use Rattle.dh_plan.specs.declared.operations.Operation.{Operation}
 use Rattle.dh_plan.specs.declared.operations.PlanBlock.{PlanBlock}
 use Rattle.dh_plan.specs.PlainPlans.{PlainPlan, first_in, operations_in, operations_before, block_operations}
@@ -66,7 +67,7 @@ module _ (p : PlainPlan) where
 
   -- what is known as a block begins, where its operations are these
   abbrev begun_with : (os : List Operation) → (first : ℕ) → (probed : Bool) → Around
-  begun_with os first probed = record { table = p.table; operations = os; first = first; probed = probed; numbers = []; kinds = [] }
+  begun_with os first probed = record { table = p.table; views = p.views; operations = os; first = first; probed = probed; numbers = []; kinds = [] }
 
   around_is : (i : ℕ) (os : List Operation) (first : ℕ) (probed : Bool) → os ≡ operations_in p i → first ≡ first_in p i → probed ≡ any_takes_probe os first → begun_with os first probed ≡ around_block p i
   around_is i os first probed is number taken =
@@ -160,17 +161,18 @@ module _ (p : PlainPlan) where
   pub laid_first : (list : List Operation) (starts : List ℕ) → list ≡ [] → starts ≡ [] → Laid 0 list starts 0
   laid_first list starts none no_start = subst (λ (os : List Operation). Laid 0 os starts 0) (sym none) (subst (λ (ns : List ℕ). Laid 0 [] ns 0) (sym no_start) none_laid)
 
-  pub laid_turn : (items : List PlanBlock) (i : ℕ) (b : PlanBlock) (list new : List Operation) (starts more : List ℕ) (start first : ℕ) (probed : Bool) (table : List MemEntry) (os : List Operation)
-      (registers : List Kind) → items ≡ p.blocks → i < length items → b ≡ get_or items i b → Laid i list starts first → table ≡ p.table → os ≡ b.operations → registers ≡ p.registers
+  pub laid_turn : (items : List PlanBlock) (i : ℕ) (b : PlanBlock) (list new : List Operation) (starts more : List ℕ) (start first : ℕ) (probed : Bool) (table : List MemEntry) (views : List ViewMap) (os : List Operation)
+      (registers : List Kind) → items ≡ p.blocks → i < length items → b ≡ get_or items i b → Laid i list starts first → table ≡ p.table → views ≡ p.views → os ≡ b.operations → registers ≡ p.registers
       → probed ≡ any_takes_probe os first → start ≡ length list → more ≡ starts ++ start ∷ [] → length os ≤ 2 ^ 64
-      → HasPieces registers (record { table = table; operations = os; first = first; probed = probed; numbers = []; kinds = [] }) list new → Laid (i + 1) new more (first + length os)
-  laid_turn items i b list new starts more start first probed table os registers all within is h table_is own registers_is taken begins put small pieces =
+      → HasPieces registers (record { table = table; views = views; operations = os; first = first; probed = probed; numbers = []; kinds = [] }) list new → Laid (i + 1) new more (first + length os)
+  laid_turn items i b list new starts more start first probed table views os registers all within is h table_is views_is own registers_is taken begins put small pieces =
       subst (λ (ns : List ℕ). Laid (i + 1) new ns (first + length os)) (sym put)
       (laid_more i b list new starts start first (first + length os) probed (subst (λ (bs : List PlanBlock). i < length bs) all within) (subst (λ (bs : List PlanBlock). b ≡ get_or bs i b) all is) h
       (subst (λ (l : List Operation). probed ≡ any_takes_probe l first) own taken) begins
       (subst (λ (l : List Operation). HasPieces p.registers (begun_with l first probed) list new) own
       (subst (λ (ks : List Kind). HasPieces ks (begun_with os first probed) list new) registers_is
-      (subst (λ (t : List MemEntry). HasPieces registers (record { table = t; operations = os; first = first; probed = probed; numbers = []; kinds = [] }) list new) table_is pieces)))
+      (subst (λ (t : List MemEntry). HasPieces registers (record { table = t; views = p.views; operations = os; first = first; probed = probed; numbers = []; kinds = [] }) list new) table_is
+      (subst (λ (vs : List ViewMap). HasPieces registers (record { table = table; views = vs; operations = os; first = first; probed = probed; numbers = []; kinds = [] }) list new) views_is pieces))))
       (ap (λ (l : List Operation). first + length l) own) (subst (λ (l : List Operation). length l ≤ 2 ^ 64) own small))
 
   pub laid_end : (items : List PlanBlock) (i : ℕ) (list os : List Operation) (starts found_starts : List ℕ) (first : ℕ) (found : List PlanBlock) → items ≡ p.blocks → length items ≤ i → i ≤ length items

@@ -17,6 +17,7 @@ use Rattle.dh_plan.specs.SoundPlans.{use_in, Counting, IsOneOf, IsStepOf, Reache
 use Rattle.dh_plan.specs.SoundRuns.{IsStepInTurns}
 use Rattle.dh_plan.proofs.FittingValues.{plan_values_fit}
 use Rattle.dh_plan.proofs.StepsAlone.{blocks_step_alone}
+use Rattle.dh_address.proofs.WaySizes.{HasMaps}
 use Rattle.dh_address.specs.Images.{IsBlockImage}
 use Rattle.dh_address.proofs.BlockImages.{front, begins, IsKnownBlock, block_known, listed_in_step, words_in_step}
 use Rattle.dh_address.proofs.GoodPieces.{AreGoodPieces, StandsInPiece, Anything, plain_pieces}
@@ -25,12 +26,12 @@ use Rattle.dh_address.proofs.PieceForms.{image_of}
 use Rattle.dh_address.proofs.UsesAlike.{IsSameAccess, IsLed, use_led, part_addressed}
 use Rattle.dh_address.proofs.WordsPass.{SameWord, ReachesListed}
 
-module _ (p : PlainPlan) (none : p.views ≡ []) (sound : IsSound p) (bs : List PlanBlock) (images : (block : ℕ) → IsBlockImage p bs block) where
+module _ (p : PlainPlan) (maps : HasMaps p) (sound : IsSound p) (bs : List PlanBlock) (images : (block : ℕ) → IsBlockImage p bs block) where
   abbrev q : PlainPlan
   q = image_of p bs
 
-  abbrev known : (block : ℕ) → IsKnownBlock p none sound.formed bs block
-  known block = block_known p none sound.formed bs block (images block)
+  abbrev known : (block : ℕ) → IsKnownBlock p maps sound.formed bs block
+  known block = block_known p maps sound.formed bs block (images block)
 
   module _ (blocks : List ℕ) (loops : List Counting) (step : IsStepOf [] p.body blocks loops) (registers : List ℕ) (memories : List (List ℕ)) (fit : FitKinds p.registers registers) (fits : Fits p.table memories)
       (turns : AllByRecursion (λ c. slice_index registers c.counter < c.turns) loops) where
@@ -50,22 +51,22 @@ module _ (p : PlainPlan) (none : p.views ≡ []) (sound : IsSound p) (bs : List 
       alone = blocks_step_alone p registers blocks (record { loops = loops; step = step; turns = turns }) b one
 
       abbrev start : List Operation
-      start = front p none sound.formed bs b
+      start = front p maps sound.formed bs b
 
       abbrev starts : length start ≡ first_in q b
-      starts = begins p none sound.formed bs b
+      starts = begins p maps sound.formed bs b
 
       abbrev Words : ℕ → ℕ → Type 0
-      Words v m = SameWord p none sound.formed.table bs b start starts (sound.formed.blocks b) (known b).known.all_formed registers memories v m
+      Words v m = SameWord p maps sound.formed.table bs b start starts (sound.formed.blocks b) (known b).known.all_formed registers memories v m
 
-      reaches_listed : ReachesListed p none sound.formed.table bs b start starts (sound.formed.blocks b) (known b).known.all_formed registers memories
-      reaches_listed = listed_in_step p none sound bs images b alone.loops alone.step registers memories fit fits alone.turns
+      reaches_listed : ReachesListed p maps sound.formed.table bs b start starts (sound.formed.blocks b) (known b).known.all_formed registers memories
+      reaches_listed = listed_in_step p maps sound bs images b alone.loops alone.step registers memories fit fits alone.turns
 
-      pub words : AreGoodPieces p none sound.formed.table bs b start starts (sound.formed.blocks b) Words [] [] 0 (operations_in p b) start
-      words = words_in_step p none sound bs images b alone.loops alone.step registers memories fit fits alone.turns
+      pub words : AreGoodPieces p maps sound.formed.table bs b start starts (sound.formed.blocks b) Words [] [] 0 (operations_in p b) start
+      words = words_in_step p maps sound bs images b alone.loops alone.step registers memories fit fits alone.turns
 
-      abbrev stands : (j : ℕ) (u : Operation) → slice_get (operations_in q b) j ≡ Some u → StandsInPiece p none sound.formed.table bs b start starts (sound.formed.blocks b) Words 0 (length start + j)
-      stands j u e = stands_at p none sound.formed.table bs b start starts (sound.formed.blocks b) (known b).known.all_formed Words words j u e
+      abbrev stands : (j : ℕ) (u : Operation) → slice_get (operations_in q b) j ≡ Some u → StandsInPiece p maps sound.formed.table bs b start starts (sound.formed.blocks b) Words 0 (length start + j)
+      stands j u e = stands_at p maps sound.formed.table bs b start starts (sound.formed.blocks b) (known b).known.all_formed Words words j u e
 
       -- an operation that reaches an element is an old one that does
       pub record IsOldReach (j : ℕ) (v : Reach) (spot : Spot) (x : Reaches q t blocks b j v spot) : Type 0 where
@@ -76,9 +77,9 @@ module _ (p : PlainPlan) (none : p.views ≡ []) (sound : IsSound p) (bs : List 
         pub writes : WritesAt q b j → WritesAt p b (stands j x.operation x.there).place
 
       led : (j : ℕ) (u : Operation) (e : slice_get (operations_in q b) j ≡ Some u) (v : Reach) → use_in u.form ≡ Some v → is_on (first_in q b) (block_values q t b) u.guard ≡ true
-          → IsLed p none sound.formed.table bs b start starts (sound.formed.blocks b) (known b).known.all_formed registers memories
+          → IsLed p maps sound.formed.table bs b start starts (sound.formed.blocks b) (known b).known.all_formed registers memories
           (plan_values_fit p b registers memories (sound.formed.blocks b) fit fits) reaches_listed words j u e v
-      led j u e v uses on = use_led p none sound.formed.table bs b start starts (sound.formed.blocks b) (known b).known.all_formed registers memories
+      led j u e v uses on = use_led p maps sound.formed.table bs b start starts (sound.formed.blocks b) (known b).known.all_formed registers memories
           (plan_values_fit p b registers memories (sound.formed.blocks b) fit fits) reaches_listed words j u e v uses on
 
       pub old_reach : (j : ℕ) (v : Reach) (spot : Spot) (x : Reaches q t blocks b j v spot) → IsOldReach j v spot x
@@ -106,14 +107,14 @@ module _ (p : PlainPlan) (none : p.views ≡ []) (sound : IsSound p) (bs : List 
       -- two operations of one piece that reach elements are one
       pub one_old : (j k : ℕ) (v w : Reach) (x y : Spot) (f : Reaches q t blocks b j v x) (g : Reaches q t blocks b k w y) → (stands j f.operation f.there).place ≡ (stands k g.operation g.there).place → j ≡ k
       one_old j k v w x y f g same =
-          one_itself p none sound.formed.table bs b start starts (sound.formed.blocks b) (known b).known.all_formed Words words j k f.operation g.operation f.there g.there same
+          one_itself p maps sound.formed.table bs b start starts (sound.formed.blocks b) (known b).known.all_formed Words words j k f.operation g.operation f.there g.there same
           (old_reach j v x f).own (old_reach k w y g).own
 
       pub old_before : (j k : ℕ) (v w : Reach) (x y : Spot) (f : Reaches q t blocks b j v x) (g : Reaches q t blocks b k w y) → j < k
           → (stands j f.operation f.there).place < (stands k g.operation g.there).place
       old_before j k v w x y f g l =
           strict (stands j f.operation f.there).place (stands k g.operation g.there).place
-          (stand_in_order p none sound.formed.table bs b start starts (sound.formed.blocks b) (known b).known.all_formed Words words j k f.operation g.operation f.there g.there (omega (arith, l)))
+          (stand_in_order p maps sound.formed.table bs b start starts (sound.formed.blocks b) (known b).known.all_formed Words words j k f.operation g.operation f.there g.there (omega (arith, l)))
           (λ e. (let same = one_old j k v w x y f g e in omega (arith, l, same)))
         where
           strict : (m n : ℕ) → m ≤ n → (m ≡ n → ⊥) → m < n
@@ -195,9 +196,9 @@ module _ (p : PlainPlan) (none : p.views ≡ []) (sound : IsSound p) (bs : List 
   pub is_addressed : IsAddressed q
   is_addressed = record {
     forms = λ block j u e.
-        (let pieces = plain_pieces p none sound.formed.table bs block (front p none sound.formed bs block) (begins p none sound.formed bs block) (sound.formed.blocks block) (known block).numbers (known block).known.pieces in
+        (let pieces = plain_pieces p maps sound.formed.table bs block (front p maps sound.formed bs block) (begins p maps sound.formed bs block) (sound.formed.blocks block) (known block).numbers (known block).known.pieces in
         part_addressed _ _ _ _ _ _ u
-        (part_at p none sound.formed.table bs block (front p none sound.formed bs block) (begins p none sound.formed bs block) (sound.formed.blocks block) (known block).known.all_formed
-        (Anything p none sound.formed.table bs block (front p none sound.formed bs block) (begins p none sound.formed bs block) (sound.formed.blocks block)) pieces j u e));
+        (part_at p maps sound.formed.table bs block (front p maps sound.formed bs block) (begins p maps sound.formed bs block) (sound.formed.blocks block) (known block).known.all_formed
+        (Anything p maps sound.formed.table bs block (front p maps sound.formed bs block) (begins p maps sound.formed bs block) (sound.formed.blocks block)) pieces j u e));
     inside = λ blocks loops step registers memories fit fits turns block j v u one e uses on. in_range blocks loops step registers memories fit fits turns block one j u e v uses on;
   }

@@ -13,9 +13,11 @@ use Rattle.dh_plan.specs.declared.operations.OperationForm.TheVariants.{Compute}
 use Rattle.dh_rows.specs.Readings.{Readings, Obeys, IsEarlier, Grows, Adds, IsValue, IsValueOrNone}
 use Rattle.dh_rows.specs.RowsShown.{HoldsOrNone, is_below_size}
 use Rattle.dh_rows.proofs.Growing.{grows_self, grows_on, grown_length, plain_grows, kept_there, pushed_grows, obeys_before, pushed_word, value_later, maybe_later, adds_self, adds_on, pushed_adds, pushed_value}
-use Rattle.dh_address.specs.LiteralPlaces.{literal_within}
+use Rattle.dh_address.specs.declared.operands.Operand.{Operand}
+use Rattle.dh_address.specs.declared.operands.Ranged.{Ranged}
+use Rattle.dh_address.specs.LiteralPlaces.{below_size}
 use Rattle.dh_address.proofs.ImageReadings.{at_last}
-use Rattle.dh_address.specs.Pieces.{Around, Range, new_number, known_kind, IsTestBut, IsTested, both_made, IsGuarded, check_made, AreChecked}
+use Rattle.dh_address.specs.Pieces.{IsTestBut, IsTested, both_made, IsGuarded, check_made, AreChecked}
 
 -- Lists grow.
 
@@ -28,21 +30,21 @@ both_grows os guard None = grows_self os
 both_grows os None (Some test) = grows_self os
 both_grows os (Some guard) (Some test) = pushed_grows os None _
 
-pub guards_grow : (a : Around) (guard : Option ℕ) (rs : List Range) (old new : List Operation) (on : Option ℕ) → IsGuarded a guard rs old new on → Grows old new
-guards_grow a guard [] old new on h = subst (λ (os : List Operation). Grows old os) (sym h.0) (grows_self old)
-guards_grow a guard (r ∷ rs) old new on (mid, (test, (tested, rest))) =
-    grows_on old mid new (test_grows (literal_within a.operations a.first r.value r.size) old mid _ _ _ test tested)
-    (grows_on mid _ new (both_grows mid guard test) (guards_grow a _ rs _ new on rest))
+pub guards_grow : (guard : Option ℕ) (rs : List Ranged) (old new : List Operation) (on : Option ℕ) → IsGuarded guard rs old new on → Grows old new
+guards_grow guard [] old new on h = subst (λ (os : List Operation). Grows old os) (sym h.0) (grows_self old)
+guards_grow guard (r ∷ rs) old new on (mid, (test, (tested, rest))) =
+    grows_on old mid new (test_grows (below_size r.operand.literal r.size) old mid _ _ _ test tested)
+    (grows_on mid _ new (both_grows mid guard test) (guards_grow _ rs _ new on rest))
 
 pub check_grows : (os : List Operation) (guard : Option ℕ) (fault : ℕ) (test : Option ℕ) → Grows os (check_made os guard fault test)
 check_grows os guard fault None = grows_self os
 check_grows os guard fault (Some test) = pushed_grows os guard _
 
-pub checks_grow : (a : Around) (guard : Option ℕ) (fault : ℕ) (rs : List Range) (old new : List Operation) → AreChecked a guard fault rs old new → Grows old new
-checks_grow a guard fault [] old new h = subst (λ (os : List Operation). Grows old os) (sym h) (grows_self old)
-checks_grow a guard fault (r ∷ rs) old new (mid, (test, (tested, rest))) =
-    grows_on old mid new (test_grows (literal_within a.operations a.first r.value r.size) old mid _ _ _ test tested)
-    (grows_on mid _ new (check_grows mid guard fault test) (checks_grow a guard fault rs _ new rest))
+pub checks_grow : (guard : Option ℕ) (fault : ℕ) (rs : List Ranged) (old new : List Operation) → AreChecked guard fault rs old new → Grows old new
+checks_grow guard fault [] old new h = subst (λ (os : List Operation). Grows old os) (sym h) (grows_self old)
+checks_grow guard fault (r ∷ rs) old new (mid, (test, (tested, rest))) =
+    grows_on old mid new (test_grows (below_size r.operand.literal r.size) old mid _ _ _ test tested)
+    (grows_on mid _ new (check_grows mid guard fault test) (checks_grow guard fault rs _ new rest))
 
 pub begun_later : (x : Readings) (old new : List Operation) → Grows old new → x.first ≤ length old → x.first ≤ length new
 begun_later x old new g b = let l = grown_length old new g in omega (arith, b, l)
@@ -79,30 +81,41 @@ module _ (x : Readings) (clock : ℕ) where
       two_truths : (k l : Kind) → k ≡ kind.Bool → l ≡ kind.Bool → AreTruths k l
       two_truths k l e f = subst (λ (m : Kind). AreTruths m l) (sym e) (subst (λ (m : Kind). AreTruths kind.Bool m) (sym f) tt)
 
-  -- a value that is tested
-  pub record IsTestable (a : Around) (os : List Operation) (r : Range) : Type 0 where
-    pub sized : IsInteger (known_kind a r.value)
-    pub stands : IsValue x clock os (known_kind a r.value) (new_number a r.value)
+  -- a value that is there, of an integer kind
+  pub record IsThere (os : List Operation) (o : Operand) : Type 0 where
+    pub sized : IsInteger o.kind
+    pub stands : IsValue x clock os o.kind o.value
 
-  pub testable_later : (a : Around) (old new : List Operation) → Grows old new → (rs : List Range) → AllByRecursion (IsTestable a old) rs → AllByRecursion (IsTestable a new) rs
-  testable_later a old new g [] h = tt
-  testable_later a old new g (r ∷ rs) h =
-      (record { sized = h.0.sized; stands = value_later x clock old new (known_kind a r.value) (new_number a r.value) g h.0.stands }, testable_later a old new g rs h.1)
+  pub there_later : (old new : List Operation) → Grows old new → (o : Operand) → IsThere old o → IsThere new o
+  there_later old new g o h = record { sized = h.sized; stands = value_later x clock old new o.kind o.value g h.stands }
 
-  pub tested_put : (a : Around) (r : Range) (old new : List Operation) (test : Option ℕ) → IsTested a r old new test → x.first ≤ length old → IsTestable a old r → PutsMaybe old new kind.Bool test
-  tested_put a r old new test h begun t = test_put (literal_within a.operations a.first r.value r.size) old new _ _ _ test h begun t.sized t.stands
+  pub all_there : (old new : List Operation) → Grows old new → (is : List Operand) → AllByRecursion (IsThere old) is → AllByRecursion (IsThere new) is
+  all_there old new g [] h = tt
+  all_there old new g (i ∷ is) h = (there_later old new g i h.0, all_there old new g is h.1)
 
-  pub guards_put : (a : Around) (guard : Option ℕ) (rs : List Range) (old new : List Operation) (on : Option ℕ) → IsGuarded a guard rs old new on
-      → x.first ≤ length old → AllByRecursion (IsTestable a old) rs → IsValueOrNone x clock old kind.Bool guard → PutsMaybe old new kind.Bool on
-  guards_put a guard [] old new on h begun testable g =
+  -- one that is tested
+  abbrev pub IsTestable : (os : List Operation) → Ranged → Type 0
+  IsTestable os r = IsThere os r.operand
+
+  pub testable_later : (old new : List Operation) → Grows old new → (rs : List Ranged) → AllByRecursion (IsTestable old) rs → AllByRecursion (IsTestable new) rs
+  testable_later old new g [] h = tt
+  testable_later old new g (r ∷ rs) h =
+      (there_later old new g r.operand h.0, testable_later old new g rs h.1)
+
+  pub tested_put : (r : Ranged) (old new : List Operation) (test : Option ℕ) → IsTested r old new test → x.first ≤ length old → IsTestable old r → PutsMaybe old new kind.Bool test
+  tested_put r old new test h begun t = test_put (below_size r.operand.literal r.size) old new _ _ _ test h begun t.sized t.stands
+
+  pub guards_put : (guard : Option ℕ) (rs : List Ranged) (old new : List Operation) (on : Option ℕ) → IsGuarded guard rs old new on
+      → x.first ≤ length old → AllByRecursion (IsTestable old) rs → IsValueOrNone x clock old kind.Bool guard → PutsMaybe old new kind.Bool on
+  guards_put guard [] old new on h begun testable g =
       subst (λ (os : List Operation). PutsMaybe old os kind.Bool on) (sym h.0)
       (subst (λ (t : Option ℕ). PutsMaybe old old kind.Bool t) (sym h.1) (record { adds = adds_self x clock old; stands = g }))
-  guards_put a guard (r ∷ rs) old new on (mid, (test, (tested, rest))) begun testable g =
-      let grown = test_grows (literal_within a.operations a.first r.value r.size) old mid _ _ _ test tested in
-      let one = tested_put a r old mid test tested begun testable.0 in
+  guards_put guard (r ∷ rs) old new on (mid, (test, (tested, rest))) begun testable g =
+      let grown = test_grows (below_size r.operand.literal r.size) old mid _ _ _ test tested in
+      let one = tested_put r old mid test tested begun testable.0 in
       let b = both_put mid guard test (begun_later x old mid grown begun) (maybe_later x clock old mid kind.Bool guard grown g) one.stands in
       let far = grows_on old mid _ grown (both_grows mid guard test) in
-      let others = guards_put a (both_made mid guard test).sum rs (both_made mid guard test).operations new on rest (begun_later x old _ far begun) (testable_later a old _ far rs testable.1) b.stands in
+      let others = guards_put (both_made mid guard test).sum rs (both_made mid guard test).operations new on rest (begun_later x old _ far begun) (testable_later old _ far rs testable.1) b.stands in
       record { adds = adds_on x clock old mid new one.adds (adds_on x clock mid _ new b.adds others.adds); stands = others.stands }
 
 -- What guards show.
@@ -121,16 +134,16 @@ and_true false = refl
 
 module _ (x : Readings) where
   -- all values are in range
-  abbrev pub all_in : Around → List Range → Bool
-  all_in a [] = true
-  all_in a (r ∷ rs) = is_below_size (value_of (x.word (new_number a r.value))) r.size && all_in a rs
+  abbrev pub all_in : List Ranged → Bool
+  all_in [] = true
+  all_in (r ∷ rs) = is_below_size (value_of (x.word r.operand.value)) r.size && all_in rs
 
   -- a literal is what the value shows
-  pub record IsShown (a : Around) (r : Range) : Type 0 where
-    pub sized : IsInteger (known_kind a r.value)
-    pub word : IsWord (x.word (new_number a r.value))
-    pub kind_is : (x.word (new_number a r.value)).kind ≡ known_kind a r.value
-    pub literal : (n : ℕ) → literal_within a.operations a.first r.value r.size ≡ Some n → is_below_size (value_of (x.word (new_number a r.value))) r.size ≡ true
+  pub record IsShown (r : Ranged) : Type 0 where
+    pub sized : IsInteger r.operand.kind
+    pub word : IsWord (x.word r.operand.value)
+    pub kind_is : (x.word r.operand.value).kind ≡ r.operand.kind
+    pub literal : (n : ℕ) → below_size r.operand.literal r.size ≡ Some n → is_below_size (value_of (x.word r.operand.value)) r.size ≡ true
 
   test_holds : (literal : Option ℕ) (old new : List Operation) (k : Kind) (value size : ℕ) (test : Option ℕ) → IsTestBut literal old new k value size test
       → x.first ≤ length old → Obeys x new → IsInteger k → IsWord (x.word value) → (x.word value).kind ≡ k
@@ -140,10 +153,10 @@ module _ (x : Readings) where
   test_holds (Some n) old new k value size test h begun obeys sized word same lit =
       subst (λ (t : Option ℕ). HoldsOrNone x t (is_below_size (value_of (x.word value)) size)) (sym h.1) (lit n refl)
 
-  pub tested_holds : (a : Around) (r : Range) (old new : List Operation) (test : Option ℕ) → IsTested a r old new test → x.first ≤ length old → Obeys x new → IsShown a r
-      → HoldsOrNone x test (is_below_size (value_of (x.word (new_number a r.value))) r.size)
-  tested_holds a r old new test h begun obeys shown =
-      test_holds (literal_within a.operations a.first r.value r.size) old new _ _ _ test h begun obeys shown.sized shown.word shown.kind_is shown.literal
+  pub tested_holds : (r : Ranged) (old new : List Operation) (test : Option ℕ) → IsTested r old new test → x.first ≤ length old → Obeys x new → IsShown r
+      → HoldsOrNone x test (is_below_size (value_of (x.word r.operand.value)) r.size)
+  tested_holds r old new test h begun obeys shown =
+      test_holds (below_size r.operand.literal r.size) old new _ _ _ test h begun obeys shown.sized shown.word shown.kind_is shown.literal
 
   pub both_hold : (os : List Operation) (guard test : Option ℕ) (b c : Bool) → x.first ≤ length os → Obeys x (both_made os guard test).operations
       → HoldsOrNone x guard b → HoldsOrNone x test c → HoldsOrNone x (both_made os guard test).sum (b && c)
@@ -155,19 +168,19 @@ module _ (x : Readings) where
       let right = ap is_true t ∙ truth_is c in
       e ∙ (ap (λ (d : Bool). truth (d && is_true (x.word test))) left ∙ ap (λ (d : Bool). truth (b && d)) right)
 
-  pub guards_hold : (a : Around) (guard : Option ℕ) (rs : List Range) (old new : List Operation) (on : Option ℕ) (b : Bool) → IsGuarded a guard rs old new on
-      → x.first ≤ length old → Obeys x new → AllByRecursion (IsShown a) rs → HoldsOrNone x guard b → HoldsOrNone x on (b && all_in a rs)
-  guards_hold a guard [] old new on b h begun obeys shown g =
+  pub guards_hold : (guard : Option ℕ) (rs : List Ranged) (old new : List Operation) (on : Option ℕ) (b : Bool) → IsGuarded guard rs old new on
+      → x.first ≤ length old → Obeys x new → AllByRecursion (IsShown) rs → HoldsOrNone x guard b → HoldsOrNone x on (b && all_in rs)
+  guards_hold guard [] old new on b h begun obeys shown g =
       subst (λ (t : Option ℕ). HoldsOrNone x t (b && true)) (sym h.1) (subst (λ (d : Bool). HoldsOrNone x guard d) (sym (and_true b)) g)
-  guards_hold a guard (r ∷ rs) old new on b (mid, (test, (tested, rest))) begun obeys shown g =
-      let grown = test_grows (literal_within a.operations a.first r.value r.size) old mid _ _ _ test tested in
+  guards_hold guard (r ∷ rs) old new on b (mid, (test, (tested, rest))) begun obeys shown g =
+      let grown = test_grows (below_size r.operand.literal r.size) old mid _ _ _ test tested in
       let both = both_grows mid guard test in
-      let more = guards_grow a (both_made mid guard test).sum rs (both_made mid guard test).operations new on rest in
+      let more = guards_grow (both_made mid guard test).sum rs (both_made mid guard test).operations new on rest in
       let behind = obeys_before x (both_made mid guard test).operations new more obeys in
-      let one = tested_holds a r old mid test tested begun (obeys_before x mid (both_made mid guard test).operations both behind) shown.0 in
+      let one = tested_holds r old mid test tested begun (obeys_before x mid (both_made mid guard test).operations both behind) shown.0 in
       let two = both_hold mid guard test b _ (begun_later x old mid grown begun) behind g one in
-      subst (λ (d : Bool). HoldsOrNone x on d) (and_assoc b (is_below_size (value_of (x.word (new_number a r.value))) r.size) (all_in a rs))
-      (guards_hold a (both_made mid guard test).sum rs (both_made mid guard test).operations new on _ rest (begun_later x old _ (grows_on old mid _ grown both) begun) obeys shown.1 two)
+      subst (λ (d : Bool). HoldsOrNone x on d) (and_assoc b (is_below_size (value_of (x.word r.operand.value)) r.size) (all_in rs))
+      (guards_hold (both_made mid guard test).sum rs (both_made mid guard test).operations new on _ rest (begun_later x old _ (grows_on old mid _ grown both) begun) obeys shown.1 two)
 
 -- A guard comes no earlier than the old one.
 
@@ -185,12 +198,12 @@ module _ (x : Readings) (all : List Operation) (late : (n u v : ℕ) → x.first
       let l = late (length os) guard test begun (kept_there _ all g (length os) _ (at_last os _)) in
       omega (arith, h, l)
 
-  pub guards_come : (a : Around) (guard : Option ℕ) (rs : List Range) (old new : List Operation) (on : Option ℕ) (bound : ℕ) → IsGuarded a guard rs old new on
+  pub guards_come : (guard : Option ℕ) (rs : List Ranged) (old new : List Operation) (on : Option ℕ) (bound : ℕ) → IsGuarded guard rs old new on
       → x.first ≤ length old → Grows new all → ComesFrom bound guard → ComesFrom bound on
-  guards_come a guard [] old new on bound h begun g from = subst (λ (t : Option ℕ). ComesFrom bound t) (sym h.1) from
-  guards_come a guard (r ∷ rs) old new on bound (mid, (test, (tested, rest))) begun g from =
-      let grown = test_grows (literal_within a.operations a.first r.value r.size) old mid _ _ _ test tested in
+  guards_come guard [] old new on bound h begun g from = subst (λ (t : Option ℕ). ComesFrom bound t) (sym h.1) from
+  guards_come guard (r ∷ rs) old new on bound (mid, (test, (tested, rest))) begun g from =
+      let grown = test_grows (below_size r.operand.literal r.size) old mid _ _ _ test tested in
       let both = both_grows mid guard test in
-      let more = guards_grow a (both_made mid guard test).sum rs (both_made mid guard test).operations new on rest in
-      guards_come a (both_made mid guard test).sum rs (both_made mid guard test).operations new on bound rest (begun_later x old _ (grows_on old mid _ grown both) begun) g
+      let more = guards_grow (both_made mid guard test).sum rs (both_made mid guard test).operations new on rest in
+      guards_come (both_made mid guard test).sum rs (both_made mid guard test).operations new on bound rest (begun_later x old _ (grows_on old mid _ grown both) begun) g
       (both_come mid guard test bound (begun_later x old mid grown begun) (grows_on _ new all more g) from)

@@ -21,6 +21,8 @@ use Rattle.dh_plan.specs.PlanRuns.{start_at, block_values}
 use Rattle.dh_plan.specs.SoundPlans.{access_in, use_in, writes_memory, FormAddressed}
 use Rattle.dh_plan.specs.SoundRuns.{AreInKinds}
 use Rattle.dh_rows.specs.Readings.{is_plain}
+use Rattle.dh_address.proofs.WaySizes.{HasMaps}
+use Rattle.dh_address.specs.declared.operands.Operand.{Operand}
 use Rattle.dh_address.specs.Pieces.{Around, IsAimed}
 use Rattle.dh_address.proofs.AccessesLead.{both_true}
 use Rattle.dh_address.proofs.GoodPieces.{AreGoodPieces, StandsInPiece}
@@ -51,13 +53,13 @@ no_use u v t same none e = let two : Some t ≡ None = sym e ∙ (ap (λ (w : Op
 abbrev pub IsSameAccess : (new old : Reach) → Type 0
 IsSameAccess t r = (t.access ≡ r.access) × ((t.memory ≡ r.memory) × (t.banks ≡ r.banks))
 
-aimed_same : (a : Around) (r : Reach) (row : Option ℕ) (old last : List Operation) (t : Reach) → IsAimed a r row old last t → IsSameAccess t r
-aimed_same a r None old last t h = (ap (λ (u : Reach). u.access) h.reach, (ap (λ (u : Reach). u.memory) h.reach, ap (λ (u : Reach). u.banks) h.reach))
-aimed_same a r (Some row) old last t h = (ap (λ (u : Reach). u.access) h.1, (ap (λ (u : Reach). u.memory) h.1, ap (λ (u : Reach). u.banks) h.1))
+aimed_same : (a : Around) (r : Reach) (row : Option ℕ) (is : List Operand) (old last : List Operation) (t : Reach) → IsAimed a r row is old last t → IsSameAccess t r
+aimed_same a r None is old last t h = (ap (λ (u : Reach). u.access) h.reach, (ap (λ (u : Reach). u.memory) h.reach, ap (λ (u : Reach). u.banks) h.reach))
+aimed_same a r (Some row) is old last t h = (ap (λ (u : Reach). u.access) h.1, (ap (λ (u : Reach). u.memory) h.1, ap (λ (u : Reach). u.banks) h.1))
 
-aimed_row : (a : Around) (r : Reach) (row : Option ℕ) (old last : List Operation) (t : Reach) → IsAimed a r row old last t → (n : ℕ) × (t.row ≡ Some n)
-aimed_row a r None old last t h = (h.row, ap (λ (u : Reach). u.row) h.reach)
-aimed_row a r (Some row) old last t h = (_, ap (λ (u : Reach). u.row) h.1)
+aimed_row : (a : Around) (r : Reach) (row : Option ℕ) (is : List Operand) (old last : List Operation) (t : Reach) → IsAimed a r row is old last t → (n : ℕ) × (t.row ≡ Some n)
+aimed_row a r None is old last t h = (h.row, ap (λ (u : Reach). u.row) h.reach)
+aimed_row a r (Some row) is old last t h = (_, ap (λ (u : Reach). u.row) h.1)
 
 -- An old read or write.
 pub record IsOldUse (a : Around) (o : Operation) (old all : List Operation) (number place : ℕ) (u : Operation) (t : Reach) : Type 0 where
@@ -70,7 +72,7 @@ pub record IsOldUse (a : Around) (o : Operation) (old all : List Operation) (num
 
 module _ (a : Around) (o : Operation) (old all : List Operation) (number place : ℕ) (u : Operation) (t : Reach) (uses : use_in u.form ≡ Some t) where
   same_access : (r : Reach) → IsUseOf a o.guard r old all u t → IsSameAccess t r
-  same_access r made = aimed_same a r r.row made.access.guarded made.last t made.access.aims
+  same_access r made = aimed_same a r r.row made.access.indices made.access.guarded made.last t made.access.aims
 
   read_use : (r : Reach) (v : Reach) → o.form ≡ Read r → place ≡ number → u.form ≡ Read v → IsUseOf a o.guard r old all u v → IsOldUse a o old all number place u t
   read_use r v e own form made =
@@ -122,7 +124,7 @@ form_addressed f g e h = subst FormAddressed (sym e) h
 
 module _ (a : Around) (o : Operation) (old all : List Operation) (number place : ℕ) (u : Operation) where
   use_row : (r v : Reach) → IsUseOf a o.guard r old all u v → (n : ℕ) × (v.row ≡ Some n)
-  use_row r v made = aimed_row a r r.row made.access.guarded made.last v made.access.aims
+  use_row r v made = aimed_row a r r.row made.access.indices made.access.guarded made.last v made.access.aims
 
   own_addressed : (f : OperationForm) → IsOwnForm a o.guard old all f u → FormAddressed u.form
   own_addressed (Constant word) h = form_addressed u.form _ (ap (λ (w : Operation). w.form) h) tt
@@ -194,11 +196,11 @@ use_suits p first ks (Set register value) r e h = absurd (cc)
 
 -- In a step.
 
-module _ (p : PlainPlan) (none : p.views ≡ []) (tables : IsProgramTable p.table) (bs : List PlanBlock) (block : ℕ) (front : List Operation) (begins : length front ≡ first_in (image_of p bs) block)
+module _ (p : PlainPlan) (maps : HasMaps p) (tables : IsProgramTable p.table) (bs : List PlanBlock) (block : ℕ) (front : List Operation) (begins : length front ≡ first_in (image_of p bs) block)
     (formed : IsFormedBlock p block) (all_formed : FormedBelow (image_of p bs) block front begins (length (front ++ operations_in (image_of p bs) block)))
     (registers : List ℕ) (memories : List (List ℕ)) (fits : AreInKinds p block (block_values p (start_at p registers memories) block))
-    (listed : ReachesListed p none tables bs block front begins formed all_formed registers memories)
-    (h : AreGoodPieces p none tables bs block front begins formed (SameWord p none tables bs block front begins formed all_formed registers memories) [] [] 0 (operations_in p block) front) where
+    (listed : ReachesListed p maps tables bs block front begins formed all_formed registers memories)
+    (h : AreGoodPieces p maps tables bs block front begins formed (SameWord p maps tables bs block front begins formed all_formed registers memories) [] [] 0 (operations_in p block) front) where
   abbrev q : PlainPlan
   q = image_of p bs
 
@@ -224,44 +226,44 @@ module _ (p : PlainPlan) (none : p.views ≡ []) (tables : IsProgramTable p.tabl
   vs = block_values q t block
 
   abbrev Words : ℕ → ℕ → Type 0
-  Words v m = SameWord p none tables bs block front begins formed all_formed registers memories v m
+  Words v m = SameWord p maps tables bs block front begins formed all_formed registers memories v m
 
   -- a made whose guard holds, and the old one
   pub record IsLed (j : ℕ) (u : Operation) (e : slice_get (operations_in q block) j ≡ Some u) (v : Reach) : Type 0 where
     pub reach : Reach
-    pub there : slice_get (operations_in p block) (stands_at p none tables bs block front begins formed all_formed Words h j u e).place
-        ≡ Some (stands_at p none tables bs block front begins formed all_formed Words h j u e).operation
-    pub uses : use_in (stands_at p none tables bs block front begins formed all_formed Words h j u e).operation.form ≡ Some reach
-    pub own : length front + j ≡ (stands_at p none tables bs block front begins formed all_formed Words h j u e).of.number
+    pub there : slice_get (operations_in p block) (stands_at p maps tables bs block front begins formed all_formed Words h j u e).place
+        ≡ Some (stands_at p maps tables bs block front begins formed all_formed Words h j u e).operation
+    pub uses : use_in (stands_at p maps tables bs block front begins formed all_formed Words h j u e).operation.form ≡ Some reach
+    pub own : length front + j ≡ (stands_at p maps tables bs block front begins formed all_formed Words h j u e).of.number
     pub same : IsSameAccess v reach
-    pub writes : writes_memory u.form → writes_memory (stands_at p none tables bs block front begins formed all_formed Words h j u e).operation.form
+    pub writes : writes_memory u.form → writes_memory (stands_at p maps tables bs block front begins formed all_formed Words h j u e).operation.form
     pub spot : Spot
-    pub on : is_on old_first ws (stands_at p none tables bs block front begins formed all_formed Words h j u e).operation.guard ≡ true
+    pub on : is_on old_first ws (stands_at p maps tables bs block front begins formed all_formed Words h j u e).operation.guard ≡ true
     pub old_leads : spot_of_reach s old_first ws reach ≡ Some spot
     pub leads : spot_of_reach t first vs v ≡ Some spot
 
   module _ (j : ℕ) (u : Operation) (e : slice_get (operations_in q block) j ≡ Some u) (v : Reach) (uses : use_in u.form ≡ Some v) where
-    abbrev st : StandsInPiece p none tables bs block front begins formed Words 0 (length front + j)
-    st = stands_at p none tables bs block front begins formed all_formed Words h j u e
+    abbrev st : StandsInPiece p maps tables bs block front begins formed Words 0 (length front + j)
+    st = stands_at p maps tables bs block front begins formed all_formed Words h j u e
 
     abbrev a : Around
     a = around p block st.of.numbers st.of.kinds
 
     old_use : IsOldUse a st.operation st.of.old all st.of.number (length front + j) u v
-    old_use = part_use a st.operation st.of.old all st.of.number (length front + j) u v uses (part_at p none tables bs block front begins formed all_formed Words h j u e)
+    old_use = part_use a st.operation st.of.old all st.of.number (length front + j) u v uses (part_at p maps tables bs block front begins formed all_formed Words h j u e)
 
     abbrev Good : ℕ → Type 0
-    Good w = IsSameInKind p none tables bs block st.of.numbers st.of.kinds registers memories w
+    Good w = IsSameInKind p maps tables bs block st.of.numbers st.of.kinds registers memories w
 
-    access_is : AccessMeans p none tables bs block st.of.numbers st.of.kinds registers memories st.operation.guard old_use.reach u.guard v
+    access_is : AccessMeans p maps tables bs block st.of.numbers st.of.kinds registers memories st.operation.guard old_use.reach u.guard v
     access_is =
         let at = st.of.piece.at in
-        means p none tables bs block front begins formed all_formed registers memories fits listed st.of.numbers st.of.kinds st.place st.operation st.of.old st.of.mid st.of.number at st.of.piece.takes
+        means p maps tables bs block front begins formed all_formed registers memories fits listed st.of.numbers st.of.kinds st.place st.operation st.of.old st.of.mid st.of.number at st.of.piece.takes
         old_use.reach (use_suits p old_first st.of.kinds st.operation.form old_use.reach old_use.uses at.suits.form)
         (use_takes Good st.operation.form old_use.reach old_use.uses
-        (form_good p none tables bs block front begins formed all_formed registers memories fits listed st.of.numbers st.of.kinds st.place st.operation st.of.old st.of.mid st.of.number at st.of.piece.takes))
+        (form_good p maps tables bs block front begins formed all_formed registers memories fits listed st.of.numbers st.of.kinds st.place st.operation st.of.old st.of.mid st.of.number at st.of.piece.takes))
         (use_takes (IsBetween old_first (old_first + st.place)) st.operation.form old_use.reach old_use.uses
-        (form_begun p none tables bs block front begins formed all_formed registers memories fits listed st.of.numbers st.of.kinds st.place st.operation st.of.old st.of.mid st.of.number at st.of.piece.takes))
+        (form_begun p maps tables bs block front begins formed all_formed registers memories fits listed st.of.numbers st.of.kinds st.place st.operation st.of.old st.of.mid st.of.number at st.of.piece.takes))
         old_use.made.last u.guard v old_use.made.access old_use.made.grows
 
     led : is_on first vs u.guard ≡ true → (o : Option Spot) → spot_of_reach s old_first ws old_use.reach ≡ o → IsLed j u e v

@@ -1,9 +1,10 @@
 -- The values of a block and of what it becomes: in a step in which each access that is made and in range reaches a bank of
 -- its list, each value of the old block is that of its new number in the new block.
-use Rattle.std.proofs.Common.{◌≡◌, ℕ, ◌+◌, ◌-◌, ◌<◌, ◌≤◌, ◌&&◌, Some, None, List, Bool, true, false, length, map, refl, sym, ap, subst, ◌∙◌, arith, pos, unsigned_abs}
+use Rattle.std.proofs.Common.{◌≡◌, ℕ, suc, ◌+◌, ◌-◌, ◌%◌, ◌^◌, ◌≤◌, ◌&&◌, Some, None, List, Bool, true, false, length, map, refl, sym, ap, subst, ◌∙◌, arith, pos, unsigned_abs}
 use Rattle.std.specs.Prelude.{[], ◌∷◌, ◌++◌, Option, if◌then◌else◌, ℤ}
 use Rattle.std.specs.List.{AllByRecursion}
 use Rattle.std.specs.Option.{is_some}
+use Rattle.std.proofs.Math.Nat.{mod-eq_of_lt}
 use Rattle.dh_value.specs.declared.kinds.Kind.{Kind}
 use Rattle.dh_value.specs.declared.kinds.Kind.TheVariants as kind
 use Rattle.dh_value.specs.declared.words.Word.{Word}
@@ -11,38 +12,48 @@ use Rattle.dh_value.specs.Words.{IsInteger, IsWord, value_of}
 use Rattle.dh_tree.specs.declared.tables.Dim.{Dim}
 use Rattle.dh_tree.specs.Elements.{Spot, bank_of, row_of, rows_of, spot_of, dims_at}
 use Rattle.dh_tree.specs.Shapes.{IsProgramTable}
-use Rattle.dh_meaning.specs.Effects.{is_inside, is_row, spot_by_indices, spot_by_row}
+use Rattle.dh_meaning.specs.Effects.{is_inside, is_row, spot_by_row}
 use Rattle.dh_plan.specs.declared.operations.Operation.{Operation}
 use Rattle.dh_plan.specs.declared.operations.OperationForm.TheVariants.{Constant}
 use Rattle.dh_plan.specs.declared.operations.PlanBlock.{PlanBlock}
 use Rattle.dh_plan.specs.declared.operations.Reach.{Reach}
 use Rattle.dh_plan.specs.Blocks.{StepStart, word_at, is_on, numbers_at, passages, bank_picked, spot_if_inside, spot_in_row, spot_of_reach, in_memories}
-use Rattle.dh_plan.specs.Ordered.{one_or_none}
+use Rattle.dh_plan.specs.Ordered.{one_or_none, offsets_taken}
+use Rattle.dh_plan.specs.declared.operations.ReachStep.{ReachStep}
 use Rattle.dh_plan.specs.PlainPlans.{PlainPlan, first_in, operations_in}
 use Rattle.dh_plan.specs.PlanKinds.{ReachSuits, NamesElement}
 use Rattle.dh_plan.specs.PlanRuns.{start_at, block_values}
 use Rattle.dh_plan.specs.SoundPlans.{IsListed}
 use Rattle.dh_plan.specs.SoundRuns.{IsInKind}
 use Rattle.dh_plan.specs.Passages.{indices_behind}
-use Rattle.dh_plan.proofs.ValuesAlike.{memories_look_back}
+use Rattle.dh_plan.proofs.ValuesAlike.{all_left, all_right, memories_look_back}
 use Rattle.dh_rows.specs.Readings.{Readings, Obeys}
 use Rattle.dh_rows.specs.RowsShown.{AreWithin, HoldsOrNone, is_below_size}
 use Rattle.dh_rows.specs.MadeOperations.{Made, constant_made}
 use Rattle.dh_rows.proofs.Growing.{obeys_before}
+use Rattle.dh_address.proofs.WaySizes.{HasMaps}
 use Rattle.dh_address.specs.declared.literals.LiteralPlace.{LiteralPlace}
-use Rattle.dh_address.specs.LiteralPlaces.{literal_within, literal_places}
-use Rattle.dh_address.specs.Pieces.{Around, new_number, new_or_none, known_kind, ranges_by, ranges_in, ranges_of, aimed, aim_width, waited, is_banked, IsAim, IsAimBut, IsAimed, IsAccessMade}
+use Rattle.dh_address.specs.declared.operands.Operand.{Operand}
+use Rattle.dh_address.specs.declared.operands.Ranged.{Ranged}
+use Rattle.dh_address.specs.LiteralPlaces.{literal_at, literal_places}
+use Rattle.dh_address.specs.Pieces.{Around, new_number, new_or_none, known_kind, all_taken, values_of, aimed, aim_width, waited, is_banked, IsAim, IsAimBut, IsAimed, IsAccessMade}
+use Rattle.dh_address.specs.WaysMade.{Way, IsWay, operand_of, ranges_by, steps_passed, way_begun, passed_to, reach_passed}
 use Rattle.dh_address.proofs.AccessesLead.{truth_word, word_in_kind, both_true, in_range, abs_of, inside_within, place_leads, only_bank, holds_on}
-use Rattle.dh_address.proofs.AccessesPut.{element_plain, IsPlainAccess, picked}
+use Rattle.dh_address.proofs.AccessesPut.{HasMany, picked}
 use Rattle.dh_address.proofs.AimedRows.{ShowsAim, ShowsSelect, PlaceIs, index_aim_shows, HasSelect}
 use Rattle.dh_address.proofs.BlockEquations.{word_solved}
 use Rattle.dh_address.proofs.ImageReadings.{block_readings}
-use Rattle.dh_address.proofs.LiteralMeans.{AreLiterals, within_means, literal_means, literal_in_range, dims_formed, elements_below, width_suffices, literal_place_is}
+use Rattle.dh_address.proofs.LiteralMeans.{AreLiterals, below_means, literal_means, dims_formed, elements_below, width_suffices, literal_place_is}
 use Rattle.dh_address.proofs.PieceForms.{image_of, around}
 use Rattle.dh_address.proofs.PiecesGrow.{guarded_grows, aimed_grows, waited_grows}
 use Rattle.dh_address.proofs.TestedRanges.{all_in, IsShown, guards_hold, begun_later, and_true}
+use Rattle.dh_address.proofs.FewElements.{rows_below}
+use Rattle.dh_address.proofs.WayLengths.{mapped_long, passed_long}
+use Rattle.dh_address.proofs.WaysPlain.{way_as, passed_grows}
+use Rattle.dh_address.proofs.WaysShown.{IsSeen, AreSeen, AreFor, AreValues, seen_shown, values_for, all_in_join}
+use Rattle.dh_address.proofs.WaysLed.{LeadsTo, is_found, AreOffsets, steps_lead}
 
-module _ (p : PlainPlan) (none : p.views ≡ []) (tables : IsProgramTable p.table) (bs : List PlanBlock) (block : ℕ) (ns : List ℕ) (ks : List Kind)
+module _ (p : PlainPlan) (maps : HasMaps p) (tables : IsProgramTable p.table) (bs : List PlanBlock) (block : ℕ) (ns : List ℕ) (ks : List Kind)
     (registers : List ℕ) (memories : List (List ℕ)) where
   abbrev q : PlainPlan
   q = image_of p bs
@@ -89,58 +100,52 @@ module _ (p : PlainPlan) (none : p.views ≡ []) (tables : IsProgramTable p.tabl
   -- Ranges.
 
   -- a literal is what the value shows
-  literal_value : (v size n : ℕ) → literal_within a.operations a.first v size ≡ Some n → old_first ≤ v → (value_of (word_at old_first ws v) ≡ pos n) × (n < size)
-  literal_value v size n e begun =
-      let w = within_means a.operations a.first v size n e in
-      let c = literal_means a.operations (v - a.first) n w.literal in
+  literal_value : (v n : ℕ) → literal_at a.operations (v - a.first) ≡ Some n → old_first ≤ v → value_of (word_at old_first ws v) ≡ pos n
+  literal_value v n e begun =
+      let c = literal_means a.operations (v - a.first) n e in
       let solved = word_solved s (in_memories s old_first) old_first (memories_look_back s old_first) (operations_in p block) (v - old_first) (record { guard = None; form = Constant c.word }) c.there tt in
-      (ap value_of (ap (λ (m : ℕ). word_at old_first ws m) (sym (place old_first v begun)) ∙ solved) ∙ c.value, w.below)
+      ap value_of (ap (λ (m : ℕ). word_at old_first ws m) (sym (place old_first v begun)) ∙ solved) ∙ c.value
     where
       place : (f v : ℕ) → f ≤ v → f + (v - f) ≡ v
       place f v l = omega (arith, l)
 
-  shown : (v size : ℕ) → old_first ≤ v → IsInteger (known_kind a v) → IsSameInKind v → IsShown x a (record { value = v; size = size })
-  shown v size begun sized h =
-      let word = word_in_kind (known_kind a v) (word_at old_first ws v) sized h.in_kind in
-      record {
-        sized = sized;
-        word = subst (λ (w : Word). IsWord w) (sym h.same) word;
-        kind_is = ap (λ (w : Word). w.kind) h.same ∙ h.in_kind.same;
-        literal = λ n e. (let l = literal_value v size n e begun in
-            ap (λ (w : Word). is_below_size (value_of w) size) h.same ∙ (ap (λ (z : ℤ). is_below_size z size) l.0 ∙ literal_in_range n size l.1));
-      }
-
-  -- what is known of an index or a row
+  -- what is known of an index, an offset or a row
   pub record IsGoodNumber (v : ℕ) : Type 0 where
     pub begun : old_first ≤ v
     pub sized : IsInteger (known_kind a v)
     pub good : IsSameInKind v
 
-  shown_by : (dims : List Dim) (indices : List ℕ) → AllByRecursion IsGoodNumber indices → AllByRecursion (IsShown x a) (ranges_by dims indices)
-  shown_by [] is h = tt
-  shown_by (d ∷ ds) [] h = tt
-  shown_by (d ∷ ds) (i ∷ is) h = (shown i d.size h.0.begun h.0.sized h.0.good, shown_by ds is h.1)
+  seen : (v : ℕ) → IsGoodNumber v → IsSeen x (operand_of a v)
+  seen v h =
+      let word = word_in_kind (known_kind a v) (word_at old_first ws v) h.sized h.good.in_kind in
+      record {
+        sized = h.sized;
+        word = subst (λ (w : Word). IsWord w) (sym h.good.same) word;
+        kind_is = ap (λ (w : Word). w.kind) h.good.same ∙ h.good.in_kind.same;
+        literal = λ n e. ap value_of h.good.same ∙ literal_value v n e h.begun;
+      }
 
-  pub shown_in : (dims : List Dim) (row : Option ℕ) (indices : List ℕ) → AllByRecursion IsGoodNumber indices → AllByRecursion IsGoodNumber (one_or_none row) → AllByRecursion (IsShown x a) (ranges_in dims row indices)
-  shown_in dims None indices h g = shown_by dims indices h
-  shown_in dims (Some row) indices h g = (shown row (rows_of dims) g.0.begun g.0.sized g.0.good, tt)
+  all_seen : (us : List ℕ) → AllByRecursion IsGoodNumber us → AreSeen x (map (operand_of a) us)
+  all_seen [] h = tt
+  all_seen (u ∷ us) h = (seen u h.0, all_seen us h.1)
 
-  all_in_by : (dims : List Dim) (indices : List ℕ) → length indices ≡ length dims → AllByRecursion IsGoodNumber indices
-      → all_in x a (ranges_by dims indices) ≡ is_inside dims (numbers_at old_first ws indices)
-  all_in_by [] [] long h = refl
-  all_in_by [] (i ∷ is) long h = absurd (omega (arith, long))
-  all_in_by (d ∷ ds) [] long h = absurd (omega (arith, long))
-  all_in_by (d ∷ ds) (i ∷ is) long h =
-      ap (λ (w : Word). is_below_size (value_of w) d.size && all_in x a (ranges_by ds is)) h.0.good.same
-      ∙ ap (λ (b : Bool). is_below_size (value_of (word_at old_first ws i)) d.size && b) (all_in_by ds is (omega (arith, long)) h.1)
+  all_values : (us : List ℕ) → AllByRecursion IsGoodNumber us → AreValues x (map (operand_of a) us) (numbers_at old_first ws us)
+  all_values [] h = tt
+  all_values (u ∷ us) h = (ap value_of h.0.good.same, all_values us h.1)
+
+  numbers_long : (us : List ℕ) → length (numbers_at old_first ws us) ≡ length us
+  numbers_long [] = refl
+  numbers_long (u ∷ us) = ap suc (numbers_long us)
+
+  -- what is known of an access
+  pub record IsMeant (r : Reach) : Type 0 where
+    pub suits : ReachSuits p old_first ks r
+    pub indices : AllByRecursion IsGoodNumber r.indices
+    pub offsets : AllByRecursion IsGoodNumber (offsets_taken r.steps)
+    pub row : AllByRecursion IsGoodNumber (one_or_none r.row)
+    pub select : AllByRecursion IsSame (one_or_none r.select)
 
   -- Where an access leads.
-
-  -- of an access by indices
-  by_indices : (r : Reach) → r.row ≡ None → r.steps ≡ [] → spot_of_reach s old_first ws r ≡ spot_by_indices p.table r.memory (numbers_at old_first ws r.indices)
-  by_indices r e steps =
-      ap (λ (o : Option ℕ). spot_in_row s old_first ws r o) e
-      ∙ ap (λ ss. spot_if_inside p.table r.memory (indices_behind p.views (passages old_first ws ss) (numbers_at old_first ws r.indices))) steps
 
   by_row : (r : Reach) (row : ℕ) → r.row ≡ Some row
       → spot_of_reach s old_first ws r ≡ spot_by_row p.table r.memory (bank_picked old_first ws r.banks r.select) (value_of (word_at old_first ws row))
@@ -150,51 +155,126 @@ module _ (p : PlainPlan) (none : p.views ≡ []) (tables : IsProgramTable p.tabl
   is_there true v = refl
   is_there false v = refl
 
-  pub all_in_reach : (row : Option ℕ) (r : Reach) → r.row ≡ row → (row ≡ None → IsPlainAccess p r) → AllByRecursion IsGoodNumber r.indices → AllByRecursion IsGoodNumber (one_or_none row)
-      → all_in x a (ranges_of a r) ≡ is_some (spot_of_reach s old_first ws r)
-  all_in_reach None r e plain h g =
-      ap (λ (o : Option ℕ). all_in x a (ranges_in (dims_at p.table r.memory) o r.indices)) e
-      ∙ (all_in_by (dims_at p.table r.memory) r.indices (plain refl).long h
-      ∙ (sym (is_there (is_inside (dims_at p.table r.memory) (numbers_at old_first ws r.indices)) _) ∙ ap (λ (o : Option Spot). is_some o) (sym (by_indices r e (plain refl).steps))))
-  all_in_reach (Some row) r e plain h g =
-      ap (λ (o : Option ℕ). all_in x a (ranges_in (dims_at p.table r.memory) o r.indices)) e
-      ∙ (and_true _
-      ∙ (ap (λ (w : Word). is_below_size (value_of w) (rows_of (dims_at p.table r.memory))) g.0.good.same
-      ∙ (sym (is_there (is_row (dims_at p.table r.memory) (value_of (word_at old_first ws row))) _) ∙ ap (λ (o : Option Spot). is_some o) (sym (by_row r row e)))))
+  chosen_some : (b : Bool) (v spot : Spot) → (if b then Some v else None) ≡ Some spot → (b ≡ true) × (v ≡ spot)
+  chosen_some true v spot e = (refl, cc)
+  chosen_some false v spot e = absurd (cc)
+
+  -- the indices of the memory stand for those of this element
+  pub record IsLedTo (r : Reach) (is : List Operand) (spot : Spot) : Type 0 where
+    pub numbers : List ℤ
+    pub stand : AreFor x (dims_at p.table r.memory) is numbers
+    pub inside : is_inside (dims_at p.table r.memory) numbers ≡ true
+    pub spot_is : spot_of p.table r.memory (abs_of numbers) ≡ spot
+
+  -- before the tests of an access
+  pub record PassShows (r : Reach) (row : Option ℕ) (ranges : List Ranged) (is : List Operand) : Type 0 where
+    pub in_range : all_in x ranges ≡ is_some (spot_in_row s old_first ws r row)
+    pub shown : AllByRecursion (IsShown x) ranges
+    pub seen_indices : AreSeen x is
+    pub leads : row ≡ None → (spot : Spot) → spot_in_row s old_first ws r row ≡ Some spot → IsLedTo r is spot
+
+  module _ (r : Reach) (m : IsMeant r) (old : List Operation) (begun : first ≤ length old) where
+    offsets_shown : (ss : List ReachStep) → AllByRecursion IsGoodNumber (offsets_taken ss) → AreOffsets x a p maps tables refl r.memory (λ (s : ReachStep). numbers_at old_first ws s.offsets) ss
+    offsets_shown [] h = tt
+    offsets_shown (t ∷ ts) h =
+        let own = all_left IsGoodNumber t.offsets (offsets_taken ts) h in
+        ((all_seen t.offsets own, all_values t.offsets own), offsets_shown ts (all_right IsGoodNumber t.offsets (offsets_taken ts) h))
+
+    abbrev found : Option (List ℤ)
+    found = indices_behind p.views (passages old_first ws r.steps) (numbers_at old_first ws r.indices)
+
+    by_way : NamesElement p old_first ks r None → Obeys x (steps_passed a r.steps (way_begun a r old)).operations
+        → LeadsTo x (dims_at p.table r.memory) true (steps_passed a r.steps (way_begun a r old)) found
+    by_way element obeys =
+        let long = mapped_long (operand_of a) r.indices ∙ element.1.0 in
+        steps_lead x a p maps tables refl r.memory (λ (s : ReachStep). numbers_at old_first ws s.offsets) r.steps element.0 (numbers_at old_first ws r.indices) (way_begun a r old) element.1.1
+        (offsets_shown r.steps m.offsets)
+        (record {
+          begun = begun;
+          ranges = tt;
+          indices = all_seen r.indices m.indices;
+          index_long = long;
+          long = numbers_long r.indices ∙ element.1.0;
+          stands = λ e. values_for x element.0 (map (operand_of a) r.indices) (numbers_at old_first ws r.indices) (all_values r.indices m.indices) long;
+        })
+        obeys
+
+    found_some : (o : Option (List ℤ)) → is_found x (dims_at p.table r.memory) o ≡ is_some (spot_if_inside p.table r.memory o)
+    found_some None = refl
+    found_some (Some zs) = sym (is_there (is_inside (dims_at p.table r.memory) zs) (spot_of p.table r.memory (abs_of zs)))
+
+    led_to : (w : Way) (o : Option (List ℤ)) (spot : Spot) → LeadsTo x (dims_at p.table r.memory) true w o → spot_if_inside p.table r.memory o ≡ Some spot → IsLedTo r w.indices spot
+    led_to w None spot l e = absurd (cc)
+    led_to w (Some zs) spot l e =
+        let c = chosen_some (is_inside (dims_at p.table r.memory) zs) (spot_of p.table r.memory (abs_of zs)) spot e in
+        let all = l.test ∙ c.0 in
+        let two = both_true (all_in x w.ranges) (all_in x (ranges_by (dims_at p.table r.memory) w.indices)) (sym (all_in_join x w.ranges (ranges_by (dims_at p.table r.memory) w.indices)) ∙ all) in
+        record { numbers = zs; stand = l.stands two.0 zs refl; inside = c.0; spot_is = c.1 }
+
+    to_shows : (row : Option ℕ) → r.row ≡ row → Obeys x (passed_to a r row old).operations → PassShows r row (passed_to a r row old).ranges (passed_to a r row old).indices
+    to_shows None e obeys =
+        let l = by_way (subst (λ (o : Option ℕ). NamesElement p old_first ks r o) e m.suits.element) obeys in
+        record {
+          in_range = l.test ∙ found_some found;
+          shown = seen_shown x (passed_to a r None old).ranges l.ranges;
+          seen_indices = l.indices;
+          leads = λ none spot leads. led_to (steps_passed a r.steps (way_begun a r old)) found spot l leads;
+        }
+    to_shows (Some row) e obeys =
+        let good = (subst (λ (o : Option ℕ). AllByRecursion IsGoodNumber (one_or_none o)) e m.row).0 in
+        let rows = rows_of (dims_at p.table r.memory) in
+        record {
+          in_range = and_true (is_below_size (value_of (x.word (new_number a row))) (rows % 2 ^ 64))
+              ∙ (ap (λ (n : ℕ). is_below_size (value_of (x.word (new_number a row))) n) (mod-eq_of_lt (rows_below p.table r.memory tables))
+              ∙ (ap (λ (w : Word). is_below_size (value_of w) rows) good.good.same ∙ sym (is_there (is_row (dims_at p.table r.memory) (value_of (word_at old_first ws row))) _)));
+          shown = seen_shown x (passed_to a r (Some row) old).ranges (seen row good, tt);
+          seen_indices = tt;
+          leads = λ none spot leads. absurd (some_none none);
+        }
+      where
+        some_none : Some row ≡ None → ⊥
+        some_none e = cc
+
+    pub passed_shows : (passed : List Operation) (ranges : List Ranged) (indices : List Operand) → IsWay passed ranges indices (reach_passed a r old) → Obeys x passed → PassShows r r.row ranges indices
+    passed_shows passed ranges indices e obeys =
+        way_as (λ os rs is. PassShows r r.row rs is) passed ranges indices (reach_passed a r old) e (to_shows r.row refl (subst (λ (os : List Operation). Obeys x os) e.0 obeys))
 
   -- indices in range are natural numbers below the sizes
-  all_within : (dims : List Dim) (indices : List ℕ) → AllByRecursion IsGoodNumber indices → is_inside dims (numbers_at old_first ws indices) ≡ true
-      → AreWithin x dims (map (new_number a) indices) (abs_of (numbers_at old_first ws indices))
-  all_within [] [] h e = tt
-  all_within [] (i ∷ is) h e = absurd (cc)
-  all_within (d ∷ ds) [] h e = absurd (cc)
-  all_within (d ∷ ds) (i ∷ is) h e =
-      let b = both_true (is_below_size (value_of (word_at old_first ws i)) d.size) (is_inside ds (numbers_at old_first ws is)) e in
-      let n = in_range (value_of (word_at old_first ws i)) d.size b.0 in
-      ((ap value_of h.0.good.same ∙ n.is, n.below), all_within ds is h.1 b.1)
+  all_within : (dims : List Dim) (is : List Operand) (zs : List ℤ) → AreFor x dims is zs → is_inside dims zs ≡ true → AreWithin x dims (values_of is) (abs_of zs)
+  all_within [] [] [] f e = tt
+  all_within [] [] (z ∷ zs) f e = absurd f
+  all_within [] (i ∷ is) zs f e = absurd f
+  all_within (d ∷ ds) [] zs f e = absurd f
+  all_within (d ∷ ds) (i ∷ is) [] f e = absurd f
+  all_within (d ∷ ds) (i ∷ is) (z ∷ zs) f e =
+      let b = both_true (is_below_size z d.size) (is_inside ds zs) e in
+      let n = in_range z d.size b.0 in
+      ((f.0.exact b.0 ∙ n.is, n.below), all_within ds is zs f.1 b.1)
 
   -- literals are the numbers that the indices show
-  literals_same : (dims : List Dim) (indices numbers : List ℕ) → AreLiterals a.operations a.first dims indices numbers → AllByRecursion IsGoodNumber indices
-      → numbers ≡ abs_of (numbers_at old_first ws indices)
-  literals_same [] [] [] l h = refl
-  literals_same [] [] (n ∷ more) l h = absurd l
-  literals_same [] (i ∷ is) more l h = absurd l
-  literals_same (d ∷ ds) [] more l h = absurd l
-  literals_same (d ∷ ds) (i ∷ is) [] l h = absurd l
-  literals_same (d ∷ ds) (i ∷ is) (n ∷ more) l h =
-      let v = literal_value i d.size n l.0 h.0.begun in
-      let here : n ≡ unsigned_abs (value_of (word_at old_first ws i)) = sym (ap unsigned_abs v.0) in
-      let others = literals_same ds is more l.1 h.1 in
+  literals_same : (dims : List Dim) (is : List Operand) (zs : List ℤ) (numbers : List ℕ) → AreLiterals dims is numbers → AreSeen x is → AreFor x dims is zs → is_inside dims zs ≡ true → numbers ≡ abs_of zs
+  literals_same [] [] [] [] l h f e = refl
+  literals_same [] [] [] (n ∷ more) l h f e = absurd l
+  literals_same [] [] (z ∷ zs) more l h f e = absurd f
+  literals_same [] (i ∷ is) zs more l h f e = absurd f
+  literals_same (d ∷ ds) [] zs more l h f e = absurd f
+  literals_same (d ∷ ds) (i ∷ is) [] more l h f e = absurd f
+  literals_same (d ∷ ds) (i ∷ is) (z ∷ zs) [] l h f e = absurd l
+  literals_same (d ∷ ds) (i ∷ is) (z ∷ zs) (n ∷ more) l h f e =
+      let b = both_true (is_below_size z d.size) (is_inside ds zs) e in
+      let v = h.0.literal n (below_means i.literal d.size n l.0).0 in
+      let here : n ≡ unsigned_abs z = ap unsigned_abs (sym v ∙ f.0.exact b.0) in
+      let others = literals_same ds is zs more l.1 h.1 f.1 b.1 in
       cc
 
-  place_is : (r : Reach) (place : Option LiteralPlace) → literal_places a.operations a.first (dims_at p.table r.memory) r.indices 0 0 ≡ place → length r.indices ≡ length (dims_at p.table r.memory)
-      → AllByRecursion IsGoodNumber r.indices
-      → PlaceIs x (aim_width (dims_at p.table r.memory)) place (row_of (dims_at p.table r.memory) (abs_of (numbers_at old_first ws r.indices))) (bank_of (dims_at p.table r.memory) (abs_of (numbers_at old_first ws r.indices)))
-  place_is r None e long h = tt
-  place_is r (Some place) e long h =
+  place_is : (r : Reach) (is : List Operand) (zs : List ℤ) (place : Option LiteralPlace) → literal_places (dims_at p.table r.memory) is 0 0 ≡ place → length is ≡ length (dims_at p.table r.memory)
+      → AreSeen x is → AreFor x (dims_at p.table r.memory) is zs → is_inside (dims_at p.table r.memory) zs ≡ true
+      → PlaceIs x (aim_width (dims_at p.table r.memory)) place (row_of (dims_at p.table r.memory) (abs_of zs)) (bank_of (dims_at p.table r.memory) (abs_of zs))
+  place_is r is zs None e long h f i = tt
+  place_is r is zs (Some place) e long h f i =
       let dims = dims_at p.table r.memory in
-      let l = literal_place_is a.operations a.first dims r.indices place (dims_formed p.table r.memory tables.entries) (elements_below p.table r.memory tables) long e in
-      let same = literals_same dims r.indices l.numbers l.literals h in
+      let l = literal_place_is dims is place (dims_formed p.table r.memory tables.entries) (elements_below p.table r.memory tables) long e in
+      let same = literals_same dims is zs l.numbers l.literals h f i in
       (l.row_is ∙ ap (λ (ms : List ℕ). row_of dims ms) same, l.bank_is ∙ ap (λ (ms : List ℕ). bank_of dims ms) same)
 
   -- a bank is picked, or there is one alone
@@ -213,25 +293,17 @@ module _ (p : PlainPlan) (none : p.views ≡ []) (tables : IsProgramTable p.tabl
     pub memory : u.memory ≡ r.memory
     pub leads : (spot : Spot) → spot_of_reach s old_first ws r ≡ Some spot → ((place : ℕ) × IsListed spot.bank place r.banks) → spot_of_reach t first vs u ≡ Some spot
 
-  chosen_some : (b : Bool) (v spot : Spot) → (if b then Some v else None) ≡ Some spot → (b ≡ true) × (v ≡ spot)
-  chosen_some true v spot e = (refl, cc)
-  chosen_some false v spot e = absurd (cc)
-
-  indices_lead : (r : Reach) (taken : List ℕ) (row : ℕ) (select : Option ℕ) → IsPlainAccess p r → r.row ≡ None → AllByRecursion IsGoodNumber r.indices
-      → (is_inside (dims_at p.table r.memory) (numbers_at old_first ws r.indices) ≡ true
-      → ShowsAim x (aim_width (dims_at p.table r.memory)) row select (row_of (dims_at p.table r.memory) (abs_of (numbers_at old_first ws r.indices))) (bank_of (dims_at p.table r.memory) (abs_of (numbers_at old_first ws r.indices))))
-      → IsPickedBank r select
-      → (spot : Spot) → spot_of_reach s old_first ws r ≡ Some spot → ((place : ℕ) × IsListed spot.bank place r.banks) → spot_of_reach t first vs (aimed r taken row select) ≡ Some spot
-  indices_lead r taken row select plain e good aim picked spot leads listed =
+  indices_lead : (r : Reach) (taken : List ℕ) (row : ℕ) (select : Option ℕ) (is : List Operand) (spot : Spot) (l : IsLedTo r is spot)
+      → ShowsAim x (aim_width (dims_at p.table r.memory)) row select (row_of (dims_at p.table r.memory) (abs_of l.numbers)) (bank_of (dims_at p.table r.memory) (abs_of l.numbers))
+      → IsPickedBank r select → ((place : ℕ) × IsListed spot.bank place r.banks) → spot_of_reach t first vs (aimed r taken row select) ≡ Some spot
+  indices_lead r taken row select is spot l shows picked listed =
       let dims = dims_at p.table r.memory in
-      let zs = numbers_at old_first ws r.indices in
-      let c = chosen_some (is_inside dims zs) (spot_of p.table r.memory (abs_of zs)) spot (sym (by_indices r e plain.steps) ∙ leads) in
-      let shows = aim c.0 in
-      let bank = bank_shown (aim_width dims) r select (bank_of dims (abs_of zs)) shows.bank_shown picked (subst (λ (sp : Spot). (place : ℕ) × IsListed sp.bank place r.banks) (sym c.1) listed) in
-      let row_is : value_of (word_at first vs row) ≡ pos (row_of dims (abs_of zs)) = ap value_of shows.row_shown in
+      let ns = abs_of l.numbers in
+      let bank = bank_shown (aim_width dims) r select (bank_of dims ns) shows.bank_shown picked (subst (λ (sp : Spot). (place : ℕ) × IsListed sp.bank place r.banks) (sym l.spot_is) listed) in
+      let row_is : value_of (word_at first vs row) ≡ pos (row_of dims ns) = ap value_of shows.row_shown in
       ap (λ (b : ℕ). spot_by_row p.table r.memory b (value_of (word_at first vs row))) bank
-      ∙ (ap (λ (z : ℤ). spot_by_row p.table r.memory (bank_of dims (abs_of zs)) z) row_is
-      ∙ (place_leads p.table r.memory (abs_of zs) (dims_formed p.table r.memory tables.entries) (inside_within dims zs c.0) ∙ ap (λ (sp : Spot). Some sp) c.1))
+      ∙ (ap (λ (z : ℤ). spot_by_row p.table r.memory (bank_of dims ns) z) row_is
+      ∙ (place_leads p.table r.memory ns (dims_formed p.table r.memory tables.entries) (inside_within dims l.numbers l.inside) ∙ ap (λ (sp : Spot). Some sp) l.spot_is))
 
   row_leads : (r : Reach) (taken : List ℕ) (row : ℕ) → r.row ≡ Some row → IsGoodNumber row → AllByRecursion IsSame (one_or_none r.select)
       → spot_of_reach t first vs (aimed r taken (new_number a row) (new_or_none a r.select)) ≡ spot_of_reach s old_first ws r
@@ -258,45 +330,44 @@ module _ (p : PlainPlan) (none : p.views ≡ []) (tables : IsProgramTable p.tabl
   but_has None width dims indices banked old new row select h = aim_has banked _ _ new row select h.aim
   but_has (Some place) width dims indices banked old new row select h = aim_has banked (constant_made old width place.row) _ new row select h
 
-  module _ (r : Reach) (suits : ReachSuits p old_first ks r) (indices : AllByRecursion IsGoodNumber r.indices) (row_good : AllByRecursion IsGoodNumber (one_or_none r.row))
-      (select_good : AllByRecursion IsSame (one_or_none r.select)) where
-    pub plain_of : (row : Option ℕ) → r.row ≡ row → row ≡ None → IsPlainAccess p r
-    plain_of row e none_is = element_plain p old_first ks none r (subst (λ (o : Option ℕ). NamesElement p old_first ks r o) (e ∙ none_is) suits.element)
-
-    aimed_leads : (row : Option ℕ) → r.row ≡ row → (old last : List Operation) (u : Reach) → IsAimed a r row old last u → first ≤ length old → Obeys x last → LeadsAlike r u
-    aimed_leads None e old last u h begun obeys =
-        let plain = plain_of None e refl in
+  module _ (r : Reach) (m : IsMeant r) where
+    aimed_leads : (row : Option ℕ) → r.row ≡ row → (is : List Operand) (old last : List Operation) (u : Reach) → IsAimed a r row is old last u → first ≤ length old → Obeys x last → HasMany p.table r row is → AreSeen x is
+        → (row ≡ None → (spot : Spot) → spot_of_reach s old_first ws r ≡ Some spot → IsLedTo r is spot) → LeadsAlike r u
+    aimed_leads None e is old last u h begun obeys long seen_indices lead =
         let dims = dims_at p.table r.memory in
-        let zs = numbers_at old_first ws r.indices in
         let mid = (waited old (new_or_none a r.select)).operations in
-        let taken = map (new_number a) r.indices ++ one_or_none (waited old (new_or_none a r.select)).sum in
+        let taken = all_taken a r ++ one_or_none (waited old (new_or_none a r.select)).sum in
         let at_mid = begun_later x old mid (waited_grows old (new_or_none a r.select)) begun in
-        let picks = picked x 0 a r h.select (but_has (literal_places a.operations a.first dims r.indices 0 0) _ _ _ (is_banked r) mid last h.row h.select h.aim) in
+        let picks = picked x 0 a r h.select (but_has (literal_places dims is 0 0) _ _ _ (is_banked r) mid last h.row h.select h.aim) in
         subst (λ (w : Reach). LeadsAlike r w) (sym h.reach)
         (record {
           memory = refl;
-          leads = indices_lead r taken h.row h.select plain e indices
-              (λ within. index_aim_shows x (aim_width dims) (literal_places a.operations a.first dims r.indices 0 0) dims (map (new_number a) r.indices) (is_banked r) mid last h.row h.select (abs_of zs) h.aim
-              (width_suffices p.table r.memory tables) (place_is r (literal_places a.operations a.first dims r.indices 0 0) refl plain.long indices) at_mid obeys (all_within dims r.indices indices within))
-              picks;
+          leads = λ spot leads listed.
+              (let l = lead refl spot leads in
+              indices_lead r taken h.row h.select is spot l
+              (index_aim_shows x (aim_width dims) (literal_places dims is 0 0) dims (values_of is) (is_banked r) mid last h.row h.select (abs_of l.numbers) h.aim
+              (width_suffices p.table r.memory tables) (place_is r is l.numbers (literal_places dims is 0 0) refl long seen_indices l.stand l.inside) at_mid obeys (all_within dims is l.numbers l.stand l.inside))
+              picks listed);
         })
-    aimed_leads (Some row) e old last u h begun obeys =
+    aimed_leads (Some row) e is old last u h begun obeys long seen_indices lead =
         subst (λ (w : Reach). LeadsAlike r w) (sym h.1)
         (record {
           memory = refl;
-          leads = λ spot leads listed. row_leads r (map (new_number a) r.indices) row e (subst (λ (o : Option ℕ). AllByRecursion IsGoodNumber (one_or_none o)) e row_good).0 select_good ∙ leads;
+          leads = λ spot leads listed. row_leads r (all_taken a r) row e (subst (λ (o : Option ℕ). AllByRecursion IsGoodNumber (one_or_none o)) e m.row).0 m.select ∙ leads;
         })
 
     pub access_means : (g : Option ℕ) (old last : List Operation) (on : Option ℕ) (u : Reach) → IsAccessMade a (new_or_none a g) r old last on u → first ≤ length old → Obeys x last
         → AllByRecursion (λ v. known_kind a v ≡ kind.Bool) (one_or_none g) → AllByRecursion IsSameInKind (one_or_none g) → AccessMeans g r on u
     access_means g old last on u h begun obeys gk gi =
-        let guards = guarded_grows a (new_or_none a g) (ranges_of a r) old h.guarded on h.guards in
-        let aims = aimed_grows a r r.row h.guarded last u h.aims in
-        let holds = guards_hold x a (new_or_none a g) (ranges_of a r) old h.guarded on (is_on old_first ws g) h.guards begun (obeys_before x h.guarded last aims obeys)
-        (shown_in (dims_at p.table r.memory) r.row r.indices indices row_good) (maybe_holds g gk gi)
-        in
+        let way = passed_grows a r old h.passed h.ranges h.indices h.passes in
+        let guards = guarded_grows (new_or_none a g) h.ranges h.passed h.guarded on h.guards in
+        let aims = aimed_grows a r r.row h.indices h.guarded last u h.aims in
+        let at_passed = begun_later x old h.passed way begun in
+        let obeys_guarded = obeys_before x h.guarded last aims obeys in
+        let shows = passed_shows r m old begun h.passed h.ranges h.indices h.passes (obeys_before x h.passed h.guarded guards obeys_guarded) in
+        let holds = guards_hold x (new_or_none a g) h.ranges h.passed h.guarded on (is_on old_first ws g) h.guards at_passed obeys_guarded shows.shown (maybe_holds g gk gi) in
         record {
-          on_is = holds_on x first vs (λ n. refl) on _ holds
-              ∙ ap (λ (b : Bool). is_on old_first ws g && b) (all_in_reach r.row r refl (plain_of r.row refl) indices row_good);
-          leads = aimed_leads r.row refl h.guarded last u h.aims (begun_later x old h.guarded guards begun) obeys;
+          on_is = holds_on x first vs (λ n. refl) on _ holds ∙ ap (λ (b : Bool). is_on old_first ws g && b) shows.in_range;
+          leads = aimed_leads r.row refl h.indices h.guarded last u h.aims (begun_later x h.passed h.guarded guards at_passed) obeys (passed_long a p maps refl r m.suits old h.passed h.ranges h.indices h.passes)
+              shows.seen_indices shows.leads;
         }

@@ -28,7 +28,8 @@ use Rattle.dh_plan.proofs.ValuesAlike.{all_left, all_right, all_map, memories_lo
 use Rattle.dh_rows.specs.Readings.{Readings, Grows}
 use Rattle.dh_rows.specs.MadeOperations.{pushed, IsMade}
 use Rattle.dh_rows.proofs.Growing.{grows_on, kept_there, pushed_grows, obeys_before, pushed_word}
-use Rattle.dh_address.specs.Pieces.{Around, is_probe, is_probe_form, new_number, new_or_none, ranges_of, false_behind_all, false_word, new_takes, IsProbeValue, IsAccessMade, IsReadMade, IsWriteMade, IsProbed, IsFormMade}
+use Rattle.dh_address.proofs.WaySizes.{HasMaps}
+use Rattle.dh_address.specs.Pieces.{Around, is_probe, is_probe_form, new_number, new_or_none, false_behind_all, false_word, new_takes, IsProbeValue, IsAccessMade, IsReadMade, IsWriteMade, IsProbed, IsFormMade}
 use Rattle.dh_address.specs.Renumbered.{renumbered}
 use Rattle.dh_address.proofs.BlockEquations.{word_solved}
 use Rattle.dh_address.proofs.FalsePut.{many_false, many_false_grow}
@@ -36,10 +37,10 @@ use Rattle.dh_address.proofs.GoodPieces.{obeys_all, IsGoodStep, AreGoodPieces, g
 use Rattle.dh_address.proofs.ImageReadings.{block_readings, word_given, FormedBelow, at_last}
 use Rattle.dh_address.proofs.KnownPieces.{HasMeaning, IsPieceAt, AllKnown}
 use Rattle.dh_address.proofs.PieceForms.{image_of, around}
-use Rattle.dh_address.proofs.PiecesGrow.{access_grows, checked_grows}
+use Rattle.dh_address.proofs.PiecesGrow.{access_grows, probed_grows}
 use Rattle.dh_address.proofs.SuitsKnown.{all_two}
 use Rattle.dh_address.proofs.TestedRanges.{begun_later}
-use Rattle.dh_address.proofs.WordsAlike.{IsSame, IsSameInKind, IsGoodNumber, AccessMeans, access_means}
+use Rattle.dh_address.proofs.WordsAlike.{IsSame, IsSameInKind, IsGoodNumber, IsMeant, AccessMeans, access_means}
 
 -- Choices by guards.
 
@@ -54,7 +55,7 @@ read_same k memories false old new leads = refl
 read_same k memories true None new leads = refl
 read_same k memories true (Some spot) new leads = ap (λ (o : Option Spot). with_bits k (bits_at memories o)) (leads spot refl refl)
 
-module _ (p : PlainPlan) (none : p.views ≡ []) (tables : IsProgramTable p.table) (bs : List PlanBlock) (block : ℕ) (front : List Operation) (begins : length front ≡ first_in (image_of p bs) block)
+module _ (p : PlainPlan) (maps : HasMaps p) (tables : IsProgramTable p.table) (bs : List PlanBlock) (block : ℕ) (front : List Operation) (begins : length front ≡ first_in (image_of p bs) block)
     (formed : IsFormedBlock p block) (all_formed : FormedBelow (image_of p bs) block front begins (length (front ++ operations_in (image_of p bs) block)))
     (registers : List ℕ) (memories : List (List ℕ)) where
   abbrev q : PlainPlan
@@ -98,26 +99,26 @@ module _ (p : PlainPlan) (none : p.views ≡ []) (tables : IsProgramTable p.tabl
   SameWord v m = word_at first vs m ≡ word_at old_first ws v
 
   module _ (fits : AreInKinds p block ws) (listed : ReachesListed) where
-    module _ (ns : List ℕ) (ks : List Kind) (i : ℕ) (o : Operation) (old mid : List Operation) (n : ℕ) (at : IsPieceAt p none tables bs block front begins formed ns ks i o old mid n)
+    module _ (ns : List ℕ) (ks : List Kind) (i : ℕ) (o : Operation) (old mid : List Operation) (n : ℕ) (at : IsPieceAt p maps tables bs block front begins formed ns ks i o old mid n)
         (takes : AllByRecursion (λ v. SameWord v (renumbered old_first ns v)) (operation_takes o)) where
       abbrev a : Around
       a = around p block ns ks
 
-      pub in_kinds : AllByRecursion (IsSameInKind p none tables bs block ns ks registers memories) (operation_takes o)
+      pub in_kinds : AllByRecursion (IsSameInKind p maps tables bs block ns ks registers memories) (operation_takes o)
       in_kinds = all_two (λ v. SameWord v (renumbered old_first ns v)) (λ v. kind_of_value old_first ks v ≡ kind_of_value old_first (kinds_of p block) v)
-          (IsSameInKind p none tables bs block ns ks registers memories) (operation_takes o)
+          (IsSameInKind p maps tables bs block ns ks registers memories) (operation_takes o)
           (λ v w e. record { same = w; in_kind = subst (λ (k : Kind). IsInKind k (word_at old_first ws v)) (sym e) (fits v) }) takes at.kinds_same
 
-      pub guard_good : AllByRecursion (IsSameInKind p none tables bs block ns ks registers memories) (one_or_none o.guard)
-      guard_good = all_left (IsSameInKind p none tables bs block ns ks registers memories) (one_or_none o.guard) (form_takes o.form) in_kinds
+      pub guard_good : AllByRecursion (IsSameInKind p maps tables bs block ns ks registers memories) (one_or_none o.guard)
+      guard_good = all_left (IsSameInKind p maps tables bs block ns ks registers memories) (one_or_none o.guard) (form_takes o.form) in_kinds
 
-      pub form_good : AllByRecursion (IsSameInKind p none tables bs block ns ks registers memories) (form_takes o.form)
-      form_good = all_right (IsSameInKind p none tables bs block ns ks registers memories) (one_or_none o.guard) (form_takes o.form) in_kinds
+      pub form_good : AllByRecursion (IsSameInKind p maps tables bs block ns ks registers memories) (form_takes o.form)
+      form_good = all_right (IsSameInKind p maps tables bs block ns ks registers memories) (one_or_none o.guard) (form_takes o.form) in_kinds
 
       pub form_begun : AllByRecursion (IsBetween old_first (old_first + i)) (form_takes o.form)
       form_begun = all_right (IsBetween old_first (old_first + i)) (one_or_none o.guard) (form_takes o.form) at.early
 
-      pub guard_same : (g : Option ℕ) → AllByRecursion (IsSameInKind p none tables bs block ns ks registers memories) (one_or_none g) → is_on first vs (new_or_none a g) ≡ is_on old_first ws g
+      pub guard_same : (g : Option ℕ) → AllByRecursion (IsSameInKind p maps tables bs block ns ks registers memories) (one_or_none g) → is_on first vs (new_or_none a g) ≡ is_on old_first ws g
       guard_same None h = refl
       guard_same (Some g) h = ap is_true h.0.same
 
@@ -148,25 +149,36 @@ module _ (p : PlainPlan) (none : p.views ≡ []) (tables : IsProgramTable p.tabl
 
       -- What an access means.
 
-      pub numbers_good : (us : List ℕ) → AllByRecursion (λ v. IsInteger (kind_of_value old_first ks v)) us → AllByRecursion (IsSameInKind p none tables bs block ns ks registers memories) us
-          → AllByRecursion (IsBetween old_first (old_first + i)) us → AllByRecursion (IsGoodNumber p none tables bs block ns ks registers memories) us
+      pub numbers_good : (us : List ℕ) → AllByRecursion (λ v. IsInteger (kind_of_value old_first ks v)) us → AllByRecursion (IsSameInKind p maps tables bs block ns ks registers memories) us
+          → AllByRecursion (IsBetween old_first (old_first + i)) us → AllByRecursion (IsGoodNumber p maps tables bs block ns ks registers memories) us
       numbers_good [] k h b = tt
       numbers_good (u ∷ us) k h b = (record { begun = b.0.0; sized = k.0; good = h.0 }, numbers_good us k.1 h.1 b.1)
 
-      pub means : (r : Reach) → ReachSuits p old_first ks r → AllByRecursion (IsSameInKind p none tables bs block ns ks registers memories) (reach_takes r)
+      pub meant : (r : Reach) → ReachSuits p old_first ks r → AllByRecursion (IsSameInKind p maps tables bs block ns ks registers memories) (reach_takes r)
+          → AllByRecursion (IsBetween old_first (old_first + i)) (reach_takes r) → IsMeant p maps tables bs block ns ks registers memories r
+      meant r suits h b =
+          let P = IsSameInKind p maps tables bs block ns ks registers memories in
+          let B = IsBetween old_first (old_first + i) in
+          let K = λ (v : ℕ). IsInteger (kind_of_value old_first ks v) in
+          let behind = all_right P r.indices _ h in
+          let bbehind = all_right B r.indices _ b in
+          let rest = all_right P (offsets_taken r.steps) _ behind in
+          let brest = all_right B (offsets_taken r.steps) _ bbehind in
+          record {
+            suits = suits;
+            indices = numbers_good r.indices (all_left K r.indices (offsets_taken r.steps) suits.indices) (all_left P r.indices _ h) (all_left B r.indices _ b);
+            offsets = numbers_good (offsets_taken r.steps) (all_right K r.indices (offsets_taken r.steps) suits.indices) (all_left P (offsets_taken r.steps) _ behind) (all_left B (offsets_taken r.steps) _ bbehind);
+            row = numbers_good (one_or_none r.row) suits.row (all_right P (one_or_none r.select) (one_or_none r.row) rest) (all_right B (one_or_none r.select) (one_or_none r.row) brest);
+            select = all_map P (IsSame p maps tables bs block ns ks registers memories) (one_or_none r.select) (λ v g. g.same) (all_left P (one_or_none r.select) (one_or_none r.row) rest);
+          }
+
+      pub means : (r : Reach) → ReachSuits p old_first ks r → AllByRecursion (IsSameInKind p maps tables bs block ns ks registers memories) (reach_takes r)
           → AllByRecursion (IsBetween old_first (old_first + i)) (reach_takes r)
           → (last : List Operation) (on : Option ℕ) (u : Reach) → IsAccessMade a (new_or_none a o.guard) r old last on u → Grows last all
-          → AccessMeans p none tables bs block ns ks registers memories o.guard r on u
+          → AccessMeans p maps tables bs block ns ks registers memories o.guard r on u
       means r suits h b last on u made grows =
-          let P = IsSameInKind p none tables bs block ns ks registers memories in
-          let B = IsBetween old_first (old_first + i) in
-          let rest = all_right P (offsets_taken r.steps) _ (all_right P r.indices _ h) in
-          let brest = all_right B (offsets_taken r.steps) _ (all_right B r.indices _ b) in
-          access_means p none tables bs block ns ks registers memories r suits
-          (numbers_good r.indices (all_left (λ v. IsInteger (kind_of_value old_first ks v)) r.indices (offsets_taken r.steps) suits.indices) (all_left P r.indices _ h) (all_left B r.indices _ b))
-          (numbers_good (one_or_none r.row) suits.row (all_right P (one_or_none r.select) (one_or_none r.row) rest) (all_right B (one_or_none r.select) (one_or_none r.row) brest))
-          (all_map P (IsSame p none tables bs block ns ks registers memories) (one_or_none r.select) (λ v g. g.same) (all_left P (one_or_none r.select) (one_or_none r.row) rest))
-          o.guard old last on u made at.begun (obeys_before x last all grows (obeys_all p none tables bs block front begins formed t all_formed)) at.suits.guard guard_good
+          access_means p maps tables bs block ns ks registers memories r (meant r suits h b)
+          o.guard old last on u made at.begun (obeys_before x last all grows (obeys_all p maps tables bs block front begins formed t all_formed)) at.suits.guard guard_good
 
       -- Forms.
 
@@ -176,7 +188,7 @@ module _ (p : PlainPlan) (none : p.views ≡ []) (tables : IsProgramTable p.tabl
       read_word : (r : Reach) → o.form ≡ Read r → IsReadMade a (new_or_none a o.guard) r old mid n → SameWord (old_first + i) n
       read_word r e h =
           let suits = subst (λ (f : OperationForm). FormSuits p old_first ks f) e at.suits.form in
-          let good = subst (λ (f : OperationForm). AllByRecursion (IsSameInKind p none tables bs block ns ks registers memories) (form_takes f)) e form_good in
+          let good = subst (λ (f : OperationForm). AllByRecursion (IsSameInKind p maps tables bs block ns ks registers memories) (form_takes f)) e form_good in
           let begun = subst (λ (f : OperationForm). AllByRecursion (IsBetween old_first (old_first + i)) (form_takes f)) e form_begun in
           let m = means r suits.0 good begun h.last h.on h.reach h.access (put_grows h.last h.on (Read h.reach) h.read) in
           let later = begun_later x old h.last (access_grows a (new_or_none a o.guard) r old h.last h.on h.reach h.access) at.begun in
@@ -202,7 +214,7 @@ module _ (p : PlainPlan) (none : p.views ≡ []) (tables : IsProgramTable p.tabl
           let grown = pushed_grows checked None (Constant false_word) in
           let far = many_false_grow begin (new_takes a r) in
           let at_begin = begun_later x checked begin.operations grown begun in
-          let obeys = obeys_before x m.operations all (put_grows m.operations g (Compute op.Either m.value m.value) h) (obeys_all p none tables bs block front begins formed t all_formed) in
+          let obeys = obeys_before x m.operations all (put_grows m.operations g (Compute op.Either m.value m.value) h) (obeys_all p maps tables bs block front begins formed t all_formed) in
           let here = pushed_word x checked (Constant false_word) refl begun (obeys_before x begin.operations m.operations far obeys) in
           let word = many_false x begin (new_takes a r) at_begin here obeys in
           made_word m.operations g (Compute op.Either m.value m.value) h (begun_later x begin.operations m.operations far at_begin)
@@ -211,7 +223,7 @@ module _ (p : PlainPlan) (none : p.views ≡ []) (tables : IsProgramTable p.tabl
       probe_word : (r : Reach) (fault : ℕ) → o.form ≡ Probe r fault → IsProbed a (new_or_none a o.guard) r fault old mid n → HasMeaning os old_first (old_first + i) → SameWord (old_first + i) n
       probe_word r fault e h (inl probed) =
           false_word_made (new_or_none a o.guard) r h.checked (subst (λ (b : Bool). IsProbeValue b a (new_or_none a o.guard) r h.checked mid n) probed h.value)
-          (begun_later x old h.checked (checked_grows a (new_or_none a o.guard) fault (ranges_of a r) old h.checked h.checks) at.begun)
+          (begun_later x old h.checked (probed_grows a (new_or_none a o.guard) r fault old mid n h) at.begun)
           ∙ sym (old_word ∙ (ap (λ (f : OperationForm). guarded (is_on old_first ws o.guard) (form_word s (in_memories s old_first) old_first ws (old_first + i) f)) e ∙ guarded_none (is_on old_first ws o.guard)))
       probe_word r fault e h (inr not) = absurd (contrary (sym not ∙ (ap (λ (j : ℕ). is_probe (slice_get os j)) (place old_first i) ∙ (ap is_probe at.there ∙ ap is_probe_form e))))
         where
@@ -222,7 +234,7 @@ module _ (p : PlainPlan) (none : p.views ≡ []) (tables : IsProgramTable p.tabl
           place f i = omega arith
 
       form_same : (f : OperationForm) → o.form ≡ f → IsFormMade a (new_or_none a o.guard) f old mid n → HasMeaning os old_first (old_first + i)
-          → AllByRecursion (IsSameInKind p none tables bs block ns ks registers memories) (form_takes f) → SameWord (old_first + i) n
+          → AllByRecursion (IsSameInKind p maps tables bs block ns ks registers memories) (form_takes f) → SameWord (old_first + i) n
       form_same (Constant word) e h m good = same_word (Constant word) (Constant word) e h refl
       form_same (Old register) e h m good = same_word (Old register) (Old register) e h refl
       form_same (Compute o' left right) e h m good =
@@ -240,13 +252,13 @@ module _ (p : PlainPlan) (none : p.views ≡ []) (tables : IsProgramTable p.tabl
       form_same (Write r value) e h m good = write_word r value e h
       form_same (Set register value) e h m good = same_word (Set register value) (Set register (new_number a value)) e h refl
 
-    pub words_step : IsGoodStep p none tables bs block front begins formed SameWord
+    pub words_step : IsGoodStep p maps tables bs block front begins formed SameWord
     words_step ns ks i o old mid n at takes m =
         form_same ns ks i o old mid n at takes o.form refl at.piece m (form_good ns ks i o old mid n at takes)
 
     -- all values are those of their new numbers
-    pub words_alike : (numbers : List ℕ) → AllKnown p none tables bs block front begins formed numbers [] [] 0 os front → AreGoodPieces p none tables bs block front begins formed SameWord [] [] 0 os front
-    words_alike numbers k = good_pieces p none tables bs block front begins formed SameWord words_step os [] [] 0 front numbers k.pieces refl (λ v l m h. absurd (past l m))
+    pub words_alike : (numbers : List ℕ) → AllKnown p maps tables bs block front begins formed numbers [] [] 0 os front → AreGoodPieces p maps tables bs block front begins formed SameWord [] [] 0 os front
+    words_alike numbers k = good_pieces p maps tables bs block front begins formed SameWord words_step os [] [] 0 front numbers k.pieces refl (λ v l m h. absurd (past l m))
       where
         past : {v : ℕ} → old_first ≤ v → v < old_first + 0 → ⊥
         past l m = omega (arith, l, m)

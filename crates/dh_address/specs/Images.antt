@@ -10,7 +10,7 @@ use Rattle.dh_address.specs.Pieces.{Around, any_takes_probe, IsPiece}
 -- one operation more is known
 abbrev pub and_known : Around → (number : ℕ) → Kind → Around
 and_known a number k =
-    record { table = a.table; operations = a.operations; first = a.first; probed = a.probed; numbers = a.numbers ++ number ∷ []; kinds = a.kinds ++ k ∷ [] }
+    record { table = a.table; views = a.views; operations = a.operations; first = a.first; probed = a.probed; numbers = a.numbers ++ number ∷ []; kinds = a.kinds ++ k ∷ [] }
 
 -- a piece, and the rest
 pub record PieceThen (First Rest : List Operation → ℕ → Type 0) : Type 0 where
@@ -36,6 +36,7 @@ operations_until (b ∷ bs) (suc n) = b.operations ++ operations_until bs n
 abbrev pub around_block : PlainPlan → (block : ℕ) → Around
 around_block p block = record {
   table = p.table;
+  views = p.views;
   operations = operations_in p block;
   first = first_in p block;
   probed = any_takes_probe (operations_in p block) (first_in p block);

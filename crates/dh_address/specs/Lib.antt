@@ -1,6 +1,8 @@
 pub mod SeenLists
 pub mod Renumbered
 pub mod LiteralPlaces
+pub mod Arounds
+pub mod WaysMade
 pub mod Pieces
 pub mod Images
 pub mod SeenAround

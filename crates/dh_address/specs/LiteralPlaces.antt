@@ -9,6 +9,7 @@ use Rattle.dh_plan.specs.declared.operations.Operation.{Operation}
 use Rattle.dh_plan.specs.declared.operations.OperationForm.{OperationForm}
 use Rattle.dh_plan.specs.declared.operations.OperationForm.TheVariants.{Constant}
 use Rattle.dh_address.specs.declared.literals.LiteralPlace.{LiteralPlace}
+use Rattle.dh_address.specs.declared.operands.Operand.{Operand}
 
 -- a word's value, if it is a number from 0 on
 abbrev pub natural_in : Kind → (bits : ℕ) → Option ℕ
@@ -39,15 +40,12 @@ abbrev pub below_size : Option ℕ → (size : ℕ) → Option ℕ
 below_size None size = None
 below_size (Some n) size = if nat_lt n size then Some n else None
 
-abbrev pub literal_within : List Operation → (first value size : ℕ) → Option ℕ
-literal_within os first value size = below_size (literal_at os (value - first)) size
-
 abbrev pub and_then : Option ℕ → (ℕ → Option LiteralPlace) → Option LiteralPlace
 and_then None rest = None
 and_then (Some n) rest = rest n
 
 -- row and bank of dimensions so far, and of those to come
-abbrev pub literal_places : List Operation → (first : ℕ) → List Dim → List ℕ → (row bank : ℕ) → Option LiteralPlace
-literal_places os first (d ∷ ds) (i ∷ is) row bank =
-    and_then (literal_within os first i d.size) (λ n. literal_places os first ds is ((row * (d.size / d.banks) % 2 ^ 64 + n / d.banks) % 2 ^ 64) ((bank * d.banks % 2 ^ 64 + n % d.banks) % 2 ^ 64))
-literal_places os first _ _ row bank = Some (record { row = row; bank = bank })
+abbrev pub literal_places : List Dim → List Operand → (row bank : ℕ) → Option LiteralPlace
+literal_places (d ∷ ds) (i ∷ is) row bank =
+    and_then (below_size i.literal d.size) (λ n. literal_places ds is ((row * (d.size / d.banks) % 2 ^ 64 + n / d.banks) % 2 ^ 64) ((bank * d.banks % 2 ^ 64 + n % d.banks) % 2 ^ 64))
+literal_places _ _ row bank = Some (record { row = row; bank = bank })

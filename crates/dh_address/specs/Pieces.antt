@@ -1,6 +1,7 @@
 -- What becomes of one operation: the operations that take its place, put down behind those that are there, and the
 -- number of the value that stands for its own. Each access becomes one of a row of a bank, under a guard that holds
--- only where it is in range; each probe becomes the checks of its indices. All else stays, at the new numbers.
+-- only where it is in range, also at each view on its way; each probe becomes the checks of these ranges. All else
+-- stays, at the new numbers.
 use Rattle.std.specs.Prelude.{◌≡◌, ℕ, ◌-◌, ◌==◌, not, Bool, true, false, List, [], ◌∷◌, ◌++◌, length, map, slice_get, Option, Some, None}
 use Rattle.std.specs.List.{list_any}
 use Rattle.dh_value.specs.declared.kinds.Kind.{Kind}
@@ -9,43 +10,23 @@ use Rattle.dh_value.specs.declared.operators.Op.TheVariants as op
 use Rattle.dh_value.specs.declared.words.Word.{Word}
 use Rattle.dh_value.specs.Words.{with_bits}
 use Rattle.dh_tree.specs.declared.tables.Dim.{Dim}
-use Rattle.dh_tree.specs.declared.tables.MemEntry.{MemEntry}
-use Rattle.dh_tree.specs.Elements.{dims_at, rows_of}
+use Rattle.dh_tree.specs.Elements.{dims_at}
 use Rattle.dh_tree.specs.Tables.{elements_of}
 use Rattle.dh_plan.specs.declared.operations.Operation.{Operation}
 use Rattle.dh_plan.specs.declared.operations.OperationForm.{OperationForm}
 use Rattle.dh_plan.specs.declared.operations.OperationForm.TheVariants.{Constant, Old, Compute, Convert, Select, Check, Probe, Read, Write, Set}
 use Rattle.dh_plan.specs.declared.operations.Reach.{Reach}
-use Rattle.dh_plan.specs.Ordered.{one_or_none, operation_takes}
-use Rattle.dh_plan.specs.PlanKinds.{kind_of_value}
+use Rattle.dh_plan.specs.Ordered.{one_or_none, offsets_taken, operation_takes}
 use Rattle.dh_rows.specs.declared.spreading.RowAndBank.{RowAndBank}
 use Rattle.dh_rows.specs.MadeOperations.{Made, Summed, IsMade, summed, sum_of, pushed, constant_made, computed, computed_with, converted, or_zero, bits_in}
 use Rattle.dh_rows.specs.Readings.{GrowsPlain}
 use Rattle.dh_rows.specs.RowsShown.{MakesRow, MakesTest}
 use Rattle.dh_address.specs.declared.literals.LiteralPlace.{LiteralPlace}
-use Rattle.dh_address.specs.Renumbered.{renumbered, maybe_renumbered}
-use Rattle.dh_address.specs.LiteralPlaces.{literal_within, literal_places}
-
--- a block of the old plan, and of its operations so far the new numbers and the kinds of their values
-pub record Around : Type 0 where
-  pub table : List MemEntry
-  pub operations : List Operation
-  -- the number of the block's first operation
-  pub first : ℕ
-  -- some operation of the block takes the value of a probe
-  pub probed : Bool
-  pub numbers : List ℕ
-  pub kinds : List Kind
-
--- the number of a value in the new plan
-abbrev pub new_number : Around → (value : ℕ) → ℕ
-new_number a value = renumbered a.first a.numbers value
-
-abbrev pub new_or_none : Around → Option ℕ → Option ℕ
-new_or_none a value = maybe_renumbered a.first a.numbers value
-
-abbrev pub known_kind : Around → (value : ℕ) → Kind
-known_kind a value = kind_of_value a.first a.kinds value
+use Rattle.dh_address.specs.declared.operands.Operand.{Operand}
+use Rattle.dh_address.specs.declared.operands.Ranged.{Ranged}
+use Rattle.dh_address.specs.LiteralPlaces.{below_size, literal_places}
+pub use Rattle.dh_address.specs.Arounds.{Around, new_number, new_or_none, known_kind}
+use Rattle.dh_address.specs.WaysMade.{IsWay, reach_passed}
 
 -- Probes of which the value is taken, which is false.
 
@@ -69,31 +50,13 @@ any_takes_probe os first = list_any (takes_probe os first) os
 
 -- Tests.
 
--- a value that is to be from 0 on and below a size
-pub record Range : Type 0 where
-  pub value : ℕ
-  pub size : ℕ
-
-abbrev pub ranges_by : List Dim → (indices : List ℕ) → List Range
-ranges_by (d ∷ ds) (i ∷ is) = record { value = i; size = d.size } ∷ ranges_by ds is
-ranges_by _ _ = []
-
-abbrev pub ranges_in : List Dim → (row : Option ℕ) → (indices : List ℕ) → List Range
-ranges_in dims None indices = ranges_by dims indices
-ranges_in dims (Some row) indices = record { value = row; size = rows_of dims } ∷ []
-
--- what is to be in range where an access is
-abbrev pub ranges_of : Around → Reach → List Range
-ranges_of a r = ranges_in (dims_at a.table r.memory) r.row r.indices
-
 -- the test of a value of this kind; of a constant that is in range there is none, and nothing is put down
 abbrev pub IsTestBut : (literal : Option ℕ) → (old new : List Operation) → Kind → (value size : ℕ) → (test : Option ℕ) → Type 0
 IsTestBut None old new k value size test = GrowsPlain old new × MakesTest old new k value size test
 IsTestBut (Some n) old new k value size test = (new ≡ old) × (test ≡ None)
 
-abbrev pub IsTested : Around → Range → (old new : List Operation) → (test : Option ℕ) → Type 0
-IsTested a r old new test =
-    IsTestBut (literal_within a.operations a.first r.value r.size) old new (known_kind a r.value) (new_number a r.value) r.size test
+abbrev pub IsTested : Ranged → (old new : List Operation) → (test : Option ℕ) → Type 0
+IsTested r old new test = IsTestBut (below_size r.operand.literal r.size) old new r.operand.kind r.operand.value r.size test
 
 -- both, where one may lack and then holds
 abbrev pub both_made : List Operation → (guard test : Option ℕ) → Summed
@@ -102,10 +65,10 @@ both_made os None (Some test) = summed os (Some test)
 both_made os (Some guard) (Some test) = sum_of (computed os op.Both guard test)
 
 -- `on` is that the guard holds and all are in range
-abbrev pub IsGuarded : Around → (guard : Option ℕ) → List Range → (old new : List Operation) → (on : Option ℕ) → Type 0
-IsGuarded a guard [] old new on = (new ≡ old) × (on ≡ guard)
-IsGuarded a guard (r ∷ rs) old new on =
-    (mid : List Operation) × ((test : Option ℕ) × (IsTested a r old mid test × IsGuarded a (both_made mid guard test).sum rs (both_made mid guard test).operations new on))
+abbrev pub IsGuarded : (guard : Option ℕ) → List Ranged → (old new : List Operation) → (on : Option ℕ) → Type 0
+IsGuarded guard [] old new on = (new ≡ old) × (on ≡ guard)
+IsGuarded guard (r ∷ rs) old new on =
+    (mid : List Operation) × ((test : Option ℕ) × (IsTested r old mid test × IsGuarded (both_made mid guard test).sum rs (both_made mid guard test).operations new on))
 
 -- a check under a guard, where there is a test
 abbrev pub check_made : List Operation → (guard : Option ℕ) → (fault : ℕ) → (test : Option ℕ) → List Operation
@@ -113,10 +76,10 @@ check_made os guard fault None = os
 check_made os guard fault (Some test) = (pushed os guard (Check test fault)).operations
 
 -- a check for each value that may be out of range
-abbrev pub AreChecked : Around → (guard : Option ℕ) → (fault : ℕ) → List Range → (old new : List Operation) → Type 0
-AreChecked a guard fault [] old new = new ≡ old
-AreChecked a guard fault (r ∷ rs) old new =
-    (mid : List Operation) × ((test : Option ℕ) × (IsTested a r old mid test × AreChecked a guard fault rs (check_made mid guard fault test) new))
+abbrev pub AreChecked : (guard : Option ℕ) → (fault : ℕ) → List Ranged → (old new : List Operation) → Type 0
+AreChecked guard fault [] old new = new ≡ old
+AreChecked guard fault (r ∷ rs) old new =
+    (mid : List Operation) × ((test : Option ℕ) × (IsTested r old mid test × AreChecked guard fault rs (check_made mid guard fault test) new))
 
 -- Probes.
 
@@ -138,9 +101,13 @@ false_word = with_bits kind.Bool 0
 abbrev pub false_made : List Operation → (guard : Option ℕ) → (values : List ℕ) → Made
 false_made os guard values = false_under guard (false_behind_all (pushed os None (Constant false_word)) values)
 
--- what an access takes besides its views, at the new numbers
+-- the indices of an access and the offsets of its views, at the new numbers
+abbrev pub all_taken : Around → Reach → List ℕ
+all_taken a r = map (new_number a) r.indices ++ map (new_number a) (offsets_taken r.steps)
+
+-- all that it takes
 abbrev pub new_takes : Around → Reach → List ℕ
-new_takes a r = map (new_number a) r.indices ++ (one_or_none (new_or_none a r.select) ++ one_or_none (new_or_none a r.row))
+new_takes a r = all_taken a r ++ (one_or_none (new_or_none a r.select) ++ one_or_none (new_or_none a r.row))
 
 -- the value of a probe, which is false; where none is taken there is none, and its number means nothing
 abbrev pub IsProbeValue : (probed : Bool) → Around → (guard : Option ℕ) → Reach → (old new : List Operation) → (number : ℕ) → Type 0
@@ -148,8 +115,12 @@ IsProbeValue false a guard r old new number = new ≡ old
 IsProbeValue true a guard r old new number = IsMade new number (false_made old guard (new_takes a r))
 
 pub record IsProbed (a : Around) (guard : Option ℕ) (r : Reach) (fault : ℕ) (old new : List Operation) (number : ℕ) : Type 0 where
+  pub passed : List Operation
+  pub ranges : List Ranged
+  pub indices : List Operand
+  pub passes : IsWay passed ranges indices (reach_passed a r old)
   pub checked : List Operation
-  pub checks : AreChecked a guard fault (ranges_of a r) old checked
+  pub checks : AreChecked guard fault ranges passed checked
   pub value : IsProbeValue a.probed a guard r checked new number
 
 -- Rows and banks.
@@ -186,34 +157,39 @@ IsAimBut None width dims indices banked old new row select = IsSpreadOut width d
 IsAimBut (Some place) width dims indices banked old new row select =
     IsAim banked (constant_made old width place.row) (constant_made (constant_made old width place.row).operations width place.bank) new row select
 
--- row and bank of an access by indices
-abbrev pub IsIndexAim : Around → Reach → (old new : List Operation) → (row : ℕ) → (select : Option ℕ) → Type 0
-IsIndexAim a r old new row select =
-    IsAimBut (literal_places a.operations a.first (dims_at a.table r.memory) r.indices 0 0) (aim_width (dims_at a.table r.memory))
-    (dims_at a.table r.memory) (map (new_number a) r.indices) (is_banked r) old new row select
+-- the values of operands
+abbrev pub values_of : List Operand → List ℕ
+values_of is = map (λ o. o.value) is
+
+-- row and bank of these indices
+abbrev pub IsIndexAim : List Dim → List Operand → (banked : Bool) → (old new : List Operation) → (row : ℕ) → (select : Option ℕ) → Type 0
+IsIndexAim dims is banked old new row select = IsAimBut (literal_places dims is 0 0) (aim_width dims) dims (values_of is) banked old new row select
 
 -- beside indices a select means nothing, but is waited for: as a number of one bit
 abbrev pub waited : List Operation → (select : Option ℕ) → Summed
 waited os None = summed os None
 waited os (Some v) = sum_of (converted os v 1)
 
-pub record IsAimedByIndices (a : Around) (r : Reach) (old new : List Operation) (t : Reach) : Type 0 where
+pub record IsAimedByIndices (a : Around) (r : Reach) (is : List Operand) (old new : List Operation) (t : Reach) : Type 0 where
   pub row : ℕ
   pub select : Option ℕ
-  pub aim : IsIndexAim a r (waited old (new_or_none a r.select)).operations new row select
-  pub reach : t ≡ aimed r (map (new_number a) r.indices ++ one_or_none (waited old (new_or_none a r.select)).sum) row select
+  pub aim : IsIndexAim (dims_at a.table r.memory) is (is_banked r) (waited old (new_or_none a r.select)).operations new row select
+  pub reach : t ≡ aimed r (all_taken a r ++ one_or_none (waited old (new_or_none a r.select)).sum) row select
 
--- the access t is of the row of a bank that the access r leads to
-abbrev pub IsAimed : Around → (r : Reach) → (row : Option ℕ) → (old new : List Operation) → (t : Reach) → Type 0
-IsAimed a r None old new t = IsAimedByIndices a r old new t
-IsAimed a r (Some row) old new t =
-    (new ≡ old) × (t ≡ aimed r (map (new_number a) r.indices) (new_number a row) (new_or_none a r.select))
+-- the access t is of the row of a bank that the access r leads to, behind its views by these indices
+abbrev pub IsAimed : Around → (r : Reach) → (row : Option ℕ) → List Operand → (old new : List Operation) → (t : Reach) → Type 0
+IsAimed a r None is old new t = IsAimedByIndices a r is old new t
+IsAimed a r (Some row) is old new t = (new ≡ old) × (t ≡ aimed r (all_taken a r) (new_number a row) (new_or_none a r.select))
 
 -- a read or write is put down with this access, under this guard
 pub record IsAccessMade (a : Around) (guard : Option ℕ) (r : Reach) (old last : List Operation) (on : Option ℕ) (t : Reach) : Type 0 where
+  pub passed : List Operation
+  pub ranges : List Ranged
+  pub indices : List Operand
+  pub passes : IsWay passed ranges indices (reach_passed a r old)
   pub guarded : List Operation
-  pub guards : IsGuarded a guard (ranges_of a r) old guarded on
-  pub aims : IsAimed a r r.row guarded last t
+  pub guards : IsGuarded guard ranges passed guarded on
+  pub aims : IsAimed a r r.row indices guarded last t
 
 pub record IsReadMade (a : Around) (guard : Option ℕ) (r : Reach) (old new : List Operation) (number : ℕ) : Type 0 where
   pub last : List Operation

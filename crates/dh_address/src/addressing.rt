@@ -1,7 +1,9 @@
 //! The pass as a whole.
 
-ghost use Rattle.std.specs.Prelude.{◌≡◌, [], IfOk};
+ghost use Rattle.std.specs.Prelude.{IfOk};
+ghost use Rattle.std.specs.List.{AllByRecursion};
 ghost use Rattle.dh_tree.specs.Shapes.{IsProgramTable};
+ghost use Rattle.dh_tree.specs.ViewShapes.{IsViewMap};
 ghost use Rattle.dh_plan.specs.DoneProgram.{IsAddressingOf};
 ghost use Rattle.dh_plan.specs.SeenPlans.{plan_seen};
 ghost use Rattle.dh_plan.specs.SoundPlans.{IsSound};
@@ -21,7 +23,8 @@ use std::alloc::Global;
 
 /// The blocks of the plan with banks and rows in place of indices.
 fn address_blocks(alloc: Global, plan: &Plan) -> Result<Items<PlanBlock>, NoMemory>
-    requires { IsProgramTable plan.now.table }
+    requires table { IsProgramTable plan.now.table }
+    requires views { AllByRecursion IsViewMap plan.now.views }
     ensures { IfOk result (AreImages (plan_seen plan.now)) }
 {
     let mut list = OperationList::new(alloc);
@@ -32,6 +35,7 @@ fn address_blocks(alloc: Global, plan: &Plan) -> Result<Items<PlanBlock>, NoMemo
         let old = OldBlock {
             alloc,
             table: plan.table.as_slice(),
+            views: plan.views.as_slice(),
             operations,
             probed: any_takes_probe(operations, first),
         };
@@ -44,7 +48,8 @@ fn address_blocks(alloc: Global, plan: &Plan) -> Result<Items<PlanBlock>, NoMemo
 
 /// The plan with banks and rows in place of indices, made block by block.
 fn made_of_pieces(alloc: Global, plan: &Plan) -> Result<Plan, NoMemory>
-    requires { IsProgramTable plan.now.table }
+    requires table { IsProgramTable plan.now.table }
+    requires views { AllByRecursion IsViewMap plan.now.views }
     ensures { IfOk result (λ q. IsImage (plan_seen plan.now) (plan_seen q)) }
 {
     Ok(Plan {
@@ -58,15 +63,14 @@ fn made_of_pieces(alloc: Global, plan: &Plan) -> Result<Plan, NoMemory>
     })
 }
 
-/// The plan with banks and rows in place of indices: it does the same, and each read or write is done only where it is
-/// in range.
+/// The plan with banks and rows in place of indices and views: it does the same, and each read or write is done only
+/// where it is in range, at each view on its way too.
 ///
 /// # Errors
 ///
 /// `NoMemory` where an allocation was refused.
 pub fn addresses(alloc: Global, plan: &Plan) -> Result<Plan, NoMemory>
-    requires sound { IsSound (plan_seen plan.now) }
-    requires views { plan.now.views ≡ [] }
+    requires { IsSound (plan_seen plan.now) }
     ensures { IfOk result (λ q. IsAddressingOf (plan_seen plan.now) (plan_seen q)) }
 {
     made_of_pieces(alloc, plan)

@@ -5,10 +5,11 @@ ghost use Rattle.std.specs.List.{AllByRecursion};
 ghost use Rattle.dh_tree.specs.Elements.{dims_at};
 ghost use Rattle.dh_tree.specs.Shapes.{IsDim, IsProgramTable};
 ghost use Rattle.dh_rows.specs.MadeOperations.{IsSummed, constant_made};
-ghost use Rattle.dh_address.specs.Pieces.{IsAim, IsAimed, IsIndexAim, IsSpreadOut, aimed, waited};
+ghost use Rattle.dh_address.specs.Pieces.{IsAim, IsAimed, IsAimedByIndices, IsIndexAim, IsSpreadOut, aimed, all_taken, is_banked, new_number, new_or_none, waited};
 ghost use Rattle.dh_address.specs.SeenAround.{around_seen};
 
 use crate::literals::{LiteralPlace, constant_place};
+use crate::operands::{Operand, values_of};
 use crate::ranging::{OldBlock, dims_in, element_total};
 use crate::renumbering::Renumbering;
 use dh_base::{Items, NoMemory};
@@ -65,25 +66,25 @@ fn push_spread(
     Ok(Aim { row, select })
 }
 
-/// Adds the row of an access by indices, and its bank where it can reach several.
+/// Adds the row of an element of these indices, and its bank where the access can reach several.
 fn aim_by_indices(
     list: &mut OperationList,
     old: &OldBlock<'_>,
-    known: &Renumbering,
     reach: &Reach,
+    indices: &[Operand],
 ) -> Result<Aim, NoMemory>
     requires { IsProgramTable old.now.table.now }
-    ensures { IfOk result (λ a. IsIndexAim (around_seen old.now known.now) reach.now
-        list.old list.new a.row a.select) }
+    ensures { IfOk result (λ a. IsIndexAim (dims_at old.now.table.now reach.now.memory)
+        indices.now (is_banked reach.now) list.old list.new a.row a.select) }
 {
     let dims = dims_in(old.table, reach.memory);
     let width = bit_length(element_total(dims));
     let banked = reach.banks.len() != 1;
-    match constant_place(old.operations, known.first, dims, reach.indices.as_slice()) {
+    match constant_place(dims, indices) {
         Some(place) => push_place(list, width, place, banked),
         None => {
-            let indices = known.each(old.alloc, reach.indices.as_slice())?;
-            push_spread(list, width, dims, indices.as_slice(), banked)
+            let values = values_of(old.alloc, indices)?;
+            push_spread(list, width, dims, values.as_slice(), banked)
         }
     }
 }
@@ -118,26 +119,58 @@ fn aimed(
     })
 }
 
+/// The access of a row, which an access by a row stays.
+fn aim_row(
+    old: &OldBlock<'_>,
+    known: &Renumbering,
+    reach: &Reach,
+    row: u64,
+) -> Result<Reach, NoMemory>
+    ensures { IfOk result (λ t. t ≡ aimed reach.now
+        (all_taken (around_seen old.now known.now) reach.now)
+        (new_number (around_seen old.now known.now) row)
+        (new_or_none (around_seen old.now known.now) reach.now.select)) }
+{
+    let taken = known.taken(old.alloc, reach)?;
+    let row = known.number(row);
+    let select = known.maybe(reach.select);
+    aimed(old, reach, taken, Aim { row, select })
+}
+
+/// Adds the row of an access by indices.
+fn aim_indices(
+    list: &mut OperationList,
+    old: &OldBlock<'_>,
+    known: &Renumbering,
+    reach: &Reach,
+    indices: &[Operand],
+) -> Result<Reach, NoMemory>
+    requires { IsProgramTable old.now.table.now }
+    ensures { IfOk result (IsAimedByIndices (around_seen old.now known.now) reach.now indices.now
+        list.old list.new) }
+{
+    let mut taken = known.taken(old.alloc, reach)?;
+    if let Some(select) = push_waited(list, known.maybe(reach.select))? {
+        taken.push(select)?;
+    }
+    let aim = aim_by_indices(list, old, reach, indices)?;
+    aimed(old, reach, taken, aim)
+}
+
 /// Adds the row of an access. What it took before it still takes, so that it comes no earlier.
 pub fn aim_reach(
     list: &mut OperationList,
     old: &OldBlock<'_>,
     known: &Renumbering,
     reach: &Reach,
+    indices: &[Operand],
 ) -> Result<Reach, NoMemory>
     requires { IsProgramTable old.now.table.now }
     ensures { IfOk result (IsAimed (around_seen old.now known.now) reach.now reach.now.row
-        list.old list.new) }
+        indices.now list.old list.new) }
 {
-    let mut indices = known.each(old.alloc, reach.indices.as_slice())?;
-    if let Some(row) = reach.row {
-        let row = known.number(row);
-        let select = known.maybe(reach.select);
-        return aimed(old, reach, indices, Aim { row, select });
+    match reach.row {
+        Some(row) => aim_row(old, known, reach, row),
+        None => aim_indices(list, old, known, reach, indices),
     }
-    if let Some(select) = push_waited(list, known.maybe(reach.select))? {
-        indices.push(select)?;
-    }
-    let aim = aim_by_indices(list, old, known, reach)?;
-    aimed(old, reach, indices, aim)
 }

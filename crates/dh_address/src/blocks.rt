@@ -1,14 +1,17 @@
 //! The operations of a block, one after the other.
 
 ghost use Rattle.std.specs.Prelude.{◌≡◌, IfOk, OnOk};
+ghost use Rattle.std.specs.List.{AllByRecursion};
 ghost use Rattle.dh_tree.specs.Shapes.{IsProgramTable};
+ghost use Rattle.dh_tree.specs.ViewShapes.{IsViewMap};
 ghost use Rattle.dh_rows.specs.MadeOperations.{IsMade};
 ghost use Rattle.dh_address.specs.Pieces.{IsPiece, IsProbeValue, IsProbed, IsReadMade, IsWriteMade, false_behind, false_made, new_takes};
 ghost use Rattle.dh_address.specs.SeenAround.{around_first, around_seen};
 ghost use Rattle.dh_address.specs.SeenBlocks.{HasPieces, KnowsMore};
 
 use crate::aiming::aim_reach;
-use crate::ranging::{OldBlock, check_reach, guard_reach};
+use crate::passing::pass_reach;
+use crate::ranging::{OldBlock, check_ranges, guard_ranges};
 use crate::renumbering::Renumbering;
 use crate::results::kind_given;
 use dh_base::{Items, NoMemory};
@@ -16,11 +19,11 @@ use dh_plan::{Operation, OperationForm, Reach};
 use dh_rows::{OperationList, push_compute};
 use dh_value::{Kind, Op, Word};
 
-/// The values that an access without views takes, at their new numbers.
+/// The values that an access takes, at their new numbers.
 fn new_takes(old: &OldBlock<'_>, known: &Renumbering, reach: &Reach) -> Result<Items<u64>, NoMemory>
     ensures { IfOk result (λ v. v ≡ new_takes (around_seen old.now known.now) reach.now) }
 {
-    let mut values = known.each(old.alloc, reach.indices.as_slice())?;
+    let mut values = known.taken(old.alloc, reach)?;
     if let Some(select) = known.maybe(reach.select) {
         values.push(select)?;
     }
@@ -87,11 +90,13 @@ fn push_probe(
     reach: &Reach,
     fault: u32,
 ) -> Result<u64, NoMemory>
-    requires { IsProgramTable old.now.table.now }
+    requires table { IsProgramTable old.now.table.now }
+    requires views { AllByRecursion IsViewMap old.now.views.now }
     ensures { IfOk result (IsProbed (around_seen old.now known.now) guard reach.now fault
         list.old list.new) }
 {
-    check_reach(list, old, known, guard, fault, reach)?;
+    let passed = pass_reach(list, old, known, reach)?;
+    check_ranges(list, guard, fault, passed.ranges.as_slice())?;
     push_probe_value(list, old, known, guard, reach)
 }
 
@@ -103,12 +108,14 @@ fn push_read(
     guard: Option<u64>,
     reach: &Reach,
 ) -> Result<u64, NoMemory>
-    requires { IsProgramTable old.now.table.now }
+    requires table { IsProgramTable old.now.table.now }
+    requires views { AllByRecursion IsViewMap old.now.views.now }
     ensures { IfOk result (IsReadMade (around_seen old.now known.now) guard reach.now
         list.old list.new) }
 {
-    let guard = guard_reach(list, old, known, guard, reach)?;
-    let access = aim_reach(list, old, known, reach)?;
+    let passed = pass_reach(list, old, known, reach)?;
+    let guard = guard_ranges(list, guard, passed.ranges.as_slice())?;
+    let access = aim_reach(list, old, known, reach, passed.indices.as_slice())?;
     list.push(guard, OperationForm::Read { access })
 }
 
@@ -121,12 +128,14 @@ fn push_write(
     reach: &Reach,
     value: u64,
 ) -> Result<u64, NoMemory>
-    requires { IsProgramTable old.now.table.now }
+    requires table { IsProgramTable old.now.table.now }
+    requires views { AllByRecursion IsViewMap old.now.views.now }
     ensures { IfOk result (IsWriteMade (around_seen old.now known.now) guard reach.now value
         list.old list.new) }
 {
-    let guard = guard_reach(list, old, known, guard, reach)?;
-    let access = aim_reach(list, old, known, reach)?;
+    let passed = pass_reach(list, old, known, reach)?;
+    let guard = guard_ranges(list, guard, passed.ranges.as_slice())?;
+    let access = aim_reach(list, old, known, reach, passed.indices.as_slice())?;
     let value = known.number(value);
     list.push(guard, OperationForm::Write { access, value })
 }
@@ -138,7 +147,8 @@ fn push_piece(
     known: &Renumbering,
     operation: &Operation,
 ) -> Result<u64, NoMemory>
-    requires { IsProgramTable old.now.table.now }
+    requires table { IsProgramTable old.now.table.now }
+    requires views { AllByRecursion IsViewMap old.now.views.now }
     ensures { IfOk result (IsPiece (around_seen old.now known.now) operation.now
         list.old list.new) }
 {
@@ -210,7 +220,8 @@ fn push_known(
     known: &mut Renumbering,
     operation: &Operation,
 ) -> Result<(), NoMemory>
-    requires { IsProgramTable old.now.table.now }
+    requires table { IsProgramTable old.now.table.now }
+    requires views { AllByRecursion IsViewMap old.now.views.now }
     ensures { OnOk result (KnowsMore registers.now old.now known.old known.new operation.now
         list.old list.new) }
 {
@@ -228,7 +239,8 @@ pub fn push_block(
     registers: &[Kind],
     first: u128,
 ) -> Result<(), NoMemory>
-    requires { IsProgramTable old.now.table.now }
+    requires table { IsProgramTable old.now.table.now }
+    requires views { AllByRecursion IsViewMap old.now.views.now }
     ensures { OnOk result (HasPieces registers.now (around_first old.now first) list.old list.new) }
 {
     let mut known = Renumbering {

@@ -1,10 +1,10 @@
-//! Indices that are constants of the plan.
+//! Constants of the plan, and the element that constants name.
 
 ghost use Rattle.std.specs.Prelude.{◌≡◌, ◌-◌, ◌^◌, None, nat_lt};
-ghost use Rattle.dh_address.specs.LiteralPlaces.{natural, literal_at, literal_within, literal_places};
+ghost use Rattle.dh_address.specs.LiteralPlaces.{below_size, natural, literal_at, literal_places};
 
 use crate::numbers::{quotient, remainder};
-use crate::renumbering::place_from;
+use crate::operands::Operand;
 use dh_plan::{Operation, OperationForm};
 use dh_tree::Dim;
 use dh_value::{Kind, Word};
@@ -43,7 +43,7 @@ fn natural_of(word: Word) -> Option<u64>
 }
 
 /// The value of a constant without a guard at this place of a block, if it is one from 0 on.
-fn constant_at(operations: &[Operation], place: usize) -> Option<u64>
+pub fn constant_at(operations: &[Operation], place: usize) -> Option<u64>
     ensures { result ≡ literal_at operations.now place }
 {
     match operations.get(place) {
@@ -58,30 +58,25 @@ fn constant_at(operations: &[Operation], place: usize) -> Option<u64>
     }
 }
 
-/// The value of a constant below a size, in a block whose first operation has the number `first`.
-pub fn constant_within(operations: &[Operation], first: u128, value: u64, size: u64) -> Option<u64>
-    ensures { result ≡ literal_within operations.now first value size }
+/// A constant below a size.
+pub fn known_below(literal: Option<u64>, size: u64) -> Option<u64>
+    ensures { result ≡ below_size literal size }
 {
-    match constant_at(operations, place_from(first, value)) {
+    match literal {
         Some(number) => { if number < size { Some(number) } else { None } }
         None => None,
     }
 }
 
 /// Row and bank of the element of these indices, if all are constants and in range. Numbers wrap.
-pub fn constant_place(
-    operations: &[Operation],
-    first: u128,
-    dims: &[Dim],
-    indices: &[u64],
-) -> Option<LiteralPlace>
-    ensures { result ≡ literal_places operations.now first dims.now indices.now 0 0 }
+pub fn constant_place(dims: &[Dim], indices: &[Operand]) -> Option<LiteralPlace>
+    ensures { result ≡ literal_places dims.now indices.now 0 0 }
 {
     let mut row = 0u64;
     let mut bank = 0u64;
     for i in 0..dims.len().min(indices.len()) {
         let dim = dims[i];
-        let Some(index) = constant_within(operations, first, indices[i], dim.size) else {
+        let Some(index) = known_below(indices[i].literal, dim.size) else {
             return None;
         };
         row = row

@@ -1,10 +1,12 @@
 //! The operations of a block so far: their numbers in the new plan, and the kinds of their values.
 
-ghost use Rattle.std.specs.Prelude.{◌≡◌, ◌-◌, IfOk, map, slice_index};
+ghost use Rattle.std.specs.Prelude.{◌≡◌, ◌-◌, ◌++◌, IfOk, OnOk, map, slice_index};
+ghost use Rattle.dh_plan.specs.Ordered.{offsets_taken};
 ghost use Rattle.dh_plan.specs.PlanKinds.{kind_of_value};
 ghost use Rattle.dh_address.specs.Renumbered.{renumbered, maybe_renumbered};
 
 use dh_base::{Items, NoMemory};
+use dh_plan::{Reach, ReachStep};
 use dh_value::Kind;
 use std::alloc::Global;
 
@@ -57,6 +59,40 @@ impl Renumbering {
         for value in old {
             new.push(self.number(*value))?;
         }
+        Ok(new)
+    }
+
+    /// Adds the new numbers of values.
+    fn push_each(&self, new: &mut Items<u64>, old: &[u64]) -> Result<(), NoMemory>
+        ensures { OnOk result (new.new
+            ≡ new.old ++ map (λ v. renumbered self.now.first self.now.numbers v) old.now) }
+    {
+        for value in old {
+            new.push(self.number(*value))?;
+        }
+        Ok(())
+    }
+
+    /// Adds those of offsets.
+    fn push_offsets(&self, new: &mut Items<u64>, steps: &[ReachStep]) -> Result<(), NoMemory>
+        ensures { OnOk result (new.new ≡ new.old
+            ++ map (λ v. renumbered self.now.first self.now.numbers v) (offsets_taken steps.now)) }
+    {
+        for step in steps {
+            self.push_each(new, step.offsets.as_slice())?;
+        }
+        Ok(())
+    }
+
+    /// The new numbers of the indices of an access and of the offsets of its views.
+    pub fn taken(&self, alloc: Global, reach: &Reach) -> Result<Items<u64>, NoMemory>
+        ensures { IfOk result (λ new. new
+            ≡ map (λ v. renumbered self.now.first self.now.numbers v) reach.now.indices
+            ++ map (λ v. renumbered self.now.first self.now.numbers v)
+            (offsets_taken reach.now.steps)) }
+    {
+        let mut new = self.each(alloc, reach.indices.as_slice())?;
+        self.push_offsets(&mut new, reach.steps.as_slice())?;
         Ok(new)
     }
 

@@ -28,7 +28,8 @@ impl Idle {
 impl Engine for Idle {
     ghost use Rattle.std.specs.Prelude.{false};
 
-    ghost seen = { λ e. record { exact = false; asked = e.inner.asked; answers = e.inner.answers } };
+    ghost seen = { λ e.
+        record { exact = false; asked = e.inner.asked; answers = e.inner.answers } };
 
     fn finish(&mut self, net: &Net, sets: Vec<Memories>, _limit: u64) -> Result<(), NoMemory> {
         self.inner.finish(net, sets, 0)

@@ -12,6 +12,7 @@ use Rattle.dh_meaning.specs.Paths.{Path, outer_paths, copies_of, all_copies, pat
 use Rattle.dh_meaning.specs.Sites.{Around, nothing_around, in_arm, in_loop, loop_of}
 use Rattle.dh_meets.specs.Charges.{factors_of, paths_of}
 use Rattle.dh_meets.specs.SourceEvents.{Site, SourceAccess, SourceEvent, accesses, assigned, term_events, terms_events, maybe_events, write_events, site_of, events, command_events, other_events, groups_events, part_events, accesses_in, trace}
+use Rattle.dh_meaning.specs.Ways.{base_of, way_to}
 use Rattle.dh_plan.specs.PlanSizes.{entity_banks_charged, accesses_size, plan_size_of}
 use Rattle.dh_sound.proofs.EventCounts.{events_counted}
 use Rattle.dh_backend.specs.SuitedPlans.{FaultsAreFew}
@@ -125,7 +126,7 @@ accesses_counted : (p : Program) (from : ℕ) (xs : List SourceAccess) → AllBy
 accesses_counted p from [] h = omega arith
 accesses_counted p from (a ∷ xs) h =
     let rest = accesses_counted p (suc from) xs h.1 in
-    let some = some_product (length (paths_of a)) (entity_banks_charged p from a.entity) (paths_some a.site.loops h.0 outer_paths (omega arith)) in
+    let some = some_product (length (paths_of a)) (entity_banks_charged p from (base_of (way_to p a.entity) a.entity)) (paths_some a.site.loops h.0 outer_paths (omega arith)) in
     omega (arith, rest, some)
 
 pub accesses_within : (p : Program) → accesses_of p.body ≤ plan_size_of p

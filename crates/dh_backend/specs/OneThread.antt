@@ -1,5 +1,5 @@
 -- Graphs of one thread, as a net takes them: each way leads to states and registers that are there, and does not fork.
-use Rattle.std.specs.Prelude.{ℕ, ◌<◌, length}
+use Rattle.std.specs.Prelude.{◌<◌, length}
 use Rattle.std.specs.List.{AllByRecursion}
 use Rattle.dh_tree.specs.PlainTrees.{Program}
 use Rattle.dh_plan.specs.declared.graphs.Graph.{Graph}

@@ -1,5 +1,5 @@
 -- What a netlist asks of a plan beside its meaning: registers of 1 to 64 bits, and few faults and clocks.
-use Rattle.std.specs.Prelude.{◌≡◌, ℕ, suc, ◌<◌, ◌≤◌, ◌^◌, ◌%◌, List, [], length, map}
+use Rattle.std.specs.Prelude.{ℕ, suc, ◌<◌, ◌≤◌, ◌^◌, ◌%◌, List, length, map}
 use Rattle.std.specs.List.{AllByRecursion}
 use Rattle.dh_value.specs.Words.{IsKind}
 use Rattle.dh_tree.specs.PlainTrees.{Program}
@@ -9,10 +9,9 @@ use Rattle.dh_plan.specs.Passes.{IsToCompile}
 use Rattle.dh_plan.specs.PlainPlans.{PlainPlan, operations_in, operation_count}
 use Rattle.dh_plan.specs.ScheduleLaws.{without_limits}
 
--- What the pass that makes copies into operations states of its plan beside `IsPlanOf`: no access goes through a view,
--- and each register has from 1 to 64 bits. Neither follows from that: a view or a register may stand unused.
+-- What the pass that makes copies into operations states of its plan beside `IsPlanOf`: each register has from 1 to 64
+-- bits. It does not follow from that: a register may stand unused.
 pub record SuitsNets (plan : PlainPlan) : Type 0 where
-  pub views : plan.views ≡ []
   pub registers : AllByRecursion IsKind plan.registers
 
 -- a plan of a program that is to be compiled

@@ -32,7 +32,8 @@ pub fn ports_of(alloc: Global, plan: &Plan) -> Result<Items<Items<(u32, u32)>>, 
 pub fn bind(alloc: Global, plan: &Plan, schedule: &Schedule) -> Result<Binding, NoMemory>
     requires plan { MayBind (plan_seen plan.now) }
     requires clocks { length schedule.now.clock_of ≡ operation_count (plan_seen plan.now) }
-    ensures { IfOk result (λ u. IsBinding (plan_seen plan.now) (timing_seen schedule.now) (uses_seen u)) }
+    ensures { IfOk result (λ u. IsBinding (plan_seen plan.now) (timing_seen schedule.now)
+        (uses_seen u)) }
 {
     let ports = ports_of(alloc, plan)?;
     let unit = units_of(alloc, plan, schedule)?;

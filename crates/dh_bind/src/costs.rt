@@ -84,7 +84,8 @@ fn note_all(memories: &mut Vec<Option<u32>>, counts: &mut Vec<u32>, blocks: &[Pl
     requires cells { length counts.old.items ≡ length memories.old.items * 64 }
     requires fits { AllUses (FitsRows (length memories.old.items)) (all_operations blocks.now) }
     ensures { Noted (all_operations blocks.now)
-        (costs_in memories.old.items counts.old.items) (costs_in memories.new.items counts.new.items) }
+        (costs_in memories.old.items counts.old.items)
+        (costs_in memories.new.items counts.new.items) }
 {
     note_blocks(memories.as_mut_slice(), counts.as_mut_slice(), blocks);
 }
@@ -92,7 +93,8 @@ fn note_all(memories: &mut Vec<Option<u32>>, counts: &mut Vec<u32>, blocks: &[Pl
 /// What the accesses of a plan charge.
 pub fn costs_of(alloc: Global, plan: &Plan) -> Result<CostTables, NoMemory>
     requires { MayBind (plan_seen plan.now) }
-    ensures { IfOk result (λ c. AreCosts (plan_seen plan.now) (costs_in c.memories.items c.counts.items)) }
+    ensures { IfOk result (λ c. AreCosts (plan_seen plan.now)
+        (costs_in c.memories.items c.counts.items)) }
 {
     let blocks = plan.blocks.as_slice();
     let rows = rows_needed(blocks);

@@ -67,7 +67,8 @@ pub fn go_back(ledgers: &mut [CountLedger], log: &[Mark])
 /// Gives each bank the most that marks spend on it, and logs what was before.
 pub fn rise(ledgers: &mut [CountLedger], ends: &[Mark], log: &mut Vec<Mark>) -> Result<(), NoMemory>
     requires { AreMarks ledgers.old ends.now }
-    ensures rises { OnOk result (Rises ends.now ledgers.old ledgers.new log.old.items log.new.items) }
+    ensures rises { OnOk result (Rises ends.now ledgers.old ledgers.new
+        log.old.items log.new.items) }
     ensures alike { Alike ledgers.old ledgers.new }
     ensures marks { AreMarks ledgers.old log.old.items → AreMarks ledgers.old log.new.items }
 {

@@ -77,7 +77,8 @@ fn count_one(counts: &mut BTreeMap<u128, u64>, clock: u128) -> Result<u64, NoMem
     requires { counted_at counts.old clock + 1 < 2 ^ 64 }
     ensures number { IfOk result (λ n. n ≡ counted_at counts.old clock) }
     ensures more { OnOk result (counted_at counts.new clock ≡ counted_at counts.old clock + 1) }
-    ensures others { OnOk result ((q : ℕ) → (q ≡ clock → ⊥) → counted_at counts.new q ≡ counted_at counts.old q) }
+    ensures others { OnOk result ((q : ℕ) → (q ≡ clock → ⊥)
+        → counted_at counts.new q ≡ counted_at counts.old q) }
 {
     let count = counts.get(&clock).copied().unwrap_or(0);
     counts.insert(clock, count + 1)?;

@@ -101,7 +101,8 @@ impl<'a> Walker<'a> {
     /// The memory of an access, where an operation uses it.
     pub(crate) fn memory_of(&self, access: u32) -> Option<u32>
         ensures memory { result ≡ memory_at self.now.costs.memories access }
-        ensures row { (memory : ℕ) → result ≡ Some memory → access < length self.now.costs.memories }
+        ensures row { (memory : ℕ) → result ≡ Some memory
+            → access < length self.now.costs.memories }
         ensures inside { (memory : ℕ) → result ≡ Some memory → memory < length self.now.ledgers }
     {
         let at = access as usize;

@@ -47,7 +47,7 @@ use Rattle.dh_blocks.specs.ChosenReads.{AreBare, chosen_reads}
 use Rattle.dh_blocks.specs.BlockGround.{AreWithin, IsGround}
 use Rattle.dh_blocks.specs.BlockMade.{AreRising, AreSoundHere, DoEach, EachShares, IsBare, IsMade, IsTop, SharesStand, arms_each, effect_begun, found_in, sets_made, step_of}
 use Rattle.dh_blocks.specs.NamedVariables.{IsNamed, IsNamedHere}
-use Rattle.dh_blocks.specs.SlotsOfScene.{HoldsVariables, placing_in, slots_in}
+use Rattle.dh_blocks.specs.SlotsOfScene.{HoldsVariables, IsStartOf, placing_in, slots_in}
 use Rattle.dh_blocks.specs.SoundCommands.{IsOwnOf, SoundAction}
 use Rattle.dh_blocks.proofs.CommandsFollow.{Stage, found_long, may_assign}
 use Rattle.dh_blocks.proofs.CommandsDone.{Goes, HasChanged, commands_done, goes_nowhere}
@@ -161,6 +161,9 @@ module _ (scene : Scene) (around : Around) (plan : PlainPlan) (count block : ℕ
     abbrev find : ℕ → Option Found
     find = found_in scene around plan block cs old new made.each registers memories variables
 
+    start : IsStartOf scene x
+    start = record { table = holds.table; ways = holds.views }
+
     abbrev reads : Reads
     reads = chosen_reads x find old.accesses
 
@@ -189,7 +192,7 @@ module _ (scene : Scene) (around : Around) (plan : PlainPlan) (count block : ℕ
     within_all : AreWithin find old.accesses
     within_all number f is = (bare number f is).0
 
-    stage : (touch : ℕ → Bool) → Stage scene x find old.accesses variables touch within_all holds.table around (IsSeen scene around.levels.now)
+    stage : (touch : ℕ → Bool) → Stage scene x find old.accesses variables touch within_all start around (IsSeen scene around.levels.now)
     stage touch = record {
       ground = ground;
       placed = placed;
@@ -212,7 +215,7 @@ module _ (scene : Scene) (around : Around) (plan : PlainPlan) (count block : ℕ
         → EachShares scene around x find l before_folds behind h e
         → Stands scene around x reads behind (commands_run (begun_of x) (paths_on x around) (core_commands (known_in scene) l) e) × HasChanged scene around before_folds.values behind.values) (append-nil folds)
         (λ h rising finds sh.
-        commands_done scene around x find old.accesses variables folded within_all holds.table paths [] (goes_nowhere scene around x find old.accesses)
+        commands_done scene around x find old.accesses variables folded within_all start paths [] (goes_nowhere scene around x find old.accesses)
         folds from before_folds behind h e rising (named_now folded folds sound.then_folds) (stage folded) (λ i g. refl) (λ i q left. absurd (never left)) finds sh fits_behind begun_before ready_before stands)
         h rising finds sh
       where
@@ -221,7 +224,7 @@ module _ (scene : Scene) (around : Around) (plan : PlainPlan) (count block : ℕ
 
     all_done : Stands scene around x reads new last_effect × HasChanged scene around old.values new.values
     all_done =
-        commands_done scene around x find old.accesses variables touched within_all holds.table paths folds folds_go
+        commands_done scene around x find old.accesses variables touched within_all start paths folds folds_go
         done 0 old new made.each first_effect made.rising (named_now touched done sound.first) (stage touched) (λ i g. g) (λ i q left. refl) (λ number low. refl) (stand registers memories variables st) fits begun stands_first.ready stands_first
 
     -- at the end

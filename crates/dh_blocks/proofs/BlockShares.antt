@@ -7,7 +7,7 @@ use Rattle.dh_value.specs.declared.kinds.Kind.{Kind}
 use Rattle.dh_tree.specs.declared.tables.MemEntry.{MemEntry}
 use Rattle.dh_tree.specs.declared.trees.expressions.Ref.{Ref}
 use Rattle.dh_tree.specs.PlainTrees as plain
-use Rattle.dh_tree.specs.PlainTrees.{Program, Term, term, Action, action, lets, lets_memory, views, assigns, stores, reduces, calls, blocks, decides, repeats, counts}
+use Rattle.dh_tree.specs.PlainTrees.{Program, term, Action, action, lets, lets_memory, views, assigns, stores, reduces, calls, blocks, decides, repeats, counts}
 use Rattle.dh_tree.specs.Seen.{program_seen}
 use Rattle.dh_meaning.specs.AccessNumbers.{accesses_of}
 use Rattle.dh_meaning.specs.Effects.{Effect, Variables}
@@ -17,11 +17,13 @@ use Rattle.dh_meaning.specs.Phases.{Located}
 use Rattle.dh_meaning.specs.Sites as sites
 use Rattle.dh_meets.specs.Sharing.{shared}
 use Rattle.dh_meets.specs.SourceEvents.{SourceEvent, events, trace}
-use Rattle.dh_sound.specs.SimpleForms.{AreFolds, IsFold, IsSimple}
+use Rattle.dh_sound.specs.SimpleForms.{AreFolds, FoldsInJoins, IsFold}
 use Rattle.dh_sound.specs.Trails.{Follows, count, of_located}
+use Rattle.dh_sound.specs.ViewTrails.{FollowsViews}
 use Rattle.dh_sound.proofs.BlockWalks.{follows_within}
 use Rattle.dh_sound.proofs.KnownReads.{count_joined}
 use Rattle.dh_sound.proofs.Makes.{action_counted, makes_within}
+use Rattle.dh_sound.proofs.Trails.{follows_plain}
 use Rattle.dh_expressions.specs.declared.scenes.Around.{Around}
 use Rattle.dh_expressions.specs.declared.scenes.Scene.{Scene}
 use Rattle.dh_expressions.specs.Drafted.{Step}
@@ -32,13 +34,13 @@ use Rattle.dh_commands.specs.Followed.{Arms, effect_of}
 use Rattle.dh_blocks.specs.FoundAccesses.{Found, block_found, found, found_or}
 use Rattle.dh_blocks.specs.BlockGround.{AreFoundAt, SharesIn}
 use Rattle.dh_blocks.specs.BlockMade.{AreRising, DoEach, EachShares, arms_each}
-use Rattle.dh_blocks.specs.BlockTraced.{IsTraced}
+use Rattle.dh_blocks.specs.BlockTraced.{IsTraced, TellsWays}
 use Rattle.dh_blocks.specs.SoundCommands.{SoundAction}
 use Rattle.dh_blocks.specs.PathsOfLevels.{AreSpread}
 use Rattle.dh_blocks.proofs.CommandsDone.{own_found, past_found}
 use Rattle.dh_blocks.proofs.CommandsFollow.{found_long}
 use Rattle.dh_blocks.proofs.CommandsShare.{walk_action}
-use Rattle.dh_blocks.proofs.ReadsKnown.{Knows, idle_passed, knows_none, knows_over}
+use Rattle.dh_blocks.proofs.ReadsKnown.{Knows, idle_passed, knows_none, knows_past}
 
 not_true : (b : Bool) → (b ≡ true → ⊥) → b ≡ false
 not_true true h = absurd (h refl)
@@ -82,36 +84,38 @@ module _ (scene : Scene) (x : Step) (find : ℕ → Option Found) (around : Arou
 
   module _ (done folds : List Located) (quiet : AreFolds folds) (round : sites.Around)
       (one_phase : (j k : ℕ) → in_one_phase (program_seen scene.program.now) j k ≡ true → any_makes k done ≡ true → any_makes j done ≡ true)
-      (shares : (k j : ℕ) → slice_get scene.shares.now k ≡ Some (Some j) → shared (program_seen scene.program.now) k ≡ Some j) where
+      (shares : (k j : ℕ) → slice_get scene.shares.now k ≡ Some (Some j) → shared (program_seen scene.program.now) k ≡ Some j) (ways : TellsWays scene) where
     abbrev in_block : ℕ → Bool
     in_block k = any_makes k done
 
     abbrev KnowsAt : (before : List SourceEvent) → Variables → Type 0
     KnowsAt before v = Knows scene x find around.levels.now (paths_counted around) in_block around round before (λ i. v)
 
-    each_share : (cs : List Located) (before part after : List SourceEvent) (from : ℕ) (old new : Building) (h : DoEach scene around (cs ++ folds) old new) (e : Effect) → trace p ≡ before ++ (part ++ after) → Follows round before part cs
-        → ((k : ℕ) → count before ≤ k → in_block k ≡ any_makes k cs) → AllByRecursion (λ (c : Located). IsSimple c.command) cs → AllByRecursion Sound (cs ++ folds) → AreRising from (cs ++ folds)
+    each_share : (cs : List Located) (before part after : List SourceEvent) (from : ℕ) (old new : Building) (h : DoEach scene around (cs ++ folds) old new) (e : Effect) → trace p ≡ before ++ (part ++ after) → FollowsViews p round before part cs
+        → ((k : ℕ) → count before ≤ k → in_block k ≡ any_makes k cs) → AllByRecursion (λ (c : Located). FoldsInJoins c.command) cs → AllByRecursion Sound (cs ++ folds) → AreRising from (cs ++ folds)
         → ((number : ℕ) → from ≤ number → find number ≡ block_found scene x around (arms_each scene around (cs ++ folds) old new h) (cs ++ folds) e number)
         → KnowsAt before e.variables → EachShares scene around x find (cs ++ folds) old new h e
     each_share [] before part after from old new h e cut follows agrees simple sound rising finds knows = folds_share folds old new h e quiet
-    each_share (c ∷ cs) before part after from old new (mid, (next, (d, rest))) e cut (gap, (behind, (split, (stands, follows)))) agrees simple sound rising finds knows =
+    each_share (c ∷ cs) before part after from old new (mid, (next, (d, rest))) e cut (gap, (behind, (split, (placed, follows)))) agrees simple sound rising finds knows =
+        let stands = placed.stands in
+        let plain = follows_plain p round ((before ++ gap) ++ of_located c) behind cs follows in
         let here_cut : trace p ≡ (before ++ gap) ++ (of_located c ++ (behind ++ after)) =
         cut ∙ (ap (λ (l : List SourceEvent). before ++ (l ++ after)) split
         ∙ (ap (λ (l : List SourceEvent). before ++ l) (append_assoc gap (of_located c ++ behind) after ∙ ap (λ (l : List SourceEvent). gap ++ l) (append_assoc (of_located c) behind after))
         ∙ sym (append_assoc before gap (of_located c ++ (behind ++ after))))) in
         let counted : count (of_located c) ≡ accesses_of c.command = action_counted c.around c.command stands.names in
         let passed = idle_passed scene x find around.levels.now (paths_counted around) in_block round (count before) gap
-        (λ k low high. agrees k low ∙ not_true (any_makes k (c ∷ cs)) (λ t. never k low high stands.first counted t)) in
+        (λ k low high. agrees k low ∙ not_true (any_makes k (c ∷ cs)) (λ t. never k low high stands.first counted plain t)) in
         let known_here : KnowsAt (before ++ gap) e.variables =
-        knows_over scene x find around.levels.now (paths_counted around) in_block around round before gap (λ i. e.variables) (λ i. e.variables) passed (λ i l m free q. refl) knows in
+        knows_past scene x find around.levels.now (paths_counted around) in_block around round before gap (λ i. e.variables) passed knows in
         let own : AreFoundAt find c.first (found scene x around d.arms c.first c.command e) =
         λ i f is. finds (c.first + i) (above from c.first i rising.0)
         ∙ ap (λ o. found_or o (block_found scene x around (arms_each scene around (cs ++ folds) mid new rest) (cs ++ folds) (effect_of scene x (paths_on x around) c.first c.command e) (c.first + i)))
         (own_found c.first (found scene x around d.arms c.first c.command e) i f is) in
-        let w = walk_action scene x find around.levels.now (paths_counted around) in_block one_phase shares spread sized table Name around d.arms Folds round stands.number (before ++ gap) c.first c.command e
-        (record { levels_are = refl; long = refl }) stands.numbered stands.names simple.0 sound.0 d.shaped
+        let w = walk_action scene x find around.levels.now (paths_counted around) in_block one_phase shares spread sized table Name ways around d.arms Folds round stands.number placed.depth placed.first (before ++ gap) c.first c.command e
+        (record { levels_are = refl; long = refl }) stands.numbered stands.names simple.0 placed.behind placed.seen sound.0 d.shaped
         (λ k w. agrees k (let l = w.0 in let n = stands.first in let j = count_joined before gap in omega (arith, l, n, j))
-        ∙ right_false (makes k c.first c.command) (any_makes k cs) (not_true (any_makes k cs) (λ t. later k w.1 stands.first counted (follows_within round ((before ++ gap) ++ of_located c) behind cs follows k t).0)))
+        ∙ right_false (makes k c.first c.command) (any_makes k cs) (not_true (any_makes k cs) (λ t. later k w.1 stands.first counted (follows_within round ((before ++ gap) ++ of_located c) behind cs plain k t).0)))
         (record { below = stands.arms; fresh = stands.fresh })
         (record { after = behind ++ after; cut = subst (λ (r : sites.Around). trace p ≡ (before ++ gap) ++ (events r c.command ++ (behind ++ after))) stands.around here_cut; number = stands.first }) own known_here in
         let long : length (found scene x around d.arms c.first c.command e) ≡ accesses_of c.command =
@@ -149,13 +153,13 @@ module _ (scene : Scene) (x : Step) (find : ℕ → Option Found) (around : Arou
         either_of false b g = inr g
 
         -- no number of the gap is one of this command, nor of those behind it
-        never : (k : ℕ) → count before ≤ k → k < count before + count gap → c.first ≡ count (before ++ gap) → count (of_located c) ≡ accesses_of c.command → any_makes k (c ∷ cs) ≡ true → ⊥
-        never k low high first counted t = by (either_of (makes k c.first c.command) (any_makes k cs) t)
+        never : (k : ℕ) → count before ≤ k → k < count before + count gap → c.first ≡ count (before ++ gap) → count (of_located c) ≡ accesses_of c.command → Follows round ((before ++ gap) ++ of_located c) behind cs → any_makes k (c ∷ cs) ≡ true → ⊥
+        never k low high first counted plain t = by (either_of (makes k c.first c.command) (any_makes k cs) t)
           where
             by : (makes k c.first c.command ≡ true) ⊎ (any_makes k cs ≡ true) → ⊥
             by (inl m) = let w = (makes_within k c.first c.command m).0 in let j = count_joined before gap in omega (arith, w, high, first, j)
             by (inr m) =
-                let w = (follows_within round ((before ++ gap) ++ of_located c) behind cs follows k m).0 in
+                let w = (follows_within round ((before ++ gap) ++ of_located c) behind cs plain k m).0 in
                 let j = count_joined before gap in
                 let i = count_joined (before ++ gap) (of_located c) in
                 omega (arith, w, high, j, i)
@@ -170,7 +174,7 @@ module _ (scene : Scene) (x : Step) (find : ℕ → Option Found) (around : Arou
   pub block_shares : (done folds : List Located) (old new : Building) (h : DoEach scene around (done ++ folds) old new) (e : Effect) → IsTraced scene done folds → AllByRecursion Sound (done ++ folds) → AreRising 0 (done ++ folds)
       → ((number : ℕ) → find number ≡ block_found scene x around (arms_each scene around (done ++ folds) old new h) (done ++ folds) e number) → EachShares scene around x find (done ++ folds) old new h e
   block_shares done folds old new h e t sound rising finds =
-      each_share done folds t.quiet t.round t.one_phase t.shares done [] (trace p) [] 0 old new h e (sym (append-nil (trace p))) t.follows (λ k low. refl) t.simple sound rising
+      each_share done folds t.quiet t.round t.one_phase t.shares t.ways done [] (trace p) [] 0 old new h e (sym (append-nil (trace p))) t.follows (λ k low. refl) t.joins sound rising
       (λ number low. finds number)
       (knows_none scene x find around.levels.now (paths_counted around) (λ k. any_makes k done) around t.round [] (λ i. e.variables) (λ k l i. none k l))
     where

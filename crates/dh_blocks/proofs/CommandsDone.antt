@@ -3,8 +3,6 @@ use Rattle.std.proofs.Common.{◌≡◌, ◌⊎◌, inl, inr, ℕ, zero, suc, �
 use Rattle.std.specs.Prelude.{nat_lt, slice_get, slice_index, slice_set}
 use Rattle.std.specs.List.{AllByRecursion}
 use Rattle.std.proofs.lemmas.Bool.Decides.{nat_tests}
-use Rattle.dh_tree.specs.Memories.{table_of}
-use Rattle.dh_tree.specs.Seen.{program_seen}
 use Rattle.dh_tree.specs.PlainTrees.{Action}
 use Rattle.dh_meaning.specs.AccessNumbers.{accesses_of}
 use Rattle.dh_meaning.specs.Core.{CoreCommands, no_commands}
@@ -31,6 +29,7 @@ use Rattle.dh_blocks.specs.ChosenReads.{chosen_reads}
 use Rattle.dh_blocks.specs.BlockGround.{AreFoundAt, AreWithin}
 use Rattle.dh_blocks.specs.BlockMade.{AreRising, DoEach, EachShares, arms_each}
 use Rattle.dh_blocks.specs.NamedVariables.{IsNamed}
+use Rattle.dh_blocks.specs.SlotsOfScene.{IsStartOf}
 use Rattle.dh_blocks.specs.SoundCommands.{IsOwnOf, SoundAction}
 use Rattle.dh_blocks.proofs.CommandsFollow.{IsNear, Stage, follows, found_long, may_assign, near_commands}
 use Rattle.dh_blocks.proofs.CommandsJoined.{action_assigns, action_then_run}
@@ -125,7 +124,7 @@ goes_nowhere scene around x find before from old new h e rising finds sh fits be
     subst (λ (b : Building). Stands scene around x (chosen_reads x find before) b e × HasChanged scene around old.values b.values) h (stands, changed_none scene around old.values)
 
 module _ (scene : Scene) (around : Around) (x : Step) (find : ℕ → Option Found) (before : Accesses) (v0 : Variables) (touched : ℕ → Bool) (within_all : AreWithin find before)
-    (table_is : x.start.table ≡ table_of (program_seen scene.program.now)) (paths : 0 < paths_counted around) where
+    (start : IsStartOf scene x) (paths : 0 < paths_counted around) where
   abbrev reads : Reads
   reads = chosen_reads x find before
 
@@ -136,7 +135,7 @@ module _ (scene : Scene) (around : Around) (x : Step) (find : ℕ → Option Fou
   Sound a = SoundAction scene around.levels.now x.start.table (IsNamed scene around.levels.now x v0 touched) Folds a
 
   abbrev Standing : Type 0
-  Standing = Stage scene x find before v0 touched within_all table_is around Folds
+  Standing = Stage scene x find before v0 touched within_all start around Folds
 
   abbrev Touches : CoreCommands → Type 0
   Touches cs = (entity : ℕ) → any_assigns entity cs ≡ true → touched entity ≡ true
@@ -180,7 +179,7 @@ module _ (scene : Scene) (around : Around) (x : Step) (find : ℕ → Option Fou
       ∙ ap (λ o. found_or o (block_found scene x around (arms_each scene around (cs ++ tail) mid new rest) (cs ++ tail) (effect_of scene x (paths_on x around) c.first c.command e) (c.first + i)))
       (own_found c.first (found scene x around d.arms c.first c.command e) i f is) in
       let premise : Follows scene x reads around d.arms c.first c.command e =
-      follows scene x find before v0 touched within_all table_is around d.arms Folds c.first c.command e stage sound.0 d.shaped touches_one near own sh.0 in
+      follows scene x find before v0 touched within_all start around d.arms Folds c.first c.command e stage sound.0 d.shaped touches_one near own sh.0 in
       let between : Stands scene around x reads mid (effect_of scene x (paths_on x around) c.first c.command e) =
       does.so x reads e (fits_before mid.draft new.draft x further fits) begun premise stands in
       let changed : HasChanged scene around old.values mid.values = seen_changes c.command old.values mid.values sound.0 (does.changes ready) in

@@ -1,7 +1,8 @@
 -- Commands along their run: by the reads that are chosen they take all as the program has it.
-use Rattle.std.proofs.Common.{◌≡◌, ◌⊎◌, inl, inr, ℕ, zero, suc, ◌+◌, ◌<◌, ◌^◌, ◌==◌, ◌||◌, Bool, true, false, List, [], ◌∷◌, length, take, Option, Some, None, refl, sym, ◌∙◌, ap, subst, arith}
-use Rattle.std.specs.Prelude.{◌-◌, min, slice_get}
-use Rattle.std.proofs.lemmas.Bool.{cases_Bool, eq-eqb, eqb-true}
+use Rattle.std.proofs.Common.{◌≡◌, ◌⊎◌, inl, inr, ℕ, zero, suc, ◌+◌, ◌<◌, ◌≤◌, ◌^◌, ◌==◌, ◌&&◌, ◌||◌, Bool, true, false, List, [], ◌∷◌, length, take, Option, Some, None, refl, sym, ◌∙◌, ap, subst, arith}
+use Rattle.std.specs.Prelude.{◌-◌, min, nat_le, nat_lt, slice_get}
+use Rattle.std.proofs.lemmas.Bool.{cases_Bool, cases_lt, eq-eqb, eqb-true}
+use Rattle.std.proofs.lemmas.Bool.Decides.{nat_tests}
 use Rattle.std.proofs.lemmas.List.{length-append, take_all}
 use Rattle.dh_base.specs.declared.places.Place.{Place}
 use Rattle.dh_value.specs.declared.kinds.Kind.{Kind}
@@ -12,17 +13,18 @@ use Rattle.dh_value.specs.Words.{word_of}
 use Rattle.dh_tree.specs.declared.trees.expressions.Ref.{Ref}
 use Rattle.dh_tree.specs.declared.tables.MemEntry.{MemEntry}
 use Rattle.dh_tree.specs.Indices.{form_of}
-use Rattle.dh_tree.specs.Memories.{table_of}
-use Rattle.dh_tree.specs.Seen.{program_seen}
+use Rattle.dh_tree.specs.Seen.{terms}
+use Rattle.dh_tree.specs.ViewOffsets.{offsets_of}
 use Rattle.dh_tree.specs.PlainTrees as plain
-use Rattle.dh_tree.specs.PlainTrees.{Term, term, Terms, Action, action, ActionForm, lets, lets_memory, views, assigns, stores, reduces, calls, blocks, decides, repeats, counts, MaybeAction, no_action, one_action, Actions, no_actions, action_then, Groups, no_groups, group_then}
-use Rattle.dh_meaning.specs.AccessNumbers.{accesses_of, groups_accesses, other_accesses, part_accesses, plan_accesses, term_accesses, terms_accesses}
+use Rattle.dh_tree.specs.PlainTrees.{Term, term, Terms, Action, action, lets, lets_memory, views, assigns, stores, reduces, calls, blocks, decides, repeats, counts, MaybeAction, no_action, one_action, Actions, no_actions, action_then, Groups, no_groups, group_then}
+use Rattle.dh_meaning.specs.AccessNumbers.{accesses_of, groups_accesses, other_accesses, part_accesses, term_accesses, terms_accesses}
 use Rattle.dh_meaning.specs.Bindings.{kind_found}
-use Rattle.dh_meaning.specs.Core.{CoreTerm, CoreCommands, no_commands, command_and, variable}
-use Rattle.dh_meaning.specs.CoreOf.{core_action, core_groups, core_other, core_part, core_term, entity_number, kind_of, memory_of, operation_of, store_to}
+use Rattle.dh_meaning.specs.Core.{CoreTerm, CoreCommands, no_commands, command_and, keep, variable}
+use Rattle.dh_meaning.specs.CoreOf.{core_action, core_groups, core_other, core_part, core_term, core_terms, entity_number, kept_by, kind_of, memory_of, operation_of, store_to, way_of}
 use Rattle.dh_meaning.specs.Effects.{Effect, Variables, commands_run, entry_kind, value_of}
-use Rattle.dh_meaning.specs.Levels.{any_assigns}
+use Rattle.dh_meaning.specs.Levels.{any_assigns, assigns_to}
 use Rattle.dh_meaning.specs.Paths.{Path, copies_in}
+use Rattle.dh_meaning.specs.Ways.{Hidden, hidden_in}
 use Rattle.dh_code.specs.Slots.{held_at}
 use Rattle.dh_plan.proofs.SourceMoves.{commands_spare, set_other}
 use Rattle.dh_code.proofs.PathsInOrder.{length_path}
@@ -35,19 +37,22 @@ use Rattle.dh_expressions.specs.Drafted.{Step}
 use Rattle.dh_expressions.specs.Evaluated.{IsSited, Reads, begun_of, known_in}
 use Rattle.dh_expressions.specs.Levels.{path_at, rank_number}
 use Rattle.dh_expressions.specs.Shown.{guard_of, held_shown}
-use Rattle.dh_commands.proofs.CoreRuns.{view_rest}
+use Rattle.dh_ways.proofs.KeptVariables.{others_kept}
+use Rattle.dh_commands.proofs.CoreRuns.{offsets_long}
 use Rattle.dh_commands.specs.LanesRun.{IsArm, is_on_at, lane_of, lanes_run, path_in, paths_counted, paths_on, run_if}
-use Rattle.dh_commands.specs.ShownVariables.{ArePlaced, IsOwn, IsSeen, IsTarget, depth_in, factors_of, register_in, seen_path}
-use Rattle.dh_commands.specs.Followed.{Along, Arms, arms_of, arms_then, no_arms, Follows, FollowsAssigned, FollowsGroups, FollowsIndices, FollowsOther, FollowsPart, FollowsReduced, FollowsStored, FollowsTarget, FitGroups, FitOther, FitPart, FitArms, IsFollowed, IsFollowedBy, KeptWord, Sets, SetsOther, assign_run, effect_of, memory_aimed, part_effect, reduced_term, store_run, term_in, test_out, test_run, tested, value_at, view_of}
-use Rattle.dh_blocks.specs.FoundAccesses.{Found, form_of_found, found, groups_found, idle_found, other_found, part_found, target_found, term_found, terms_found, variables_along, write_found}
+use Rattle.dh_commands.specs.Keeping.{HeldFrom, words_of}
+use Rattle.dh_commands.specs.ShownVariables.{AreBoundAt, ArePlaced, AreTargets, IsOwn, IsSeen, IsTarget, depth_in, factors_of, register_in, seen_path}
+use Rattle.dh_commands.specs.Followed.{Along, AreOwn, Arms, arms_of, arms_then, no_arms, Follows, FollowsAssigned, FollowsGroups, FollowsIndices, FollowsOther, FollowsPart, FollowsReduced, FollowsStored, FollowsTarget, FollowsView, KeepsDeep, KeepsDeepGroups, KeepsDeepOther, KeepsDeepPart, KeptDeep, FitGroups, FitOther, FitPart, FitArms, IsFollowed, IsFollowedBy, KeptWord, Sets, SetsOther, assign_run, effect_of, kept_run, memory_aimed, part_effect, reduced_term, store_run, term_in, test_out, test_run, tested, value_at, view_of}
+use Rattle.dh_blocks.specs.FoundAccesses.{Found, form_of_found, found, groups_found, idle_found, other_found, part_found, target_found, term_found, terms_found, variables_along, view_found, write_found}
 use Rattle.dh_blocks.specs.ChosenReads.{chosen_reads}
-use Rattle.dh_blocks.specs.BlockGround.{AreFoundAt, AreReadAt, AreShared, AreWithin, IsFoundAt, IsGround, SharesIn, SharesInForm, SharesInGroups, SharesInOther, SharesInPart, TargetShares}
+use Rattle.dh_blocks.specs.BlockGround.{AreFoundAt, AreReadAt, AreShared, AreWithin, IsFoundAt, IsGround, SharesIn, SharesInForm, SharesInGroups, SharesInOther, SharesInPart, SharesInView, TargetShares}
 use Rattle.dh_blocks.specs.NamedVariables.{IsNamed}
+use Rattle.dh_blocks.specs.SlotsOfScene.{IsStartOf}
 use Rattle.dh_blocks.specs.SoundTerms.{AreSound, IsSound, IsSoundTarget}
-use Rattle.dh_blocks.specs.SoundCommands.{CanAssign, CanHold, IsOwnOf, SoundAction, SoundForm, SoundGroups, SoundOther, SoundPart, kind_aimed}
+use Rattle.dh_blocks.specs.SoundCommands.{CanAssign, CanHold, CanKeep, CanKeepFrom, IsOwnOf, SoundAction, SoundForm, SoundGroups, SoundOther, SoundPart, kind_aimed}
 use Rattle.dh_blocks.specs.PathsOfLevels.{AreSpread}
 use Rattle.dh_blocks.proofs.PathNumbers.{number_is, numbered}
-use Rattle.dh_blocks.proofs.TermsFollow.{fair_all, followed, found_first, found_here, found_then, sees_all, site_there, term_long, terms_long}
+use Rattle.dh_blocks.proofs.TermsFollow.{fair_all, followed, found_first, found_here, found_then, sees_all, site_there, term_long, terms_long, way_seen}
 use Rattle.dh_blocks.proofs.HeldWords.{held_is, reduced_is}
 use Rattle.dh_blocks.proofs.CommandsJoined.{action_assigns, part_assigns}
 
@@ -96,6 +101,11 @@ module _ (scene : Scene) (x : Step) (table : List MemEntry) (Name : Ref → Kind
   both : (a b c d : ℕ) → a ≡ c → b ≡ d → a + b ≡ c + d
   both a b c d e f = omega (arith, e, f)
 
+  -- of a view
+  pub view_long : (around : Around) (n : ℕ) (hs : List Hidden) (offsets : List Term) (e : Effect) → length (view_found scene x around n hs offsets e) ≡ terms_accesses (terms offsets) + 0
+  view_long around n [] offsets e = idle_long (terms_accesses (terms offsets) + 0)
+  view_long around n (h ∷ hs) offsets e = terms_long scene around x (variables_along scene x around (kept_run scene x h n offsets) e) n (terms offsets) ∙ and_none (terms_accesses (terms offsets))
+
   mutual
     pub found_long : (around : Around) (arms : Arms) (levels : List Level) (Folds : ℕ → Type 0) (n : ℕ) (a : Action) (e : Effect) → SoundAction scene levels table Name Folds a → FitArms a arms
         → length (found scene x around arms n a e) ≡ accesses_of a
@@ -114,7 +124,7 @@ module _ (scene : Scene) (x : Step) (table : List MemEntry) (Name : Ref → Kind
         ∙ both _ _ _ _ (found_long one inside levels (λ entity. ⊥) (n + term_accesses t) chosen _ s.1.0 h.0) (other_long two behind levels (λ entity. ⊥) (n + term_accesses t + accesses_of chosen) other _ s.1.1 h.1))
     found_long around arms levels Folds n (action id place (blocks body)) e s h = groups_long around arms levels Folds n body e s h ∙ none_and (groups_accesses body)
     found_long around arms levels Folds n (action id place (lets_memory name shape shape_places value)) e s h = refl
-    found_long around arms levels Folds n (action id place (views name parent form)) e s h = idle_long (plan_accesses form + 0)
+    found_long around arms levels Folds n (action id place (views name parent form)) e s h = view_long around n (hidden_in (way_of (known_in scene) name)) (offsets_of form) e
     found_long around arms levels Folds n (action id place (calls function arguments)) e s h = refl
     found_long around arms levels Folds n (action id place (repeats test body)) e s h = idle_long (term_accesses test + accesses_of body)
     found_long around arms levels Folds n (action id place (counts iterator declared low high factor body combine combine_place)) e s h = idle_long (accesses_of body + other_accesses combine) ∙ none_and (accesses_of body + other_accesses combine)
@@ -194,6 +204,33 @@ module _ (scene : Scene) (levels : List Level) (table : List MemEntry) (Name : R
   store_assigns entity n (term place k (plain.applied o l r)) t rest = refl
   store_assigns entity n (term place k (plain.converted inner to)) t rest = refl
 
+  -- one of those in which offsets are kept
+  kept_own : (depth first : ℕ) (ts : List Term) (entity : ℕ) → CanKeepFrom scene levels table Name depth first ts → first ≤ entity → entity < first + length ts → IsOwnOf scene levels entity
+  kept_own depth first [] entity s low high = absurd (omega (arith, low, high))
+  kept_own depth first (t ∷ ts) entity s low high =
+      elim (cases_lt first entity) [
+        | inl more ↦ kept_own depth (suc first) ts entity s.1 more (omega (arith, high))
+        | inr less ↦ subst (λ (n : ℕ). IsOwnOf scene levels n) (same first entity low less) s.0.0
+      ]
+    where
+      same : (a b : ℕ) → a ≤ b → b ≤ a → a ≡ b
+      same a b l m = omega (arith, l, m)
+
+  kept_assigned : (Folds : ℕ → Type 0) (entity n : ℕ) (hs : List Hidden) (ts : List Term) (rest : CoreCommands) → CanKeep scene levels table Name hs ts
+      → any_assigns entity (kept_by hs (core_terms (known_in scene) n (terms ts)) rest) ≡ true → MayAssign Folds entity ⊎ (any_assigns entity rest ≡ true)
+  kept_assigned Folds entity n hs [] rest s h = inr h
+  kept_assigned Folds entity n [] (t ∷ ts) rest s h = absurd s
+  kept_assigned Folds entity n (k ∷ hs) (t ∷ ts) rest s h = by (either_of (assigns_to entity (keep k.depth k.entity (core_terms (known_in scene) n (terms (t ∷ ts))))) (any_assigns entity rest) h)
+    where
+      within : (e f c : ℕ) → (nat_le f e && nat_lt e (f + c)) ≡ true → (f ≤ e) × (e < f + c)
+      within e f c g = (grind (arith, nat_tests, g), grind (arith, nat_tests, g))
+
+      by : (assigns_to entity (keep k.depth k.entity (core_terms (known_in scene) n (terms (t ∷ ts)))) ≡ true) ⊎ (any_assigns entity rest ≡ true) → MayAssign Folds entity ⊎ (any_assigns entity rest ≡ true)
+      by (inl e) =
+          let w = within entity k.entity (length (t ∷ ts)) (subst (λ (c : ℕ). (nat_le k.entity entity && nat_lt entity (k.entity + c)) ≡ true) (offsets_long (known_in scene) n (t ∷ ts)) e) in
+          inl (inl (kept_own k.depth k.entity (t ∷ ts) entity s.1 w.0 w.1))
+      by (inr e) = inr e
+
   no_more : (entity : ℕ) → MayAssign (λ i. ⊥) entity ⊎ (any_assigns entity no_commands ≡ true) → IsOwnOf scene levels entity
   no_more entity (inl (inl own)) = own
   no_more entity (inl (inr none)) = absurd none
@@ -222,7 +259,7 @@ module _ (scene : Scene) (levels : List Level) (table : List MemEntry) (Name : R
         ]
     may_assign Folds entity n (action id place (blocks body)) rest s h = groups_own Folds entity n body rest s h
     may_assign Folds entity n (action id place (lets_memory name shape shape_places value)) rest s h = inr h
-    may_assign Folds entity n (action id place (views name parent form)) rest s h = inr (sym (ap (λ cs. any_assigns entity cs) (view_rest scene n name parent form rest)) ∙ h)
+    may_assign Folds entity n (action id place (views name parent form)) rest s h = kept_assigned Folds entity n (hidden_in (way_of (known_in scene) name)) (offsets_of form) rest s h
     may_assign Folds entity n (action id place (calls function arguments)) rest s h = inr h
     may_assign Folds entity n (action id place (repeats test body)) rest s h = inr h
     may_assign Folds entity n (action id place (counts iterator declared low high factor body combine combine_place)) rest s h = inr h
@@ -278,6 +315,18 @@ module _ (v0 : Variables) (touched : ℕ → Bool) where
           clash : (b : Bool) → b ≡ true → b ≡ false → ⊥
           clash b e f = cc
 
+  pub near_kept : (scene : Scene) (x : Step) (h : Hidden) (n : ℕ) (ts : List Term)
+      → ((entity : ℕ) → assigns_to entity (keep h.depth h.entity (core_terms (known_in scene) n (terms ts))) ≡ true → touched entity ≡ true) → (p : Path) (e : Effect) → IsNear e → IsNear (kept_run scene x h n ts p e)
+  near_kept scene x h n ts touches p e near i q left = others_kept (begun_of x) h.depth h.entity (core_terms (known_in scene) n (terms ts)) i q (none (cases_Bool (assigns_to i (keep h.depth h.entity (core_terms (known_in scene) n (terms ts)))))) p e ∙ near i q left
+    where
+      none : (assigns_to i (keep h.depth h.entity (core_terms (known_in scene) n (terms ts))) ≡ true) ⊎ (assigns_to i (keep h.depth h.entity (core_terms (known_in scene) n (terms ts))) ≡ false)
+          → assigns_to i (keep h.depth h.entity (core_terms (known_in scene) n (terms ts))) ≡ false
+      none (inr e) = e
+      none (inl e) = absurd (clash (touched i) (touches i e) left)
+        where
+          clash : (b : Bool) → b ≡ true → b ≡ false → ⊥
+          clash b e f = cc
+
   pub near_store : (scene : Scene) (x : Step) (n : ℕ) (target t : Term) (p : Path) (e : Effect) → IsNear e → IsNear (store_run scene x n target t p e)
   near_store scene x n (term place k (plain.accessed r ts)) t p e h = h
   near_store scene x n (term place k (plain.in_bank r bank at row)) t p e h = h
@@ -298,7 +347,7 @@ module _ (v0 : Variables) (touched : ℕ → Bool) where
           clash b e f = cc
 
 module _ (scene : Scene) (x : Step) (find : ℕ → Option Found) (before : Accesses) (v0 : Variables) (touched : ℕ → Bool) (within_all : AreWithin find before)
-    (table_is : x.start.table ≡ table_of (program_seen scene.program.now)) where
+    (start : IsStartOf scene x) where
   abbrev reads : Reads
   reads = chosen_reads x find before
 
@@ -365,13 +414,13 @@ module _ (scene : Scene) (x : Step) (find : ℕ → Option Found) (before : Acce
 
     value_followed : (i : ℕ) → i < paths_counted around → (n : ℕ) (t : Term) → IsSound (known_in scene) x.start.table (Named around.levels.now) t → AreReadAt scene x find n (term_found scene around x V n t)
         → IsFollowed scene around x reads (V i) i n t
-    value_followed i h n t s f = followed scene around x find before V v0 touched stage.ground within_all near_all i h n t s f
+    value_followed i h n t s f = followed scene around x find before V v0 touched stage.ground within_all start.ways near_all i h n t s f
 
     indices_followed : (i : ℕ) → i < paths_counted around → (n : ℕ) (ts : Terms) → AreSound (known_in scene) x.start.table (Named around.levels.now) ts → AreReadAt scene x find n (terms_found scene around x V n ts)
         → FollowsIndices scene around i x reads (V i) n ts
     indices_followed i h n ts s f = record {
-      fair = λ current sh. fair_all scene around x find before V v0 touched stage.ground within_all near_all i h current sh n ts s f;
-      sees = λ on current sh. sees_all scene around x find before V v0 touched stage.ground within_all near_all i i h h on current sh n ts s f (λ l small same. refl);
+      fair = λ current sh. fair_all scene around x find before V v0 touched stage.ground within_all start.ways near_all i h current sh n ts s f;
+      sees = λ on current sh. sees_all scene around x find before V v0 touched stage.ground within_all start.ways near_all i i h h on current sh n ts s f (λ l small same. refl);
     }
 
     write_sited : (i m : ℕ) → i < paths_counted around → (place : Place) (memory : ℕ) (form : plain.TermForm) → find m ≡ Some (write_found scene around x V place memory form)
@@ -386,7 +435,10 @@ module _ (scene : Scene) (x : Step) (find : ℕ → Option Found) (before : Acce
     target_followed : (i : ℕ) → i < paths_counted around → (n : ℕ) (target : Term) → IsSoundTarget (known_in scene) x.start.table (Named around.levels.now) target → AreFoundAt find n (target_found scene around x V n target)
         → TargetShares scene x find around V n target → FollowsTarget scene around i x reads (V i) n target
     target_followed i h n (term place k (plain.accessed r ts)) s f sh = (
-      indices_followed i h n ts s.0 (read_all n (terms_found scene around x V n ts) (found_first (IsFoundAt find) n (terms_found scene around x V n ts) _ f) sh),
+      record {
+        indices = indices_followed i h n ts s.0.0 (read_all n (terms_found scene around x V n ts) (found_first (IsFoundAt find) n (terms_found scene around x V n ts) _ f) sh);
+        way = λ on current shown. way_seen scene around x find before V v0 touched stage.ground within_all start.ways near_all i i h h on current shown r s.0.1 (λ l small same. refl);
+      },
       (
         write_sited i (n + terms_accesses ts) h place (memory_of (known_in scene) r) (plain.accessed r ts)
             (found_here (IsFoundAt find) n (n + terms_accesses ts) (terms_found scene around x V n ts) _ (ap (λ m. n + m) (sym (terms_long scene around x V n ts))) f),
@@ -410,7 +462,7 @@ module _ (scene : Scene) (x : Step) (find : ℕ → Option Found) (before : Acce
     same : (i n memory : ℕ) (t : Term) → IsSound (known_in scene) x.start.table (Named around.levels.now) t → CanHold (entry_kind (slice_get x.start.table memory)) t
         → KeptWord scene around (Some memory) t (value_at scene around x (V i) i n t) x.start.table
     same i n memory t s can =
-        ap (λ (es : List MemEntry). (held_shown t (entry_kind (slice_get es memory)) (value_at scene around x (V i) i n t)).bits) (sym table_is)
+        ap (λ (es : List MemEntry). (held_shown t (entry_kind (slice_get es memory)) (value_at scene around x (V i) i n t)).bits) (sym start.table)
         ∙ ap (λ (w : Word). w.bits) (held_is (begun_of x) (V i) (path_in around i) (known_in scene) (Named around.levels.now) n t s (entry_kind (slice_get x.start.table memory)) can)
 
     kept : (i n : ℕ) (target t : Term) → IsSound (known_in scene) x.start.table (Named around.levels.now) t → CanHold (kind_aimed (known_in scene) x.start.table target) t
@@ -464,6 +516,39 @@ module _ (scene : Scene) (x : Step) (find : ℕ → Option Found) (before : Acce
       V : ℕ → Variables
       V = variables_along scene x around (assign_run scene x r (reduced_term scene r o n t)) e
 
+  -- a view, of which each variable that keeps an offset is another one at each path
+  kept_bound : (ls : List Level) (depth first : ℕ) (ts : List Term) → CanKeepFrom scene ls x.start.table (Named ls) depth first ts → AreBoundAt scene depth first (length ts)
+  kept_bound ls depth first [] s = tt
+  kept_bound ls depth first (t ∷ ts) s = (s.0.1.0, kept_bound ls depth (suc first) ts s.1)
+
+  kept_targets : (around : Around) → IsGround scene around → ArePlaced scene around → (depth first : ℕ) (ts : List Term) → CanKeepFrom scene around.levels.now x.start.table (Named around.levels.now) depth first ts
+      → AreTargets scene around first (length ts)
+  kept_targets around ground placed depth first [] s = tt
+  kept_targets around ground placed depth first (t ∷ ts) s = (own_target scene around ground placed first s.0.0, kept_targets around ground placed depth (suc first) ts s.1)
+
+  kept_held : (ls : List Level) (v : Variables) (path : Path) (depth first n : ℕ) (ts : List Term) → AreSound (known_in scene) x.start.table (Named ls) (terms ts)
+      → CanKeepFrom scene ls x.start.table (Named ls) depth first ts → HeldFrom scene first ts (words_of (begun_of x) v path (core_terms (known_in scene) n (terms ts)))
+  kept_held ls v path depth first n [] s c = tt
+  kept_held ls v path depth first n (t ∷ ts) s c =
+      (held_is (begun_of x) v path (known_in scene) (Named ls) n t s.0 (held_at scene.held.now first).kind c.0.1.1, kept_held ls v path depth (suc first) (n + term_accesses t) ts s.1 c.1)
+
+  view_followed : (around : Around) (Folds : ℕ → Type 0) (n : ℕ) (hs : List Hidden) (ts : List Term) (e : Effect) → Stage around Folds → CanKeep scene around.levels.now x.start.table (Named around.levels.now) hs ts
+      → Touches (kept_by hs (core_terms (known_in scene) n (terms ts)) no_commands) → Near e → AreFoundAt find n (view_found scene x around n hs ts e) → SharesInView scene x find around n hs ts e
+      → FollowsView scene x reads around n hs ts e
+  view_followed around Folds n [] ts e stage s touches near f sh = tt
+  view_followed around Folds n (k ∷ hs) [] e stage s touches near f sh = λ i h. record {
+    targets = tt;
+    bound = tt;
+    values = record { fair = λ current shown. tt; sees = λ on current shown. tt };
+    held = λ on. tt;
+  }
+  view_followed around Folds n (k ∷ hs) (t ∷ ts) e stage s touches near f sh = λ i h. record {
+    targets = kept_targets around stage.ground stage.placed k.depth k.entity (t ∷ ts) s.1;
+    bound = kept_bound around.levels.now k.depth k.entity (t ∷ ts) s.1;
+    values = indices_followed around Folds stage (kept_run scene x k n (t ∷ ts)) e (near_kept v0 touched scene x k n (t ∷ ts) (λ j g. touches j (or_left _ _ g))) near i h n (terms (t ∷ ts)) s.0 (λ j g is. (f j g is, sh j g is));
+    held = λ on. kept_held around.levels.now (variables_along scene x around (kept_run scene x k n (t ∷ ts)) e i) (path_in around i) k.depth k.entity n (t ∷ ts) s.0 s.1;
+  }
+
   pub tested_followed : (around : Around) (Folds : ℕ → Type 0) (n : ℕ) (t : Term) (e : Effect) → Stage around Folds → IsSound (known_in scene) x.start.table (Named around.levels.now) t
       → Near e → AreReadAt scene x find n (term_found scene around x (variables_along scene x around (test_run scene x n t) e) n t)
       → Along around x reads (IsFollowedBy scene around n t) (test_run scene x n t) e (paths_counted around)
@@ -479,6 +564,42 @@ module _ (scene : Scene) (x : Step) (find : ℕ → Option Found) (before : Acce
       no_more scene around.levels.now x.start.table (Named around.levels.now) entity (may_assign scene around.levels.now x.start.table (Named around.levels.now) (λ i. ⊥) entity 0 chosen no_commands s h)
   arms_own around chosen other s o entity (inr h) =
       no_more scene around.levels.now x.start.table (Named around.levels.now) entity (other_own scene around.levels.now x.start.table (Named around.levels.now) (λ i. ⊥) entity 0 other o h)
+
+  -- and views in arms keep their offsets where they stand
+  kept_deep : (ls : List Level) (hs : List Hidden) (ts : List Term) → CanKeep scene ls x.start.table (Named ls) hs ts → KeptDeep scene hs (length ts)
+  kept_deep ls [] ts s = tt
+  kept_deep ls (h ∷ hs) [] s = tt
+  kept_deep ls (h ∷ hs) (t ∷ ts) s = kept_bound ls h.depth h.entity (t ∷ ts) s.1
+
+  mutual
+    keeps_deep : (ls : List Level) (Folds : ℕ → Type 0) (a : Action) → SoundAt ls Folds a → KeepsDeep scene a
+    keeps_deep ls Folds (action id place (lets r declared value)) s = tt
+    keeps_deep ls Folds (action id place (assigns r t)) s = tt
+    keeps_deep ls Folds (action id place (stores target t)) s = tt
+    keeps_deep ls Folds (action id place (reduces r o t)) s = tt
+    keeps_deep ls Folds (action id place (decides t chosen other)) s = (keeps_deep ls (λ i. ⊥) chosen s.1.0, other_deep ls (λ i. ⊥) other s.1.1)
+    keeps_deep ls Folds (action id place (blocks body)) s = groups_deep ls Folds body s
+    keeps_deep ls Folds (action id place (lets_memory name shape shape_places value)) s = tt
+    keeps_deep ls Folds (action id place (views name parent form)) s = kept_deep ls (hidden_in (way_of (known_in scene) name)) (offsets_of form) s
+    keeps_deep ls Folds (action id place (calls function arguments)) s = tt
+    keeps_deep ls Folds (action id place (repeats test body)) s = tt
+    keeps_deep ls Folds (action id place (counts iterator declared low high factor body combine combine_place)) s = tt
+
+    other_deep : (ls : List Level) (Folds : ℕ → Type 0) (a : MaybeAction) → SoundOther scene ls x.start.table (Named ls) Folds a → KeepsDeepOther scene a
+    other_deep ls Folds no_action s = tt
+    other_deep ls Folds (one_action a) s = keeps_deep ls Folds a s
+
+    groups_deep : (ls : List Level) (Folds : ℕ → Type 0) (gs : Groups) → SoundGroups scene ls x.start.table (Named ls) Folds gs → KeepsDeepGroups scene gs
+    groups_deep ls Folds no_groups s = tt
+    groups_deep ls Folds (group_then part rest) s = (part_deep ls Folds part s.0, groups_deep ls Folds rest s.1)
+
+    part_deep : (ls : List Level) (Folds : ℕ → Type 0) (q : Actions) → SoundPart scene ls x.start.table (Named ls) Folds q → KeepsDeepPart scene q
+    part_deep ls Folds no_actions s = tt
+    part_deep ls Folds (action_then a rest) s = (keeps_deep ls Folds a s.0, part_deep ls Folds rest s.1)
+
+  arms_deep : (around : Around) (chosen : Action) (other : MaybeAction) → SoundAt around.levels.now (λ i. ⊥) chosen → SoundOther scene around.levels.now x.start.table (Named around.levels.now) (λ i. ⊥) other
+      → ((entity : ℕ) → Sets scene chosen entity ⊎ SetsOther scene other entity → IsOwn scene around entity) → AreOwn scene around chosen other
+  arms_deep around chosen other s o own = record { own = own; chosen_deep = keeps_deep around.levels.now (λ i. ⊥) chosen s; other_deep = other_deep around.levels.now (λ i. ⊥) other o }
 
   -- All forms.
   mutual
@@ -509,7 +630,7 @@ module _ (scene : Scene) (x : Step) (find : ℕ → Option Found) (before : Acce
         λ i g. touches i (or_left _ _ (or_right (any_assigns i (core_action (known_in scene) (n + term_accesses t) chosen no_commands)) _ g)) in (
           tested_followed around Folds n t e stage s.0 near (λ i g is. (own i g is, sh.0 i g is)),
           (
-            (λ entity sets. is_own scene around stage.ground stage.placed entity (arms_own around chosen other s.1.0 s.1.1 entity sets)),
+            arms_deep around chosen other s.1.0 s.1.1 (λ entity sets. is_own scene around stage.ground stage.placed entity (arms_own around chosen other s.1.0 s.1.1 entity sets)),
             (
               (λ arm. follows one inside (λ i. ⊥) (n + term_accesses t) chosen (tested scene x around n t e) (arm_stage around one true (test_out scene x n t e) Folds arm stage)
                   (subst (λ (ls : List Level). SoundAt ls (λ i. ⊥) chosen) (sym arm.levels) s.1.0) h.0 touches_one near_tested first_found (sh.1.0 arm)),
@@ -522,7 +643,7 @@ module _ (scene : Scene) (x : Step) (find : ℕ → Option Found) (before : Acce
         )
     follows around arms Folds n (action id place (blocks body)) e stage s h touches near f sh = groups_follow around arms Folds n body e stage s h touches near f sh
     follows around arms Folds n (action id place (lets_memory name shape shape_places value)) e stage s h touches near f sh = tt
-    follows around arms Folds n (action id place (views name parent form)) e stage s h touches near f sh = tt
+    follows around arms Folds n (action id place (views name parent form)) e stage s h touches near f sh = view_followed around Folds n (hidden_in (way_of (known_in scene) name)) (offsets_of form) e stage s touches near f sh
     follows around arms Folds n (action id place (calls function arguments)) e stage s h touches near f sh = tt
     follows around arms Folds n (action id place (repeats test body)) e stage s h touches near f sh = tt
     follows around arms Folds n (action id place (counts iterator declared low high factor body combine combine_place)) e stage s h touches near f sh = tt

@@ -2,35 +2,38 @@
 use Rattle.std.proofs.Common.{◌≡◌, ◌⊎◌, inl, inr, ℕ, zero, suc, ◌+◌, ◌<◌, ◌≤◌, ◌==◌, ◌&&◌, ◌||◌, nat_eq, Bool, true, false, if◌then◌else◌, List, [], ◌∷◌, ◌++◌, length, take, Option, Some, None, refl, sym, ◌∙◌, ap, subst, arith}
 use Rattle.std.specs.Prelude.{slice_get}
 use Rattle.std.specs.List.{list_any}
-use Rattle.std.proofs.lemmas.Bool.{eqb-true}
 use Rattle.std.proofs.lemmas.Bool.Decides.{nat_tests}
-use Rattle.std.proofs.lemmas.Cmp.{nat_eq_equiv}
 use Rattle.std.proofs.lemmas.List.{append_assoc, append-nil, length-take, take_all}
 use Rattle.dh_value.specs.declared.kinds.Kind.{Kind}
 use Rattle.dh_tree.specs.declared.tables.MemEntry.{MemEntry}
 use Rattle.dh_tree.specs.declared.trees.expressions.Ref.{Ref}
 use Rattle.dh_tree.specs.Numbers.{commands_in, commands_in_other, commands_in_part, IsNumbered, IsNumberedOther, AreNumbered, AreNumberedGroups}
 use Rattle.dh_tree.specs.PlainTrees as plain
-use Rattle.dh_tree.specs.PlainTrees.{Program, Term, term, Action, action, ActionForm, lets, lets_memory, views, assigns, stores, reduces, calls, blocks, decides, repeats, counts, MaybeAction, no_action, one_action, Actions, no_actions, action_then, Groups, no_groups, group_then}
+use Rattle.dh_tree.specs.PlainTrees.{Program, Term, term, Action, action, lets, lets_memory, views, assigns, stores, reduces, calls, blocks, decides, repeats, counts, MaybeAction, no_action, one_action, Actions, no_actions, action_then, Groups, no_groups, group_then}
 use Rattle.dh_tree.specs.Seen.{program_seen, terms}
+use Rattle.dh_tree.specs.ViewOffsets.{offsets_of}
 use Rattle.dh_meaning.specs.AccessNumbers.{accesses_of, groups_accesses, other_accesses, part_accesses, term_accesses, terms_accesses}
-use Rattle.dh_meaning.specs.Core.{CoreTerm, CoreCommands, no_commands, command_and}
-use Rattle.dh_meaning.specs.CoreOf.{Known, core_action, core_groups, core_other, core_part, core_term, core_terms, entity_number, kept_by, store_to, way_of}
+use Rattle.dh_meaning.specs.Core.{CoreTerm, no_commands}
+use Rattle.dh_meaning.specs.CoreOf.{Known, core_action, core_groups, core_other, core_part, core_term, core_terms, entity_number, kept_by, way_of}
 use Rattle.dh_value.specs.Words as words
-use Rattle.dh_meaning.specs.Effects.{Begun, Effect, Variables, commands_run, value_of}
+use Rattle.dh_meaning.specs.Effects.{Begun, Effect, Variables, commands_run, value_of, values_of}
 use Rattle.dh_meaning.specs.Levels.{any_assigns}
 use Rattle.dh_meaning.specs.OnePhase.{form_makes, groups_make, in_one_phase, is_within, makes, other_makes, part_makes}
 use Rattle.dh_meaning.specs.Paths.{Path, copies_in, same_path}
-use Rattle.dh_meaning.specs.Ways.{hidden_in}
+use Rattle.dh_meaning.specs.Ways.{Hidden, behind_all, hidden_in, part_standings, standings}
 use Rattle.dh_meaning.specs.Sites as sites
 use Rattle.dh_meaning.specs.Sites.{Arm, in_arm}
 use Rattle.dh_meets.specs.Sharing.{all_arms_of, same_arm, same_truth, shared}
 use Rattle.dh_meets.specs.SourceEvents.{Element, with_indices, in_row, SourceEvent, accesses, assigned, command_events, events, groups_events, one_access, other_events, part_events, site_of, term_events, terms_events, write_events}
-use Rattle.dh_sound.specs.SimpleForms.{GroupsSimple, IsSimple, OtherSimple, PartSimple}
-use Rattle.dh_sound.specs.Straight.{AreNamedActions, AreNamedGroups, IsNamedAction, IsNamedOther, IsNamedTerm, IsTarget as NamesTarget, Stands as StandsFor}
+use Rattle.dh_sound.specs.BehindViews.{ActionBehind, FormBehind, GroupsBehind, IsOwn, OtherBehind, PartBehind, TermBehind, TermsBehind}
+use Rattle.dh_sound.specs.SimpleForms.{FoldsInJoins, GroupsFoldInJoins, OtherFoldsInJoins, PartFoldsInJoins}
+use Rattle.dh_sound.specs.Straight.{AreNamedActions, AreNamedGroups, AreNamedTerms, IsNamedAction, IsNamedOther, IsNamedTerm, IsTarget as NamesTarget}
 use Rattle.dh_sound.specs.Trails.{AllBelow, Below, EachAccess, count}
+use Rattle.dh_sound.specs.ViewTrails.{IsBehind}
+use Rattle.dh_sound.proofs.EventsBehind.{behind_action, behind_more, behind_part, behind_test, behind_then, terms_seen}
 use Rattle.dh_sound.proofs.KnownReads.{HasNoArm, NoneInArm}
 use Rattle.dh_sound.proofs.Makes.{Within, action_counted, form_counted, groups_within, is_within_so, makes_within, other_within, part_counted, part_within, two_within, within_is}
+use Rattle.dh_sound.proofs.ValuesBelow.{AgreeBelow, kept_above}
 use Rattle.dh_sound.proofs.Sites.{StandsWithin, action_stands, each_both, other_stands, part_stands, term_stands}
 use Rattle.dh_sound.proofs.TermWalks.{term_counted}
 use Rattle.dh_sound.proofs.Trails.{all_up, below_up, stands_below}
@@ -44,142 +47,20 @@ use Rattle.dh_expressions.specs.Evaluated.{begun_of, known_in}
 use Rattle.dh_expressions.specs.Levels.{path_at}
 use Rattle.dh_commands.specs.LanesRun.{IsArm, comes_out, is_on_at, lanes_run, path_in, paths_counted, paths_on, run_if}
 use Rattle.dh_commands.specs.ShownVariables.{depth_in, factors_of}
-use Rattle.dh_commands.specs.Followed.{Arms, arms_of, arms_then, no_arms, FitGroups, FitOther, FitPart, FitArms, assign_run, effect_of, groups_effect, other_effect, part_effect, store_run, term_in, test_out, test_run, tested}
-use Rattle.dh_blocks.specs.FoundAccesses.{Found, found, form_of_found, groups_found, other_found, part_found, target_found, term_found, terms_found, variables_along}
-use Rattle.dh_blocks.specs.BlockGround.{AreFoundAt, IsFoundAt, SharesIn, SharesInForm, SharesInGroups, SharesInOther, SharesInPart, TargetShares, TermShares}
-use Rattle.dh_blocks.specs.SoundCommands.{IsOwnOf, SoundAction, SoundGroups, SoundOther, SoundPart}
+use Rattle.dh_commands.specs.Followed.{Arms, arms_of, arms_then, no_arms, FitGroups, FitOther, FitPart, FitArms, assign_run, effect_of, groups_effect, kept_run, other_effect, part_effect, store_run, term_in, test_out, test_run, tested}
+use Rattle.dh_blocks.specs.FoundAccesses.{Found, found, form_of_found, groups_found, other_found, part_found, target_found, term_found, terms_found, variables_along, view_found}
+use Rattle.dh_blocks.specs.BlockGround.{AreFoundAt, IsFoundAt, SharesIn, SharesInForm, SharesInGroups, SharesInOther, SharesInPart, SharesInView, TargetShares, TermShares}
+use Rattle.dh_blocks.specs.BlockTraced.{TellsWays}
+use Rattle.dh_blocks.specs.SoundCommands.{CanKeep, IsOwnOf, SoundAction, SoundGroups, SoundOther, SoundPart}
 use Rattle.dh_blocks.specs.PathsOfLevels.{AreSpread}
 use Rattle.dh_blocks.proofs.CommandsFollow.{found_long, part_long}
 use Rattle.dh_blocks.proofs.CommandsJoined.{action_then_run, joined_run, part_joined}
-use Rattle.dh_blocks.proofs.ElementsAlike.{HasAssigned, IsFree}
+use Rattle.dh_blocks.proofs.ElementsAlike.{IsFree}
 use Rattle.dh_blocks.proofs.PathNumbers.{number_is, numbered}
-use Rattle.dh_blocks.proofs.ReadsKnown.{IsPassed, Knows, idle_passed, knows_access, knows_arm, knows_over, knows_seen, passed_both}
+use Rattle.dh_blocks.proofs.ReadsKnown.{IsPassed, Knows, idle_passed, knows_access, knows_arm, knows_kept, knows_over, knows_past, knows_seen, passed_both}
 use Rattle.dh_blocks.proofs.SharesFound.{IsCut, IsHere, first_cut, then_cut, walk_term, walk_terms}
 use Rattle.dh_blocks.proofs.TermsFollow.{found_first, found_then, term_long}
-
-or_false : (a b : Bool) → a ≡ false → b ≡ false → (a || b) ≡ false
-or_false true b e f = cc
-or_false false b e f = f
-
-either_of : (a b : Bool) → (a || b) ≡ true → (a ≡ true) ⊎ (b ≡ true)
-either_of true b h = inl refl
-either_of false b h = inr h
-
-not_true : (b : Bool) → (b ≡ true → ⊥) → b ≡ false
-not_true true h = absurd (h refl)
-not_true false h = refl
-
--- What events assign.
-
-has_left : (o : Option ℕ) (es fs : List SourceEvent) → HasAssigned o es → HasAssigned o (es ++ fs)
-has_left o [] fs h = absurd h
-has_left o (accesses a ∷ es) fs h = has_left o es fs h
-has_left o (assigned q ∷ es) fs (inl e) = inl e
-has_left o (assigned q ∷ es) fs (inr h) = inr (has_left o es fs h)
-
-has_right : (o : Option ℕ) (es fs : List SourceEvent) → HasAssigned o fs → HasAssigned o (es ++ fs)
-has_right o [] fs h = h
-has_right o (accesses a ∷ es) fs h = has_right o es fs h
-has_right o (assigned q ∷ es) fs h = inr (has_right o es fs h)
-
-free_first : (m : ℕ) (es fs : List SourceEvent) → IsFree m (es ++ fs) → IsFree m es
-free_first m es fs h o in_es = h o (has_left o es fs in_es)
-
-free_then : (m : ℕ) (es fs : List SourceEvent) → IsFree m (es ++ fs) → IsFree m fs
-free_then m es fs h o in_fs = h o (has_right o es fs in_fs)
-
-not_free : (m : ℕ) (es : List SourceEvent) → IsFree m es → HasAssigned (Some m) es → ⊥
-not_free m es free h = clash (nat_eq m m) (nat_eq_equiv.refl m) (free (Some m) h)
-  where
-    clash : (b : Bool) → b ≡ true → b ≡ false → ⊥
-    clash b e f = cc
-
-named_is : (r : Ref) (m : ℕ) → StandsFor r → (m == entity_number r.entity) ≡ true → r.entity ≡ Some m
-named_is r m (e, is) h = is ∙ ap Some (sym (eqb-true m (entity_number r.entity) h ∙ ap entity_number is))
-
-module _ (known : Known) (m : ℕ) where
-  store_assigns : (n : ℕ) (target : Term) (t : CoreTerm) (rest : CoreCommands) → any_assigns m (command_and (store_to known n target t) rest) ≡ any_assigns m rest
-  store_assigns n (term place k (plain.accessed r ts)) t rest = refl
-  store_assigns n (term place k (plain.in_bank r bank at row)) t rest = refl
-  store_assigns n (term place k (plain.number negative z)) t rest = refl
-  store_assigns n (term place k (plain.truth_value b)) t rest = refl
-  store_assigns n (term place k (plain.named r)) t rest = refl
-  store_assigns n (term place k (plain.applied o l r)) t rest = refl
-  store_assigns n (term place k (plain.converted inner to)) t rest = refl
-
-  none_more : (es : List SourceEvent) → HasAssigned (Some m) es ⊎ (any_assigns m no_commands ≡ true) → HasAssigned (Some m) es
-  none_more es (inl h) = h
-  none_more es (inr e) = absurd (cc)
-
-  one_assigned : (r : Ref) (front : List SourceEvent) (rest : Bool) → StandsFor r → ((m == entity_number r.entity) || rest) ≡ true → HasAssigned (Some m) (front ++ assigned r.entity ∷ []) ⊎ (rest ≡ true)
-  one_assigned r front rest stands h = by (either_of (m == entity_number r.entity) rest h)
-    where
-      by : ((m == entity_number r.entity) ≡ true) ⊎ (rest ≡ true) → HasAssigned (Some m) (front ++ assigned r.entity ∷ []) ⊎ (rest ≡ true)
-      by (inl e) = inl (has_right (Some m) front (assigned r.entity ∷ []) (inl (named_is r m stands e)))
-      by (inr e) = inr e
-
-  mutual
-    pub events_assign : (r : sites.Around) (n : ℕ) (a : Action) (rest : CoreCommands) → IsNamedAction a → any_assigns m (core_action known n a rest) ≡ true → HasAssigned (Some m) (events r a) ⊎ (any_assigns m rest ≡ true)
-    events_assign r n (action id place (lets q declared None)) rest names h = one_assigned q [] (any_assigns m rest) names.0 h
-    events_assign r n (action id place (lets q declared (Some t))) rest names h = one_assigned q (term_events (site_of r id) t) (any_assigns m rest) names.0 h
-    events_assign r n (action id place (assigns q t)) rest names h = one_assigned q (term_events (site_of r id) t) (any_assigns m rest) names.0 h
-    events_assign r n (action id place (stores target t)) rest names h = inr (sym (store_assigns (n + term_accesses t) target (core_term known n t) rest) ∙ h)
-    events_assign r n (action id place (reduces q o t)) rest names h = one_assigned q (term_events (site_of r id) t) (any_assigns m rest) names.0 h
-    events_assign r n (action id place (decides t chosen other)) rest names h =
-        by (λ g. none_more (events (in_arm r id true) chosen) (events_assign (in_arm r id true) (n + term_accesses t) chosen no_commands names.1.0 g))
-        (λ g. others_assign (in_arm r id false) (n + term_accesses t + accesses_of chosen) other names.1.1 g)
-        (either_of (any_assigns m (core_action known (n + term_accesses t) chosen no_commands) || any_assigns m (core_other known (n + term_accesses t + accesses_of chosen) other)) (any_assigns m rest) h)
-      where
-        by : (any_assigns m (core_action known (n + term_accesses t) chosen no_commands) ≡ true → HasAssigned (Some m) (events (in_arm r id true) chosen))
-            → (any_assigns m (core_other known (n + term_accesses t + accesses_of chosen) other) ≡ true → HasAssigned (Some m) (other_events (in_arm r id false) other))
-            → ((any_assigns m (core_action known (n + term_accesses t) chosen no_commands) || any_assigns m (core_other known (n + term_accesses t + accesses_of chosen) other)) ≡ true) ⊎ (any_assigns m rest ≡ true)
-            → HasAssigned (Some m) (term_events (site_of r id) t ++ (events (in_arm r id true) chosen ++ other_events (in_arm r id false) other)) ⊎ (any_assigns m rest ≡ true)
-        by one two (inr e) = inr e
-        by one two (inl e) =
-            inl (has_right (Some m) (term_events (site_of r id) t) _
-            (elim (either_of (any_assigns m (core_action known (n + term_accesses t) chosen no_commands)) (any_assigns m (core_other known (n + term_accesses t + accesses_of chosen) other)) e) [
-              | inl g ↦ has_left (Some m) (events (in_arm r id true) chosen) (other_events (in_arm r id false) other) (one g)
-              | inr g ↦ has_right (Some m) (events (in_arm r id true) chosen) (other_events (in_arm r id false) other) (two g)
-            ]))
-    events_assign r n (action id place (blocks body)) rest names h = groups_assign r n body rest names h
-    events_assign r n (action id place (lets_memory name shape shape_places value)) rest names h = inr h
-    events_assign r n (action id place (views name parent form)) rest names h =
-        inr (subst (λ (l : List Term). any_assigns m (kept_by (hidden_in (way_of known name)) (core_terms known n (terms l)) rest) ≡ true) names.1 h)
-    events_assign r n (action id place (calls function arguments)) rest names h = inr h
-    events_assign r n (action id place (repeats test body)) rest names h = inr h
-    events_assign r n (action id place (counts iterator declared low high factor body combine combine_place)) rest names h = inr h
-
-    others_assign : (r : sites.Around) (n : ℕ) (a : MaybeAction) → IsNamedOther a → any_assigns m (core_other known n a) ≡ true → HasAssigned (Some m) (other_events r a)
-    others_assign r n no_action names h = absurd (cc)
-    others_assign r n (one_action a) names h = none_more (events r a) (events_assign r n a no_commands names h)
-
-    groups_assign : (r : sites.Around) (n : ℕ) (gs : Groups) (rest : CoreCommands) → AreNamedGroups gs → any_assigns m (core_groups known n gs rest) ≡ true → HasAssigned (Some m) (groups_events r gs) ⊎ (any_assigns m rest ≡ true)
-    groups_assign r n no_groups rest names h = inr h
-    groups_assign r n (group_then part more) rest names h =
-        further (λ g. groups_assign r (n + part_accesses part) more rest names.1 g) (part_assign r n part (core_groups known (n + part_accesses part) more rest) names.0 h)
-      where
-        further : (any_assigns m (core_groups known (n + part_accesses part) more rest) ≡ true → HasAssigned (Some m) (groups_events r more) ⊎ (any_assigns m rest ≡ true))
-            → HasAssigned (Some m) (part_events r part) ⊎ (any_assigns m (core_groups known (n + part_accesses part) more rest) ≡ true)
-            → HasAssigned (Some m) (part_events r part ++ groups_events r more) ⊎ (any_assigns m rest ≡ true)
-        further go (inl h) = inl (has_left (Some m) (part_events r part) (groups_events r more) h)
-        further go (inr e) = elim (go e) [ inl h ↦ inl (has_right (Some m) (part_events r part) (groups_events r more) h) | inr f ↦ inr f ]
-
-    part_assign : (r : sites.Around) (n : ℕ) (q : Actions) (rest : CoreCommands) → AreNamedActions q → any_assigns m (core_part known n q rest) ≡ true → HasAssigned (Some m) (part_events r q) ⊎ (any_assigns m rest ≡ true)
-    part_assign r n no_actions rest names h = inr h
-    part_assign r n (action_then a more) rest names h =
-        further (λ g. part_assign r (n + accesses_of a) more rest names.1 g) (events_assign r n a (core_part known (n + accesses_of a) more rest) names.0 h)
-      where
-        further : (any_assigns m (core_part known (n + accesses_of a) more rest) ≡ true → HasAssigned (Some m) (part_events r more) ⊎ (any_assigns m rest ≡ true))
-            → HasAssigned (Some m) (events r a) ⊎ (any_assigns m (core_part known (n + accesses_of a) more rest) ≡ true)
-            → HasAssigned (Some m) (events r a ++ part_events r more) ⊎ (any_assigns m rest ≡ true)
-        further go (inl h) = inl (has_left (Some m) (events r a) (part_events r more) h)
-        further go (inr e) = elim (go e) [ inl h ↦ inl (has_right (Some m) (events r a) (part_events r more) h) | inr f ↦ inr f ]
-
-  pub free_action : (r : sites.Around) (n : ℕ) (a : Action) → IsNamedAction a → IsFree m (events r a) → any_assigns m (core_action known n a no_commands) ≡ false
-  free_action r n a names free = not_true (any_assigns m (core_action known n a no_commands)) (λ h. not_free m (events r a) free (none_more (events r a) (events_assign r n a no_commands names h)))
-
-  free_other : (r : sites.Around) (n : ℕ) (a : MaybeAction) → IsNamedOther a → IsFree m (other_events r a) → any_assigns m (core_other known n a) ≡ false
-  free_other r n a names free = not_true (any_assigns m (core_other known n a)) (λ h. not_free m (other_events r a) free (others_assign r n a names h))
+use Rattle.dh_blocks.proofs.EventsAssign.{HeadIs, head_here, kept_below, left_action, left_first, left_other, left_then, named_is, not_free, not_true, or_false, store_assigns}
 
 -- Arms.
 
@@ -301,12 +182,27 @@ module _ (scene : Scene) (x : Step) (around : Around) (r : Ref) (t : CoreTerm) w
             ∙ g
         by false g = g
 
+-- a view sets nothing below its first variable
+lanes_below : (scene : Scene) (x : Step) (around : Around) (h : Hidden) (n : ℕ) (ts : List Term) (k : ℕ) (e : Effect) → AgreeBelow h.entity e.variables (lanes_run x around (kept_run scene x h n ts) k e).variables
+lanes_below scene x around h n ts zero e = λ m below q. refl
+lanes_below scene x around h n ts (suc k) e = λ m below q. lanes_below scene x around h n ts k e m below q ∙ by (is_on_at x around k) m below q
+  where
+    f : Effect
+    f = lanes_run x around (kept_run scene x h n ts) k e
+
+    by : (on : Bool) (m : ℕ) → m < h.entity → (q : Path) → f.variables m q ≡ (run_if on (kept_run scene x h n ts) (path_in around k) f).variables m q
+    by true m below q = kept_above f.variables h.entity (take h.depth (path_in around k)) (values_of (begun_of x) f.variables (path_in around k) (core_terms (known_in scene) n (terms ts))) m below q
+    by false m below q = refl
+
 module _ (scene : Scene) (x : Step) (find : ℕ → Option Found) (levels : List Level) (size : ℕ) (in_block : ℕ → Bool)
     (share : (j k : ℕ) → in_one_phase (program_seen scene.program.now) j k ≡ true → in_block k ≡ true → in_block j ≡ true)
     (shares_are : (k j : ℕ) → slice_get scene.shares.now k ≡ Some (Some j) → shared (program_seen scene.program.now) k ≡ Some j)
-    (spread : AreSpread levels) (sized : size ≡ copies_in (factors_of levels)) (table : List MemEntry) (Name : Ref → Kind → Type 0) where
+    (spread : AreSpread levels) (sized : size ≡ copies_in (factors_of levels)) (table : List MemEntry) (Name : Ref → Kind → Type 0) (ways : TellsWays scene) where
   abbrev known : Known
   known = known_in scene
+
+  abbrev program : Program
+  program = program_seen scene.program.now
 
   abbrev Here : Around → Type 0
   Here = IsHere scene x find levels size in_block share shares_are
@@ -376,12 +272,12 @@ module _ (scene : Scene) (x : Step) (find : ℕ → Option Found) (levels : List
       first_of false b e = cc
 
   -- behind an assignment
-  assigned_walk : (around : Around) → Here around → (r : sites.Around) (id : ℕ) (before : List SourceEvent) (n : ℕ) (q : Ref) (t : Term) (e : Effect) (names : StandsFor q) → IsNamedTerm t
+  assigned_walk : (around : Around) → Here around → (r : sites.Around) (id y : ℕ) (before : List SourceEvent) (n : ℕ) (q : Ref) (t : Term) (e : Effect) → IsOwn program q × TermBehind program y t → IsBehind program y before → IsNamedTerm t
       → IsOwnOf scene around.levels.now (entity_number q.entity) → CutAt before (term_events (site_of r id) t ++ assigned q.entity ∷ []) n → Agrees n (term_accesses t + 0) (λ k. is_within k n (term_accesses t))
       → AreFoundAt find n (term_found scene around x (variables_along scene x around (assign_run scene x q (term_in scene x n t)) e) n t) → KnowsAt around r before (λ i. e.variables)
       → (W : Variables) → ((m : ℕ) → (m == entity_number q.entity) ≡ false → (p : Path) → W m p ≡ e.variables m p)
       → TermShares scene x find around (variables_along scene x around (assign_run scene x q (term_in scene x n t)) e) n t × KnowsAt around r (before ++ (term_events (site_of r id) t ++ assigned q.entity ∷ [])) (λ i. W)
-  assigned_walk around here r id before n q t e names named own c agrees f knows W others =
+  assigned_walk around here r id y before n q t e names behind named own c agrees f knows W others =
       let V = variables_along scene x around (assign_run scene x q (term_in scene x n t)) e in
       let seen : KnowsAt around r before V =
       knows_seen scene x find levels size in_block around r before (λ i. e.variables) V
@@ -393,8 +289,8 @@ module _ (scene : Scene) (x : Step) (find : ℕ → Option Found) (levels : List
       (own_inside n (term_accesses t) (term_accesses t + 0) agrees (zero_more (term_accesses t))) f seen in (
         w.0,
         regroup around r (λ i. W) before (term_events (site_of r id) t) (assigned q.entity ∷ [])
-            (knows_over scene x find levels size in_block around r (before ++ term_events (site_of r id) t) (assigned q.entity ∷ []) V (λ i. W) tt
-            (λ i h m free p. lanes_other scene x around q (term_in scene x n t) m (other m free) i e p ∙ sym (others m (other m free) p)) w.1),
+            (knows_over scene x find levels size in_block ways around r (before ++ term_events (site_of r id) t) (assigned q.entity ∷ []) V (λ i. W) y tt (behind_test program y (site_of r id) before t behind names.1)
+            (λ i h m low left p. lanes_other scene x around q (term_in scene x n t) m (other m left) i e p ∙ sym (others m (other m left) p)) w.1),
       )
     where
       same : (i : ℕ) → i ≤ i
@@ -403,8 +299,9 @@ module _ (scene : Scene) (x : Step) (find : ℕ → Option Found) (levels : List
       zero_more : (n : ℕ) → n ≤ n + 0
       zero_more n = omega arith
 
-      other : (m : ℕ) → IsFree m (assigned q.entity ∷ []) → (m == entity_number q.entity) ≡ false
-      other m free = not_true (m == entity_number q.entity) (λ h. not_free m (assigned q.entity ∷ []) free (inl (named_is q m names h)))
+      other : (m : ℕ) → IsFree m (assigned q.entity ∷ []) ⊎ (length program.entities ≤ m) → (m == entity_number q.entity) ≡ false
+      other m (inl free) = not_true (m == entity_number q.entity) (λ h. not_free m (assigned q.entity ∷ []) free (inl ((named_is program q m names.0 h).0)))
+      other m (inr past) = not_true (m == entity_number q.entity) (λ h. let l = (named_is program q m names.0 h).1 in omega (arith, l, past))
 
   -- what a command does not assign is left by it
   left : (around : Around) (n : ℕ) (a : Action) (e : Effect) (m : ℕ) (p : Path) → any_assigns m (core_action known n a no_commands) ≡ false → (effect_of scene x (paths_on x around) n a e).variables m p ≡ e.variables m p
@@ -452,9 +349,55 @@ module _ (scene : Scene) (x : Step) (find : ℕ → Option Found) (levels : List
   -- a dead part: no access of it is one of the block, and nothing is done
   dead_walk : (around : Around) (r : sites.Around) (before part : List SourceEvent) (n c : ℕ) (V : ℕ → Variables) → CutAt before part n → count part ≡ c → Agrees n c (λ k. false) → KnowsAt around r before V → KnowsAt around r (before ++ part) V
   dead_walk around r before part n c V s counted agrees knows =
-      knows_over scene x find levels size in_block around r before part V V
-      (subst (λ (m : ℕ). Passed r m part) s.number (idle_passed scene x find levels size in_block r n part (λ k l u. agrees k (l, subst (λ (m : ℕ). k < n + m) counted u))))
-      (λ i h m free p. refl) knows
+      knows_past scene x find levels size in_block around r before part V
+      (subst (λ (m : ℕ). Passed r m part) s.number (idle_passed scene x find levels size in_block r n part (λ k l u. agrees k (l, subst (λ (m : ℕ). k < n + m) counted u)))) knows
+
+  -- a view whose offsets are kept behind all that is known
+  kept_walk : (around : Around) → Here around → (r : sites.Around) (id y : ℕ) (before : List SourceEvent) (n : ℕ) (hs : List Hidden) (ts : List Term) (e : Effect) → HeadIs y hs ts
+      → CanKeep scene around.levels.now table Name hs ts → TermsBehind program y (terms ts) → AreNamedTerms (terms ts) → IsBehind program y before → CutAt before (terms_events (site_of r id) (terms ts)) n
+      → ((k : ℕ) → n ≤ k → k < n + terms_accesses (terms ts) → in_block k ≡ true) → AreFoundAt find n (view_found scene x around n hs ts e) → KnowsAt around r before (λ i. e.variables)
+      → SharesInView scene x find around n hs ts e
+      × KnowsAt around r (before ++ terms_events (site_of r id) (terms ts)) (λ i. (commands_run (begun_of x) (paths_on x around) (kept_by hs (core_terms known n (terms ts)) no_commands) e).variables)
+  kept_walk around here r id y before n [] [] e head can deep named behind c within f knows =
+      (tt, subst (λ (l : List SourceEvent). KnowsAt around r l (λ i. e.variables)) (sym (append-nil before)) knows)
+  kept_walk around here r id y before n (h ∷ hs) [] e head can deep named behind c within f knows =
+      ((λ i g is. absurd (cc)), subst (λ (l : List SourceEvent). KnowsAt around r l (λ i. e.variables)) (sym (append-nil before)) knows)
+  kept_walk around here r id y before n [] (t ∷ ts) e head can deep named behind c within f knows = absurd can
+  kept_walk around here r id y before n (h ∷ hs) (t ∷ ts) e head can deep named behind c within f knows = (w.0, after)
+    where
+      all : List Term
+      all = t ∷ ts
+
+      V : ℕ → Variables
+      V = variables_along scene x around (kept_run scene x h n all) e
+
+      W : Variables
+      W = (commands_run (begun_of x) (paths_on x around) (kept_by (h ∷ hs) (core_terms known n (terms all)) no_commands) e).variables
+
+      at_head : IsBehind program h.entity before
+      at_head = subst (λ (m : ℕ). IsBehind program m before) (sym head) behind
+
+      along : (i : ℕ) → AgreeBelow h.entity e.variables (V i)
+      along i = lanes_below scene x around h n all i e
+
+      w : SharesInView scene x find around n (h ∷ hs) all e × KnowsAt around r (before ++ terms_events (site_of r id) (terms all)) V
+      w = walk_terms scene x find levels size in_block share shares_are around here r id V before n (terms all) named c within f
+          (knows_kept scene x find levels size in_block ways around r before (λ i. e.variables) V h.entity at_head (λ i l. along i) knows)
+
+      behind_part : IsBehind program h.entity (before ++ terms_events (site_of r id) (terms all))
+      behind_part = behind_then program h.entity h.entity before (terms_events (site_of r id) (terms all)) (same h.entity) at_head
+          (terms_seen program h.entity (site_of r id) (terms all) (subst (λ (m : ℕ). TermsBehind program m (terms all)) (sym head) deep))
+        where
+          same : (m : ℕ) → m ≤ m
+          same m = omega arith
+
+      ends : AgreeBelow h.entity e.variables W
+      ends m below q = sym (commands_spare (begun_of x) m q (paths_on x around) (kept_by (h ∷ hs) (core_terms known n (terms all)) no_commands) e
+          (kept_below known m h.entity n (h ∷ hs) all no_commands below refl))
+
+      after : KnowsAt around r (before ++ terms_events (site_of r id) (terms all)) (λ i. W)
+      after = knows_kept scene x find levels size in_block ways around r (before ++ terms_events (site_of r id) (terms all)) V (λ i. W) h.entity behind_part
+          (λ i l m below q. sym (along i m below q) ∙ ends m below q) w.1
 
   -- What a walk of a command gives.
   abbrev pub Walked : Around → Arms → sites.Around → (before : List SourceEvent) → (n : ℕ) → Action → Effect → Type 0
@@ -464,32 +407,33 @@ module _ (scene : Scene) (x : Step) (find : ℕ → Option Found) (levels : List
   SoundAt ls Folds a = SoundAction scene ls table Name Folds a
 
   -- an `if`, from what its arms give
-  choice_walk : (around : Around) (one two : Around) (inside behind : Arms) (r : sites.Around) (id : ℕ) (before : List SourceEvent) (n : ℕ) (t : Term) (chosen : Action) (other : MaybeAction) (e : Effect) → Here around
+  choice_walk : (around : Around) (one two : Around) (inside behind : Arms) (r : sites.Around) (id d y : ℕ) (before : List SourceEvent) (n : ℕ) (t : Term) (chosen : Action) (other : MaybeAction) (e : Effect) → Here around
       → IsNumbered (suc id) chosen × IsNumberedOther (suc id + commands_in chosen) other → IsNamedTerm t × (IsNamedAction chosen × IsNamedOther other)
       → Agrees n (term_accesses t + (accesses_of chosen + other_accesses other)) (λ k. form_makes k n (decides t chosen other)) → Stood r id before
-      → CutAt before (command_events r (site_of r id) (decides t chosen other)) n
+      → FormBehind program d y (decides t chosen other) → IsBehind program y before → CutAt before (command_events r (site_of r id) (decides t chosen other)) n
       → AreFoundAt find n (term_found scene around x (variables_along scene x around (test_run scene x n t) e) n t) → KnowsAt around r before (λ i. e.variables)
-      → ((arm : IsArm x around one true (test_out scene x n t e)) → Stood (in_arm r id true) (suc id) (before ++ term_events (site_of r id) t) → CutAt (before ++ term_events (site_of r id) t) (events (in_arm r id true) chosen) (n + term_accesses t)
+      → ((arm : IsArm x around one true (test_out scene x n t e)) → Stood (in_arm r id true) (suc id) (before ++ term_events (site_of r id) t) → IsBehind program y (before ++ term_events (site_of r id) t) → CutAt (before ++ term_events (site_of r id) t) (events (in_arm r id true) chosen) (n + term_accesses t)
       → Agrees (n + term_accesses t) (accesses_of chosen) (λ k. makes k (n + term_accesses t) chosen)
       → KnowsAt one (in_arm r id true) (before ++ term_events (site_of r id) t) (λ i. (tested scene x around n t e).variables)
       → SharesIn scene x find one inside (n + term_accesses t) chosen (tested scene x around n t e))
       → ((arm : IsArm x around one true (test_out scene x n t e)) (second : IsArm x around two false (test_out scene x n t e)) → Stood (in_arm r id false) (suc id + commands_in chosen) ((before ++ term_events (site_of r id) t) ++ events (in_arm r id true) chosen)
+      → IsBehind program (behind_all y (standings d chosen)) ((before ++ term_events (site_of r id) t) ++ events (in_arm r id true) chosen)
       → CutAt ((before ++ term_events (site_of r id) t) ++ events (in_arm r id true) chosen) (other_events (in_arm r id false) other) (n + term_accesses t + accesses_of chosen)
       → Agrees (n + term_accesses t + accesses_of chosen) (other_accesses other) (λ k. other_makes k (n + term_accesses t + accesses_of chosen) other)
       → KnowsAt two (in_arm r id false) ((before ++ term_events (site_of r id) t) ++ events (in_arm r id true) chosen) (λ i. (effect_of scene x (paths_on x one) (n + term_accesses t) chosen (tested scene x around n t e)).variables)
       → SharesInOther scene x find two behind (n + term_accesses t + accesses_of chosen) other (effect_of scene x (paths_on x one) (n + term_accesses t) chosen (tested scene x around n t e)))
       → SharesInForm scene x find around (arms_of one two inside behind) n (decides t chosen other) e
       × KnowsAt around r (before ++ command_events r (site_of r id) (decides t chosen other)) (λ i. (commands_run (begun_of x) (paths_on x around) (core_action known n (action id (record { line = 0; column = 0 }) (decides t chosen other)) no_commands) e).variables)
-  choice_walk around one two inside behind r id before n t chosen other e here numbered names agrees stood c own knows first second = (
+  choice_walk around one two inside behind r id d y before n t chosen other e here numbered names agrees stood names_behind at_views c own knows first second = (
     (
       w.0,
       (
-        (λ arm. first arm (record { below = below_arm id (suc id) r.arms true (next id) stood.below; fresh = all_up id (suc id) (before ++ te) (low id) fresh_te }) cut_chosen chosen_agrees
+        (λ arm. first arm (record { below = below_arm id (suc id) r.arms true (next id) stood.below; fresh = all_up id (suc id) (before ++ te) (low id) fresh_te }) views_te cut_chosen chosen_agrees
             (knows_arm scene x find levels size in_block around one r id true (before ++ te) (λ i. e1.variables) (fresh_arm (begun_of x) known in_block id (before ++ te) fresh_te) (less_on around one true (test_out scene x n t e) arm here) k1)),
-        (λ arm also. second arm also (record { below = below_arm id (suc id + commands_in chosen) r.arms false (far id (commands_in chosen)) stood.below; fresh = fresh_ce }) cut_other other_agrees (over also)),
+        (λ arm also. second arm also (record { below = below_arm id (suc id + commands_in chosen) r.arms false (far id (commands_in chosen)) stood.below; fresh = fresh_ce }) views_ce cut_other other_agrees (over also)),
       ),
     ),
-    subst (λ (l : List SourceEvent). KnowsAt around r l (λ i. W)) (append_assoc before te (ce ++ oe)) behind_all,
+    subst (λ (l : List SourceEvent). KnowsAt around r l (λ i. W)) (append_assoc before te (ce ++ oe)) known_last,
   )
     where
       te : List SourceEvent
@@ -556,6 +500,15 @@ module _ (scene : Scene) (x : Step) (find : ℕ → Option Found) (levels : List
       k1 = knows_seen scene x find levels size in_block around r (before ++ te) (variables_along scene x around (test_run scene x n t) e) (λ i. e1.variables)
           (λ i h entity d. ap (λ (v : Variables). v entity (take d (path_at levels i))) (same_tested i ∙ sym e1_is)) w.1
 
+      views_te : IsBehind program y (before ++ te)
+      views_te = behind_test program y (site_of r id) before t at_views names_behind.0
+
+      views_ce : IsBehind program (behind_all y (standings d chosen)) ((before ++ te) ++ ce)
+      views_ce = behind_action program d y (in_arm r id true) (before ++ te) chosen views_te names_behind.1.0
+
+      more_views : y ≤ behind_all y (standings d chosen)
+      more_views = behind_more y (standings d chosen)
+
       fresh_te : AllBelow id (before ++ te)
       fresh_te = each_both (λ a. Below id a.site.arms) before te stood.fresh (stands_below r id id te stood.below (term_stands r id id id t))
 
@@ -583,41 +536,43 @@ module _ (scene : Scene) (x : Step) (find : ℕ → Option Found) (levels : List
 
       over : (also : IsArm x around two false (test_out scene x n t e)) → KnowsAt two (in_arm r id false) ((before ++ te) ++ ce) (λ i. (effect_of scene x (paths_on x one) n1 chosen e1).variables)
       over also =
-          knows_over scene x find levels size in_block two (in_arm r id false) (before ++ te) ce (λ i. e1.variables) (λ i. (effect_of scene x (paths_on x one) n1 chosen e1).variables)
-          (arm_passed r (in_arm r id false) id (suc id) (suc id + commands_in chosen) true (count (before ++ te)) ce (absent_other id r.arms stood.below) chosen_stands)
-          (λ i h m free p. sym (left one n1 chosen e1 m p (free_action known m (in_arm r id true) n1 chosen names.1.0 free)))
+          knows_over scene x find levels size in_block ways two (in_arm r id false) (before ++ te) ce (λ i. e1.variables) (λ i. (effect_of scene x (paths_on x one) n1 chosen e1).variables) y
+          (arm_passed r (in_arm r id false) id (suc id) (suc id + commands_in chosen) true (count (before ++ te)) ce (absent_other id r.arms stood.below) chosen_stands) views_te
+          (λ i h m low free p. sym (left one n1 chosen e1 m p (left_action program known ways m (in_arm r id true) d y n1 chosen low names_behind.1.0 free)))
           (knows_arm scene x find levels size in_block around two r id false (before ++ te) (λ i. e1.variables) (fresh_arm (begun_of x) known in_block id (before ++ te) fresh_te) (less_on around two false (test_out scene x n t e) also here) k1)
 
-      behind_all : KnowsAt around r ((before ++ te) ++ (ce ++ oe)) (λ i. W)
-      behind_all =
-          knows_over scene x find levels size in_block around r (before ++ te) (ce ++ oe) (λ i. e1.variables) (λ i. W)
+      known_last : KnowsAt around r ((before ++ te) ++ (ce ++ oe)) (λ i. W)
+      known_last =
+          knows_over scene x find levels size in_block ways around r (before ++ te) (ce ++ oe) (λ i. e1.variables) (λ i. W) y
           (passed_both scene x find levels size in_block r (count (before ++ te)) (count (before ++ te) + count ce) ce oe refl
           (arm_passed r r id (suc id) (suc id + commands_in chosen) true (count (before ++ te)) ce (absent id true r.arms stood.below) chosen_stands)
-          (arm_passed r r id (suc id + commands_in chosen) (suc id + commands_in chosen + commands_in_other other) false (count (before ++ te) + count ce) oe (absent id false r.arms stood.below) other_stand))
-          (λ i h m free p.
+          (arm_passed r r id (suc id + commands_in chosen) (suc id + commands_in chosen + commands_in_other other) false (count (before ++ te) + count ce) oe (absent id false r.arms stood.below) other_stand)) views_te
+          (λ i h m low free p.
           ap (λ (v : Variables). v m p) e1_is
           ∙ sym (left around n (action id (record { line = 0; column = 0 }) (decides t chosen other)) e m p
           (or_false _ false
           (or_false (any_assigns m (core_action known n1 chosen no_commands)) (any_assigns m (core_other known n2 other))
-          (free_action known m (in_arm r id true) n1 chosen names.1.0 (free_first m ce oe free)) (free_other known m (in_arm r id false) n2 other names.1.1 (free_then m ce oe free))) refl))) k1
+          (left_action program known ways m (in_arm r id true) d y n1 chosen low names_behind.1.0 (left_first program known ways m ce oe free))
+          (left_other program known ways m (in_arm r id false) d (behind_all y (standings d chosen)) n2 other (let u = more_views in omega (arith, low, u)) names_behind.1.1 (left_then program known ways m ce oe free))) refl))) k1
 
   -- All forms.
   mutual
-    pub walk_action : (around : Around) (arms : Arms) (Folds : ℕ → Type 0) (r : sites.Around) (m : ℕ) (before : List SourceEvent) (n : ℕ) (a : Action) (e : Effect) → Here around → IsNumbered m a → IsNamedAction a → IsSimple a
+    pub walk_action : (around : Around) (arms : Arms) (Folds : ℕ → Type 0) (r : sites.Around) (m d y : ℕ) (before : List SourceEvent) (n : ℕ) (a : Action) (e : Effect) → Here around → IsNumbered m a → IsNamedAction a → FoldsInJoins a
+        → ActionBehind program d y a → IsBehind program y before
         → SoundAt around.levels.now Folds a → FitArms a arms → Agrees n (accesses_of a) (λ k. makes k n a) → Stood r m before → CutAt before (events r a) n → AreFoundAt find n (found scene x around arms n a e)
         → KnowsAt around r before (λ i. e.variables) → Walked around arms r before n a e
-    walk_action around arms Folds r m before n (action id place (lets q declared None)) e here h names simple s shape agrees stood c f knows = (
+    walk_action around arms Folds r m d y before n (action id place (lets q declared None)) e here h names simple nb at s shape agrees stood c f knows = (
       tt,
-      knows_over scene x find levels size in_block around r before (assigned q.entity ∷ []) (λ i. e.variables) (λ i. (effect_of scene x (paths_on x around) n (action id place (lets q declared None)) e).variables) tt
-          (λ i l k free p. sym (left around n (action id place (lets q declared None)) e k p (free_action known k r n (action id place (lets q declared None)) names free))) knows,
+      knows_over scene x find levels size in_block ways around r before (assigned q.entity ∷ []) (λ i. e.variables) (λ i. (effect_of scene x (paths_on x around) n (action id place (lets q declared None)) e).variables) y tt at
+          (λ i l k low free p. sym (left around n (action id place (lets q declared None)) e k p (left_action program known ways k r d y n (action id place (lets q declared None)) low nb free))) knows,
     )
-    walk_action around arms Folds r m before n (action id place (lets q declared (Some t))) e here h names simple s shape agrees stood c f knows =
-        assigned_walk around here r id before n q t e names.0 names.1 s.1.0 c agrees f knows (effect_of scene x (paths_on x around) n (action id place (lets q declared (Some t))) e).variables
+    walk_action around arms Folds r m d y before n (action id place (lets q declared (Some t))) e here h names simple nb at s shape agrees stood c f knows =
+        assigned_walk around here r id y before n q t e nb at names.1 s.1.0 c agrees f knows (effect_of scene x (paths_on x around) n (action id place (lets q declared (Some t))) e).variables
         (λ k other p. left around n (action id place (lets q declared (Some t))) e k p (or_false (k == entity_number q.entity) false other refl))
-    walk_action around arms Folds r m before n (action id place (assigns q t)) e here h names simple s shape agrees stood c f knows =
-        assigned_walk around here r id before n q t e names.0 names.1 s.1.0 c agrees f knows (effect_of scene x (paths_on x around) n (action id place (assigns q t)) e).variables
+    walk_action around arms Folds r m d y before n (action id place (assigns q t)) e here h names simple nb at s shape agrees stood c f knows =
+        assigned_walk around here r id y before n q t e nb at names.1 s.1.0 c agrees f knows (effect_of scene x (paths_on x around) n (action id place (assigns q t)) e).variables
         (λ k other p. left around n (action id place (assigns q t)) e k p (or_false (k == entity_number q.entity) false other refl))
-    walk_action around arms Folds r m before n (action id place (stores target t)) e here h names simple s shape agrees stood c f knows =
+    walk_action around arms Folds r m d y before n (action id place (stores target t)) e here h names simple nb at s shape agrees stood c f knows =
         let V = variables_along scene x around (store_run scene x n target t) e in
         let same : (i : ℕ) → V i ≡ e.variables = λ i. lanes_same x around (store_run scene x n target t) (store_same scene x n target t) i e in
         let w = stored_walk around here r id before n target t e names.0 names.1 c (own_inside n (term_accesses t + term_accesses target) (term_accesses t + term_accesses target + 0) agrees (zero_more (term_accesses t + term_accesses target))) f
@@ -625,32 +580,32 @@ module _ (scene : Scene) (x : Step) (find : ℕ → Option Found) (levels : List
           w.0,
           knows_seen scene x find levels size in_block around r (before ++ (term_events (site_of r id) t ++ write_events (site_of r id) target)) V (λ i. (effect_of scene x (paths_on x around) n (action id place (stores target t)) e).variables)
               (λ i l entity d. ap (λ (v : Variables). v entity (take d (path_at levels i))) (same i)
-              ∙ sym (left around n (action id place (stores target t)) e entity (take d (path_at levels i)) (store_assigns known entity (n + term_accesses t) target (core_term known n t) no_commands))) w.1,
+              ∙ sym (left around n (action id place (stores target t)) e entity (take d (path_at levels i)) (store_assigns program known ways entity (n + term_accesses t) target (core_term known n t) no_commands))) w.1,
         )
       where
         zero_more : (n : ℕ) → n ≤ n + 0
         zero_more n = omega arith
-    walk_action around arms Folds r m before n (action id place (reduces q o t)) e here h names simple s shape agrees stood c f knows = absurd simple
-    walk_action around no_arms Folds r m before n (action id place (decides t chosen other)) e here h names simple s shape agrees stood c f knows = absurd shape
-    walk_action around (arms_then one rest) Folds r m before n (action id place (decides t chosen other)) e here h names simple s shape agrees stood c f knows = absurd shape
-    walk_action around (arms_of one two inside behind) Folds r m before n (action id place (decides t chosen other)) e here h names simple s shape agrees stood c f knows =
+    walk_action around arms Folds r m d y before n (action id place (reduces q o t)) e here h names simple nb at s shape agrees stood c f knows = absurd simple
+    walk_action around no_arms Folds r m d y before n (action id place (decides t chosen other)) e here h names simple nb at s shape agrees stood c f knows = absurd shape
+    walk_action around (arms_then one rest) Folds r m d y before n (action id place (decides t chosen other)) e here h names simple nb at s shape agrees stood c f knows = absurd shape
+    walk_action around (arms_of one two inside behind) Folds r m d y before n (action id place (decides t chosen other)) e here h names simple nb at s shape agrees stood c f knows =
         let arms_found = found_then (IsFoundAt find) n (n + term_accesses t) (term_found scene around x (variables_along scene x around (test_run scene x n t) e) n t) _ (ap (λ k. n + k) (sym (term_long scene around x _ n t))) f in
-        choice_walk around one two inside behind r id before n t chosen other e here
+        choice_walk around one two inside behind r id d y before n t chosen other e here
         (subst (λ (k : ℕ). IsNumbered (suc k) chosen × IsNumberedOther (suc k + commands_in chosen) other) (sym h.0) h.1) names agrees
-        (subst (λ (k : ℕ). Stood r k before) (sym h.0) stood) c (found_first (IsFoundAt find) n (term_found scene around x _ n t) _ f) knows
-        (λ arm stands cut agree known_here.
-        (walk_action one inside (λ i. ⊥) (in_arm r id true) (suc id) (before ++ term_events (site_of r id) t) (n + term_accesses t) chosen (tested scene x around n t e) (inner around one true (test_out scene x n t e) arm here)
-        (subst (λ (k : ℕ). IsNumbered (suc k) chosen) (sym h.0) h.1.0) names.1.0 simple.0 (subst (λ (ls : List Level). SoundAt ls (λ i. ⊥) chosen) (sym arm.levels) s.1.0) shape.0 agree stands cut
+        (subst (λ (k : ℕ). Stood r k before) (sym h.0) stood) nb at c (found_first (IsFoundAt find) n (term_found scene around x _ n t) _ f) knows
+        (λ arm stands seen cut agree known_here.
+        (walk_action one inside (λ i. ⊥) (in_arm r id true) (suc id) d y (before ++ term_events (site_of r id) t) (n + term_accesses t) chosen (tested scene x around n t e) (inner around one true (test_out scene x n t e) arm here)
+        (subst (λ (k : ℕ). IsNumbered (suc k) chosen) (sym h.0) h.1.0) names.1.0 simple.0 nb.1.0 seen (subst (λ (ls : List Level). SoundAt ls (λ i. ⊥) chosen) (sym arm.levels) s.1.0) shape.0 agree stands cut
         (found_first (IsFoundAt find) (n + term_accesses t) (found scene x one inside (n + term_accesses t) chosen (tested scene x around n t e)) _ arms_found) known_here).0)
-        (λ arm second stands cut agree known_here.
-        (walk_other two behind (λ i. ⊥) (in_arm r id false) (suc id + commands_in chosen) ((before ++ term_events (site_of r id) t) ++ events (in_arm r id true) chosen) (n + term_accesses t + accesses_of chosen) other
+        (λ arm second stands seen cut agree known_here.
+        (walk_other two behind (λ i. ⊥) (in_arm r id false) (suc id + commands_in chosen) d (behind_all y (standings d chosen)) ((before ++ term_events (site_of r id) t) ++ events (in_arm r id true) chosen) (n + term_accesses t + accesses_of chosen) other
         (effect_of scene x (paths_on x one) (n + term_accesses t) chosen (tested scene x around n t e)) (inner around two false (test_out scene x n t e) second here)
-        (subst (λ (k : ℕ). IsNumberedOther (suc k + commands_in chosen) other) (sym h.0) h.1.1) names.1.1 simple.1
+        (subst (λ (k : ℕ). IsNumberedOther (suc k + commands_in chosen) other) (sym h.0) h.1.1) names.1.1 simple.1 nb.1.1 seen
         (subst (λ (ls : List Level). SoundOther scene ls table Name (λ i. ⊥) other) (sym second.levels) s.1.1) shape.1 agree stands cut
         (found_then (IsFoundAt find) (n + term_accesses t) (n + term_accesses t + accesses_of chosen) (found scene x one inside (n + term_accesses t) chosen (tested scene x around n t e)) _
         (ap (λ k. n + term_accesses t + k) (sym (found_long scene x table Name one inside around.levels.now (λ i. ⊥) (n + term_accesses t) chosen (tested scene x around n t e) s.1.0 shape.0))) arms_found) known_here).0)
-    walk_action around arms Folds r m before n (action id place (blocks body)) e here h names simple s shape agrees stood c f knows =
-        walk_groups around arms Folds r (suc m) before n body e here h.1 names simple s shape (λ k w. agrees k (w.0, none_more k n (groups_accesses body) w.1))
+    walk_action around arms Folds r m d y before n (action id place (blocks body)) e here h names simple nb at s shape agrees stood c f knows =
+        walk_groups around arms Folds r (suc m) d y before n body e here h.1 names simple nb at s shape (λ k w. agrees k (w.0, none_more k n (groups_accesses body) w.1))
         (record { below = below_up m (suc m) r.arms (low m) stood.below; fresh = all_up m (suc m) before (low m) stood.fresh }) c f knows
       where
         low : (n : ℕ) → n ≤ suc n
@@ -658,41 +613,48 @@ module _ (scene : Scene) (x : Step) (find : ℕ → Option Found) (levels : List
 
         none_more : (k n g : ℕ) → k < n + g → k < n + (0 + g)
         none_more k n g l = omega (arith, l)
-    walk_action around arms Folds r m before n (action id place (lets_memory name shape_of shape_places value)) e here h names simple s shape agrees stood c f knows =
+    walk_action around arms Folds r m d y before n (action id place (lets_memory name shape_of shape_places value)) e here h names simple nb at s shape agrees stood c f knows =
         (tt, subst (λ (l : List SourceEvent). KnowsAt around r l (λ i. e.variables)) (sym (append-nil before)) knows)
-    walk_action around arms Folds r m before n (action id place (views name parent form)) e here h names simple s shape agrees stood c f knows = absurd simple
-    walk_action around arms Folds r m before n (action id place (calls function arguments)) e here h names simple s shape agrees stood c f knows = absurd simple
-    walk_action around arms Folds r m before n (action id place (repeats test body)) e here h names simple s shape agrees stood c f knows =
+    walk_action around arms Folds r m d y before n (action id place (views name parent form)) e here h names simple nb at s shape agrees stood c f knows =
+        kept_walk around here r id y before n (hidden_in (way_of known name)) (offsets_of form) e (head_here program known ways 0 d y name form nb.0) s nb.1 names at c
+        (own_inside n (terms_accesses (terms (offsets_of form))) (terms_accesses (terms (offsets_of form)) + 0) agrees (zero_more (terms_accesses (terms (offsets_of form))))) f knows
+      where
+        zero_more : (n : ℕ) → n ≤ n + 0
+        zero_more n = omega arith
+    walk_action around arms Folds r m d y before n (action id place (calls function arguments)) e here h names simple nb at s shape agrees stood c f knows = absurd simple
+    walk_action around arms Folds r m d y before n (action id place (repeats test body)) e here h names simple nb at s shape agrees stood c f knows =
         (tt, dead_walk around r before (command_events r (site_of r id) (repeats test body)) n (term_accesses test + accesses_of body) (λ i. e.variables) c (form_counted r (site_of r id) id (repeats test body) names refl) agrees knows)
-    walk_action around arms Folds r m before n (action id place (counts iterator declared low high factor body combine combine_place)) e here h names simple s shape agrees stood c f knows = (
+    walk_action around arms Folds r m d y before n (action id place (counts iterator declared low high factor body combine combine_place)) e here h names simple nb at s shape agrees stood c f knows = (
       tt,
       dead_walk around r before (command_events r (site_of r id) (counts iterator declared low high factor body combine combine_place)) n (0 + (accesses_of body + other_accesses combine)) (λ i. e.variables) c
           (form_counted r (site_of r id) id (counts iterator declared low high factor body combine combine_place) names refl) agrees knows,
     )
 
-    walk_other : (around : Around) (arms : Arms) (Folds : ℕ → Type 0) (r : sites.Around) (m : ℕ) (before : List SourceEvent) (n : ℕ) (a : MaybeAction) (e : Effect) → Here around → IsNumberedOther m a → IsNamedOther a → OtherSimple a
+    walk_other : (around : Around) (arms : Arms) (Folds : ℕ → Type 0) (r : sites.Around) (m d y : ℕ) (before : List SourceEvent) (n : ℕ) (a : MaybeAction) (e : Effect) → Here around → IsNumberedOther m a → IsNamedOther a → OtherFoldsInJoins a
+        → OtherBehind program d y a → IsBehind program y before
         → SoundOther scene around.levels.now table Name Folds a → FitOther a arms → Agrees n (other_accesses a) (λ k. other_makes k n a) → Stood r m before → CutAt before (other_events r a) n
         → AreFoundAt find n (other_found scene x around arms n a e) → KnowsAt around r before (λ i. e.variables)
         → SharesInOther scene x find around arms n a e × KnowsAt around r (before ++ other_events r a) (λ i. (other_effect scene x (paths_on x around) n a e).variables)
-    walk_other around arms Folds r m before n no_action e here h names simple s shape agrees stood c f knows =
+    walk_other around arms Folds r m d y before n no_action e here h names simple nb at s shape agrees stood c f knows =
         (tt, subst (λ (l : List SourceEvent). KnowsAt around r l (λ i. e.variables)) (sym (append-nil before)) knows)
-    walk_other around arms Folds r m before n (one_action a) e here h names simple s shape agrees stood c f knows = walk_action around arms Folds r m before n a e here h names simple s shape agrees stood c f knows
+    walk_other around arms Folds r m d y before n (one_action a) e here h names simple nb at s shape agrees stood c f knows = walk_action around arms Folds r m d y before n a e here h names simple nb at s shape agrees stood c f knows
 
-    walk_groups : (around : Around) (arms : Arms) (Folds : ℕ → Type 0) (r : sites.Around) (m : ℕ) (before : List SourceEvent) (n : ℕ) (gs : Groups) (e : Effect) → Here around → AreNumberedGroups m gs → AreNamedGroups gs → GroupsSimple gs
+    walk_groups : (around : Around) (arms : Arms) (Folds : ℕ → Type 0) (r : sites.Around) (m d y : ℕ) (before : List SourceEvent) (n : ℕ) (gs : Groups) (e : Effect) → Here around → AreNumberedGroups m gs → AreNamedGroups gs → GroupsFoldInJoins gs
+        → GroupsBehind program d y gs → IsBehind program y before
         → SoundGroups scene around.levels.now table Name Folds gs → FitGroups gs arms → Agrees n (groups_accesses gs) (λ k. groups_make k n gs) → Stood r m before → CutAt before (groups_events r gs) n
         → AreFoundAt find n (groups_found scene x around arms n gs e) → KnowsAt around r before (λ i. e.variables)
         → SharesInGroups scene x find around arms n gs e × KnowsAt around r (before ++ groups_events r gs) (λ i. (groups_effect scene x (paths_on x around) n gs e).variables)
-    walk_groups around arms Folds r m before n no_groups e here h names simple s shape agrees stood c f knows =
+    walk_groups around arms Folds r m d y before n no_groups e here h names simple nb at s shape agrees stood c f knows =
         (tt, subst (λ (l : List SourceEvent). KnowsAt around r l (λ i. e.variables)) (sym (append-nil before)) knows)
-    walk_groups around no_arms Folds r m before n (group_then part more) e here h names simple s shape agrees stood c f knows = absurd shape
-    walk_groups around (arms_of one two inside behind) Folds r m before n (group_then part more) e here h names simple s shape agrees stood c f knows = absurd shape
-    walk_groups around (arms_then first behind) Folds r m before n (group_then part more) e here h names simple s shape agrees stood c f knows =
+    walk_groups around no_arms Folds r m d y before n (group_then part more) e here h names simple nb at s shape agrees stood c f knows = absurd shape
+    walk_groups around (arms_of one two inside behind) Folds r m d y before n (group_then part more) e here h names simple nb at s shape agrees stood c f knows = absurd shape
+    walk_groups around (arms_then first behind) Folds r m d y before n (group_then part more) e here h names simple nb at s shape agrees stood c f knows =
         let e1 = part_effect scene x (paths_on x around) n part e in
         let high = m + commands_in_part part in
-        let d = walk_part around first Folds r m before n part e here h.0 names.0 simple.0 s.0 shape.0
+        let one = walk_part around first Folds r m d y before n part e here h.0 names.0 simple.0 nb.0 at s.0 shape.0
         (first_agrees n (part_accesses part) (groups_accesses more) (λ k. part_makes k n part) (λ k. groups_make k (n + part_accesses part) more) agrees (λ k g. groups_within k (n + part_accesses part) more g)) stood
         (cut_first before (part_events r part) (groups_events r more) n c) (found_first (IsFoundAt find) n (part_found scene x around first n part e) _ f) knows in
-        let w = walk_groups around behind Folds r high (before ++ part_events r part) (n + part_accesses part) more e1 here h.1 names.1 simple.1 s.1 shape.1
+        let w = walk_groups around behind Folds r high d (behind_all y (part_standings d part)) (before ++ part_events r part) (n + part_accesses part) more e1 here h.1 names.1 simple.1 nb.1 (behind_part program d y r before part at nb.0) s.1 shape.1
         (then_agrees n (part_accesses part) (groups_accesses more) (λ k. part_makes k n part) (λ k. groups_make k (n + part_accesses part) more) agrees (λ k g. part_within k n part g))
         (record {
           below = below_up m high r.arms (more_or m (commands_in_part part)) stood.below;
@@ -700,8 +662,8 @@ module _ (scene : Scene) (x : Step) (find : ℕ → Option Found) (levels : List
               (stands_below r m high (part_events r part) (below_up m high r.arms (more_or m (commands_in_part part)) stood.below) (part_stands r m part h.0));
         })
         (cut_then before (part_events r part) (groups_events r more) n (n + part_accesses part) c (ap (λ k. n + k) (sym (part_counted r part names.0))))
-        (found_then (IsFoundAt find) n (n + part_accesses part) (part_found scene x around first n part e) _ (ap (λ k. n + k) (sym (part_long scene x table Name around first around.levels.now Folds n part e s.0 shape.0))) f) d.1 in (
-          (d.0, w.0),
+        (found_then (IsFoundAt find) n (n + part_accesses part) (part_found scene x around first n part e) _ (ap (λ k. n + k) (sym (part_long scene x table Name around first around.levels.now Folds n part e s.0 shape.0))) f) one.1 in (
+          (one.0, w.0),
           subst (λ (g : Effect). KnowsAt around r (before ++ (part_events r part ++ groups_events r more)) (λ i. g.variables))
               (sym (ap (λ l. commands_run (begun_of x) (paths_on x around) l e) (part_joined known n part (core_groups known (n + part_accesses part) more no_commands))
               ∙ joined_run (begun_of x) (paths_on x around) (core_part known n part no_commands) (core_groups known (n + part_accesses part) more no_commands) e))
@@ -711,21 +673,22 @@ module _ (scene : Scene) (x : Step) (find : ℕ → Option Found) (levels : List
         more_or : (n k : ℕ) → n ≤ n + k
         more_or n k = omega arith
 
-    walk_part : (around : Around) (arms : Arms) (Folds : ℕ → Type 0) (r : sites.Around) (m : ℕ) (before : List SourceEvent) (n : ℕ) (q : Actions) (e : Effect) → Here around → AreNumbered m q → AreNamedActions q → PartSimple q
+    walk_part : (around : Around) (arms : Arms) (Folds : ℕ → Type 0) (r : sites.Around) (m d y : ℕ) (before : List SourceEvent) (n : ℕ) (q : Actions) (e : Effect) → Here around → AreNumbered m q → AreNamedActions q → PartFoldsInJoins q
+        → PartBehind program d y q → IsBehind program y before
         → SoundPart scene around.levels.now table Name Folds q → FitPart q arms → Agrees n (part_accesses q) (λ k. part_makes k n q) → Stood r m before → CutAt before (part_events r q) n
         → AreFoundAt find n (part_found scene x around arms n q e) → KnowsAt around r before (λ i. e.variables)
         → SharesInPart scene x find around arms n q e × KnowsAt around r (before ++ part_events r q) (λ i. (part_effect scene x (paths_on x around) n q e).variables)
-    walk_part around arms Folds r m before n no_actions e here h names simple s shape agrees stood c f knows =
+    walk_part around arms Folds r m d y before n no_actions e here h names simple nb at s shape agrees stood c f knows =
         (tt, subst (λ (l : List SourceEvent). KnowsAt around r l (λ i. e.variables)) (sym (append-nil before)) knows)
-    walk_part around no_arms Folds r m before n (action_then a more) e here h names simple s shape agrees stood c f knows = absurd shape
-    walk_part around (arms_of one two inside behind) Folds r m before n (action_then a more) e here h names simple s shape agrees stood c f knows = absurd shape
-    walk_part around (arms_then first behind) Folds r m before n (action_then a more) e here h names simple s shape agrees stood c f knows =
+    walk_part around no_arms Folds r m d y before n (action_then a more) e here h names simple nb at s shape agrees stood c f knows = absurd shape
+    walk_part around (arms_of one two inside behind) Folds r m d y before n (action_then a more) e here h names simple nb at s shape agrees stood c f knows = absurd shape
+    walk_part around (arms_then first behind) Folds r m d y before n (action_then a more) e here h names simple nb at s shape agrees stood c f knows =
         let e1 = effect_of scene x (paths_on x around) n a e in
         let high = m + commands_in a in
-        let d = walk_action around first Folds r m before n a e here h.0 names.0 simple.0 s.0 shape.0
+        let one = walk_action around first Folds r m d y before n a e here h.0 names.0 simple.0 nb.0 at s.0 shape.0
         (first_agrees n (accesses_of a) (part_accesses more) (λ k. makes k n a) (λ k. part_makes k (n + accesses_of a) more) agrees (λ k g. part_within k (n + accesses_of a) more g)) stood
         (cut_first before (events r a) (part_events r more) n c) (found_first (IsFoundAt find) n (found scene x around first n a e) _ f) knows in
-        let w = walk_part around behind Folds r high (before ++ events r a) (n + accesses_of a) more e1 here h.1 names.1 simple.1 s.1 shape.1
+        let w = walk_part around behind Folds r high d (behind_all y (standings d a)) (before ++ events r a) (n + accesses_of a) more e1 here h.1 names.1 simple.1 nb.1 (behind_action program d y r before a at nb.0) s.1 shape.1
         (then_agrees n (accesses_of a) (part_accesses more) (λ k. makes k n a) (λ k. part_makes k (n + accesses_of a) more) agrees (λ k g. makes_within k n a g))
         (record {
           below = below_up m high r.arms (more_or m (commands_in a)) stood.below;
@@ -733,8 +696,8 @@ module _ (scene : Scene) (x : Step) (find : ℕ → Option Found) (levels : List
               (stands_below r m high (events r a) (below_up m high r.arms (more_or m (commands_in a)) stood.below) (action_stands r m a h.0));
         })
         (cut_then before (events r a) (part_events r more) n (n + accesses_of a) c (ap (λ k. n + k) (sym (action_counted r a names.0))))
-        (found_then (IsFoundAt find) n (n + accesses_of a) (found scene x around first n a e) _ (ap (λ k. n + k) (sym (found_long scene x table Name around first around.levels.now Folds n a e s.0 shape.0))) f) d.1 in (
-          (d.0, w.0),
+        (found_then (IsFoundAt find) n (n + accesses_of a) (found scene x around first n a e) _ (ap (λ k. n + k) (sym (found_long scene x table Name around first around.levels.now Folds n a e s.0 shape.0))) f) one.1 in (
+          (one.0, w.0),
           subst (λ (g : Effect). KnowsAt around r (before ++ (events r a ++ part_events r more)) (λ i. g.variables))
               (sym (action_then_run (begun_of x) known (paths_on x around) n a (core_part known (n + accesses_of a) more no_commands) e))
               (regroup around r (λ i. (part_effect scene x (paths_on x around) (n + accesses_of a) more e1).variables) before (events r a) (part_events r more) w.1),

@@ -1,21 +1,22 @@
 -- Reads whose indices have one structure depend on the same loops, and a read means the same by variables that agree
 -- wherever its indices look.
 use Rattle.std.proofs.Common.{◌≡◌, ◌⊎◌, inl, inr, ℕ, ◌&&◌, ◌||◌, nat_eq, Bool, true, false, List, [], ◌∷◌, take, Option, Some, refl, sym, ◌∙◌, ap, subst}
+use Rattle.std.specs.List.{AllByRecursion}
 use Rattle.dh_tree.specs.declared.trees.expressions.Ref.{Ref}
 use Rattle.dh_tree.specs.Memories.{same_entity}
 use Rattle.dh_tree.specs.PlainTrees.{Term, term, TermForm, number, truth_value, named, accessed, in_bank, applied, converted, Terms, no_terms, term_then}
 use Rattle.dh_meaning.specs.CoreOf.{Known, depth_of, entity_number}
 use Rattle.dh_meaning.specs.Effects.{Begun, Variables}
 use Rattle.dh_meaning.specs.Paths.{Path}
+use Rattle.dh_meaning.specs.Ways.{Hidden, hidden_in, way_at}
 use Rattle.dh_meets.specs.Charges.{element_depends, entity_depends, form_depends, term_depends, terms_depend}
 use Rattle.dh_meets.specs.Sharing.{alike, alike_elements, alike_forms, all_alike, element_mentions, mentions, number_of_op, reassigned, same_kind, same_maybe_kind, terms_mention}
 use Rattle.dh_meets.specs.SourceEvents.{Element, with_indices, in_row, SourceEvent, accesses, assigned}
 use Rattle.dh_sound.specs.SameKeys.{EachName, EachNameIn, EachNameOf, IsSettled}
 use Rattle.dh_sound.specs.Straight.{AreNamedTerms, IsNamedTerm}
-use Rattle.dh_sound.specs.Unled.{IsUnled}
 use Rattle.dh_sound.proofs.SameKeys.{settled_spot}
-use Rattle.dh_sound.proofs.SourceValues.{IsNamedElement, entity_is, source_spot}
-use Rattle.dh_blocks.proofs.Unled.{still_unled}
+use Rattle.dh_sound.proofs.SourceValues.{IsNamedElement, SameOffsets, entity_is, source_spot}
+use Rattle.dh_ways.proofs.TargetsOnWays.{offsets_same}
 
 both_so : (a b : Bool) → (a && b) ≡ true → (a ≡ true) × (b ≡ true)
 both_so true b e = (refl, e)
@@ -160,14 +161,18 @@ module _ (b : Begun) (known : Known) where
   clear_element Q es all (in_row x t) names h = clear_term Q es all t names (not_reassigned (in_row x t) es h)
 
   -- variables that agree as they are seen at a path
-  pub spot_seen : IsUnled known → (v w : Variables) (p : Path) (of : Option ℕ) (e : Element) → ((entity d : ℕ) → v entity (take d p) ≡ w entity (take d p)) → source_spot b known v p of e ≡ source_spot b known w p of e
-  spot_seen unled v w p of e agree =
-      settled_spot b known v w p p (still_unled known b v w p p unled) of e (λ l small is. refl) (each_at (IsSettled known v w p p) (λ r same. agree (entity_number r.entity) (depth_of known r)) e) (λ l small is. refl)
+  pub spot_seen : (v w : Variables) (p : Path) (of : Option ℕ) (e : Element) → ((entity d : ℕ) → v entity (take d p) ≡ w entity (take d p)) → source_spot b known v p of e ≡ source_spot b known w p of e
+  spot_seen v w p of e agree =
+      settled_spot b known v w p p (λ entity same. offsets_same b v w p (hidden_in (way_at known.memories known.ways entity)) (each (hidden_in (way_at known.memories known.ways entity)))) of e (λ l small is. refl) (each_at (IsSettled known v w p p) (λ r same. agree (entity_number r.entity) (depth_of known r)) e) (λ l small is. refl)
+    where
+      each : (hs : List Hidden) → AllByRecursion (λ (h : Hidden). v h.entity (take h.depth p) ≡ w h.entity (take h.depth p)) hs
+      each [] = tt
+      each (h ∷ hs) = (agree h.entity h.depth, each hs)
 
-  -- variables that agree where nothing is assigned among events
-  pub spot_kept : IsUnled known → (v w : Variables) (p : Path) (of : Option ℕ) (e : Element) (es : List SourceEvent) → ((entity : ℕ) → IsFree entity es → (q : Path) → v entity q ≡ w entity q)
+  -- variables that agree where nothing is assigned among events, and by which the offsets of all ways are the same
+  pub spot_kept : (v w : Variables) (p : Path) (of : Option ℕ) (e : Element) (es : List SourceEvent) → SameOffsets b known v w p → ((entity : ℕ) → IsFree entity es → (q : Path) → v entity q ≡ w entity q)
       → IsNamedElement b known e → reassigned e es ≡ false → source_spot b known v p of e ≡ source_spot b known w p of e
-  spot_kept unled v w p of e es agree names h =
-      settled_spot b known v w p p (still_unled known b v w p p unled) of e (λ l small is. refl)
+  spot_kept v w p of e es still agree names h =
+      settled_spot b known v w p p (λ entity same. still entity) of e (λ l small is. refl)
       (clear_element (IsSettled known v w p p) es (λ r m is free same. subst (λ (n : ℕ). v n (take (depth_of known r) p) ≡ w n (take (depth_of known r) p)) (sym (ap entity_number is)) (agree m free (take (depth_of known r) p))) e names h)
       (λ l small is. refl)

@@ -1,6 +1,7 @@
 pub mod PathNumbers
 pub mod KindsOfValues
-pub mod Unled
+pub mod RowsDepend
+pub mod TermsSettled
 pub mod MemoriesUnbound
 pub mod TermsFollow
 pub mod CommandsJoined
@@ -15,8 +16,10 @@ pub mod CommandsDone
 pub mod SoundMapped
 pub mod BlockDone
 pub mod ElementsAlike
+pub mod SpotsMoved
 pub mod ReadsKnown
 pub mod SharesFound
+pub mod EventsAssign
 pub mod CommandsShare
 pub mod BlockShares
 pub mod TracedBlocks

@@ -1,5 +1,5 @@
 -- The blocks of a ready program stand along its trace.
-use Rattle.std.proofs.Common.{◌≡◌, inl, List, ◌++◌, Some, refl}
+use Rattle.std.proofs.Common.{◌≡◌, inl, List, [], ◌++◌, Some, refl}
 use Rattle.std.specs.List.{AllByRecursion}
 use Rattle.dh_tree.specs.PlainTrees.{Term}
 use Rattle.dh_tree.specs.Seen.{program_seen}
@@ -7,27 +7,31 @@ use Rattle.dh_meaning.specs.Core.{Turning}
 use Rattle.dh_meaning.specs.CoreOf.{form_of, test_of}
 use Rattle.dh_meaning.specs.Effects.{Block}
 use Rattle.dh_meaning.specs.Phases.{Located, phases_of, idle_phases_of}
+use Rattle.dh_meets.specs.SourceEvents.{trace}
 use Rattle.dh_sound.specs.BlocksOfPhases.{OfStraight, OfTest}
-use Rattle.dh_sound.specs.SimpleForms.{IsSimple}
+use Rattle.dh_sound.specs.SimpleForms.{FoldsInJoins}
+use Rattle.dh_sound.specs.ViewTrails.{FollowsViews}
 use Rattle.dh_sound.proofs.Folds.{makes_less, makes_more}
 use Rattle.dh_sound.proofs.SamePhase.{straight_has_both, test_has_both}
 use Rattle.dh_sound.proofs.Slices.{straight_either, test_either}
 use Rattle.dh_expressions.specs.declared.scenes.Scene.{Scene}
-use Rattle.dh_blocks.specs.BlockTraced.{IsTraced, TellsShares}
+use Rattle.dh_blocks.specs.BlockTraced.{IsTraced, TellsShares, TellsWays}
 use Rattle.dh_blocks.specs.TestMade.{IsTestTraced}
 
 pub straight_traced : (scene : Scene) (loops : List Turning) (block : Block) (found : OfStraight (program_seen scene.program.now) loops block)
-    → AllByRecursion (λ (c : Located). IsSimple c.command) found.done → TellsShares scene → IsTraced scene found.done found.folds
-straight_traced scene loops block found simple shares = record {
+    → FollowsViews (program_seen scene.program.now) found.round [] (trace (program_seen scene.program.now)) found.done → AllByRecursion (λ (c : Located). FoldsInJoins c.command) found.done → TellsShares scene → TellsWays scene
+    → IsTraced scene found.done found.folds
+straight_traced scene loops block found behind joins shares ways = record {
   quiet = found.quiet;
   round = found.round;
-  follows = found.follows;
-  simple = simple;
+  follows = behind;
+  joins = joins;
   one_phase = λ j k e h.
       makes_less j found.done found.folds found.quiet
       (straight_has_both (program_seen scene.program.now) (found.done ++ found.folds) j k
       (straight_either (phases_of (program_seen scene.program.now)) (idle_phases_of (program_seen scene.program.now)) (found.done ++ found.folds) (inl found.has)) (makes_more k found.done found.folds h) e);
   shares = shares;
+  ways = ways;
 }
 
 pub test_traced : (scene : Scene) (loops : List Turning) (block : Block) (found : OfTest (program_seen scene.program.now) loops block) (t : Term)

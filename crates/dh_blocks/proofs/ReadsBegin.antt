@@ -1,6 +1,6 @@
 -- At the begin of a block its reads are known: nothing is noted of its own accesses, and those of earlier blocks stand as
 -- their copies say. And what is known at its end holds of all accesses with operations whatever the step.
-use Rattle.std.proofs.Common.{◌≡◌, ◌⊎◌, inl, inr, ℕ, zero, suc, ◌+◌, ◌<◌, ◌≤◌, ◌==◌, ◌&&◌, Bool, true, false, if◌then◌else◌, List, [], ◌∷◌, ◌++◌, length, map, Option, Some, None, refl, ap, sym, ◌∙◌, subst, arith}
+use Rattle.std.proofs.Common.{◌≡◌, ◌⊎◌, inl, inr, ℕ, zero, suc, ◌+◌, ◌<◌, ◌≤◌, ◌==◌, Bool, true, false, List, [], ◌∷◌, ◌++◌, length, map, Option, Some, None, refl, ap, sym, ◌∙◌, subst, arith}
 use Rattle.std.specs.Prelude.{slice_get}
 use Rattle.std.proofs.lemmas.Bool.{cases_Bool, cases_lt, eq-eqb, eqb-true}
 use Rattle.std.proofs.lemmas.List.{length-append, length-map}
@@ -11,13 +11,12 @@ use Rattle.dh_meaning.specs.Effects.{Variables}
 use Rattle.dh_expressions.specs.declared.accesses.Accesses.{Accesses}
 use Rattle.dh_expressions.specs.declared.accesses.Touched.{Touched}
 use Rattle.dh_expressions.specs.declared.copies.AccessAt.{AccessAt}
-use Rattle.dh_expressions.specs.Copying.{AreNone, DoneBy, IsCopy, leaders_at}
+use Rattle.dh_expressions.specs.Copying.{AreNone, DoneBy, IsCopy}
 use Rattle.dh_expressions.specs.Drafted.{Step, holds}
 use Rattle.dh_expressions.specs.Evaluated.{Knows, Reads}
 use Rattle.dh_expressions.specs.Noted.{copy_or_alone, given_in, given_to, touched_in, touched_of}
-use Rattle.dh_expressions.specs.Numbers.{narrowed}
 use Rattle.dh_expressions.specs.Shown.{guard_of, guard_or_none}
-use Rattle.dh_expressions.specs.Standings.{IsTouched, Standing}
+use Rattle.dh_expressions.specs.Standings.{IsTouched, Standing, copy_places}
 use Rattle.dh_expressions.proofs.ListPlaces.{place_within, some_same, there}
 use Rattle.dh_commands.specs.Followed.{view_of}
 use Rattle.dh_blocks.specs.FoundAccesses.{Found}
@@ -80,11 +79,11 @@ module _ (x : Step) (t : Touched) (laid : IsLaid x.named t) where
   guards_long : length own.guards ≡ length t.copies
   guards_long = length-map t.copies (λ (d : AccessAt). (copy_in t d.leader).guard)
 
-  copies_stand : (k : ℕ) (c : AccessAt) → slice_get t.copies k ≡ Some c → IsCopy x own.leader own.bank own.guards (length own.guards) k c
+  copies_stand : (k : ℕ) (c : AccessAt) → slice_get t.copies k ≡ Some c → IsCopy x own.leader own.bank (copy_places own) own.guards (length own.guards) k c
   copies_stand k c at = record {
     leader_is = ap (λ (d : AccessAt). d.leader) (sym (copy_is t k c at));
     bank_is = ap (λ (d : AccessAt). d.bank) (sym (copy_is t k c at));
-    place_is = laid.places k c at ∙ ap (λ (d : AccessAt). narrowed (leaders_at own.leader own.bank d.bank k)) (sym (copy_is t k c at));
+    place_is = ap (λ (d : AccessAt). d.place) (sym (copy_is t k c at));
     alone = λ other. laid.alone k c at (λ e. other (ap (λ (d : AccessAt). d.leader) (copy_is t k c at) ∙ e));
     on = λ d. by d (cases_Bool (c.leader == k));
     by = λ leads on. record {
@@ -158,38 +157,12 @@ knows_first x find before laid none bare variables = record {
         subst (λ (z : Standing). IsTouched x z t) same (laid_touched x t (laid number t at))
 
 -- The end.
-leaders_same : (f g b c : ℕ → ℕ) (own k : ℕ) → ((i : ℕ) → i < k → f i ≡ g i) → ((i : ℕ) → i < k → b i ≡ c i) → leaders_at f b own k ≡ leaders_at g c own k
-leaders_same f g b c own zero h i = refl
-leaders_same f g b c own (suc n) h i =
-    ap (λ m. if (m == n) && (b n == own) then suc (leaders_at f b own n) else leaders_at f b own n) (h n (last n))
-    ∙ (ap (λ m. if (g n == n) && (m == own) then suc (leaders_at f b own n) else leaders_at f b own n) (i n (last n))
-    ∙ ap (λ m. if (g n == n) && (c n == own) then suc m else m) (leaders_same f g b c own n (λ j l. h j (less j n l)) (λ j l. i j (less j n l))))
-  where
-    last : (n : ℕ) → n < suc n
-    last n = omega arith
-
-    less : (j n : ℕ) → j < n → j < suc n
-    less j n l = omega (arith, l)
-
 pub touched_laid : (x : Step) (s : Standing) (t : Touched) → IsTouched x s t → IsLaid x.named t
 touched_laid x s t h = record {
   place = s.place;
   fault = h.fault;
   alone = λ k c at other. (h.copies.each k c at).alone (λ e. other ((h.copies.each k c at).leader_is ∙ e));
-  places = λ k c at.
-      (h.copies.each k c at).place_is
-      ∙ (ap (λ b. narrowed (leaders_at s.leader s.bank b k)) (sym (h.copies.each k c at).bank_is)
-      ∙ ap narrowed (leaders_same s.leader (λ path. (copy_in t path).leader) s.bank (λ path. (copy_in t path).bank) c.bank k (λ i l. leader_same i k c at l) (λ i l. bank_same i k c at l)));
 }
-  where
-    before : (i k : ℕ) (c : AccessAt) → slice_get t.copies k ≡ Some c → i < k → (d : AccessAt) × (slice_get t.copies i ≡ Some d)
-    before i k c at l = let w = place_within t.copies k c at in there t.copies i (omega (arith, l, w))
-
-    leader_same : (i k : ℕ) (c : AccessAt) → slice_get t.copies k ≡ Some c → i < k → s.leader i ≡ (copy_in t i).leader
-    leader_same i k c at l = let (d, e) = before i k c at l in sym (h.copies.each i d e).leader_is ∙ ap (λ (q : AccessAt). q.leader) (sym (copy_is t i d e))
-
-    bank_same : (i k : ℕ) (c : AccessAt) → slice_get t.copies k ≡ Some c → i < k → s.bank i ≡ (copy_in t i).bank
-    bank_same i k c at l = let (d, e) = before i k c at l in sym (h.copies.each i d e).bank_is ∙ ap (λ (q : AccessAt). q.bank) (sym (copy_is t i d e))
 
 pub laid_last : (x : Step) (reads : Reads) (after : Accesses) (variables : Variables) → Knows (view_of x reads variables) after → AreLaid x.named after
 laid_last x reads after variables knows number t at =

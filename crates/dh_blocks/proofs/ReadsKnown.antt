@@ -5,18 +5,24 @@
 use Rattle.std.proofs.Common.{◌≡◌, ◌⊎◌, inl, inr, ℕ, suc, ◌+◌, ◌<◌, ◌≤◌, ◌||◌, Bool, true, false, List, [], ◌∷◌, ◌++◌, length, take, Option, Some, refl, sym, ◌∙◌, ap, subst, arith}
 use mathlib.Core.Path.{fun_ext}
 use Rattle.dh_tree.specs.Memories.{same_entity}
+use Rattle.dh_tree.specs.PlainTrees.{Program}
+use Rattle.dh_tree.specs.Seen.{program_seen}
 use Rattle.dh_meaning.specs.CoreOf.{Known}
 use Rattle.dh_meaning.specs.Effects.{Begun, Variables}
 use Rattle.dh_meaning.specs.Paths.{Path}
 use Rattle.dh_meaning.specs.Sites as sites
-use Rattle.dh_meaning.specs.Sites.{Arm, in_arm}
+use Rattle.dh_meaning.specs.Sites.{in_arm}
 use Rattle.dh_meets.specs.Charges.{element_depends, entity_depends}
 use Rattle.dh_meets.specs.Sharing.{all_arms_of, alike_elements, reassigned}
 use Rattle.dh_meets.specs.SourceEvents.{Element, SourceAccess, SourceEvent, accesses, assigned}
 use Rattle.dh_plan.specs.Blocks.{is_on}
-use Rattle.dh_sound.specs.Trails.{count}
+use Rattle.dh_sound.specs.BehindViews.{AccessBehind}
+use Rattle.dh_sound.specs.Trails.{EachAccess, count}
+use Rattle.dh_sound.specs.ViewTrails.{IsBehind}
+use Rattle.dh_sound.proofs.KeptReads.{each_at}
 use Rattle.dh_sound.proofs.KnownReads.{Cut, at_end, inside, cut_last, count_joined, earlier_kept, reassigned_joined, all_in_less, HasNoArm, NoneInArm}
 use Rattle.dh_sound.proofs.SourceValues.{IsNamedElement, read_value, source_spot, spot_alike}
+use Rattle.dh_sound.proofs.ValuesBelow.{AgreeBelow}
 use Rattle.dh_expressions.specs.declared.paths.Level.{Level}
 use Rattle.dh_expressions.specs.declared.scenes.Around.{Around}
 use Rattle.dh_expressions.specs.declared.scenes.Scene.{Scene}
@@ -26,8 +32,9 @@ use Rattle.dh_expressions.specs.Levels.{leader_number, path_at}
 use Rattle.dh_expressions.specs.Shown.{guard_of}
 use Rattle.dh_commands.specs.LanesRun.{is_on_at}
 use Rattle.dh_blocks.specs.FoundAccesses.{Found}
-use Rattle.dh_blocks.proofs.ElementsAlike.{IsFree, element_alike, spot_kept, spot_seen}
-use Rattle.dh_blocks.proofs.Unled.{unled_in}
+use Rattle.dh_blocks.specs.BlockTraced.{TellsWays}
+use Rattle.dh_blocks.proofs.ElementsAlike.{IsFree, element_alike, spot_seen}
+use Rattle.dh_blocks.proofs.SpotsMoved.{spot_below, spot_moved}
 
 or_false : (a b : Bool) → (a || b) ≡ false → (a ≡ false) × (b ≡ false)
 or_false true b e = cc
@@ -68,6 +75,9 @@ module _ (scene : Scene) (x : Step) (find : ℕ → Option Found) (levels : List
 
   abbrev begun : Begun
   begun = begun_of x
+
+  abbrev program : Program
+  program = program_seen scene.program.now
 
   -- a read that is found and means what an equal one would mean here
   pub record IsKnown (around : Around) (V : ℕ → Variables) (number : ℕ) (entity : Option ℕ) (e : Element) : Type 0 where
@@ -158,13 +168,19 @@ module _ (scene : Scene) (x : Step) (find : ℕ → Option Found) (levels : List
   idle_passed r n (accesses a ∷ part) h = (inl (h n (omega arith) (omega arith)), idle_passed r (suc n) part (λ k l u. h k (omega (arith, l)) (omega (arith, u))))
   idle_passed r n (assigned e ∷ part) h = idle_passed r n part h
 
-  -- a part that is passed, or none of whose accesses is known of here; what it may assign may be changed
-  pub knows_over : (around : Around) (r : sites.Around) (before part : List SourceEvent) (V W : ℕ → Variables) → IsPassed r (count before) part
-      → ((i : ℕ) → i < size → (entity : ℕ) → IsFree entity part → (q : Path) → V i entity q ≡ W i entity q) → Knows around r before V → Knows around r (before ++ part) W
-  knows_over around r before part V W passed agree k pre between a e cut w i arms y s n m = by (cut_both before part pre (accesses a) between cut)
+  -- where a read behind events leads by some variables, one alike leads by others, if it is not assigned to in a part
+  abbrev pub SpotsStay : (before part : List SourceEvent) → (V W : ℕ → Variables) → Type 0
+  SpotsStay before part V W =
+      (pre less : List SourceEvent) (a : SourceAccess) (e : Element) → before ≡ pre ++ accesses a ∷ less → same_entity a.entity a.entity ≡ true → alike_elements a.element e ≡ true
+      → IsNamedElement begun known e → reassigned e part ≡ false → (j : ℕ) → j < size → source_spot begun known (V j) (path_at levels j) a.entity e ≡ source_spot begun known (W j) (path_at levels j) a.entity e
+
+  -- a part that is passed, or none of whose accesses is known of here, where all known reads lead on as they did
+  knows_moved : (around : Around) (r : sites.Around) (before part : List SourceEvent) (V W : ℕ → Variables) → IsPassed r (count before) part → SpotsStay before part V W
+      → Knows around r before V → Knows around r (before ++ part) W
+  knows_moved around r before part V W passed stay k pre between a e cut w i arms y s n m = by (cut_both before part pre (accesses a) between cut)
     where
-      moved : (less : List SourceEvent) → reassigned e (less ++ part) ≡ false → IsKnown around V (count pre) a.entity e → IsKnown around W (count pre) a.entity e
-      moved less h g = record {
+      moved : (less : List SourceEvent) → before ≡ pre ++ accesses a ∷ less → reassigned e (less ++ part) ≡ false → IsKnown around V (count pre) a.entity e → IsKnown around W (count pre) a.entity e
+      moved less is h g = record {
         found = g.found;
         at = g.at;
         long = g.long;
@@ -172,7 +188,7 @@ module _ (scene : Scene) (x : Step) (find : ℕ → Option Found) (levels : List
         on = g.on;
         word = λ j l.
             g.word j l ∙ ap (λ z. read_value begun known a.entity z)
-            (spot_kept begun known (unled_in scene) (V j) (W j) (path_at levels j) a.entity e part (agree j l) n (or_false (reassigned e less) (reassigned e part) (sym (reassigned_joined e less part) ∙ h)).1);
+            (stay pre less a e is y s n (or_false (reassigned e less) (reassigned e part) (sym (reassigned_joined e less part) ∙ h)).1 j l);
       }
 
       never : (more : List SourceEvent) → pre ≡ before ++ more → (in_block (count before + count more) ≡ false) ⊎ (all_arms_of a.site.arms r.arms ≡ false) → ⊥
@@ -188,8 +204,44 @@ module _ (scene : Scene) (x : Step) (find : ℕ → Option Found) (levels : List
       by : CutBoth before part pre (accesses a) between → IsKnown around W (count pre) a.entity e
       by (in_first less q p) =
           let h : reassigned e (less ++ part) ≡ false = subst (λ (l : List SourceEvent). reassigned e l ≡ false) q m in
-          moved less h (k pre less a e p w i arms y s n (or_false (reassigned e less) (reassigned e part) (sym (reassigned_joined e less part) ∙ h)).0)
+          moved less p h (k pre less a e p w i arms y s n (or_false (reassigned e less) (reassigned e part) (sym (reassigned_joined e less part) ∙ h)).0)
       by (in_second more p q) = absurd (never more p (passed_at r (count before) more a between (subst (λ (l : List SourceEvent). IsPassed r (count before) l) q passed)))
+
+  -- nothing is changed
+  pub knows_past : (around : Around) (r : sites.Around) (before part : List SourceEvent) (V : ℕ → Variables) → IsPassed r (count before) part → Knows around r before V → Knows around r (before ++ part) V
+  knows_past around r before part V passed k = knows_moved around r before part V V passed (λ pre less a e is y s n m j l. refl) k
+
+  -- an access before stands behind the views there
+  behind_at : (y : ℕ) (before pre less : List SourceEvent) (a : SourceAccess) → IsBehind program y before → before ≡ pre ++ accesses a ∷ less → AccessBehind program y a
+  behind_at y before pre less a at cut = each_at (λ c. AccessBehind program y c) pre a less (subst (λ (l : List SourceEvent). EachAccess (λ c. AccessBehind program y c) l) cut at.seen)
+
+  -- names that are assigned may be changed, and what is kept by views behind
+  pub knows_over : TellsWays scene → (around : Around) (r : sites.Around) (before part : List SourceEvent) (V W : ℕ → Variables) (y : ℕ) → IsPassed r (count before) part → IsBehind program y before
+      → ((i : ℕ) → i < size → (entity : ℕ) → entity < y → IsFree entity part ⊎ (length program.entities ≤ entity) → (q : Path) → V i entity q ≡ W i entity q)
+      → Knows around r before V → Knows around r (before ++ part) W
+  knows_over ways around r before part V W y passed at agree k =
+      knows_moved around r before part V W passed
+      (λ pre less a e cut same alike names free j l.
+      subst (λ (g : Known). IsNamedElement begun g e → source_spot begun g (V j) (path_at levels j) a.entity e ≡ source_spot begun g (W j) (path_at levels j) a.entity e) (sym ways)
+      (λ named. spot_moved program begun (V j) (W j) (path_at levels j) y at.own a (behind_at y before pre less a at cut) e same alike part (agree j l) named free) names)
+      k
+
+  -- what is kept by views behind may be changed
+  pub knows_kept : TellsWays scene → (around : Around) (r : sites.Around) (before : List SourceEvent) (V W : ℕ → Variables) (y : ℕ) → IsBehind program y before → ((i : ℕ) → i < size → AgreeBelow y (V i) (W i))
+      → Knows around r before V → Knows around r before W
+  knows_kept ways around r before V W y at agree k pre between a e cut w i arms same alike n m =
+      let g = k pre between a e cut w i arms same alike n m in
+      record {
+        found = g.found;
+        at = g.at;
+        long = g.long;
+        leads = g.leads;
+        on = g.on;
+        word = λ j l.
+            g.word j l ∙ ap (λ z. read_value begun known a.entity z)
+            (subst (λ (h : Known). source_spot begun h (V j) (path_at levels j) a.entity e ≡ source_spot begun h (W j) (path_at levels j) a.entity e) (sym ways)
+            (spot_below program begun (V j) (W j) (path_at levels j) y at.own a (behind_at y before pre between a at cut) e same alike (agree j l)));
+      }
 
   -- variables that agree as they are seen at each path
   pub knows_seen : (around : Around) (r : sites.Around) (before : List SourceEvent) (V W : ℕ → Variables) → ((i : ℕ) → i < size → (entity d : ℕ) → V i entity (take d (path_at levels i)) ≡ W i entity (take d (path_at levels i)))
@@ -202,7 +254,7 @@ module _ (scene : Scene) (x : Step) (find : ℕ → Option Found) (levels : List
         long = g.long;
         leads = g.leads;
         on = g.on;
-        word = λ j l. g.word j l ∙ ap (λ z. read_value begun known a.entity z) (spot_seen begun known (unled_in scene) (V j) (W j) (path_at levels j) a.entity e (agree j l));
+        word = λ j l. g.word j l ∙ ap (λ z. read_value begun known a.entity z) (spot_seen begun known (V j) (W j) (path_at levels j) a.entity e (agree j l));
       }
 
   -- into an arm, of which nothing before this place is

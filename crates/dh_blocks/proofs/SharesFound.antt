@@ -18,7 +18,6 @@ use Rattle.dh_meaning.specs.CoreOf.{Known, core_form, memory_of}
 use Rattle.dh_meaning.specs.Effects.{Begun, Variables, spot_by_row, value_of}
 use Rattle.dh_meaning.specs.OnePhase.{in_one_phase}
 use Rattle.dh_meaning.specs.Sites as sites
-use Rattle.dh_meaning.specs.Sites.{Arm, in_arm}
 use Rattle.dh_meets.specs.Charges.{element_depends, entity_depends}
 use Rattle.dh_meets.specs.Sharing.{all_arms_of, alike_elements, reassigned, shared, shares_with}
 use Rattle.dh_meets.specs.SourceEvents.{Element, with_indices, in_row, SourceAccess, SourceEvent, one_access, site_of, term_events, terms_events, trace}

@@ -3,6 +3,7 @@
 -- each variable in them has the same register and the same value.
 use Rattle.std.proofs.Common.{◌≡◌, ◌⊎◌, inl, inr, ℕ, zero, suc, ◌+◌, ◌<◌, ◌≤◌, ◌^◌, ◌==◌, ◌&&◌, ◌||◌, Bool, true, false, List, [], ◌∷◌, ◌++◌, length, take, Option, Some, None, refl, sym, ◌∙◌, ap, subst, arith}
 use Rattle.std.specs.Prelude.{slice_get, pos}
+use Rattle.std.specs.List.{AllByRecursion}
 use Rattle.std.proofs.lemmas.Bool.{cases_lt, eqb-true, eq-eqb}
 use Rattle.std.proofs.lemmas.List.{length-append}
 use Rattle.dh_base.specs.declared.places.Place.{Place}
@@ -13,26 +14,29 @@ use Rattle.dh_tree.specs.declared.trees.expressions.Ref.{Ref}
 use Rattle.dh_tree.specs.declared.trees.counters.Counter.{Counter}
 use Rattle.dh_tree.specs.PlainTrees.{Term, term, TermForm, number, truth_value, named, accessed, in_bank, applied, converted, Terms, no_terms, term_then}
 use Rattle.dh_meaning.specs.AccessNumbers.{term_accesses, terms_accesses}
-use Rattle.dh_meaning.specs.Bindings.{binding_in, depth_bound, kind_or_first}
-use Rattle.dh_meaning.specs.CoreOf.{core_form, depth_of, entity_number, memory_of}
+use Rattle.dh_meaning.specs.Bindings.{Binding, binding_in, depth_bound, kind_or_first}
+use Rattle.dh_meaning.specs.CoreOf.{core_form, depth_of, entity_number, memory_of, way_of}
 use Rattle.dh_meaning.specs.Effects.{Variables, value_of}
 use Rattle.dh_meaning.specs.Paths.{Path, copies_in}
 use Rattle.dh_meaning.specs.Runs.{iterator_value}
+use Rattle.dh_meaning.specs.Ways.{Hidden, Way, hidden_in}
 use Rattle.dh_meets.specs.Charges.{entity_depends, term_depends, terms_depend}
 use Rattle.dh_code.specs.Slots.{held_at}
 use Rattle.dh_code.specs.Extended.{extension_of}
 use Rattle.dh_plan.specs.Blocks.{is_on}
 use Rattle.dh_code.proofs.PathsInOrder.{length_path}
-use Rattle.dh_sound.specs.SameKeys.{CopiesAgree, EachName, EachNameOf, IsNearTo, IsSettled, NameAgrees}
-use Rattle.dh_sound.proofs.SameKeys.{agree_left, agree_right, settled_value}
+use Rattle.dh_sound.specs.SameKeys.{CopiesAgree, IsNearTo, IsNoIterator, IsSettled, NameAgrees}
+use Rattle.dh_sound.proofs.SameKeys.{agree_left, agree_right}
 use Rattle.dh_sound.proofs.SettledNames.{full_depth_same, iterator_settled, plain_part, plain_settled}
 use Rattle.dh_expressions.specs.declared.accesses.Accesses.{Accesses}
 use Rattle.dh_expressions.specs.declared.scenes.Around.{Around}
 use Rattle.dh_expressions.specs.declared.scenes.Scene.{Scene}
 use Rattle.dh_expressions.specs.Copying.{DoneBy, depends_at}
 use Rattle.dh_expressions.specs.Drafted.{Step}
-use Rattle.dh_expressions.specs.Evaluated.{EntityTurns, Fair, FairAll, IsDone, IsSited, NamesSmallBank, Reads, Sees, SeesAll, SourceMeans, TurnsBy, View, begun_of, entity_shown, known_in, shown_by, source_at}
+use Rattle.dh_expressions.specs.Evaluated.{EntityTurns, Fair, FairAll, IsDone, IsSited, NamesSmallBank, Reads, Sees, SeesAll, SeesHidden, SeesWay, SeesWayBy, SourceMeans, TurnsBy, View, begun_of, entity_shown, known_in, shown_by, source_at}
+use Rattle.dh_expressions.specs.Named.{first_view}
 use Rattle.dh_expressions.specs.Noted.{touched_in}
+use Rattle.dh_expressions.proofs.ListPlaces.{some_same}
 use Rattle.dh_expressions.specs.Shown.{guard_of, kind_written, variable_shown}
 use Rattle.dh_expressions.specs.Standings.{Standing, standing_at}
 use Rattle.dh_commands.specs.LanesRun.{is_on_at, lane_of, path_in, paths_counted}
@@ -42,10 +46,12 @@ use Rattle.dh_blocks.specs.FoundAccesses.{Found, read_found, term_found, terms_f
 use Rattle.dh_blocks.specs.ChosenReads.{chosen_reads, done_of, led_on, site_of, sites_to, word_found}
 use Rattle.dh_blocks.specs.BlockGround.{AllFound, AreReadAt, AreWithin, IsGround, IsReadAt}
 use Rattle.dh_blocks.specs.NamedVariables.{IsNamed, IsTurned}
-use Rattle.dh_blocks.specs.SoundTerms.{AreSound, IsSound}
+use Rattle.dh_blocks.specs.SlotsOfScene.{HasViews}
+use Rattle.dh_blocks.specs.SoundTerms.{AreSound, IsSound, IsSoundHidden, IsSoundWay, kept_name}
 use Rattle.dh_blocks.proofs.PathNumbers.{agree_leaders, leader_leads, leader_within, leaders_agree, number_is, numbered}
 use Rattle.dh_blocks.proofs.KindsOfValues.{kept_word}
-use Rattle.dh_blocks.proofs.Unled.{row_depends, still_unled, unled_in}
+use Rattle.dh_blocks.proofs.RowsDepend.{row_depends}
+use Rattle.dh_blocks.proofs.TermsSettled.{SettleAll, Settles, WaySettles, settled_value, two_same}
 
 -- What is led.
 
@@ -190,7 +196,7 @@ site_there x find a (suc n) own f within is = by (λ l. site_there x find a n ow
 
 -- At one path.
 module _ (scene : Scene) (around : Around) (x : Step) (find : ℕ → Option Found) (before : Accesses) (V : ℕ → Variables) (v0 : Variables) (touched : ℕ → Bool)
-    (ground : IsGround scene around) (within_all : AreWithin find before)
+    (ground : IsGround scene around) (within_all : AreWithin find before) (views : HasViews scene x.start.views)
     (near : (i : ℕ) → i < paths_counted around → IsNearTo v0 touched (V i)) where
   abbrev Named : Ref → Kind → Type 0
   Named = IsNamed scene around.levels.now x v0 touched
@@ -200,6 +206,12 @@ module _ (scene : Scene) (around : Around) (x : Step) (find : ℕ → Option Fou
 
   abbrev AllSound : Terms → Type 0
   AllSound = AreSound (known_in scene) x.start.table Named
+
+  abbrev SoundHidden : Ref → Hidden → Type 0
+  SoundHidden = IsSoundHidden (known_in scene) x.start.table Named
+
+  abbrev SoundWay : Ref → Type 0
+  SoundWay = IsSoundWay (known_in scene) x.start.table Named
 
   abbrev reads : Reads
   reads = chosen_reads x find before
@@ -276,17 +288,67 @@ module _ (scene : Scene) (around : Around) (x : Step) (find : ℕ → Option Fou
   settled_name l i h g r k (inr t) =
       iterator_settled (known_in scene) v0 (V l) (V i) touched (path l) (path i) r t.loop t.turn (near l h) (near i g) (same_long l i h g) t.is t.left (t.at l (inside l h)) (t.at i (inside i g))
 
+  -- Offsets on ways.
+
+  -- each has one value at two paths that agree where the view depends
+  way_settled : (l i : ℕ) → l < paths_counted around → i < paths_counted around → (r : Ref) → SoundWay r → WaySettles (begun_of x) (known_in scene) (V l) (V i) (path l) (path i) r
+  way_settled l i h g r s agree = two_same (begun_of x) (V l) (V i) (path l) (path i) (hidden_in (way_of (known_in scene) r)) (each (hidden_in (way_of (known_in scene) r)) s)
+    where
+      each : (hs : List Hidden) → AllByRecursion (λ (k : Hidden). SoundHidden r k) hs → AllByRecursion (λ (k : Hidden). V l k.entity (take k.depth (path l)) ≡ V i k.entity (take k.depth (path i))) hs
+      each [] a = tt
+      each (k ∷ hs) a = (
+        subst (λ (d : ℕ). V l k.entity (take d (path l)) ≡ V i k.entity (take d (path i))) (sym a.0.deep)
+            (settled_name l i h g (kept_name k) k.kind a.0.named (λ j small is. agree j small (a.0.less j is))),
+        each hs a.1,
+      )
+
+  -- it is shown as the program has it, where the guard holds at one of them
+  hidden_seen : (i q : ℕ) → i < paths_counted around → q < paths_counted around → is_on_at x around q ≡ true → (current : List (Option ℕ)) → Shows scene around x current (V i)
+      → (r : Ref) (k : Hidden) → SoundHidden r k → CopiesAgree (λ l. entity_depends (known_in scene).bindings l r.entity) (path i) (path q) → SeesHidden scene (lane_of around i) current (view i) k
+  hidden_seen i q h g on current sh r k s agree = by s.named
+    where
+      name_agrees : NameAgrees (known_in scene) (path i) (path q) (kept_name k)
+      name_agrees l small is = agree l small (s.less l is)
+
+      clash : (b : Binding) (o : Option Binding) (f : ℕ) → o ≡ Some b → b.iterates ≡ Some f → IsNoIterator o → ⊥
+      clash b None f e it none = cc
+      clash b (Some c) f e it none = let same : c ≡ b = some_same c b e in absurd (never (sym (ap (λ (y : Binding). y.iterates) same ∙ it) ∙ none))
+        where
+          never : Some f ≡ None → ⊥
+          never n = cc
+
+      by : Named (kept_name k) k.kind → SeesHidden scene (lane_of around i) current (view i) k
+      by (inl p) =
+          ap (λ o. shown_by x o (held_at scene.held.now k.entity) (lane_of around i) current k.kind) (sym p.seen.no_counter)
+          ∙ ((shown_named i q h g on current sh (kept_name k) k.kind (inl p) name_agrees).1
+          ∙ ap (λ (d : ℕ). word_of k.kind (V i k.entity (take d (path i)))) (sym s.deep))
+      by (inr t) =
+          absurd (clash t.is.binding (binding_in (known_in scene).bindings k.entity) t.loop.factor
+          (ap (λ o. binding_in (known_in scene).bindings (entity_number o)) t.is.entity ∙ t.is.bound) t.is.iterates s.plain)
+
+  pub way_seen : (i q : ℕ) → i < paths_counted around → q < paths_counted around → is_on_at x around q ≡ true → (current : List (Option ℕ)) → Shows scene around x current (V i)
+      → (r : Ref) → SoundWay r → CopiesAgree (λ l. entity_depends (known_in scene).bindings l r.entity) (path i) (path q) → SeesWay scene (lane_of around i) current (view i) r
+  way_seen i q h g on current sh r s agree = by (way_of (known_in scene) r) refl s
+    where
+      each : (hs : List Hidden) → AllByRecursion (λ (k : Hidden). SoundHidden r k) hs → AllByRecursion (λ (k : Hidden). SeesHidden scene (lane_of around i) current (view i) k) hs
+      each [] a = tt
+      each (k ∷ hs) a = (hidden_seen i q h g on current sh r k a.0 agree, each hs a.1)
+
+      by : (o : Option Way) → way_of (known_in scene) r ≡ o → AllByRecursion (λ (k : Hidden). SoundHidden r k) (hidden_in o) → SeesWayBy scene (lane_of around i) current (view i) (first_view scene r) o
+      by None e a = tt
+      by (Some w) e a = (each w.hidden a, views r w e)
+
   mutual
-    each_settled : (l i : ℕ) → l < paths_counted around → i < paths_counted around → (t : Term) → Sound t → EachName (IsSettled (known_in scene) (V l) (V i) (path l) (path i)) t
+    each_settled : (l i : ℕ) → l < paths_counted around → i < paths_counted around → (t : Term) → Sound t → Settles (begun_of x) (known_in scene) (V l) (V i) (path l) (path i) t
     each_settled l i h g (term place k (number negative z)) s = tt
     each_settled l i h g (term place k (truth_value b)) s = tt
     each_settled l i h g (term place k (named r)) s = settled_name l i h g r (kind_or_first k) s.0
-    each_settled l i h g (term place k (accessed r ts)) s = all_settled l i h g ts s.0
+    each_settled l i h g (term place k (accessed r ts)) s = (all_settled l i h g ts s.0.0, way_settled l i h g r s.0.1)
     each_settled l i h g (term place k (in_bank r bank at row)) s = each_settled l i h g row s.0
     each_settled l i h g (term place k (applied o a b)) s = (each_settled l i h g a s.0.0, each_settled l i h g b s.0.1)
     each_settled l i h g (term place k (converted inner to)) s = each_settled l i h g inner s.0
 
-    all_settled : (l i : ℕ) → l < paths_counted around → i < paths_counted around → (ts : Terms) → AllSound ts → EachNameOf (IsSettled (known_in scene) (V l) (V i) (path l) (path i)) ts
+    all_settled : (l i : ℕ) → l < paths_counted around → i < paths_counted around → (ts : Terms) → AllSound ts → SettleAll (begun_of x) (known_in scene) (V l) (V i) (path l) (path i) ts
     all_settled l i h g no_terms s = tt
     all_settled l i h g (term_then t ts) s = (each_settled l i h g t s.0, all_settled l i h g ts s.1)
 
@@ -325,8 +387,7 @@ module _ (scene : Scene) (around : Around) (x : Step) (find : ℕ → Option Fou
       agree l small e = leaders_agree around.levels.now ground.spread (counts form) ((own n place k memory form).standing.leader i) i (inside ((own n place k memory form).standing.leader i) low) (inside i h) itself l small (sym (depends l) ∙ e)
 
       same : word n place k form ((own n place k memory form).standing.leader i) ≡ word n place k form i
-      same = settled_value (begun_of x) (known_in scene) (V ((own n place k memory form).standing.leader i)) (V i) (path ((own n place k memory form).standing.leader i)) (path i)
-          (still_unled (known_in scene) (begun_of x) (V ((own n place k memory form).standing.leader i)) (V i) (path ((own n place k memory form).standing.leader i)) (path i) (unled_in scene)) n (term place (Some k) form) (each_settled ((own n place k memory form).standing.leader i) i low h (term place (Some k) form) s) agree
+      same = settled_value (begun_of x) (known_in scene) (V ((own n place k memory form).standing.leader i)) (V i) (path ((own n place k memory form).standing.leader i)) (path i) n (term place (Some k) form) (each_settled ((own n place k memory form).standing.leader i) i low h (term place (Some k) form) s) agree
 
       by : (o : Option (Option ℕ)) → slice_get scene.shares.now m ≡ o → SourceMeans reads (source_at o m i ((own n place k memory form).standing.leader i)) (word n place k form i)
       by None e = tt
@@ -358,6 +419,10 @@ module _ (scene : Scene) (around : Around) (x : Step) (find : ℕ → Option Fou
       → CopiesAgree (λ l. terms_depend (known_in scene).bindings l ts) p q
   of_indices r ts p q = agree_right (λ l. entity_depends (known_in scene).bindings l r.entity) (λ l. terms_depend (known_in scene).bindings l ts) p q
 
+  of_name : (r : Ref) (ts : Terms) (p q : Path) → CopiesAgree (λ l. entity_depends (known_in scene).bindings l r.entity || terms_depend (known_in scene).bindings l ts) p q
+      → CopiesAgree (λ l. entity_depends (known_in scene).bindings l r.entity) p q
+  of_name r ts p q = agree_left (λ l. entity_depends (known_in scene).bindings l r.entity) (λ l. terms_depend (known_in scene).bindings l ts) p q
+
   of_row : (r : Ref) (row : Term) (p q : Path) → CopiesAgree (λ l. entity_depends (known_in scene).bindings l r.entity || term_depends (known_in scene).bindings l row) p q
       → CopiesAgree (λ l. term_depends (known_in scene).bindings l row) p q
   of_row r row p q = agree_right (λ l. entity_depends (known_in scene).bindings l r.entity) (λ l. term_depends (known_in scene).bindings l row) p q
@@ -370,7 +435,10 @@ module _ (scene : Scene) (around : Around) (x : Step) (find : ℕ → Option Fou
     sees i q h g on current sh n (term place k (truth_value b)) s f agree = tt
     sees i q h g on current sh n (term place k (named r)) s f agree = shown_named i q h g on current sh r (kind_or_first k) s.0 agree
     sees i q h g on current sh n (term place k (accessed r ts)) s f agree = (
-      sees_all i q h g on current sh n ts s.0 (found_first (IsReadAt scene x find) n (terms_found scene around x V n ts) _ f) (of_indices r ts (path i) (path q) agree),
+      (
+        sees_all i q h g on current sh n ts s.0.0 (found_first (IsReadAt scene x find) n (terms_found scene around x V n ts) _ f) (of_indices r ts (path i) (path q) agree),
+        way_seen i q h g on current sh r s.0.1 (of_name r ts (path i) (path q) agree),
+      ),
       read_done i n (n + terms_accesses ts) h place (kind_or_first k) (memory_of (known_in scene) r) (accessed r ts) s s.1.0 tt (λ l. refl)
           (found_here (IsReadAt scene x find) n (n + terms_accesses ts) (terms_found scene around x V n ts) _ (ap (λ m. n + m) (sym (terms_long scene around x V n ts))) f)
           (read_led i q n h g on place (kind_or_first k) (memory_of (known_in scene) r) (accessed r ts) (λ l. refl) agree),
@@ -422,11 +490,11 @@ module _ (scene : Scene) (around : Around) (x : Step) (find : ℕ → Option Fou
         let here : IsReadAt scene x find (n + terms_accesses ts) (read_found scene around x V n place (kind_or_first k) (memory_of (known_in scene) r) (accessed r ts)) =
         found_here (IsReadAt scene x find) n (n + terms_accesses ts) (terms_found scene around x V n ts) _ (ap (λ m. n + m) (sym (terms_long scene around x V n ts))) f in
         let part : AreReadAt scene x find n (terms_found scene around x V n ts) = found_first (IsReadAt scene x find) n (terms_found scene around x V n ts) _ f in (
-          (fair_all i h current sh n ts s.0 part, read_sited i n (n + terms_accesses ts) h place (kind_or_first k) (memory_of (known_in scene) r) (accessed r ts) here.0),
+          (fair_all i h current sh n ts s.0.0 part, read_sited i n (n + terms_accesses ts) h place (kind_or_first k) (memory_of (known_in scene) r) (accessed r ts) here.0),
           λ done.
               let led : done_of x (Some (read_found scene around x V n place (kind_or_first k) (memory_of (known_in scene) r) (accessed r ts))) i ≡ true = sym (ap (λ o. done_of x o i) here.0) ∙ done in
               let (q, (g, (on, agree))) = led_from i n h place (kind_or_first k) (memory_of (known_in scene) r) (accessed r ts) led in
-              (sees_all i q h g on current sh n ts s.0 part (of_indices r ts (path i) (path q) agree), read_done i n (n + terms_accesses ts) h place (kind_or_first k) (memory_of (known_in scene) r) (accessed r ts) s s.1.0 tt (λ l. refl) here led),
+              ((sees_all i q h g on current sh n ts s.0.0 part (of_indices r ts (path i) (path q) agree), way_seen i q h g on current sh r s.0.1 (of_name r ts (path i) (path q) agree)), read_done i n (n + terms_accesses ts) h place (kind_or_first k) (memory_of (known_in scene) r) (accessed r ts) s s.1.0 tt (λ l. refl) here led),
         )
     fair i h current sh n (term place k (in_bank r bank at row)) s f =
         let here : IsReadAt scene x find (n + term_accesses row) (read_found scene around x V n place (kind_or_first k) (memory_of (known_in scene) r) (in_bank r bank at row)) =

@@ -45,7 +45,7 @@ use Rattle.dh_blocks.specs.BlockGround.{AreFoundAt, AreWithin}
 use Rattle.dh_blocks.specs.BlockMade.{IsTop, effect_begun, step_of}
 use Rattle.dh_blocks.specs.NamedVariables.{IsNamed, IsNamedHere}
 use Rattle.dh_commands.specs.Setting.{NoVariable}
-use Rattle.dh_blocks.specs.SlotsOfScene.{HoldsVariables, placing_in, slots_in}
+use Rattle.dh_blocks.specs.SlotsOfScene.{HoldsVariables, IsStartOf, placing_in, slots_in}
 use Rattle.dh_blocks.specs.SoundTerms.{IsSound}
 use Rattle.dh_blocks.specs.TestMade.{IsSoundTest, IsTestMade, IsTestTraced, MadeTestsDo, flag_made}
 use Rattle.dh_blocks.proofs.BlockBegins.{begun_here, fits_here, ground_here, paths_here, placed_here, stands_here}
@@ -179,6 +179,9 @@ module _ (scene : Scene) (around : Around) (plan : PlainPlan) (count block flag 
     abbrev find : ℕ → Option Found
     find = found_from first (term_found scene around x V first t)
 
+    start : IsStartOf scene x
+    start = record { table = holds.table; ways = holds.views }
+
     abbrev reads : Reads
     reads = chosen_reads x find old.accesses
 
@@ -212,7 +215,7 @@ module _ (scene : Scene) (around : Around) (plan : PlainPlan) (count block flag 
     stands_first : Stands scene around x reads old first_effect
     stands_first = stands_here scene around plan count block rounds old new more made.put holds top registers memories variables st find bare
 
-    stage : Stage scene x find old.accesses variables none_touched within_all holds.table around (λ entity. ⊥)
+    stage : Stage scene x find old.accesses variables none_touched within_all start around (λ entity. ⊥)
     stage = record { ground = ground_here scene around plan count rounds holds top; placed = placed_here scene around plan count rounds holds top; folds = λ e none. absurd none }
 
     sound_now : IsSound (known_in scene) x.start.table (IsNamed scene around.levels.now x variables none_touched) t
@@ -222,7 +225,7 @@ module _ (scene : Scene) (around : Around) (plan : PlainPlan) (count block flag 
 
     along : Along around x reads (IsFollowedBy scene around first t) (test_run scene x first t) first_effect (paths_counted around)
     along =
-        tested_followed scene x find old.accesses variables none_touched within_all holds.table around (λ entity. ⊥) first t first_effect stage sound_now (λ i q left. refl)
+        tested_followed scene x find old.accesses variables none_touched within_all start around (λ entity. ⊥) first t first_effect stage sound_now (λ i q left. refl)
         (λ i f is. (own i f is, test_shares scene x find around first t traced V own i f is))
 
     abbrev last_effect : Effect

@@ -1,18 +1,23 @@
 -- What stands round the paths of a block, and of what is found along it that shared reads mean the same.
-use Rattle.std.specs.Prelude.{◌≡◌, ℕ, ◌+◌, ◌<◌, ◌^◌, true, false, List, length, slice_get, Option, Some, None}
+use Rattle.std.specs.Prelude.{◌≡◌, ℕ, ◌+◌, ◌<◌, ◌^◌, true, false, List, length, slice_get, Option, Some, None, [], ◌∷◌}
 use Rattle.dh_tree.specs.PlainTrees as plain
+use Rattle.dh_tree.specs.Seen.{terms}
+use Rattle.dh_tree.specs.ViewOffsets.{offsets_of}
 use Rattle.dh_tree.specs.PlainTrees.{Action, action, ActionForm, lets, lets_memory, views, assigns, stores, reduces, calls, blocks, decides, repeats, counts, MaybeAction, no_action, one_action, Actions, no_actions, action_then, Groups, no_groups, group_then}
 use Rattle.dh_meaning.specs.AccessNumbers.{accesses_of, part_accesses, term_accesses}
+use Rattle.dh_meaning.specs.CoreOf.{way_of}
 use Rattle.dh_meaning.specs.Effects.{Effect, Variables}
 use Rattle.dh_meaning.specs.Paths.{copies_in}
+use Rattle.dh_meaning.specs.Ways.{Hidden, hidden_in}
 use Rattle.dh_expressions.specs.declared.accesses.Accesses.{Accesses}
 use Rattle.dh_expressions.specs.declared.scenes.Around.{Around}
 use Rattle.dh_expressions.specs.declared.scenes.Scene.{Scene}
 use Rattle.dh_expressions.specs.Copying.{HasScopes}
 use Rattle.dh_expressions.specs.Drafted.{Step}
+use Rattle.dh_expressions.specs.Evaluated.{known_in}
 use Rattle.dh_commands.specs.LanesRun.{IsArm, paths_counted, paths_on}
 use Rattle.dh_commands.specs.ShownVariables.{IsSeen, factors_of, register_in, seen_path}
-use Rattle.dh_commands.specs.Followed.{Arms, no_arms, arms_of, arms_then, assign_run, effect_of, part_effect, reduced_term, store_run, term_in, test_out, test_run, tested}
+use Rattle.dh_commands.specs.Followed.{Arms, no_arms, arms_of, arms_then, assign_run, effect_of, kept_run, part_effect, reduced_term, store_run, term_in, test_out, test_run, tested}
 use Rattle.dh_blocks.specs.FoundAccesses.{Found, term_found, terms_found, variables_along}
 use Rattle.dh_blocks.specs.ChosenReads.{done_of, word_found}
 use Rattle.dh_blocks.specs.PathsOfLevels.{AreSpread}
@@ -71,6 +76,11 @@ module _ (scene : Scene) (x : Step) (find : ℕ → Option Found) where
   TargetShares around variables n (plain.term place k (plain.applied op left right)) = Unit {0}
   TargetShares around variables n (plain.term place k (plain.converted inner to)) = Unit {0}
 
+  -- of the reads in the offsets of a view
+  abbrev pub SharesInView : Around → (n : ℕ) → List Hidden → (offsets : List plain.Term) → Effect → Type 0
+  SharesInView around n [] offsets e = Unit {0}
+  SharesInView around n (h ∷ hs) offsets e = AreShared n (terms_found scene around x (variables_along scene x around (kept_run scene x h n offsets) e) n (terms offsets))
+
   abbrev mutual
     pub SharesIn : Around → Arms → (n : ℕ) → Action → Effect → Type 0
     SharesIn around arms n (action id place form) e = SharesInForm around arms n form e
@@ -92,7 +102,7 @@ module _ (scene : Scene) (x : Step) (find : ℕ → Option Found) where
         → SharesInOther two behind (n + term_accesses t + accesses_of chosen) other (effect_of scene x (paths_on x one) (n + term_accesses t) chosen (tested scene x around n t e))))
     SharesInForm around arms n (blocks body) e = SharesInGroups around arms n body e
     SharesInForm around arms n (lets_memory name shape shape_places value) e = Unit {0}
-    SharesInForm around arms n (views name parent form) e = Unit {0}
+    SharesInForm around arms n (views name parent form) e = SharesInView around n (hidden_in (way_of (known_in scene) name)) (offsets_of form) e
     SharesInForm around arms n (calls function arguments) e = Unit {0}
     SharesInForm around arms n (repeats test body) e = Unit {0}
     SharesInForm around arms n (counts iterator declared low high factor body combine combine_place) e = Unit {0}

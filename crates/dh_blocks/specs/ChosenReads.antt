@@ -1,6 +1,6 @@
 -- What reads give in a step that does a block, and where accesses stand: chosen from what is found along the block's
 -- run. An access of an earlier block is done nowhere here; it stands as its copies say.
-use Rattle.std.specs.Prelude.{◌≡◌, ℕ, zero, suc, ◌<◌, ◌==◌, ◌&&◌, ◌||◌, Bool, false, List, [], ◌∷◌, ◌++◌, length, slice_get, Option, Some, None}
+use Rattle.std.specs.Prelude.{◌≡◌, ℕ, zero, suc, ◌<◌, ◌==◌, ◌&&◌, ◌||◌, Bool, false, List, [], ◌∷◌, ◌++◌, length, Option, Some, None}
 use Rattle.dh_base.specs.declared.outcomes.FaultKind.{FaultKind}
 use Rattle.dh_base.specs.declared.places.Place.{Place}
 use Rattle.dh_value.specs.declared.words.Word.{Word}
@@ -32,7 +32,7 @@ word_found (Some f) path = f.word path
 -- Accesses of earlier blocks.
 
 abbrev pub no_standing : Standing
-no_standing = record { place = place_named None; leader = λ path. path; bank = λ path. 0; guards = [] }
+no_standing = record { place = place_named None; leader = λ path. path; bank = λ path. 0; places = λ path. 0; reaches = λ bank place. []; guards = [] }
 
 abbrev pub standing_or_none : List (FaultKind × Place) → Option Touched → Standing
 standing_or_none named None = no_standing

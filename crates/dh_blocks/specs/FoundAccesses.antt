@@ -5,13 +5,16 @@ use Rattle.dh_base.specs.declared.places.Place.{Place}
 use Rattle.dh_value.specs.declared.kinds.Kind.{Kind}
 use Rattle.dh_value.specs.declared.words.Word.{Word}
 use Rattle.dh_tree.specs.PlainTrees as plain
+use Rattle.dh_tree.specs.Seen.{terms}
+use Rattle.dh_tree.specs.ViewOffsets.{offsets_of}
 use Rattle.dh_tree.specs.PlainTrees.{Action, action, ActionForm, lets, lets_memory, views, assigns, stores, reduces, calls, blocks, decides, repeats, counts, MaybeAction, no_action, one_action, Actions, no_actions, action_then, Groups, no_groups, group_then}
-use Rattle.dh_meaning.specs.AccessNumbers.{accesses_of, other_accesses, part_accesses, plan_accesses, term_accesses}
+use Rattle.dh_meaning.specs.AccessNumbers.{accesses_of, other_accesses, part_accesses, term_accesses, terms_accesses}
 use Rattle.dh_meaning.specs.Bindings.{kind_or_first}
-use Rattle.dh_meaning.specs.CoreOf.{core_form, memory_of}
+use Rattle.dh_meaning.specs.CoreOf.{core_form, memory_of, way_of}
 use Rattle.dh_meaning.specs.Effects.{Effect, Variables, value_of}
 use Rattle.dh_meaning.specs.Paths.{Path}
 use Rattle.dh_meaning.specs.Phases.{Located}
+use Rattle.dh_meaning.specs.Ways.{Hidden, hidden_in}
 use Rattle.dh_plan.specs.Blocks.{no_word}
 use Rattle.dh_expressions.specs.declared.scenes.Around.{Around}
 use Rattle.dh_expressions.specs.declared.scenes.Scene.{Scene}
@@ -19,7 +22,7 @@ use Rattle.dh_expressions.specs.Drafted.{Step}
 use Rattle.dh_expressions.specs.Evaluated.{begun_of, known_in}
 use Rattle.dh_expressions.specs.Standings.{Standing, standing_at}
 use Rattle.dh_commands.specs.LanesRun.{lanes_run, path_in, paths_on}
-use Rattle.dh_commands.specs.Followed.{Arms, no_arms, arms_of, arms_then, assign_run, effect_of, part_effect, reduced_term, store_run, term_in, test_run, tested}
+use Rattle.dh_commands.specs.Followed.{Arms, no_arms, arms_of, arms_then, assign_run, effect_of, kept_run, part_effect, reduced_term, store_run, term_in, test_run, tested}
 
 -- where an access stands, and of a read what it means at each path
 pub record Found : Type 0 where
@@ -65,10 +68,10 @@ module _ (scene : Scene) (around : Around) (x : Step) (variables : ℕ → Varia
   target_found n (plain.term place k (plain.applied op left right)) = []
   target_found n (plain.term place k (plain.converted inner to)) = []
 
--- accesses that are nowhere done: those of a loop without turns, or of a view that moves, which is refused
+-- accesses that are nowhere done: those of a loop without turns, or of a view that keeps nothing
 abbrev pub idle_found : (count : ℕ) → List Found
 idle_found zero = []
-idle_found (suc n) = record { standing = record { place = record { line = 0; column = 0 }; leader = λ path. path; bank = λ path. 0; guards = [] }; word = λ path. no_word } ∷ idle_found n
+idle_found (suc n) = record { standing = record { place = record { line = 0; column = 0 }; leader = λ path. path; bank = λ path. 0; places = λ path. 0; reaches = λ bank place. []; guards = [] }; word = λ path. no_word } ∷ idle_found n
 
 -- by the numbers of accesses, the first of which has this one
 abbrev pub found_from : (first : ℕ) → List Found → (number : ℕ) → Option Found
@@ -87,6 +90,11 @@ module _ (scene : Scene) (x : Step) where
   abbrev pub maybe_found : Around → (n : ℕ) → (run : plain.Term → Path → Effect → Effect) → Option plain.Term → Effect → List Found
   maybe_found around n run None e = []
   maybe_found around n run (Some t) e = term_found scene around x (variables_along around (run t) e) n t
+
+  -- the offsets of a view, where a variable keeps one on its way
+  abbrev pub view_found : Around → (n : ℕ) → List Hidden → (offsets : List plain.Term) → Effect → List Found
+  view_found around n [] offsets e = idle_found (terms_accesses (terms offsets) + 0)
+  view_found around n (h ∷ hs) offsets e = terms_found scene around x (variables_along around (kept_run scene x h n offsets) e) n (terms offsets)
 
   abbrev mutual
     pub found : Around → Arms → (n : ℕ) → Action → Effect → List Found
@@ -107,7 +115,7 @@ module _ (scene : Scene) (x : Step) where
         ++ other_found two behind (n + term_accesses t + accesses_of chosen) other (effect_of scene x (paths_on x one) (n + term_accesses t) chosen (tested scene x around n t e)))
     form_of_found around arms n (blocks body) e = groups_found around arms n body e
     form_of_found around arms n (lets_memory name shape shape_places value) e = []
-    form_of_found around arms n (views name parent form) e = idle_found (plan_accesses form + 0)
+    form_of_found around arms n (views name parent form) e = view_found around n (hidden_in (way_of (known_in scene) name)) (offsets_of form) e
     form_of_found around arms n (calls function arguments) e = []
     form_of_found around arms n (repeats test body) e = idle_found (term_accesses test + accesses_of body)
     form_of_found around arms n (counts iterator declared low high factor body combine combine_place) e = idle_found (accesses_of body + other_accesses combine)

@@ -1,6 +1,6 @@
 -- What is to be known of the straight commands of a block. All of it holds of a typed program that breaks no rule: what
 -- is assigned is another variable at each path, but of reducers, which stand in no arm.
-use Rattle.std.specs.Prelude.{◌≡◌, ℕ, ◌≤◌, List, length, slice_get, Option, Some, None}
+use Rattle.std.specs.Prelude.{◌≡◌, ℕ, suc, ◌≤◌, List, [], ◌∷◌, length, slice_get, Option, Some, None}
 use Rattle.dh_value.specs.declared.kinds.Kind.{Kind}
 use Rattle.dh_value.specs.declared.kinds.Kind.TheVariants.{Bool}
 use Rattle.dh_value.specs.declared.operators.Op.{Op}
@@ -10,17 +10,20 @@ use Rattle.dh_tree.specs.declared.trees.expressions.Ref.{Ref}
 use Rattle.dh_tree.specs.WiderKinds.{wider}
 use Rattle.dh_tree.specs.PlainTrees as plain
 use Rattle.dh_tree.specs.PlainTrees.{Action, action, ActionForm, lets, lets_memory, views, assigns, stores, reduces, calls, blocks, decides, repeats, counts, MaybeAction, no_action, one_action, Actions, no_actions, action_then, Groups, no_groups, group_then}
+use Rattle.dh_tree.specs.Seen.{terms}
 use Rattle.dh_tree.specs.TextNumbers.{Reduces}
+use Rattle.dh_tree.specs.ViewOffsets.{offsets_of}
 use Rattle.dh_meaning.specs.Bindings.{kind_or_first}
-use Rattle.dh_meaning.specs.CoreOf.{Known, entity_number, kind_of, memory_of}
+use Rattle.dh_meaning.specs.CoreOf.{Known, entity_number, kind_of, memory_of, way_of}
 use Rattle.dh_meaning.specs.Effects.{entry_kind}
+use Rattle.dh_meaning.specs.Ways.{Hidden, hidden_in}
 use Rattle.dh_code.specs.Slots.{held_at}
 use Rattle.dh_expressions.specs.declared.paths.Level.{Level}
 use Rattle.dh_expressions.specs.declared.scenes.Scene.{Scene}
 use Rattle.dh_expressions.specs.Evaluated.{known_in}
 use Rattle.dh_expressions.specs.Shown.{kind_written}
 use Rattle.dh_commands.specs.ShownVariables.{IsSeen, depth_in}
-use Rattle.dh_blocks.specs.SoundTerms.{IsSound, IsSoundTarget}
+use Rattle.dh_blocks.specs.SoundTerms.{AreSound, IsSound, IsSoundTarget}
 
 -- a variable that is another at each path inside these loops
 pub record IsOwnOf (scene : Scene) (levels : List Level) (entity : ℕ) : Type 0 where
@@ -64,6 +67,19 @@ module _ (scene : Scene) (levels : List Level) (table : List MemEntry) (Name : R
   CanLet r declared None = IsOwnOf scene levels (entity_number r.entity) × CanClear scene r declared
   CanLet r declared (Some t) = CanAssign r t
 
+  -- offsets are kept in variables that follow one another from a first one on: each is another at each path, and is declared
+  -- inside as many unrolled loops
+  abbrev pub CanKeepFrom : (depth first : ℕ) → List plain.Term → Type 0
+  CanKeepFrom depth first [] = Unit {0}
+  CanKeepFrom depth first (t ∷ ts) =
+      (IsOwnOf scene levels first × ((depth ≡ depth_in scene first) × CanHold (held_at scene.held.now first).kind t)) × CanKeepFrom depth (suc first) ts
+
+  -- so are those of a view, from the first variable on its way on
+  abbrev pub CanKeep : List Hidden → List plain.Term → Type 0
+  CanKeep hs [] = Unit {0}
+  CanKeep [] (t ∷ ts) = ⊥
+  CanKeep (h ∷ hs) (t ∷ ts) = AreSound (known_in scene) table Name (terms (t ∷ ts)) × CanKeepFrom h.depth h.entity (t ∷ ts)
+
   -- `Folds` is what reducers may assign to
   abbrev mutual
     pub SoundAction : (Folds : ℕ → Type 0) → Action → Type 0
@@ -78,7 +94,7 @@ module _ (scene : Scene) (levels : List Level) (table : List MemEntry) (Name : R
     SoundForm Folds (decides t chosen other) = IsTerm t × (SoundAction (λ entity. ⊥) chosen × SoundOther (λ entity. ⊥) other)
     SoundForm Folds (blocks body) = SoundGroups Folds body
     SoundForm Folds (lets_memory name shape shape_places value) = Unit {0}
-    SoundForm Folds (views name parent form) = Unit {0}
+    SoundForm Folds (views name parent form) = CanKeep (hidden_in (way_of (known_in scene) name)) (offsets_of form)
     SoundForm Folds (calls function arguments) = Unit {0}
     SoundForm Folds (repeats test body) = Unit {0}
     SoundForm Folds (counts iterator declared low high factor body combine combine_place) = Unit {0}

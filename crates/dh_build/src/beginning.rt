@@ -70,7 +70,8 @@ fn count_up(kinds: &[Kind], registers: &mut Vec<u64>, counter: u64)
 #[tactic(auto, using(dh_control::proofs::DecisionForms::decisions_are))]
 pub fn begin(decision: &Decision, kinds: &[Kind], over: u64, registers: &mut Vec<u64>) -> u64
     ensures state { AllByRecursion IsKind kinds.now → result
-        ≡ number_of over (resolve kinds.now (way_of_decision decision.now) registers.old.items).spot }
+        ≡ number_of over
+        (resolve kinds.now (way_of_decision decision.now) registers.old.items).spot }
     ensures registers { AllByRecursion IsKind kinds.now → registers.new.items
         ≡ (resolve kinds.now (way_of_decision decision.now) registers.old.items).registers }
 {

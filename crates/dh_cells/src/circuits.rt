@@ -138,7 +138,8 @@ impl Circuit {
 
     /// Whether a wire is a constant of at least this number.
     pub fn is_constant_from(&self, wire: u64, least: u8) -> bool
-        ensures shows { IsTrue result → (x : Signals) → IsSettled self.now x → least ≤ shown x wire }
+        ensures shows { IsTrue result → (x : Signals) → IsSettled self.now x
+            → least ≤ shown x wire }
         ensures below { result ≡ false → IsBelow self.now.cells wire least }
     {
         match self.constant_of(wire) {

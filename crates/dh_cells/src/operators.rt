@@ -154,7 +154,8 @@ fn push_shifted_right(
 fn push_shifted_unsigned(circuit: &mut Circuit, bits: u8, a: u64, b: u64) -> Result<u64, NoMemory>
     requires left { IsWire circuit.old a bits }
     requires right { IsAmount circuit.old b }
-    ensures { WireAdded result circuit.old circuit.new bits (form_shown circuit.old bits (ShrU a b)) }
+    ensures { WireAdded result circuit.old circuit.new bits
+        (form_shown circuit.old bits (ShrU a b)) }
 {
     if circuit.is_constant_from(b, bits) {
         circuit.push_constant(bits, 0)
@@ -167,7 +168,8 @@ fn push_shifted_unsigned(circuit: &mut Circuit, bits: u8, a: u64, b: u64) -> Res
 fn push_shifted_signed(circuit: &mut Circuit, bits: u8, a: u64, b: u64) -> Result<u64, NoMemory>
     requires left { IsWire circuit.old a bits }
     requires right { IsAmount circuit.old b }
-    ensures { WireAdded result circuit.old circuit.new bits (form_shown circuit.old bits (ShrS a b)) }
+    ensures { WireAdded result circuit.old circuit.new bits
+        (form_shown circuit.old bits (ShrS a b)) }
 {
     if circuit.is_constant_from(b, bits) {
         circuit.push_signs(bits, a)

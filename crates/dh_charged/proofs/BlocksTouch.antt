@@ -7,11 +7,13 @@ use Rattle.dh_value.specs.declared.kinds.Kind.{Kind}
 use Rattle.dh_tree.specs.declared.trees.counters.Counter.{Counter}
 use Rattle.dh_tree.specs.declared.trees.expressions.Ref.{Ref}
 use Rattle.dh_tree.specs.PlainTrees.{Term}
+use Rattle.dh_meaning.specs.Bindings.{Binding, binding_in}
 use Rattle.dh_meaning.specs.Core.{CoreCommand, CoreCommands, assign, choose, command_and, keep, no_commands, store}
 use Rattle.dh_meaning.specs.CoreOf.{core_commands, core_term, entity_number}
 use Rattle.dh_meaning.specs.Effects.{commands, tests}
 use Rattle.dh_meaning.specs.Levels.{any_assigns, assigns_to}
 use Rattle.dh_meaning.specs.Phases.{Located}
+use Rattle.dh_meaning.specs.Ways.{Hidden}
 use Rattle.dh_code.specs.Slots.{held_at}
 use Rattle.dh_plan.specs.declared.operations.Operation.{Operation}
 use Rattle.dh_plan.specs.declared.operations.OperationForm.{OperationForm}
@@ -21,7 +23,7 @@ use Rattle.dh_plan.specs.PlainPlans.{PlainPlan, operations_in}
 use Rattle.dh_plan.specs.PlanPhases.{IsCounterOf, IsIteratorOf, IsRegisterOf, Touches, command_mentions, commands_mention, term_mentions, terms_mention}
 use Rattle.dh_expressions.specs.declared.scenes.Around.{Around}
 use Rattle.dh_expressions.specs.declared.scenes.Scene.{Scene}
-use Rattle.dh_expressions.specs.Evaluated.{counter_of, known_in}
+use Rattle.dh_expressions.specs.Evaluated.{counter_of, hidden_register, known_in}
 use Rattle.dh_expressions.specs.Shown.{is_read_term}
 use Rattle.dh_formed.specs.Commanded.{CommandIs}
 use Rattle.dh_formed.specs.Counted.{register_seen}
@@ -36,10 +38,12 @@ use Rattle.dh_commands.specs.Undone.{AreReady, NoneGiven, given_at}
 use Rattle.dh_laid.specs.BlockSites.{MadeEach}
 use Rattle.dh_laid.specs.LaidQuiet.{StandsIn}
 use Rattle.dh_laid.proofs.ValuesLogged.{logged_ready}
+use Rattle.dh_sound.specs.SameKeys.{IsNoIterator}
 use Rattle.dh_blocks.specs.BlockMade.{AreSoundBy, IsPut, set_made, sets_made}
 use Rattle.dh_blocks.specs.NamedVariables.{IsNamedHere}
 use Rattle.dh_blocks.specs.SlotsOfScene.{slots_in}
 use Rattle.dh_blocks.specs.SoundCommands.{SoundAction}
+use Rattle.dh_blocks.specs.SoundTerms.{IsSoundHidden, kept_name}
 use Rattle.dh_blocks.specs.TestMade.{IsSoundTest, flag_made}
 use Rattle.dh_blocks.proofs.SoundMapped.{action_mapped, term_mapped}
 use Rattle.dh_blocks.proofs.VariablesPlaced.{copy_path, register_slot, slot_is}
@@ -186,6 +190,9 @@ module _ (scene : Scene) (around : Around) (plan : PlainPlan) (rounds : List Rou
     abbrev Named : Ref → Type 0
     Named r = (mentions (entity_number r.entity) ≡ true) × ((k : Kind) × Name r k)
 
+    abbrev Kept : Hidden → Type 0
+    Kept h = (mentions h.entity ≡ true) × ((r : Ref) × IsSoundHidden (known_in scene) plan.table Name r h)
+
     abbrev Goal : ℕ → Type 0
     Goal e = (assigns e ≡ true) × IsSeen scene around.levels.now e
 
@@ -196,9 +203,30 @@ module _ (scene : Scene) (around : Around) (plan : PlainPlan) (rounds : List Rou
     name_seen r n (is, (k, (touched, inr q))) h =
         subst (λ c. Sees (register_seen c (held_at scene.held.now (entity_number r.entity)) (lane_of around n))) (sym q.counted) (inr (counter_among rounds q.index q.round _ q.there (sym q.register_is)))
 
-    tells : TellsRegisters scene around Sees Target Named Goal
+    -- what keeps an offset is no iterator
+    kept_seen : (h : Hidden) (n : ℕ) → Kept h → n < paths_counted around → Sees (hidden_register scene (lane_of around n) h)
+    kept_seen h n (is, (r, s)) less = by s.named
+      where
+        clash : (b : Binding) (o : Option Binding) (f : ℕ) → o ≡ Some b → b.iterates ≡ Some f → IsNoIterator o → ⊥
+        clash b None f e it none = cc
+        clash b (Some c) f e it none = absurd (never (sym (ap (λ (y : Binding). y.iterates) (the c b e) ∙ it) ∙ none))
+          where
+            the : (x y : Binding) → Some x ≡ Some y → x ≡ y
+            the x y e = cc
+
+            never : Some f ≡ None → ⊥
+            never n = cc
+
+        by : Name (kept_name h) h.kind → Sees (hidden_register scene (lane_of around n) h)
+        by (touched, inl p) = inl (record { entity = h.entity; path = seen_path scene around h.entity n; slot = slot_seen h.entity n p.seen less; so = is })
+        by (touched, inr q) =
+            absurd (clash q.is.binding (binding_in (known_in scene).bindings h.entity) q.round.loop.factor
+            (ap (λ o. binding_in (known_in scene).bindings (entity_number o)) q.is.entity ∙ q.is.bound) q.is.iterates s.plain)
+
+    tells : TellsRegisters scene around Sees Target Named Kept Goal
     tells = record {
       names = name_seen;
+      kept = kept_seen;
       goals = λ entity n g h. record { entity = entity; path = seen_path scene around entity n; slot = slot_seen entity n g.1 h; so = g.0 };
       seen = λ register t. inl (record { entity = t.entity; path = t.path; slot = t.slot; so = both t.entity t.so });
     }
@@ -206,14 +234,14 @@ module _ (scene : Scene) (around : Around) (plan : PlainPlan) (rounds : List Rou
     abbrev Does : Building → Building → Type 0
     Does old new = SeesAndGives Sees Target old new
 
-    each_sees : (cs : List Located) (old new : Building) → AllByRecursion (λ (c : Located). NamesCommand Named Goal c.command) cs → MadeEach scene around cs old new → AreReady old.values → Does old new
-    each_sees [] old new named m ready = does_none scene Sees Target Named Goal old new m
+    each_sees : (cs : List Located) (old new : Building) → AllByRecursion (λ (c : Located). NamesCommand (known_in scene) Named Kept Goal c.command) cs → MadeEach scene around cs old new → AreReady old.values → Does old new
+    each_sees [] old new named m ready = does_none scene Sees Target Named Kept Goal old new m
     each_sees (c ∷ cs) old new named (mid, (next, (m, rest))) ready =
-        by (command_sees scene Sees Target Named Goal c.command around old mid c.first next stands_in tells named.0 m ready) (λ r. each_sees cs mid new named.1 rest r)
+        by (command_sees scene Sees Target Named Kept Goal c.command around old mid c.first next stands_in tells named.0 m ready) (λ r. each_sees cs mid new named.1 rest r)
       where
         by : Does old mid → (AreReady mid.values → Does mid new) → Does old new
         by one rest =
-            does_again scene Sees Target Named Goal old mid new one (rest (logged_ready old.values mid.values (logged (λ (k : Change). Target k.register) old.values mid.values one.logs) ready))
+            does_again scene Sees Target Named Kept Goal old mid new one (rest (logged_ready old.values mid.values (logged (λ (k : Change). Target k.register) old.values mid.values one.logs) ready))
 
   -- straight commands
 
@@ -238,7 +266,7 @@ module _ (scene : Scene) (around : Around) (plan : PlainPlan) (rounds : List Rou
     IsOurs c = SoundAction scene around.levels.now plan.table OurName (IsSeen scene around.levels.now) c.command
 
     list_named : (ds : List Located) → AllByRecursion IsOurs ds → Holds (λ e. mentions_them e ≡ true) (λ e. assigns_them e ≡ true) (cores ds)
-        → AllByRecursion (λ (c : Located). NamesCommand (Named mentions_them assigns_them assigned_mentioned) (Goal mentions_them assigns_them assigned_mentioned) c.command) ds
+        → AllByRecursion (λ (c : Located). NamesCommand (known_in scene) (Named mentions_them assigns_them assigned_mentioned) (Kept mentions_them assigns_them assigned_mentioned) (Goal mentions_them assigns_them assigned_mentioned) c.command) ds
     list_named [] s h = tt
     list_named (c ∷ ds) s h =
         let one = action_named scene around.levels.now plan.table OurName (λ e. mentions_them e ≡ true) (λ e. assigns_them e ≡ true) (IsSeen scene around.levels.now) (λ e is. is) c.first c.command (cores ds) s.0 h in
@@ -303,7 +331,7 @@ module _ (scene : Scene) (around : Around) (plan : PlainPlan) (rounds : List Rou
     abbrev TestName : Ref → Kind → Type 0
     TestName r k = (touched : ℕ → Truth) × IsNamedHere scene around.levels.now plan.registers rounds touched r k
 
-    test_named : NamesTerm (Named mentions_it assigns_none none_assigned) t
+    test_named : NamesTerm (known_in scene) (Named mentions_it assigns_none none_assigned) (Kept mentions_it assigns_none none_assigned) t
     test_named =
         term_named (known_in scene) plan.table TestName (λ e. mentions_it e ≡ true) first t
         (term_mapped (known_in scene) plan.table (IsNamedHere scene around.levels.now plan.registers rounds (λ e. false)) TestName (λ r k is. ((λ e. false), is)) t sound.sound) (λ e m. m)
@@ -313,7 +341,7 @@ module _ (scene : Scene) (around : Around) (plan : PlainPlan) (rounds : List Rou
 
     tested_so : SeesAndGives SeesIt (Target mentions_it assigns_none none_assigned) before between
     tested_so =
-        tests_do scene SeesIt (Target mentions_it assigns_none none_assigned) (Named mentions_it assigns_none none_assigned) (Goal mentions_it assigns_none none_assigned) around stands_in
+        tests_do scene SeesIt (Target mentions_it assigns_none none_assigned) (Named mentions_it assigns_none none_assigned) (Kept mentions_it assigns_none none_assigned) (Goal mentions_it assigns_none none_assigned) around stands_in
         (tells mentions_it assigns_none none_assigned) first t test_named before between next values made
 
     test_operations : AllByRecursion (Is SeesIt (λ register. flag ≡ register)) (operations_in plan block)

@@ -12,19 +12,25 @@ use Rattle.dh_value.specs.Operations.{truth}
 use Rattle.dh_tree.specs.declared.trees.counters.Counter.{Counter}
 use Rattle.dh_tree.specs.declared.trees.expressions.Ref.{Ref}
 use Rattle.dh_tree.specs.Indices.{form_of}
-use Rattle.dh_tree.specs.PlainTrees.{Term, Action, action, ActionForm, lets, lets_memory, views, assigns, stores, reduces, calls, blocks, decides, repeats, counts, MaybeAction, no_action, one_action, Actions, no_actions, action_then, Groups, no_groups, group_then}
-use Rattle.dh_meaning.specs.CoreOf.{entity_number}
+use Rattle.dh_tree.specs.PlainTrees.{Term, Action, action, ActionForm, lets, lets_memory, views, assigns, stores, reduces, calls, blocks, decides, repeats, counts, MaybeAction, no_action, one_action, Actions, no_actions, action_then, Groups, no_groups, group_then, ViewPlan}
+use Rattle.dh_tree.specs.Seen.{terms}
+use Rattle.dh_tree.specs.ViewOffsets.{offsets_of}
+use Rattle.dh_meaning.specs.CoreOf.{entity_number, way_of}
+use Rattle.dh_meaning.specs.Ways.{Hidden, hidden_in}
 use Rattle.dh_code.specs.declared.places.Held.{Held}
 use Rattle.dh_code.specs.Extended.{extension_of}
 use Rattle.dh_code.specs.Made.{same_kind}
 use Rattle.dh_code.specs.Slots.{held_at}
 use Rattle.dh_plan.specs.declared.operations.OperationForm.TheVariants.{Compute, Constant, Select}
+use Rattle.dh_expressions.specs.declared.accesses.Accesses.{Accesses}
 use Rattle.dh_expressions.specs.declared.drafts.Draft.{Draft}
 use Rattle.dh_expressions.specs.declared.paths.Level.{Level}
 use Rattle.dh_expressions.specs.declared.scenes.Around.{Around}
+use Rattle.dh_expressions.specs.declared.scenes.Lane.{Lane}
 use Rattle.dh_expressions.specs.declared.scenes.Scene.{Scene}
-use Rattle.dh_expressions.specs.Evaluated.{counter_of}
+use Rattle.dh_expressions.specs.Evaluated.{counter_of, hidden_register, known_in}
 use Rattle.dh_expressions.specs.Levels.{rank_number}
+use Rattle.dh_expressions.specs.MadeTerms.{MadeTerms}
 use Rattle.dh_expressions.specs.Shown.{guard_of, kind_written, register_at}
 use Rattle.dh_formed.specs.Counted.{register_seen}
 use Rattle.dh_commands.specs.declared.assignments.Change.{Change}
@@ -34,7 +40,8 @@ use Rattle.dh_commands.specs.declared.choices.Choice.{Choice}
 use Rattle.dh_commands.specs.declared.choices.Left.{Left}
 use Rattle.dh_commands.specs.Joined.{IsLeft}
 use Rattle.dh_commands.specs.LanesRun.{lane_of, paths_counted}
-use Rattle.dh_commands.specs.MadeCommands.{Commanding, FoldedWith, MadeActionForm, MadeActions, MadeArm, MadeArmGuard, MadeArmGuards, MadeAssigned, MadeBehind, MadeChoiceBy, MadeChoices, MadeCleared, MadeCommand, MadeGroups, MadeGuard, MadeIf, MadeJoined, MadeLanes, MadeOldOperand, MadeOperand, MadeOther, MadeOutcome, MadeReduced, MadeStored, MadeTests}
+use Rattle.dh_commands.specs.MadeCommands.{Commanding, FoldedWith, MadeActionForm, MadeActions, MadeArm, MadeArmGuard, MadeArmGuards, MadeAssigned, MadeBehind, MadeChoiceBy, MadeChoices, MadeCleared, MadeCommand, MadeGroups, MadeGuard, MadeHolds, MadeIf, MadeJoined, MadeKept, MadeLanes, MadeOldOperand, MadeOperand, MadeOther, MadeOutcome, MadeReduced, MadeStored, MadeTests, MadeView}
+use Rattle.dh_commands.specs.Setting.{SetsFrom}
 use Rattle.dh_commands.specs.ShownVariables.{register_in}
 use Rattle.dh_commands.specs.Undone.{AreReady, Logs, first_left, left_at, lefts_of, undone}
 use Rattle.dh_commands.proofs.ArmsLeft.{AreSame, same_ready}
@@ -43,8 +50,8 @@ use Rattle.dh_commands.proofs.JoinedArms.{first_has}
 use Rattle.dh_laid.specs.LaidCommands.{AreLogged}
 use Rattle.dh_laid.specs.LaidQuiet.{StandsIn}
 use Rattle.dh_laid.proofs.ValuesLogged.{IsBack, arm_back, arm_long, logged_ready, stands_arm, tests_same}
-use Rattle.dh_charged.specs.SeenRegisters.{AddsSeeing, NamesAction, NamesActions, NamesAim, NamesCommand, NamesGroups, NamesOther, NamesTerm, SeesAndGives, TellsRegisters}
-use Rattle.dh_charged.proofs.TermsSee.{aim_sees, converted_sees, held_sees, number_sees, seeing_again, seeing_none, seeing_pushed, shown_sees, storing_sees, term_sees}
+use Rattle.dh_charged.specs.SeenRegisters.{AddsSeeing, GoalsFrom, NamesAction, NamesActions, NamesAim, NamesCommand, NamesGroups, NamesOther, NamesTerm, NamesTerms, NamesView, SeesAndGives, TellsRegisters}
+use Rattle.dh_charged.proofs.TermsSee.{aim_sees, converted_sees, held_sees, number_sees, seeing_again, seeing_none, seeing_pushed, shown_sees, storing_sees, term_sees, terms_sees}
 
 -- Registers of an arm are those of what stands round it.
 
@@ -91,9 +98,16 @@ logs_same P old new s = record {
   given = tt;
 }
 
-module _ (scene : Scene) (Sees Target : ℕ → Type 0) (Named : Ref → Type 0) (Goal : ℕ → Type 0) where
+-- Offsets have as many values.
+offsets_long : (scene : Scene) (lane : Lane) (current : List (Option ℕ)) (os : List Term) (old new : Draft) (before after : Accesses) (n next : ℕ) (vs : List ℕ) → MadeTerms scene lane current (terms os) old new before after n next vs
+    → length vs ≡ length os
+offsets_long scene lane current [] old new before after n next vs m = ap (λ (l : List ℕ). length l) m.none
+offsets_long scene lane current (t ∷ os) old new before after n next vs m =
+    ap (λ (l : List ℕ). length l) m.values_are ∙ ap suc (offsets_long scene lane current os m.middle new m.between after m.own next m.more m.rest)
+
+module _ (scene : Scene) (Sees Target : ℕ → Type 0) (Named : Ref → Type 0) (Kept : Hidden → Type 0) (Goal : ℕ → Type 0) where
   abbrev Tells : Around → Type 0
-  Tells around = TellsRegisters scene around Sees Target Named Goal
+  Tells around = TellsRegisters scene around Sees Target Named Kept Goal
 
   abbrev IsTarget : Change → Type 0
   IsTarget c = Target c.register
@@ -122,11 +136,14 @@ module _ (scene : Scene) (Sees Target : ℕ → Type 0) (Named : Ref → Type 0)
     lane_names : (r : Ref) → Named r → Sees (register_seen (counter_of scene (entity_number r.entity)) (held_at scene.held.now (entity_number r.entity)) (lane_of around n))
     lane_names r h = tells.names r n h within
 
-    assigned_sees : (first entity : ℕ) (t : Term) (old new : Building) (next : ℕ) → NamesTerm Named t → Goal entity → MadeAssigned scene (lane_of around n) first entity t old new next → Does old new
+    lane_keeps : (h : Hidden) → Kept h → Sees (hidden_register scene (lane_of around n) h)
+    lane_keeps h k = tells.kept h n k within
+
+    assigned_sees : (first entity : ℕ) (t : Term) (old new : Building) (next : ℕ) → NamesTerm (known_in scene) Named Kept t → Goal entity → MadeAssigned scene (lane_of around n) first entity t old new next → Does old new
     assigned_sees first entity t old new next h g m = record {
       sees =
           seeing_again Sees old.draft m.middle new.draft
-          (term_sees Sees scene (lane_of around n) stands Named lane_names old.values.current.items t old.draft m.middle old.accesses new.accesses first next m.value h m.term)
+          (term_sees Sees scene (lane_of around n) stands Named lane_names Kept lane_keeps old.values.current.items t old.draft m.middle old.accesses new.accesses first next m.value h m.term)
           (held_sees Sees t (held_at scene.held.now entity).kind m.value m.middle new.draft m.held m.holds);
       logs = logs_one IsTarget old.values new.values (register_in scene around entity n) n m.held (tells.goals entity n g within) m.sets;
     }
@@ -156,24 +173,62 @@ module _ (scene : Scene) (Sees Target : ℕ → Type 0) (Named : Ref → Type 0)
         (seeing_again Sees m.third m.fourth new (seeing_pushed Sees m.third m.fourth m.all None (Compute op m.left m.right) m.pushes tt)
         (converted_sees Sees (same_kind held.kind (extension_of op held.kind (kind_written t))) held.kind m.all m.fourth new v m.own))))
 
-    reduced_sees : (first entity : ℕ) (op : Op) (t : Term) (old new : Building) (next : ℕ) → NamesTerm Named t → Goal entity → MadeReduced scene (lane_of around n) first entity op t old new next → Does old new
+    reduced_sees : (first entity : ℕ) (op : Op) (t : Term) (old new : Building) (next : ℕ) → NamesTerm (known_in scene) Named Kept t → Goal entity → MadeReduced scene (lane_of around n) first entity op t old new next → Does old new
     reduced_sees first entity op t old new next h g m = record {
       sees =
           seeing_again Sees old.draft m.middle new.draft
-          (term_sees Sees scene (lane_of around n) stands Named lane_names old.values.current.items t old.draft m.middle old.accesses new.accesses first next m.value h m.term)
+          (term_sees Sees scene (lane_of around n) stands Named lane_names Kept lane_keeps old.values.current.items t old.draft m.middle old.accesses new.accesses first next m.value h m.term)
           (folded_sees old.values.current.items (held_at scene.held.now entity) op t m.value m.middle new.draft m.folded (tells.seen (register_in scene around entity n) (tells.goals entity n g within)) m.folds);
       logs = logs_one IsTarget old.values new.values (register_in scene around entity n) n m.folded (tells.goals entity n g within) m.sets;
     }
 
-    stored_sees : (first : ℕ) (target t : Term) (old new : Building) (next : ℕ) → NamesTerm Named t → NamesAim Named (form_of target) → MadeStored scene (lane_of around n) first target t old new next → Does old new
+    stored_sees : (first : ℕ) (target t : Term) (old new : Building) (next : ℕ) → NamesTerm (known_in scene) Named Kept t → NamesAim (known_in scene) Named Kept (form_of target) → MadeStored scene (lane_of around n) first target t old new next → Does old new
     stored_sees first target t old new next h g m = record {
       sees =
           seeing_again Sees old.draft m.middle new.draft
-          (term_sees Sees scene (lane_of around n) stands Named lane_names old.values.current.items t old.draft m.middle old.accesses m.between first m.own m.value h m.term)
+          (term_sees Sees scene (lane_of around n) stands Named lane_names Kept lane_keeps old.values.current.items t old.draft m.middle old.accesses m.between first m.own m.value h m.term)
           (seeing_again Sees m.middle m.end new.draft
-          (aim_sees Sees scene (lane_of around n) stands Named lane_names old.values.current.items (form_of target) m.middle m.end m.between m.behind m.own m.aimed g m.aims)
+          (aim_sees Sees scene (lane_of around n) stands Named lane_names Kept lane_keeps old.values.current.items (form_of target) m.middle m.end m.between m.behind m.own m.aimed g m.aims)
           (storing_sees Sees scene (lane_of around n) stands target t m.value m.aimed m.end m.behind new next m.stores));
       logs = logs_equal IsTarget old.values new.values m.same;
+    }
+
+    -- what a view keeps
+    holds_see : (entity : ℕ) (offsets : List Term) (values : List ℕ) (old new : Draft) (held : List ℕ) → MadeHolds scene entity offsets values old new held → AddsSeeing Sees old new
+    holds_see entity [] values old new held m = seeing_none Sees old new m.0
+    holds_see entity (t ∷ ts) [] old new held m = seeing_none Sees old new m.0
+    holds_see entity (t ∷ ts) (v ∷ vs) old new held (d, (h, (more, (one, (rest, are))))) =
+        seeing_again Sees old d new (held_sees Sees t (held_at scene.held.now entity).kind v old d h one) (holds_see (suc entity) ts vs d new more rest)
+
+    sets_log : (entity : ℕ) (offsets : List Term) (values : List ℕ) (d e : Draft) (held : List ℕ) → length values ≡ length offsets → MadeHolds scene entity offsets values d e held → GoalsFrom (known_in scene) Named Kept Goal entity offsets
+        → (old new : Values) → SetsFrom scene (lane_of around n) old new entity held → Logs IsTarget old new
+    sets_log entity [] [] d e held long m g old new s = logs_equal IsTarget old new (subst (λ (hs : List ℕ). SetsFrom scene (lane_of around n) old new entity hs) m.1 s)
+    sets_log entity [] (v ∷ vs) d e held long m g old new s = absurd (some (length vs) long)
+      where
+        some : (i : ℕ) → suc i ≡ 0 → ⊥
+        some i l = omega (arith, l)
+    sets_log entity (t ∷ ts) [] d e held long m g old new s = absurd (some (length ts) long)
+      where
+        some : (i : ℕ) → 0 ≡ suc i → ⊥
+        some i l = omega (arith, l)
+    sets_log entity (t ∷ ts) (v ∷ vs) d e held long (b, (h, (more, (one, (rest, are))))) g old new s =
+        by (subst (λ (hs : List ℕ). SetsFrom scene (lane_of around n) old new entity hs) are s) (λ middle behind. sets_log (suc entity) ts vs b e more (less (length vs) (length ts) long) rest g.1 middle new behind)
+      where
+        by : SetsFrom scene (lane_of around n) old new entity (h ∷ more) → ((middle : Values) → SetsFrom scene (lane_of around n) middle new (suc entity) more → Logs IsTarget middle new) → Logs IsTarget old new
+        by (middle, (set, behind)) logs =
+            logs_again IsTarget old middle new (logs_one IsTarget old middle (register_in scene around entity n) n h (tells.goals entity n g.0 within) set) (logs middle behind)
+
+        less : (i j : ℕ) → suc i ≡ suc j → i ≡ j
+        less i j l = omega (arith, l)
+
+    kept_sees : (first entity : ℕ) (offsets : List Term) (old new : Building) (next : ℕ) → NamesTerms (known_in scene) Named Kept (terms offsets) → GoalsFrom (known_in scene) Named Kept Goal entity offsets
+        → MadeKept scene (lane_of around n) first entity offsets old new next → Does old new
+    kept_sees first entity offsets old new next h g m = record {
+      sees =
+          seeing_again Sees old.draft m.middle new.draft
+          (terms_sees Sees scene (lane_of around n) stands Named lane_names Kept lane_keeps old.values.current.items (terms offsets) old.draft m.middle old.accesses new.accesses first next m.values h m.offsets_made)
+          (holds_see entity offsets m.values m.middle new.draft m.held m.holds);
+      logs = sets_log entity offsets m.values m.middle new.draft m.held (offsets_long scene (lane_of around n) old.values.current.items offsets old.draft m.middle old.accesses new.accesses first next m.values m.offsets_made) m.holds g old.values new.values m.sets;
     }
 
   -- All paths.
@@ -187,14 +242,14 @@ module _ (scene : Scene) (Sees Target : ℕ → Type 0) (Named : Ref → Type 0)
   all_paths : (count : ℕ) → count ≤ count
   all_paths count = omega arith
 
-  tests_see : (around : Around) → StandsIn scene around → Tells around → (first : ℕ) (t : Term) → NamesTerm Named t → (count : ℕ) (old new : Building) (next : ℕ) (tests : List ℕ) → count ≤ paths_counted around
+  tests_see : (around : Around) → StandsIn scene around → Tells around → (first : ℕ) (t : Term) → NamesTerm (known_in scene) Named Kept t → (count : ℕ) (old new : Building) (next : ℕ) (tests : List ℕ) → count ≤ paths_counted around
       → MadeTests scene around first t count old new next tests → AddsSeeing Sees old.draft new.draft
   tests_see around stands tells first t h zero old new next tests few m = seeing_none Sees old.draft new.draft (ap (λ (b : Building). b.draft) m.0)
   tests_see around stands tells first t h (suc n) old new next tests few m =
       seeing_again Sees old.draft (m.0).draft new.draft (tests_see around stands tells first t h n old m.0 m.1.0 m.1.1.0 (omega (arith, few)) m.1.1.1.1.0)
-      (term_sees Sees scene (lane_of around n) stands Named (λ r k. tells.names r n k (omega (arith, few))) (m.0).values.current.items t (m.0).draft new.draft (m.0).accesses new.accesses first next m.1.1.1.0 h (m.1.1.1.1.1.0).term)
+      (term_sees Sees scene (lane_of around n) stands Named (λ r k. tells.names r n k (omega (arith, few))) Kept (λ h k. tells.kept h n k (omega (arith, few))) (m.0).values.current.items t (m.0).draft new.draft (m.0).accesses new.accesses first next m.1.1.1.0 h (m.1.1.1.1.1.0).term)
 
-  pub tests_do : (around : Around) → StandsIn scene around → Tells around → (first : ℕ) (t : Term) → NamesTerm Named t → (old new : Building) (next : ℕ) (tests : List ℕ)
+  pub tests_do : (around : Around) → StandsIn scene around → Tells around → (first : ℕ) (t : Term) → NamesTerm (known_in scene) Named Kept t → (old new : Building) (next : ℕ) (tests : List ℕ)
       → MadeTests scene around first t (paths_counted around) old new next tests → Does old new
   tests_do around stands tells first t h old new next tests m = record {
     sees = tests_see around stands tells first t h (paths_counted around) old new next tests (all_paths (paths_counted around)) m;
@@ -282,6 +337,9 @@ module _ (scene : Scene) (Sees Target : ℕ → Type 0) (Named : Ref → Type 0)
   tells_arm Inner around holds tests old new first next lefts m tells many = record {
     names = λ r n h less.
         subst (λ (i : ℕ). Sees i) (sym (seen_same (counter_of scene (entity_number r.entity)) (held_at scene.held.now (entity_number r.entity)) m.arm around n m.levels)) (tells.names r n h (subst (λ (i : ℕ). n < i) long less));
+    kept = λ h n k less.
+        subst (λ (i : ℕ). Sees i) (sym (ap (λ (levels : List Level). min ((held_at scene.held.now h.entity).first + rank_number levels (held_at scene.held.now h.entity).depth n) (2 ^ 64 - 1)) m.levels))
+        (tells.kept h n k (subst (λ (i : ℕ). n < i) long less));
     goals = λ entity n g less. subst (λ (i : ℕ). Target i) (sym (in_same scene m.arm around entity n m.levels)) (tells.goals entity n g (subst (λ (i : ℕ). n < i) long less));
     seen = tells.seen;
   }
@@ -325,7 +383,7 @@ module _ (scene : Scene) (Sees Target : ℕ → Type 0) (Named : Ref → Type 0)
   }
 
   module _ (Chosen Other : Around → (tests : List ℕ) → (old new : Building) → (first next : ℕ) → (lefts : List Left) → Type 0) (t : Term) (around : Around) (old new : Building) (first next : ℕ) (m : MadeIf scene Chosen Other t around old new first next)
-      (stands : StandsIn scene around) (tells : Tells around) (named : NamesTerm Named t) (ready : AreReady old.values)
+      (stands : StandsIn scene around) (tells : Tells around) (named : NamesTerm (known_in scene) Named Kept t) (ready : AreReady old.values)
       (chosen : AreReady m.tested.values → SeesArm m.tested m.after_chosen m.chosen_left) (other : AreReady m.after_chosen.values → SeesArm m.after_chosen m.after_other m.other_left) where
     tested : Does old m.tested
     tested = tests_do around stands tells first t named old m.tested m.own m.tests m.test
@@ -362,11 +420,18 @@ module _ (scene : Scene) (Sees Target : ℕ → Type 0) (Named : Ref → Type 0)
   abbrev tests_many : (around : Around) (first : ℕ) (t : Term) (old new : Building) (next : ℕ) (tests : List ℕ) → MadeTests scene around first t (paths_counted around) old new next tests → length tests ≡ paths_counted around
   tests_many around first t old new next tests m = (tests_same scene around first t (paths_counted around) old new next tests m).1
 
+  view_sees : (hs : List Hidden) (form : ViewPlan) (around : Around) (old new : Building) (first next : ℕ) → StandsIn scene around → Tells around → NamesView (known_in scene) Named Kept Goal hs (offsets_of form)
+      → MadeView scene hs form around old new first next → Does old new
+  view_sees [] form around old new first next s tells h m = does_none old new m.still
+  view_sees (k ∷ hs) form around old new first next s tells h m =
+      lanes_see (λ n b d l. MadeKept scene (lane_of around n) first k.entity (offsets_of form) b d l) (paths_counted around)
+      (λ n b d l less one. kept_sees around s tells n less first k.entity (offsets_of form) b d l h.0 h.1 one) (paths_counted around) first old new next (all_paths (paths_counted around)) m
+
   mutual
-    pub command_sees : (a : Action) (around : Around) (old new : Building) (first next : ℕ) → StandsIn scene around → Tells around → NamesCommand Named Goal a → MadeCommand scene a around old new first next → AreReady old.values → Does old new
+    pub command_sees : (a : Action) (around : Around) (old new : Building) (first next : ℕ) → StandsIn scene around → Tells around → NamesCommand (known_in scene) Named Kept Goal a → MadeCommand scene a around old new first next → AreReady old.values → Does old new
     command_sees (action id place form) around old new first next s tells h m ready = action_sees form around old new first next s tells h m ready
 
-    action_sees : (form : ActionForm) (around : Around) (old new : Building) (first next : ℕ) → StandsIn scene around → Tells around → NamesAction Named Goal form → MadeActionForm scene form around old new first next → AreReady old.values → Does old new
+    action_sees : (form : ActionForm) (around : Around) (old new : Building) (first next : ℕ) → StandsIn scene around → Tells around → NamesAction (known_in scene) Named Kept Goal form → MadeActionForm scene form around old new first next → AreReady old.values → Does old new
     action_sees (lets name declared (Some value)) around old new first next s tells h m ready =
         lanes_see (λ n b d k. MadeAssigned scene (lane_of around n) first (entity_number name.entity) value b d k) (paths_counted around)
         (λ n b d k less one. assigned_sees around s tells n less first (entity_number name.entity) value b d k h.0 h.1 one) (paths_counted around) first old new next (all_paths (paths_counted around)) m
@@ -392,12 +457,12 @@ module _ (scene : Scene) (Sees Target : ℕ → Type 0) (Named : Ref → Type 0)
         (λ r. other_sees other around m.tests m.after_chosen m.after_other m.behind next m.other_left s tells many h.1.1 m.other r)
     action_sees (blocks body) around old new first next s tells h m ready = groups_see body around old new first next s tells h m ready
     action_sees (lets_memory name shape shape_places value) around old new first next s tells h m ready = does_none old new m.still
-    action_sees (views name parent form) around old new first next s tells h m ready = does_none old new m.still
+    action_sees (views name parent form) around old new first next s tells h m ready = view_sees (hidden_in (way_of (known_in scene) name)) form around old new first next s tells h m
     action_sees (calls function arguments) around old new first next s tells h m ready = does_none old new m.still
     action_sees (repeats test body) around old new first next s tells h m ready = does_none old new m.still
     action_sees (counts iterator declared low high factor body combine combine_place) around old new first next s tells h m ready = does_none old new m.still
 
-    other_sees : (other : MaybeAction) (around : Around) (tests : List ℕ) (old new : Building) (first next : ℕ) (lefts : List Left) → StandsIn scene around → Tells around → length tests ≡ paths_counted around → NamesOther Named Goal other
+    other_sees : (other : MaybeAction) (around : Around) (tests : List ℕ) (old new : Building) (first next : ℕ) (lefts : List Left) → StandsIn scene around → Tells around → length tests ≡ paths_counted around → NamesOther (known_in scene) Named Kept Goal other
         → MadeOther scene other around tests old new first next lefts → AreReady old.values → SeesArm old new lefts
     other_sees no_action around tests old new first next lefts s tells many h m ready = none_sees old new lefts m.still m.none
     other_sees (one_action a) around tests old new first next lefts s tells many h m ready =
@@ -405,12 +470,12 @@ module _ (scene : Scene) (Sees Target : ℕ → Type 0) (Named : Ref → Type 0)
         (command_sees a m.arm m.begin m.inside first next (stands_arm scene (MadeCommand scene a) around false tests old new first next lefts m s many)
         (tells_arm (MadeCommand scene a) around false tests old new first next lefts m tells many) h m.command)
 
-    actions_see : (part : Actions) (around : Around) (old new : Building) (first next : ℕ) → StandsIn scene around → Tells around → NamesActions Named Goal part → MadeActions scene part around old new first next → AreReady old.values → Does old new
+    actions_see : (part : Actions) (around : Around) (old new : Building) (first next : ℕ) → StandsIn scene around → Tells around → NamesActions (known_in scene) Named Kept Goal part → MadeActions scene part around old new first next → AreReady old.values → Does old new
     actions_see no_actions around old new first next s tells h m ready = does_none old new m.still
     actions_see (action_then a rest) around old new first next s tells h m ready =
         does_then old m.middle new (command_sees a around old m.middle first m.own s tells h.0 m.one) (actions_see rest around m.middle new m.own next s tells h.1 m.rest) ready
 
-    groups_see : (body : Groups) (around : Around) (old new : Building) (first next : ℕ) → StandsIn scene around → Tells around → NamesGroups Named Goal body → MadeGroups scene body around old new first next → AreReady old.values → Does old new
+    groups_see : (body : Groups) (around : Around) (old new : Building) (first next : ℕ) → StandsIn scene around → Tells around → NamesGroups (known_in scene) Named Kept Goal body → MadeGroups scene body around old new first next → AreReady old.values → Does old new
     groups_see no_groups around old new first next s tells h m ready = does_none old new m.still
     groups_see (group_then g rest) around old new first next s tells h m ready =
         does_then old m.middle new (actions_see g around old m.middle first m.own s tells h.0 m.one) (groups_see rest around m.middle new m.own next s tells h.1 m.rest) ready

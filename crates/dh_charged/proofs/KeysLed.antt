@@ -10,7 +10,7 @@ use Rattle.dh_meets.specs.Charges.{picked}
 use Rattle.dh_code.proofs.PathsInOrder.{length_path, length_paths}
 use Rattle.dh_sound.proofs.SameKeys.{picked_agree}
 use Rattle.dh_expressions.specs.declared.paths.Level.{Level}
-use Rattle.dh_expressions.specs.Copying.{leaders_at}
+use Rattle.dh_expressions.specs.Counting.{leaders_in}
 use Rattle.dh_expressions.specs.Levels.{leader_number, path_at}
 use Rattle.dh_commands.specs.ShownVariables.{factors_of}
 use Rattle.dh_blocks.specs.PathsOfLevels.{AreSpread}
@@ -191,20 +191,23 @@ module _ (f : ℕ → Path) (key : Path → Path) (leader : ℕ → ℕ) (copies
       through : (a b c : ℕ) → a ≤ b → b ≤ c → a ≤ c
       through a b c h i = omega (arith, h, i)
 
-  module _ (reaches : Path → Bool) (bank : ℕ → ℕ) (own_bank : ℕ) (told : (k : ℕ) → k < copies → (bank k == own_bank) ≡ reaches (f k)) where
-    -- the leaders that reach a bank are no more than the keys that do
-    led : (n : ℕ) → n ≤ copies → leaders_at leader bank own_bank n ≤ distinct_count same_path (reached reaches n)
+  module _ (reaches : Path → Bool) (bank group : ℕ → ℕ) (own_group own_bank : ℕ) (told : (k : ℕ) → k < copies → ((group k == own_group) && (bank k == own_bank)) ≡ reaches (f k)) where
+    abbrev test : ℕ → Bool
+    test k = (group k == own_group) && (bank k == own_bank)
+
+    -- the leaders of a group that reach a bank are no more than the keys that do
+    led : (n : ℕ) → n ≤ copies → leaders_in leader bank group own_group own_bank n ≤ distinct_count same_path (reached reaches n)
     led zero few = least 0
       where
         least : (n : ℕ) → 0 ≤ n
         least n = omega arith
-    led (suc n) few = by (cases_Bool (leader n == n)) (cases_Bool (bank n == own_bank)) (led n (omega (arith, few)))
+    led (suc n) few = by (cases_Bool (leader n == n)) (cases_Bool (test n)) (led n (omega (arith, few)))
       where
         inside : n < copies
         inside = omega (arith, few)
 
-        step : (a b : Bool) → (leader n == n) ≡ a → (bank n == own_bank) ≡ b → leaders_at leader bank own_bank (suc n) ≡ (if a && b then suc (leaders_at leader bank own_bank n) else leaders_at leader bank own_bank n)
-        step a b e g = ap (λ t. if t && (bank n == own_bank) then suc (leaders_at leader bank own_bank n) else leaders_at leader bank own_bank n) e ∙ ap (λ t. if a && t then suc (leaders_at leader bank own_bank n) else leaders_at leader bank own_bank n) g
+        step : (a b : Bool) → (leader n == n) ≡ a → test n ≡ b → leaders_in leader bank group own_group own_bank (suc n) ≡ (if a && b then suc (leaders_in leader bank group own_group own_bank n) else leaders_in leader bank group own_group own_bank n)
+        step a b e g = ap (λ t. if t && test n then suc (leaders_in leader bank group own_group own_bank n) else leaders_in leader bank group own_group own_bank n) e ∙ ap (λ t. if a && t then suc (leaders_in leader bank group own_group own_bank n) else leaders_in leader bank group own_group own_bank n) g
 
         kept : (x y d e : ℕ) → x ≡ y → y ≤ d → d ≤ e → x ≤ e
         kept x y d e is h i = omega (arith, is, h, i)
@@ -212,8 +215,8 @@ module _ (f : ℕ → Path) (key : Path → Path) (leader : ℕ → ℕ) (copies
         grows : (x y d e : ℕ) → x ≡ suc y → y ≤ d → e ≡ suc d → x ≤ e
         grows x y d e is h i = omega (arith, is, h, i)
 
-        by : ((leader n == n) ≡ true) ⊎ ((leader n == n) ≡ false) → ((bank n == own_bank) ≡ true) ⊎ ((bank n == own_bank) ≡ false) → leaders_at leader bank own_bank n ≤ distinct_count same_path (reached reaches n)
-            → leaders_at leader bank own_bank (suc n) ≤ distinct_count same_path (reached reaches (suc n))
+        by : ((leader n == n) ≡ true) ⊎ ((leader n == n) ≡ false) → (test n ≡ true) ⊎ (test n ≡ false) → leaders_in leader bank group own_group own_bank n ≤ distinct_count same_path (reached reaches n)
+            → leaders_in leader bank group own_group own_bank (suc n) ≤ distinct_count same_path (reached reaches (suc n))
         by (inl e) (inl g) h =
             grows _ _ _ _ (step true true e g) h
             (count_next reaches n (sym (told n inside) ∙ g) ∙ ap (λ b. more_of b (distinct_count same_path (reached reaches n))) (fresh_if reaches n n (least n) inside (eqb-true (leader n) n e)))
@@ -224,15 +227,15 @@ module _ (f : ℕ → Path) (key : Path → Path) (leader : ℕ → ℕ) (copies
         by (inr e) (inl g) h = kept _ _ _ _ (step false true e g) h (rises_one reaches n)
         by (inr e) (inr g) h = kept _ _ _ _ (step false false e g) h (rises_one reaches n)
 
-    pub led_on_bank : (n : ℕ) → n < copies → leader n ≡ n → bank n ≡ own_bank → suc (leaders_at leader bank own_bank n) ≤ distinct_count same_path (reached reaches copies)
-    led_on_bank n inside leads is =
+    pub led_on_bank : (n : ℕ) → n < copies → leader n ≡ n → group n ≡ own_group → bank n ≡ own_bank → suc (leaders_in leader bank group own_group own_bank n) ≤ distinct_count same_path (reached reaches copies)
+    led_on_bank n inside leads of is =
         through _ _ _ _ next (led (suc n) (omega (arith, inside)))
         (subst (λ (m : ℕ). distinct_count same_path (reached reaches (suc n)) ≤ distinct_count same_path (reached reaches m)) (whole (suc n) copies (omega (arith, inside))) (rises reaches (suc n) (copies - suc n)))
       where
-        next : leaders_at leader bank own_bank (suc n) ≡ suc (leaders_at leader bank own_bank n)
+        next : leaders_in leader bank group own_group own_bank (suc n) ≡ suc (leaders_in leader bank group own_group own_bank n)
         next =
-            ap (λ t. if t && (bank n == own_bank) then suc (leaders_at leader bank own_bank n) else leaders_at leader bank own_bank n) (eq-eqb (leader n) n leads)
-            ∙ ap (λ t. if t then suc (leaders_at leader bank own_bank n) else leaders_at leader bank own_bank n) (eq-eqb (bank n) own_bank is)
+            ap (λ t. if t && test n then suc (leaders_in leader bank group own_group own_bank n) else leaders_in leader bank group own_group own_bank n) (eq-eqb (leader n) n leads)
+            ∙ ap (λ t. if t then suc (leaders_in leader bank group own_group own_bank n) else leaders_in leader bank group own_group own_bank n) (ap (λ b. b && (bank n == own_bank)) (eq-eqb (group n) own_group of) ∙ eq-eqb (bank n) own_bank is)
 
         through : (a b c d : ℕ) → b ≡ suc a → b ≤ c → c ≤ d → suc a ≤ d
         through a b c d e h i = omega (arith, e, h, i)
@@ -414,9 +417,9 @@ all_leaders_are_keys levels s counts = record {
   all =
       all_led (λ n. path_at levels n) (picked counts 0) (leader_number levels counts) copies (λ n h. (leads levels s counts n h).low) (leader_leads levels s counts) (key_leader levels s counts) (leader_key levels s counts) copies (least copies)
       ∙ ap (λ l. distinct_count same_path (map (picked counts 0) l)) (sym paths_is);
-  on_bank = λ reaches bank own n told inside leads_it is.
-      subst (λ l. suc (leaders_at (leader_number levels counts) bank own n) ≤ distinct_count same_path (map (picked counts 0) (filter reaches l))) (sym paths_is)
-      (led_on_bank (λ n. path_at levels n) (picked counts 0) (leader_number levels counts) copies (λ n h. (leads levels s counts n h).low) (leader_leads levels s counts) (key_leader levels s counts) (leader_key levels s counts) reaches bank own told n inside leads_it is);
+  on_bank = λ reaches bank group own_group own n told inside leads_it of is.
+      subst (λ l. suc (leaders_in (leader_number levels counts) bank group own_group own n) ≤ distinct_count same_path (map (picked counts 0) (filter reaches l))) (sym paths_is)
+      (led_on_bank (λ n. path_at levels n) (picked counts 0) (leader_number levels counts) copies (λ n h. (leads levels s counts n h).low) (leader_leads levels s counts) (key_leader levels s counts) (leader_key levels s counts) reaches bank group own_group own told n inside leads_it of is);
 }
   where
     copies : ℕ

@@ -4,6 +4,11 @@ pub mod NamesFound
 pub mod BlocksTouch
 pub mod KeysLed
 pub mod MeetsInRange
+pub mod ChargesThrough
+pub mod GroupSums
+pub mod PathGroups
+pub mod ThroughCharged
 pub mod UsesCharge
 pub mod BlocksCharged
+pub mod ShiftsKept
 pub mod MemoriesHad

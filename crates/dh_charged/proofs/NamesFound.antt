@@ -1,30 +1,35 @@
 -- The names of sound commands: each is mentioned by the commands of the core, and is known; what is assigned to is assigned
 -- to by them, and is a variable that is seen.
-use Rattle.std.proofs.Common.{◌≡◌, ◌⊎◌, inl, inr, ◌+◌, ℕ, List, Some, None, refl, ap, sym, ◌∙◌, subst}
-use Rattle.std.specs.Prelude.{Bool as Truth, true, false, ◌||◌, ◌==◌, Option}
-use Rattle.std.proofs.lemmas.Bool.{eq-eqb, eqb-true}
+use Rattle.std.proofs.Common.{◌≡◌, ◌⊎◌, inl, inr, ◌+◌, ◌<◌, ◌≤◌, ℕ, suc, List, [], ◌∷◌, length, Some, None, refl, sym, ◌∙◌, subst, arith}
+use Rattle.std.specs.Prelude.{Bool as Truth, true, false, nat_le, nat_lt, ◌&&◌, ◌||◌, ◌==◌, Option}
+use Rattle.std.specs.List.{AllByRecursion}
+use Rattle.std.proofs.lemmas.Bool.{cases_lt, eq-eqb, eqb-true}
+use Rattle.std.proofs.lemmas.Bool.Decides.{nat_tests}
 use Rattle.dh_value.specs.declared.kinds.Kind.{Kind}
 use Rattle.dh_tree.specs.declared.tables.MemEntry.{MemEntry}
 use Rattle.dh_tree.specs.declared.trees.expressions.Ref.{Ref}
 use Rattle.dh_tree.specs.Indices.{form_of}
 use Rattle.dh_tree.specs.PlainTrees as plain
+use Rattle.dh_tree.specs.Seen.{terms}
+use Rattle.dh_tree.specs.ViewOffsets.{offsets_of}
 use Rattle.dh_tree.specs.PlainTrees.{Action, action, lets, lets_memory, views, assigns, stores, reduces, calls, blocks, decides, repeats, counts, MaybeAction, no_action, one_action, Actions, no_actions, action_then, Groups, no_groups, group_then}
 use Rattle.dh_meaning.specs.AccessNumbers.{accesses_of, part_accesses, term_accesses}
 use Rattle.dh_meaning.specs.Bindings.{kind_found, kind_or_first}
-use Rattle.dh_meaning.specs.Core.{CoreCommands, CoreTerm, CoreTerms, command_and, no_commands, no_terms, term_and, variable}
-use Rattle.dh_meaning.specs.CoreOf.{Known, assigned, core_action, core_groups, core_other, core_part, core_term, core_terms, depth_of, entity_number, kept_terms, kind_of, operation_of, store_to, target_to, terms_both, way_of}
+use Rattle.dh_meaning.specs.Core.{CoreCommands, CoreTerm, CoreTerms, command_and, count_terms, keep, no_commands, variable}
+use Rattle.dh_meaning.specs.CoreOf.{Known, assigned, core_action, core_groups, core_other, core_part, core_term, core_terms, depth_of, entity_number, kept_by, kept_terms, kind_of, operation_of, store_to, target_to, way_of}
 use Rattle.dh_meaning.specs.Levels.{any_assigns, assigns_to}
-use Rattle.dh_meaning.specs.Ways.{Way}
+use Rattle.dh_meaning.specs.Ways.{Hidden, Way, hidden_in}
 use Rattle.dh_plan.specs.PlanPhases.{command_mentions, commands_mention, target_mentions, term_mentions, terms_mention}
 use Rattle.dh_expressions.specs.declared.paths.Level.{Level}
 use Rattle.dh_expressions.specs.declared.scenes.Scene.{Scene}
 use Rattle.dh_expressions.specs.Evaluated.{known_in}
+use Rattle.dh_formed.proofs.NamedTargets.{named_mentions, way_mentions}
 use Rattle.dh_formed.proofs.TermsCounted.{operation_mentions}
 use Rattle.dh_commands.specs.ShownVariables.{IsSeen}
-use Rattle.dh_commands.proofs.CoreRuns.{view_rest}
-use Rattle.dh_blocks.specs.SoundTerms.{AreSound, IsSound, IsSoundTarget}
-use Rattle.dh_blocks.specs.SoundCommands.{SoundAction, SoundGroups, SoundOther, SoundPart}
-use Rattle.dh_charged.specs.SeenRegisters.{NamesActions, NamesAim, NamesCommand, NamesGroups, NamesOther, NamesTerm, NamesTerms}
+use Rattle.dh_commands.proofs.CoreRuns.{offsets_long}
+use Rattle.dh_blocks.specs.SoundTerms.{AreSound, IsSound, IsSoundHidden, IsSoundTarget, IsSoundWay}
+use Rattle.dh_blocks.specs.SoundCommands.{CanKeep, CanKeepFrom, SoundAction, SoundGroups, SoundOther, SoundPart}
+use Rattle.dh_charged.specs.SeenRegisters.{GoalsFrom, NamesActions, NamesAim, NamesCommand, NamesGroups, NamesOther, NamesTerm, NamesTerms, NamesView, NamesWay}
 
 itself : (e : ℕ) → (e == e) ≡ true
 itself e = eq-eqb e e refl
@@ -41,18 +46,6 @@ pub either_of : (a b : Truth) → (a || b) ≡ true → (a ≡ true) ⊎ (b ≡ 
 either_of true b e = inl refl
 either_of false b e = inr e
 
--- what indices mention is mentioned by an access, whatever its way
-mentions_front : (e : ℕ) (ts more : CoreTerms) → terms_mention e ts ≡ true → terms_mention e (terms_both ts more) ≡ true
-mentions_front e no_terms more m = absurd (cc)
-mentions_front e (term_and t ts) more m = elim (either_of (term_mentions e t) (terms_mention e ts) m) [
-  | inl f ↦ first_of (term_mentions e t) _ f
-  | inr g ↦ second_of (term_mentions e t) _ (mentions_front e ts more g)
-]
-
-way_mentions : (e : ℕ) (w : Option Way) (ts : CoreTerms) → terms_mention e ts ≡ true → target_mentions e (target_to w ts) ≡ true
-way_mentions e None ts m = m
-way_mentions e (Some w) ts m = mentions_front e ts (kept_terms w.hidden) m
-
 -- Expressions.
 
 module _ (known : Known) (table : List MemEntry) (Name : Ref → Kind → Type 0) (P : ℕ → Type 0) where
@@ -60,12 +53,33 @@ module _ (known : Known) (table : List MemEntry) (Name : Ref → Kind → Type 0
   abbrev Both : Ref → Type 0
   Both r = P (entity_number r.entity) × ((k : Kind) × Name r k)
 
+  -- and what keeps an offset on the way of a name
+  abbrev KeptSo : Hidden → Type 0
+  KeptSo h = P h.entity × ((r : Ref) × IsSoundHidden known table Name r h)
+
+  way_named : (r : Ref) (ts : CoreTerms) → IsSoundWay known table Name r → ((e : ℕ) → target_mentions e (target_to (way_of known r) ts) ≡ true → P e) → NamesWay known Both KeptSo r
+  way_named r ts s h = by (way_of known r) s h
+    where
+      each : (hs : List Hidden) → AllByRecursion (λ (k : Hidden). IsSoundHidden known table Name r k) hs → ((e : ℕ) → terms_mention e (kept_terms hs) ≡ true → P e) → AllByRecursion (λ (k : Hidden). KeptSo k) hs
+      each [] a m = tt
+      each (k ∷ hs) a m = (
+        (m k.entity (first_of (term_mentions k.entity (variable k.kind k.depth k.entity)) (terms_mention k.entity (kept_terms hs)) (itself k.entity)), (r, a.0)),
+        each hs a.1 (λ e g. m e (second_of (term_mentions e (variable k.kind k.depth k.entity)) (terms_mention e (kept_terms hs)) g)),
+      )
+
+      by : (o : Option Way) → AllByRecursion (λ (k : Hidden). IsSoundHidden known table Name r k) (hidden_in o) → ((e : ℕ) → target_mentions e (target_to o ts) ≡ true → P e) → AllByRecursion (λ (k : Hidden). KeptSo k) (hidden_in o)
+      by None a m = tt
+      by (Some w) a m = each w.hidden a (λ e g. m e (way_mentions w e ts g))
+
   mutual
-    pub term_named : (n : ℕ) (t : plain.Term) → IsSound known table Name t → ((e : ℕ) → term_mentions e (core_term known n t) ≡ true → P e) → NamesTerm Both t
+    pub term_named : (n : ℕ) (t : plain.Term) → IsSound known table Name t → ((e : ℕ) → term_mentions e (core_term known n t) ≡ true → P e) → NamesTerm known Both KeptSo t
     term_named n (plain.term place k (plain.number negative z)) s h = tt
     term_named n (plain.term place k (plain.truth_value b)) s h = tt
     term_named n (plain.term place k (plain.named r)) s h = (h (entity_number r.entity) (itself (entity_number r.entity)), (kind_or_first k, s.0))
-    term_named n (plain.term place k (plain.accessed r ts)) s h = terms_named n ts s.0 (λ e m. h e (way_mentions e (way_of known r) (core_terms known n ts) m))
+    term_named n (plain.term place k (plain.accessed r ts)) s h = (
+      terms_named n ts s.0.0 (λ e m. h e (named_mentions (way_of known r) e (core_terms known n ts) m)),
+      way_named r (core_terms known n ts) s.0.1 h,
+    )
     term_named n (plain.term place k (plain.in_bank r bank at row)) s h = term_named n row s.0 h
     term_named n (plain.term place k (plain.applied op left right)) s h = (
       term_named n left s.0.0 (λ e m. h e (sym (mention e) ∙ first_of (term_mentions e (core_term known n left)) _ m)),
@@ -76,7 +90,7 @@ module _ (known : Known) (table : List MemEntry) (Name : Ref → Kind → Type 0
         mention e = operation_mentions e op (kind_found left) (kind_found right) (core_term known n left) (core_term known (n + term_accesses left) right)
     term_named n (plain.term place k (plain.converted inner to)) s h = term_named n inner s.0 h
 
-    terms_named : (n : ℕ) (ts : plain.Terms) → AreSound known table Name ts → ((e : ℕ) → terms_mention e (core_terms known n ts) ≡ true → P e) → NamesTerms Both ts
+    pub terms_named : (n : ℕ) (ts : plain.Terms) → AreSound known table Name ts → ((e : ℕ) → terms_mention e (core_terms known n ts) ≡ true → P e) → NamesTerms known Both KeptSo ts
     terms_named n plain.no_terms s h = tt
     terms_named n (plain.term_then t ts) s h = (
       term_named n t s.0 (λ e m. h e (first_of (term_mentions e (core_term known n t)) _ m)),
@@ -84,9 +98,12 @@ module _ (known : Known) (table : List MemEntry) (Name : Ref → Kind → Type 0
     )
 
   pub aim_named : (n : ℕ) (target : plain.Term) (value : CoreTerm) → IsSoundTarget known table Name target → ((e : ℕ) → command_mentions e (store_to known n target value) ≡ true → P e)
-      → NamesAim Both (form_of target) × ((e : ℕ) → term_mentions e value ≡ true → P e)
+      → NamesAim known Both KeptSo (form_of target) × ((e : ℕ) → term_mentions e value ≡ true → P e)
   aim_named n (plain.term place k (plain.accessed r ts)) value s h = (
-    terms_named n ts s.0 (λ e m. h e (second_of (term_mentions e value) _ (way_mentions e (way_of known r) (core_terms known n ts) m))),
+    (
+      terms_named n ts s.0.0 (λ e m. h e (second_of (term_mentions e value) _ (named_mentions (way_of known r) e (core_terms known n ts) m))),
+      way_named r (core_terms known n ts) s.0.1 (λ e m. h e (second_of (term_mentions e value) _ m)),
+    ),
     λ e m. h e (first_of (term_mentions e value) _ m),
   )
   aim_named n (plain.term place k (plain.in_bank r bank at row)) value s h = (
@@ -110,6 +127,9 @@ module _ (scene : Scene) (levels : List Level) (table : List MemEntry) (Name : R
   abbrev Named : Ref → Type 0
   Named r = P (entity_number r.entity) × ((k : Kind) × Name r k)
 
+  abbrev Kept : Hidden → Type 0
+  Kept h = P h.entity × ((r : Ref) × IsSoundHidden (known_in scene) table Name r h)
+
   abbrev Goal : ℕ → Type 0
   Goal e = Q e × IsSeen scene levels e
 
@@ -120,7 +140,7 @@ module _ (scene : Scene) (levels : List Level) (table : List MemEntry) (Name : R
   }
 
   -- an assignment
-  value_named : (n : ℕ) (r : Ref) (t : plain.Term) (rest : CoreCommands) → IsSound (known_in scene) table Name t → Holds P Q (command_and (assigned (known_in scene) r (core_term (known_in scene) n t)) rest) → NamesTerm Named t
+  value_named : (n : ℕ) (r : Ref) (t : plain.Term) (rest : CoreCommands) → IsSound (known_in scene) table Name t → Holds P Q (command_and (assigned (known_in scene) r (core_term (known_in scene) n t)) rest) → NamesTerm (known_in scene) Named Kept t
   value_named n r t rest s h =
       term_named (known_in scene) table Name P n t s (λ e m. h.mentions e (first_of _ (commands_mention e rest) (second_of (e == entity_number r.entity) _ m)))
 
@@ -133,9 +153,58 @@ module _ (scene : Scene) (levels : List Level) (table : List MemEntry) (Name : R
       never : false ≡ true → ⊥
       never e = cc
 
+  -- what a view keeps
+  goals_from : (depth from first limit : ℕ) (os : List plain.Term) → first ≤ from → from + length os ≤ limit → ((e : ℕ) → first ≤ e → e < limit → Q e) → CanKeepFrom scene levels table Name depth from os
+      → GoalsFrom (known_in scene) Named Kept Goal from os
+  goals_from depth from first limit [] low high q s = tt
+  goals_from depth from first limit (t ∷ ts) low high q s =
+      ((q from low (below from (length ts) limit high), s.0.0.seen), goals_from depth (suc from) first limit ts (more first from low) (moved from (length ts) limit high) q s.1)
+    where
+      below : (a n l : ℕ) → a + suc n ≤ l → a < l
+      below a n l h = omega (arith, h)
+
+      more : (a b : ℕ) → a ≤ b → a ≤ suc b
+      more a b h = omega (arith, h)
+
+      moved : (a n l : ℕ) → a + suc n ≤ l → suc a + n ≤ l
+      moved a n l h = omega (arith, h)
+
+  view_named : (hs : List Hidden) (n : ℕ) (os : List plain.Term) (rest : CoreCommands) → CanKeep scene levels table Name hs os → Holds P Q (kept_by hs (core_terms (known_in scene) n (terms os)) rest)
+      → NamesView (known_in scene) Named Kept Goal hs os × Holds P Q rest
+  view_named [] n [] rest s h = (tt, h)
+  view_named [] n (t ∷ ts) rest s h = absurd s
+  view_named (k ∷ hs) n [] rest s h = ((tt, tt), h)
+  view_named (k ∷ hs) n (t ∷ ts) rest s h = (
+    (
+      terms_named (known_in scene) table Name P n (terms (t ∷ ts)) s.0 (λ e m. h.mentions e (first_of _ (commands_mention e rest) (second_of (assigns_to e (keep k.depth k.entity offsets)) _ m))),
+      goals_from k.depth k.entity k.entity (k.entity + length (t ∷ ts)) (t ∷ ts) (same k.entity) (same (k.entity + length (t ∷ ts)))
+          (λ e low high. h.assigns e (first_of _ (any_assigns e rest) (kept_at e low (subst (λ (i : ℕ). e < k.entity + i) (sym (offsets_long (known_in scene) n (t ∷ ts))) high)))) s.1,
+    ),
+    holds_rest _ rest h,
+  )
+    where
+      offsets : CoreTerms
+      offsets = core_terms (known_in scene) n (terms (t ∷ ts))
+
+      same : (i : ℕ) → i ≤ i
+      same i = omega arith
+
+      both : (a b : Truth) → a ≡ true → b ≡ true → (a && b) ≡ true
+      both true b e f = f
+      both false b e f = absurd (cc)
+
+      least : (a b : ℕ) → a ≤ b → nat_le a b ≡ true
+      least a b l = grind (arith, nat_tests)
+
+      less : (a b : ℕ) → a < b → nat_lt a b ≡ true
+      less a b l = grind (arith, nat_tests)
+
+      kept_at : (e : ℕ) → k.entity ≤ e → e < k.entity + count_terms offsets → assigns_to e (keep k.depth k.entity offsets) ≡ true
+      kept_at e low high = both (nat_le k.entity e) (nat_lt e (k.entity + count_terms offsets)) (least k.entity e low) (less e (k.entity + count_terms offsets) high)
+
   mutual
     pub action_named : (Folds : ℕ → Type 0) → ((e : ℕ) → Folds e → IsSeen scene levels e) → (n : ℕ) (a : Action) (rest : CoreCommands) → SoundAction scene levels table Name Folds a
-        → Holds P Q (core_action (known_in scene) n a rest) → NamesCommand Named Goal a × Holds P Q rest
+        → Holds P Q (core_action (known_in scene) n a rest) → NamesCommand (known_in scene) Named Kept Goal a × Holds P Q rest
     action_named Folds seen n (action id place (lets name declared (Some value))) rest s h =
         ((value_named n name value rest s.0 h, goal_named name _ rest s.1.0.seen h), holds_rest _ rest h)
     action_named Folds seen n (action id place (lets name declared None)) rest s h = (goal_named name _ rest s.0.seen h, holds_rest _ rest h)
@@ -179,17 +248,17 @@ module _ (scene : Scene) (levels : List Level) (table : List MemEntry) (Name : R
         }
     action_named Folds seen n (action id place (blocks body)) rest s h = groups_named Folds seen n body rest s h
     action_named Folds seen n (action id place (lets_memory name shape shape_places value)) rest s h = (tt, h)
-    action_named Folds seen n (action id place (views name parent form)) rest s h = (tt, subst (λ (cs : CoreCommands). Holds P Q cs) (view_rest scene n name parent form rest) h)
+    action_named Folds seen n (action id place (views name parent form)) rest s h = view_named (hidden_in (way_of (known_in scene) name)) n (offsets_of form) rest s h
     action_named Folds seen n (action id place (calls function arguments)) rest s h = (tt, h)
     action_named Folds seen n (action id place (repeats test body)) rest s h = (tt, h)
     action_named Folds seen n (action id place (counts iterator declared low high factor body combine combine_place)) rest s h = (tt, h)
 
-    other_named : (Folds : ℕ → Type 0) (n : ℕ) (other : MaybeAction) → SoundOther scene levels table Name (λ e. ⊥) other → Holds P Q (core_other (known_in scene) n other) → NamesOther Named Goal other
+    other_named : (Folds : ℕ → Type 0) (n : ℕ) (other : MaybeAction) → SoundOther scene levels table Name (λ e. ⊥) other → Holds P Q (core_other (known_in scene) n other) → NamesOther (known_in scene) Named Kept Goal other
     other_named Folds n no_action s h = tt
     other_named Folds n (one_action a) s h = (action_named (λ e. ⊥) (λ e f. absurd f) n a no_commands s h).0
 
     groups_named : (Folds : ℕ → Type 0) → ((e : ℕ) → Folds e → IsSeen scene levels e) → (n : ℕ) (body : Groups) (rest : CoreCommands) → SoundGroups scene levels table Name Folds body
-        → Holds P Q (core_groups (known_in scene) n body rest) → NamesGroups Named Goal body × Holds P Q rest
+        → Holds P Q (core_groups (known_in scene) n body rest) → NamesGroups (known_in scene) Named Kept Goal body × Holds P Q rest
     groups_named Folds seen n no_groups rest s h = (tt, h)
     groups_named Folds seen n (group_then part behind) rest s h =
         let one = part_named Folds seen n part (core_groups (known_in scene) (n + part_accesses part) behind rest) s.0 h in
@@ -197,7 +266,7 @@ module _ (scene : Scene) (levels : List Level) (table : List MemEntry) (Name : R
         ((one.0, two.0), two.1)
 
     part_named : (Folds : ℕ → Type 0) → ((e : ℕ) → Folds e → IsSeen scene levels e) → (n : ℕ) (part : Actions) (rest : CoreCommands) → SoundPart scene levels table Name Folds part
-        → Holds P Q (core_part (known_in scene) n part rest) → NamesActions Named Goal part × Holds P Q rest
+        → Holds P Q (core_part (known_in scene) n part rest) → NamesActions (known_in scene) Named Kept Goal part × Holds P Q rest
     part_named Folds seen n no_actions rest s h = (tt, h)
     part_named Folds seen n (action_then a behind) rest s h =
         let one = action_named Folds seen n a (core_part (known_in scene) (n + accesses_of a) behind rest) s.0 h in
@@ -240,6 +309,50 @@ module _ (scene : Scene) (levels : List Level) (table : List MemEntry) (Name : R
   behind_store true b e h = absurd (cc)
   behind_store false b e h = h
 
+  -- a variable of a view is seen
+  kept_seen : (depth first : ℕ) (os : List plain.Term) → CanKeepFrom scene levels table Name depth first os → first ≤ e → e < first + length os → IsSeen scene levels e
+  kept_seen depth first [] s low high = absurd (none first e low high)
+    where
+      none : (a b : ℕ) → a ≤ b → b < a + 0 → ⊥
+      none a b l h = omega (arith, l, h)
+  kept_seen depth first (t ∷ ts) s low high = by (cases_lt first e) (λ l. kept_seen depth (suc first) ts s.1 l (moved first e (length ts) high))
+    where
+      moved : (a b n : ℕ) → b < a + suc n → b < suc a + n
+      moved a b n h = omega (arith, h)
+
+      same : (a b : ℕ) → a ≤ b → b ≤ a → a ≡ b
+      same a b l h = omega (arith, l, h)
+
+      next : (a b : ℕ) → a < b → suc a ≤ b
+      next a b l = omega (arith, l)
+
+      by : (first < e) ⊎ (e ≤ first) → (suc first ≤ e → IsSeen scene levels e) → IsSeen scene levels e
+      by (inl l) rest = rest (next first e l)
+      by (inr l) rest = subst (λ (i : ℕ). IsSeen scene levels i) (same first e low l) s.0.0.seen
+
+  view_seen : (hs : List Hidden) (n : ℕ) (os : List plain.Term) (rest : CoreCommands) → CanKeep scene levels table Name hs os → any_assigns e (kept_by hs (core_terms (known_in scene) n (terms os)) rest) ≡ true → SeenOr rest
+  view_seen [] n [] rest s h = inr h
+  view_seen [] n (t ∷ ts) rest s h = absurd s
+  view_seen (k ∷ hs) n [] rest s h = inr h
+  view_seen (k ∷ hs) n (t ∷ ts) rest s h = elim (either_of (assigns_to e (keep k.depth k.entity offsets)) (any_assigns e rest) h) [
+    | inl m ↦ inl (let b = both (nat_le k.entity e) (nat_lt e (k.entity + count_terms offsets)) m in
+        kept_seen k.depth k.entity (t ∷ ts) s.1 (least k.entity e b.0) (subst (λ (i : ℕ). e < k.entity + i) (offsets_long (known_in scene) n (t ∷ ts)) (less e (k.entity + count_terms offsets) b.1)))
+    | inr m ↦ inr m
+  ]
+    where
+      offsets : CoreTerms
+      offsets = core_terms (known_in scene) n (terms (t ∷ ts))
+
+      both : (a b : Truth) → (a && b) ≡ true → (a ≡ true) × (b ≡ true)
+      both true b e = (refl, e)
+      both false b e = absurd (cc)
+
+      least : (a b : ℕ) → nat_le a b ≡ true → a ≤ b
+      least a b l = grind (arith, nat_tests, l)
+
+      less : (a b : ℕ) → nat_lt a b ≡ true → a < b
+      less a b l = grind (arith, nat_tests, l)
+
   mutual
     pub assigned_seen : (Folds : ℕ → Type 0) → ((i : ℕ) → Folds i → IsSeen scene levels i) → (n : ℕ) (a : Action) (rest : CoreCommands) → SoundAction scene levels table Name Folds a
         → any_assigns e (core_action (known_in scene) n a rest) ≡ true → SeenOr rest
@@ -263,7 +376,7 @@ module _ (scene : Scene) (levels : List Level) (table : List MemEntry) (Name : R
         by one two (inr m) = inr m
     assigned_seen Folds seen n (action id place (blocks body)) rest s h = groups_seen Folds seen n body rest s h
     assigned_seen Folds seen n (action id place (lets_memory name shape shape_places value)) rest s h = inr h
-    assigned_seen Folds seen n (action id place (views name parent form)) rest s h = inr (sym (ap (λ cs. any_assigns e cs) (view_rest scene n name parent form rest)) ∙ h)
+    assigned_seen Folds seen n (action id place (views name parent form)) rest s h = view_seen (hidden_in (way_of (known_in scene) name)) n (offsets_of form) rest s h
     assigned_seen Folds seen n (action id place (calls function arguments)) rest s h = inr h
     assigned_seen Folds seen n (action id place (repeats test body)) rest s h = inr h
     assigned_seen Folds seen n (action id place (counts iterator declared low high factor body combine combine_place)) rest s h = inr h

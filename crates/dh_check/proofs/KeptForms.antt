@@ -11,7 +11,6 @@ use Rattle.dh_tree.specs.Seen.{action_seen, action_form_seen, actions, groups, p
 use Rattle.dh_tree.specs.Forms.{unbuilt, unbuilt_form, unbuilt_part, unbuilt_groups, form_holds, part_holds, groups_hold}
 use Rattle.dh_tree.proofs.Leasts.{least_append}
 use Rattle.dh_base.proofs.ListItems.{at_item}
-use Rattle.dh_check.proofs.StepsHeld.{all_hold}
 
 -- the least of what is kept, of the rest of a part, and of the parts from a place on
 abbrev pub part_left : Option Breach → Bool → List Command → ℕ → List (Vec Command Global) → ℕ → Option Breach
@@ -20,6 +19,10 @@ part_left kept stepped cs k parts i =
 
 abbrev pub parts_left : Option Breach → List (Vec Command Global) → ℕ → Option Breach
 parts_left kept parts i = least_of kept (unbuilt_groups (groups (map part_seen (drop i parts))))
+
+-- whether parts from a place on hold steps
+abbrev pub all_hold : List (Vec Command Global) → ℕ → Bool
+all_hold parts i = groups_hold (groups (map part_seen (drop i parts)))
 
 pub kept_begin : (kept : Option Breach) (parts : List (Vec Command Global)) (i : ℕ) (p : Vec Command Global) (cs : List Command) → i < length parts → p ≡ get_or parts i p → cs ≡ p.items
     → part_left kept false cs 0 parts (i + 1) ≡ parts_left kept parts i

@@ -2,8 +2,8 @@
 
 ghost use Rattle.std.specs.Prelude.{◌≡◌, map, None, if◌then◌else◌, []};
 ghost use Rattle.dh_tree.specs.LeastBreach.{least_of};
-ghost use Rattle.dh_tree.specs.Seen.{action_seen, action_form_seen, defined_seen, maybe_block_seen, program_seen, all_parts_seen};
-ghost use Rattle.dh_tree.specs.Forms.{unbuilt, unbuilt_functions, unbuilt_action, unbuilt_other, unbuilt_groups, unbuilt_forms, holds_steps, form_holds, other_holds, groups_hold};
+ghost use Rattle.dh_tree.specs.Seen.{action_seen, defined_seen, maybe_block_seen, program_seen, all_parts_seen};
+ghost use Rattle.dh_tree.specs.Forms.{unbuilt, unbuilt_functions, unbuilt_action, unbuilt_other, unbuilt_groups, unbuilt_forms, holds_steps, other_holds, groups_hold};
 
 use dh_base::{Place, Rule};
 use dh_tree::{Breach, Command, CommandForm, Function, Tree, has_dashes, keep_least};
@@ -35,6 +35,7 @@ fn keep_command(kept: &mut Option<Breach>, command: &Command) -> bool
     match &command.form {
         CommandForm::Let { .. } => false,
         CommandForm::LetMemory { .. } => false,
+        CommandForm::View { .. } => false,
         CommandForm::Assign { .. } => false,
         CommandForm::Store { .. } => false,
         CommandForm::Reduce { .. } => false,
@@ -56,8 +57,10 @@ fn keep_command(kept: &mut Option<Breach>, command: &Command) -> bool
             keep_other(kept, combine);
             true
         }
-        CommandForm::View { .. } => keep_whole(kept, command.place, &command.form),
-        CommandForm::Call { .. } => keep_whole(kept, command.place, &command.form),
+        CommandForm::Call { .. } => {
+            keep_unbuilt(kept, command.place);
+            true
+        }
     }
 }
 
@@ -95,15 +98,6 @@ fn keep_groups(kept: &mut Option<Breach>, parts: &[Vec<Command>]) -> bool
     holds
 }
 
-/// What of a command of a form that is not built is not built: all of it.
-fn keep_whole(kept: &mut Option<Breach>, place: Place, form: &CommandForm) -> bool
-    ensures kept { kept.new ≡ least_of kept.old (unbuilt place) }
-    ensures steps { result ≡ form_holds (action_form_seen form.now) }
-{
-    keep_unbuilt(kept, place);
-    takes_steps(form)
-}
-
 /// That a command is a second one of its list which holds a `---`.
 fn keep_second(kept: &mut Option<Breach>, is_second: bool, place: Place)
     ensures { kept.new ≡ least_of kept.old (if is_second then unbuilt place else []) }
@@ -122,48 +116,4 @@ pub(crate) fn first_unbuilt(tree: &Tree) -> Option<Breach>
     keep_functions(&mut kept, tree.functions.as_slice());
     keep_command(&mut kept, &tree.body);
     kept
-}
-
-/// Whether a command that is not built holds a `---`, a `for`, a `while` or a call.
-#[cycle(steps)]
-#[tactic(auto, using(dh_tree::proofs::SeenActions::actions_are, dh_tree::proofs::Leasts::least_append))]
-fn takes_steps(form: &CommandForm) -> bool
-    ensures { result ≡ form_holds (action_form_seen form.now) }
-{
-    match form {
-        CommandForm::Block { body } => {
-            has_dashes(body.as_slice()) || parts_take_steps(body.as_slice())
-        }
-        CommandForm::If { then, other, .. } => {
-            takes_steps(&then.form)
-                || match other {
-                    Some(block) => takes_steps(&block.form),
-                    None => false,
-                }
-        }
-        CommandForm::While { .. } => true,
-        CommandForm::For { .. } => true,
-        CommandForm::Call { .. } => true,
-        CommandForm::Let { .. } => false,
-        CommandForm::LetMemory { .. } => false,
-        CommandForm::View { .. } => false,
-        CommandForm::Assign { .. } => false,
-        CommandForm::Store { .. } => false,
-        CommandForm::Reduce { .. } => false,
-    }
-}
-
-#[cycle(steps)]
-#[tactic(auto, using(dh_tree::proofs::SeenActions::actions_are))]
-fn parts_take_steps(parts: &[Vec<Command>]) -> bool
-    ensures { result ≡ groups_hold (all_parts_seen parts.now) }
-{
-    for part in parts {
-        for command in part {
-            if takes_steps(&command.form) {
-                return true;
-            }
-        }
-    }
-    false
 }

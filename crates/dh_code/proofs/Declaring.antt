@@ -16,7 +16,7 @@ use Rattle.dh_code.specs.Placed.{AreFew, AreFound, AreLaid, Declares, IsRound, K
 use Rattle.dh_code.specs.Ranks.{copies_in, most_paths}
 use Rattle.dh_code.proofs.FewDeclared.{below_power, doubled}
 
-copies_more : (fs : List ℕ) (f : ℕ) → copies_in (fs ++ f ∷ []) ≡ copies_in fs * f
+pub copies_more : (fs : List ℕ) (f : ℕ) → copies_in (fs ++ f ∷ []) ≡ copies_in fs * f
 copies_more [] f = omega arith
 copies_more (g ∷ fs) f = ap (λ n. g * n) (copies_more fs f) ∙ grouped g (copies_in fs) f
   where

@@ -6,9 +6,10 @@ use Rattle.std.specs.Prelude.{Option, option_map}
 use Rattle.std.specs.List.{AllByRecursion}
 use Rattle.std.proofs.lemmas.List.{map-append}
 use Rattle.dh_tree.specs.Memories.{same_entity}
+use Rattle.dh_ways.specs.declared.ways.Hidden.{Hidden}
 use Rattle.dh_code.specs.declared.places.Declared.{Declared}
 use Rattle.dh_code.specs.Declarations.{Declaration, declaration_in, declared_of}
-use Rattle.dh_code.specs.Placed.{AreFew, AreFound, copies_held, has_few}
+use Rattle.dh_code.specs.Placed.{AreFew, AreFound, copies_held, has_few, hidden_as}
 use Rattle.dh_code.specs.Ranks.{most_paths}
 
 -- the variables listed so far, and those of the rest, are all; and the rest have few copies
@@ -24,6 +25,10 @@ pub few_right : (ds es : List Declaration) → AreFew (ds ++ es) → AreFew es
 few_right [] es h = h
 few_right (d ∷ ds) es h = few_right ds es h.1
 
+pub few_both : (ds es : List Declaration) → AreFew ds → AreFew es → AreFew (ds ++ es)
+few_both [] es h k = k
+few_both (d ∷ ds) es h k = (h.0, few_both ds es h.1 k)
+
 -- one more is listed
 pub listing_next : (start now next : List Declared) (all one rest : List Declaration) → Listing start now all (one ++ rest) → (AreFew one → next ≡ now ++ map declared_of one) → Listing start next all rest
 listing_next start now next all one rest l h = record {
@@ -35,6 +40,10 @@ listing_next start now next all one rest l h = record {
 -- nothing is left
 pub listed : (start now : List Declared) (all rest : List Declaration) → rest ≡ [] → Listing start now all rest → now ≡ start ++ map declared_of all
 listed start now all rest none l = sym (append-nil now) ∙ (ap (λ ds. now ++ map declared_of ds) (sym none) ∙ l.same)
+
+-- variables that keep offsets stand behind a program's own
+pub all_listed : (ds hs : List Declaration) (new : List Declared) (hidden : List Hidden) → new ≡ map declared_of ds → map declared_of hs ≡ map hidden_as hidden → new ++ map hidden_as hidden ≡ map declared_of (ds ++ hs)
+all_listed ds hs new hidden own are = ap (λ l. l ++ map hidden_as hidden) own ∙ (ap (λ l. map declared_of ds ++ l) (sym are) ∙ sym (map-append declared_of ds hs))
 
 -- Inside a loop.
 

@@ -16,20 +16,20 @@ pub record Kinded : Type 0 where
   pub entity : Option ℕ
   pub kind_is : Kind
 
-abbrev declared_kind : Declaration → Kinded
+abbrev pub declared_kind : Declaration → Kinded
 declared_kind d = record { entity = d.entity; kind_is = d.kind_is }
 
-abbrev bound_kind : Binding → Kinded
+abbrev pub bound_kind : Binding → Kinded
 bound_kind b = record { entity = b.entity; kind_is = b.kind }
 
-abbrev Alike : List Declaration → List Binding → Type 0
+abbrev pub Alike : List Declaration → List Binding → Type 0
 Alike ds bs = map declared_kind ds ≡ map bound_kind bs
 
 alike_both : (ds es : List Declaration) (bs cs : List Binding) → Alike ds bs → Alike es cs → Alike (ds ++ es) (bs ++ cs)
 alike_both ds es bs cs h k = map-append declared_kind ds es ∙ (ap (λ l. l ++ map declared_kind es) h ∙ (ap (λ l. map bound_kind bs ++ l) k ∙ sym (map-append bound_kind bs cs)))
 
 mutual
-  alike : (fs : List ℕ) (depth : ℕ) (a : Action) → Alike (declarations fs a) (bindings depth a)
+  pub alike : (fs : List ℕ) (depth : ℕ) (a : Action) → Alike (declarations fs a) (bindings depth a)
   alike fs depth (action id place form) = alike_form fs depth form
 
   alike_form : (fs : List ℕ) (depth : ℕ) (form : ActionForm) → Alike (form_declarations fs form) (form_bindings depth form)
@@ -60,7 +60,7 @@ mutual
   alike_part fs depth no_actions = refl
   alike_part fs depth (action_then a rest) = alike_both (declarations fs a) (part_declarations fs rest) (bindings depth a) (part_bindings depth rest) (alike fs depth a) (alike_part fs depth rest)
 
-same_kinds : (ds : List Declaration) (bs : List Binding) → Alike ds bs → (e : ℕ) → kind_declared (declaration_in ds e) ≡ kind_bound (binding_in bs e)
+pub same_kinds : (ds : List Declaration) (bs : List Binding) → Alike ds bs → (e : ℕ) → kind_declared (declaration_in ds e) ≡ kind_bound (binding_in bs e)
 same_kinds [] [] h e = refl
 same_kinds [] (b ∷ bs) h e = absurd cc
 same_kinds (d ∷ ds) [] h e = absurd cc
@@ -81,7 +81,7 @@ same_kinds (d ∷ ds) (b ∷ bs) h e = by (first h) (same_kinds ds bs (rest h) e
         ap (λ t. kind_declared (if t then Some d else declaration_in ds e)) (ap (λ (k : Kinded). same_entity k.entity (Some e)) same ∙ is)
         ∙ (later ∙ ap (λ t. kind_bound (if t then Some b else binding_in bs e)) (sym is))
 
-held_kind : (ds : List Declaration) (count from n e : ℕ) → e < n → (held_at (all_held ds count from n) e).kind ≡ kind_declared (declaration_in ds (from + e))
+pub held_kind : (ds : List Declaration) (count from n e : ℕ) → e < n → (held_at (all_held ds count from n) e).kind ≡ kind_declared (declaration_in ds (from + e))
 held_kind ds count from zero e within = absurd (none e within)
   where
     none : (n : ℕ) → n < 0 → ⊥

@@ -40,3 +40,4 @@ pub mod CommandsFlattened
 pub mod ViewsFlattened
 pub mod NamesLed
 pub mod KindsHeld
+pub mod HiddenPlaced

@@ -7,7 +7,7 @@ use Rattle.dh_meaning.specs.CoreOf.{kept_terms, target_to, terms_both}
 use Rattle.dh_tree.specs.declared.viewing.ViewMap.{ViewMap}
 use Rattle.dh_meaning.specs.Ways.{Hidden, Way, step_of}
 use Rattle.dh_ways.specs.declared.ways.Hidden as ways
-use Rattle.dh_ways.specs.declared.ways.Way as ways_kept
+use Rattle.dh_ways.specs.Kept as ways_kept
 use Rattle.dh_ways.specs.Seen.{hidden_seen, way_seen}
 use Rattle.dh_code.specs.declared.codes.Operand.{Operand}
 use Rattle.dh_code.specs.declared.codes.Operation.{Operation}

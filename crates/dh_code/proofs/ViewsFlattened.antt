@@ -15,7 +15,7 @@ use Rattle.dh_meaning.specs.CoreOf.{core_terms, kept_by}
 use Rattle.dh_meaning.specs.Ways as definitions
 use Rattle.dh_meaning.specs.Ways.{Hidden, hidden_in}
 use Rattle.dh_ways.specs.declared.ways.Hidden as ways
-use Rattle.dh_ways.specs.declared.ways.Way.{Way}
+use Rattle.dh_ways.specs.Kept.{Way}
 use Rattle.dh_ways.specs.Seen.{hidden_seen, way_seen}
 use Rattle.dh_code.specs.declared.codes.Action.TheVariants.{Keep}
 use Rattle.dh_code.specs.declared.codes.Code.{Code}
@@ -52,14 +52,6 @@ mapped_at f xs i now new all x y there added worth h = mapped_more f xs i now ne
 
 pub mapped_end : {A B : Type 0} (f : A → B) (xs : List A) (i : ℕ) (now all : List B) → length xs ≤ i → now ++ map f (drop i xs) ≡ all → now ≡ all
 mapped_end f xs i now all over h = sym (append-nil now) ∙ (ap (λ l. now ++ map f l) (sym (drop_past xs i over)) ∙ h)
-
-pub listed_more : {A : Type 0} (xs : List A) (i : ℕ) (now new all : List A) (x : A) → i < length xs → x ≡ get_or xs i x → new ≡ now ++ x ∷ [] → now ++ drop i xs ≡ all → new ++ drop (suc i) xs ≡ all
-listed_more xs i now new all x there is added h =
-    ap (λ l. l ++ drop (suc i) xs) added
-    ∙ (append_assoc now (x ∷ []) (drop (suc i) xs) ∙ (ap (λ l. now ++ l) (sym (drop-cons xs i x there ∙ ap (λ z. z ∷ drop (suc i) xs) (sym is))) ∙ h))
-
-pub listed_end : {A : Type 0} (xs : List A) (i : ℕ) (now all : List A) → length xs ≤ i → now ++ drop i xs ≡ all → now ≡ all
-listed_end xs i now all over h = sym (append-nil now) ∙ (ap (λ l. now ++ l) (sym (drop_past xs i over)) ∙ h)
 
 -- The first variable on a way.
 pub hidden_found : (way : Option definitions.Way) (w : Way) (x : Option ways.Hidden) → Some (way_seen w) ≡ way → x ≡ slice_get w.hidden 0 → option_map hidden_seen x ≡ slice_get (hidden_in way) 0

@@ -1,11 +1,15 @@
 -- The variables of a program where they are declared: the kind of each, and the factors of the unrolled loops
--- round it. And the slots that they are given: those of each entity behind those of the entities before it.
+-- round it; behind its own ones those that keep the offsets of its views. And the slots that they are given: those of
+-- each entity behind those of the entities before it.
 use Rattle.std.specs.Prelude.{ℕ, zero, suc, ◌+◌, nat_lt, if◌then◌else◌, List, [], ◌∷◌, ◌++◌, length, Option, Some, None}
 use Rattle.dh_value.specs.declared.kinds.Kind.{Kind}
 use Rattle.dh_value.specs.declared.kinds.Kind.TheVariants as kind
 use Rattle.dh_tree.specs.Memories.{same_entity}
-use Rattle.dh_tree.specs.PlainTrees.{Action, action, ActionForm, lets, lets_memory, views, assigns, stores, reduces, calls, blocks, decides, repeats, counts, MaybeAction, no_action, one_action, Actions, no_actions, action_then, Groups, no_groups, group_then, Program}
-use Rattle.dh_meaning.specs.Bindings.{iterator_kind, let_kind}
+use Rattle.dh_tree.specs.declared.trees.expressions.Ref.{Ref}
+use Rattle.dh_tree.specs.PlainTrees.{Term, ViewPlan, Action, action, ActionForm, lets, lets_memory, views, assigns, stores, reduces, calls, blocks, decides, repeats, counts, MaybeAction, no_action, one_action, Actions, no_actions, action_then, Groups, no_groups, group_then, Program}
+use Rattle.dh_tree.specs.ViewOffsets.{offsets_of}
+use Rattle.dh_meaning.specs.Bindings.{iterator_kind, kind_found, let_kind}
+use Rattle.dh_meaning.specs.Ways.{all_entities_of}
 use Rattle.dh_code.specs.declared.places.Declared.{Declared}
 use Rattle.dh_code.specs.declared.places.Held.{Held}
 use Rattle.dh_code.specs.Ranks.{copies_in}
@@ -52,6 +56,61 @@ abbrev mutual
   part_declarations factors no_actions = []
   part_declarations factors (action_then a rest) = declarations factors a ++ part_declarations factors rest
 
+-- Variables that keep offsets.
+
+-- a view, inside loops of these factors
+pub record Factored : Type 0 where
+  pub name : Ref
+  pub parent : Ref
+  pub form : ViewPlan
+  pub factors : List ℕ
+
+abbrev mutual
+  -- the views that a command declares inside loops of these factors, in text order
+  pub factored : (factors : List ℕ) → Action → List Factored
+  factored factors (action id place form) = form_factored factors form
+
+  pub form_factored : (factors : List ℕ) → ActionForm → List Factored
+  form_factored factors (views name parent form) = record { name = name; parent = parent; form = form; factors = factors } ∷ []
+  form_factored factors (lets name declared value) = []
+  form_factored factors (lets_memory name shape shape_places value) = []
+  form_factored factors (assigns target value) = []
+  form_factored factors (stores target value) = []
+  form_factored factors (reduces target op value) = []
+  form_factored factors (calls function arguments) = []
+  form_factored factors (blocks body) = groups_factored factors body
+  form_factored factors (decides test chosen other) = factored factors chosen ++ other_factored factors other
+  form_factored factors (repeats test body) = factored factors body
+  form_factored factors (counts iterator declared low high factor body combine combine_place) =
+      factored (factors_inside factors factor.value) body ++ other_factored (factors_inside factors factor.value) combine
+
+  pub other_factored : (factors : List ℕ) → MaybeAction → List Factored
+  other_factored factors no_action = []
+  other_factored factors (one_action a) = factored factors a
+
+  pub groups_factored : (factors : List ℕ) → Groups → List Factored
+  groups_factored factors no_groups = []
+  groups_factored factors (group_then part rest) = part_factored factors part ++ groups_factored factors rest
+
+  pub part_factored : (factors : List ℕ) → Actions → List Factored
+  part_factored factors no_actions = []
+  part_factored factors (action_then a rest) = factored factors a ++ part_factored factors rest
+
+-- those of offsets, of which the first is kept in this entity
+abbrev pub hidden_declared : (first : ℕ) → (factors : List ℕ) → List Term → List Declaration
+hidden_declared first factors [] = []
+hidden_declared first factors (t ∷ ts) = record { entity = Some first; kind_is = kind_found t; factors = factors } ∷ hidden_declared (suc first) factors ts
+
+abbrev pub all_hidden_declared : (first : ℕ) → List Factored → List Declaration
+all_hidden_declared first [] = []
+all_hidden_declared first (f ∷ fs) = hidden_declared first f.factors (offsets_of f.form) ++ all_hidden_declared (first + length (offsets_of f.form)) fs
+
+abbrev pub hidden_declarations : Program → List Declaration
+hidden_declarations p = all_hidden_declared (length p.entities) (factored [] p.body)
+
+abbrev pub all_declarations_of : Program → List Declaration
+all_declarations_of p = declarations [] p.body ++ hidden_declarations p
+
 -- the variable that is this entity, the first where there are more
 abbrev pub declaration_in : List Declaration → (entity : ℕ) → Option Declaration
 declaration_in [] entity = None
@@ -86,9 +145,9 @@ slots_counted ds count from (suc entities) = slots_counted ds (count + copies_in
 -- the slots of a program's variables
 abbrev pub placing_of : Program → Placing
 placing_of p = record {
-  held = all_held (declarations [] p.body) 0 0 (length p.entities);
-  factors = λ entity. factors_of (declaration_in (declarations [] p.body) entity);
+  held = all_held (all_declarations_of p) 0 0 (all_entities_of p);
+  factors = λ entity. factors_of (declaration_in (all_declarations_of p) entity);
 }
 
 abbrev pub slots_of : Program → ℕ
-slots_of p = slots_counted (declarations [] p.body) 0 0 (length p.entities)
+slots_of p = slots_counted (all_declarations_of p) 0 0 (all_entities_of p)

@@ -1,11 +1,12 @@
 -- What the calls that give variables their slots answer.
-use Rattle.std.specs.Prelude.{◌≡◌, ℕ, ◌≤◌, ◌^◌, List, [], ◌∷◌, ◌++◌, length, map, Option, Some, None, option_map, Vec, Box}
+use Rattle.std.specs.Prelude.{◌≡◌, ℕ, ◌<◌, ◌≤◌, ◌^◌, List, [], ◌∷◌, ◌++◌, length, map, Option, Some, None, option_map, Vec, Box}
 use Rattle.std.specs.Global.{Global}
 use Rattle.std.specs.List.{AllByRecursion}
 use Rattle.dh_value.specs.declared.kinds.Kind.TheVariants as kind
 use Rattle.dh_tree.specs.Collected.{AreKept}
 use Rattle.dh_tree.specs.declared.trees.commands.Command.{Command}
 use Rattle.dh_tree.specs.Seen.{action_seen, groups, maybe_seen, part_seen}
+use Rattle.dh_ways.specs.declared.ways.Hidden.{Hidden}
 use Rattle.dh_code.specs.declared.places.Declared.{Declared}
 use Rattle.dh_code.specs.declared.places.Held.{Held}
 use Rattle.dh_code.specs.Declarations.{Declaration, all_held, declarations, declaration_in, declared_of, groups_declarations, other_declarations, slots_counted}
@@ -49,14 +50,30 @@ copies_held (Some d) = d.copies
 abbrev pub has_few : Option Declared → Type 0
 has_few v = copies_held v ≤ most_paths
 
--- more entities than any text declares
+-- more entities than any text declares, with the variables that keep offsets of its views, of which each has at most
+-- six
 abbrev pub most_entities : ℕ
-most_entities = 2 ^ 21
+most_entities = 2 ^ 23
 
 -- the slots of variables, one behind the other
 abbrev pub AreLaid : List (Option Declared) → List Held → (count : ℕ) → Type 0
 AreLaid found held count = (ds : List Declaration) → AreFound ds found → (held ≡ all_held ds 0 0 (length found)) × (count ≡ slots_counted ds 0 0 (length found))
 
-abbrev pub ArePlaces : Command → (entities : ℕ) → List Held → (count : ℕ) → Type 0
-ArePlaces body entities held count =
-    (held ≡ all_held (declarations [] (action_seen body)) 0 0 entities) × (count ≡ slots_counted (declarations [] (action_seen body)) 0 0 entities)
+-- what is named is one of the first so many entities
+abbrev pub IsNamedBelow : ℕ → Option ℕ → Type 0
+IsNamedBelow n None = Unit {0}
+IsNamedBelow n (Some e) = e < n
+
+-- a variable that keeps an offset, as it is declared
+abbrev pub hidden_as : Hidden → Declared
+hidden_as h = record { entity = Some h.entity; kind = h.kind; depth = h.depth; copies = h.copies }
+
+-- they are declared inside loops of some factors, and have few copies
+abbrev pub AreFewHidden : List Hidden → Type 0
+AreFewHidden hidden = (ds : List Declaration) × ((map declared_of ds ≡ map hidden_as hidden) × AreFew ds)
+
+-- the slots of the variables of a command and of these behind them, of so many entities
+abbrev pub ArePlaces : Command → List Hidden → (entities : ℕ) → List Held → (count : ℕ) → Type 0
+ArePlaces body hidden entities held count =
+    (ds : List Declaration) → map declared_of ds ≡ map hidden_as hidden
+    → (held ≡ all_held (declarations [] (action_seen body) ++ ds) 0 0 entities) × (count ≡ slots_counted (declarations [] (action_seen body) ++ ds) 0 0 entities)

@@ -1,6 +1,6 @@
 //! Code from expressions and commands.
 
-ghost use Rattle.std.specs.Prelude.{◌≡◌, ◌∷◌, ◌++◌, Some, map, option_map, slice_get, IfOk};
+ghost use Rattle.std.specs.Prelude.{◌≡◌, ◌++◌, Some, map, option_map, slice_get, IfOk};
 ghost use Rattle.std.specs.Option.{is_some};
 ghost use Rattle.dh_tree.specs.Memories.{memory_in, number_in};
 ghost use Rattle.dh_tree.specs.Seen.{term_seen};
@@ -22,7 +22,7 @@ use dh_tree::{
     Command, CommandForm, Expr, ExprForm, Kind, MemEntry, Ref, Typed, ViewForm, ViewMap,
 };
 use dh_value::Op;
-use dh_ways::{Hidden, Led, Way, way_among};
+use dh_ways::{Hidden, WayRef, WayTable};
 use std::alloc::Global;
 
 /// What is known of the names of a program.
@@ -33,7 +33,7 @@ pub struct Names<'a> {
     /// The program.
     pub program: &'a Typed,
     /// The ways of its views.
-    pub ways: &'a [Led],
+    pub ways: &'a WayTable,
     /// The slots of its variables.
     pub places: &'a [Held],
 }
@@ -62,22 +62,22 @@ fn is_memory(names: &Names<'_>, of: Option<u32>) -> bool
 }
 
 /// The way of what a name stands for, where that is a view.
-fn way_of<'a>(names: &Names<'a>, of: &Ref) -> Option<&'a Way>
-    ensures { option_map (λ w. way_seen w.now) result ≡ way_of (known_in names.now) of.now }
+pub fn way_of<'a>(names: &Names<'a>, of: &Ref) -> Option<WayRef<'a>>
+    ensures { option_map way_seen result ≡ way_of (known_in names.now) of.now }
 {
     if is_memory(names, of.entity) {
         None
     } else {
-        way_among(names.ways, of.entity)
+        names.ways.get(of.entity)
     }
 }
 
 /// The number of the memory that a name stands for, or leads to.
-fn memory_of(names: &Names<'_>, of: &Ref) -> usize
+pub fn memory_of(names: &Names<'_>, of: &Ref) -> usize
     ensures { result ≡ memory_of (known_in names.now) of.now }
 {
     match way_of(names, of) {
-        Some(way) => number_of(names, way.memory),
+        Some(way) => number_of(names, way.memory()),
         None => number_of(names, of.entity),
     }
 }
@@ -93,18 +93,6 @@ fn hidden_value(names: &Names<'_>, hidden: &Hidden) -> Operand
         kind: hidden.kind,
         mask: kind_mask(hidden.kind),
     }
-}
-
-/// The views on a way.
-fn views_on(alloc: Global, way: &Way) -> Result<Items<ViewMap>, NoMemory>
-    ensures { IfOk result (λ views. views ≡ way.now.view ∷ way.now.behind) }
-{
-    let mut views = Items::new(alloc);
-    views.push(way.view.try_clone(alloc)?)?;
-    for view in way.behind.as_slice() {
-        views.push(view.try_clone(alloc)?)?;
-    }
-    Ok(views)
 }
 
 /// These operands, and behind them what the variables hold that keep offsets.
@@ -123,14 +111,33 @@ fn with_offsets(
     Ok(all)
 }
 
+/// Copies of these views.
+fn copied_views(alloc: Global, views: &[&ViewMap]) -> Result<Items<ViewMap>, NoMemory>
+    ensures { IfOk result (λ copies. copies ≡ map (λ v. v.now) views.now) }
+{
+    let mut copies = Items::new(alloc);
+    for i in 0..views.len() {
+        let view = views[i];
+        let copy = view.try_clone(alloc)?;
+        copies.push(copy)?;
+    }
+    Ok(copies)
+}
+
 /// The element that these operands name as indices, through the views on a way.
-fn through(names: &Names<'_>, way: &Way, operands: Items<Operand>) -> Result<Target, NoMemory>
+fn through(
+    names: &Names<'_>,
+    way: &WayRef<'_>,
+    operands: Items<Operand>,
+) -> Result<Target, NoMemory>
     ensures { IfOk result (λ t. t ≡ aimed_target names.now.places.now (Some (way_seen way.now))
         operands) }
 {
     let count = operands.len();
-    let operands = with_offsets(names, operands, way.hidden.as_slice())?;
-    let views = views_on(names.alloc, way)?;
+    let hidden = way.hidden(names.alloc)?;
+    let operands = with_offsets(names, operands, hidden.as_slice())?;
+    let kept = way.views(names.alloc)?;
+    let views = copied_views(names.alloc, kept.as_slice())?;
     Ok(Target::Through {
         views,
         count,
@@ -143,7 +150,7 @@ fn aim(names: &Names<'_>, of: &Ref, operands: Items<Operand>) -> Result<Target, 
     ensures { IfOk result (λ t. Aims names.now of.now operands t) }
 {
     match way_of(names, of) {
-        Some(way) => through(names, way, operands),
+        Some(way) => through(names, &way, operands),
         None => Ok(Target::Indices { operands }),
     }
 }
@@ -531,23 +538,13 @@ fn flatten_offsets(
     }
 }
 
-/// The first of these variables, if there is one.
-fn first_of(hidden: &[Hidden]) -> Option<Hidden>
-    ensures { result ≡ slice_get hidden.now 0 }
-{
-    match hidden.first() {
-        Some(one) => Some(*one),
-        None => None,
-    }
-}
-
 /// The first variable that keeps an offset on the way of a view, if there is one.
-fn first_hidden(names: &Names<'_>, of: &Ref) -> Option<Hidden>
+pub fn first_hidden(names: &Names<'_>, of: &Ref) -> Option<Hidden>
     ensures { option_map hidden_seen result
         ≡ slice_get (hidden_in (way_of (known_in names.now) of.now)) 0 }
 {
     match way_of(names, of) {
-        Some(way) => first_of(way.hidden.as_slice()),
+        Some(way) => way.first_hidden(),
         None => None,
     }
 }

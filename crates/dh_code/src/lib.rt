@@ -16,8 +16,9 @@ mod spots;
 
 pub use codes::{Code, Flat};
 pub use evaluating::{Scene, Stop};
-pub use flattening::{Names, flat, flatten_commands};
+pub use flattening::{Names, first_hidden, flat, flatten_commands, memory_of, way_of};
 pub use operands::slot;
-pub use places::{Held, Places, place_all, place_of};
+pub use passing::offsets_taken;
+pub use places::{Held, Places, place_all, place_at, place_behind, place_of};
 pub use running::{Change, State, Write, decide, run, set, undo, write_all};
 pub use spending::{Bank, release, unused};

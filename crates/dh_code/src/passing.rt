@@ -1,6 +1,6 @@
 //! Where the element of indices lies, through the views on the way to its memory.
 
-ghost use Rattle.std.specs.Prelude.{◌≡◌, ◌≤◌, ◌<◌, ◌+◌, [], ◌∷◌, ◌++◌, List, ℤ, length, take, drop};
+ghost use Rattle.std.specs.Prelude.{◌≡◌, ◌≤◌, List, ℤ, length, take, drop};
 ghost use Rattle.std.specs.List.{AllByRecursion};
 ghost use Rattle.dh_tree.specs.ViewElements.{element_through, offsets_needed};
 ghost use Rattle.dh_tree.specs.ViewShapes.{IsViewMap};
@@ -18,35 +18,7 @@ use crate::operands::{View, value_at};
 use crate::spots::{Spread, index_below, next_spread};
 use dh_tree::{Dim, ViewMap, ViewSort};
 use dh_value::number;
-use dh_viewing::{Index, through};
-
-/// The most dimensions of a memory.
-const MAX_DIMS: usize = 6;
-
-/// No number.
-fn no_numbers() -> Index
-    ensures numbers { numbers_in result ≡ [] }
-    ensures long { result.len ≡ 0 }
-{
-    Index {
-        len: 0,
-        at: [0; MAX_DIMS],
-    }
-}
-
-/// These numbers with one more behind them.
-fn with_number(numbers: Index, number: i128) -> Index
-    requires { numbers.len < 6 }
-    ensures numbers { numbers_in result ≡ numbers_in numbers ++ number ∷ [] }
-    ensures long { result.len ≡ numbers.len + 1 }
-{
-    let mut at = numbers.at;
-    at[numbers.len as usize] = number;
-    Index {
-        len: numbers.len + 1,
-        at,
-    }
-}
+use dh_viewing::{Index, no_numbers, through, with_number};
 
 /// So many numbers: the same where they are as many already.
 fn trimmed(numbers: Index, count: usize) -> Index
@@ -62,7 +34,7 @@ fn trimmed(numbers: Index, count: usize) -> Index
     }
 }
 
-/// They as a list.
+/// They as a list, which is as long as they are many.
 fn listed(numbers: &Index) -> &[i128]
     requires { numbers.now.len ≤ 6 }
     ensures value { result.now ≡ numbers_in numbers.now }
@@ -102,7 +74,7 @@ fn behind(operands: &[Operand], count: usize) -> &[Operand]
 }
 
 /// How many offsets a view takes.
-fn offsets_taken(link: &ViewMap) -> usize
+pub fn offsets_taken(link: &ViewMap) -> usize
     ensures { result ≡ offsets_needed link.now.sort link.now.parent.dims }
 {
     match link.sort {

@@ -1,11 +1,11 @@
 //! The variables of a program: where each has its slots.
 
-ghost use Rattle.std.specs.Prelude.{◌≡◌, ◌+◌, ◌≤◌, List, [], ℕ, None, drop, length, option_map, replicate, IfOk, OnOk};
+ghost use Rattle.std.specs.Prelude.{◌≡◌, ◌+◌, ◌≤◌, ◌++◌, List, [], ℕ, None, drop, length, map, option_map, replicate, IfOk, OnOk};
 ghost use Rattle.std.specs.List.{AllByRecursion};
 ghost use Rattle.dh_tree.specs.Seen.{action_seen, term_seen};
 ghost use Rattle.dh_meaning.specs.Bindings as bindings;
 ghost use Rattle.dh_meaning.specs.CoreOf.{entity_number};
-ghost use Rattle.dh_code.specs.Placed.{AreFew, AreFound, AreLaid, ArePlaces, Declares, DeclaresOther, DeclaresParts, IsRound, KeepsFound, copies_held, has_few, held_of, most_entities};
+ghost use Rattle.dh_code.specs.Placed.{AreFew, AreFewHidden, AreFound, AreLaid, ArePlaces, Declares, DeclaresOther, DeclaresParts, IsRound, KeepsFound, copies_held, has_few, held_of, hidden_as, most_entities};
 ghost use Rattle.dh_code.specs.Declarations.{declarations, factors_inside};
 ghost use Rattle.dh_code.specs.Ranks.{copies_in, most_paths};
 ghost use Rattle.dh_code.specs.Slots.{held_at};
@@ -13,6 +13,7 @@ ghost use Rattle.dh_code.specs.Slots.{held_at};
 use crate::operands::{entity_of, kind_found};
 use dh_base::NoMemory;
 use dh_tree::{Command, CommandForm, Expr, Kind, Ref};
+use dh_ways::Hidden;
 use std::alloc::Global;
 
 /// A variable where it is declared.
@@ -244,16 +245,39 @@ fn laid(alloc: Global, found: &[Option<Declared>]) -> Result<Places, NoMemory>
     })
 }
 
-/// The slots of the variables of a program with so many entities, none of which has more copies
-/// than the limit on copies lets it have.
-pub fn place_all(alloc: Global, body: &Command, entities: usize) -> Result<Places, NoMemory>
+/// Lists variables that keep offsets.
+fn declare_hidden(list: &mut Vec<Declared>, hidden: &[Hidden]) -> Result<(), NoMemory>
+    ensures { OnOk result (list.new.items ≡ list.old.items ++ map hidden_as hidden.now) }
+{
+    for one in hidden {
+        list.push(Declared {
+            entity: Some(one.entity),
+            kind: one.kind,
+            depth: one.depth,
+            copies: one.copies,
+        })?;
+    }
+    Ok(())
+}
+
+/// The slots of the variables of a program with so many entities, and of those behind them that keep
+/// offsets of its views. None of them has more copies than the limit on copies lets it have.
+pub fn place_all(
+    alloc: Global,
+    body: &Command,
+    hidden: &[Hidden],
+    entities: usize,
+) -> Result<Places, NoMemory>
     requires few { AreFew (declarations [] (action_seen body.now)) }
-    requires entities { entities ≤ most_entities }
-    ensures { IfOk result (λ places. ArePlaces body.now entities places.held.items places.count) }
+    requires hidden { AreFewHidden hidden.now }
+    requires entities { entities + length hidden.now ≤ most_entities }
+    ensures { IfOk result (λ places. ArePlaces body.now hidden.now (entities + length hidden.now)
+        places.held.items places.count) }
 {
     let mut list = Vec::new(alloc);
     declare(&mut list, 0, 1, body)?;
-    let mut found = none_declared(alloc, entities)?;
+    declare_hidden(&mut list, hidden)?;
+    let mut found = none_declared(alloc, entities + hidden.len())?;
     for variable in &list {
         note(found.as_mut_slice(), *variable);
     }

@@ -27,7 +27,7 @@ use Rattle.dh_commands.specs.declared.choices.Left.{Left}
 use Rattle.dh_commands.specs.LanesRun.{IsArm, comes_out, is_on_at, path_in, paths_counted, paths_on}
 use Rattle.dh_commands.specs.ShownVariables.{IsOwn, IsSeen, ShowsAt, register_in, seen_path}
 use Rattle.dh_commands.specs.Undone.{AreReady, Changes, IsChange}
-use Rattle.dh_commands.specs.Followed.{Follows, Sets, effect_of, view_of}
+use Rattle.dh_commands.specs.Followed.{Follows, KeepsDeep, Sets, effect_of, view_of}
 use Rattle.dh_commands.specs.Done.{Stands}
 use Rattle.dh_commands.specs.Parted.{DoesArm, ShowsTests}
 use Rattle.dh_commands.proofs.ArmsBegun.{register_same, seen_around, seen_inside, seen_same, shown_same}
@@ -177,13 +177,13 @@ module _ (scene : Scene) (around : Around) (tests : List ℕ) (holds : Bool) (a 
           (is_arm.on j l ∙ (ap (λ (b : Bool). b && comes_out holds (truths (path_in around j))) on ∙ comes_same holds (truths (path_in around j)) is))
           ∙ ap (λ (p : Path). word_of (held_at scene.held.now entity).kind (after.variables entity p)) (seen_same scene around arm.arm x holds truths is_arm entity j))
 
-      pub ends_kept : ((entity : ℕ) → Sets scene a entity → IsOwn scene around entity) → (entity j : ℕ) → IsSeen scene around.levels.now entity → j < paths_counted around → is_on_at x around j ≡ true → truths (path_in around j) ≡ not holds
+      pub ends_kept : KeepsDeep scene a → ((entity : ℕ) → Sets scene a entity → IsOwn scene around entity) → (entity j : ℕ) → IsSeen scene around.levels.now entity → j < paths_counted around → is_on_at x around j ≡ true → truths (path_in around j) ≡ not holds
           → after.variables entity (seen_path scene around entity j) ≡ e.variables entity (seen_path scene around entity j)
-      ends_kept own entity j there l on is =
+      ends_kept deep own entity j there l on is =
           subst (λ (p : Path). after.variables entity p ≡ e.variables entity p) (seen_same scene around arm.arm x holds truths is_arm entity j)
           (commands_keep (begun_of x) entity (seen_path scene arm.arm entity j) (paths_on x arm.arm) (core_action (known_in scene) first a no_commands) e
           (keeps_own scene arm.arm x entity j (down entity there) (within_arm j l)
           (is_arm.on j l ∙ (ap (λ (b : Bool). b && comes_out holds (truths (path_in around j))) on ∙ comes_other holds (truths (path_in around j)) is))
-          (core_action (known_in scene) first a no_commands) (action_deep scene first a no_commands tt)
+          (core_action (known_in scene) first a no_commands) (action_deep scene first a no_commands deep tt)
           (λ other sets. own_in_arm scene around arm.arm x holds truths is_arm other
           (own other (action_any scene other 0 a ∙ (sym (action_any scene other first a) ∙ sets))))))

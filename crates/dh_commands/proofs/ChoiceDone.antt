@@ -216,7 +216,7 @@ module _ (scene : Scene) (around : Around) (first n1 n2 n3 : ℕ) (t : plain.Ter
       truths = test_out scene x first t e
 
       own : (entity : ℕ) → May entity → IsOwn scene around entity
-      own = follows.1.0
+      own = follows.1.0.own
 
       shown_tests : ShowsTests x around tests truths
       shown_tests number test inside on at = ap is_true (does_tests.are few_test x reads e fits1 begun follows.0 stands number test inside on at)
@@ -238,7 +238,7 @@ module _ (scene : Scene) (around : Around) (first n1 n2 n3 : ℕ) (t : plain.Ter
           subst (λ (os : List (Option ℕ)). ShowsAt scene around x os e2.variables entity j) (sym (values_one stands.ready).0.current)
           (stands1.shows.each entity j there inside on
           ∙ ap (λ z. word_of (held_at scene.held.now entity).kind z)
-          (sym (ends_kept scene around tests true chosen n1 n2 b1 b2 lefts one does_tests.long some_tests few_one x reads e1 fits2 begun1 truths shown_tests half1 follows1 (λ i sets. own i (inl sets)) entity j there inside on is)))
+          (sym (ends_kept scene around tests true chosen n1 n2 b1 b2 lefts one does_tests.long some_tests few_one x reads e1 fits2 begun1 truths shown_tests half1 follows1 follows.1.0.chosen_deep (λ i sets. own i (inl sets)) entity j there inside on is)))
 
       half2 : Halfway scene around x reads truths false b2 e2
       half2 = record {
@@ -262,7 +262,7 @@ module _ (scene : Scene) (around : Around) (first n1 n2 n3 : ℕ) (t : plain.Ter
       e3 = other_effect scene x (paths_where false truths (paths_on x around)) n2 other e2
 
       ends2 : OtherEnds scene around x reads truths b3 done.behind e2 e3
-      ends2 = done.so x reads e2 fits3 begun2 truths shown_tests half2 own follows2
+      ends2 = done.so x reads e2 fits3 begun2 truths shown_tests half2 follows.1.0.other_deep own follows2
 
       shows_new : Shows scene around x new.values.current.items e3.variables
       shows_new =

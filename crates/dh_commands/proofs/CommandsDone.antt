@@ -1,22 +1,24 @@
 -- Commands of each form, from what is done at all paths; and the parts of a block, one after the other.
-use Rattle.std.proofs.Common.{◌≡◌, ◌⊎◌, inl, inr, ℕ, ◌+◌, ◌<◌, ◌^◌, ◌==◌, Bool, true, false, Some, None, List, [], ◌∷◌, ◌++◌, refl, ap, sym, ◌∙◌, subst, arith}
-use Rattle.std.specs.Prelude.{Option, ◌||◌}
+use Rattle.std.proofs.Common.{◌≡◌, ◌⊎◌, inl, inr, ℕ, suc, ◌+◌, ◌<◌, ◌^◌, ◌==◌, Bool, true, false, Some, None, List, [], ◌∷◌, ◌++◌, length, refl, ap, sym, ◌∙◌, subst, arith}
+use Rattle.std.specs.Prelude.{Option, ◌≤◌, ◌&&◌, ◌||◌, nat_le, nat_lt}
 use Rattle.std.proofs.Math.Nat.{add_assoc, add-zero, zero-add}
 use Rattle.std.proofs.lemmas.Bool.{eq-eqb}
+use Rattle.std.proofs.lemmas.Bool.Decides.{nat_tests}
 use Rattle.std.proofs.lemmas.List.{append-nil}
 use Rattle.dh_base.specs.declared.places.Place.{Place}
 use Rattle.dh_value.specs.declared.kinds.Kind.{Kind}
 use Rattle.dh_value.specs.declared.operators.Op.{Op}
 use Rattle.dh_tree.specs.declared.trees.expressions.Ref.{Ref}
 use Rattle.dh_tree.specs.PlainTrees as plain
-use Rattle.dh_tree.specs.PlainTrees.{Action, action, ActionForm, lets, lets_memory, views, assigns, stores, reduces, calls, blocks, decides, repeats, counts, Actions, no_actions, action_then, Groups, no_groups, group_then}
-use Rattle.dh_meaning.specs.AccessNumbers.{accesses_of, groups_accesses, part_accesses, term_accesses, terms_accesses}
-use Rattle.dh_meaning.specs.Core.{CoreCommands, no_commands, literal, store, truth_literal}
-use Rattle.dh_meaning.specs.CoreOf.{core_action, core_groups, core_part, core_term, core_terms, entity_number, reach_of, store_to, target_to}
-use Rattle.dh_meaning.specs.Effects.{Effect, Event, Variables, assigned_at, at_each, command_run, commands_run, tested_at}
+use Rattle.dh_tree.specs.PlainTrees.{ViewPlan, Action, action, lets, views, assigns, stores, reduces, blocks, Actions, no_actions, action_then, Groups, no_groups, group_then}
+use Rattle.dh_tree.specs.Seen.{terms}
+use Rattle.dh_tree.specs.ViewOffsets.{offsets_of}
+use Rattle.dh_meaning.specs.AccessNumbers.{accesses_of, groups_accesses, part_accesses, plan_accesses, term_accesses}
+use Rattle.dh_meaning.specs.Core.{CoreCommands, CoreTerms, no_commands, no_terms, term_and, literal, truth_literal}
+use Rattle.dh_meaning.specs.CoreOf.{core_action, core_groups, core_part, core_term, core_terms, entity_number, kept_by, store_to, way_of}
+use Rattle.dh_meaning.specs.Effects.{Effect, Event, Variables, assigned_at, at_each, command_run, commands_run, kept_at, tested_at}
 use Rattle.dh_meaning.specs.Paths.{Path}
-use Rattle.dh_meaning.specs.Ways.{Way}
-use Rattle.dh_code.proofs.CommandsFlattened.{no_way}
+use Rattle.dh_meaning.specs.Ways.{Hidden, hidden_in}
 use Rattle.dh_code.specs.Slots.{held_at}
 use Rattle.dh_expressions.specs.declared.scenes.Around.{Around}
 use Rattle.dh_expressions.specs.declared.scenes.Scene.{Scene}
@@ -26,13 +28,13 @@ use Rattle.dh_expressions.proofs.Pushing.{begun_later, extends_again, extends_se
 use Rattle.dh_commands.specs.declared.buildings.Building.{Building}
 use Rattle.dh_commands.specs.LanesRun.{paths_counted, paths_on}
 use Rattle.dh_commands.specs.ShownVariables.{depth_in}
-use Rattle.dh_commands.specs.Followed.{Along, Arms, no_arms, arms_of, arms_then, FitArms, FitGroups, Follows, FollowsGroups, Sets, effect_of, groups_effect, part_effect, store_run}
+use Rattle.dh_commands.specs.Followed.{Along, Arms, no_arms, arms_of, arms_then, FitArms, FitGroups, Follows, FollowsGroups, FollowsView, Sets, effect_of, groups_effect, part_effect, store_run}
 use Rattle.dh_commands.specs.Done.{Does, DoesAll, DoesCommand, IsNext, Stands}
-use Rattle.dh_commands.specs.Setting.{AssignsAll, ClearsAll, ReducesAll, StoresAll}
+use Rattle.dh_commands.specs.Setting.{AssignsAll, ClearsAll, IsAmong, KeepsAll, KeepsView, ReducesAll, StoresAll}
 use Rattle.dh_commands.specs.Parted.{DoesGroups, SetsGroups}
 use Rattle.dh_commands.proofs.ArmsDone.{changes_wider}
 use Rattle.dh_commands.proofs.ChangesBack.{changes_again, changes_none, ready_after}
-use Rattle.dh_commands.proofs.CoreRuns.{action_any, action_runs, action_sets, groups_any, groups_set, part_sets}
+use Rattle.dh_commands.proofs.CoreRuns.{action_any, action_runs, action_sets, groups_any, groups_set, kept_sets, part_sets}
 use Rattle.dh_commands.proofs.LanesInOrder.{lanes_are}
 
 -- A command without arms.
@@ -65,6 +67,11 @@ each_same run other same (p ∷ ps) e = each_same run other same ps (run p e) �
 no_events : (f : Effect) → f ≡ record { variables = f.variables; events = f.events ++ [] }
 no_events f = ap (λ (es : List Event). record { variables = f.variables; events = es }) (sym (append-nil f.events))
 
+-- a test that reads nothing
+tested_still : (x : Step) (ps : List Path) (f : Effect) → at_each (tested_at (begun_of x) (truth_literal false)) ps f ≡ f
+tested_still x [] f = refl
+tested_still x (p ∷ ps) f = ap (λ g. at_each (tested_at (begun_of x) (truth_literal false)) ps g) (sym (no_events f)) ∙ tested_still x ps f
+
 module _ (scene : Scene) (around : Around) (id : ℕ) (place : Place) (first next : ℕ) (old new : Building) where
   pub let_done : (r : Ref) (declared : Option Kind) (t : plain.Term) → AssignsAll scene around old new first next (entity_number r.entity) t → DoesCommand scene around (action id place (lets r declared (Some t))) first next old new
   let_done r declared t d =
@@ -82,10 +89,7 @@ module _ (scene : Scene) (around : Around) (id : ℕ) (place : Place) (first nex
       (λ e same. sets_one e (entity_number r.entity) same) (λ x reads e p. p) (λ x e. refl)
 
   store_runs : (target t : plain.Term) (x : Step) (e : Effect) → at_each (store_run scene x first target t) (paths_on x around) e ≡ command_run (begun_of x) (paths_on x around) (store_to (known_in scene) (first + term_accesses t) target (core_term (known_in scene) first t)) e
-  store_runs (plain.term at k (plain.accessed r ts)) t x e =
-      ap (λ (w : Option Way). command_run (begun_of x) (paths_on x around)
-      (store (reach_of (known_in scene) (first + term_accesses t + terms_accesses ts) at r) (target_to w (core_terms (known_in scene) (first + term_accesses t) ts)) (core_term (known_in scene) first t)) e)
-      (sym (no_way (known_in scene).memories r.entity))
+  store_runs (plain.term at k (plain.accessed r ts)) t x e = refl
   store_runs (plain.term at k (plain.in_bank r bank at_bank row)) t x e = refl
   store_runs (plain.term at k (plain.number negative z)) t x e = each_same _ (tested_at (begun_of x) (truth_literal false)) (λ p f. no_events f) (paths_on x around) e
   store_runs (plain.term at k (plain.truth_value b)) t x e = each_same _ (tested_at (begun_of x) (truth_literal false)) (λ p f. no_events f) (paths_on x around) e
@@ -116,6 +120,43 @@ clear_done scene around id place first old new r declared d = record {
   };
 }
 
+-- A view that keeps its offsets.
+module _ (scene : Scene) (around : Around) (id : ℕ) (place : Place) (first next : ℕ) (old new : Building) (name parent : Ref) (form : ViewPlan) (h : Hidden) (hs : List Hidden) (found : hidden_in (way_of (known_in scene) name) ≡ h ∷ hs) where
+  abbrev View : Action
+  View = action id place (views name parent form)
+
+  kept_runs : (ts : CoreTerms) (x : Step) (e : Effect) → at_each (kept_at (begun_of x) h.depth h.entity ts) (paths_on x around) e ≡ commands_run (begun_of x) (paths_on x around) (kept_by (h ∷ hs) ts no_commands) e
+  kept_runs no_terms x e = each_same (kept_at (begun_of x) h.depth h.entity no_terms) (tested_at (begun_of x) (truth_literal false)) (λ p f. refl) (paths_on x around) e ∙ tested_still x (paths_on x around) e
+  kept_runs (term_and t ts) x e = refl
+
+  kept_sets_them : (os : List plain.Term) (e : ℕ) → IsAmong h.entity (length os) e → kept_sets e (h ∷ hs) os ≡ true
+  kept_sets_them [] e among = absurd (never among.0 among.1)
+    where
+      never : h.entity ≤ e → e < h.entity + 0 → ⊥
+      never from below = omega (arith, from, below)
+  kept_sets_them (t ∷ os) e among = inside among.0 among.1
+    where
+      inside : h.entity ≤ e → e < h.entity + suc (length os) → (nat_le h.entity e && nat_lt e (h.entity + suc (length os))) ≡ true
+      inside from below = grind (arith, nat_tests, from, below)
+
+  view_sets : (e : ℕ) → IsAmong h.entity (length (offsets_of form)) e → Sets scene (action id place (views name parent form)) e
+  view_sets e among = action_any scene e 0 (action id place (views name parent form)) ∙ (ap (λ hidden. kept_sets e hidden (offsets_of form)) found ∙ kept_sets_them (offsets_of form) e among)
+
+  pub view_done : KeepsAll scene around old new first next h (offsets_of form) → DoesCommand scene around (action id place (views name parent form)) first next old new
+  view_done d =
+      as_command scene around (action id place (views name parent form)) first (plan_accesses form) next old new _ _ _ d (add-zero (plan_accesses form)) tt (λ e among. view_sets e among)
+      (λ x reads e p. subst (λ (hidden : List Hidden). FollowsView scene x reads around first hidden (offsets_of form) e) found p)
+      (λ x e. kept_runs (core_terms (known_in scene) first (terms (offsets_of form))) x e
+      ∙ ap (λ hidden. commands_run (begun_of x) (paths_on x around) (kept_by hidden (core_terms (known_in scene) first (terms (offsets_of form))) no_commands) e) (sym found))
+
+-- a view without offsets on its way does nothing
+view_still : (scene : Scene) (name parent : Ref) (form : ViewPlan) (id : ℕ) (place : Place) → hidden_in (way_of (known_in scene) name) ≡ [] → (n : ℕ) → core_action (known_in scene) n (action id place (views name parent form)) no_commands ≡ no_commands
+view_still scene name parent form id place none n = ap (λ hidden. kept_by hidden (core_terms (known_in scene) n (terms (offsets_of form))) no_commands) none ∙ nothing (core_terms (known_in scene) n (terms (offsets_of form)))
+  where
+    nothing : (ts : CoreTerms) → kept_by [] ts no_commands ≡ no_commands
+    nothing no_terms = refl
+    nothing (term_and t ts) = refl
+
 -- a command that does nothing
 pub nothing_done : (scene : Scene) (around : Around) (a : Action) (first next : ℕ) (b : Building) → IsNext first (accesses_of a) next → FitArms a no_arms → ((n : ℕ) → core_action (known_in scene) n a no_commands ≡ no_commands)
     → DoesCommand scene around a first next b b
@@ -129,6 +170,14 @@ nothing_done scene around a first next b next_is shaped none = record {
     so = λ x reads e fits begun p stands. subst (λ (f : Effect). Stands scene around x reads b f) (sym (ap (λ (cs : CoreCommands). commands_run (begun_of x) (paths_on x around) cs e) (none first))) stands;
   };
 }
+
+-- a view, whatever variables its way has
+pub view_command : (scene : Scene) (around : Around) (id : ℕ) (place : Place) (first idle next : ℕ) (old new : Building) (name parent : Ref) (form : ViewPlan) → (first + (plan_accesses form + 0) < 2 ^ 32 → idle ≡ first + (plan_accesses form + 0))
+    → (hs : List Hidden) → hidden_in (way_of (known_in scene) name) ≡ hs → KeepsView scene around old new first idle next hs (offsets_of form) → DoesCommand scene around (action id place (views name parent form)) first next old new
+view_command scene around id place first idle next old new name parent form counted [] found d =
+    subst (λ (b : Building). DoesCommand scene around (action id place (views name parent form)) first next old b) (sym d.0)
+    (nothing_done scene around (action id place (views name parent form)) first next old (λ few. d.1 ∙ counted few) tt (view_still scene name parent form id place found))
+view_command scene around id place first idle next old new name parent form counted (h ∷ hs) found d = view_done scene around id place first next old new name parent form h hs found d
 
 -- Parts of a block.
 
@@ -217,13 +266,13 @@ module _ (scene : Scene) (around : Around) where
         sets_first : (e : ℕ) → Sets scene a e → SetsGroups scene All e
         sets_first e sets =
             groups_any scene e 0 All
-            ∙ or_either (action_sets e a || part_sets e cs) (groups_set e gs) (inl (or_either (action_sets e a) (part_sets e cs) (inl (sym (action_any scene e 0 a) ∙ sets))))
+            ∙ or_either (action_sets (known_in scene) e a || part_sets (known_in scene) e cs) (groups_set (known_in scene) e gs) (inl (or_either (action_sets (known_in scene) e a) (part_sets (known_in scene) e cs) (inl (sym (action_any scene e 0 a) ∙ sets))))
 
         sets_rest : (e : ℕ) → SetsGroups scene (group_then cs gs) e → SetsGroups scene All e
         sets_rest e sets =
             groups_any scene e 0 All
-            ∙ (sym (or_same (action_sets e a) (part_sets e cs) (groups_set e gs))
-            ∙ or_either (action_sets e a) (part_sets e cs || groups_set e gs) (inr (sym (groups_any scene e 0 (group_then cs gs)) ∙ sets)))
+            ∙ (sym (or_same (action_sets (known_in scene) e a) (part_sets (known_in scene) e cs) (groups_set (known_in scene) e gs))
+            ∙ or_either (action_sets (known_in scene) e a) (part_sets (known_in scene) e cs || groups_set (known_in scene) e gs) (inr (sym (groups_any scene e 0 (group_then cs gs)) ∙ sets)))
 
         rest_follows : (x : Step) (reads : Reads) (e : Effect) → n1 ≡ now + accesses_of a → FollowsGroups scene x reads around (arms_then (arms_then c.arms p) g) now All e
             → FollowsGroups scene x reads around (arms_then p g) n1 (group_then cs gs) (effect_of scene x (paths_on x around) now a e)

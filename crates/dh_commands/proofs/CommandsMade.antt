@@ -1,18 +1,20 @@
 -- Operations of commands put together from those of their parts: forms as the code has them, and parts of a block one
 -- after the other.
-use Rattle.std.proofs.Common.{◌≡◌, ℕ, ◌+◌, ◌<◌, ◌≤◌, List, ap, refl, sym, ◌∙◌, subst, length, drop, get_or, map}
+use Rattle.std.proofs.Common.{◌≡◌, ℕ, ◌+◌, ◌<◌, ◌≤◌, List, [], ◌∷◌, ap, refl, sym, ◌∙◌, subst, length, drop, get_or, map}
 use Rattle.std.specs.Prelude.{Vec}
 use Rattle.std.specs.Global.{Global}
 use Rattle.dh_base.proofs.ListItems.{at_item}
 use Rattle.dh_tree.specs.declared.trees.commands.Command.{Command}
-use Rattle.dh_tree.specs.PlainTrees.{ActionForm, action, Groups, group_then}
+use Rattle.dh_tree.specs.PlainTrees.{ViewPlan, ActionForm, action, Groups, group_then}
 use Rattle.dh_tree.specs.Seen.{action_form_seen, action_seen, actions, all_parts_seen}
-use Rattle.dh_meaning.specs.AccessNumbers.{accesses_of, inner_accesses, own_accesses}
+use Rattle.dh_tree.specs.ViewOffsets.{offsets_of}
+use Rattle.dh_meaning.specs.AccessNumbers.{accesses_of, inner_accesses, own_accesses, plan_accesses}
+use Rattle.dh_meaning.specs.Ways.{Hidden}
 use Rattle.dh_accesses.specs.Counted.{behind}
 use Rattle.dh_expressions.specs.declared.scenes.Around.{Around}
 use Rattle.dh_expressions.specs.declared.scenes.Scene.{Scene}
 use Rattle.dh_commands.specs.declared.buildings.Building.{Building}
-use Rattle.dh_commands.specs.MadeCommands.{MadeActionForm, MadeCommand, MadeGroups, MakesFrom}
+use Rattle.dh_commands.specs.MadeCommands.{KeptView, MadeActionForm, MadeCommand, MadeGroups, MadeView, MakesFrom}
 use Rattle.dh_commands.proofs.PartsDone.{drop_past}
 
 pub made_seen : (scene : Scene) (around : Around) (c : Command) (form : ActionForm) (first next : ℕ) (old new : Building) → action_form_seen c.form ≡ form → MadeActionForm scene form around old new first next
@@ -49,3 +51,9 @@ pub at_part : (ps : List (Vec Command Global)) (i : ℕ) (part : Vec Command Glo
 at_part ps i part now within is items P p =
     subst (λ (cs : List Command). P (group_then (actions (map action_seen cs)) (all_parts_seen (drop (i + 1) ps)))) (sym items)
     (subst (λ (xs : List (Vec Command Global)). P (all_parts_seen xs)) (at_item ps i part within is) p)
+
+-- a view, whatever variables its way has
+pub view_made : (scene : Scene) (around : Around) (form : ViewPlan) (first idle next : ℕ) (old new : Building) → idle ≡ behind first (plan_accesses form + 0) → (hs : List Hidden) → KeptView scene around old new first idle next hs (offsets_of form)
+    → MadeView scene hs form around old new first next
+view_made scene around form first idle next old new counted [] m = record { still = m.0; next_is = m.1 ∙ counted }
+view_made scene around form first idle next old new counted (h ∷ hs) m = m

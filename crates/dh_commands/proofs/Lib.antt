@@ -7,6 +7,8 @@ pub mod Cleared
 pub mod ReducersMade
 pub mod Reduced
 pub mod Tested
+pub mod KeptWords
+pub mod Kept
 pub mod TestsDone
 pub mod Stored
 pub mod StoredForms

@@ -16,7 +16,7 @@ use Rattle.dh_commands.specs.declared.choices.Left.{Left}
 use Rattle.dh_commands.specs.LanesRun.{IsArm, is_on_at, path_in, paths_counted, paths_on}
 use Rattle.dh_commands.specs.ShownVariables.{IsOwn, IsSeen, ShowsAt, seen_path}
 use Rattle.dh_commands.specs.Undone.{AreReady}
-use Rattle.dh_commands.specs.Followed.{Arms, no_arms, FitOther, FollowsOther, SetsOther, effect_of, other_effect, view_of}
+use Rattle.dh_commands.specs.Followed.{Arms, no_arms, FitOther, FollowsOther, KeepsDeepOther, SetsOther, effect_of, other_effect, view_of}
 use Rattle.dh_commands.specs.Parted.{DoesOther, ShowsTests}
 use Rattle.dh_commands.proofs.ArmsDone.{Halfway, arm_extends, arm_values, ends_kept, ends_knows, ends_shows, ends_tells, is_arm}
 use Rattle.dh_commands.proofs.ArmsLeft.{AreSame, ArmLeft, nothing_left}
@@ -35,7 +35,7 @@ pub record OtherDone (scene : Scene) (around : Around) (tests : List ℕ) (May :
   pub behind : List (Option ℕ)
   pub values : AreReady old.values → AreSame old.values new.values × ArmLeft scene around May old.values.current.items behind lefts
   pub so : (x : Step) (reads : Reads) (e : Effect) → Fits x new.draft → Begun x old.draft → (truths : Path → Bool) → ShowsTests x around tests truths → Halfway scene around x reads truths false old e
-      → ((entity : ℕ) → May entity → IsOwn scene around entity) → (IsArm x around arm false truths → FollowsOther scene x reads arm arms first other e)
+      → KeepsDeepOther scene other → ((entity : ℕ) → May entity → IsOwn scene around entity) → (IsArm x around arm false truths → FollowsOther scene x reads arm arms first other e)
       → OtherEnds scene around x reads truths new behind e (other_effect scene x (paths_where false truths (paths_on x around)) first other e)
 
 abbrev pub other_arm : (scene : Scene) (around : Around) (tests : List ℕ) (other : MaybeAction) (first next : ℕ) (old new : Building) (lefts : List Left) → DoesOther scene around tests other first next old new lefts → Around
@@ -61,7 +61,7 @@ nothing_done scene around tests May first b arm arms = record {
   extends = extends_self b.draft;
   behind = b.values.current.items;
   values = λ ready. (record { current = refl; log = refl; marks = refl }, nothing_left scene around May b.values.current.items);
-  so = λ x reads e fits begun truths shown half own follows. record { knows = half.knows; tells = half.tells; shows = half.shows; kept = λ entity j there l on is. refl };
+  so = λ x reads e fits begun truths shown half deep own follows. record { knows = half.knows; tells = half.tells; shows = half.shows; kept = λ entity j there l on is. refl };
 }
 
 module _ (scene : Scene) (around : Around) (tests : List ℕ) (May : ℕ → Type 0) (long : length tests ≡ paths_counted around) (some : 0 < length tests) where
@@ -74,13 +74,13 @@ module _ (scene : Scene) (around : Around) (tests : List ℕ) (May : ℕ → Typ
     extends = arm_extends scene around tests false a first next old new lefts d long some few;
     behind = d.inside.values.current.items;
     values = arm_values scene around tests false a first next old new lefts d long some few May wider;
-    so = λ x reads e fits begun truths shown half own follows.
+    so = λ x reads e fits begun truths shown half deep own follows.
         let is = is_arm scene around tests false a first next old new lefts d long some few x reads e fits begun truths shown half in
         subst (λ (ps : List Path). OtherEnds scene around x reads truths new d.inside.values.current.items e (effect_of scene x ps first a e)) (arm_paths x around d.arm false truths is)
         (record {
           knows = ends_knows scene around tests false a first next old new lefts d long some few x reads e fits begun truths shown half (follows is);
           tells = ends_tells scene around tests false a first next old new lefts d long some few x reads e fits begun truths shown half (follows is);
           shows = ends_shows scene around tests false a first next old new lefts d long some few x reads e fits begun truths shown half (follows is);
-          kept = ends_kept scene around tests false a first next old new lefts d long some few x reads e fits begun truths shown half (follows is) (λ entity sets. own entity (wider entity sets));
+          kept = ends_kept scene around tests false a first next old new lefts d long some few x reads e fits begun truths shown half (follows is) deep (λ entity sets. own entity (wider entity sets));
         });
   }

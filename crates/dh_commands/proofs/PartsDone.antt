@@ -5,11 +5,14 @@ use Rattle.std.specs.Global.{Global}
 use Rattle.dh_base.proofs.ListItems.{at_item}
 use Rattle.dh_value.specs.Operations.{is_true}
 use Rattle.dh_tree.specs.declared.trees.commands.Command.{Command}
-use Rattle.dh_tree.specs.PlainTrees.{Action, action, ActionForm, Groups, group_then}
+use Rattle.dh_tree.specs.declared.trees.expressions.Ref.{Ref}
+use Rattle.dh_tree.specs.PlainTrees.{ViewPlan, Action, action, ActionForm, views, Groups, group_then}
 use Rattle.dh_tree.specs.Seen.{action_form_seen, action_seen, actions, all_parts_seen}
+use Rattle.dh_tree.specs.ViewOffsets.{offsets_of}
 use Rattle.dh_meaning.specs.AccessNumbers.{accesses_of}
 use Rattle.dh_meaning.specs.Core.{no_commands}
-use Rattle.dh_meaning.specs.CoreOf.{core_action}
+use Rattle.dh_meaning.specs.CoreOf.{core_action, way_of}
+use Rattle.dh_meaning.specs.Ways.{hidden_in}
 use Rattle.dh_meaning.specs.Paths.{Path}
 use Rattle.dh_accesses.specs.Counted.{behind}
 use Rattle.dh_accesses.proofs.CountedParts.{behind_few}
@@ -28,8 +31,9 @@ use Rattle.dh_commands.specs.Undone.{AreReady, Changes, EndsArm}
 use Rattle.dh_commands.specs.Followed.{FitArms, no_arms, Sets, view_of}
 use Rattle.dh_commands.specs.Choosing.{MakesGuards}
 use Rattle.dh_commands.specs.Done.{DoesCommand}
+use Rattle.dh_commands.specs.Setting.{KeepsView}
 use Rattle.dh_commands.specs.Parted.{DoesArm, DoesGroups, Leads, ShowsTests}
-use Rattle.dh_commands.proofs.CommandsDone.{nothing_done, parts_more, parts_next, parts_none}
+use Rattle.dh_commands.proofs.CommandsDone.{nothing_done, parts_more, parts_next, parts_none, view_command}
 use Rattle.dh_commands.proofs.Tested.{quiet_stands}
 
 pub drop_past : {A : Type 0} (xs : List A) (n : ℕ) → length xs ≤ n → drop n xs ≡ []
@@ -132,3 +136,12 @@ pub idle_done : (scene : Scene) (around : Around) (c : Command) (form : ActionFo
     → ((n : ℕ) → core_action (known_in scene) n (action c.id c.place form) no_commands ≡ no_commands) → DoesCommand scene around (action_seen c) first first b b
 idle_done scene around c form first b is count shaped none =
     as_seen scene around c form first first b b is (nothing_done scene around (action c.id c.place form) first first b (λ few. omega (arith, count)) shaped none)
+
+-- a view
+pub viewed_done : (scene : Scene) (around : Around) (c : Command) (name parent : Ref) (form : ViewPlan) (first idle next : ℕ) (old new : Building) → action_form_seen c.form ≡ views name parent form → idle ≡ behind first (accesses_of (action_seen c))
+    → KeepsView scene around old new first idle next (hidden_in (way_of (known_in scene) name)) (offsets_of form) → DoesCommand scene around (action_seen c) first next old new
+viewed_done scene around c name parent form first idle next old new is counted d =
+    as_seen scene around c (views name parent form) first next old new is
+    (view_command scene around c.id c.place first idle next old new name parent form
+    (λ few. counted ∙ (ap (λ (f : ActionForm). behind first (accesses_of (action c.id c.place f))) is ∙ behind_few first (accesses_of (action c.id c.place (views name parent form))) few))
+    (hidden_in (way_of (known_in scene) name)) refl d)

@@ -1,13 +1,14 @@
 -- Commands at some paths keep a variable at a path that is none of these. By recursion on the commands; the arms of
 -- an `if` are done at fewer paths. Of an arm: a path at which its guard does not hold is none of those at which it is
 -- done, and a variable that is another at each path is set at no copy that is seen there.
-use Rattle.std.proofs.Common.{◌≡◌, ℕ, zero, suc, ◌<◌, ◌==◌, Bool, true, false, if◌then◌else◌, List, [], ◌∷◌, ◌++◌, length, take, refl, ap, sym, ◌∙◌, subst, arith}
-use Rattle.std.specs.Prelude.{◌&&◌, ◌||◌}
+use Rattle.std.proofs.Common.{◌≡◌, ℕ, zero, suc, ◌<◌, ◌==◌, Bool, true, false, if◌then◌else◌, List, [], ◌∷◌, ◌++◌, take, refl, ap, sym, ◌∙◌, subst, arith}
+use Rattle.std.specs.Prelude.{◌+◌, ◌≤◌, ◌&&◌, ◌||◌, nat_le, nat_lt}
 use Rattle.std.specs.List.{AllByRecursion}
 use Rattle.std.proofs.lemmas.Bool.{eq-eqb, eqb-true}
+use Rattle.std.proofs.lemmas.Bool.Decides.{nat_tests}
 use Rattle.dh_value.specs.Words as words
-use Rattle.dh_meaning.specs.Core.{CoreCommand, store, assign, choose, keep, CoreCommands, no_commands, command_and}
-use Rattle.dh_meaning.specs.Effects.{Begun, Effect, assigned_at, at_each, command_run, commands_run, holds_at, paths_where, stored_at, tested_at, value_of}
+use Rattle.dh_meaning.specs.Core.{CoreTerms, no_terms, term_and, CoreCommand, store, assign, choose, keep, CoreCommands, no_commands, command_and, count_terms}
+use Rattle.dh_meaning.specs.Effects.{Begun, Effect, Variables, assigned_at, at_each, command_run, commands_run, holds_at, kept_at, paths_where, set_from, set_variable, stored_at, tested_at, value_of, values_of}
 use Rattle.dh_meaning.specs.Levels.{any_assigns, assigns_to}
 use Rattle.dh_meaning.specs.Paths.{Path, same_path}
 use Rattle.dh_plan.proofs.SourceMoves.{same_is}
@@ -15,18 +16,22 @@ use Rattle.dh_expressions.specs.declared.scenes.Around.{Around}
 use Rattle.dh_expressions.specs.declared.scenes.Scene.{Scene}
 use Rattle.dh_expressions.specs.Drafted.{Step}
 use Rattle.dh_commands.specs.LanesRun.{is_on_at, path_if, path_in, paths_counted, paths_on, paths_to}
-use Rattle.dh_commands.specs.ShownVariables.{IsOwn, IsSeen, depth_in, register_in, seen_path}
+use Rattle.dh_commands.specs.ShownVariables.{AreBoundAt, IsOwn, IsSeen, depth_in, register_in, seen_path}
 
 -- a copy of a variable is not the one that is set at a path
 abbrev pub IsOther : (e : ℕ) → (p : Path) → (depth entity : ℕ) → Path → Type 0
 IsOther e p depth entity q = ((e == entity) && same_path p (take depth q)) ≡ false
 
+-- nor is it one of these, whose entities follow one another, so many
+abbrev pub IsNone : (e : ℕ) → (p : Path) → (depth first count : ℕ) → Path → Type 0
+IsNone e p depth first zero q = Unit {0}
+IsNone e p depth first (suc n) q = IsOther e p depth first q × IsNone e p depth (suc first) n q
+
 abbrev mutual
-  -- views are refused, and no command keeps offsets
   pub KeepsAt : (e : ℕ) → (p : Path) → List Path → CoreCommand → Type 0
   KeepsAt e p paths (store r target value) = Unit {0}
   KeepsAt e p paths (assign depth entity value) = AllByRecursion (IsOther e p depth entity) paths
-  KeepsAt e p paths (keep depth first values) = ⊥
+  KeepsAt e p paths (keep depth first values) = AllByRecursion (λ q. IsNone e p depth first (count_terms values) q) paths
   KeepsAt e p paths (choose test chosen other) = KeepsAll e p paths chosen × KeepsAll e p paths other
 
   pub KeepsAll : (e : ℕ) → (p : Path) → List Path → CoreCommands → Type 0
@@ -60,19 +65,26 @@ mutual
   keeps_where : (e : ℕ) (p : Path) (paths : List Path) (holds : Bool) (test : Path → Bool) (c : CoreCommand) → KeepsAt e p paths c → KeepsAt e p (paths_where holds test paths) c
   keeps_where e p paths holds test (store r target value) h = tt
   keeps_where e p paths holds test (assign depth entity value) h = all_where (IsOther e p depth entity) holds test paths h
-  keeps_where e p paths holds test (keep depth first values) h = absurd h
+  keeps_where e p paths holds test (keep depth first values) h = all_where (λ q. IsNone e p depth first (count_terms values) q) holds test paths h
   keeps_where e p paths holds test (choose t chosen other) h = (all_keep_where e p paths holds test chosen h.0, all_keep_where e p paths holds test other h.1)
 
   all_keep_where : (e : ℕ) (p : Path) (paths : List Path) (holds : Bool) (test : Path → Bool) (cs : CoreCommands) → KeepsAll e p paths cs → KeepsAll e p (paths_where holds test paths) cs
   all_keep_where e p paths holds test no_commands h = tt
   all_keep_where e p paths holds test (command_and c cs) h = (keeps_where e p paths holds test c h.0, all_keep_where e p paths holds test cs h.1)
 
+-- variables that are set one after the other
+kept_others : (b : Begun) (v : Variables) (e : ℕ) (p : Path) (depth first : ℕ) (ts : CoreTerms) (q : Path) (vs : Variables) → IsNone e p depth first (count_terms ts) q → set_from vs first (take depth q) (values_of b v q ts) e p ≡ vs e p
+kept_others b v e p depth first no_terms q vs h = refl
+kept_others b v e p depth first (term_and t ts) q vs h =
+    kept_others b v e p depth (suc first) ts q (set_variable vs first (take depth q) (words.value_of (value_of b v q t))) h.1 ∙ ap (λ (c : Bool). if c then words.value_of (value_of b v q t) else vs e p) h.0
+
 mutual
   pub command_keeps : (b : Begun) (e : ℕ) (p : Path) (paths : List Path) (c : CoreCommand) (f : Effect) → KeepsAt e p paths c → (command_run b paths c f).variables e p ≡ f.variables e p
   command_keeps b e p paths (store r target value) f h = each_keeps (stored_at b r target value) e p (λ q g. refl) paths f
   command_keeps b e p paths (assign depth entity value) f h =
       each_keeps_on (assigned_at b depth entity value) e p (IsOther e p depth entity) (λ q g other. ap (λ (t : Bool). if t then words.value_of (value_of b g.variables q value) else g.variables e p) other) paths f h
-  command_keeps b e p paths (keep depth first values) f h = absurd h
+  command_keeps b e p paths (keep depth first values) f h =
+      each_keeps_on (kept_at b depth first values) e p (λ q. IsNone e p depth first (count_terms values) q) (λ q g none. kept_others b g.variables e p depth first values q g.variables none) paths f h
   command_keeps b e p paths (choose t chosen other) f h =
       commands_keep b e p (paths_where false (holds_at b f.variables t) paths) other _ (all_keep_where e p paths false (holds_at b f.variables t) other h.1)
       ∙ (commands_keep b e p (paths_where true (holds_at b f.variables t) paths) chosen _ (all_keep_where e p paths true (holds_at b f.variables t) chosen h.0)
@@ -123,19 +135,31 @@ others_at scene around x e entity j there inside off own =
         let same : j ≡ i = own.own j i inside l register in
         parted (is_on_at x around i) on (ap (λ n. is_on_at x around n) (sym same) ∙ off)
 
+-- a variable is one of those that are kept
+is_among : (first count entity : ℕ) → first ≤ entity → entity < first + count → (nat_le first entity && nat_lt entity (first + count)) ≡ true
+is_among first count entity from below = grind (arith, nat_tests, from, below)
+
 -- Of commands that set only what is another at each path.
 
 abbrev mutual
-  -- each variable is set at its depth, and no offsets are kept
+  -- each variable is set at its depth
   pub IsDeep : Scene → CoreCommand → Type 0
   IsDeep scene (store r target value) = Unit {0}
   IsDeep scene (assign depth entity value) = depth ≡ depth_in scene entity
-  IsDeep scene (keep depth first values) = ⊥
+  IsDeep scene (keep depth first values) = AreBoundAt scene depth first (count_terms values)
   IsDeep scene (choose test chosen other) = AreDeep scene chosen × AreDeep scene other
 
   pub AreDeep : Scene → CoreCommands → Type 0
   AreDeep scene no_commands = Unit {0}
   AreDeep scene (command_and c cs) = IsDeep scene c × AreDeep scene cs
+
+all_each : (P : Path → Type 0) → ((q : Path) → P q) → (paths : List Path) → AllByRecursion P paths
+all_each P each [] = tt
+all_each P each (q ∷ paths) = (each q, all_each P each paths)
+
+all_both : (P Q : Path → Type 0) (paths : List Path) → AllByRecursion P paths → AllByRecursion Q paths → AllByRecursion (λ q. P q × Q q) paths
+all_both P Q [] a b = tt
+all_both P Q (q ∷ paths) a b = ((a.0, b.0), all_both P Q paths a.1 b.1)
 
 or_first : (a b : Bool) → a ≡ true → (a || b) ≡ true
 or_first true b h = refl
@@ -146,12 +170,22 @@ or_second true b h = refl
 or_second false b h = h
 
 module _ (scene : Scene) (around : Around) (x : Step) (e j : ℕ) (there : IsSeen scene around.levels.now e) (inside : j < paths_counted around) (off : is_on_at x around j ≡ false) where
+  -- variables that keep offsets are others, too
+  none_set : (depth first count : ℕ) → AreBoundAt scene depth first count → ((entity : ℕ) → first ≤ entity → entity < first + count → IsOwn scene around entity)
+      → AllByRecursion (λ q. IsNone e (seen_path scene around e j) depth first count q) (paths_on x around)
+  none_set depth first zero bound own = all_each (λ q. IsNone e (seen_path scene around e j) depth first zero q) (λ q. tt) (paths_on x around)
+  none_set depth first (suc n) bound own =
+      all_both (IsOther e (seen_path scene around e j) depth first) (λ q. IsNone e (seen_path scene around e j) depth (suc first) n q) (paths_on x around)
+      (subst (λ (d : ℕ). AllByRecursion (IsOther e (seen_path scene around e j) d first) (paths_on x around)) (sym bound.0) (others_at scene around x e first j there inside off (own first (omega arith) (omega arith))))
+      (none_set depth (suc first) n bound.1 (λ entity from below. own entity (omega (arith, from)) (omega (arith, below))))
+
   mutual
     keeps_one : (c : CoreCommand) → IsDeep scene c → ((entity : ℕ) → assigns_to entity c ≡ true → IsOwn scene around entity) → KeepsAt e (seen_path scene around e j) (paths_on x around) c
     keeps_one (store r target value) deep own = tt
     keeps_one (assign depth entity value) deep own =
         subst (λ (d : ℕ). AllByRecursion (IsOther e (seen_path scene around e j) d entity) (paths_on x around)) (sym deep) (others_at scene around x e entity j there inside off (own entity (eq-eqb entity entity refl)))
-    keeps_one (keep depth first values) deep own = absurd deep
+    keeps_one (keep depth first values) deep own =
+        none_set depth first (count_terms values) deep (λ entity from below. own entity (is_among first (count_terms values) entity from below))
     keeps_one (choose test chosen other) deep own = (
       keeps_own chosen deep.0 (λ entity sets. own entity (or_first (any_assigns entity chosen) (any_assigns entity other) sets)),
       keeps_own other deep.1 (λ entity sets. own entity (or_second (any_assigns entity chosen) (any_assigns entity other) sets)),

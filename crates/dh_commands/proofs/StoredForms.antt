@@ -11,8 +11,8 @@ use Rattle.dh_tree.specs.Memories.{table_of}
 use Rattle.dh_tree.specs.Seen.{program_seen}
 use Rattle.dh_tree.specs.PlainTrees as plain
 use Rattle.dh_meaning.specs.AccessNumbers.{term_accesses, terms_accesses}
-use Rattle.dh_meaning.specs.Core.{Target, by_indices, by_row}
-use Rattle.dh_meaning.specs.CoreOf.{core_term, core_terms, memory_of}
+use Rattle.dh_meaning.specs.Core.{Target, by_row}
+use Rattle.dh_meaning.specs.CoreOf.{core_term, core_terms, memory_of, target_to, way_of}
 use Rattle.dh_meaning.specs.Effects.{Effect, Variables, entry_kind, stored_at}
 use Rattle.dh_expressions.specs.declared.accesses.Accesses.{Accesses}
 use Rattle.dh_expressions.specs.declared.drafts.Draft.{Draft}
@@ -21,9 +21,10 @@ use Rattle.dh_expressions.specs.declared.scenes.Lane.{Lane}
 use Rattle.dh_expressions.specs.declared.scenes.Scene.{Scene}
 use Rattle.dh_expressions.specs.declared.terms.Valued.{Valued}
 use Rattle.dh_expressions.specs.Drafted.{Begun, Extends, Fits, Gives, Step, shown}
-use Rattle.dh_expressions.specs.Evaluated.{AimsByIndices, AimsByRow, EvaluatesIndices, EvaluatesTerm, Fair, FairAll, IsSited, Knows, Reads, Sees, SeesAll, View, begun_of, known_in, lane_guard, term_told, term_value, terms_told}
-use Rattle.dh_expressions.specs.Reaching.{AimsAt, RowIs, StoresAt, Tells, reach_at}
+use Rattle.dh_expressions.specs.Evaluated.{AimsByIndices, AimsByRow, AimsThrough, EvaluatesAll, EvaluatesTerm, Fair, FairAll, IsSited, Knows, Reads, Sees, View, begun_of, known_in, lane_guard, term_told, term_value, terms_values}
+use Rattle.dh_expressions.specs.Reaching.{AimsAt, HasTarget, RowIs, StoresAt, Tells, reach_at}
 use Rattle.dh_expressions.specs.Shown.{held_shown}
+use Rattle.dh_expressions.proofs.Evaluating.{SeesNamed, aimed_events, has_target, named_aims, named_all}
 use Rattle.dh_accesses.specs.Counted.{behind}
 use Rattle.dh_accesses.proofs.CountedParts.{behind_few}
 use Rattle.dh_commands.specs.declared.assignments.Values.{Values}
@@ -48,7 +49,7 @@ module _ (scene : Scene) (lane : Lane) (old new : Building) (d1 d2 d3 : Draft) (
   abbrev make : Word → Word
   make w = held_shown t (entry_kind (slice_get (table_of (program_seen scene.program.now)) memory)) w
 
-  module _ (ts : plain.Terms) (a : AimsByIndices scene lane old.values.current.items d1 d2 a1 a2 own.next ts aim)
+  module _ (ts : plain.Terms) (a : AimsThrough scene lane old.values.current.items d1 d2 a1 a2 own.next r ts aim)
       (g : Gives d2 d3 held (λ x. make (shown x own.value))) (w : StoresAt scene lane d3 new.draft a2 new.accesses (plain.term place k (plain.accessed r ts)) memory aim held) where
     abbrev access : plain.Term
     access = plain.term place k (plain.accessed r ts)
@@ -57,7 +58,16 @@ module _ (scene : Scene) (lane : Lane) (old new : Building) (d1 d2 d3 : Draft) (
     from = first + term_accesses t
 
     abbrev target : Target
-    target = by_indices (core_terms (known_in scene) from ts)
+    target = target_to (way_of (known_in scene) r) (core_terms (known_in scene) from ts)
+
+    abbrev NamedFair : View → Type 0
+    NamedFair v = FairAll scene lane old.values.current.items v from ts
+
+    abbrev NamedSees : View → Type 0
+    NamedSees v = SeesNamed scene lane old.values.current.items from r ts v
+
+    has : HasTarget (plain.term place k (plain.accessed r ts)) (target_to (way_of (known_in scene) r) (core_terms (known_in scene) (first + term_accesses t) ts))
+    has = has_target scene lane old.values.current.items (way_of (known_in scene) r) place k r ts (core_terms (known_in scene) (first + term_accesses t) ts)
 
     abbrev Few : Type 0
     Few = first + (term_accesses t + suc (terms_accesses ts)) < 2 ^ 32
@@ -68,17 +78,21 @@ module _ (scene : Scene) (lane : Lane) (old new : Building) (d1 d2 d3 : Draft) (
     few_here : Few → from + terms_accesses ts < 2 ^ 32
     few_here few = omega (arith, few)
 
-    indices : Few → EvaluatesIndices scene lane old.values.current.items d1 d2 a1 a2 from ts aim.indices aim.number
-    indices few = subst (λ (n : ℕ). EvaluatesIndices scene lane old.values.current.items d1 d2 a1 a2 n ts aim.indices aim.number) (e.next (fewer few)) a.indices
+    indices : Few → AimsByIndices scene lane old.values.current.items d1 a.middle a1 a2 from ts a.listed
+    indices few = subst (λ (n : ℕ). AimsByIndices scene lane old.values.current.items d1 a.middle a1 a2 n ts a.listed) (e.next (fewer few)) a.indices
 
     number_is : Few → aim.number ≡ from + terms_accesses ts
-    number_is few = (indices few).next (few_here few)
+    number_is few = a.passes.number_is ∙ (indices few).indices.next (few_here few)
 
-    told : Few → Tells (lane_guard lane) d1 d2 a1 a2 (λ v. FairAll scene lane old.values.current.items v from ts) (λ v. SeesAll scene lane old.values.current.items v from ts) (λ v. terms_told scene lane v from ts)
-    told few = let i = (indices few).so (few_here few) in record { extends = i.extends; knows = i.knows; tells = i.tells; quiet = i.quiet }
+    evaluates : Few → EvaluatesAll (lane_guard lane) d1 d2 a1 a2 aim.indices (λ v. NamedFair v) (λ v. NamedSees v) (λ v. terms_values scene lane v from ts) (λ v. aimed_events scene lane old.values.current.items from r ts v)
+    evaluates few = named_all scene lane old.values.current.items d1 a.middle d2 a1 a2 from r ts a.listed aim (few_here few) (indices few) a.passes
 
-    aims : Few → (v : View) → Fits v.step d2 → Begun v.step d1 → Knows v a1 → FairAll scene lane old.values.current.items v from ts → SeesAll scene lane old.values.current.items v from ts → AimsAt lane v aim target
-    aims few v f b known fair sees = (((indices few).so (few_here few)).are v f b known fair sees, a.row)
+    told : Few → Tells (lane_guard lane) d1 d2 a1 a2 (λ v. NamedFair v) (λ v. NamedSees v) (λ v. aimed_events scene lane old.values.current.items from r ts v)
+    told few = let i = evaluates few in record { extends = i.extends; knows = i.knows; tells = i.tells; quiet = i.quiet }
+
+    aims : Few → (v : View) → Fits v.step d2 → Begun v.step d1 → Knows v a1 → NamedFair v → NamedSees v → AimsAt lane v aim target
+    aims few v f b known fair sees =
+        named_aims scene lane old.values.current.items d1 a.middle d2 a1 a2 from r ts a.listed aim (few_here few) (indices few) a.passes v f b sees ((evaluates few).are v f b known fair sees)
 
     by : Few → (x : Step) (reads : Reads) (f : Effect) → Fits x new.draft → Begun x old.draft → FollowsStored scene lane.around first access t lane.number x reads f.variables → Stands scene lane.around x reads old f
         → (on : Bool) → is_on_at x lane.around lane.number ≡ on → Stands scene lane.around x reads new (run_if on (store_run scene x first access t) (path_in lane.around lane.number) f)
@@ -90,17 +104,18 @@ module _ (scene : Scene) (lane : Lane) (old new : Building) (d1 d2 d3 : Draft) (
         cases : (on : Bool) → is_on_at x lane.around lane.number ≡ on → Stands scene lane.around x reads new (run_if on (store_run scene x first access t) (path_in lane.around lane.number) f)
         cases true on =
             subst (λ (n : ℕ). Stands scene lane.around x reads new (stored_at (begun_of x) (reach_at place memory n) target (core_term (known_in scene) first t) (path_in lane.around lane.number) f)) (number_is few)
-            (stored_on scene lane old new d1 d2 d3 a1 a2 first t access own aim memory held target tt make _ _ (λ v. terms_told scene lane v from ts) same (fewer few) e (told few) (aims few) g w
-            x reads f fits begun stands p.value (p.target_is.0.fair old.values.current.items stands.shows) sited on (p.target_is.0.sees on old.values.current.items stands.shows) p.target_is.1.1.0 p.target_is.1.1.1 (p.held on) refl)
+            (stored_on scene lane old new d1 d2 d3 a1 a2 first t access own aim memory held target has make (λ v. NamedFair v) (λ v. NamedSees v) (λ v. aimed_events scene lane old.values.current.items from r ts v) same (fewer few) e (told few) (aims few) g w
+            x reads f fits begun stands p.value (p.target_is.0.indices.fair old.values.current.items stands.shows) sited on
+            (p.target_is.0.indices.sees on old.values.current.items stands.shows, p.target_is.0.way on old.values.current.items stands.shows) p.target_is.1.1.0 p.target_is.1.1.1 (p.held on) refl)
         cases false off =
-            stored_off scene lane old new d1 d2 d3 a1 a2 first t access own aim memory held target tt make _ _ (λ v. terms_told scene lane v from ts) same (fewer few) e (told few) (aims few) g w
-            x reads f fits begun stands p.value (p.target_is.0.fair old.values.current.items stands.shows) sited off
+            stored_off scene lane old new d1 d2 d3 a1 a2 first t access own aim memory held target has make (λ v. NamedFair v) (λ v. NamedSees v) (λ v. aimed_events scene lane old.values.current.items from r ts v) same (fewer few) e (told few) (aims few) g w
+            x reads f fits begun stands p.value (p.target_is.0.indices.fair old.values.current.items stands.shows) sited off
 
     pub stored_indices : StoresOne scene lane old new first (min (aim.number + 1) (2 ^ 32 - 1)) access t
     stored_indices = record {
       next_is = λ few. next_is aim.number (from + terms_accesses ts) (number_is few) (omega (arith, few)) ∙ omega arith;
       so = λ few within. record {
-        extends = stored_extends scene lane old new d1 d2 d3 a1 a2 first t access own aim memory held target tt make _ _ (λ v. terms_told scene lane v from ts) same (fewer few) e (told few) (aims few) g w;
+        extends = stored_extends scene lane old new d1 d2 d3 a1 a2 first t access own aim memory held target has make (λ v. NamedFair v) (λ v. NamedSees v) (λ v. aimed_events scene lane old.values.current.items from r ts v) same (fewer few) e (told few) (aims few) g w;
         changes = λ ready. subst (λ (v : Values). Changes scene lane.around NoVariable old.values v) (sym same) (changes_none scene lane.around NoVariable old.values);
         so = λ x reads f fits begun p stands. by few x reads f fits begun p stands (is_on_at x lane.around lane.number) refl;
       };

@@ -1,7 +1,7 @@
 -- What a command takes, as the program has it along its run: the premise of all that is stated of its operations.
 -- It speaks of the program's variables where each expression stands; of the values that variables were given it
 -- asks only that they show these.
-use Rattle.std.specs.Prelude.{◌≡◌, ◌⊎◌, ℕ, ◌+◌, ◌<◌, ◌^◌, Bool as Truth, true, false, if◌then◌else◌, List, take, slice_get, Option, Some, None}
+use Rattle.std.specs.Prelude.{◌≡◌, ◌⊎◌, ℕ, ◌+◌, ◌<◌, ◌^◌, Bool as Truth, true, false, if◌then◌else◌, List, [], ◌∷◌, length, take, slice_get, Option, Some, None}
 use Rattle.dh_base.specs.declared.places.Place.{Place}
 use Rattle.dh_value.specs.declared.kinds.Kind.{Kind}
 use Rattle.dh_value.specs.declared.kinds.Kind.TheVariants as kind
@@ -16,24 +16,27 @@ use Rattle.dh_tree.specs.Indices.{form_of}
 use Rattle.dh_tree.specs.Memories.{table_of}
 use Rattle.dh_tree.specs.PlainTrees as plain
 use Rattle.dh_tree.specs.PlainTrees.{Action, action, ActionForm, lets, lets_memory, views, assigns, stores, reduces, calls, blocks, decides, repeats, counts, MaybeAction, no_action, one_action, Actions, no_actions, action_then, Groups, no_groups, group_then}
-use Rattle.dh_tree.specs.Seen.{program_seen}
+use Rattle.dh_tree.specs.Seen.{program_seen, terms}
+use Rattle.dh_tree.specs.ViewOffsets.{offsets_of}
 use Rattle.dh_meaning.specs.AccessNumbers.{accesses_of, part_accesses, term_accesses, terms_accesses}
 use Rattle.dh_meaning.specs.Bindings.{kind_found, kind_or_first}
-use Rattle.dh_meaning.specs.Core.{CoreTerm, by_indices, by_row, no_commands, variable}
-use Rattle.dh_meaning.specs.CoreOf.{core_action, core_groups, core_other, core_part, core_term, core_terms, entity_number, kind_of, memory_of, operation_of, reach_of}
-use Rattle.dh_meaning.specs.Effects.{Effect, Variables, assigned_at, commands_run, entry_kind, holds_at, kept_bits, stored_at, tested_at, value_of}
+use Rattle.dh_meaning.specs.Core.{CoreTerm, by_row, no_commands, variable}
+use Rattle.dh_meaning.specs.CoreOf.{core_action, core_groups, core_other, core_part, core_term, core_terms, entity_number, kind_of, memory_of, operation_of, reach_of, target_to, way_of}
+use Rattle.dh_meaning.specs.Effects.{Effect, Variables, assigned_at, commands_run, entry_kind, holds_at, kept_at, kept_bits, stored_at, tested_at, value_of}
 use Rattle.dh_meaning.specs.Levels.{any_assigns}
 use Rattle.dh_meaning.specs.Paths.{Path}
+use Rattle.dh_meaning.specs.Ways.{Hidden, hidden_in}
 use Rattle.dh_code.specs.Extended.{extension_of}
 use Rattle.dh_code.specs.Made.{same_kind}
 use Rattle.dh_code.specs.Slots.{held_at}
 use Rattle.dh_expressions.specs.declared.scenes.Around.{Around}
 use Rattle.dh_expressions.specs.declared.scenes.Scene.{Scene}
 use Rattle.dh_expressions.specs.Drafted.{Step}
-use Rattle.dh_expressions.specs.Evaluated.{Fair, FairAll, IsSited, NamesSmallBank, Reads, Sees, SeesAll, View, begun_of, known_in}
+use Rattle.dh_expressions.specs.Evaluated.{Fair, FairAll, IsSited, NamesSmallBank, Reads, Sees, SeesAll, SeesWay, View, begun_of, known_in}
 use Rattle.dh_expressions.specs.Shown.{extended_shown, held_shown}
 use Rattle.dh_commands.specs.LanesRun.{IsArm, is_on_at, lane_of, lanes_run, path_in, paths_counted, paths_on}
-use Rattle.dh_commands.specs.ShownVariables.{IsOwn, IsTarget, Shows, depth_in}
+use Rattle.dh_commands.specs.ShownVariables.{AreBoundAt, AreTargets, IsOwn, IsTarget, Shows, depth_in}
+use Rattle.dh_commands.specs.Keeping.{HeldFrom, words_of}
 
 abbrev pub view_of : Step → Reads → Variables → View
 view_of x reads variables = record { step = x; variables = variables; reads = reads }
@@ -109,9 +112,14 @@ module _ (scene : Scene) (around : Around) where
       pub fair : (current : List (Option ℕ)) → Shows scene around x current variables → FairAll scene (lane_of around number) current (view_of x reads variables) n ts
       pub sees : is_on_at x around number ≡ true → (current : List (Option ℕ)) → Shows scene around x current variables → SeesAll scene (lane_of around number) current (view_of x reads variables) n ts
 
+    -- indices of what a name stands for: what keeps the offsets on its way shows them
+    pub record FollowsNamed (n : ℕ) (r : Ref) (ts : plain.Terms) : Type 0 where
+      pub indices : FollowsIndices n ts
+      pub way : is_on_at x around number ≡ true → (current : List (Option ℕ)) → Shows scene around x current variables → SeesWay scene (lane_of around number) current (view_of x reads variables) r
+
     abbrev pub FollowsTarget : (n : ℕ) → plain.Term → Type 0
     FollowsTarget n (plain.term place k (plain.accessed r ts)) =
-        FollowsIndices n ts × Written (n + terms_accesses ts) (memory_of (known_in scene) r) place (plain.accessed r ts)
+        FollowsNamed n r ts × Written (n + terms_accesses ts) (memory_of (known_in scene) r) place (plain.accessed r ts)
     FollowsTarget n (plain.term place k (plain.in_bank r bank at row)) =
         IsFollowed scene around x reads variables number n row × Written (n + term_accesses row) (memory_of (known_in scene) r) place (plain.in_bank r bank at row)
     FollowsTarget n (plain.term place k (plain.number negative z)) = ⊥
@@ -140,6 +148,13 @@ module _ (scene : Scene) (around : Around) where
     pub target_is : FollowsTarget number x reads variables (n + term_accesses t) target
     pub held : is_on_at x around number ≡ true
         → KeptWord (memory_aimed (form_of target)) t (value_at scene around x variables number n t) x.start.table
+
+  -- a view that keeps its offsets, the first of them in this variable
+  pub record FollowsKept (h : Hidden) (n : ℕ) (offsets : List plain.Term) (number : ℕ) (x : Step) (reads : Reads) (variables : Variables) : Type 0 where
+    pub targets : AreTargets scene around h.entity (length offsets)
+    pub bound : AreBoundAt scene h.depth h.entity (length offsets)
+    pub values : FollowsIndices number x reads variables n (terms offsets)
+    pub held : is_on_at x around number ≡ true → HeldFrom scene h.entity offsets (words_of (begun_of x) variables (path_in around number) (core_terms (known_in scene) n (terms offsets)))
 
 -- a test
 abbrev pub IsFollowedBy : Scene → Around → (n : ℕ) → plain.Term → (number : ℕ) → Step → Reads → Variables → Type 0
@@ -213,9 +228,46 @@ Sets scene a entity = any_assigns entity (core_action (known_in scene) 0 a no_co
 abbrev pub SetsOther : Scene → MaybeAction → (entity : ℕ) → Type 0
 SetsOther scene a entity = any_assigns entity (core_other (known_in scene) 0 a) ≡ true
 
--- the variables that arms set are others at each path
-abbrev pub AreOwn : Scene → Around → Action → MaybeAction → Type 0
-AreOwn scene around chosen other = (entity : ℕ) → Sets scene chosen entity ⊎ SetsOther scene other entity → IsOwn scene around entity
+-- the offsets of a view are kept in variables that are declared where it stands
+abbrev pub KeptDeep : Scene → List Hidden → (count : ℕ) → Type 0
+KeptDeep scene [] count = Unit {0}
+KeptDeep scene (h ∷ hs) count = AreBoundAt scene h.depth h.entity count
+
+-- so are those of all views of a command
+abbrev mutual
+  pub KeepsDeep : Scene → Action → Type 0
+  KeepsDeep scene (action id place form) = KeepsDeepForm scene form
+
+  pub KeepsDeepForm : Scene → ActionForm → Type 0
+  KeepsDeepForm scene (views name parent form) = KeptDeep scene (hidden_in (way_of (known_in scene) name)) (length (offsets_of form))
+  KeepsDeepForm scene (decides t chosen other) = KeepsDeep scene chosen × KeepsDeepOther scene other
+  KeepsDeepForm scene (blocks body) = KeepsDeepGroups scene body
+  KeepsDeepForm scene (lets r declared value) = Unit {0}
+  KeepsDeepForm scene (assigns r t) = Unit {0}
+  KeepsDeepForm scene (stores target t) = Unit {0}
+  KeepsDeepForm scene (reduces r op t) = Unit {0}
+  KeepsDeepForm scene (lets_memory name shape shape_places value) = Unit {0}
+  KeepsDeepForm scene (calls function arguments) = Unit {0}
+  KeepsDeepForm scene (repeats test body) = Unit {0}
+  KeepsDeepForm scene (counts iterator declared low high factor body combine combine_place) = Unit {0}
+
+  pub KeepsDeepOther : Scene → MaybeAction → Type 0
+  KeepsDeepOther scene no_action = Unit {0}
+  KeepsDeepOther scene (one_action a) = KeepsDeep scene a
+
+  pub KeepsDeepGroups : Scene → Groups → Type 0
+  KeepsDeepGroups scene no_groups = Unit {0}
+  KeepsDeepGroups scene (group_then part rest) = KeepsDeepPart scene part × KeepsDeepGroups scene rest
+
+  pub KeepsDeepPart : Scene → Actions → Type 0
+  KeepsDeepPart scene no_actions = Unit {0}
+  KeepsDeepPart scene (action_then a rest) = KeepsDeep scene a × KeepsDeepPart scene rest
+
+-- the variables that arms set are others at each path, and views in them keep offsets where they stand
+pub record AreOwn (scene : Scene) (around : Around) (chosen : Action) (other : MaybeAction) : Type 0 where
+  pub own : (entity : ℕ) → Sets scene chosen entity ⊎ SetsOther scene other entity → IsOwn scene around entity
+  pub chosen_deep : KeepsDeep scene chosen
+  pub other_deep : KeepsDeepOther scene other
 
 -- At one path.
 module _ (scene : Scene) (x : Step) where
@@ -225,10 +277,14 @@ module _ (scene : Scene) (x : Step) where
   abbrev pub assign_run : (r : Ref) → CoreTerm → Path → Effect → Effect
   assign_run r t path e = assigned_at (begun_of x) (depth_in scene (entity_number r.entity)) (entity_number r.entity) t path e
 
+  -- the offsets of a view are kept, the first of them in this variable
+  abbrev pub kept_run : Hidden → (n : ℕ) → (offsets : List plain.Term) → Path → Effect → Effect
+  kept_run h n offsets = kept_at (begun_of x) h.depth h.entity (core_terms (known_in scene) n (terms offsets))
+
   -- a store, of what is no access of nothing
   abbrev pub store_run : (n : ℕ) → (target value : plain.Term) → Path → Effect → Effect
   store_run n (plain.term at k (plain.accessed r ts)) t path e =
-      stored_at (begun_of x) (reach_of (known_in scene) (n + term_accesses t + terms_accesses ts) at r) (by_indices (core_terms (known_in scene) (n + term_accesses t) ts)) (term_in n t) path e
+      stored_at (begun_of x) (reach_of (known_in scene) (n + term_accesses t + terms_accesses ts) at r) (target_to (way_of (known_in scene) r) (core_terms (known_in scene) (n + term_accesses t) ts)) (term_in n t) path e
   store_run n (plain.term at k (plain.in_bank r bank bank_place row)) t path e =
       stored_at (begun_of x) (reach_of (known_in scene) (n + term_accesses t + term_accesses row) at r) (by_row bank (term_in (n + term_accesses t) row)) (term_in n t) path e
   store_run n (plain.term at k (plain.number negative z)) t path e = e
@@ -252,6 +308,11 @@ module _ (scene : Scene) (x : Step) (reads : Reads) where
   FollowsLet around n r declared (Some t) e =
       Along around x reads (FollowsAssigned scene around (entity_number r.entity) n t) (assign_run scene x r (term_in scene x n t)) e (paths_counted around)
 
+  -- a view without offsets on its way keeps nothing
+  abbrev pub FollowsView : Around → (n : ℕ) → List Hidden → (offsets : List plain.Term) → Effect → Type 0
+  FollowsView around n [] offsets e = Unit {0}
+  FollowsView around n (h ∷ hs) offsets e = Along around x reads (FollowsKept scene around h n offsets) (kept_run scene x h n offsets) e (paths_counted around)
+
   -- what stands of a command with other arms than its own is no premise that can be met
   abbrev mutual
     pub Follows : Around → Arms → (n : ℕ) → Action → Effect → Type 0
@@ -274,7 +335,7 @@ module _ (scene : Scene) (x : Step) (reads : Reads) where
         → FollowsOther two behind (n + term_accesses t + accesses_of chosen) other (effect_of scene x (paths_on x one) (n + term_accesses t) chosen (tested scene x around n t e)))))
     FollowsForm around arms n (blocks body) e = FollowsGroups around arms n body e
     FollowsForm around arms n (lets_memory name shape shape_places value) e = Unit {0}
-    FollowsForm around arms n (views name parent form) e = Unit {0}
+    FollowsForm around arms n (views name parent form) e = FollowsView around n (hidden_in (way_of (known_in scene) name)) (offsets_of form) e
     FollowsForm around arms n (calls function arguments) e = Unit {0}
     FollowsForm around arms n (repeats test body) e = Unit {0}
     FollowsForm around arms n (counts iterator declared low high factor body combine combine_place) e = Unit {0}

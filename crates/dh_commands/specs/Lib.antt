@@ -1,6 +1,7 @@
 -- what the public contracts rest on: paths with guards, variables, what a command takes, then what it does
 pub mod LanesRun
 pub mod ShownVariables
+pub mod Keeping
 pub mod Followed
 pub mod Undone
 pub mod Done

@@ -9,11 +9,13 @@ use Rattle.dh_value.specs.Operations.{truth}
 use Rattle.dh_tree.specs.Indices.{form_of}
 use Rattle.dh_tree.specs.Memories.{table_of}
 use Rattle.dh_tree.specs.PlainTrees as plain
-use Rattle.dh_tree.specs.PlainTrees.{Action, action, ActionForm, lets, lets_memory, views, assigns, stores, reduces, calls, blocks, decides, repeats, counts, MaybeAction, no_action, one_action, Actions, no_actions, action_then, Groups, no_groups, group_then}
-use Rattle.dh_tree.specs.Seen.{program_seen}
+use Rattle.dh_tree.specs.PlainTrees.{ViewPlan, Action, action, ActionForm, lets, lets_memory, views, assigns, stores, reduces, calls, blocks, decides, repeats, counts, MaybeAction, no_action, one_action, Actions, no_actions, action_then, Groups, no_groups, group_then}
+use Rattle.dh_tree.specs.Seen.{program_seen, terms}
+use Rattle.dh_tree.specs.ViewOffsets.{offsets_of}
 use Rattle.dh_meaning.specs.AccessNumbers.{accesses_of, other_accesses, plan_accesses, term_accesses}
-use Rattle.dh_meaning.specs.CoreOf.{entity_number, memory_of}
+use Rattle.dh_meaning.specs.CoreOf.{entity_number, memory_of, way_of}
 use Rattle.dh_meaning.specs.Effects.{entry_kind}
+use Rattle.dh_meaning.specs.Ways.{Hidden, hidden_in}
 use Rattle.dh_code.specs.Extended.{extension_of}
 use Rattle.dh_code.specs.Made.{same_kind}
 use Rattle.dh_code.specs.declared.places.Held.{Held}
@@ -28,7 +30,7 @@ use Rattle.dh_expressions.specs.declared.scenes.Lane.{Lane}
 use Rattle.dh_expressions.specs.declared.scenes.Scene.{Scene}
 use Rattle.dh_expressions.specs.Drafted.{Pushes}
 use Rattle.dh_expressions.specs.Evaluated.{known_in}
-use Rattle.dh_expressions.specs.MadeTerms.{MadeIndices, MadeRow, MadeTerm, MadeWrite, number_behind}
+use Rattle.dh_expressions.specs.MadeTerms.{MadeRow, MadeTerm, MadeTerms, MadeThrough, MadeWrite, number_behind}
 use Rattle.dh_expressions.specs.MadeValues.{IsThere, MadeConverted, MadeHeld, MadeNumber, MadeShown}
 use Rattle.dh_expressions.specs.Shown.{guard_of, kind_written, register_at}
 use Rattle.dh_commands.specs.declared.assignments.Values.{Values}
@@ -37,7 +39,7 @@ use Rattle.dh_commands.specs.declared.choices.Choice.{Choice}
 use Rattle.dh_commands.specs.declared.choices.Left.{Left}
 use Rattle.dh_commands.specs.Joined.{JoinsArms}
 use Rattle.dh_commands.specs.LanesRun.{lane_of, paths_counted}
-use Rattle.dh_commands.specs.Setting.{SetsAt}
+use Rattle.dh_commands.specs.Setting.{SetsAt, SetsFrom}
 use Rattle.dh_commands.specs.Undone.{Assigns, EndsArm}
 
 -- One path.
@@ -98,7 +100,7 @@ pub record MadeReduced (scene : Scene) (lane : Lane) (first entity : ℕ) (op : 
 
 -- the values that name a store's element, and its memory; none of what is no access
 abbrev pub MadeAim : Scene → Lane → (current : List (Option ℕ)) → plain.TermForm → (old new : Draft) → (before after : Accesses) → (n : ℕ) → Option (Aim × ℕ) → Type 0
-MadeAim scene lane current (plain.accessed r ts) old new before after n (Some (aim, memory)) = MadeIndices scene lane current ts old new before after n aim × (memory ≡ memory_of (known_in scene) r)
+MadeAim scene lane current (plain.accessed r ts) old new before after n (Some (aim, memory)) = MadeThrough scene lane current r ts old new before after n aim × (memory ≡ memory_of (known_in scene) r)
 MadeAim scene lane current (plain.in_bank r bank at row) old new before after n (Some (aim, memory)) = MadeRow scene lane current row old new before after n aim × (memory ≡ memory_of (known_in scene) r)
 MadeAim scene lane current (plain.number negative z) old new before after n None = (new ≡ old) × (after ≡ before)
 MadeAim scene lane current (plain.truth_value b) old new before after n None = (new ≡ old) × (after ≡ before)
@@ -127,6 +129,27 @@ pub record MadeStored (scene : Scene) (lane : Lane) (first : ℕ) (target t : pl
   pub stores : MadeStoring scene lane target t value aimed end behind new next
   pub same : new.values ≡ old.values
 
+-- the value of an offset as the variable holds it that is to keep it
+abbrev pub MadeHold : Scene → (entity : ℕ) → Option plain.Term → (value : ℕ) → (old new : Draft) → (v : ℕ) → Type 0
+MadeHold scene entity None value old new v = (new ≡ old) × (v ≡ value)
+MadeHold scene entity (Some t) value old new v = MadeHeld t (held_at scene.held.now entity).kind value old new v
+
+-- those of offsets, one behind the other; the entities of the variables follow one another
+abbrev pub MadeHolds : Scene → (first : ℕ) → (offsets : List plain.Term) → (values : List ℕ) → (old new : Draft) → (held : List ℕ) → Type 0
+MadeHolds scene first [] values old new held = (new ≡ old) × (held ≡ values)
+MadeHolds scene first (t ∷ ts) [] old new held = (new ≡ old) × (held ≡ [])
+MadeHolds scene first (t ∷ ts) (value ∷ values) old new held =
+    (d : Draft) × ((v : ℕ) × ((more : List ℕ) × (MadeHeld t (held_at scene.held.now first).kind value old d v × (MadeHolds scene (suc first) ts values d new more × (held ≡ v ∷ more)))))
+
+-- a view that keeps its offsets, the first of them in this variable
+pub record MadeKept (scene : Scene) (lane : Lane) (first entity : ℕ) (offsets : List plain.Term) (old new : Building) (next : ℕ) : Type 0 where
+  pub values : List ℕ
+  pub held : List ℕ
+  pub middle : Draft
+  pub offsets_made : MadeTerms scene lane old.values.current.items (terms offsets) old.draft middle old.accesses new.accesses first next values
+  pub holds : MadeHolds scene entity offsets values middle new.draft held
+  pub sets : SetsFrom scene lane old.values new.values entity held
+
 -- All paths.
 
 -- the first paths, so many
@@ -145,6 +168,14 @@ ReducedTo scene around first entity op t count old new next = MadeLanes (λ numb
 
 abbrev pub StoredTo : Scene → Around → (first : ℕ) → (target t : plain.Term) → (count : ℕ) → (old new : Building) → (next : ℕ) → Type 0
 StoredTo scene around first target t count old new next = MadeLanes (λ number b d k. MadeStored scene (lane_of around number) first target t b d k) count first old new next
+
+abbrev pub KeptTo : Scene → Around → (first entity : ℕ) → (offsets : List plain.Term) → (count : ℕ) → (old new : Building) → (next : ℕ) → Type 0
+KeptTo scene around first entity offsets count old new next = MadeLanes (λ number b d k. MadeKept scene (lane_of around number) first entity offsets b d k) count first old new next
+
+-- of a view whose way has these variables
+abbrev pub KeptView : Scene → Around → (old new : Building) → (first idle next : ℕ) → List Hidden → (offsets : List plain.Term) → Type 0
+KeptView scene around old new first idle next [] offsets = (new ≡ old) × (next ≡ idle)
+KeptView scene around old new first idle next (h ∷ hs) offsets = KeptTo scene around first h.entity offsets (paths_counted around) old new next
 
 -- a test at one path, and at the first paths with its values there
 pub record MadeTested (scene : Scene) (lane : Lane) (first : ℕ) (t : plain.Term) (old new : Building) (next value : ℕ) : Type 0 where
@@ -266,8 +297,7 @@ pub record MadeIf (scene : Scene) (Chosen Other : Around → (tests : List ℕ) 
   pub other : Other around tests after_chosen after_other behind next other_left
   pub joined : MadeJoined tests chosen_left other_left after_other new
 
--- A loop, which has no phase in a straight command, puts nothing down, nor does a view: those that move are refused.
--- Their accesses have their numbers all the same.
+-- A loop, which has no phase in a straight command, puts nothing down. Its accesses have their numbers all the same.
 pub record MadeIdle (count : ℕ) (around : Around) (old new : Building) (first next : ℕ) : Type 0 where
   pub still : new ≡ old
   pub next_is : next ≡ behind first count
@@ -284,6 +314,11 @@ pub record MadeNothing (around : Around) (old new : Building) (first next : ℕ)
   pub still : new ≡ old
   pub next_is : next ≡ first
 
+-- a view without offsets on its way puts nothing down
+abbrev pub MadeView : Scene → List Hidden → ViewPlan → Commanding
+MadeView scene [] form = MadeIdle (plan_accesses form + 0)
+MadeView scene (h ∷ hs) form = λ around old new first next. KeptTo scene around first h.entity (offsets_of form) (paths_counted around) old new next
+
 module _ (scene : Scene) where
   abbrev mutual
     -- a command whose accesses are numbered from `first` on
@@ -299,7 +334,7 @@ module _ (scene : Scene) where
     MadeActionForm (decides test chosen other) = λ around old new first next. MadeIf scene (λ a ts b d n m ls. MadeArm (MadeCommand chosen) a true ts b d n m ls) (MadeOther other) test around old new first next
     MadeActionForm (blocks body) = MadeGroups body
     MadeActionForm (lets_memory name shape shape_places value) = MadeNothing
-    MadeActionForm (views name parent form) = MadeIdle (plan_accesses form + 0)
+    MadeActionForm (views name parent form) = MadeView scene (hidden_in (way_of (known_in scene) name)) form
     MadeActionForm (calls function arguments) = MadeNothing
     MadeActionForm (repeats test body) = MadeIdle (term_accesses test + accesses_of body)
     MadeActionForm (counts iterator declared low high factor body combine combine_place) = MadeIdle (0 + (accesses_of body + other_accesses combine))

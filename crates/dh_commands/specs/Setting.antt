@@ -1,14 +1,16 @@
 -- What the operations of assignments, reducers, stores and tests do.
-use Rattle.std.specs.Prelude.{◌≡◌, ℕ, ◌+◌, ◌<◌, ◌^◌, false, true, List, length, slice_get, Option, Some, None}
+use Rattle.std.specs.Prelude.{◌≡◌, ℕ, suc, ◌+◌, ◌<◌, ◌≤◌, ◌^◌, false, true, List, [], ◌∷◌, length, slice_get, Option, Some, None}
 use Rattle.dh_value.specs.declared.operators.Op.{Op}
 use Rattle.dh_tree.specs.declared.trees.expressions.Ref.{Ref}
 use Rattle.dh_tree.specs.Indices.{form_of}
 use Rattle.dh_tree.specs.PlainTrees as plain
-use Rattle.dh_meaning.specs.AccessNumbers.{term_accesses}
+use Rattle.dh_tree.specs.Seen.{terms}
+use Rattle.dh_meaning.specs.AccessNumbers.{term_accesses, terms_accesses}
 use Rattle.dh_meaning.specs.Core.{CoreTerm, literal}
 use Rattle.dh_meaning.specs.CoreOf.{core_term, entity_number, memory_of}
 use Rattle.dh_meaning.specs.Effects.{Effect, Variables, assigned_at}
 use Rattle.dh_meaning.specs.Paths.{Path}
+use Rattle.dh_meaning.specs.Ways.{Hidden}
 use Rattle.dh_code.specs.Slots.{held_at}
 use Rattle.dh_expressions.specs.declared.accesses.Accesses.{Accesses}
 use Rattle.dh_expressions.specs.declared.drafts.Draft.{Draft}
@@ -18,19 +20,24 @@ use Rattle.dh_expressions.specs.declared.scenes.Lane.{Lane}
 use Rattle.dh_expressions.specs.declared.scenes.Scene.{Scene}
 use Rattle.dh_expressions.specs.declared.terms.Valued.{Valued}
 use Rattle.dh_expressions.specs.Drafted.{Begun, Fits, Gives, Step, shown}
-use Rattle.dh_expressions.specs.Evaluated.{AimsByIndices, AimsByRow, Reads, begun_of, known_in}
+use Rattle.dh_expressions.specs.Evaluated.{AimsByRow, AimsThrough, Reads, begun_of, known_in}
 use Rattle.dh_expressions.specs.Shown.{register_at, variable_shown}
 use Rattle.dh_commands.specs.declared.assignments.Values.{Values}
 use Rattle.dh_commands.specs.declared.buildings.Building.{Building}
 use Rattle.dh_commands.specs.LanesRun.{is_on_at, paths_counted}
 use Rattle.dh_commands.specs.ShownVariables.{depth_in}
 use Rattle.dh_commands.specs.Undone.{Assigns}
-use Rattle.dh_commands.specs.Followed.{Along, FollowsAssigned, FollowsCleared, FollowsReduced, FollowsStored, IsFollowedBy, reduced_shown, reduced_term, store_run, test_run, value_at}
+use Rattle.dh_commands.specs.Followed.{Along, FollowsAssigned, FollowsCleared, FollowsKept, FollowsReduced, FollowsStored, IsFollowedBy, kept_run, reduced_shown, reduced_term, store_run, test_run, value_at}
 use Rattle.dh_commands.specs.Done.{DoesAll, DoesOne, Stands}
 
 -- a variable is given a value at a path
 abbrev pub SetsAt : Scene → Lane → (old new : Values) → (entity value : ℕ) → Type 0
 SetsAt scene lane old new entity value = Assigns old new (register_at (held_at scene.held.now entity) lane) lane.number value
+
+-- so are variables whose entities follow one another
+abbrev pub SetsFrom : Scene → Lane → (old new : Values) → (first : ℕ) → (values : List ℕ) → Type 0
+SetsFrom scene lane old new first [] = new ≡ old
+SetsFrom scene lane old new first (v ∷ vs) = (middle : Values) × (SetsAt scene lane old middle first v × SetsFrom scene lane middle new (suc first) vs)
 
 -- a variable is set to the value of an expression
 abbrev pub assigned_run : Scene → (entity : ℕ) → CoreTerm → Step → Path → Effect → Effect
@@ -82,6 +89,27 @@ abbrev pub GivesReduced : Scene → Lane → (current : List (Option ℕ)) → (
 GivesReduced scene lane current old new value made entity op t =
     Gives old new made (λ x. reduced_shown scene entity op t (variable_shown x current (register_at (held_at scene.held.now entity) lane)) (shown x value))
 
+-- one of these variables, so many
+abbrev pub IsAmong : (first count entity : ℕ) → Type 0
+IsAmong first count entity = (first ≤ entity) × (entity < first + count)
+
+-- a view keeps its offsets, the first of them in this variable
+abbrev pub KeepsOne : Scene → Lane → (old new : Building) → (first next : ℕ) → Hidden → (offsets : List plain.Term) → Type 0
+KeepsOne scene lane old new first next h offsets =
+    DoesOne scene lane (λ e. IsAmong h.entity (length offsets) e) (FollowsKept scene lane.around h first offsets) (λ x. kept_run scene x h first offsets) first (terms_accesses (terms offsets)) next old new
+
+abbrev pub KeepsFirst : Scene → Around → (old new : Building) → (first next : ℕ) → Hidden → (offsets : List plain.Term) → (paths : ℕ) → Type 0
+KeepsFirst scene around old new first next h offsets paths =
+    DoesAll scene around (λ e. IsAmong h.entity (length offsets) e) (FollowsKept scene around h first offsets) (λ x. kept_run scene x h first offsets) first (terms_accesses (terms offsets)) next paths old new
+
+abbrev pub KeepsAll : Scene → Around → (old new : Building) → (first next : ℕ) → Hidden → (offsets : List plain.Term) → Type 0
+KeepsAll scene around old new first next h offsets = KeepsFirst scene around old new first next h offsets (paths_counted around)
+
+-- a view does, whose way has these variables; one whose way has none does nothing, and tells this number of an access
+abbrev pub KeepsView : Scene → Around → (old new : Building) → (first idle next : ℕ) → List Hidden → (offsets : List plain.Term) → Type 0
+KeepsView scene around old new first idle next [] offsets = (new ≡ old) × (next ≡ idle)
+KeepsView scene around old new first idle next (h ∷ hs) offsets = KeepsAll scene around old new first next h offsets
+
 -- a store sets no variable
 abbrev pub NoVariable : ℕ → Type 0
 NoVariable entity = ⊥
@@ -100,7 +128,7 @@ StoresAll scene around old new first next target t = StoresFirst scene around ol
 -- the target of a store, or that it is no access
 abbrev pub AimsForm : Scene → Lane → (current : List (Option ℕ)) → (old new : Draft) → (before after : Accesses) → (n : ℕ) → plain.TermForm → Option (Aim × ℕ) → Type 0
 AimsForm scene lane current old new before after n (plain.accessed r ts) (Some (aim, memory)) =
-    AimsByIndices scene lane current old new before after n ts aim × (memory ≡ memory_of (known_in scene) r)
+    AimsThrough scene lane current old new before after n r ts aim × (memory ≡ memory_of (known_in scene) r)
 AimsForm scene lane current old new before after n (plain.in_bank r bank at row) (Some (aim, memory)) =
     AimsByRow scene lane current old new before after n row aim × (memory ≡ memory_of (known_in scene) r)
 AimsForm scene lane current old new before after n (plain.number negative z) None = (new ≡ old) × (after ≡ before)

@@ -1,5 +1,5 @@
 -- The values that variables were given show what the program's variables hold, at each path where a guard holds.
-use Rattle.std.specs.Prelude.{◌≡◌, ℕ, ◌<◌, ◌≤◌, true, List, length, take, map, Option, None}
+use Rattle.std.specs.Prelude.{◌≡◌, ℕ, zero, suc, ◌<◌, ◌≤◌, true, List, length, take, map, Option, None}
 use Rattle.dh_value.specs.Words.{word_of}
 use Rattle.dh_meaning.specs.Bindings.{binding_in, depth_bound}
 use Rattle.dh_meaning.specs.Effects.{Variables}
@@ -69,3 +69,14 @@ pub record IsOwn (scene : Scene) (around : Around) (entity : ℕ) : Type 0 where
   pub there : IsSeen scene around.levels.now entity
   pub own : (i j : ℕ) → i < paths_counted around → j < paths_counted around
       → register_in scene around entity i ≡ register_in scene around entity j → i ≡ j
+
+-- Variables whose entities follow one another from a first one on, so many: each is declared inside so many unrolled
+-- loops, and may be set.
+
+abbrev pub AreBoundAt : Scene → (depth first count : ℕ) → Type 0
+AreBoundAt scene depth first zero = Unit {0}
+AreBoundAt scene depth first (suc n) = (depth ≡ depth_in scene first) × AreBoundAt scene depth (suc first) n
+
+abbrev pub AreTargets : Scene → Around → (first count : ℕ) → Type 0
+AreTargets scene around first zero = Unit {0}
+AreTargets scene around first (suc n) = IsTarget scene around first × AreTargets scene around (suc first) n

@@ -10,6 +10,7 @@ use crate::assigning::{assign_all, clear_all, reduce_all};
 use crate::buildings::Building;
 use crate::choices::{Left, choose, end_arm, join_arms};
 use crate::guarding::guards_of;
+use crate::keeping::keep_view;
 use crate::storing::store_all;
 use crate::testing::test_all;
 use dh_accesses::behind_command;
@@ -37,8 +38,10 @@ fn join_all(
     chosen: &[Left],
     other: &[Left],
 ) -> Result<(), NoMemory>
-    ensures means { OnOk result (JoinsAll building.old building.new tests.now chosen.now other.now) }
-    ensures made { OnOk result (MadeJoined tests.now chosen.now other.now building.old building.new) }
+    ensures means { OnOk result (JoinsAll building.old building.new
+        tests.now chosen.now other.now) }
+    ensures made { OnOk result (MadeJoined tests.now chosen.now other.now
+        building.old building.new) }
 {
     let choices = join_arms(alloc, &mut building.values, chosen, other)?;
     choose(
@@ -98,11 +101,13 @@ pub fn push_command(
         CommandForm::Block { body } => push_parts(scene, around, building, first, body.as_slice()),
         CommandForm::LetMemory { .. } => Ok(first),
         CommandForm::Call { .. } => Ok(first),
-        // in a straight command a loop has no turn, and views that move are refused; the accesses of both have their
-        // numbers all the same
+        // in a straight command a loop has no turn; its accesses have their numbers all the same
         CommandForm::While { .. } => Ok(behind_command(first, command)),
         CommandForm::For { .. } => Ok(behind_command(first, command)),
-        CommandForm::View { .. } => Ok(behind_command(first, command)),
+        CommandForm::View { name, form, .. } => {
+            let idle = behind_command(first, command);
+            keep_view(scene, around, building, first, idle, name, form)
+        }
     }
 }
 

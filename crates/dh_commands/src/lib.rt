@@ -12,6 +12,7 @@ mod buildings;
 mod choices;
 mod commands;
 mod guarding;
+mod keeping;
 mod storing;
 mod testing;
 

@@ -13,12 +13,12 @@ use crate::buildings::Building;
 use dh_accesses::behind_term;
 use dh_base::NoMemory;
 use dh_expressions::{
-    Accesses, Aim, Around, Draft, Lane, Scene, memory_of, push_held, push_indices, push_row,
-    push_term, push_write,
+    Accesses, Aim, Around, Draft, Lane, Scene, memory_of, push_aim, push_held, push_row, push_term,
+    push_write,
 };
 use dh_tree::{Expr, ExprForm, Kind};
 
-/// Adds the indices or the row of a store's target; None of what is no access, which stores nothing.
+/// Adds the indices of a store's target, with what stands behind them, or its row; None of what is no access, which stores nothing.
 #[tactic(auto, using(dh_tree::proofs::SeenTerms::terms_are))]
 fn aim_at(
     scene: &Scene<'_>,
@@ -37,7 +37,7 @@ fn aim_at(
     match &target.form {
         ExprForm::Access { of, indices } => {
             let indices = indices.as_slice();
-            let aim = push_indices(scene, lane, current, accesses, draft, first, indices)?;
+            let aim = push_aim(scene, lane, current, accesses, draft, first, of, indices)?;
             Ok(Some((aim, memory_of(scene, of))))
         }
         ExprForm::Physical { of, row, .. } => {

@@ -36,7 +36,7 @@ pub parts_may_be_built : (plan : PlainPlan) (parts : NetParts) → ArePartsOf pl
 parts_may_be_built plan parts h = record { limits = without_limits; may = h.may_build; kinds = h.fits.registers; few_faults = h.fits.faults; alone = h.never_forks.alone }
 
 pub unrolled_is_compiled : (p : Program) (plan : PlainPlan) → IsToCompile p → IsUnrolled p plan → IsCompiled plan
-unrolled_is_compiled p plan asked h = record { program = p; asked = asked; is_plan = h.is_plan; suits = record { views = h.views; registers = h.registers } }
+unrolled_is_compiled p plan asked h = record { program = p; asked = asked; is_plan = h.is_plan; suits = record { registers = h.registers } }
 
 -- a driver that writes is active only in the last clock of a step of the program
 writes_last : (p : Program) (u q : PlainPlan) (t : Timing) (net : Net) → IsToCompile p → IsPlanOf p u → IsAddressingOf u q → IsLeastSchedule q without_limits t → PlaysPlan q t.lengths net

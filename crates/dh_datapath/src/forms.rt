@@ -167,7 +167,8 @@ pub fn push_operation(
     requires suits { CanShow (plan_seen plan.now) ports.now first kinds.now operation.now.form }
     ensures { WireAdded result circuit.old circuit.new
         (width_of (form_kind plan.now.table plan.now.registers first kinds.now operation.now.form))
-        (operation_bits (plan_seen plan.now) registers.now.offset ports.now first kinds.now wires.now
+        (operation_bits (plan_seen plan.now) registers.now.offset ports.now first kinds.now
+        wires.now
         operation.now) }
 {
     let form = &operation.form;

@@ -1,18 +1,22 @@
 -- Where variables are declared, one behind the other.
-use Rattle.std.proofs.Common.{◌≡◌, ℕ, zero, suc, ◌+◌, ◌<◌, ◌==◌, nat_lt, min, Bool, true, false, if◌then◌else◌, List, [], ◌∷◌, ◌++◌, length, map, refl, ap, sym, ◌∙◌, arith}
+use Rattle.std.proofs.Common.{◌≡◌, ℕ, zero, suc, ◌+◌, ◌<◌, ◌==◌, nat_lt, min, Bool, true, false, if◌then◌else◌, List, [], ◌∷◌, ◌++◌, length, map, drop, refl, ap, sym, ◌∙◌, arith}
 use mathlib.Core.Path.{fun_ext}
-use Rattle.std.specs.Prelude.{Option, Some, None, slice_get, slice_set}
+use Rattle.std.specs.Prelude.{Option, Some, None, option_map, slice_get, slice_set}
 use Rattle.std.proofs.lemmas.Bool.{ne_eqb, eqb-true}
 use Rattle.std.proofs.lemmas.Bool.Decides.{nat_tests}
+use Rattle.std.proofs.lemmas.Option.{get_or_from_slice_get, same_Some}
 use Rattle.dh_tree.specs.Memories.{same_entity}
 use Rattle.dh_tree.specs.PlainTrees.{Action, action, ActionForm, lets, lets_memory, views, assigns, stores, reduces, calls, blocks, decides, repeats, counts, MaybeAction, no_action, one_action, Actions, no_actions, action_then, Groups, no_groups, group_then}
 use Rattle.dh_meaning.specs.Bindings.{Binding, binding_in, depth_inside, bindings, form_bindings, other_bindings, groups_bindings, part_bindings}
 use Rattle.dh_meaning.specs.Ways.{hidden_binding, led_binding}
 use Rattle.dh_ways.specs.declared.ways.Hidden.{Hidden}
-use Rattle.dh_ways.specs.declared.ways.Led.{Led}
+use Rattle.dh_ways.specs.Kept.{Led, Way}
+use Rattle.dh_ways.specs.Linked.{way_there}
 use Rattle.dh_ways.specs.Seen.{hidden_seen, led_seen}
+use Rattle.dh_ways.proofs.LinksTold.{stands_in}
 use Rattle.dh_events.specs.declared.dependence.Scope.{Scope}
 use Rattle.dh_events.specs.Scopes.{most_depth, scope, scope_of, scope_found, scope_at, or_scope, with_scope, told_inside, hidden_scopes, led_scopes, scopes_in, form_scopes, other_scopes, groups_scopes, part_scopes, AreScopes, IsDepth}
+use Rattle.dh_events.proofs.Turns.{at_item}
 
 absurd : {A : Type 0} → ⊥ → A
 absurd e = elim e [ ]
@@ -162,6 +166,16 @@ hidden_declared (h ∷ hs) f = hidden_declared hs (with_scope f (Some h.entity) 
 pub led_turn : (rest all : List Led) (l : Led) (f g : ℕ → Option Scope) (depth : ℕ) (total : ℕ → Option Scope) → rest ≡ l ∷ all → depth ≡ min l.way.deepest most_depth → g ≡ with_scope f l.entity (scope depth None) → led_scopes rest f ≡ total
     → led_scopes all g ≡ total
 led_turn rest all l f g depth total is told noted before = ap (led_scopes all) (noted ∙ ap (λ n. with_scope f l.entity (scope n None)) told) ∙ (ap (λ ls. led_scopes ls f) (sym is) ∙ before)
+
+-- by the place of a view, its entity and its way
+pub place_turn : (ls : List Led) (place : ℕ) (entity : Option ℕ) (w : Way) (f g : ℕ → Option Scope) (deepest depth : ℕ) (total : ℕ → Option Scope) → place < length ls → Some entity ≡ option_map (λ (l : Led). l.entity) (slice_get ls place) → Some w ≡ way_there ls (Some place)
+    → deepest ≡ w.deepest → depth ≡ min deepest most_depth → g ≡ with_scope f entity (scope depth None) → led_scopes (drop place ls) f ≡ total → led_scopes (drop (place + 1) ls) g ≡ total
+place_turn ls place entity w f g deepest depth total inside named there deep told noted before =
+    let at = stands_in ls place inside in
+    let entity_is : entity ≡ at.item.entity = same_Some entity at.item.entity (named ∙ ap (option_map (λ (l : Led). l.entity)) at.there) in
+    let way_is : w ≡ at.item.way = same_Some w at.item.way (there ∙ ap (option_map (λ (l : Led). l.way)) at.there) in
+    led_turn (drop place ls) (drop (place + 1) ls) at.item f g depth total (at_item ls place at.item inside (sym (get_or_from_slice_get ls place at.item at.item at.there)))
+    (told ∙ ap (λ n. min n most_depth) (deep ∙ ap (λ (x : Way). x.deepest) way_is)) (noted ∙ ap (λ e. with_scope f e (scope depth None)) entity_is) before
 
 pub hidden_turn : (rest all : List Hidden) (h : Hidden) (f g : ℕ → Option Scope) (depth : ℕ) (total : ℕ → Option Scope) → rest ≡ h ∷ all → depth ≡ min h.depth most_depth → g ≡ with_scope f (Some h.entity) (scope depth None)
     → hidden_scopes rest f ≡ total → hidden_scopes all g ≡ total

@@ -5,7 +5,7 @@ use Rattle.std.specs.Global.{Global}
 use Rattle.dh_meaning.specs.Bindings.{Binding, binding_in}
 use Rattle.dh_tree.specs.PlainTrees.{Action, action, ActionForm, lets, lets_memory, views, assigns, stores, reduces, calls, blocks, decides, repeats, counts, MaybeAction, no_action, one_action, Actions, no_actions, action_then, Groups, no_groups, group_then}
 use Rattle.dh_ways.specs.declared.ways.Hidden.{Hidden}
-use Rattle.dh_ways.specs.declared.ways.Led.{Led}
+use Rattle.dh_ways.specs.Kept.{Led}
 use Rattle.dh_events.specs.declared.dependence.Scope.{Scope}
 
 abbrev pub most_depth : ℕ

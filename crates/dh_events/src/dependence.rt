@@ -11,7 +11,7 @@ ghost use Rattle.dh_events.specs.Scopes.{groups_scopes, hidden_scopes, led_scope
 
 use dh_base::NoMemory;
 use dh_tree::{Command, CommandForm, Expr, ExprForm, Ref};
-use dh_ways::{Hidden, Led};
+use dh_ways::{Hidden, WayTable};
 use std::alloc::Global;
 
 /// Where a variable is declared.
@@ -77,14 +77,16 @@ fn told_depth(depth: u32) -> usize
 }
 
 /// Notes views that lead to memories: each has the depth of the deepest command on its way.
-fn note_led(scopes: &mut Vec<Option<Scope>>, led: &[Led]) -> Result<(), NoMemory>
-    ensures { OnOk result (MakeScopes scopes.old scopes.new (led_scopes led.now)) }
+fn note_led(scopes: &mut Vec<Option<Scope>>, ways: &WayTable) -> Result<(), NoMemory>
+    ensures { OnOk result (MakeScopes scopes.old scopes.new (led_scopes ways.now)) }
 {
-    for one in led {
-        let depth = told_depth(one.way.deepest);
+    for place in 0..ways.len() {
+        let way = ways.at(place);
+        let depth = told_depth(way.deepest());
+        let entity = ways.entity_at(place);
         declare_entity(
             scopes,
-            one.entity,
+            entity,
             Scope {
                 depth,
                 iterates: None,
@@ -226,16 +228,16 @@ fn note_parts(
 pub fn scopes_of(
     alloc: Global,
     body: &Command,
-    led: &[Led],
+    ways: &WayTable,
     hidden: &[Hidden],
 ) -> Result<Vec<Option<Scope>>, NoMemory>
     ensures { IfOk result (λ scopes. AreScopes (bindings 0 (action_seen body.now)
-        ++ (map led_binding (map led_seen led.now)
+        ++ (map led_binding (map led_seen ways.now)
         ++ map hidden_binding (map hidden_seen hidden.now))) scopes.items) }
 {
     let mut scopes = Vec::new(alloc);
     note_scopes(&mut scopes, 0, body)?;
-    note_led(&mut scopes, led)?;
+    note_led(&mut scopes, ways)?;
     note_hidden(&mut scopes, hidden)?;
     Ok(scopes)
 }

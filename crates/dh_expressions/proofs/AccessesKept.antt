@@ -20,7 +20,7 @@ use Rattle.dh_expressions.specs.Copying.{AddsAllCopies, AreCopies, AreNone}
 use Rattle.dh_expressions.specs.Drafted.{Begun, Extends, Fits, Names, Step, shown, tale, told_block}
 use Rattle.dh_expressions.specs.Evaluated.{Knows, View}
 use Rattle.dh_expressions.specs.Noted.{Notes, given_in, given_then, given_to, is_bare, is_bare_of, noted_in, touched_in, touched_of}
-use Rattle.dh_expressions.specs.Standings.{IsTouched, Standing}
+use Rattle.dh_expressions.specs.Standings.{IsTouched, Standing, copy_places}
 use Rattle.dh_expressions.specs.Touching.{AddsTouched, IsNew, MakesCopies, TouchesAt}
 use Rattle.dh_expressions.proofs.ListPlaces.{place_of_more, place_within, set_here, set_long, set_other, some_same, there}
 use Rattle.dh_expressions.proofs.Pushing.{at_seam, begun_later, extends_again, extends_self, in_front}
@@ -78,7 +78,7 @@ touched_already scene around s d a number e = record {
     by (Some (Some t)) is within e = (t, refl)
 
 pub touched_first : (scene : Scene) (around : Around) (s : Standing) (d e k : Draft) (before after : Accesses) (number fault : ℕ) (copies : List AccessAt) (numbers : List ℕ) (t : Touched)
-    → is_bare before number ≡ true → Names d e fault s.place → MakesCopies e k scene around before.counts.items numbers s copies
+    → is_bare before number ≡ true → Names d e fault s.place → MakesCopies e k scene around numbers s copies
     → t.fault ≡ fault → t.copies ≡ copies → t.given ≡ [] → after.touched.items ≡ slice_set before.touched.items number (Some t) → after.counts.items ≡ numbers
     → TouchesAt scene around s d k before after number
 touched_first scene around s d e k before after number fault copies numbers t bare named made fault_is copies_are given_none put counts = record {
@@ -90,14 +90,14 @@ touched_first scene around s d e k before after number fault copies numbers t ba
   kept = λ m u there. by_place m (λ same. absurd (gone m u same there)) (λ other. ap touched_of (place_other m other) ∙ there);
   there = λ within. (t, ap touched_of here);
   known = λ m u there. ⊎_elim (λ same. inr (newest m u same there)) (λ other. inl (sym (ap touched_of (place_other m other)) ∙ there)) (cases_eq m number);
-  none = λ h. subst (λ (ns : List ℕ). AreNone ns) (sym counts) (made.none h);
+  none = λ h. subst (λ (ns : List ℕ). AreNone ns) (sym counts) made.none;
 }
   where
-    added : AddsTouched d k scene around s before t
+    added : AddsTouched d k scene around s t
     added = record {
       middle = e;
       names = subst (λ (n : ℕ). Names d e n s.place) (sym fault_is) named;
-      copies = λ scopes low. subst (λ (cs : List AccessAt). AddsAllCopies s.leader s.bank s.guards e k before.counts.items cs) (sym copies_are) (made.adds scopes low);
+      copies = λ scopes low. subst (λ (cs : List AccessAt). AddsAllCopies s.leader s.bank (copy_places s) s.guards e k cs) (sym copies_are) (made.adds scopes low);
     }
 
     within : number < length before.touched.items
@@ -120,29 +120,29 @@ touched_first scene around s d e k before after number fault copies numbers t ba
         by (Some None) e f = cc
         by (Some (Some t)) e f = cc
 
-    newest : (m : ℕ) (u : Touched) → m ≡ number → touched_in after m ≡ Some u → IsNew d k scene around s before number m u
+    newest : (m : ℕ) (u : Touched) → m ≡ number → touched_in after m ≡ Some u → IsNew d k scene around s number m u
     newest m u same there =
         let own : u ≡ t = some_same u t (sym there ∙ (ap (λ n. touched_of (slice_get after.touched.items n)) same ∙ ap touched_of here)) in
         record {
-          adds = subst (λ (v : Touched). AddsTouched d k scene around s before v) (sym own) added;
+          adds = subst (λ (v : Touched). AddsTouched d k scene around s v) (sym own) added;
           own = same;
           none = ap (λ (v : Touched). v.given) own ∙ given_none;
-          is = λ none scopes low x f b. subst (λ (v : Touched). IsTouched x s v) (sym own) (record {
+          is = λ scopes low x f b. subst (λ (v : Touched). IsTouched x s v) (sym own) (record {
             fault = ap (λ n. slice_get x.named n) fault_is ∙ named_there d e k fault s.place named made.extends x f;
-            copies = subst (λ (cs : List AccessAt). AreCopies x s.leader s.bank s.guards (length s.guards) cs) (sym copies_are)
-                (made.are none scopes low x f (begun_later d e x (named_extends d e fault s.place named) b));
+            copies = subst (λ (cs : List AccessAt). AreCopies x s.leader s.bank (copy_places s) s.guards (length s.guards) cs) (sym copies_are)
+                (made.are scopes low x f (begun_later d e x (named_extends d e fault s.place named) b));
           });
         }
 
 -- what was known stays known
 pub touched_knows : (scene : Scene) (around : Around) (s : Standing) (d k : Draft) (before after : Accesses) (number : ℕ) (v : View)
-    → TouchesAt scene around s d k before after number → AreNone before.counts.items → Fits v.step k → Begun v.step d
-    → (AreNone before.counts.items → (m : ℕ) (t : Touched) → IsNew d k scene around s before number m t → (o : Standing) → slice_get v.reads.sites m ≡ Some o → IsTouched v.step o t)
+    → TouchesAt scene around s d k before after number → Fits v.step k → Begun v.step d
+    → ((m : ℕ) (t : Touched) → IsNew d k scene around s number m t → (o : Standing) → slice_get v.reads.sites m ≡ Some o → IsTouched v.step o t)
     → Knows v before → Knows v after
-touched_knows scene around s d k before after number v t none f b new known = record {
+touched_knows scene around s d k before after number v t f b new known = record {
   given = λ m path n is done. known.given m path n (given_before m path n is) done;
   long = t.long ∙ known.long;
-  touched = λ m u is o site. ⊎_elim (λ old. known.touched m u old o site) (λ fresh. new none m u fresh o site) (t.known m u is);
+  touched = λ m u is o site. ⊎_elim (λ old. known.touched m u old o site) (λ fresh. new m u fresh o site) (t.known m u is);
   none = t.none known.none;
 }
   where
@@ -227,5 +227,5 @@ module _ (before after : Accesses) (number path value : ℕ) (h : Notes before a
           let stood = known.touched m old.0 old.1.0 s site in
           record {
             fault = subst (λ (n : ℕ). slice_get v.step.named n ≡ Some (OutOfRange, s.place)) old.1.1.0 stood.fault;
-            copies = subst (λ (cs : List AccessAt). AreCopies v.step s.leader s.bank s.guards (length s.guards) cs) old.1.1.1 stood.copies;
+            copies = subst (λ (cs : List AccessAt). AreCopies v.step s.leader s.bank (copy_places s) s.guards (length s.guards) cs) old.1.1.1 stood.copies;
           }

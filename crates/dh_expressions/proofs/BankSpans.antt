@@ -18,6 +18,7 @@ use Rattle.dh_tree.specs.Indices.{constant, iterator, dynamic}
 use Rattle.dh_tree.specs.Memories.{same_entity, table_of}
 use Rattle.dh_tree.specs.PlainTrees.{Term, TermForm, accessed}
 use Rattle.dh_tree.specs.Seen.{program_seen, terms}
+use Rattle.dh_meaning.specs.CoreOf.{dims_by, way_of}
 use Rattle.dh_shape.specs.Classified.{Classifies}
 use Rattle.dh_shape.specs.declared.indices.IndexKind.{IndexKind}
 use Rattle.dh_shape.specs.declared.indices.IndexKind.TheVariants as kinds
@@ -25,6 +26,7 @@ use Rattle.dh_expressions.specs.declared.banks.Span.{Span}
 use Rattle.dh_expressions.specs.declared.paths.Level.{Level}
 use Rattle.dh_expressions.specs.declared.scenes.Scene.{Scene}
 use Rattle.dh_expressions.specs.Levels.{copy_to}
+use Rattle.dh_expressions.specs.Named.{known_in, way_named}
 use Rattle.dh_expressions.specs.ReachedBanks.{AddsSpan, IsSpan, TellsBank, TellsSpans, bank_added, bank_by, index_first, indices_first, level_with, span_bank, span_index, spans_bank, spans_number, term_first}
 use Rattle.dh_expressions.proofs.ListPlaces.{place_within, some_same, there}
 
@@ -321,22 +323,22 @@ indices_listed cs levels path [] = refl
 indices_listed cs levels path (t ∷ ts) = ap (λ ns. term_first cs levels path t ∷ ns) (indices_listed cs levels path ts)
 
 pub bank_listed : (scene : Scene) (levels : List Level) (memory : ℕ) (form : TermForm) (r : Ref) (ts : List Term) (spans : List Span) → form ≡ accessed r (terms ts)
-    → TellsSpans scene levels (dims_at (table_of (program_seen scene.program.now)) memory) ts spans → TellsBank scene levels memory form spans 0
+    → TellsSpans scene levels (dims_by (dims_at (table_of (program_seen scene.program.now)) memory) (way_of (known_in scene) r)) ts spans → TellsBank scene levels memory form spans 0
 bank_listed scene levels memory form r ts spans is tells = λ path.
     none (spans_bank spans levels path)
     ∙ (tells path
-    ∙ (ap (λ ns. min (bank_of (dims_at (table_of (program_seen scene.program.now)) memory) ns) (2 ^ 64 - 1)) (indices_listed (counters_of (program_seen scene.program.now)) levels path ts)
-    ∙ sym (ap (λ f. min (bank_by (program_seen scene.program.now) levels memory f path) (2 ^ 64 - 1)) is)))
+    ∙ (ap (λ ns. min (bank_of (dims_by (dims_at (table_of (program_seen scene.program.now)) memory) (way_of (known_in scene) r)) ns) (2 ^ 64 - 1)) (indices_listed (counters_of (program_seen scene.program.now)) levels path ts)
+    ∙ sym (ap (λ f. min (bank_by (program_seen scene.program.now) (way_named (known_in scene) f) levels memory f path) (2 ^ 64 - 1)) is)))
   where
     none : (n : ℕ) → min (0 + n) (2 ^ 64 - 1) ≡ min n (2 ^ 64 - 1)
     none n = omega arith
 
 -- an access that names its bank, or none
 pub bank_itself : (scene : Scene) (levels : List Level) (memory : ℕ) (form other : TermForm) (spans : List Span) (own : ℕ) → form ≡ other → spans ≡ []
-    → ((path : ℕ) → own ≡ bank_by (program_seen scene.program.now) levels memory other path) → TellsBank scene levels memory form spans own
+    → ((path : ℕ) → own ≡ bank_by (program_seen scene.program.now) (way_named (known_in scene) other) levels memory other path) → TellsBank scene levels memory form spans own
 bank_itself scene levels memory form other spans own is none same = λ path.
     ap (λ ss. min (spans_number ss levels own path) (2 ^ 64 - 1)) none
-    ∙ (alone own ∙ ap (λ n. min n (2 ^ 64 - 1)) (same path ∙ sym (ap (λ f. bank_by (program_seen scene.program.now) levels memory f path) is)))
+    ∙ (alone own ∙ ap (λ n. min n (2 ^ 64 - 1)) (same path ∙ sym (ap (λ f. bank_by (program_seen scene.program.now) (way_named (known_in scene) f) levels memory f path) is)))
   where
     alone : (n : ℕ) → min (n + 0) (2 ^ 64 - 1) ≡ min n (2 ^ 64 - 1)
     alone n = omega arith

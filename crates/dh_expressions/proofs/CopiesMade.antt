@@ -1,26 +1,26 @@
 -- Copies path by path. A path is led by itself or by an earlier one; so a path that leads is joined by later ones
 -- alone, and the guard of its copy holds where that of one of the paths that it leads does.
-use Rattle.std.proofs.Common.{◌≡◌, ℕ, zero, suc, ◌+◌, ◌-◌, ◌^◌, ◌<◌, ◌≤◌, ◌⊎◌, inl, inr, ⊎_elim, Bool, true, false, List, [], ◌∷◌, Some, None, refl, sym, ap, ◌∙◌, subst, arith, length, drop, add-one, get_or}
-use Rattle.std.specs.Prelude.{◌++◌, ◌==◌, ◌&&◌, ◌||◌, if◌then◌else◌, min, slice_get, slice_index, slice_set, Option}
+use Rattle.std.proofs.Common.{◌≡◌, ℕ, zero, suc, ◌+◌, ◌-◌, ◌^◌, ◌<◌, ◌≤◌, ◌⊎◌, inl, inr, ⊎_elim, Bool, true, false, List, [], ◌∷◌, Some, None, refl, sym, ap, ◌∙◌, subst, arith, length, add-one, get_or}
+use Rattle.std.specs.Prelude.{◌++◌, ◌==◌, ◌||◌, slice_get, slice_index, slice_set, Option}
 use Rattle.std.proofs.lemmas.Bool.{cases_eq, cases_lt}
-use Rattle.std.proofs.lemmas.Bool.Decides.{nat_tests}
+use Rattle.std.proofs.Math.ListN.{get_or-eq_default}
 use Rattle.std.proofs.lemmas.List.{length-append}
-use Rattle.std.proofs.Math.Seq.{drop-cons}
 use Rattle.dh_value.specs.declared.operators.Op.TheVariants.{Either}
 use Rattle.dh_value.specs.declared.words.Word.{Word}
 use Rattle.dh_value.specs.Operations.{binary_of, is_true, truth}
 use Rattle.dh_tree.specs.PlainTrees.{TermForm}
 use Rattle.dh_events.specs.Scopes.{IsLow}
-use Rattle.dh_events.specs.Tables.{numbered, with_number}
 use Rattle.dh_plan.specs.declared.operations.OperationForm.TheVariants.{Compute}
 use Rattle.dh_expressions.specs.declared.copies.AccessAt.{AccessAt}
 use Rattle.dh_expressions.specs.declared.drafts.Draft.{Draft}
 use Rattle.dh_expressions.specs.declared.scenes.Scene.{Scene}
-use Rattle.dh_expressions.specs.Copying.{AddsCopies, AddsCopy, AddsEither, AddsLeader, AddsOther, AreCopies, AreNone, CopiesSoFar, Counts, DoneBy, Forgets, HasScopes, IsCopy, JoinsGuards, JoinsLeader, MakesCopiesBy, depends_at, forgotten, guard_put, leaders_at, with_guard}
+use Rattle.dh_expressions.specs.declared.tallies.Tally.{Tally}
+use Rattle.dh_expressions.specs.Copying.{AddsCopies, AddsCopy, AddsEither, AddsLeader, AddsOther, AreCopies, CopiesSoFar, Counts as Flags, DoneBy, HasScopes, IsCopy, JoinsGuards, JoinsLeader, MakesCopiesBy, depends_at, guard_put, with_guard}
+use Rattle.dh_expressions.specs.Counting.{IsTally, PlacesNext, places_by}
 use Rattle.dh_expressions.specs.Drafted.{Begun, Computes, Extends, Fits, Pushes, Step, holds, shown, tale}
 use Rattle.dh_expressions.specs.Levels.{counted}
-use Rattle.dh_expressions.specs.Numbers.{narrowed}
 use Rattle.dh_expressions.specs.Shown.{guard_of}
+use Rattle.dh_expressions.proofs.CopiesCounted.{Counts, counted_next, tally_first}
 use Rattle.dh_expressions.proofs.ListPlaces.{place_of_more, place_within, set_here, set_long, set_other, some_same, there}
 use Rattle.dh_expressions.proofs.Pushing.{begun_later, extends_again, extends_self, fits_before}
 
@@ -130,99 +130,9 @@ guard_long copies at g = by (slice_get copies at)
     by None = refl
     by (Some c) = set_long copies at _
 
--- Numbers of leaders on banks.
-module _ (leader bank : ℕ → ℕ) where
-  pub leaders_few : (own n : ℕ) → leaders_at leader bank own n ≤ n
-  leaders_few own zero = omega arith
-  leaders_few own (suc n) = by ((leader n == n) && (bank n == own)) (leaders_at leader bank own n) (leaders_few own n)
-    where
-      by : (t : Bool) (m : ℕ) → m ≤ n → (if t then suc m else m) ≤ suc n
-      by true m few = omega (arith, few)
-      by false m few = omega (arith, few)
-
-  leaders_some : (own n : ℕ) → (leaders_at leader bank own n ≡ 0) ⊎ ((k : ℕ) × ((k < n) × (bank k ≡ own)))
-  leaders_some own zero = inl refl
-  leaders_some own (suc n) = ⊎_elim (λ same. inr (n, (omega arith, same))) (λ other. further other (leaders_some own n)) (cases_eq (bank n) own)
-    where
-      skip : (a b : Bool) (m : ℕ) → b ≡ false → m ≡ 0 → (if a && b then suc m else m) ≡ 0
-      skip true true m off none = absurd (cc)
-      skip true false m off none = none
-      skip false b m off none = none
-
-      further : (bank n ≡ own → ⊥) → (leaders_at leader bank own n ≡ 0) ⊎ ((k : ℕ) × ((k < n) × (bank k ≡ own)))
-          → (leaders_at leader bank own (suc n) ≡ 0) ⊎ ((k : ℕ) × ((k < suc n) × (bank k ≡ own)))
-      further other (inl none) = inl (skip (leader n == n) (bank n == own) (leaders_at leader bank own n) (differs (bank n) own other) none)
-        where
-          differs : (a b : ℕ) → (a ≡ b → ⊥) → (a == b) ≡ false
-          differs a b apart = grind (arith, nat_tests)
-      further other (inr h) = inr (h.0, (less h.1.0, h.1.1))
-        where
-          less : h.0 < n → h.0 < suc n
-          less l = omega (arith, l)
-
-  -- a leader more
-  pub counted_more : (f : ℕ → ℕ) (n own b : ℕ) → leader n ≡ n → own ≡ bank n → n < 2 ^ 64 - 1 → ((b : ℕ) → f b ≡ leaders_at leader bank b n)
-      → with_number f own (min (f own + 1) (2 ^ 64 - 1)) b ≡ leaders_at leader bank b (suc n)
-  counted_more f n own b leads is few so = by (own == b) refl
-    where
-      first : (leader n == n) ≡ true
-      first = let e : leader n ≡ n = leads in grind (arith, nat_tests, e)
-
-      both : (p q : Bool) → p ≡ true → q ≡ true → (p && q) ≡ true
-      both true q e h = h
-      both false q e h = absurd (cc)
-
-      by : (t : Bool) → (own == b) ≡ t → (if t then min (f own + 1) (2 ^ 64 - 1) else f b) ≡ leaders_at leader bank b (suc n)
-      by true e =
-          let same : own ≡ b = grind (arith, nat_tests, e) in
-          let small = leaders_few b n in
-          let now : f own ≡ leaders_at leader bank b n = so own ∙ ap (λ m. leaders_at leader bank m n) same in
-          counts (f own) (leaders_at leader bank b n) now small
-          ∙ ap (λ t. if t then suc (leaders_at leader bank b n) else leaders_at leader bank b n) (sym (both (leader n == n) (bank n == b) first (let g : bank n ≡ b = sym is ∙ same in grind (arith, nat_tests, g))))
-        where
-          counts : (m l : ℕ) → m ≡ l → l ≤ n → min (m + 1) (2 ^ 64 - 1) ≡ suc l
-          counts m l same small = omega (arith, same, small, few)
-      by false e = so b ∙ ap (λ t. if t then suc (leaders_at leader bank b n) else leaders_at leader bank b n) (sym (second (leader n == n) (bank n == b) (ap (λ m. m == b) (sym is) ∙ e)))
-        where
-          second : (p q : Bool) → q ≡ false → (p && q) ≡ false
-          second true q e = e
-          second false q e = refl
-
-  -- no leader more
-  pub counted_still : (n b : ℕ) → (leader n ≡ n → ⊥) → leaders_at leader bank b n ≡ leaders_at leader bank b (suc n)
-  counted_still n b other = ap (λ t. if t && (bank n == b) then suc (leaders_at leader bank b n) else leaders_at leader bank b n) (sym (differs (leader n) n other))
-    where
-      differs : (a b : ℕ) → (a ≡ b → ⊥) → (a == b) ≡ false
-      differs a b apart = grind (arith, nat_tests)
-
--- Banks that are forgotten.
-pub forgotten_none : (copies : List AccessAt) (f : ℕ → ℕ) (b : ℕ) → (f b ≡ 0) ⊎ ((k : ℕ) × ((c : AccessAt) × ((slice_get copies k ≡ Some c) × (c.bank ≡ b)))) → forgotten copies f b ≡ 0
-forgotten_none [] f b (inl none) = none
-forgotten_none [] f b (inr h) = absurd (lost h.0 h.1.0 h.1.1.0)
-  where
-    lost : (k : ℕ) (c : AccessAt) → slice_get [] k ≡ Some c → ⊥
-    lost k c e = cc
-forgotten_none (d ∷ copies) f b h = forgotten_none copies (with_number f d.bank 0) b (by (d.bank == b) refl h)
-  where
-    by : (t : Bool) → (d.bank == b) ≡ t → (f b ≡ 0) ⊎ ((k : ℕ) × ((c : AccessAt) × ((slice_get (d ∷ copies) k ≡ Some c) × (c.bank ≡ b))))
-        → ((if t then 0 else f b) ≡ 0) ⊎ ((k : ℕ) × ((c : AccessAt) × ((slice_get copies k ≡ Some c) × (c.bank ≡ b))))
-    by true e h = inl refl
-    by false e (inl none) = inl none
-    by false e (inr (zero, (c, (at, same)))) = absurd (apart d.bank b e (ap (λ (a : AccessAt). a.bank) (some_same d c at) ∙ same))
-      where
-        apart : (m n : ℕ) → (m == n) ≡ false → m ≡ n → ⊥
-        apart m n e same = grind (arith, nat_tests, e, same)
-    by false e (inr (suc k, (c, (at, same)))) = inr (k, (c, (at, same)))
-
-pub forgets_more : (copies : List AccessAt) (i : ℕ) (d : AccessAt) (f g whole : ℕ → ℕ) → i < length copies → g ≡ with_number f (get_or copies i d).bank 0
-    → forgotten (drop i copies) f ≡ whole → forgotten (drop (i + 1) copies) g ≡ whole
-forgets_more copies i d f g whole within is e =
-    ap (λ k. forgotten (drop (i + 1) copies) k) is
-    ∙ (sym (ap (λ cs. forgotten cs f) (drop-cons copies i d within ∙ ap (λ (n : ℕ). get_or copies i d ∷ drop n copies) (let s : suc i ≡ i + 1 = omega arith in s))) ∙ e)
-
 -- Flags of loops.
 pub counts_more : (scene : Scene) (n : ℕ) (form : TermForm) (writes : Bool) (counts more : List Bool) (b : Bool) → (HasScopes scene → IsLow n → b ≡ depends_at scene form writes n)
-    → more ≡ counts ++ b ∷ [] → Counts scene n form writes counts → Counts scene (n + 1) form writes more
+    → more ≡ counts ++ b ∷ [] → Flags scene n form writes counts → Flags scene (n + 1) form writes more
 counts_more scene n form writes counts more b is added h = record {
   long = ap length added ∙ (length-append counts _ ∙ ap (λ m. m + 1) h.long);
   each = λ scopes level within small. ap (λ bs. counted bs level) added ∙ by scopes level small (cases_lt level n) within;
@@ -251,16 +161,14 @@ counts_more scene n form writes counts more b is added h = record {
         last (x ∷ cs) = last cs
 
 -- Steps of the loop over paths.
-module _ (leader bank : ℕ → ℕ) (guards : List (Option ℕ)) where
-  pub copies_first : (d : Draft) (numbers : List ℕ) → CopiesSoFar d d numbers numbers guards leader bank 0 []
-  copies_first d numbers = record {
-    adds = (refl, (refl, refl));
+module _ (leader bank place : ℕ → ℕ) (guards : List (Option ℕ)) where
+  pub copies_first : (d : Draft) → CopiesSoFar d d guards leader bank place 0 []
+  copies_first d = record {
+    adds = (refl, refl);
     extends = extends_self d;
     quiet = λ x f b. refl;
     long = refl;
-    counts = λ none b. none b;
-    reached = λ k c e. absurd (lost k c e);
-    are = λ none x f b. record { long = refl; each = λ k c e. absurd (lost k c e) };
+    are = λ x f b. record { long = refl; each = λ k c e. absurd (lost k c e) };
   }
     where
       lost : (k : ℕ) (c : AccessAt) → slice_get [] k ≡ Some c → ⊥
@@ -277,52 +185,41 @@ module _ (leader bank : ℕ → ℕ) (guards : List (Option ℕ)) where
       less : (p : ℕ) → (p ≡ n → ⊥) → p < suc n → p < n
       less p other w = omega (arith, other, w)
 
-  module _ (low : (p : ℕ) → leader p ≤ p) (old d e : Draft) (numbers ms after : List ℕ) (n l b : ℕ) (g : Option ℕ) (copies more : List AccessAt)
-      (is : l ≡ leader n) (at : b ≡ bank n) (guard : g ≡ guard_of guards n) (few : n < 2 ^ 64 - 1) (h : CopiesSoFar old d numbers ms guards leader bank n copies) where
+  module _ (low : (p : ℕ) → leader p ≤ p) (old d e : Draft) (n l b q : ℕ) (g : Option ℕ) (copies more : List AccessAt)
+      (is : l ≡ leader n) (at : b ≡ bank n) (put : q ≡ place n) (guard : g ≡ guard_of guards n) (h : CopiesSoFar old d guards leader bank place n copies) where
     abbrev placed : Option ℕ → AccessAt
-    placed o = record { leader = l; bank = b; place = narrowed (slice_index ms b); guard = o }
+    placed o = record { leader = l; bank = b; place = q; guard = o }
 
     -- the copies so far and this one
-    added : AddsCopy d e copies more ms after n l b g → AddsCopies leader bank guards (suc n) old e numbers after more
+    added : AddsCopy d e copies more n l b q g → AddsCopies leader bank place guards (suc n) old e more
     added s = (
       d,
       (
-        ms,
+        copies,
         (
-          copies,
-          (
-            h.adds,
-            subst (λ (o : Option ℕ). AddsCopy d e copies more ms after n (leader n) (bank n) o) guard
-                (subst (λ (m : ℕ). AddsCopy d e copies more ms after n (leader n) m g) at (subst (λ (m : ℕ). AddsCopy d e copies more ms after n m b g) is s)),
-          ),
+          h.adds,
+          subst (λ (o : Option ℕ). AddsCopy d e copies more n (leader n) (bank n) (place n) o) guard
+              (subst (λ (m : ℕ). AddsCopy d e copies more n (leader n) (bank n) m g) put
+              (subst (λ (m : ℕ). AddsCopy d e copies more n (leader n) m q g) at (subst (λ (m : ℕ). AddsCopy d e copies more n m b q g) is s))),
         ),
       ),
     )
 
-    place_told : AreNone numbers → narrowed (slice_index ms b) ≡ narrowed (leaders_at leader bank (bank n) n)
-    place_told none = ap narrowed (h.counts none b ∙ ap (λ m. leaders_at leader bank m n) at)
-
     -- where the path leads itself
-    leads_itself : AddsLeader d e copies more ms after n l b g → CopiesSoFar old e numbers after guards leader bank (suc n) more
+    leads_itself : AddsLeader d e copies more n l b q g → CopiesSoFar old e guards leader bank place (suc n) more
     leads_itself s = record {
       adds = added (inl s);
       extends = subst (λ (k : Draft). Extends old k) (sym s.same) h.extends;
       quiet = subst (λ (k : Draft). (x : Step) → Fits x k → Begun x old → tale x k ≡ tale x old) (sym s.same) h.quiet;
       long = ap length s.copies_are ∙ (length-append copies _ ∙ (ap (λ m. m + 1) h.long ∙ add-one n));
-      counts = λ none m. ap (λ (f : ℕ → ℕ). f m) s.counts ∙ counted_more leader bank (numbered ms) n b m own at few (λ m. h.counts none m);
-      reached = λ k c there. reaches k c (place_of_more copies (placed g) c k (sym (ap (λ cs. slice_get cs k) s.copies_are) ∙ there));
-      are = λ none x f s0. record {
+      are = λ x f s0. record {
         long = ap length s.copies_are ∙ (length-append copies _ ∙ (ap (λ m. m + 1) h.long ∙ add-one n));
-        each = λ k c there. copy_at none x (subst (λ (k : Draft). Fits x k) s.same f) s0 k c (place_of_more copies (placed g) c k (sym (ap (λ cs. slice_get cs k) s.copies_are) ∙ there));
+        each = λ k c there. copy_at x (subst (λ (k : Draft). Fits x k) s.same f) s0 k c (place_of_more copies (placed g) c k (sym (ap (λ cs. slice_get cs k) s.copies_are) ∙ there));
       };
     }
       where
         own : leader n ≡ n
         own = sym is ∙ s.own
-
-        reaches : (k : ℕ) (c : AccessAt) → (slice_get copies k ≡ Some c) ⊎ ((k ≡ length copies) × (c ≡ placed g)) → c.bank ≡ bank k
-        reaches k c (inl there) = h.reached k c there
-        reaches k c (inr p) = ap (λ (a : AccessAt). a.bank) p.1 ∙ (at ∙ ap bank (sym (p.0 ∙ h.long)))
 
         before : (k : ℕ) (c : AccessAt) → slice_get copies k ≡ Some c → leader k ≡ leader n → ⊥
         before k c there same =
@@ -334,11 +231,11 @@ module _ (leader bank : ℕ → ℕ) (guards : List (Option ℕ)) where
             never : (k j : ℕ) → k < length copies → length copies ≡ n → j ≤ k → j ≡ n → ⊥
             never k j w long first same = omega (arith, w, long, first, same)
 
-        newest : AreNone numbers → (x : Step) → IsCopy x leader bank guards (suc n) n (placed g)
-        newest none x = record {
+        newest : (x : Step) → IsCopy x leader bank place guards (suc n) n (placed g)
+        newest x = record {
           leader_is = is;
           bank_is = at;
-          place_is = place_told none;
+          place_is = put;
           alone = λ other. absurd (other own);
           on = λ done. by done (earlier_or_last x n (leader n) done);
           by = λ same on. record { path = n; within = omega arith; leads = own; on = subst (λ (o : Option ℕ). holds x o) guard on };
@@ -351,8 +248,8 @@ module _ (leader bank : ℕ → ℕ) (guards : List (Option ℕ)) where
                 never p j w first same = omega (arith, w, first, same)
             by done (inr p) = subst (λ (o : Option ℕ). holds x o) (sym guard) p.1
 
-        copy_at : AreNone numbers → (x : Step) → Fits x d → Begun x old → (k : ℕ) (c : AccessAt) → (slice_get copies k ≡ Some c) ⊎ ((k ≡ length copies) × (c ≡ placed g)) → IsCopy x leader bank guards (suc n) k c
-        copy_at none x f s0 k c (inl there) = record {
+        copy_at : (x : Step) → Fits x d → Begun x old → (k : ℕ) (c : AccessAt) → (slice_get copies k ≡ Some c) ⊎ ((k ≡ length copies) × (c ≡ placed g)) → IsCopy x leader bank place guards (suc n) k c
+        copy_at x f s0 k c (inl there) = record {
           leader_is = kept.leader_is;
           bank_is = kept.bank_is;
           place_is = kept.place_is;
@@ -361,26 +258,24 @@ module _ (leader bank : ℕ → ℕ) (guards : List (Option ℕ)) where
           by = λ same on. later x n k (kept.by same on);
         }
           where
-            kept : IsCopy x leader bank guards n k c
-            kept = (h.are none x f s0).each k c there
+            kept : IsCopy x leader bank place guards n k c
+            kept = (h.are x f s0).each k c there
 
             by : DoneBy x leader guards n (leader k) ⊎ ((leader n ≡ leader k) × holds x (guard_of guards n)) → holds x c.guard
             by (inl d) = kept.on d
             by (inr p) = absurd (before k c there (sym p.0))
-        copy_at none x f s0 k c (inr p) = subst (λ (m : ℕ). IsCopy x leader bank guards (suc n) m c) (sym (p.0 ∙ h.long)) (subst (λ (a : AccessAt). IsCopy x leader bank guards (suc n) n a) (sym p.1) (newest none x))
+        copy_at x f s0 k c (inr p) = subst (λ (m : ℕ). IsCopy x leader bank place guards (suc n) m c) (sym (p.0 ∙ h.long)) (subst (λ (a : AccessAt). IsCopy x leader bank place guards (suc n) n a) (sym p.1) (newest x))
 
     -- where an earlier path leads it
-    is_led : AddsOther d e copies more ms after n l b g → CopiesSoFar old e numbers after guards leader bank (suc n) more
+    is_led : AddsOther d e copies more n l b q g → CopiesSoFar old e guards leader bank place (suc n) more
     is_led s = record {
       adds = added (inr s);
       extends = extends_again old d e h.extends s.joins.extends;
       quiet = λ x f s0. s.joins.quiet x f (begun_later old d x h.extends s0) ∙ h.quiet x (fits_before d e x s.joins.extends f) s0;
       long = long_now;
-      counts = λ none m. ap (λ ns. slice_index ns m) s.counts ∙ (h.counts none m ∙ counted_still leader bank n m other);
-      reached = λ k c there. reaches k c (place_of_more s.changed (placed None) c k (sym (ap (λ cs. slice_get cs k) s.copies_are) ∙ there));
-      are = λ none x f s0. record {
+      are = λ x f s0. record {
         long = long_now;
-        each = λ k c there. copy_at none x f s0 k c (place_of_more s.changed (placed None) c k (sym (ap (λ cs. slice_get cs k) s.copies_are) ∙ there));
+        each = λ k c there. copy_at x f s0 k c (place_of_more s.changed (placed None) c k (sym (ap (λ cs. slice_get cs k) s.copies_are) ∙ there));
       };
     }
       where
@@ -397,26 +292,18 @@ module _ (leader bank : ℕ → ℕ) (guards : List (Option ℕ)) where
             → ((slice_get copies k ≡ Some c) × (k ≡ l → ⊥)) ⊎ ((k ≡ l) × ((a : AccessAt) × ((slice_get copies l ≡ Some a) × (c ≡ record { leader = a.leader; bank = a.bank; place = a.place; guard = s.joins.joined }))))
         place_changed k c there = guard_place copies l k s.joins.joined c (sym (ap (λ cs. slice_get cs k) s.joins.changed_is) ∙ there)
 
-        reaches : (k : ℕ) (c : AccessAt) → (slice_get s.changed k ≡ Some c) ⊎ ((k ≡ length s.changed) × (c ≡ placed None)) → c.bank ≡ bank k
-        reaches k c (inl there) = by (place_changed k c there)
-          where
-            by : ((slice_get copies k ≡ Some c) × (k ≡ l → ⊥)) ⊎ ((k ≡ l) × ((a : AccessAt) × ((slice_get copies l ≡ Some a) × (c ≡ record { leader = a.leader; bank = a.bank; place = a.place; guard = s.joins.joined })))) → c.bank ≡ bank k
-            by (inl p) = h.reached k c p.0
-            by (inr p) = ap (λ (a : AccessAt). a.bank) p.1.1.1 ∙ (h.reached l p.1.0 p.1.1.0 ∙ ap bank (sym p.0))
-        reaches k c (inr p) = ap (λ (a : AccessAt). a.bank) p.1 ∙ (at ∙ ap bank (sym (p.0 ∙ changed_long)))
-
-        newest : AreNone numbers → (x : Step) → IsCopy x leader bank guards (suc n) n (placed None)
-        newest none x = record {
+        newest : (x : Step) → IsCopy x leader bank place guards (suc n) n (placed None)
+        newest x = record {
           leader_is = is;
           bank_is = at;
-          place_is = place_told none;
+          place_is = put;
           alone = λ apart. refl;
           on = λ done. refl;
           by = λ same on. absurd (other same);
         }
 
-        stays : AreNone numbers → (x : Step) → Fits x e → Begun x old → (k : ℕ) (c : AccessAt) → slice_get copies k ≡ Some c → (k ≡ l → ⊥) → IsCopy x leader bank guards (suc n) k c
-        stays none x f s0 k c there apart = record {
+        stays : (x : Step) → Fits x e → Begun x old → (k : ℕ) (c : AccessAt) → slice_get copies k ≡ Some c → (k ≡ l → ⊥) → IsCopy x leader bank place guards (suc n) k c
+        stays x f s0 k c there apart = record {
           leader_is = kept.leader_is;
           bank_is = kept.bank_is;
           place_is = kept.place_is;
@@ -425,16 +312,16 @@ module _ (leader bank : ℕ → ℕ) (guards : List (Option ℕ)) where
           by = λ same on. later x n k (kept.by same on);
         }
           where
-            kept : IsCopy x leader bank guards n k c
-            kept = (h.are none x (fits_before d e x s.joins.extends f) s0).each k c there
+            kept : IsCopy x leader bank place guards n k c
+            kept = (h.are x (fits_before d e x s.joins.extends f) s0).each k c there
 
             by : DoneBy x leader guards n (leader k) ⊎ ((leader n ≡ leader k) × holds x (guard_of guards n)) → holds x c.guard
             by (inl d) = kept.on d
             by (inr p) = subst (λ (o : Option ℕ). holds x o) (sym (kept.alone (λ leads. apart (sym leads ∙ (sym p.0 ∙ sym is))))) refl
 
-        joined : AreNone numbers → (x : Step) → Fits x e → Begun x old → (a : AccessAt) → slice_get copies l ≡ Some a
-            → IsCopy x leader bank guards (suc n) l (record { leader = a.leader; bank = a.bank; place = a.place; guard = s.joins.joined })
-        joined none x f s0 a there = record {
+        joined : (x : Step) → Fits x e → Begun x old → (a : AccessAt) → slice_get copies l ≡ Some a
+            → IsCopy x leader bank place guards (suc n) l (record { leader = a.leader; bank = a.bank; place = a.place; guard = s.joins.joined })
+        joined x f s0 a there = record {
           leader_is = kept.leader_is;
           bank_is = kept.bank_is;
           place_is = kept.place_is;
@@ -446,8 +333,8 @@ module _ (leader bank : ℕ → ℕ) (guards : List (Option ℕ)) where
             sd : Begun x d
             sd = begun_later old d x h.extends s0
 
-            kept : IsCopy x leader bank guards n l a
-            kept = (h.are none x (fits_before d e x s.joins.extends f) s0).each l a there
+            kept : IsCopy x leader bank place guards n l a
+            kept = (h.are x (fits_before d e x s.joins.extends f) s0).each l a there
 
             j : JoinsGuards d e a.guard g s.joins.joined
             j = s.joins.joins a there
@@ -460,33 +347,54 @@ module _ (leader bank : ℕ → ℕ) (guards : List (Option ℕ)) where
             back same (inl on) = later x n l (kept.by same on)
             back same (inr on) = record { path = n; within = omega arith; leads = sym is; on = subst (λ (o : Option ℕ). holds x o) guard on }
 
-        copy_at : AreNone numbers → (x : Step) → Fits x e → Begun x old → (k : ℕ) (c : AccessAt) → (slice_get s.changed k ≡ Some c) ⊎ ((k ≡ length s.changed) × (c ≡ placed None)) → IsCopy x leader bank guards (suc n) k c
-        copy_at none x f s0 k c (inl there) = by (place_changed k c there)
+        copy_at : (x : Step) → Fits x e → Begun x old → (k : ℕ) (c : AccessAt) → (slice_get s.changed k ≡ Some c) ⊎ ((k ≡ length s.changed) × (c ≡ placed None)) → IsCopy x leader bank place guards (suc n) k c
+        copy_at x f s0 k c (inl there) = by (place_changed k c there)
           where
-            by : ((slice_get copies k ≡ Some c) × (k ≡ l → ⊥)) ⊎ ((k ≡ l) × ((a : AccessAt) × ((slice_get copies l ≡ Some a) × (c ≡ record { leader = a.leader; bank = a.bank; place = a.place; guard = s.joins.joined })))) → IsCopy x leader bank guards (suc n) k c
-            by (inl p) = stays none x f s0 k c p.0 p.1
-            by (inr p) = subst (λ (m : ℕ). IsCopy x leader bank guards (suc n) m c) (sym p.0) (subst (λ (a : AccessAt). IsCopy x leader bank guards (suc n) l a) (sym p.1.1.1) (joined none x f s0 p.1.0 p.1.1.0))
-        copy_at none x f s0 k c (inr p) = subst (λ (m : ℕ). IsCopy x leader bank guards (suc n) m c) (sym (p.0 ∙ changed_long)) (subst (λ (a : AccessAt). IsCopy x leader bank guards (suc n) n a) (sym p.1) (newest none x))
+            by : ((slice_get copies k ≡ Some c) × (k ≡ l → ⊥)) ⊎ ((k ≡ l) × ((a : AccessAt) × ((slice_get copies l ≡ Some a) × (c ≡ record { leader = a.leader; bank = a.bank; place = a.place; guard = s.joins.joined })))) → IsCopy x leader bank place guards (suc n) k c
+            by (inl p) = stays x f s0 k c p.0 p.1
+            by (inr p) = subst (λ (m : ℕ). IsCopy x leader bank place guards (suc n) m c) (sym p.0) (subst (λ (a : AccessAt). IsCopy x leader bank place guards (suc n) l a) (sym p.1.1.1) (joined x f s0 p.1.0 p.1.1.0))
+        copy_at x f s0 k c (inr p) = subst (λ (m : ℕ). IsCopy x leader bank place guards (suc n) m c) (sym (p.0 ∙ changed_long)) (subst (λ (a : AccessAt). IsCopy x leader bank place guards (suc n) n a) (sym p.1) (newest x))
 
-    pub copies_more : AddsCopy d e copies more ms after n l b g → CopiesSoFar old e numbers after guards leader bank (n + 1) more
-    copies_more s = subst (λ (m : ℕ). CopiesSoFar old e numbers after guards leader bank m more) (sym (add-one n)) (by s)
+    pub copies_more : AddsCopy d e copies more n l b q g → CopiesSoFar old e guards leader bank place (n + 1) more
+    copies_more s = subst (λ (m : ℕ). CopiesSoFar old e guards leader bank place m more) (sym (add-one n)) (by s)
       where
-        by : AddsCopy d e copies more ms after n l b g → CopiesSoFar old e numbers after guards leader bank (suc n) more
+        by : AddsCopy d e copies more n l b q g → CopiesSoFar old e guards leader bank place (suc n) more
         by (inl s) = leads_itself s
         by (inr s) = is_led s
 
-  pub copies_made : (old d : Draft) (numbers ms after : List ℕ) (n : ℕ) (copies : List AccessAt) → n ≡ length guards → CopiesSoFar old d numbers ms guards leader bank n copies
-      → Forgets ms after copies → MakesCopiesBy old d numbers after guards leader bank copies
-  copies_made old d numbers ms after n copies all h gone = record {
-    adds = (ms, subst (λ (m : ℕ). AddsCopies leader bank guards m old d numbers ms copies) all h.adds);
-    extends = h.extends;
-    quiet = h.quiet;
-    none = λ none b. ap (λ (f : ℕ → ℕ). f b) gone ∙ forgotten_none copies (numbered ms) b (by b none (leaders_some leader bank b n));
-    are = λ none x f s. subst (λ (m : ℕ). AreCopies x leader bank guards m copies) all (h.are none x f s);
-  }
-    where
-      by : (b : ℕ) → AreNone numbers → (leaders_at leader bank b n ≡ 0) ⊎ ((k : ℕ) × ((k < n) × (bank k ≡ b))) → (numbered ms b ≡ 0) ⊎ ((k : ℕ) × ((c : AccessAt) × ((slice_get copies k ≡ Some c) × (c.bank ≡ b))))
-      by b none (inl nothing) = inl (h.counts none b ∙ nothing)
-      by b none (inr p) =
-          let found = there copies p.0 (subst (λ (m : ℕ). p.0 < m) (sym h.long) p.1.0) in
-          inr (p.0, (found.0, (found.1, h.reached p.0 found.0 found.1 ∙ p.1.1)))
+pub copies_made : (leader bank group : ℕ → ℕ) (guards : List (Option ℕ)) (old d : Draft) (after : List ℕ) (n : ℕ) (copies : List AccessAt) → n ≡ length guards
+    → CopiesSoFar old d guards leader bank (places_by leader bank group) n copies → after ≡ [] → MakesCopiesBy old d after guards leader bank group copies
+copies_made leader bank group guards old d after n copies all h none = record {
+  adds = subst (λ (m : ℕ). AddsCopies leader bank (places_by leader bank group) guards m old d copies) all h.adds;
+  extends = h.extends;
+  quiet = h.quiet;
+  none = λ b. ap (λ ns. slice_index ns b) none ∙ empty b;
+  are = λ x f s. subst (λ (m : ℕ). AreCopies x leader bank (places_by leader bank group) guards m copies) all (h.are x f s);
+}
+  where
+    empty : (b : ℕ) → slice_index [] b ≡ 0
+    empty b = let past : length {A = ℕ} [] ≤ b = omega arith in get_or-eq_default [] 0 past
+
+-- The copies so far, and how they are counted.
+pub record CountedSoFar (leader bank group : ℕ → ℕ) (guards : List (Option ℕ)) (old d : Draft) (t : Tally) (numbers : List ℕ) (n : ℕ) (copies : List AccessAt) : Type 0 where
+  pub copied : CopiesSoFar old d guards leader bank (places_by leader bank group) n copies
+  pub tally : IsTally leader bank group n t numbers
+
+pub counted_first : (leader bank group : ℕ → ℕ) (guards : List (Option ℕ)) (d : Draft) (t : Tally) (numbers : List ℕ) (copies : List AccessAt)
+    → t ≡ record { group = 0; base = 0; most = 0 } → numbers ≡ [] → copies ≡ [] → CountedSoFar leader bank group guards d d t numbers 0 copies
+counted_first leader bank group guards d t numbers copies is empty none = record {
+  copied = subst (λ (cs : List AccessAt). CopiesSoFar d d guards leader bank (places_by leader bank group) 0 cs) (sym none) (copies_first leader bank (places_by leader bank group) guards d);
+  tally = tally_first leader bank group t numbers is empty;
+}
+
+pub counted_more : (leader bank group : ℕ → ℕ) (guards : List (Option ℕ)) (low : (p : ℕ) → leader p ≤ p) (rises : (m k : ℕ) → m ≤ k → group m ≤ group k) (old d e : Draft) (t next : Tally) (numbers after : List ℕ) (n l b g q : ℕ) (leads : Bool) (guard : Option ℕ)
+    (copies more : List AccessAt) (few : n < 2 ^ 64 - 1) → l ≡ leader n → b ≡ bank n → g ≡ group n → leads ≡ (l == n) → guard ≡ guard_of guards n
+    → PlacesNext t g b leads numbers after next q → AddsCopy d e copies more n l b q guard → CountedSoFar leader bank group guards old d t numbers n copies
+    → CountedSoFar leader bank group guards old e next after (n + 1) more
+counted_more leader bank group guards low rises old d e t next numbers after n l b g q leads guard copies more few is at grouped leading guarded placed adds h = record {
+  copied = copies_more leader bank (places_by leader bank group) guards low old d e n l b q guard copies more is at counted.place_is guarded h.copied adds;
+  tally = subst (λ (m : ℕ). IsTally leader bank group m next after) (sym (add-one n)) counted.tally;
+}
+  where
+    counted : Counts leader bank group n few rises next after q
+    counted = counted_next leader bank group n few rises t next numbers after q l b g leads is at grouped leading h.tally placed

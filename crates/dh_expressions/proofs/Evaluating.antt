@@ -1,6 +1,6 @@
 -- Parts of a block put together. A step that fits all operations fits those of each part, so what was stated of a
 -- part holds of the whole; tales come one after the other.
-use Rattle.std.proofs.Common.{◌≡◌, ℕ, suc, ◌+◌, ◌-◌, ◌<◌, ◌^◌, drop, get_or, map, Bool, true, false, if◌then◌else◌, List, [], ◌∷◌, ◌++◌, Some, refl, sym, ap, ◌∙◌, subst, arith, length, append_assoc}
+use Rattle.std.proofs.Common.{◌≡◌, ℕ, suc, ◌+◌, ◌-◌, ◌<◌, ◌^◌, drop, get_or, map, Bool, true, false, if◌then◌else◌, List, [], ◌∷◌, ◌++◌, Some, None, refl, sym, ap, ◌∙◌, subst, arith, length, append_assoc}
 use Rattle.std.specs.Prelude.{Option, ℤ, pos, min, Result, Ok, is_ok}
 use Rattle.dh_base.specs.declared.lists.NoMemory.{NoMemory}
 use Rattle.std.proofs.Math.Seq.{drop-cons}
@@ -21,25 +21,27 @@ use Rattle.dh_tree.specs.declared.trees.expressions.Expr.{Expr}
 use Rattle.dh_tree.specs.declared.trees.expressions.Ref.{Ref}
 use Rattle.dh_meaning.specs.AccessNumbers.{term_accesses, terms_accesses}
 use Rattle.dh_meaning.specs.Bindings.{kind_found, kind_or_first}
-use Rattle.dh_meaning.specs.Core.{CoreTerm, Target, binary, by_indices, by_row, read}
-use Rattle.dh_meaning.specs.CoreOf.{core_term, core_terms, entity_number, extended, memory_of, operation_of, target_to}
+use Rattle.dh_meaning.specs.Core.{CoreTerm, CoreTerms, Target, binary, by_row, read}
+use Rattle.dh_meaning.specs.CoreOf.{core_term, core_terms, entity_number, extended, memory_of, operation_of, target_to, way_of}
 use Rattle.dh_meaning.specs.Effects as meaning
 use Rattle.dh_meaning.specs.Effects.{Event, Variables, bits_of, read_made, reads, writes, faults, spot_reached, target_events, term_events, value_of}
 use Rattle.dh_meaning.specs.Paths.{Path}
 use Rattle.dh_meaning.specs.Ways.{Way}
 use Rattle.dh_code.specs.Extended.{extension_of}
-use Rattle.dh_code.proofs.CommandsFlattened.{no_way}
+use Rattle.dh_ways.proofs.TargetsOnWays.{target_makes}
 use Rattle.dh_expressions.specs.declared.accesses.Accesses.{Accesses}
 use Rattle.dh_expressions.specs.declared.drafts.Draft.{Draft}
 use Rattle.dh_expressions.specs.declared.scenes.Lane.{Lane}
 use Rattle.dh_expressions.specs.declared.scenes.Scene.{Scene}
 use Rattle.dh_expressions.specs.declared.elements.Aim.{Aim}
 use Rattle.dh_expressions.specs.declared.terms.Valued.{Valued}
-use Rattle.dh_expressions.specs.Drafted.{Begun, Computes, Fits, Gives, Step, Tale, failed, put, shown, tale, told}
+use Rattle.dh_expressions.specs.Drafted.{Begun, Computes, Extends, Fits, Gives, Step, Tale, failed, put, shown, tale, told}
 use Rattle.dh_expressions.specs.Shown.{applied_shown, converted_shown, extended_shown, is_kept, kind_written}
-use Rattle.dh_expressions.specs.Evaluated.{AimsByIndices, AimsByRow, Evaluates, EvaluatesAll, EvaluatesIndices, EvaluatesTerm, Fair, FairAll, IsDone, IsSited, Knows, Sees, SeesAll, ShowsVariable, View, begun_of, known_in, lane_guard, lane_path, numbers_shown, term_told, term_value, terms_told, terms_values}
-use Rattle.dh_expressions.specs.Reaching.{AimsAt, IsFairRead, IsRead, ReadsAt, ReadsElement, ReadsNext, RowIs, reach_at}
+use Rattle.dh_expressions.specs.Evaluated.{AimsByIndices, AimsByRow, Evaluates, EvaluatesAll, EvaluatesIndices, EvaluatesTerm, Fair, FairAll, IsDone, IsSited, Knows, PassesWay, Sees, SeesAll, SeesWay, ShowsVariable, View, begun_of, known_in, lane_guard, lane_path, numbers_shown, term_told, term_value, terms_told, terms_values}
+use Rattle.dh_expressions.specs.Named.{first_view}
+use Rattle.dh_expressions.specs.Reaching.{AimsAt, HasTarget, IsFairRead, IsRead, ReadsAt, ReadsElement, ReadsNext, RowIs, reach_at}
 use Rattle.dh_expressions.proofs.Pushing.{begun_later, extends_again, extends_self, fits_before, gives}
+use Rattle.dh_expressions.proofs.WaysShown.{way_aims, way_extends, way_quiet}
 
 pub told_append : (xs ys : List Event) → told (xs ++ ys) ≡ told xs ++ told ys
 told_append [] ys = refl
@@ -320,7 +322,7 @@ module _ (scene : Scene) (lane : Lane) (current : List (Option ℕ)) where
 
   read_behind : (d0 d1 d2 : Draft) (a0 a1 a2 : Accesses) (values : List ℕ) (FairOf SeesOf : View → Type 0) (all : View → List ℤ) (events : View → List Event) (target : Target) (aim : Aim) (m : ℕ) (place : Place) (form : plain.TermForm) (memory : ℕ)
       → EvaluatesAll (lane_guard lane) d0 d1 a0 a1 values FairOf SeesOf all events
-      → ((v : View) → numbers_shown v.step values ≡ all v → AimsAt lane v aim target)
+      → ((v : View) → Fits v.step d1 → Begun v.step d0 → SeesOf v → numbers_shown v.step values ≡ all v → AimsAt lane v aim target)
       → ReadsElement scene lane place form memory aim target d1 d2 a1 a2 m
       → ReadBehind d0 d2 a0 a2 FairOf SeesOf events target m place form memory aim.number
   read_behind d0 d1 d2 a0 a1 a2 values FairOf SeesOf all events target aim m place form memory e aims h = record {
@@ -337,7 +339,10 @@ module _ (scene : Scene) (lane : Lane) (current : List (Option ℕ)) where
     where
       both : (v : View) → Fits v.step d2 → Begun v.step d0 → Knows v a0 → FairOf v → SeesOf v × IsDone scene lane v memory aim.number place form (read_value v place memory aim.number target)
           → IsRead scene lane place form memory aim target v
-      both v f b known fair sees = record { aims = aims v (e.are v (fits_before d1 d2 v.step h.extends f) b known fair sees.0); done = sees.1 }
+      both v f b known fair sees = record {
+        aims = aims v (fits_before d1 d2 v.step h.extends f) b sees.0 (e.are v (fits_before d1 d2 v.step h.extends f) b known fair sees.0);
+        done = sees.1;
+      }
 
       fairly : (v : View) → Fits v.step d2 → Begun v.step d0 → Knows v a0
           → (FairOf v × IsSited scene lane v memory aim.number place form false)
@@ -354,26 +359,86 @@ module _ (scene : Scene) (lane : Lane) (current : List (Option ℕ)) where
   next_is : (number own : ℕ) → number ≡ own → own + 1 < 2 ^ 32 → min (number + 1) (2 ^ 32 - 1) ≡ own + 1
   next_is number own is few = grind (arith, is, few)
 
-  -- the same by indices, of what a name stands for that has this way
-  abbrev ReadNamed : (d0 d2 : Draft) (a0 a2 : Accesses) (n : ℕ) (ts : plain.Terms) (m : ℕ) → Place → Ref → Option Way → Type 0
-  ReadNamed d0 d2 a0 a2 n ts m place r way =
-      ReadBehind d0 d2 a0 a2 (λ v. FairAll scene lane current v n ts) (λ v. SeesAll scene lane current v n ts)
-      (λ v. target_events (begun_of v.step) v.variables (lane_path lane) (target_to way (core_terms (known_in scene) n ts)))
-      (target_to way (core_terms (known_in scene) n ts)) m place (plain.accessed r ts) (memory_of (known_in scene) r) (n + terms_accesses ts)
-
-  pub access_done : (d0 d1 d2 : Draft) (a0 a1 a2 : Accesses) (n : ℕ) (place : Place) (k : Option Kind) (r : Ref) (ts : plain.Terms) (aim : Aim) (memory m : ℕ)
-      → memory ≡ memory_of (known_in scene) r → AimsByIndices scene lane current d0 d1 a0 a1 n ts aim
-      → ReadsAt scene lane d1 d2 a1 a2 (plain.term place k (plain.accessed r ts)) memory aim m
-      → EvaluatesTerm scene lane current d0 d2 a0 a2 n (plain.term place k (plain.accessed r ts)) (record { value = m; next = min (aim.number + 1) (2 ^ 32 - 1) })
-  access_done d0 d1 d2 a0 a1 a2 n place k r ts aim memory m is e h = record {
-    next = λ few. next_is aim.number (n + terms_accesses ts) (e.indices.next (omega (arith, few))) (omega (arith, few)) ∙ omega arith;
-    so = λ few.
-        subst (λ (w : Option Way). ReadNamed d0 d2 a0 a2 n ts m place r w) (sym (no_way (known_in scene).memories r.entity))
-        (read_moved d0 d2 a0 a2 (λ v. FairAll scene lane current v n ts) (λ v. SeesAll scene lane current v n ts) (λ v. terms_told scene lane v n ts) (by_indices (core_terms (known_in scene) n ts)) m place (plain.accessed r ts) memory (memory_of (known_in scene) r) aim.number (n + terms_accesses ts)
-        is (e.indices.next (omega (arith, few)))
-        (read_behind d0 d1 d2 a0 a1 a2 aim.indices _ _ (λ v. terms_values scene lane v n ts) _ (by_indices (core_terms (known_in scene) n ts)) aim m place (plain.accessed r ts) memory
-        (e.indices.so (omega (arith, few))) (λ v same. (same, e.row)) (h (by_indices (core_terms (known_in scene) n ts)) tt)));
+  -- values with more behind them, which tell nothing
+  all_later : (d0 d1 d2 : Draft) (a b : Accesses) (values : List ℕ) (FairOf SeesOf More : View → Type 0) (all : View → List ℤ) (events : View → List Event)
+      → EvaluatesAll (lane_guard lane) d0 d1 a b values FairOf SeesOf all events → Extends d1 d2 → ((x : Step) → Fits x d2 → Begun x d1 → tale x d2 ≡ tale x d1)
+      → EvaluatesAll (lane_guard lane) d0 d2 a b values FairOf (λ v. SeesOf v × More v) all events
+  all_later d0 d1 d2 a b values FairOf SeesOf More all events e behind quiet = record {
+    extends = extends_again d0 d1 d2 e.extends behind;
+    knows = λ v f s known fair. e.knows v (fits_before d1 d2 v.step behind f) s known fair;
+    are = λ v f s known fair sees. e.are v (fits_before d1 d2 v.step behind f) s known fair sees.0;
+    tells = λ v f s known fair sees on. quiet v.step f (begun_later d0 d1 v.step e.extends s) ∙ e.tells v (fits_before d1 d2 v.step behind f) s known fair sees.0 on;
+    quiet = λ v f s off. quiet v.step f (begun_later d0 d1 v.step e.extends s) ∙ e.quiet v (fits_before d1 d2 v.step behind f) s off;
   }
+
+  -- the same told otherwise
+  all_told : (d0 d1 : Draft) (a b : Accesses) (values : List ℕ) (FairOf SeesOf : View → Type 0) (all : View → List ℤ) (events others : View → List Event)
+      → ((v : View) → events v ≡ others v) → EvaluatesAll (lane_guard lane) d0 d1 a b values FairOf SeesOf all events → EvaluatesAll (lane_guard lane) d0 d1 a b values FairOf SeesOf all others
+  all_told d0 d1 a b values FairOf SeesOf all events others same e = record {
+    extends = e.extends;
+    knows = e.knows;
+    are = e.are;
+    tells = λ v f s known fair sees on. e.tells v f s known fair sees on ∙ ap (λ (es : List Event). tale v.step d0 ++ told es) (same v);
+    quiet = e.quiet;
+  }
+
+  pub has_target : (way : Option Way) (place : Place) (k : Option Kind) (r : Ref) (ts : plain.Terms) (cs : CoreTerms) → HasTarget (plain.term place k (plain.accessed r ts)) (target_to way cs)
+  has_target None place k r ts cs = tt
+  has_target (Some w) place k r ts cs = tt
+
+  -- the same by indices, of what a name stands for
+  abbrev pub way_here : Ref → Option Way
+  way_here r = way_of (known_in scene) r
+
+  abbrev pub aimed_at : (n : ℕ) → Ref → plain.Terms → Target
+  aimed_at n r ts = target_to (way_of (known_in scene) r) (core_terms (known_in scene) n ts)
+
+  abbrev pub aimed_events : (n : ℕ) → Ref → plain.Terms → View → List Event
+  aimed_events n r ts v = target_events (begun_of v.step) v.variables (lane_path lane) (aimed_at n r ts)
+
+  abbrev pub SeesNamed : (n : ℕ) → Ref → plain.Terms → View → Type 0
+  SeesNamed n r ts v = SeesAll scene lane current v n ts × SeesWay scene lane current v r
+
+  -- its indices, with what stands behind them
+  pub named_all : (d0 d1 d2 : Draft) (a0 a1 : Accesses) (n : ℕ) (r : Ref) (ts : plain.Terms) (listed aim : Aim) → n + terms_accesses ts < 2 ^ 32
+      → AimsByIndices scene lane current d0 d1 a0 a1 n ts listed → PassesWay scene lane current d1 d2 r listed aim
+      → EvaluatesAll (lane_guard lane) d0 d2 a0 a1 aim.indices (λ v. FairAll scene lane current v n ts) (λ v. SeesNamed n r ts v) (λ v. terms_values scene lane v n ts) (λ v. aimed_events n r ts v)
+  named_all d0 d1 d2 a0 a1 n r ts listed aim few e p =
+      all_told d0 d2 a0 a1 aim.indices (λ v. FairAll scene lane current v n ts) (λ v. SeesNamed n r ts v) (λ v. terms_values scene lane v n ts) (λ v. terms_told scene lane v n ts) (λ v. aimed_events n r ts v)
+      (λ v. sym (target_makes (begun_of v.step) v.variables (lane_path lane) (way_here r) (core_terms (known_in scene) n ts)))
+      (all_later d0 d1 d2 a0 a1 aim.indices (λ v. FairAll scene lane current v n ts) (λ v. SeesAll scene lane current v n ts) (λ v. SeesWay scene lane current v r) (λ v. terms_values scene lane v n ts) (λ v. terms_told scene lane v n ts)
+      (subst (λ (vs : List ℕ). EvaluatesAll (lane_guard lane) d0 d1 a0 a1 vs (λ v. FairAll scene lane current v n ts) (λ v. SeesAll scene lane current v n ts) (λ v. terms_values scene lane v n ts) (λ v. terms_told scene lane v n ts)) (sym p.indices_are) (e.indices.so few))
+      (way_extends scene lane current d1 d2 (first_view scene r) listed.steps (way_here r) aim.steps p.steps) (way_quiet scene lane current d1 d2 (first_view scene r) listed.steps (way_here r) aim.steps p.steps))
+
+  -- they name its element
+  pub named_aims : (d0 d1 d2 : Draft) (a0 a1 : Accesses) (n : ℕ) (r : Ref) (ts : plain.Terms) (listed aim : Aim) → n + terms_accesses ts < 2 ^ 32
+      → AimsByIndices scene lane current d0 d1 a0 a1 n ts listed → PassesWay scene lane current d1 d2 r listed aim
+      → (v : View) → Fits v.step d2 → Begun v.step d0 → SeesNamed n r ts v → numbers_shown v.step aim.indices ≡ terms_values scene lane v n ts → AimsAt lane v aim (aimed_at n r ts)
+  named_aims d0 d1 d2 a0 a1 n r ts listed aim few e p v f b sees same =
+      way_aims scene lane current d1 d2 (first_view scene r) listed.steps (way_here r) aim (core_terms (known_in scene) n ts) v e.steps (p.row_is ∙ e.row) p.steps f (begun_later d0 d1 v.step (e.indices.so few).extends b) sees.1 same
+
+  pub named_done : (d0 d1 d2 d3 : Draft) (a0 a1 a2 : Accesses) (n : ℕ) (place : Place) (k : Option Kind) (r : Ref) (ts : plain.Terms) (listed aim : Aim) (m : ℕ) → n + terms_accesses ts < 2 ^ 32
+      → AimsByIndices scene lane current d0 d1 a0 a1 n ts listed → PassesWay scene lane current d1 d2 r listed aim
+      → ReadsAt scene lane d2 d3 a1 a2 (plain.term place k (plain.accessed r ts)) (memory_of (known_in scene) r) aim m
+      → ReadBehind d0 d3 a0 a2 (λ v. FairAll scene lane current v n ts) (λ v. SeesNamed n r ts v) (λ v. aimed_events n r ts v) (aimed_at n r ts) m place (plain.accessed r ts) (memory_of (known_in scene) r) aim.number
+  named_done d0 d1 d2 d3 a0 a1 a2 n place k r ts listed aim m few e p h =
+      read_behind d0 d2 d3 a0 a1 a2 aim.indices (λ v. FairAll scene lane current v n ts) (λ v. SeesNamed n r ts v) (λ v. terms_values scene lane v n ts) (λ v. aimed_events n r ts v) (aimed_at n r ts) aim m place (plain.accessed r ts) (memory_of (known_in scene) r)
+      (named_all d0 d1 d2 a0 a1 n r ts listed aim few e p) (λ v f b sees same. named_aims d0 d1 d2 a0 a1 n r ts listed aim few e p v f b sees same)
+      (h (aimed_at n r ts) (has_target (way_here r) place k r ts (core_terms (known_in scene) n ts)))
+
+  pub access_done : (d0 d1 d2 d3 : Draft) (a0 a1 a2 : Accesses) (n : ℕ) (place : Place) (k : Option Kind) (r : Ref) (ts : plain.Terms) (listed aim : Aim) (m : ℕ)
+      → AimsByIndices scene lane current d0 d1 a0 a1 n ts listed → PassesWay scene lane current d1 d2 r listed aim
+      → ReadsAt scene lane d2 d3 a1 a2 (plain.term place k (plain.accessed r ts)) (memory_of (known_in scene) r) aim m
+      → EvaluatesTerm scene lane current d0 d3 a0 a2 n (plain.term place k (plain.accessed r ts)) (record { value = m; next = min (aim.number + 1) (2 ^ 32 - 1) })
+  access_done d0 d1 d2 d3 a0 a1 a2 n place k r ts listed aim m e p h = record {
+    next = λ few. next_is aim.number (n + terms_accesses ts) (number_is (omega (arith, few))) (omega (arith, few)) ∙ omega arith;
+    so = λ few.
+        read_moved d0 d3 a0 a2 (λ v. FairAll scene lane current v n ts) (λ v. SeesNamed n r ts v) (λ v. aimed_events n r ts v) (aimed_at n r ts) m place (plain.accessed r ts) (memory_of (known_in scene) r) (memory_of (known_in scene) r) aim.number (n + terms_accesses ts)
+        refl (number_is (omega (arith, few))) (named_done d0 d1 d2 d3 a0 a1 a2 n place k r ts listed aim m (omega (arith, few)) e p h);
+  }
+    where
+      number_is : n + terms_accesses ts < 2 ^ 32 → aim.number ≡ n + terms_accesses ts
+      number_is few = p.number_is ∙ e.indices.next few
 
   -- a value alone, as whole numbers
   all_of_one : (d0 d1 : Draft) (a b : Accesses) (n : ℕ) (FairOf SeesOf : View → Type 0) (word : View → Word) (events : View → List Event)
@@ -400,7 +465,7 @@ module _ (scene : Scene) (lane : Lane) (current : List (Option ℕ)) where
         is (e.term.next (omega (arith, few)))
         (read_behind d0 d1 d2 a0 a1 a2 (e.value ∷ []) _ _ (λ v. words.value_of (term_value scene lane v n t) ∷ []) _ (by_row bank (core_term (known_in scene) n t)) aim m place (plain.in_bank r bank at t) memory
         (all_of_one d0 d1 a0 a1 e.value _ _ _ _ (e.term.so (omega (arith, few))))
-        (λ v same. row_is v aim e.value _ e.row (ap (λ (zs : List ℤ). get_or zs 0 (pos 0)) same)) (h (by_row bank (core_term (known_in scene) n t)) refl));
+        (λ v f b sees same. row_is v aim e.value _ e.row (ap (λ (zs : List ℤ). get_or zs 0 (pos 0)) same)) (h (by_row bank (core_term (known_in scene) n t)) refl));
   }
 
   -- The loop over indices: whatever the rest gives from here, all give from the start.
@@ -437,14 +502,14 @@ module _ (scene : Scene) (lane : Lane) (current : List (Option ℕ)) where
       → EvaluatesTerm scene lane current d0 d1 a b n (plain.term e.place e.kind f) r → EvaluatesTerm scene lane current d0 d1 a b n (term_seen e) r
   by_form d0 d1 a b n e f r is h = subst (λ (g : plain.TermForm). EvaluatesTerm scene lane current d0 d1 a b n (plain.term e.place e.kind g) r) (sym is) h
 
-  pub access_formed : (d0 d1 d2 : Draft) (a0 a1 a2 : Accesses) (n : ℕ) (e : Expr) (r : Ref) (ts : plain.Terms) (aim : Aim) (valued : Valued)
-      → form_seen e.form ≡ plain.accessed r ts → AimsByIndices scene lane current d0 d1 a0 a1 n ts aim → ReadsNext scene lane d1 d2 a1 a2 (term_seen e) r aim valued
-      → EvaluatesTerm scene lane current d0 d2 a0 a2 n (term_seen e) valued
-  access_formed d0 d1 d2 a0 a1 a2 n e r ts aim valued is aims h =
-      by_form d0 d2 a0 a2 n e (plain.accessed r ts) _ is
-      (subst (λ (i : ℕ). EvaluatesTerm scene lane current d0 d2 a0 a2 n (plain.term e.place e.kind (plain.accessed r ts)) (record { value = valued.value; next = i })) (sym h.next)
-      (access_done d0 d1 d2 a0 a1 a2 n e.place e.kind r ts aim (memory_of (known_in scene) r) valued.value refl aims
-      (subst (λ (g : plain.TermForm). ReadsAt scene lane d1 d2 a1 a2 (plain.term e.place e.kind g) (memory_of (known_in scene) r) aim valued.value) is h.reads)))
+  pub access_formed : (d0 d1 d2 d3 : Draft) (a0 a1 a2 : Accesses) (n : ℕ) (e : Expr) (r : Ref) (ts : plain.Terms) (listed aim : Aim) (valued : Valued)
+      → form_seen e.form ≡ plain.accessed r ts → AimsByIndices scene lane current d0 d1 a0 a1 n ts listed → PassesWay scene lane current d1 d2 r listed aim → ReadsNext scene lane d2 d3 a1 a2 (term_seen e) r aim valued
+      → EvaluatesTerm scene lane current d0 d3 a0 a2 n (term_seen e) valued
+  access_formed d0 d1 d2 d3 a0 a1 a2 n e r ts listed aim valued is aims passes h =
+      by_form d0 d3 a0 a2 n e (plain.accessed r ts) _ is
+      (subst (λ (i : ℕ). EvaluatesTerm scene lane current d0 d3 a0 a2 n (plain.term e.place e.kind (plain.accessed r ts)) (record { value = valued.value; next = i })) (sym h.next)
+      (access_done d0 d1 d2 d3 a0 a1 a2 n e.place e.kind r ts listed aim valued.value aims passes
+      (subst (λ (g : plain.TermForm). ReadsAt scene lane d2 d3 a1 a2 (plain.term e.place e.kind g) (memory_of (known_in scene) r) aim valued.value) is h.reads)))
 
   pub bank_formed : (d0 d1 d2 : Draft) (a0 a1 a2 : Accesses) (n : ℕ) (e : Expr) (r : Ref) (bank : ℕ) (at : Place) (t : plain.Term) (aim : Aim) (valued : Valued)
       → form_seen e.form ≡ plain.in_bank r bank at t → AimsByRow scene lane current d0 d1 a0 a1 n t aim → ReadsNext scene lane d1 d2 a1 a2 (term_seen e) r aim valued

@@ -5,9 +5,11 @@ pub mod CounterWidths
 pub mod IteratorTurns
 pub mod PathLeaders
 pub mod ListPlaces
+pub mod CopiesCounted
 pub mod CopiesMade
 pub mod AccessesKept
 pub mod CopiesStand
 pub mod ElementsReached
 pub mod BankSpans
+pub mod WaysShown
 pub mod PartsMade

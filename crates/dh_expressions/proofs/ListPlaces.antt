@@ -1,6 +1,7 @@
 -- Elements of lists by their places: with one more behind, and with one changed.
-use Rattle.std.proofs.Common.{◌≡◌, ℕ, zero, suc, ◌<◌, ◌⊎◌, inl, inr, List, Some, None, refl, sym, ap, arith, length}
+use Rattle.std.proofs.Common.{◌≡◌, ℕ, zero, suc, ◌<◌, ◌≤◌, ◌⊎◌, inl, inr, List, Some, None, refl, sym, ap, ◌∙◌, arith, length, drop, get_or, append_assoc, append-nil}
 use Rattle.std.specs.Prelude.{[], ◌∷◌, ◌++◌, slice_get, slice_set, Option}
+use Rattle.std.proofs.Math.Seq.{drop-cons}
 
 abbrev some_or : {A : Type 0} → A → Option A → A
 some_or x None = x
@@ -65,3 +66,25 @@ place_within (y ∷ xs) (suc k) x e = more k (length xs) (place_within xs k x e)
   where
     more : (n l : ℕ) → n < l → suc n < suc l
     more n l h = omega (arith, h)
+
+-- Elements are added in their order: what is added so far is in front of what is left.
+
+none_left : {A : Type 0} (xs : List A) (i : ℕ) → length xs ≤ i → drop i xs ≡ []
+none_left [] zero over = refl
+none_left [] (suc i) over = refl
+none_left (x ∷ xs) zero over = absurd (some (length xs) over)
+  where
+    some : (n : ℕ) → suc n ≤ 0 → ⊥
+    some n h = omega (arith, h)
+none_left (x ∷ xs) (suc i) over = none_left xs i (lower (length xs) i over)
+  where
+    lower : (n i : ℕ) → suc n ≤ suc i → n ≤ i
+    lower n i h = omega (arith, h)
+
+pub listed_more : {A : Type 0} (xs : List A) (i : ℕ) (now new all : List A) (x : A) → i < length xs → x ≡ get_or xs i x → new ≡ now ++ x ∷ [] → now ++ drop i xs ≡ all → new ++ drop (suc i) xs ≡ all
+listed_more xs i now new all x there is added h =
+    ap (λ l. l ++ drop (suc i) xs) added
+    ∙ (append_assoc now (x ∷ []) (drop (suc i) xs) ∙ (ap (λ l. now ++ l) (sym (drop-cons xs i x there ∙ ap (λ z. z ∷ drop (suc i) xs) (sym is))) ∙ h))
+
+pub listed_end : {A : Type 0} (xs : List A) (i : ℕ) (now all : List A) → length xs ≤ i → now ++ drop i xs ≡ all → now ≡ all
+listed_end xs i now all over h = sym (append-nil now) ∙ (ap (λ l. now ++ l) (sym (none_left xs i over)) ∙ h)

@@ -1,5 +1,5 @@
 -- Operations of an expression put together from those of its parts, and indices one after the other.
-use Rattle.std.proofs.Common.{◌≡◌, ℕ, suc, ◌<◌, drop, get_or, map, List, [], ◌∷◌, ◌++◌, refl, sym, ap, ◌∙◌, subst, length, append_assoc}
+use Rattle.std.proofs.Common.{◌≡◌, ℕ, suc, ◌<◌, None, drop, get_or, map, List, [], ◌∷◌, ◌++◌, refl, sym, ap, ◌∙◌, subst, length, append_assoc}
 use Rattle.std.specs.Prelude.{Option}
 use Rattle.std.proofs.Math.Seq.{drop-cons}
 use Rattle.std.proofs.lemmas.List.{append-nil}
@@ -7,7 +7,7 @@ use Rattle.dh_tree.specs.PlainTrees as plain
 use Rattle.dh_tree.specs.Seen.{form_seen, term_seen, terms}
 use Rattle.dh_tree.specs.declared.trees.expressions.Expr.{Expr}
 use Rattle.dh_tree.specs.declared.trees.expressions.Ref.{Ref}
-use Rattle.dh_meaning.specs.CoreOf.{memory_of}
+use Rattle.dh_meaning.specs.CoreOf.{memory_of, way_of}
 use Rattle.dh_expressions.specs.declared.accesses.Accesses.{Accesses}
 use Rattle.dh_expressions.specs.declared.drafts.Draft.{Draft}
 use Rattle.dh_expressions.specs.declared.elements.Aim.{Aim}
@@ -15,7 +15,8 @@ use Rattle.dh_expressions.specs.declared.scenes.Lane.{Lane}
 use Rattle.dh_expressions.specs.declared.scenes.Scene.{Scene}
 use Rattle.dh_expressions.specs.declared.terms.Valued.{Valued}
 use Rattle.dh_expressions.specs.Evaluated.{known_in}
-use Rattle.dh_expressions.specs.MadeTerms.{MadeForm, MadeIndices, MadeNext, MadeRead, MadeRow, MadeTerm, MadeTerms}
+use Rattle.dh_expressions.specs.MadeTerms.{MadeForm, MadeIndices, MadeNext, MadePassing, MadeRead, MadeRow, MadeTerm, MadeTerms, MadeThrough, MadeWay}
+use Rattle.dh_expressions.specs.Named.{first_view}
 
 module _ (scene : Scene) (lane : Lane) (current : List (Option ℕ)) where
   -- a form as the code has it
@@ -23,20 +24,47 @@ module _ (scene : Scene) (lane : Lane) (current : List (Option ℕ)) where
       → MadeForm scene lane current e.place e.kind f d0 d1 a b n next v → MadeTerm scene lane current (term_seen e) d0 d1 a b n next v
   made_form d0 d1 a b n e f next v is h = subst (λ (g : plain.TermForm). MadeForm scene lane current e.place e.kind g d0 d1 a b n next v) (sym is) h
 
-  pub made_access : (d0 d1 d2 : Draft) (a0 a1 a2 : Accesses) (n : ℕ) (e : Expr) (r : Ref) (ts : plain.Terms) (aim : Aim) (valued : Valued)
-      → form_seen e.form ≡ plain.accessed r ts → MadeIndices scene lane current ts d0 d1 a0 a1 n aim
-      → MadeNext scene lane (term_seen e) r aim d1 d2 a1 a2 valued
-      → MadeTerm scene lane current (term_seen e) d0 d2 a0 a2 n valued.next valued.value
-  made_access d0 d1 d2 a0 a1 a2 n e r ts aim valued is parts h =
-      made_form d0 d2 a0 a2 n e (plain.accessed r ts) valued.next valued.value is (record {
-        middle = d1;
+  -- indices with the steps behind them
+  pub record MadeThroughAt (d0 d1 d2 : Draft) (a0 a1 : Accesses) (n : ℕ) (r : Ref) (ts : plain.Terms) (aim : Aim) : Type 0 where
+    pub row : aim.row ≡ None
+    pub indices : MadeTerms scene lane current ts d0 d1 a0 a1 n aim.number aim.indices
+    pub steps : MadeWay scene lane current d1 d2 (first_view scene r) (way_of (known_in scene) r) aim.steps
+
+  pub made_through : (d0 d1 d2 : Draft) (a0 a1 : Accesses) (n : ℕ) (r : Ref) (ts : plain.Terms) (listed aim : Aim)
+      → MadeIndices scene lane current ts d0 d1 a0 a1 n listed → MadePassing scene lane current d1 d2 r listed aim → MadeThroughAt d0 d1 d2 a0 a1 n r ts aim
+  made_through d0 d1 d2 a0 a1 n r ts listed aim parts passes = record {
+    row = passes.row_is ∙ parts.row;
+    indices = subst (λ (vs : List ℕ). MadeTerms scene lane current ts d0 d1 a0 a1 n aim.number vs) (sym passes.indices_are)
+        (subst (λ (m : ℕ). MadeTerms scene lane current ts d0 d1 a0 a1 n m listed.indices) (sym passes.number_is) parts.indices);
+    steps = passes.steps parts.steps;
+  }
+
+  pub aimed_through : (d0 d1 d2 : Draft) (a0 a1 : Accesses) (n : ℕ) (r : Ref) (ts : plain.Terms) (listed aim : Aim)
+      → MadeIndices scene lane current ts d0 d1 a0 a1 n listed → MadePassing scene lane current d1 d2 r listed aim → MadeThrough scene lane current r ts d0 d2 a0 a1 n aim
+  aimed_through d0 d1 d2 a0 a1 n r ts listed aim parts passes = record { middle = d1; row = through.row; indices = through.indices; steps = through.steps }
+    where
+      through : MadeThroughAt d0 d1 d2 a0 a1 n r ts aim
+      through = made_through d0 d1 d2 a0 a1 n r ts listed aim parts passes
+
+  pub made_access : (d0 d1 d2 d3 : Draft) (a0 a1 a2 : Accesses) (n : ℕ) (e : Expr) (r : Ref) (ts : plain.Terms) (listed aim : Aim) (valued : Valued)
+      → form_seen e.form ≡ plain.accessed r ts → MadeIndices scene lane current ts d0 d1 a0 a1 n listed → MadePassing scene lane current d1 d2 r listed aim
+      → MadeNext scene lane (term_seen e) r aim d2 d3 a1 a2 valued
+      → MadeTerm scene lane current (term_seen e) d0 d3 a0 a2 n valued.next valued.value
+  made_access d0 d1 d2 d3 a0 a1 a2 n e r ts listed aim valued is parts passes h =
+      made_form d0 d3 a0 a2 n e (plain.accessed r ts) valued.next valued.value is (record {
+        named = d1;
+        middle = d2;
         between = a1;
         aim = aim;
-        row = parts.row;
-        indices = parts.indices;
-        reads = subst (λ (g : plain.TermForm). MadeRead scene lane (plain.term e.place e.kind g) (memory_of (known_in scene) r) aim d1 d2 a1 a2 valued.value) is h.reads;
+        row = through.row;
+        indices = through.indices;
+        steps = through.steps;
+        reads = subst (λ (g : plain.TermForm). MadeRead scene lane (plain.term e.place e.kind g) (memory_of (known_in scene) r) aim d2 d3 a1 a2 valued.value) is h.reads;
         next_is = h.next_is;
       })
+    where
+      through : MadeThroughAt d0 d1 d2 a0 a1 n r ts aim
+      through = made_through d0 d1 d2 a0 a1 n r ts listed aim parts passes
 
   pub made_bank : (d0 d1 d2 : Draft) (a0 a1 a2 : Accesses) (n : ℕ) (e : Expr) (r : Ref) (bank : ℕ) (at : _) (t : plain.Term) (aim : Aim) (valued : Valued)
       → form_seen e.form ≡ plain.in_bank r bank at t → MadeRow scene lane current t d0 d1 a0 a1 n aim
@@ -49,6 +77,7 @@ module _ (scene : Scene) (lane : Lane) (current : List (Option ℕ)) where
         aim = aim;
         value = parts.value;
         none = parts.none;
+        steps = parts.steps;
         row_is = parts.row_is;
         row = parts.row;
         reads = subst (λ (g : plain.TermForm). MadeRead scene lane (plain.term e.place e.kind g) (memory_of (known_in scene) r) aim d1 d2 a1 a2 valued.value) is h.reads;

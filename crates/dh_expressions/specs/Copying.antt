@@ -1,6 +1,6 @@
--- The copies of an access. `leader` is for each path the first one with its key, `bank` the bank that is reached
--- there, and `guards` are those of the paths.
-use Rattle.std.specs.Prelude.{◌≡◌, ◌⊎◌, ℕ, zero, suc, ◌+◌, ◌-◌, ◌<◌, ◌^◌, ◌==◌, ◌&&◌, ◌||◌, min, Bool, if◌then◌else◌, List, [], ◌∷◌, ◌++◌, length, slice_get, slice_index, slice_set, Option, Some, None}
+-- The copies of an access. `leader` is for each path the first one with its key, `bank` the bank of what is named that
+-- is reached there, `place` the place of the copy among those on its banks, and `guards` are those of the paths.
+use Rattle.std.specs.Prelude.{◌≡◌, ◌⊎◌, ℕ, zero, suc, ◌<◌, ◌||◌, Bool, List, [], ◌∷◌, ◌++◌, length, slice_get, slice_index, slice_set, Option, Some, None}
 use Rattle.dh_value.specs.declared.operators.Op.TheVariants.{Either}
 use Rattle.dh_tree.specs.PlainTrees.{TermForm}
 use Rattle.dh_tree.specs.Seen.{program_seen}
@@ -8,15 +8,15 @@ use Rattle.dh_meaning.specs.Ways.{all_bindings_of}
 use Rattle.dh_meets.specs.Charges.{element_depends, entity_depends}
 use Rattle.dh_events.specs.Accesses.{element_in, entity_in}
 use Rattle.dh_events.specs.Scopes.{AreScopes, IsLow}
-use Rattle.dh_events.specs.Tables.{numbered, with_number}
 use Rattle.dh_plan.specs.declared.operations.OperationForm.TheVariants.{Compute}
 use Rattle.dh_expressions.specs.declared.banks.Span.{Span}
 use Rattle.dh_expressions.specs.declared.copies.AccessAt.{AccessAt}
 use Rattle.dh_expressions.specs.declared.drafts.Draft.{Draft}
 use Rattle.dh_expressions.specs.declared.paths.Level.{Level}
 use Rattle.dh_expressions.specs.declared.scenes.Scene.{Scene}
+use Rattle.dh_expressions.specs.Counting.{places_by}
 use Rattle.dh_expressions.specs.Drafted.{Begun, Extends, Fits, Pushes, Step, holds, tale}
-use Rattle.dh_expressions.specs.Levels.{counted, leader_number}
+use Rattle.dh_expressions.specs.Levels.{counted, leader_number, rank_number}
 use Rattle.dh_expressions.specs.Numbers.{narrowed}
 use Rattle.dh_expressions.specs.ReachedBanks.{spans_number}
 use Rattle.dh_expressions.specs.Shown.{guard_of}
@@ -43,12 +43,11 @@ leaders_by levels counts path = leader_number levels (counted counts) path
 abbrev pub banks_by : List Span → List Level → (own : ℕ) → (path : ℕ) → ℕ
 banks_by spans levels own path = narrowed (spans_number spans levels own path)
 
--- Copies.
+-- paths whose first copies are the same, so many, are one group
+abbrev pub groups_by : List Level → (shifts : ℕ) → (path : ℕ) → ℕ
+groups_by levels shifts path = rank_number levels shifts path
 
--- how many of the first paths lead and reach a bank
-abbrev pub leaders_at : (leader bank : ℕ → ℕ) → (own n : ℕ) → ℕ
-leaders_at leader bank own zero = 0
-leaders_at leader bank own (suc n) = if (leader n == n) && (bank n == own) then suc (leaders_at leader bank own n) else leaders_at leader bank own n
+-- Copies.
 
 -- at one of the first paths that a path leads, so many, the guard holds
 pub record DoneBy (x : Step) (leader : ℕ → ℕ) (guards : List (Option ℕ)) (n first : ℕ) : Type 0 where
@@ -59,18 +58,18 @@ pub record DoneBy (x : Step) (leader : ℕ → ℕ) (guards : List (Option ℕ))
 
 -- The copy at path k, when the first n paths are copied. A leader is done where one of the paths is that it leads;
 -- the others have no guard.
-pub record IsCopy (x : Step) (leader bank : ℕ → ℕ) (guards : List (Option ℕ)) (n k : ℕ) (c : AccessAt) : Type 0 where
+pub record IsCopy (x : Step) (leader bank place : ℕ → ℕ) (guards : List (Option ℕ)) (n k : ℕ) (c : AccessAt) : Type 0 where
   pub leader_is : c.leader ≡ leader k
   pub bank_is : c.bank ≡ bank k
-  pub place_is : c.place ≡ narrowed (leaders_at leader bank (bank k) k)
+  pub place_is : c.place ≡ place k
   pub alone : (leader k ≡ k → ⊥) → c.guard ≡ None
   pub on : DoneBy x leader guards n (leader k) → holds x c.guard
   pub by : leader k ≡ k → holds x c.guard → DoneBy x leader guards n k
 
 -- the copies at the first n paths
-pub record AreCopies (x : Step) (leader bank : ℕ → ℕ) (guards : List (Option ℕ)) (n : ℕ) (copies : List AccessAt) : Type 0 where
+pub record AreCopies (x : Step) (leader bank place : ℕ → ℕ) (guards : List (Option ℕ)) (n : ℕ) (copies : List AccessAt) : Type 0 where
   pub long : length copies ≡ n
-  pub each : (k : ℕ) (c : AccessAt) → slice_get copies k ≡ Some c → IsCopy x leader bank guards n k c
+  pub each : (k : ℕ) (c : AccessAt) → slice_get copies k ≡ Some c → IsCopy x leader bank place guards n k c
 
 -- no bank is counted
 abbrev pub AreNone : List ℕ → Type 0
@@ -109,57 +108,45 @@ pub record JoinsLeader (old new : Draft) (copies changed : List AccessAt) (leade
   pub changed_is : changed ≡ with_guard copies leader joined
   pub joins : (c : AccessAt) → slice_get copies leader ≡ Some c → JoinsGuards old new c.guard guard joined
 
--- a leader is added, and counted on its bank
-pub record AddsLeader (old new : Draft) (copies more : List AccessAt) (numbers after : List ℕ) (number leader bank : ℕ) (guard : Option ℕ) : Type 0 where
+-- a leader is added
+pub record AddsLeader (old new : Draft) (copies more : List AccessAt) (number leader bank place : ℕ) (guard : Option ℕ) : Type 0 where
   pub own : leader ≡ number
   pub same : new ≡ old
-  pub copies_are : more ≡ copies ++ record { leader = leader; bank = bank; place = narrowed (slice_index numbers bank); guard = guard } ∷ []
-  pub counts : numbered after ≡ with_number (numbered numbers) bank (min (slice_index numbers bank + 1) (2 ^ 64 - 1))
+  pub copies_are : more ≡ copies ++ record { leader = leader; bank = bank; place = place; guard = guard } ∷ []
 
 -- another is added, and joins its leader
-pub record AddsOther (old new : Draft) (copies more : List AccessAt) (numbers after : List ℕ) (number leader bank : ℕ) (guard : Option ℕ) : Type 0 where
+pub record AddsOther (old new : Draft) (copies more : List AccessAt) (number leader bank place : ℕ) (guard : Option ℕ) : Type 0 where
   pub other : leader ≡ number → ⊥
   pub changed : List AccessAt
   pub joins : JoinsLeader old new copies changed leader guard
-  pub copies_are : more ≡ changed ++ record { leader = leader; bank = bank; place = narrowed (slice_index numbers bank); guard = None } ∷ []
-  pub counts : after ≡ numbers
+  pub copies_are : more ≡ changed ++ record { leader = leader; bank = bank; place = place; guard = None } ∷ []
 
-abbrev pub AddsCopy : (old new : Draft) → (copies more : List AccessAt) → (numbers after : List ℕ) → (number leader bank : ℕ) → (guard : Option ℕ) → Type 0
-AddsCopy old new copies more numbers after number leader bank guard =
-    AddsLeader old new copies more numbers after number leader bank guard ⊎ AddsOther old new copies more numbers after number leader bank guard
+abbrev pub AddsCopy : (old new : Draft) → (copies more : List AccessAt) → (number leader bank place : ℕ) → (guard : Option ℕ) → Type 0
+AddsCopy old new copies more number leader bank place guard =
+    AddsLeader old new copies more number leader bank place guard ⊎ AddsOther old new copies more number leader bank place guard
 
 -- the copies at the first n paths are made, one after the other
-abbrev pub AddsCopies : (leader bank : ℕ → ℕ) → (guards : List (Option ℕ)) → (n : ℕ) → (old new : Draft) → (numbers after : List ℕ) → (copies : List AccessAt) → Type 0
-AddsCopies leader bank guards zero old new numbers after copies = (new ≡ old) × ((after ≡ numbers) × (copies ≡ []))
-AddsCopies leader bank guards (suc n) old new numbers after copies =
-    (d : Draft) × ((ns : List ℕ) × ((cs : List AccessAt) × (AddsCopies leader bank guards n old d numbers ns cs × AddsCopy d new cs copies ns after n (leader n) (bank n) (guard_of guards n))))
+abbrev pub AddsCopies : (leader bank place : ℕ → ℕ) → (guards : List (Option ℕ)) → (n : ℕ) → (old new : Draft) → (copies : List AccessAt) → Type 0
+AddsCopies leader bank place guards zero old new copies = (new ≡ old) × (copies ≡ [])
+AddsCopies leader bank place guards (suc n) old new copies =
+    (d : Draft) × ((cs : List AccessAt) × (AddsCopies leader bank place guards n old d cs × AddsCopy d new cs copies n (leader n) (bank n) (place n) (guard_of guards n)))
 
--- the same at all paths, whatever is counted then
-abbrev pub AddsAllCopies : (leader bank : ℕ → ℕ) → (guards : List (Option ℕ)) → (old new : Draft) → (numbers : List ℕ) → (copies : List AccessAt) → Type 0
-AddsAllCopies leader bank guards old new numbers copies = (after : List ℕ) × AddsCopies leader bank guards (length guards) old new numbers after copies
+-- the same at all paths
+abbrev pub AddsAllCopies : (leader bank place : ℕ → ℕ) → (guards : List (Option ℕ)) → (old new : Draft) → (copies : List AccessAt) → Type 0
+AddsAllCopies leader bank place guards old new copies = AddsCopies leader bank place guards (length guards) old new copies
 
 -- the copies at all paths are made
-pub record MakesCopiesBy (old new : Draft) (numbers after : List ℕ) (guards : List (Option ℕ)) (leader bank : ℕ → ℕ) (copies : List AccessAt) : Type 0 where
-  pub adds : AddsAllCopies leader bank guards old new numbers copies
+pub record MakesCopiesBy (old new : Draft) (after : List ℕ) (guards : List (Option ℕ)) (leader bank group : ℕ → ℕ) (copies : List AccessAt) : Type 0 where
+  pub adds : AddsAllCopies leader bank (places_by leader bank group) guards old new copies
   pub extends : Extends old new
   pub quiet : (x : Step) → Fits x new → Begun x old → tale x new ≡ tale x old
-  pub none : AreNone numbers → AreNone after
-  pub are : AreNone numbers → (x : Step) → Fits x new → Begun x old → AreCopies x leader bank guards (length guards) copies
+  pub none : AreNone after
+  pub are : (x : Step) → Fits x new → Begun x old → AreCopies x leader bank (places_by leader bank group) guards (length guards) copies
 
--- the numbers when the banks of copies are forgotten
-abbrev pub forgotten : List AccessAt → (ℕ → ℕ) → ℕ → ℕ
-forgotten [] f = f
-forgotten (c ∷ cs) f = forgotten cs (with_number f c.bank 0)
-
-abbrev pub Forgets : (numbers after : List ℕ) → List AccessAt → Type 0
-Forgets numbers after copies = numbered after ≡ forgotten copies (numbered numbers)
-
--- the copies at the first n paths, with the leaders counted on their banks
-pub record CopiesSoFar (old new : Draft) (numbers after : List ℕ) (guards : List (Option ℕ)) (leader bank : ℕ → ℕ) (n : ℕ) (copies : List AccessAt) : Type 0 where
-  pub adds : AddsCopies leader bank guards n old new numbers after copies
+-- the copies at the first n paths
+pub record CopiesSoFar (old new : Draft) (guards : List (Option ℕ)) (leader bank place : ℕ → ℕ) (n : ℕ) (copies : List AccessAt) : Type 0 where
+  pub adds : AddsCopies leader bank place guards n old new copies
   pub extends : Extends old new
   pub quiet : (x : Step) → Fits x new → Begun x old → tale x new ≡ tale x old
   pub long : length copies ≡ n
-  pub counts : AreNone numbers → (b : ℕ) → slice_index after b ≡ leaders_at leader bank b n
-  pub reached : (k : ℕ) (c : AccessAt) → slice_get copies k ≡ Some c → c.bank ≡ bank k
-  pub are : AreNone numbers → (x : Step) → Fits x new → Begun x old → AreCopies x leader bank guards n copies
+  pub are : (x : Step) → Fits x new → Begun x old → AreCopies x leader bank place guards n copies

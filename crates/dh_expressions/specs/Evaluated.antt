@@ -2,7 +2,8 @@
 -- What reads give is a parameter of all facts (`Reads`): which of them are done at which path, and what they then
 -- give. So a builder needs to know of sharing and of keys only that reads that are one give one value; that the
 -- program's run is so is shown apart, where a block is whole.
-use Rattle.std.specs.Prelude.{◌≡◌, ℕ, ◌+◌, ◌*◌, ◌<◌, ◌^◌, nat_le, Bool as Truth, true, false, if◌then◌else◌, List, [], ◌++◌, length, take, map, slice_get, slice_index, Option, Some, None, ℤ, pos}
+use Rattle.std.specs.Prelude.{◌≡◌, ℕ, ◌+◌, ◌-◌, ◌*◌, ◌<◌, ◌^◌, min, nat_le, Bool as Truth, true, false, if◌then◌else◌, List, [], ◌∷◌, ◌++◌, length, take, drop, map, slice_get, slice_index, Option, Some, None, ℤ, pos}
+use Rattle.std.specs.List.{AllByRecursion}
 use Rattle.dh_base.specs.declared.places.Place.{Place}
 use Rattle.dh_value.specs.declared.kinds.Kind.{Kind}
 use Rattle.dh_value.specs.declared.kinds.Kind.TheVariants.{Unsigned}
@@ -11,18 +12,19 @@ use Rattle.dh_value.specs.Words as words
 use Rattle.dh_value.specs.Words.{IsInteger, IsKind, word_of}
 use Rattle.dh_tree.specs.declared.trees.counters.Counter.{Counter}
 use Rattle.dh_tree.specs.declared.trees.expressions.Ref.{Ref}
+use Rattle.dh_tree.specs.declared.viewing.ViewMap.{ViewMap}
 use Rattle.dh_tree.specs.Counters.{counter_in, counters_of}
-use Rattle.dh_tree.specs.Memories.{memories_of}
 use Rattle.dh_tree.specs.PlainTrees as plain
 use Rattle.dh_tree.specs.Seen.{program_seen}
 use Rattle.dh_meaning.specs.AccessNumbers.{term_accesses, terms_accesses}
 use Rattle.dh_meaning.specs.Bindings.{kind_or_first}
-use Rattle.dh_meaning.specs.CoreOf.{Known, core_form, core_term, core_terms, depth_of, entity_number, memory_of}
+use Rattle.dh_meaning.specs.CoreOf.{core_form, core_term, core_terms, depth_of, entity_number, memory_of, way_of}
 use Rattle.dh_meaning.specs.Effects as meaning
 use Rattle.dh_meaning.specs.Effects.{Event, Variables, term_events, terms_events, value_of, values_of}
 use Rattle.dh_meaning.specs.Paths.{Path}
 use Rattle.dh_meaning.specs.Phases.{turn_count}
-use Rattle.dh_meaning.specs.Ways.{all_bindings_of}
+use Rattle.dh_meaning.specs.Ways.{Hidden, Step as ViewStep, Way}
+use Rattle.dh_plan.specs.declared.operations.ReachStep.{ReachStep}
 use Rattle.dh_plan.specs.Blocks.{kind_at}
 use Rattle.dh_code.specs.Extended.{extension_of}
 use Rattle.dh_code.specs.declared.places.Held.{Held}
@@ -32,11 +34,14 @@ use Rattle.dh_expressions.specs.declared.accesses.Touched.{Touched}
 use Rattle.dh_expressions.specs.declared.drafts.Draft.{Draft}
 use Rattle.dh_expressions.specs.declared.scenes.Lane.{Lane}
 use Rattle.dh_expressions.specs.declared.scenes.Scene.{Scene}
+use Rattle.dh_expressions.specs.declared.scenes.Through.{Through}
 use Rattle.dh_expressions.specs.declared.elements.Aim.{Aim}
 use Rattle.dh_expressions.specs.declared.terms.Valued.{Valued}
 use Rattle.dh_expressions.specs.Drafted.{Begun, Extends, Fits, Step, fails_to_hold, holds, shown, tale, told}
 use Rattle.dh_expressions.specs.Copying.{AreNone, DoneBy, HasScopes}
 use Rattle.dh_expressions.specs.Levels.{last_number, path_at}
+pub use Rattle.dh_expressions.specs.Named.{known_in}
+use Rattle.dh_expressions.specs.Named.{first_view, number_of_parent}
 use Rattle.dh_expressions.specs.Noted.{given_in, touched_in}
 use Rattle.dh_expressions.specs.Standings.{IsTouched, Standing, standing_at}
 use Rattle.dh_expressions.specs.Shown.{guard_of, is_kept, kind_written, register_at, variable_shown}
@@ -94,10 +99,6 @@ pub record GivesWhere (old new : Draft) (value : ℕ) (Where : Step → Type 0) 
 
 -- Variables.
 
--- what is known of its names; views are refused, and no name has a way
-abbrev pub known_in : Scene → Known
-known_in scene = record { memories = memories_of (program_seen scene.program.now); bindings = all_bindings_of (program_seen scene.program.now); ways = [] }
-
 abbrev pub copy_in_turn : Counter → Held → Lane → ℕ
 copy_in_turn c held lane = if nat_le c.factor 1 then 0 else last_number lane.around.levels.now held.depth lane.number
 
@@ -129,6 +130,57 @@ TurnsBy x (Some c) held kind = IsTurning x c held kind
 
 abbrev pub EntityTurns : Scene → Step → (entity : ℕ) → Kind → Type 0
 EntityTurns scene x entity kind = TurnsBy x (counter_of scene entity) (held_at scene.held.now entity) kind
+
+-- Offsets that are kept.
+
+-- the register of a variable that keeps an offset, at a path
+abbrev pub hidden_register : Scene → Lane → Hidden → ℕ
+hidden_register scene lane h = register_at (held_at scene.held.now h.entity) lane
+
+-- what it shows
+abbrev pub hidden_shown : Scene → Lane → (current : List (Option ℕ)) → Step → Hidden → Word
+hidden_shown scene lane current x h = variable_shown x current (hidden_register scene lane h)
+
+-- Operations that give several words, and tell nothing whatever the guards.
+pub record GivesAll (old new : Draft) (values : List ℕ) (words : Step → List Word) : Type 0 where
+  pub extends : Extends old new
+  pub are : (x : Step) → Fits x new → Begun x old → map (λ n. shown x n) values ≡ words x
+  pub quiet : (x : Step) → Fits x new → Begun x old → tale x new ≡ tale x old
+
+-- what the variables show that keep offsets
+abbrev pub ShowsHidden : Scene → Lane → (current : List (Option ℕ)) → (old new : Draft) → List Hidden → (values : List ℕ) → Type 0
+ShowsHidden scene lane current old new hs values = GivesAll old new values (λ x. map (λ h. hidden_shown scene lane current x h) hs)
+
+-- the number behind one
+abbrev pub number_behind : ℕ → ℕ
+number_behind number = min (number + 1) (2 ^ 32 - 1)
+
+-- the views on a way by their numbers, with the values of the offsets that each takes of these
+abbrev pub steps_told : List Through → (first : ℕ) → List ViewStep → (values : List ℕ) → List ReachStep
+steps_told through first [] values = []
+steps_told through first (s ∷ ss) values = record { view = first; offsets = take s.offsets values } ∷ steps_told through (number_of_parent through first) ss (drop s.offsets values)
+
+-- the views of a plan have these numbers
+abbrev pub AreViews : List Through → List ViewMap → (first : ℕ) → List ViewStep → Type 0
+AreViews through views first [] = Unit {0}
+AreViews through views first (s ∷ ss) = (slice_get views first ≡ Some s.is) × AreViews through views (number_of_parent through first) ss
+
+-- what stands behind the indices of an access: nothing for a memory, for a view the steps of its way
+pub record ShowsSteps (scene : Scene) (lane : Lane) (current : List (Option ℕ)) (old new : Draft) (first : ℕ) (w : Way) (steps : List ReachStep) : Type 0 where
+  pub values : List ℕ
+  pub shows : ShowsHidden scene lane current old new w.hidden values
+  pub steps_are : steps ≡ steps_told scene.through.now first w.steps values
+
+abbrev pub ShowsWay : Scene → Lane → (current : List (Option ℕ)) → (old new : Draft) → (first : ℕ) → Option Way → (before after : List ReachStep) → Type 0
+ShowsWay scene lane current old new first None before after = (new ≡ old) × (after ≡ before)
+ShowsWay scene lane current old new first (Some w) before after = ShowsSteps scene lane current old new first w after
+
+-- an aim with the steps behind it
+pub record PassesWay (scene : Scene) (lane : Lane) (current : List (Option ℕ)) (old new : Draft) (r : Ref) (before after : Aim) : Type 0 where
+  pub indices_are : after.indices ≡ before.indices
+  pub row_is : after.row ≡ before.row
+  pub number_is : after.number ≡ before.number
+  pub steps : ShowsWay scene lane current old new (first_view scene r) (way_of (known_in scene) r) before.steps after.steps
 
 -- Expressions.
 
@@ -189,6 +241,18 @@ abbrev pub IsKept : Scene → Lane → View → (n : ℕ) → plain.Term → Kin
 IsKept scene lane v n t to = is_kept t to ≡ true → word_of to (words.value_of (term_value scene lane v n t)) ≡ term_value scene lane v n t
 
 module _ (scene : Scene) (lane : Lane) (current : List (Option ℕ)) (v : View) where
+  -- a variable that keeps an offset shows it as the program has it
+  abbrev pub SeesHidden : Hidden → Type 0
+  SeesHidden h = hidden_shown scene lane current v.step h ≡ word_of h.kind (v.variables h.entity (take h.depth (lane_path lane)))
+
+  -- all on a way do, and its views are those of the plan
+  abbrev pub SeesWayBy : (first : ℕ) → Option Way → Type 0
+  SeesWayBy first None = Unit {0}
+  SeesWayBy first (Some w) = AllByRecursion SeesHidden w.hidden × AreViews scene.through.now v.step.start.views first w.steps
+
+  abbrev pub SeesWay : Ref → Type 0
+  SeesWay r = SeesWayBy (first_view scene r) (way_of (known_in scene) r)
+
   abbrev pub read_word : (n : ℕ) → Place → Kind → plain.TermForm → Word
   read_word n place k form = value_of (begun_of v.step) v.variables (lane_path lane) (core_form (known_in scene) n place k form)
 
@@ -210,7 +274,7 @@ module _ (scene : Scene) (lane : Lane) (current : List (Option ℕ)) (v : View) 
     SeesForm n place k (plain.named r) =
         EntityTurns scene v.step (entity_number r.entity) k
         × (entity_shown scene lane current v.step (entity_number r.entity) k ≡ word_of k (v.variables (entity_number r.entity) (take (depth_of (known_in scene) r) (lane_path lane))))
-    SeesForm n place k (plain.accessed r indices) = SeesAll n indices × Done n (n + terms_accesses indices) r place k (plain.accessed r indices)
+    SeesForm n place k (plain.accessed r indices) = (SeesAll n indices × SeesWay r) × Done n (n + terms_accesses indices) r place k (plain.accessed r indices)
     SeesForm n place k (plain.in_bank r bank at row) = Sees n row × Done n (n + term_accesses row) r place k (plain.in_bank r bank at row)
     SeesForm n place k (plain.applied op left right) =
         (Sees n left × Sees (n + term_accesses left) right)
@@ -232,7 +296,7 @@ module _ (scene : Scene) (lane : Lane) (current : List (Option ℕ)) (v : View) 
     FairForm n place k (plain.named r) = Unit {0}
     FairForm n place k (plain.accessed r indices) =
         (FairAll n indices × Sited (n + terms_accesses indices) r place (plain.accessed r indices))
-        × (v.reads.done (n + terms_accesses indices) lane.number ≡ true → SeesAll n indices × Done n (n + terms_accesses indices) r place k (plain.accessed r indices))
+        × (v.reads.done (n + terms_accesses indices) lane.number ≡ true → (SeesAll n indices × SeesWay r) × Done n (n + terms_accesses indices) r place k (plain.accessed r indices))
     FairForm n place k (plain.in_bank r bank at row) =
         (Fair n row × Sited (n + term_accesses row) r place (plain.in_bank r bank at row))
         × (v.reads.done (n + term_accesses row) lane.number ≡ true → Sees n row × Done n (n + term_accesses row) r place k (plain.in_bank r bank at row))
@@ -269,7 +333,15 @@ pub record EvaluatesIndices (scene : Scene) (lane : Lane) (current : List (Optio
 -- indices as which element an access names
 pub record AimsByIndices (scene : Scene) (lane : Lane) (current : List (Option ℕ)) (old new : Draft) (before after : Accesses) (n : ℕ) (ts : plain.Terms) (aim : Aim) : Type 0 where
   pub row : aim.row ≡ None
+  pub steps : aim.steps ≡ []
   pub indices : EvaluatesIndices scene lane current old new before after n ts aim.indices aim.number
+
+-- indices, and behind them the offsets on the way of what a name stands for
+pub record AimsThrough (scene : Scene) (lane : Lane) (current : List (Option ℕ)) (old new : Draft) (before after : Accesses) (n : ℕ) (r : Ref) (ts : plain.Terms) (aim : Aim) : Type 0 where
+  pub middle : Draft
+  pub listed : Aim
+  pub indices : AimsByIndices scene lane current old middle before after n ts listed
+  pub passes : PassesWay scene lane current middle new r listed aim
 
 -- a row as which element an access names
 pub record AimsByRow (scene : Scene) (lane : Lane) (current : List (Option ℕ)) (old new : Draft) (before after : Accesses) (n : ℕ) (t : plain.Term) (aim : Aim) : Type 0 where

@@ -8,10 +8,13 @@ use Rattle.dh_tree.specs.Indices.{IndexKind, constant, iterator, dynamic, index_
 use Rattle.dh_tree.specs.Memories.{same_entity, table_of}
 use Rattle.dh_tree.specs.PlainTrees.{Term, term, TermForm, accessed, in_bank, Terms, no_terms, term_then, Program}
 use Rattle.dh_tree.specs.Seen.{program_seen}
+use Rattle.dh_meaning.specs.CoreOf.{dims_by}
+use Rattle.dh_meaning.specs.Ways.{Way}
 use Rattle.dh_expressions.specs.declared.banks.Span.{Span}
 use Rattle.dh_expressions.specs.declared.paths.Level.{Level}
 use Rattle.dh_expressions.specs.declared.scenes.Scene.{Scene}
 use Rattle.dh_expressions.specs.Levels.{copy_to}
+use Rattle.dh_expressions.specs.Named.{known_in, way_named}
 
 -- the number of the loop that has an iterator; that of all loops where none has
 abbrev pub level_with : List Level → (entity : Option ℕ) → ℕ
@@ -31,10 +34,11 @@ abbrev pub indices_first : List Counter → List Level → (path : ℕ) → Term
 indices_first cs levels path no_terms = []
 indices_first cs levels path (term_then t rest) = term_first cs levels path t ∷ indices_first cs levels path rest
 
-abbrev pub bank_by : Program → List Level → (memory : ℕ) → TermForm → (path : ℕ) → ℕ
-bank_by p levels memory (accessed r indices) path = bank_of (dims_at (table_of p) memory) (indices_first (counters_of p) levels path indices)
-bank_by p levels memory (in_bank r bank place row) path = bank
-bank_by p levels memory form path = 0
+-- the bank of what an access names: of a memory, or of the view that has this way
+abbrev pub bank_by : Program → Option Way → List Level → (memory : ℕ) → TermForm → (path : ℕ) → ℕ
+bank_by p way levels memory (accessed r indices) path = bank_of (dims_by (dims_at (table_of p) memory) way) (indices_first (counters_of p) levels path indices)
+bank_by p way levels memory (in_bank r bank place row) path = bank
+bank_by p way levels memory form path = 0
 
 -- The same by spans.
 
@@ -55,7 +59,8 @@ spans_number spans levels own path = own + spans_bank spans levels path
 -- these spans, with a number that an access names itself, tell the bank that it reaches at each path
 abbrev pub TellsBank : Scene → List Level → (memory : ℕ) → TermForm → List Span → (own : ℕ) → Type 0
 TellsBank scene levels memory form spans own =
-    (path : ℕ) → min (spans_number spans levels own path) (2 ^ 64 - 1) ≡ min (bank_by (program_seen scene.program.now) levels memory form path) (2 ^ 64 - 1)
+    (path : ℕ) → min (spans_number spans levels own path) (2 ^ 64 - 1)
+    ≡ min (bank_by (program_seen scene.program.now) (way_named (known_in scene) form) levels memory form path) (2 ^ 64 - 1)
 
 -- a dimension of so many banks, with so many behind it, whose index is of this kind
 pub record IsSpan (levels : List Level) (kind : IndexKind) (banks times : ℕ) (s : Span) : Type 0 where

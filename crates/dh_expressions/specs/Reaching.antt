@@ -1,5 +1,5 @@
 -- Reads and writes of elements at one path. What a read gives is what the program reads, and a probe tells its fault.
-use Rattle.std.specs.Prelude.{◌≡◌, ℕ, ◌+◌, ◌-◌, ◌<◌, ◌^◌, min, true, false, List, [], ◌∷◌, ◌++◌, Option, Some, None, ℤ}
+use Rattle.std.specs.Prelude.{◌≡◌, ℕ, ◌+◌, ◌-◌, ◌<◌, ◌^◌, min, true, false, List, [], ◌∷◌, ◌++◌, take, drop, Option, Some, None, ℤ}
 use Rattle.dh_base.specs.declared.places.Place.{Place}
 use Rattle.dh_value.specs.Words as words
 use Rattle.dh_tree.specs.declared.trees.expressions.Ref.{Ref}
@@ -10,6 +10,10 @@ use Rattle.dh_meaning.specs.Core.{Reach, Target, by_indices, by_row, by_views, r
 use Rattle.dh_meaning.specs.Effects.{Event, read_made, spot_reached, value_of, values_of, write_made}
 use Rattle.dh_plan.specs.declared.operations.OperationForm.TheVariants.{Read}
 use Rattle.dh_plan.specs.declared.operations.Reach as plans
+use Rattle.dh_plan.specs.declared.operations.ReachStep.{ReachStep}
+use Rattle.dh_plan.specs.Blocks.{passages}
+use Rattle.dh_plan.specs.Passages.{Passage}
+use Rattle.dh_plan.specs.WaysPassed.{AreOfSteps}
 use Rattle.dh_expressions.specs.declared.accesses.Accesses.{Accesses}
 use Rattle.dh_expressions.specs.declared.copies.AccessAt.{AccessAt}
 use Rattle.dh_expressions.specs.declared.drafts.Draft.{Draft}
@@ -17,30 +21,35 @@ use Rattle.dh_expressions.specs.declared.elements.Aim.{Aim}
 use Rattle.dh_expressions.specs.declared.scenes.Lane.{Lane}
 use Rattle.dh_expressions.specs.declared.scenes.Scene.{Scene}
 use Rattle.dh_expressions.specs.declared.terms.Valued.{Valued}
-use Rattle.dh_expressions.specs.Drafted.{Begun, Extends, Fits, Pushes, fails_to_hold, holds, shown, tale, told}
+use Rattle.dh_expressions.specs.Drafted.{Begun, Extends, Fits, Pushes, Step, fails_to_hold, holds, shown, tale, told}
 use Rattle.dh_expressions.specs.Evaluated.{Evaluates, IsDone, IsSited, Knows, NamesSmallBank, View, begun_of, known_in, lane_guard, lane_path, numbers_shown}
+use Rattle.dh_expressions.specs.Named.{banks_told}
 use Rattle.dh_expressions.specs.Numbers.{narrowed}
 
--- the access of a plan that these values name
-abbrev pub one_bank : Option (ℕ × ℕ) → List (ℕ × ℕ)
-one_bank None = []
-one_bank (Some b) = b ∷ []
-
-abbrev pub reach_told : (memory : ℕ) → Aim → (bank : Option (ℕ × ℕ)) → plans.Reach
-reach_told memory aim bank = record {
+-- the access of a plan that these values name, which can reach these banks
+abbrev pub reach_told : (memory : ℕ) → Aim → (banks : List (ℕ × ℕ)) → plans.Reach
+reach_told memory aim banks = record {
   access = aim.number;
   memory = narrowed memory;
   indices = aim.indices;
-  steps = [];
-  banks = one_bank bank;
+  steps = aim.steps;
+  banks = banks;
   select = None;
   row = aim.row;
 }
 
+-- the banks of an access at a path, by its copy there
+abbrev pub copy_banks : Scene → plain.TermForm → AccessAt → List (ℕ × ℕ)
+copy_banks scene form copy = banks_told scene form copy.bank copy.place
+
 -- a read is the one that was found, or is added
-abbrev pub Finds : (old new : Draft) → (memory : ℕ) → Aim → AccessAt → (found : Option ℕ) → (value : ℕ) → Type 0
-Finds old new memory aim copy (Some n) value = (new ≡ old) × (value ≡ n)
-Finds old new memory aim copy None value = Pushes old new value copy.guard (Read (reach_told memory aim (Some (copy.bank, copy.place))))
+abbrev pub Finds : Scene → plain.TermForm → (old new : Draft) → (memory : ℕ) → Aim → AccessAt → (found : Option ℕ) → (value : ℕ) → Type 0
+Finds scene form old new memory aim copy (Some n) value = (new ≡ old) × (value ≡ n)
+Finds scene form old new memory aim copy None value = Pushes old new value copy.guard (Read (reach_told memory aim (copy_banks scene form copy)))
+
+-- the views on the way of an access, with the values of their offsets
+abbrev pub steps_shown : Step → List ReachStep → List Passage
+steps_shown x steps = passages x.first x.words steps
 
 -- the values of an access name the element that it names in the program
 abbrev pub RowIs : View → Option ℕ → ℤ → Type 0
@@ -48,13 +57,17 @@ RowIs v None z = ⊥
 RowIs v (Some row) z = words.value_of (shown v.step row) ≡ z
 
 abbrev pub AimsAt : Lane → View → Aim → Target → Type 0
-AimsAt lane v aim (by_indices ts) = (numbers_shown v.step aim.indices ≡ values_of (begun_of v.step) v.variables (lane_path lane) ts) × (aim.row ≡ None)
-AimsAt lane v aim (by_views steps n ts) = ⊥
+AimsAt lane v aim (by_indices ts) =
+    (numbers_shown v.step aim.indices ≡ values_of (begun_of v.step) v.variables (lane_path lane) ts) × ((aim.steps ≡ []) × (aim.row ≡ None))
+AimsAt lane v aim (by_views steps n ts) =
+    (numbers_shown v.step aim.indices ≡ take n (values_of (begun_of v.step) v.variables (lane_path lane) ts))
+    × (AreOfSteps v.step.start.views steps (steps_shown v.step aim.steps) (drop n (values_of (begun_of v.step) v.variables (lane_path lane) ts)) × (aim.row ≡ None))
 AimsAt lane v aim (by_row bank t) = RowIs v aim.row (words.value_of (value_of (begun_of v.step) v.variables (lane_path lane) t))
 
--- an access names its element by indices, or by a row of this bank
+-- an access names its element by indices, through views or not, or by a row of this bank
 abbrev pub FormHasTarget : plain.TermForm → Target → Type 0
 FormHasTarget (plain.accessed r indices) (by_indices ts) = Unit {0}
+FormHasTarget (plain.accessed r indices) (by_views steps n ts) = Unit {0}
 FormHasTarget (plain.in_bank r bank at row) (by_row other t) = other ≡ bank
 FormHasTarget form target = ⊥
 

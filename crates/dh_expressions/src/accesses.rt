@@ -28,7 +28,7 @@ pub struct Touched {
 pub struct Accesses {
     /// Those of which operations were made.
     pub touched: Vec<Option<Touched>>,
-    // how many copies of an access reach each bank; 0 between accesses
+    // how many copies of an access reach each bank, while they are made; none between accesses
     counts: Vec<usize>,
 }
 

@@ -1,6 +1,7 @@
-//! Which bank an access reaches at a path, told by the first turn of each loop. An access by
-//! indices tells it by each dimension, whose index is a literal or an iterator with a literal
-//! added where there is more than one bank; an access of a row names its bank.
+//! Which bank an access reaches at a path of what it names, a memory or a view, told by the first
+//! turn of each loop. An access by indices tells it by each dimension, whose index is a literal or
+//! an iterator with a literal added where there is more than one bank; an access of a row names
+//! its bank.
 
 ghost use Rattle.std.specs.Prelude.{◌≡◌, ◌%◌, ◌<◌, ◌-◌, ◌^◌, [], Some, min, pos, ◌+ℤ◌, unsigned_abs, map, slice_get, IfOk, OnOk};
 ghost use Rattle.dh_tree.specs.Counters.{counters_of};
@@ -8,16 +9,19 @@ ghost use Rattle.dh_tree.specs.Elements.{dims_at};
 ghost use Rattle.dh_tree.specs.Indices.{index_kind};
 ghost use Rattle.dh_tree.specs.Memories.{same_entity, table_of};
 ghost use Rattle.dh_tree.specs.Seen.{form_seen, program_seen, term_seen};
+ghost use Rattle.dh_meaning.specs.CoreOf.{dims_by, way_of};
 ghost use Rattle.dh_expressions.specs.Levels.{copy_to};
+ghost use Rattle.dh_expressions.specs.Named.{known_in};
 ghost use Rattle.dh_expressions.specs.Numbers.{narrowed};
 ghost use Rattle.dh_expressions.specs.ReachedBanks.{AddsSpan, IsSpan, TellsBank, TellsSpans, level_with, span_bank, spans_number};
 
 use crate::kinds::narrow;
+use crate::naming::way_in;
 use crate::paths::{Level, copy_at};
 use crate::scenes::Scene;
 use dh_base::NoMemory;
 use dh_shape::{IndexKind, classify};
-use dh_tree::{Dim, Expr, ExprForm};
+use dh_tree::{Dim, Expr, ExprForm, Ref};
 use std::alloc::Global;
 
 /// A dimension, as the number of a path tells its bank: by the size of `low + copy + offset`.
@@ -195,7 +199,28 @@ fn spans_in(
     }
 }
 
-/// The dimensions by which an access tells its bank, and what it names of it itself.
+/// The dimensions of what a name stands for by indices: those of its memory, or of the view.
+fn spans_named(
+    scene: &Scene<'_>,
+    levels: &[Level],
+    of: &Ref,
+    memory: usize,
+    indices: &[Expr],
+) -> Result<Vec<Span>, NoMemory>
+    ensures { IfOk result (λ spans. TellsSpans scene.now levels.now (dims_by (dims_at (table_of
+        (program_seen scene.now.program.now)) memory) (way_of (known_in scene.now) of.now)) (map
+        term_seen indices.now) spans.items) }
+{
+    match way_in(scene, of) {
+        Some(way) => {
+            let named = way.view();
+            spans_of(scene, levels, named.shape.dims.as_slice(), indices)
+        }
+        None => spans_in(scene, levels, memory, indices),
+    }
+}
+
+/// The dimensions by which an access tells the bank of what it names, and what it names of it itself.
 pub fn bank_told(
     scene: &Scene<'_>,
     levels: &[Level],
@@ -206,8 +231,9 @@ pub fn bank_told(
         r.0.items r.1) }
 {
     match &access.form {
-        ExprForm::Access { indices, .. } => {
-            Ok((spans_in(scene, levels, memory, indices.as_slice())?, 0))
+        ExprForm::Access { of, indices } => {
+            let spans = spans_named(scene, levels, of, memory, indices.as_slice())?;
+            Ok((spans, 0))
         }
         ExprForm::Physical { bank, .. } => Ok((no_spans(scene.alloc), *bank)),
         ExprForm::Number { .. } => Ok((no_spans(scene.alloc), 0)),

@@ -1,21 +1,22 @@
-//! The copies of an access: which of them are one read or write, which bank each reaches, and
-//! where it stands among those of its access there. Copies of a read with one key are one: the
+//! The copies of an access: which of them are one read or write, which bank of what is named each
+//! reaches, and where it stands among those of its access on the banks behind that. Copies of a read with one key are one: the
 //! first path with this key leads, and the read is done where it is done at one of its paths. A
 //! write is done at each of its paths.
 
-ghost use Rattle.std.specs.Prelude.{◌≡◌, length, IfOk, OnOk};
+ghost use Rattle.std.specs.Prelude.{◌≡◌, ◌==◌, [], length, IfOk, OnOk};
 ghost use Rattle.dh_tree.specs.Seen.{form_seen};
-ghost use Rattle.dh_expressions.specs.Copying.{AddsCopy, Counts, Forgets, JoinsGuards, JoinsLeader, MakesCopiesBy, banks_by, leaders_by};
+ghost use Rattle.dh_expressions.specs.Copying.{AddsCopy, Counts, JoinsGuards, JoinsLeader, MakesCopiesBy, banks_by, groups_by, leaders_by};
 ghost use Rattle.dh_expressions.specs.Standings.{standing_at};
 ghost use Rattle.dh_expressions.specs.Touching.{MakesCopies};
 
 use crate::banks::{Span, bank_at, bank_told};
 use crate::drafts::{Draft, push_compute};
-use crate::kinds::narrow;
-use crate::paths::leader_of;
+use crate::naming::shifts_through;
+use crate::paths::{leader_of, rank_at};
 use crate::scenes::{Around, Scene, guard_at};
+use crate::tallies::{count_none, no_tally, place_next};
 use dh_base::NoMemory;
-use dh_events::{access_depends, get_at, set_at};
+use dh_events::access_depends;
 use dh_tree::Expr;
 use dh_value::Op;
 use std::alloc::Global;
@@ -25,9 +26,10 @@ use std::alloc::Global;
 pub struct AccessAt {
     /// The first path with its key.
     pub leader: u64,
-    /// The bank that it reaches.
+    /// The bank of what is named that it reaches.
     pub bank: u32,
-    /// How many earlier leaders reach this bank.
+    /// Its place on the banks behind that: those of earlier groups of paths stand before it, and
+    /// the earlier leaders of its own group that reach this bank.
     pub place: u32,
     /// Of a leader on what it depends whether it is done; None for the others.
     pub guard: Option<u64>,
@@ -95,19 +97,16 @@ fn join_leader(
 fn add_copy(
     draft: &mut Draft,
     copies: &mut Vec<AccessAt>,
-    numbers: &mut Vec<usize>,
     number: u64,
     leader: u64,
     bank: u32,
+    place: u32,
     guard: Option<u64>,
 ) -> Result<(), NoMemory>
     ensures { OnOk result (AddsCopy draft.old draft.new copies.old.items copies.new.items
-        numbers.old.items numbers.new.items number leader bank guard) }
+        number leader bank place guard) }
 {
-    let count = get_at(numbers.as_slice(), bank);
-    let place = narrow(count as u64);
     if leader == number {
-        set_at(numbers, bank, count.saturating_add(1))?;
         copies.push(AccessAt {
             leader,
             bank,
@@ -126,14 +125,18 @@ fn add_copy(
     Ok(())
 }
 
-/// Has no copy be counted any more on the banks that these reach.
-fn forget(numbers: &mut Vec<usize>, copies: &[AccessAt]) -> Result<(), NoMemory>
-    ensures { OnOk result (Forgets numbers.old.items numbers.new.items copies.now) }
+/// No copy.
+fn no_copies(alloc: Global) -> Vec<AccessAt>
+    ensures { result.items ≡ [] }
 {
-    for copy in copies {
-        set_at(numbers, copy.bank, 0)?;
-    }
-    Ok(())
+    Vec::new(alloc)
+}
+
+/// Whether a path leads itself.
+fn is_leader(leader: u64, number: u64) -> bool
+    ensures { result ≡ (leader == number) }
+{
+    leader == number
 }
 
 /// How many paths there are, by their guards.
@@ -143,7 +146,8 @@ fn path_count(guards: &[Option<u64>]) -> u64
     guards.len() as u64
 }
 
-/// The copies of an access whose banks are told so, by the loops on which it depends.
+/// The copies of an access whose banks are told so, by the loops on which it depends. Paths whose
+/// first copies are the same, so many, are one group.
 fn copies_by(
     alloc: Global,
     around: Around<'_>,
@@ -152,20 +156,28 @@ fn copies_by(
     counts: &[bool],
     spans: &[Span],
     named: u64,
+    shifts: u32,
 ) -> Result<Vec<AccessAt>, NoMemory>
-    ensures { IfOk result (λ copies. MakesCopiesBy draft.old draft.new numbers.old.items
-        numbers.new.items around.entry.guards.now (leaders_by around.entry.levels.now counts.now)
-        (banks_by spans.now around.entry.levels.now named) copies.items) }
+    ensures { IfOk result (λ copies. MakesCopiesBy draft.old draft.new numbers.new.items
+        around.entry.guards.now (leaders_by around.entry.levels.now counts.now) (banks_by
+        spans.now around.entry.levels.now named) (groups_by around.entry.levels.now shifts)
+        copies.items) }
 {
-    let mut copies = Vec::new(alloc);
+    count_none(numbers);
+    let mut copies = no_copies(alloc);
+    let mut tally = no_tally();
     let count = path_count(around.guards);
     for number in 0..count {
         let leader = leader_of(around.levels, counts, number);
+        let leads = is_leader(leader, number);
         let bank = bank_at(spans, around.levels, named, number);
+        let group = rank_at(around.levels, shifts, number);
+        let (next, place) = place_next(tally, numbers, group, bank, leads)?;
         let guard = guard_at(around.guards, number);
-        add_copy(draft, &mut copies, numbers, number, leader, bank, guard)?;
+        add_copy(draft, &mut copies, number, leader, bank, place, guard)?;
+        tally = next;
     }
-    forget(numbers, copies.as_slice())?;
+    count_none(numbers);
     Ok(copies)
 }
 
@@ -180,11 +192,12 @@ pub fn copies_of(
     writes: bool,
 ) -> Result<Vec<AccessAt>, NoMemory>
     ensures { IfOk result (λ copies. MakesCopies draft.old draft.new scene.now around.entry
-        numbers.old.items numbers.new.items (standing_at scene.now around.entry memory
-        access.now.place (form_seen access.now.form) writes) copies.items) }
+        numbers.new.items (standing_at scene.now around.entry memory access.now.place (form_seen
+        access.now.form) writes) copies.items) }
 {
     let counts = counts_of(scene, around.levels.len(), access, writes)?;
     let (spans, named) = bank_told(scene, around.levels, memory, access)?;
+    let shifts = shifts_through(scene, access);
     copies_by(
         scene.alloc,
         around,
@@ -193,5 +206,6 @@ pub fn copies_of(
         counts.as_slice(),
         spans.as_slice(),
         named,
+        shifts,
     )
 }

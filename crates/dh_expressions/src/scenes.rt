@@ -4,10 +4,23 @@ ghost use Rattle.std.specs.Prelude.{◌≡◌};
 ghost use Rattle.dh_expressions.specs.Shown.{guard_of};
 
 use crate::paths::Level;
+use dh_base::Items;
 use dh_code::Held;
 use dh_events::Scope;
 use dh_tree::Typed;
+use dh_viewing::BankSet;
+use dh_ways::WayTable;
 use std::alloc::Global;
+
+/// What accesses through a view take of it.
+#[derive(Drop)]
+pub struct Through {
+    /// The number of its parent among the views of the plan; no number of interest where that is a
+    /// memory.
+    pub behind: u32,
+    /// By each bank of the view the banks of the memory that may be reached from there.
+    pub banks: Items<BankSet>,
+}
 
 /// What is known of a program.
 #[derive(Clone, Copy)]
@@ -23,6 +36,11 @@ pub struct Scene<'a> {
     pub scopes: &'a [Option<Scope>],
     /// Of each access the earlier read that it shares, if it shares one.
     pub shares: &'a [Option<u32>],
+    /// The ways of its views.
+    pub ways: &'a WayTable,
+    /// By the place of each of its views what accesses take of it. That place is the view's number
+    /// in the plan.
+    pub through: &'a [Through],
 }
 
 /// What stands round a command: the loops with their paths, and at each path the guard of the arms.

@@ -1,25 +1,26 @@
 //! Operations from expressions, at one path at a time: faults of an earlier path come first.
 
 ghost use Rattle.std.specs.Prelude.{◌≡◌, IfOk, map};
-ghost use Rattle.dh_tree.specs.Memories.{number_in};
 ghost use Rattle.dh_tree.specs.Seen.{term_seen, terms};
-ghost use Rattle.dh_meaning.specs.CoreOf.{entity_number, memory_of as memory_found};
-ghost use Rattle.dh_expressions.specs.Evaluated.{AimsByIndices, AimsByRow, EvaluatesTerm, ShowsVariable, known_in};
+ghost use Rattle.dh_meaning.specs.CoreOf.{entity_number};
+ghost use Rattle.dh_expressions.specs.Evaluated.{AimsByIndices, AimsByRow, AimsThrough, EvaluatesTerm, ShowsVariable};
 ghost use Rattle.dh_expressions.specs.Drafted.{Gives, shown};
-ghost use Rattle.dh_expressions.specs.MadeTerms.{MadeIndices, MadeNext, MadeRow, MadeTerm};
-ghost use Rattle.dh_expressions.specs.MadeValues.{MadeConverted, MadeExtended, MadeHeld, MadeLowestBit, MadeOperation, MadeShown, MadeVariable};
+ghost use Rattle.dh_expressions.specs.MadeTerms.{MadeIndices, MadeNext, MadeRow, MadeTerm, MadeThrough};
+ghost use Rattle.dh_expressions.specs.MadeValues.{MadeConverted, MadeExtended, MadeHeld, MadeLowestBit, MadeOperation, MadeVariable};
 ghost use Rattle.dh_expressions.specs.Reaching.{ReadsNext};
-ghost use Rattle.dh_expressions.specs.Shown.{applied_shown, converted_shown, extended_shown, held_shown, is_kept, lowest_bit, register_at, variable_shown};
+ghost use Rattle.dh_expressions.specs.Shown.{applied_shown, converted_shown, extended_shown, held_shown, is_kept, lowest_bit};
 
 use crate::accesses::Accesses;
-use crate::drafts::{Draft, push_compute, push_constant, push_convert, push_old};
-use crate::elements::{Aim, push_read};
+use crate::drafts::{Draft, push_compute, push_constant, push_convert};
+use crate::elements::{Aim, no_steps, push_read};
 use crate::iterators::push_iterator;
 use crate::kinds::{entity_of, extension, is_read, is_same, kind_found, literal, truth};
-use crate::paths::rank_at;
+use crate::naming::memory_of;
+use crate::passages::push_way;
 use crate::scenes::{Lane, Scene};
+use crate::variables::{push_shown, slot_at};
 use dh_base::{Items, NoMemory};
-use dh_code::{Held, place_of};
+use dh_code::place_of;
 use dh_tree::{Expr, ExprForm, Kind, Ref};
 use dh_value::Op;
 
@@ -30,54 +31,6 @@ pub struct Valued {
     pub value: u64,
     /// The number of the next access.
     pub next: u32,
-}
-
-/// The number of the memory that an entity is; that of every access of a typed program is one.
-fn number_of(scene: &Scene<'_>, of: Option<u32>) -> usize
-    ensures { result ≡ entity_number (number_in (known_in scene.now).memories of) }
-{
-    let Some(entity) = of else {
-        return 0;
-    };
-    match scene.program.memory_number(entity) {
-        Some(number) => number,
-        None => 0,
-    }
-}
-
-/// The number of the memory that a name stands for.
-pub fn memory_of(scene: &Scene<'_>, of: &Ref) -> usize
-    ensures { result ≡ memory_found (known_in scene.now) of.now }
-{
-    number_of(scene, of.entity)
-}
-
-/// The register of a variable at a path.
-pub fn slot_at(held: Held, lane: &Lane<'_>) -> u64
-    ensures { result ≡ register_at held lane.now }
-{
-    let rank = rank_at(lane.around.levels, held.depth, lane.number);
-    u64::from(held.first).saturating_add(rank)
-}
-
-/// Adds what the variable of a register holds: the value that it was given in this step, or else
-/// what the register held as the step began.
-pub fn push_shown(
-    draft: &mut Draft,
-    current: &[Option<u64>],
-    register: u64,
-) -> Result<u64, NoMemory>
-    ensures means { IfOk result (λ v. Gives draft.old draft.new v (λ x. variable_shown x
-        current.now register)) }
-    ensures made { IfOk result (λ v. MadeShown current.now register draft.old draft.new v) }
-{
-    match current.get(register as usize) {
-        Some(given) => match *given {
-            Some(value) => Ok(value),
-            None => push_old(draft, register),
-        },
-        None => push_old(draft, register),
-    }
 }
 
 /// Adds what a variable holds at a path, as a value of a kind.
@@ -232,7 +185,8 @@ pub fn push_term(
         }
         ExprForm::Access { of, indices } => {
             let indices = indices.as_slice();
-            let aim = push_indices(scene, lane, current, accesses, draft, first, indices)?;
+            let mut aim = push_indices(scene, lane, current, accesses, draft, first, indices)?;
+            push_way(scene, lane, current, draft, of, &mut aim)?;
             push_element(scene, lane, accesses, draft, value, of, &aim)
         }
         ExprForm::Physical { of, row, .. } => {
@@ -281,8 +235,10 @@ pub fn push_indices(
         values.push(valued.value)?;
         number = valued.next;
     }
+    let steps = no_steps(scene.alloc);
     Ok(Aim {
         indices: values,
+        steps,
         row: None,
         number,
     })
@@ -305,9 +261,33 @@ pub fn push_row(
         draft.old draft.new accesses.old accesses.new first aim) }
 {
     let valued = push_term(scene, lane, current, accesses, draft, first, row)?;
+    let steps = no_steps(scene.alloc);
     Ok(Aim {
         indices: Items::new(scene.alloc),
+        steps,
         row: Some(valued.value),
         number: valued.next,
     })
+}
+
+/// Adds the operations of indices at a path, and behind them what the variables hold that keep the
+/// offsets on the way of what a name stands for.
+pub fn push_aim(
+    scene: &Scene<'_>,
+    lane: &Lane<'_>,
+    current: &[Option<u64>],
+    accesses: &mut Accesses,
+    draft: &mut Draft,
+    first: u32,
+    of: &Ref,
+    indices: &[Expr],
+) -> Result<Aim, NoMemory>
+    ensures means { IfOk result (λ aim. AimsThrough scene.now lane.now current.now draft.old
+        draft.new accesses.old accesses.new first of.now (terms (map term_seen indices.now)) aim) }
+    ensures made { IfOk result (λ aim. MadeThrough scene.now lane.now current.now of.now (terms
+        (map term_seen indices.now)) draft.old draft.new accesses.old accesses.new first aim) }
+{
+    let mut aim = push_indices(scene, lane, current, accesses, draft, first, indices)?;
+    push_way(scene, lane, current, draft, of, &mut aim)?;
+    Ok(aim)
 }

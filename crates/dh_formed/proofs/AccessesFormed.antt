@@ -18,7 +18,7 @@ use Rattle.dh_expressions.specs.Copying.{AreNone, HasScopes}
 use Rattle.dh_expressions.specs.Drafted.{Extends}
 use Rattle.dh_formed.specs.Formed.{Agrees, Block, Forms, HasKind, IsLaid, IsLaidCopy, IsNoted, IsScope, Site, Started}
 use Rattle.dh_expressions.specs.Noted.{Notes, given_in, given_to, noted_in, touched_in}
-use Rattle.dh_expressions.specs.Standings.{Standing}
+use Rattle.dh_expressions.specs.Standings.{Standing, copy_places}
 use Rattle.dh_expressions.specs.Touching.{AddsTouched, IsNew, TouchesAt}
 use Rattle.dh_expressions.proofs.AccessesKept.{named_extends, noted_given, noted_touched, place_noted}
 use Rattle.dh_formed.proofs.CopiesFormed.{AreGuards, FormsCopies, copies_forms, guard_later}
@@ -64,9 +64,9 @@ module _ (x : Block) (scene : Scene) (around : Around) (s : Standing) (old new :
     (low : (p : ℕ) → s.leader p ≤ p) (few : length s.guards < 2 ^ 64) (scopes : HasScopes scene) (flat : length around.levels.now < 2 ^ 63)
     (t : TouchesAt scene around s old new before after number) (agrees : Agrees x new) (started : Started x old) (guards : AreGuards x old s.guards) where
   -- of a new one all is formed, and it is laid
-  module _ (u : Touched) (a : AddsTouched old new scene around s before u) where
-    copies : FormsCopies s.leader s.bank s.guards low (length s.guards) a.middle new before.counts.items (a.copies scopes flat).0 u.copies
-    copies = copies_forms s.leader s.bank s.guards low (length s.guards) a.middle new before.counts.items (a.copies scopes flat).0 u.copies few (a.copies scopes flat).1
+  module _ (u : Touched) (a : AddsTouched old new scene around s u) where
+    copies : FormsCopies s.leader s.bank (copy_places s) s.guards low (length s.guards) a.middle new u.copies
+    copies = copies_forms s.leader s.bank (copy_places s) s.guards low (length s.guards) a.middle new u.copies (a.copies scopes flat)
 
     named : Extends old a.middle
     named = named_extends old a.middle u.fault s.place a.names
@@ -95,14 +95,14 @@ module _ (x : Block) (scene : Scene) (around : Around) (s : Standing) (old new :
         let own = a.names.number_is (omega (arith, more, behind, most, all)) in
         omega (arith, own, more, behind)
 
-    new_laid : AreNone before.counts.items → IsLaid x new s u
-    new_laid none = record {
+    new_laid : IsLaid x new s u
+    new_laid = record {
       fault = fault_there;
       long = copies.long;
       each = λ path c at. record {
         leader_is = copies.leaders path c at;
         bank_is = copies.banks path c at;
-        place_is = copies.places none path c at;
+        place_is = copies.places path c at;
         guard = copies.gives x agrees (started_later x old a.middle named started) guards_there path c at;
       };
     }
@@ -110,7 +110,7 @@ module _ (x : Block) (scene : Scene) (around : Around) (s : Standing) (old new :
   touch_forms : Forms x old new
   touch_forms = by t.adds
     where
-      by : (new ≡ old) ⊎ ((u : Touched) × AddsTouched old new scene around s before u) → Forms x old new
+      by : (new ≡ old) ⊎ ((u : Touched) × AddsTouched old new scene around s u) → Forms x old new
       by (inl same) = forms_none x old new same
       by (inr h) = new_forms h.0 h.1
 
@@ -137,10 +137,10 @@ module _ (x : Block) (scene : Scene) (around : Around) (s : Standing) (old new :
     there = (t.there (h.there number (record { memory = memory; standing = s }) site)).1;
   }
     where
-      laid_new : (m : ℕ) (u : Touched) (o : Site) → x.sites m ≡ Some o → IsNew old new scene around s before number m u → IsLaid x new o.standing u
+      laid_new : (m : ℕ) (u : Touched) (o : Site) → x.sites m ≡ Some o → IsNew old new scene around s number m u → IsLaid x new o.standing u
       laid_new m u o at fresh =
           let own : record { memory = memory; standing = s } ≡ o = some_same (record { memory = memory; standing = s }) o (sym site ∙ (ap x.sites (sym fresh.own) ∙ at)) in
-          subst (λ (w : Site). IsLaid x new w.standing u) own (new_laid u fresh.adds h.none)
+          subst (λ (w : Site). IsLaid x new w.standing u) own (new_laid u fresh.adds)
 
 -- A read has given a value.
 pub noted_notes : (x : Block) (d : Draft) (before after : Accesses) (number path value memory : ℕ) (s : Standing) → Notes before after number path value

@@ -1,20 +1,18 @@
 -- Copies that are formed: an access has its copies one after the other, each where it stands, and the guards that are
 -- joined for leaders are truths of the block.
-use Rattle.std.proofs.Common.{◌≡◌, ℕ, zero, suc, ◌+◌, ◌-◌, ◌^◌, ◌<◌, ◌≤◌, ◌⊎◌, inl, inr, List, Some, None, refl, sym, ap, ◌∙◌, subst, arith, length, add-one}
-use Rattle.std.specs.Prelude.{[], ◌∷◌, ◌++◌, slice_get, slice_index, Option}
+use Rattle.std.proofs.Common.{◌≡◌, ℕ, zero, suc, ◌+◌, ◌<◌, ◌≤◌, ◌⊎◌, inl, inr, List, Some, None, refl, sym, ap, ◌∙◌, subst, arith, length, add-one}
+use Rattle.std.specs.Prelude.{[], ◌∷◌, ◌++◌, slice_get, Option}
 use Rattle.std.proofs.lemmas.List.{length-append}
 use Rattle.dh_value.specs.declared.kinds.Kind.TheVariants as kind
 use Rattle.dh_value.specs.declared.operators.Op.TheVariants as op
 use Rattle.dh_value.specs.Operations.{Suits}
-use Rattle.dh_events.specs.Tables.{numbered}
 use Rattle.dh_expressions.specs.declared.copies.AccessAt.{AccessAt}
 use Rattle.dh_expressions.specs.declared.drafts.Draft.{Draft}
-use Rattle.dh_expressions.specs.Copying.{AddsCopies, AddsCopy, AddsEither, AddsLeader, AddsOther, AreNone, JoinsLeader, leaders_at}
+use Rattle.dh_expressions.specs.Copying.{AddsCopies, AddsCopy, AddsEither, AddsLeader, AddsOther, JoinsLeader}
 use Rattle.dh_expressions.specs.Drafted.{Extends}
 use Rattle.dh_formed.specs.Formed.{Agrees, Block, Forms, FormsValue, HasKind, IsGuard, Started}
-use Rattle.dh_expressions.specs.Numbers.{narrowed}
 use Rattle.dh_expressions.specs.Shown.{guard_of, guard_or_none}
-use Rattle.dh_expressions.proofs.CopiesMade.{counted_more, counted_still, guard_long, guard_place}
+use Rattle.dh_expressions.proofs.CopiesMade.{guard_long, guard_place}
 use Rattle.dh_expressions.proofs.ListPlaces.{place_of_more, there}
 use Rattle.dh_expressions.proofs.Pushing.{extends_again, extends_self}
 use Rattle.dh_formed.proofs.ValuesFormed.{agrees_before, compute_forms, forms_again, forms_none, kind_later, started_later}
@@ -63,25 +61,23 @@ either_forms old new (Some one) (Some other) joined h = record {
     c = compute_forms old new h.0 one other op.Either kind.Bool kind.Bool h.1.1
 
 -- The copies at the first n paths.
-module _ (leader bank : ℕ → ℕ) (guards : List (Option ℕ)) (low : (p : ℕ) → leader p ≤ p) where
-  pub record FormsCopies (n : ℕ) (old new : Draft) (numbers after : List ℕ) (copies : List AccessAt) : Type 0 where
+module _ (leader bank place : ℕ → ℕ) (guards : List (Option ℕ)) (low : (p : ℕ) → leader p ≤ p) where
+  pub record FormsCopies (n : ℕ) (old new : Draft) (copies : List AccessAt) : Type 0 where
     pub extends : Extends old new
     pub long : length copies ≡ n
     pub leaders : (k : ℕ) (c : AccessAt) → slice_get copies k ≡ Some c → c.leader ≡ leader k
     pub banks : (k : ℕ) (c : AccessAt) → slice_get copies k ≡ Some c → c.bank ≡ bank k
-    pub counts : AreNone numbers → (b : ℕ) → slice_index after b ≡ leaders_at leader bank b n
-    pub places : AreNone numbers → (k : ℕ) (c : AccessAt) → slice_get copies k ≡ Some c → c.place ≡ narrowed (leaders_at leader bank (bank k) k)
+    pub places : (k : ℕ) (c : AccessAt) → slice_get copies k ≡ Some c → c.place ≡ place k
     pub forms : (x : Block) → Agrees x new → Started x old → AreGuards x old guards → Forms x old new
     pub gives : (x : Block) → Agrees x new → Started x old → AreGuards x old guards → (k : ℕ) (c : AccessAt) → slice_get copies k ≡ Some c → IsGuard x new c.guard
 
-  copies_none : (old new : Draft) (numbers after : List ℕ) (copies : List AccessAt) → new ≡ old → after ≡ numbers → copies ≡ [] → FormsCopies 0 old new numbers after copies
-  copies_none old new numbers after copies same still none = record {
+  copies_none : (old new : Draft) (copies : List AccessAt) → new ≡ old → copies ≡ [] → FormsCopies 0 old new copies
+  copies_none old new copies same none = record {
     extends = subst (λ (d : Draft). Extends old d) (sym same) (extends_self old);
     long = ap (λ (cs : List AccessAt). length cs) none;
     leaders = λ k c at. absurd (lost k c at);
     banks = λ k c at. absurd (lost k c at);
-    counts = λ empty b. ap (λ ns. slice_index ns b) still ∙ empty b;
-    places = λ empty k c at. absurd (lost k c at);
+    places = λ k c at. absurd (lost k c at);
     forms = λ x a s g. forms_none x old new same;
     gives = λ x a s g k c at. absurd (lost k c at);
   }
@@ -92,12 +88,9 @@ module _ (leader bank : ℕ → ℕ) (guards : List (Option ℕ)) (low : (p : �
       lost : (k : ℕ) (c : AccessAt) → slice_get copies k ≡ Some c → ⊥
       lost k c at = nothing k c (sym (ap (λ cs. slice_get cs k) none) ∙ at)
 
-  module _ (n : ℕ) (few : n < 2 ^ 64 - 1) (old d new : Draft) (numbers ns after : List ℕ) (cs copies : List AccessAt) (h : FormsCopies n old d numbers ns cs) where
+  module _ (n : ℕ) (old d new : Draft) (cs copies : List AccessAt) (h : FormsCopies n old d cs) where
     abbrev placed : Option ℕ → AccessAt
-    placed o = record { leader = leader n; bank = bank n; place = narrowed (slice_index ns (bank n)); guard = o }
-
-    place_told : AreNone numbers → narrowed (slice_index ns (bank n)) ≡ narrowed (leaders_at leader bank (bank n) n)
-    place_told empty = ap narrowed (h.counts empty (bank n))
+    placed o = record { leader = leader n; bank = bank n; place = place n; guard = o }
 
     -- a place of the copies is one before, or the last
     module _ (front : List AccessAt) (long : length front ≡ n) (o : Option ℕ) (are : copies ≡ front ++ placed o ∷ []) where
@@ -119,14 +112,13 @@ module _ (leader bank : ℕ → ℕ) (guards : List (Option ℕ)) (low : (p : �
           by (inl e) = before k c e
           by (inr p) = subst (λ (m : ℕ). P m c) (sym p.0) (subst (λ (a : AccessAt). P n a) (sym p.1) last)
 
-    leads_forms : AddsLeader d new cs copies ns after n (leader n) (bank n) (guard_of guards n) → FormsCopies (suc n) old new numbers after copies
+    leads_forms : AddsLeader d new cs copies n (leader n) (bank n) (place n) (guard_of guards n) → FormsCopies (suc n) old new copies
     leads_forms s = record {
       extends = subst (λ (k : Draft). Extends old k) (sym s.same) h.extends;
       long = long_now cs h.long (guard_of guards n) s.copies_are;
       leaders = each_now cs h.long (guard_of guards n) s.copies_are (λ k c. c.leader ≡ leader k) h.leaders refl;
       banks = each_now cs h.long (guard_of guards n) s.copies_are (λ k c. c.bank ≡ bank k) h.banks refl;
-      counts = λ empty m. ap (λ (f : ℕ → ℕ). f m) s.counts ∙ counted_more leader bank (numbered ns) n (bank n) m s.own refl few (λ b. h.counts empty b);
-      places = λ empty. each_now cs h.long (guard_of guards n) s.copies_are (λ k c. c.place ≡ narrowed (leaders_at leader bank (bank k) k)) (h.places empty) (place_told empty);
+      places = each_now cs h.long (guard_of guards n) s.copies_are (λ k c. c.place ≡ place k) h.places refl;
       forms = λ x a st g. subst (λ (k : Draft). Forms x old k) (sym s.same) (h.forms x (before x a) st g);
       gives = λ x a st g. subst (λ (e : Draft). (k : ℕ) (c : AccessAt) → slice_get copies k ≡ Some c → IsGuard x e c.guard) (sym s.same)
           (each_now cs h.long (guard_of guards n) s.copies_are (λ k c. IsGuard x d c.guard) (h.gives x (before x a) st g) (guard_later x old d _ h.extends (guard_there x old guards n g)));
@@ -135,15 +127,13 @@ module _ (leader bank : ℕ → ℕ) (guards : List (Option ℕ)) (low : (p : �
         before : (x : Block) → Agrees x new → Agrees x d
         before x a = subst (λ (k : Draft). Agrees x k) s.same a
 
-    led_forms : AddsOther d new cs copies ns after n (leader n) (bank n) (guard_of guards n) → FormsCopies (suc n) old new numbers after copies
+    led_forms : AddsOther d new cs copies n (leader n) (bank n) (place n) (guard_of guards n) → FormsCopies (suc n) old new copies
     led_forms s = record {
       extends = extends_again old d new h.extends j.extends;
       long = long_now s.changed changed_long None s.copies_are;
       leaders = each_now s.changed changed_long None s.copies_are (λ k c. c.leader ≡ leader k) (changed_each (λ k c. c.leader ≡ leader k) h.leaders (λ a at. h.leaders (leader n) a at)) refl;
       banks = each_now s.changed changed_long None s.copies_are (λ k c. c.bank ≡ bank k) (changed_each (λ k c. c.bank ≡ bank k) h.banks (λ a at. h.banks (leader n) a at)) refl;
-      counts = λ empty m. ap (λ (l : List ℕ). slice_index l m) s.counts ∙ (h.counts empty m ∙ counted_still leader bank n m s.other);
-      places = λ empty. each_now s.changed changed_long None s.copies_are (λ k c. c.place ≡ narrowed (leaders_at leader bank (bank k) k))
-          (changed_each (λ k c. c.place ≡ narrowed (leaders_at leader bank (bank k) k)) (h.places empty) (λ a at. h.places empty (leader n) a at)) (place_told empty);
+      places = each_now s.changed changed_long None s.copies_are (λ k c. c.place ≡ place k) (changed_each (λ k c. c.place ≡ place k) h.places (λ a at. h.places (leader n) a at)) refl;
       forms = λ x a st g.
           forms_again x old d new j.extends (h.forms x (before x a) st g) (join.forms x a (started_later x old d h.extends st) (leader_guard x a st g) (own_guard x g));
       gives = λ x a st g. each_now s.changed changed_long None s.copies_are (λ k c. IsGuard x new c.guard)
@@ -188,11 +178,10 @@ module _ (leader bank : ℕ → ℕ) (guards : List (Option ℕ)) (low : (p : �
             by (inl p) = all k c p.0
             by (inr p) = subst (λ (m : ℕ). P m c) (sym p.0) (subst (λ (b : AccessAt). P (leader n) b) (sym p.1.1.1) (one p.1.0 p.1.1.0))
 
-    copy_forms : AddsCopy d new cs copies ns after n (leader n) (bank n) (guard_of guards n) → FormsCopies (suc n) old new numbers after copies
+    copy_forms : AddsCopy d new cs copies n (leader n) (bank n) (place n) (guard_of guards n) → FormsCopies (suc n) old new copies
     copy_forms (inl s) = leads_forms s
     copy_forms (inr s) = led_forms s
 
-  pub copies_forms : (n : ℕ) (old new : Draft) (numbers after : List ℕ) (copies : List AccessAt) → n < 2 ^ 64 → AddsCopies leader bank guards n old new numbers after copies → FormsCopies n old new numbers after copies
-  copies_forms zero old new numbers after copies few m = copies_none old new numbers after copies m.0 m.1.0 m.1.1
-  copies_forms (suc n) old new numbers after copies few (d, (ns, (cs, (before, step)))) =
-      copy_forms n (omega (arith, few)) old d new numbers ns after cs copies (copies_forms n old d numbers ns cs (omega (arith, few)) before) step
+  pub copies_forms : (n : ℕ) (old new : Draft) (copies : List AccessAt) → AddsCopies leader bank place guards n old new copies → FormsCopies n old new copies
+  copies_forms zero old new copies m = copies_none old new copies m.0 m.1
+  copies_forms (suc n) old new copies (d, (cs, (before, step))) = copy_forms n old d new cs copies (copies_forms n old d cs before) step

@@ -1,5 +1,5 @@
 -- Levels behind an expression, by recursion on it.
-use Rattle.std.proofs.Common.{◌≡◌, ℕ, suc, ◌+◌, ◌<◌, ◌≤◌, true, false, Some, None, refl, sym, ap, ◌∙◌, subst, arith}
+use Rattle.std.proofs.Common.{◌≡◌, ℕ, suc, ◌+◌, ◌<◌, ◌≤◌, true, false, List, [], ◌∷◌, Some, None, refl, sym, ap, ◌∙◌, subst, arith}
 use Rattle.std.specs.Prelude.{Bool as Truth, ◌==◌, if◌then◌else◌, max, Option}
 use Rattle.std.proofs.lemmas.Bool.Decides.{nat_tests}
 use Rattle.dh_base.specs.declared.places.Place.{Place}
@@ -7,17 +7,18 @@ use Rattle.dh_value.specs.declared.kinds.Kind.{Kind}
 use Rattle.dh_value.specs.declared.kinds.Kind.TheVariants as kind
 use Rattle.dh_value.specs.declared.operators.Op.{Op}
 use Rattle.dh_value.specs.declared.operators.Op.TheVariants as op
+use Rattle.dh_tree.specs.declared.trees.expressions.Ref.{Ref}
 use Rattle.dh_tree.specs.WiderKinds.{wider}
 use Rattle.dh_tree.specs.PlainTrees as plain
 use Rattle.dh_meaning.specs.AccessNumbers.{term_accesses, terms_accesses}
 use Rattle.dh_meaning.specs.Bindings.{kind_found}
-use Rattle.dh_meaning.specs.Core.{CoreTerm, Reach}
-use Rattle.dh_meaning.specs.CoreOf.{core_term, extended, operation_of, reach_of}
-use Rattle.dh_meaning.specs.Levels.{Leveled, Levels, greatest, read_at, read_leveled, term_leveled, with_value}
+use Rattle.dh_meaning.specs.Core.{CoreTerm, CoreTerms, Reach, no_terms, term_and}
+use Rattle.dh_meaning.specs.CoreOf.{core_term, core_terms, extended, kept_terms, operation_of, reach_of, target_to, terms_both, way_of}
+use Rattle.dh_meaning.specs.Levels.{Leveled, Levels, greatest, read_at, read_leveled, target_leveled, term_leveled, terms_leveled, with_value}
+use Rattle.dh_meaning.specs.Ways.{Hidden, Way}
 use Rattle.dh_expressions.specs.declared.scenes.Scene.{Scene}
 use Rattle.dh_expressions.specs.Evaluated.{known_in}
-use Rattle.dh_formed.specs.Timed.{AreBounded, LevelsThen, all_leveled, leveled}
-use Rattle.dh_formed.proofs.Unled.{unled_leveled}
+use Rattle.dh_formed.specs.Timed.{AreBounded, LevelsThen, all_leveled, leveled, named_leveled}
 
 -- Conversions have no level of their own.
 
@@ -109,6 +110,58 @@ module _ (shared : ℕ → Option ℕ) (outer : ℕ) where
       by : (o : Option ℕ) → shared r.number ≡ o → (read_leveled shared outer r i).levels.reads m ≡ i.levels.reads m
       by None e = ap (λ (w : Leveled). w.levels.reads m) (read_alone shared outer r i e) ∙ value_other i.levels.reads r.number (suc (max i.level outer)) m other
       by (Some earlier) e = ap (λ (w : Leveled). w.levels.reads m) (read_shares shared outer r i earlier e) ∙ value_other i.levels.reads r.number (i.levels.reads earlier) m other
+
+-- Behind indices stand the variables that keep the offsets of a way: each has its own level, and the levels stay.
+module _ (shared : ℕ → Option ℕ) (outer : ℕ) where
+  abbrev terms_level : CoreTerms → Levels → ℕ
+  terms_level ts l = (terms_leveled shared outer ts l).level
+
+  both_levels : (ts us : CoreTerms) (l : Levels) → (terms_leveled shared outer (terms_both ts us) l).levels ≡ (terms_leveled shared outer us (terms_leveled shared outer ts l).levels).levels
+  both_levels no_terms us l = refl
+  both_levels (term_and t ts) us l = both_levels ts us (term_leveled shared outer t l).levels
+
+  both_level : (ts us : CoreTerms) (l : Levels) → terms_level (terms_both ts us) l ≡ max (terms_level ts l) (terms_level us (terms_leveled shared outer ts l).levels)
+  both_level no_terms us l = least (terms_level us l)
+    where
+      least : (n : ℕ) → n ≡ max 0 n
+      least n = omega arith
+  both_level (term_and t ts) us l =
+      again (term_leveled shared outer t l).level (terms_level (terms_both ts us) (term_leveled shared outer t l).levels) (terms_level ts (term_leveled shared outer t l).levels)
+      (terms_level us (terms_leveled shared outer ts (term_leveled shared outer t l).levels).levels) (both_level ts us (term_leveled shared outer t l).levels)
+    where
+      again : (a w m n : ℕ) → w ≡ max m n → max a w ≡ max (max a m) n
+      again a w m n e = omega (arith, e)
+
+  pub kept_levels : (hs : List Hidden) (l : Levels) → (terms_leveled shared outer (kept_terms hs) l).levels ≡ l
+  kept_levels [] l = refl
+  kept_levels (h ∷ hs) l = kept_levels hs l
+
+  kept_few : (hs : List Hidden) (l : Levels) → AreBounded l → terms_level (kept_terms hs) l ≤ l.most
+  kept_few [] l b = omega arith
+  kept_few (h ∷ hs) l b = both (l.variables h.entity) (terms_level (kept_terms hs) l) (b.variables h.entity) (kept_few hs l b)
+    where
+      both : (x y : ℕ) → x ≤ l.most → y ≤ l.most → max x y ≤ l.most
+      both x y e f = omega (arith, e, f)
+
+  -- the level of a way behind these levels
+  abbrev pub way_level : Option Way → Levels → ℕ
+  way_level None l = 0
+  way_level (Some w) l = terms_level (kept_terms w.hidden) l
+
+  pub way_few : (way : Option Way) (l : Levels) → AreBounded l → way_level way l ≤ l.most
+  way_few None l b = omega arith
+  way_few (Some w) l b = kept_few w.hidden l b
+
+  pub named_levels : (way : Option Way) (ts : CoreTerms) (l : Levels) → (target_leveled shared outer (target_to way ts) l).levels ≡ (terms_leveled shared outer ts l).levels
+  named_levels None ts l = refl
+  named_levels (Some w) ts l = both_levels ts (kept_terms w.hidden) l ∙ kept_levels w.hidden (terms_leveled shared outer ts l).levels
+
+  pub named_level : (way : Option Way) (ts : CoreTerms) (l : Levels) → (target_leveled shared outer (target_to way ts) l).level ≡ max (terms_level ts l) (way_level way (terms_leveled shared outer ts l).levels)
+  named_level None ts l = alone (terms_level ts l)
+    where
+      alone : (n : ℕ) → n ≡ max n 0
+      alone n = omega arith
+  named_level (Some w) ts l = both_level ts (kept_terms w.hidden) l
 
 -- Parts.
 
@@ -210,14 +263,38 @@ module _ (scene : Scene) (shared : ℕ → Option ℕ) (outer : ℕ) where
       levels_same n (term_accesses x + term_accesses y) l _ _ (operation_leveled shared outer o (kind_found x) (kind_found y) (core_term (known_in scene) n x) (core_term (known_in scene) (n + term_accesses x) y) l)
       (levels_two n (term_accesses x) (term_accesses y) l _ _ (f n l) (g (n + term_accesses x) (leveled scene shared outer n x l).levels))
 
+  -- indices with the variables of a way
+  named_behind : (r : Ref) (ts : plain.Terms) → AllBehind ts → (n : ℕ) (l : Levels) → LevelsThen n (terms_accesses ts) l (named_leveled scene shared outer n r ts l)
+  named_behind r ts all n l = record {
+    variables = λ entity. ap (λ (k : Levels). k.variables entity) same ∙ h.variables entity;
+    before_them = λ m less. ap (λ (k : Levels). k.reads m) same ∙ h.before_them m less;
+    behind_them = λ m more. ap (λ (k : Levels). k.reads m) same ∙ h.behind_them m more;
+    more = subst (λ (k : Levels). l.most ≤ k.most) (sym same) h.more;
+    bounded = λ b. subst (λ (k : Levels). AreBounded k) (sym same) (h.bounded b);
+    level_few = λ b.
+        join (named_leveled scene shared outer n r ts l).level (all_leveled scene shared outer n ts l).level
+        (way_level shared outer (way_of (known_in scene) r) (all_leveled scene shared outer n ts l).levels) (all_leveled scene shared outer n ts l).levels.most (named_leveled scene shared outer n r ts l).levels.most
+        (named_level shared outer (way_of (known_in scene) r) (core_terms (known_in scene) n ts) l) (ap (λ (k : Levels). k.most) same) (h.level_few b)
+        (way_few shared outer (way_of (known_in scene) r) (all_leveled scene shared outer n ts l).levels (h.bounded b));
+    least = λ k small reads. subst (λ (j : Levels). j.most ≤ k) (sym same) (h.least k small (λ m from below. subst (λ (j : Levels). j.reads m ≤ k) same (reads m from below)));
+  }
+    where
+      h : LevelsThen n (terms_accesses ts) l (all_leveled scene shared outer n ts l)
+      h = all n l
+
+      same : (named_leveled scene shared outer n r ts l).levels ≡ (all_leveled scene shared outer n ts l).levels
+      same = named_levels shared outer (way_of (known_in scene) r) (core_terms (known_in scene) n ts) l
+
+      join : (v a w m p : ℕ) → v ≡ max a w → p ≡ m → a ≤ m → w ≤ m → v ≤ p
+      join v a w m p e f g i = omega (arith, e, f, g, i)
+
   mutual
     pub levels_behind : (t : plain.Term) → Behind t
     levels_behind (plain.term place k (plain.number negative z)) = λ n l. levels_none n 0 l (begin l)
     levels_behind (plain.term place k (plain.truth_value b)) = λ n l. levels_none n 0 l (begin l)
     levels_behind (plain.term place k (plain.named r)) = λ n l. levels_none n _ l (λ b. b.variables _)
     levels_behind (plain.term place k (plain.accessed r ts)) = λ n l.
-        levels_same n (suc (terms_accesses ts)) l _ _ (sym (unled_leveled scene n place k r ts shared outer l))
-        (levels_read n (terms_accesses ts) l _ (reach_of (known_in scene) (n + terms_accesses ts) place r) refl (all_levels_behind ts n l))
+        levels_read n (terms_accesses ts) l (named_leveled scene shared outer n r ts l) (reach_of (known_in scene) (n + terms_accesses ts) place r) refl (named_behind r ts (all_levels_behind ts) n l)
     levels_behind (plain.term place k (plain.in_bank r bank at t)) = λ n l. levels_read n (term_accesses t) l _ (reach_of (known_in scene) (n + term_accesses t) place r) refl (levels_behind t n l)
     levels_behind (plain.term place k (plain.applied o x y)) = behind_two place k o x y (levels_behind x) (levels_behind y)
     levels_behind (plain.term place k (plain.converted inner to)) = λ n l. levels_behind inner n l
@@ -225,3 +302,6 @@ module _ (scene : Scene) (shared : ℕ → Option ℕ) (outer : ℕ) where
     pub all_levels_behind : (ts : plain.Terms) → AllBehind ts
     all_levels_behind plain.no_terms = λ n l. levels_none n 0 l (begin l)
     all_levels_behind (plain.term_then t ts) = λ n l. levels_two n (term_accesses t) (terms_accesses ts) l _ _ (levels_behind t n l) (all_levels_behind ts (n + term_accesses t) (leveled scene shared outer n t l).levels)
+
+  pub named_levels_behind : (r : Ref) (ts : plain.Terms) (n : ℕ) (l : Levels) → LevelsThen n (terms_accesses ts) l (named_leveled scene shared outer n r ts l)
+  named_levels_behind r ts n l = named_behind r ts (all_levels_behind ts) n l

@@ -1,9 +1,10 @@
-pub mod Unled
+pub mod NamedTargets
 pub mod ValuesFormed
 pub mod IteratorsFormed
 pub mod CopiesFormed
 pub mod AccessesFormed
 pub mod ElementsFormed
+pub mod WaysFormed
 pub mod TermsFormed
 pub mod PartsCounted
 pub mod ValuesCounted

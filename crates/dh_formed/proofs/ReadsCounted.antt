@@ -19,16 +19,15 @@ use Rattle.dh_expressions.specs.declared.elements.Aim.{Aim}
 use Rattle.dh_expressions.specs.declared.scenes.Around.{Around}
 use Rattle.dh_expressions.specs.declared.scenes.Lane.{Lane}
 use Rattle.dh_expressions.specs.declared.scenes.Scene.{Scene}
-use Rattle.dh_expressions.specs.Copying.{leaders_at}
 use Rattle.dh_formed.specs.Counted.{Counts, FormIs, HaveGiven, IsAccess, IsLedUse, IsUse, Stands, given_at_paths, length_given, nothing, one_each, ranged, use_of, use_shared}
 use Rattle.dh_expressions.specs.Drafted.{Extends, Pushes}
 use Rattle.dh_expressions.specs.Evaluated.{lane_guard, source_at}
 use Rattle.dh_formed.specs.Formed.{AccessSuits, Agrees, Block, IsLaid, IsNoted, IsScope, Site, Started}
 use Rattle.dh_expressions.specs.MadeTerms.{MadeRead, MadeWrite}
 use Rattle.dh_expressions.specs.Noted.{Notes, copied_in, copied_of, copy_or_alone, fault_in, given_by, given_in, given_then, given_to, noted_in, touched_in, touched_of}
-use Rattle.dh_expressions.specs.Numbers.{narrowed}
-use Rattle.dh_expressions.specs.Reaching.{Finds, place_written, reach_told}
-use Rattle.dh_expressions.specs.Standings.{Standing, standing_at}
+use Rattle.dh_expressions.specs.Named.{banks_told}
+use Rattle.dh_expressions.specs.Reaching.{Finds, copy_banks, place_written, reach_told}
+use Rattle.dh_expressions.specs.Standings.{Standing, copy_places, standing_at}
 use Rattle.dh_expressions.specs.Touching.{AddsTouched, TouchesAt}
 use Rattle.dh_formed.proofs.AccessesFormed.{FormsTouch, laid_later, touch_notes}
 use Rattle.dh_expressions.proofs.AccessesKept.{place_noted}
@@ -125,25 +124,24 @@ module _ (x : Block) (scene : Scene) (lane : Lane) (current : List (Option ℕ))
   low : (writes : Truth) (p : ℕ) → (stands writes).leader p ≤ p
   low writes p = omega arith
 
-  abbrev is_access : (writes : Truth) (bank : Option (ℕ × ℕ)) → memory < 2 ^ 32 → x.sites aim.number ≡ Some (site writes) → IsAccess x aim.number 1 (reach_told memory aim bank)
-  is_access writes bank small at = record { from = omega arith; below = omega arith; site = site writes; there = at; memory_is = omega (arith, small) }
+  abbrev is_access : (writes : Truth) (banks : List (ℕ × ℕ)) → memory < 2 ^ 32 → x.sites aim.number ≡ Some (site writes) → IsAccess x aim.number 1 (reach_told memory aim banks)
+  is_access writes banks small at = record { from = omega arith; below = omega arith; site = site writes; there = at; memory_is = omega (arith, small) }
 
   touch_counts : (Probes Reads Writes : Reach → Type 0) (writes : Truth) (old new : Draft) (before after : Accesses) → length lane.around.guards.now < 2 ^ 64 → IsScope x old scene lane current
       → TouchesAt scene lane.around (stands writes) old new before after aim.number → Still Sees Probes Reads Writes old new
   touch_counts Probes Reads Writes writes old new before after few scope t = by t.adds
     where
-      by : (new ≡ old) ⊎ ((u : Touched) × AddsTouched old new scene lane.around (stands writes) before u) → Still Sees Probes Reads Writes old new
+      by : (new ≡ old) ⊎ ((u : Touched) × AddsTouched old new scene lane.around (stands writes) u) → Still Sees Probes Reads Writes old new
       by (inl same) = counts_none old new _ same
       by (inr (u, a)) =
-          let copies = a.copies scope.scopes scope.low in
           counts_again old a.middle new _ 0 0 nothing nothing nothing nothing
           (record { more = []; adds = a.names.operations ∙ sym (append-nil old.operations.items); each = tt; products_few = omega arith; probes_are = λ m. refl; uses_are = λ m. refl })
-          (copies_counts Sees Probes Reads Writes (stands writes).leader (stands writes).bank (stands writes).guards (low writes) (length (stands writes).guards) a.middle new before.counts.items copies.0 u.copies few copies.1)
+          (copies_counts Sees Probes Reads Writes (stands writes).leader (stands writes).bank (copy_places (stands writes)) (stands writes).guards (low writes) (length (stands writes).guards) a.middle new u.copies (a.copies scope.scopes scope.low))
 
   probe_counts : (Reads Writes : Reach → Type 0) (writes : Truth) (d e : Draft) (n fault : ℕ) (guard : Option ℕ) → memory < 2 ^ 32 → x.sites aim.number ≡ Some (site writes)
-      → Pushes d e n guard (Probe (reach_told memory aim None) fault) → Counts d e (FormIs Sees (λ r. IsAccess x aim.number 1 r) Reads Writes) 0 (ranged aim.number 1 one_each) nothing
+      → Pushes d e n guard (Probe (reach_told memory aim []) fault) → Counts d e (FormIs Sees (λ r. IsAccess x aim.number 1 r) Reads Writes) 0 (ranged aim.number 1 one_each) nothing
   probe_counts Reads Writes writes d e n fault guard small at p =
-      counts_pushed d e n guard (Probe (reach_told memory aim None) fault) _ 0 (ranged aim.number 1 one_each) nothing p (is_access writes None small at) (omega arith) (λ m. ranged_one aim.number one_each m) (λ m. refl)
+      counts_pushed d e n guard (Probe (reach_told memory aim []) fault) _ 0 (ranged aim.number 1 one_each) nothing p (is_access writes [] small at) (omega arith) (λ m. ranged_one aim.number one_each m) (λ m. refl)
 
   -- the access at this path, where it is laid
   module _ (writes : Truth) (d : Draft) (a : Accesses) (t : Touched) (is : touched_in a aim.number ≡ Some t) (laid : IsLaid x d (stands writes) t) (within : lane.number < length lane.around.guards.now) where
@@ -156,16 +154,13 @@ module _ (x : Block) (scene : Scene) (lane : Lane) (current : List (Option ℕ))
     leader_is : (copied_in a aim.number lane.number).leader ≡ (stands writes).leader lane.number
     leader_is = ap (λ (c : AccessAt). c.leader) copy_is ∙ (laid.each lane.number found_copy.0 found_copy.1).leader_is
 
-    abbrev own_place : ℕ
-    own_place = narrowed (leaders_at (stands writes).leader (stands writes).bank ((stands writes).bank lane.number) lane.number)
-
     abbrev is_use : memory < 2 ^ 32 → x.sites aim.number ≡ Some (site writes)
-        → IsUse x lane.number aim.number 1 (reach_told memory aim (Some ((copied_in a aim.number lane.number).bank, (copied_in a aim.number lane.number).place)))
+        → IsUse x lane.number aim.number 1 (reach_told memory aim (copy_banks scene (form_of access) (copied_in a aim.number lane.number)))
     is_use small at = record {
-      access = is_access writes (Some ((copied_in a aim.number lane.number).bank, (copied_in a aim.number lane.number).place)) small at;
+      access = is_access writes (copy_banks scene (form_of access) (copied_in a aim.number lane.number)) small at;
       banks_are =
-          ap (λ (b : ℕ). (b, (copied_in a aim.number lane.number).place) ∷ []) (ap (λ (c : AccessAt). c.bank) copy_is ∙ (laid.each lane.number found_copy.0 found_copy.1).bank_is)
-          ∙ ap (λ (p : ℕ). ((stands writes).bank lane.number, p) ∷ []) (ap (λ (c : AccessAt). c.place) copy_is ∙ (laid.each lane.number found_copy.0 found_copy.1).place_is);
+          ap (λ (b : ℕ). banks_told scene (form_of access) b (copied_in a aim.number lane.number).place) (ap (λ (c : AccessAt). c.bank) copy_is ∙ (laid.each lane.number found_copy.0 found_copy.1).bank_is)
+          ∙ ap (λ (p : ℕ). banks_told scene (form_of access) ((stands writes).bank lane.number) p) (ap (λ (c : AccessAt). c.place) copy_is ∙ (laid.each lane.number found_copy.0 found_copy.1).place_is);
     }
 
   -- What a find counts.
@@ -180,17 +175,17 @@ module _ (x : Block) (scene : Scene) (lane : Lane) (current : List (Option ℕ))
       both true = refl
       both false = refl
 
-  find_none : (d e : Draft) (copy : AccessAt) (v n : ℕ) (found : Option ℕ) → found ≡ Some n → use_of x scene lane.number aim.number ≡ 0 → Finds d e memory aim copy found v
+  find_none : (d e : Draft) (copy : AccessAt) (v n : ℕ) (found : Option ℕ) → found ≡ Some n → use_of x scene lane.number aim.number ≡ 0 → Finds scene (form_of access) d e memory aim copy found v
       → Counts d e (IsOne x lane.number aim.number Sees) 0 nothing (ranged aim.number 1 (use_of x scene lane.number))
   find_none d e copy v n found is none h =
       counts_same d e _ _ 0 0 nothing nothing nothing (ranged aim.number 1 (use_of x scene lane.number)) (λ o w. w) (omega arith) (λ m. refl) (λ m. uses_none m none)
-      (counts_none d e (IsOne x lane.number aim.number Sees) (subst (λ (o : Option ℕ). Finds d e memory aim copy o v) is h).0)
+      (counts_none d e (IsOne x lane.number aim.number Sees) (subst (λ (o : Option ℕ). Finds scene (form_of access) d e memory aim copy o v) is h).0)
 
-  find_one : (d e : Draft) (copy : AccessAt) (v : ℕ) (found : Option ℕ) → found ≡ None → use_of x scene lane.number aim.number ≡ 1 → IsLedUse x lane.number aim.number 1 (reach_told memory aim (Some (copy.bank, copy.place)))
-      → Finds d e memory aim copy found v → Counts d e (IsOne x lane.number aim.number Sees) 0 nothing (ranged aim.number 1 (use_of x scene lane.number))
+  find_one : (d e : Draft) (copy : AccessAt) (v : ℕ) (found : Option ℕ) → found ≡ None → use_of x scene lane.number aim.number ≡ 1 → IsLedUse x lane.number aim.number 1 (reach_told memory aim (copy_banks scene (form_of access) copy))
+      → Finds scene (form_of access) d e memory aim copy found v → Counts d e (IsOne x lane.number aim.number Sees) 0 nothing (ranged aim.number 1 (use_of x scene lane.number))
   find_one d e copy v found is one led h =
-      counts_pushed d e v copy.guard (Read (reach_told memory aim (Some (copy.bank, copy.place)))) (IsOne x lane.number aim.number Sees) 0 nothing (ranged aim.number 1 (use_of x scene lane.number))
-      (subst (λ (o : Option ℕ). Finds d e memory aim copy o v) is h) led (omega arith) (λ m. refl) (λ m. uses_one m one)
+      counts_pushed d e v copy.guard (Read (reach_told memory aim (copy_banks scene (form_of access) copy))) (IsOne x lane.number aim.number Sees) 0 nothing (ranged aim.number 1 (use_of x scene lane.number))
+      (subst (λ (o : Option ℕ). Finds scene (form_of access) d e memory aim copy o v) is h) led (omega arith) (λ m. refl) (λ m. uses_one m one)
 
   module _ (d e : Draft) (a : Accesses) (v : ℕ) (t : Touched) (is : touched_in a aim.number ≡ Some t) (at : x.sites aim.number ≡ Some (site false)) (small : memory < 2 ^ 32)
       (laid : IsLaid x d (stands false) t) (within : lane.number < length lane.around.guards.now)
@@ -209,7 +204,7 @@ module _ (x : Block) (scene : Scene) (lane : Lane) (current : List (Option ℕ))
     share_told o e = ap (λ s. use_shared s (x.sites aim.number) lane.number) e ∙ ap (λ s. use_shared o s lane.number) at
 
     abbrev Found : (share : Option (Option ℕ)) → Type 0
-    Found share = Finds d e memory aim copy (given_by a (source_at share aim.number lane.number copy.leader)) v
+    Found share = Finds scene (form_of access) d e memory aim copy (given_by a (source_at share aim.number lane.number copy.leader)) v
 
     not_shared : slice_get scene.shares.now aim.number ≡ Some None → Found (Some None) → Counts d e (IsOne x lane.number aim.number Sees) 0 nothing (ranged aim.number 1 (use_of x scene lane.number))
     not_shared told h = ⊎_elim leads led (cases_eq leader lane.number)
@@ -241,7 +236,7 @@ module _ (x : Block) (scene : Scene) (lane : Lane) (current : List (Option ℕ))
             less : (c l g : ℕ) → c ≡ l → g ≡ lane.number → l ≤ lane.number → (l ≡ lane.number → ⊥) → c < g
             less c l g same all few other = omega (arith, same, all, few, other)
 
-    find_counts : Finds d e memory aim copy (given_by a (source_at (slice_get scene.shares.now aim.number) aim.number lane.number copy.leader)) v
+    find_counts : Finds scene (form_of access) d e memory aim copy (given_by a (source_at (slice_get scene.shares.now aim.number) aim.number lane.number copy.leader)) v
         → Counts d e (IsOne x lane.number aim.number Sees) 0 nothing (ranged aim.number 1 (use_of x scene lane.number))
     find_counts h = by (slice_get scene.shares.now aim.number) refl h
       where
@@ -274,7 +269,7 @@ module _ (x : Block) (scene : Scene) (lane : Lane) (current : List (Option ℕ))
     pushed = pushed_extends m.first m.second _ _ _ m.probes
 
     found : Extends m.second new
-    found = found_extends m.second new memory aim (copied_in m.middle aim.number lane.number) (given_by m.middle (source_at (slice_get scene.shares.now aim.number) aim.number lane.number (copied_in m.middle aim.number lane.number).leader)) v m.finds
+    found = found_extends scene (form_of access) m.second new memory aim (copied_in m.middle aim.number lane.number) (given_by m.middle (source_at (slice_get scene.shares.now aim.number) aim.number lane.number (copied_in m.middle aim.number lane.number).leader)) v m.finds
 
     touch : FormsTouch x old m.first m.middle (stands false) aim.number
     touch =

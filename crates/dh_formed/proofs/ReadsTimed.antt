@@ -29,9 +29,9 @@ use Rattle.dh_expressions.specs.Evaluated.{lane_guard, source_at}
 use Rattle.dh_formed.specs.Formed.{AccessSuits, IsLaid, IsScope, ReadSuits, Site}
 use Rattle.dh_expressions.specs.MadeTerms.{MadeRead, MadeWrite}
 use Rattle.dh_expressions.specs.Noted.{Notes, copied_in, copied_of, copy_or_alone, fault_in, given_by, given_in, given_to, noted_in, touched_in}
-use Rattle.dh_expressions.specs.Reaching.{Finds, place_written, reach_told}
+use Rattle.dh_expressions.specs.Reaching.{Finds, copy_banks, place_written, reach_told}
 use Rattle.dh_expressions.specs.Shown.{guard_of, guard_or_none}
-use Rattle.dh_expressions.specs.Standings.{Standing, standing_at}
+use Rattle.dh_expressions.specs.Standings.{Standing, copy_places, standing_at}
 use Rattle.dh_formed.specs.Timed.{AgreeInTime, Clocks, GuardAt, HasClock, NotedInTime, ReadsAgree, StartedInTime, TimesTerm, TimesValue, Within, clock_of}
 use Rattle.dh_expressions.specs.Touching.{AddsTouched, IsNew, TouchesAt}
 use Rattle.dh_formed.proofs.AccessesFormed.{FormsTouch, touch_notes}
@@ -105,16 +105,13 @@ module _ (c : Clocks) (outer : ℕ) where
       alike n = omega arith
 
   -- The copies at the first n paths.
-  module _ (leader bank : ℕ → ℕ) (guards : List (Option ℕ)) (low : (p : ℕ) → leader p ≤ p) (all : GuardsAt guards) where
+  module _ (leader bank place : ℕ → ℕ) (guards : List (Option ℕ)) (low : (p : ℕ) → leader p ≤ p) (all : GuardsAt guards) where
     record TimesCopies (n : ℕ) (old new : Draft) (copies : List AccessAt) : Type 0 where
       within : AgreeInTime c new → StartedInTime c old → Within c old new outer
       alone : (k : ℕ) (copy : AccessAt) → slice_get copies k ≡ Some copy → (leader k ≡ k → ⊥) → copy.guard ≡ None
       at : AgreeInTime c new → StartedInTime c old → (k : ℕ) (copy : AccessAt) → slice_get copies k ≡ Some copy → leader k ≡ k → GuardAt c outer copy.guard
 
-    module _ (n : ℕ) (known : n < length guards) (old d new : Draft) (ns after : List ℕ) (cs copies : List AccessAt) (long : length cs ≡ n) (extends : Extends old d) (h : TimesCopies n old d cs) where
-      abbrev placed : (place : ℕ) → Option ℕ → AccessAt
-      placed place o = record { leader = leader n; bank = bank n; place = place; guard = o }
-
+    module _ (n : ℕ) (known : n < length guards) (old d new : Draft) (cs copies : List AccessAt) (long : length cs ≡ n) (extends : Extends old d) (h : TimesCopies n old d cs) where
       each_now : (P : ℕ → AccessAt → Type 0) (front : List AccessAt) (last : AccessAt) → length front ≡ n → copies ≡ front ++ last ∷ [] → ((k : ℕ) (a : AccessAt) → slice_get front k ≡ Some a → P k a) → P n last
           → (k : ℕ) (a : AccessAt) → slice_get copies k ≡ Some a → P k a
       each_now P front last all_n are before own k a at = by (place_of_more front last a k (sym (ap (λ (l : List AccessAt). slice_get l k) are) ∙ at))
@@ -126,7 +123,7 @@ module _ (c : Clocks) (outer : ℕ) where
       own_guard : GuardAt c outer (guard_of guards n)
       own_guard = guard_there guards n known all
 
-      leads_timed : AddsLeader d new cs copies ns after n (leader n) (bank n) (guard_of guards n) → TimesCopies (suc n) old new copies
+      leads_timed : AddsLeader d new cs copies n (leader n) (bank n) (place n) (guard_of guards n) → TimesCopies (suc n) old new copies
       leads_timed s = record {
         within = λ a st. subst (λ (k : Draft). Within c old k outer) (sym s.same) (h.within (before a) st);
         alone = each_now (λ k a. (leader k ≡ k → ⊥) → a.guard ≡ None) cs _ long s.copies_are h.alone (λ other. absurd (other s.own));
@@ -136,7 +133,7 @@ module _ (c : Clocks) (outer : ℕ) where
           before : AgreeInTime c new → AgreeInTime c d
           before a = subst (λ (k : Draft). AgreeInTime c k) s.same a
 
-      led_timed : AddsOther d new cs copies ns after n (leader n) (bank n) (guard_of guards n) → TimesCopies (suc n) old new copies
+      led_timed : AddsOther d new cs copies n (leader n) (bank n) (place n) (guard_of guards n) → TimesCopies (suc n) old new copies
       led_timed s = record {
         within = λ a st. within_again c old d new outer outer (self outer) (h.within (before a) st) (joined_within a st (cases_eq (leader (leader n)) (leader n)));
         alone = each_now (λ k a. (leader k ≡ k → ⊥) → a.guard ≡ None) s.changed _ changed_long s.copies_are
@@ -184,7 +181,7 @@ module _ (c : Clocks) (outer : ℕ) where
               by (inl p) = every k a p.0
               by (inr p) = subst (λ (m : ℕ). P m a) (sym p.0) (subst (λ (b : AccessAt). P (leader n) b) (sym p.1.1.1) (one p.1.0 p.1.1.0))
 
-      copy_timed : AddsCopy d new cs copies ns after n (leader n) (bank n) (guard_of guards n) → TimesCopies (suc n) old new copies
+      copy_timed : AddsCopy d new cs copies n (leader n) (bank n) (place n) (guard_of guards n) → TimesCopies (suc n) old new copies
       copy_timed (inl s) = leads_timed s
       copy_timed (inr s) = led_timed s
 
@@ -201,11 +198,11 @@ module _ (c : Clocks) (outer : ℕ) where
         lost : (k : ℕ) (copy : AccessAt) → slice_get copies k ≡ Some copy → ⊥
         lost k copy at = nothing k copy (sym (ap (λ l. slice_get l k) none) ∙ at)
 
-    copies_timed : (n : ℕ) (old new : Draft) (numbers after : List ℕ) (copies : List AccessAt) → n ≤ length guards → n < 2 ^ 64 → AddsCopies leader bank guards n old new numbers after copies → TimesCopies n old new copies
-    copies_timed zero old new numbers after copies within few m = copies_nothing old new copies m.0 m.1.1
-    copies_timed (suc n) old new numbers after copies within few (d, (ns, (cs, (before, step)))) =
-        let made = copies_forms leader bank guards low n old d numbers ns cs (omega (arith, few)) before in
-        copy_timed n (omega (arith, within)) old d new ns after cs copies made.long made.extends (copies_timed n old d numbers ns cs (omega (arith, within)) (omega (arith, few)) before) step
+    copies_timed : (n : ℕ) (old new : Draft) (copies : List AccessAt) → n ≤ length guards → AddsCopies leader bank place guards n old new copies → TimesCopies n old new copies
+    copies_timed zero old new copies within m = copies_nothing old new copies m.0 m.1
+    copies_timed (suc n) old new copies within (d, (cs, (before, step))) =
+        let made = copies_forms leader bank place guards low n old d cs before in
+        copy_timed n (omega (arith, within)) old d new cs copies made.long made.extends (copies_timed n old d cs (omega (arith, within)) before) step
 
 -- What is noted stays in time.
 
@@ -228,9 +225,9 @@ module _ (c : Clocks) (outer : ℕ) (scene : Scene) (around : Around) (s : Stand
     (low : (p : ℕ) → s.leader p ≤ p) (few : length s.guards < 2 ^ 64) (scopes : HasScopes scene) (flat : length around.levels.now < 2 ^ 63)
     (t : TouchesAt scene around s old new before after number) (site : c.block.sites number ≡ Some (record { memory = memory; standing = s }))
     (all : GuardsAt c outer s.guards) (own : c.outer number ≡ outer) (agree : AgreeInTime c new) (started : StartedInTime c old) where
-  module _ (u : Touched) (a : AddsTouched old new scene around s before u) where
-    new_copies : TimesCopies c outer s.leader s.bank s.guards low all (length s.guards) a.middle new u.copies
-    new_copies = copies_timed c outer s.leader s.bank s.guards low all (length s.guards) a.middle new before.counts.items (a.copies scopes flat).0 u.copies (self (length s.guards)) few (a.copies scopes flat).1
+  module _ (u : Touched) (a : AddsTouched old new scene around s u) where
+    new_copies : TimesCopies c outer s.leader s.bank (copy_places s) s.guards low all (length s.guards) a.middle new u.copies
+    new_copies = copies_timed c outer s.leader s.bank (copy_places s) s.guards low all (length s.guards) a.middle new u.copies (self (length s.guards)) (a.copies scopes flat)
       where
         self : (n : ℕ) → n ≤ n
         self n = omega arith
@@ -247,7 +244,7 @@ module _ (c : Clocks) (outer : ℕ) (scene : Scene) (around : Around) (s : Stand
   touch_within : Within c old new outer
   touch_within = by t.adds
     where
-      by : (new ≡ old) ⊎ ((u : Touched) × AddsTouched old new scene around s before u) → Within c old new outer
+      by : (new ≡ old) ⊎ ((u : Touched) × AddsTouched old new scene around s u) → Within c old new outer
       by (inl same) = within_none c old new outer same
       by (inr h) = new_within h.0 h.1
 
@@ -261,7 +258,7 @@ module _ (c : Clocks) (outer : ℕ) (scene : Scene) (around : Around) (s : Stand
   }
     where
       by : (m : ℕ) (u : Touched) (o : Site) → c.block.sites m ≡ Some o → (path : ℕ) (copy : AccessAt) → slice_get u.copies path ≡ Some copy → o.standing.leader path ≡ path
-          → (touched_in before m ≡ Some u) ⊎ IsNew old new scene around s before number m u → GuardAt c (c.outer m) copy.guard
+          → (touched_in before m ≡ Some u) ⊎ IsNew old new scene around s number m u → GuardAt c (c.outer m) copy.guard
       by m u o at path copy here leads (inl old_one) = h.guards m u o at old_one path copy here leads
       by m u o at path copy here leads (inr fresh) =
           let same : record { memory = memory; standing = s } ≡ o = some_same (record { memory = memory; standing = s }) o (sym site ∙ (ap c.block.sites (sym fresh.own) ∙ at)) in
@@ -302,37 +299,37 @@ module _ (c : Clocks) (scene : Scene) (lane : Lane) (current : List (Option ℕ)
 
   -- the clock of the values that name the element
   abbrev pub aim_clock : ℕ
-  aim_clock = greatest_of (map (clock_of c) (reach_takes (reach_told memory aim None)))
+  aim_clock = greatest_of (map (clock_of c) (reach_takes (reach_told memory aim [])))
 
   taken_clock : (form : OperationForm) (guard : Option ℕ) (taken : List ℕ) → operation_takes (record { guard = guard; form = form }) ≡ one_or_none guard ++ taken → GuardAt c outer guard
       → greatest_of (map (clock_of c) (operation_takes (record { guard = guard; form = form }))) ≡ max outer (greatest_of (map (clock_of c) taken))
   taken_clock form guard taken is on =
       ap (λ vs. greatest_of (map (clock_of c) vs)) is ∙ (greatest_append (clock_of c) (one_or_none guard) taken ∙ ap (λ n. max n (greatest_of (map (clock_of c) taken))) (guard_clock c outer guard on))
 
-  probe_timed : (d e : Draft) (n fault k : ℕ) (guard : Option ℕ) → Pushes d e n guard (Probe (reach_told memory aim None) fault) → GuardAt c outer guard → AgreeInTime c e → StartedInTime c d
+  probe_timed : (d e : Draft) (n fault k : ℕ) (guard : Option ℕ) → Pushes d e n guard (Probe (reach_told memory aim []) fault) → GuardAt c outer guard → AgreeInTime c e → StartedInTime c d
       → outer ≤ k → aim_clock ≤ k → Within c d e k
   probe_timed d e n fault k guard p on agree started one two =
-      pushed_within d e n guard (Probe (reach_told memory aim None) fault) p c k
-      (few (clock_of c n) outer aim_clock (pushed_clock d e n guard (Probe (reach_told memory aim None) fault) p c agree started ∙ taken_clock (Probe (reach_told memory aim None) fault) guard (reach_takes (reach_told memory aim None)) refl on) one two)
+      pushed_within d e n guard (Probe (reach_told memory aim []) fault) p c k
+      (few (clock_of c n) outer aim_clock (pushed_clock d e n guard (Probe (reach_told memory aim []) fault) p c agree started ∙ taken_clock (Probe (reach_told memory aim []) fault) guard (reach_takes (reach_told memory aim [])) refl on) one two)
     where
       few : (m a b : ℕ) → m ≡ max a b → a ≤ k → b ≤ k → m ≤ k
       few m a b e f g = omega (arith, e, f, g)
 
-  pub write_timed : (d e : Draft) (n value level k : ℕ) (b : ℕ × ℕ) (guard : Option ℕ) → Pushes d e n guard (Write (reach_told memory aim (Some b)) value) → GuardAt c outer guard → AgreeInTime c e → StartedInTime c d
+  pub write_timed : (d e : Draft) (n value level k : ℕ) (b : List (ℕ × ℕ)) (guard : Option ℕ) → Pushes d e n guard (Write (reach_told memory aim b) value) → GuardAt c outer guard → AgreeInTime c e → StartedInTime c d
       → HasClock c level value → outer ≤ k → aim_clock ≤ k → level ≤ k → Within c d e k
   write_timed d e n value level k b guard p on agree started at one two three =
-      pushed_within d e n guard (Write (reach_told memory aim (Some b)) value) p c k
+      pushed_within d e n guard (Write (reach_told memory aim b) value) p c k
       (few (clock_of c n) outer (clock_of c value) aim_clock
-      (pushed_clock d e n guard (Write (reach_told memory aim (Some b)) value) p c agree started ∙ taken_clock (Write (reach_told memory aim (Some b)) value) guard (value ∷ reach_takes (reach_told memory aim (Some b))) refl on) at one two three)
+      (pushed_clock d e n guard (Write (reach_told memory aim b) value) p c agree started ∙ taken_clock (Write (reach_told memory aim b) value) guard (value ∷ reach_takes (reach_told memory aim b)) refl on) at one two three)
     where
       few : (m a v t : ℕ) → m ≡ max a (max v t) → v ≡ level → a ≤ k → t ≤ k → level ≤ k → m ≤ k
       few m a v t e same f g h = omega (arith, e, same, f, g, h)
 
-  read_clock : (d e : Draft) (n : ℕ) (b : ℕ × ℕ) (guard : Option ℕ) → Pushes d e n guard (Read (reach_told memory aim (Some b))) → GuardAt c outer guard → AgreeInTime c e → StartedInTime c d
+  read_clock : (d e : Draft) (n : ℕ) (b : List (ℕ × ℕ)) (guard : Option ℕ) → Pushes d e n guard (Read (reach_told memory aim b)) → GuardAt c outer guard → AgreeInTime c e → StartedInTime c d
       → clock_of c n ≡ suc (max aim_clock outer)
   read_clock d e n b guard p on agree started =
-      pushed_clock d e n guard (Read (reach_told memory aim (Some b))) p c agree started
-      ∙ (ap (λ m. suc m) (taken_clock (Read (reach_told memory aim (Some b))) guard (reach_takes (reach_told memory aim (Some b))) refl on) ∙ ap (λ m. suc m) (swap outer aim_clock))
+      pushed_clock d e n guard (Read (reach_told memory aim b)) p c agree started
+      ∙ (ap (λ m. suc m) (taken_clock (Read (reach_told memory aim b)) guard (reach_takes (reach_told memory aim b)) refl on) ∙ ap (λ m. suc m) (swap outer aim_clock))
     where
       swap : (m n : ℕ) → max m n ≡ max n m
       swap m n = omega arith
@@ -353,7 +350,7 @@ module _ (c : Clocks) (scene : Scene) (lane : Lane) (current : List (Option ℕ)
     found = given_by m.middle (source_at (slice_get scene.shares.now aim.number) aim.number lane.number copy.leader)
 
     found_more : Extends m.second new
-    found_more = found_extends m.second new memory aim copy found v m.finds
+    found_more = found_extends scene (form_of access) m.second new memory aim copy found v m.finds
 
     pushed : Extends m.first m.second
     pushed = pushed_extends m.first m.second _ _ _ m.probes
@@ -428,24 +425,24 @@ module _ (c : Clocks) (scene : Scene) (lane : Lane) (current : List (Option ℕ)
         by (Some earlier) e = subst (λ (w : Leveled). w.level ≤ w.levels.most) (sym (read_shares shared outer r i earlier e)) (last i.levels.most (i.levels.reads earlier))
 
     -- a value that was found
-    was_found : (o : Option ℕ) (n : ℕ) → o ≡ Some n → Finds m.second new memory aim copy o v → HasClock c made.level n → InTime made.levels.most
+    was_found : (o : Option ℕ) (n : ℕ) → o ≡ Some n → Finds scene (form_of access) m.second new memory aim copy o v → HasClock c made.level n → InTime made.levels.most
     was_found o n is h clock = record {
-      within = λ e. within_none c m.second new made.levels.most (subst (λ (q : Option ℕ). Finds m.second new memory aim copy q v) is h).0;
-      clock = ap (λ k. clock_of c k) (subst (λ (q : Option ℕ). Finds m.second new memory aim copy q v) is h).1 ∙ clock;
+      within = λ e. within_none c m.second new made.levels.most (subst (λ (q : Option ℕ). Finds scene (form_of access) m.second new memory aim copy q v) is h).0;
+      clock = ap (λ k. clock_of c k) (subst (λ (q : Option ℕ). Finds scene (form_of access) m.second new memory aim copy q v) is h).1 ∙ clock;
     }
 
     -- or is read here
-    is_read : (o : Option ℕ) → o ≡ None → Finds m.second new memory aim copy o v → (stands false).leader lane.number ≡ lane.number → made.level ≡ suc (max i.level outer) → InTime made.levels.most
+    is_read : (o : Option ℕ) → o ≡ None → Finds scene (form_of access) m.second new memory aim copy o v → (stands false).leader lane.number ≡ lane.number → made.level ≡ suc (max i.level outer) → InTime made.levels.most
     is_read o is h leads level = record {
       within = λ e. pushed_within m.second new v copy.guard _ p c made.levels.most (fewer (clock_of c v) made.level made.levels.most clock most_level);
       clock = clock;
     }
       where
-        p : Pushes m.second new v copy.guard (Read (reach_told memory aim (Some (copy.bank, copy.place))))
-        p = subst (λ (q : Option ℕ). Finds m.second new memory aim copy q v) is h
+        p : Pushes m.second new v copy.guard (Read (reach_told memory aim (copy_banks scene (form_of access) copy)))
+        p = subst (λ (q : Option ℕ). Finds scene (form_of access) m.second new memory aim copy q v) is h
 
         clock : HasClock c made.level v
-        clock = read_clock m.second new v (copy.bank, copy.place) copy.guard p (copy_guard leads) agree started2 ∙ (ap (λ n. suc (max n outer)) at ∙ sym level)
+        clock = read_clock m.second new v (copy_banks scene (form_of access) copy) copy.guard p (copy_guard leads) agree started2 ∙ (ap (λ n. suc (max n outer)) at ∙ sym level)
 
         fewer : (x y z : ℕ) → x ≡ y → y ≤ z → x ≤ z
         fewer x y z e f = omega (arith, e, f)
@@ -453,8 +450,8 @@ module _ (c : Clocks) (scene : Scene) (lane : Lane) (current : List (Option ℕ)
     found_timed : InTime made.levels.most
     found_timed = by (shared aim.number) refl
       where
-        told : (o : Option ℕ) → shared aim.number ≡ o → Finds m.second new memory aim copy (given_by m.middle (source_at (Some o) aim.number lane.number copy.leader)) v
-        told o e = subst (λ (q : Option (Option ℕ)). Finds m.second new memory aim copy (given_by m.middle (source_at q aim.number lane.number copy.leader)) v) (share ∙ ap (λ q. Some q) e) m.finds
+        told : (o : Option ℕ) → shared aim.number ≡ o → Finds scene (form_of access) m.second new memory aim copy (given_by m.middle (source_at (Some o) aim.number lane.number copy.leader)) v
+        told o e = subst (λ (q : Option (Option ℕ)). Finds scene (form_of access) m.second new memory aim copy (given_by m.middle (source_at q aim.number lane.number copy.leader)) v) (share ∙ ap (λ q. Some q) e) m.finds
 
         alone : shared aim.number ≡ None → ((stands false).leader lane.number ≡ lane.number) ⊎ ((stands false).leader lane.number ≡ lane.number → ⊥) → InTime made.levels.most
         alone e (inl leads) =

@@ -1,6 +1,7 @@
 -- Expressions counted: by recursion on the expression, each part behind those before it.
-use Rattle.std.proofs.Common.{◌≡◌, ℕ, suc, ◌+◌, ◌^◌, ◌<◌, ◌≤◌, ◌⊎◌, inl, inr, true, false, List, Some, refl, sym, ap, ◌∙◌, subst, arith, add-one}
-use Rattle.std.specs.Prelude.{Bool as Truth, ◌||◌, ◌==◌, slice_get, Option}
+use Rattle.std.proofs.Common.{◌≡◌, ℕ, suc, ◌+◌, ◌^◌, ◌<◌, ◌≤◌, ◌⊎◌, inl, inr, true, false, List, Some, None, refl, sym, ap, ◌∙◌, subst, arith, add-one}
+use Rattle.std.specs.Prelude.{Bool as Truth, [], ◌∷◌, ◌||◌, ◌==◌, slice_get, Option}
+use Rattle.std.specs.List.{AllByRecursion}
 use Rattle.std.proofs.lemmas.Bool.{cases_lt}
 use Rattle.std.proofs.lemmas.Bool.Decides.{nat_tests}
 use Rattle.dh_base.specs.declared.places.Place.{Place}
@@ -9,34 +10,39 @@ use Rattle.dh_value.specs.declared.kinds.Kind.TheVariants as kind
 use Rattle.dh_value.specs.declared.operators.Op.{Op}
 use Rattle.dh_value.specs.declared.operators.Op.TheVariants as op
 use Rattle.dh_value.specs.Operations.{truth}
+use Rattle.dh_tree.specs.declared.trees.counters.Counter.{Counter}
 use Rattle.dh_tree.specs.declared.trees.expressions.Ref.{Ref}
 use Rattle.dh_tree.specs.WiderKinds.{wider}
 use Rattle.dh_tree.specs.PlainTrees as plain
 use Rattle.dh_meaning.specs.AccessNumbers.{term_accesses, terms_accesses}
 use Rattle.dh_meaning.specs.Bindings.{kind_found, kind_or_first}
-use Rattle.dh_meaning.specs.Core.{CoreTerm}
-use Rattle.dh_meaning.specs.CoreOf.{core_term, core_terms, entity_number, extended, memory_of, operation_of}
+use Rattle.dh_meaning.specs.Core.{CoreTerm, CoreTerms}
+use Rattle.dh_meaning.specs.CoreOf.{core_term, core_terms, entity_number, extended, kept_terms, memory_of, operation_of, target_to, way_of}
+use Rattle.dh_meaning.specs.Ways.{Hidden, Way}
 use Rattle.dh_code.specs.Slots.{held_at}
 use Rattle.dh_plan.specs.declared.operations.OperationForm.{OperationForm}
 use Rattle.dh_plan.specs.declared.operations.OperationForm.TheVariants.{Constant, Old, Compute, Convert, Select, Check, Probe, Read, Write, Set}
 use Rattle.dh_plan.specs.declared.operations.Reach.{Reach}
-use Rattle.dh_plan.specs.DoneProgram.{product_of, term_products, terms_products}
-use Rattle.dh_plan.specs.PlanPhases.{term_mentions, terms_mention}
+use Rattle.dh_plan.specs.declared.operations.ReachStep.{ReachStep}
+use Rattle.dh_plan.specs.DoneProgram.{product_of, target_products, term_products, terms_products}
+use Rattle.dh_plan.specs.PlanPhases.{target_mentions, term_mentions, terms_mention}
 use Rattle.dh_expressions.specs.declared.accesses.Accesses.{Accesses}
 use Rattle.dh_expressions.specs.declared.drafts.Draft.{Draft}
 use Rattle.dh_expressions.specs.declared.elements.Aim.{Aim}
 use Rattle.dh_expressions.specs.declared.scenes.Lane.{Lane}
 use Rattle.dh_expressions.specs.declared.scenes.Scene.{Scene}
-use Rattle.dh_formed.specs.Counted.{AreNext, Counts, CountsTerm, CountsTerms, FormIs, HaveGiven, IsAccess, IsLedUse, IsMentioned, IsOfTerm, IsOfTerms, Stands, given_at_paths, nothing, one_each, ranged, use_of}
-use Rattle.dh_expressions.specs.Evaluated.{counter_of, known_in}
-use Rattle.dh_formed.specs.Formed.{Agrees, AreNumbers, Block, FormsPart, ReadSuits, TermSuits, TermsSuit}
-use Rattle.dh_expressions.specs.MadeTerms.{MadeRead, MadeTerm, MadeTerms}
+use Rattle.dh_formed.specs.Counted.{AreNext, Counts, CountsTerm, CountsTerms, FormIs, HaveGiven, IsAccess, IsLedUse, IsMentioned, IsOfTerm, IsOfTerms, Stands, given_at_paths, nothing, one_each, ranged, register_seen, use_of}
+use Rattle.dh_formed.specs.CountedLaws.{CountsThrough, IsOfNamed}
+use Rattle.dh_expressions.specs.Evaluated.{counter_of, hidden_register}
+use Rattle.dh_expressions.specs.Named.{first_view, known_in}
+use Rattle.dh_formed.specs.Formed.{Agrees, AreNumbers, Block, FormsAim, FormsPart, HiddenSuits, NamedSuits, ReadSuits, TermSuits, TermsSuit, WaySuits}
+use Rattle.dh_expressions.specs.MadeTerms.{MadeRead, MadeTerm, MadeTerms, MadeThrough, MadeWay}
 use Rattle.dh_formed.proofs.AccessesFormed.{scope_later}
 use Rattle.dh_formed.proofs.PartsCounted.{counts_again, counts_none, counts_same, ranged_none, ranged_sum}
 use Rattle.dh_formed.proofs.ReadsCounted.{IsOne, read_counts, read_gives}
-use Rattle.dh_formed.proofs.TermsFormed.{all_formed, all_numbered, formed, numbered}
-use Rattle.dh_formed.proofs.Unled.{unled_mentions, unled_products}
-use Rattle.dh_formed.proofs.ValuesCounted.{converted_counts, number_counts, operation_counts, variable_counts, word_counts}
+use Rattle.dh_formed.proofs.TermsFormed.{all_formed, all_numbered, formed, numbered, through_made, way_part}
+use Rattle.dh_formed.proofs.NamedTargets.{named_mentions, named_products, way_mentions}
+use Rattle.dh_formed.proofs.ValuesCounted.{converted_counts, number_counts, operation_counts, variable_counts, way_counts, word_counts}
 use Rattle.dh_formed.proofs.ValuesFormed.{agrees_before, converted_forms, operation_forms, started_later}
 use Rattle.dh_formed.proofs.ElementsFormed.{read_forms}
 
@@ -233,6 +239,9 @@ module _ (x : Block) (scene : Scene) (lane : Lane) (current : List (Option ℕ))
   abbrev pub AllMention : (n : ℕ) → plain.Terms → ℕ → Type 0
   AllMention n ts entity = terms_mention entity (core_terms (known_in scene) n ts) ≡ true
 
+  abbrev pub NamedMention : (n : ℕ) → Ref → plain.Terms → ℕ → Type 0
+  NamedMention n r ts entity = target_mentions entity (target_to (way_of (known_in scene) r) (core_terms (known_in scene) n ts)) ≡ true
+
   counted_none : AllCounted plain.no_terms
   counted_none old new before after n next vs m few s w = record {
     counts = alone_counts old new before after n _ 0 (counts_none old new _ m.still);
@@ -369,24 +378,67 @@ module _ (x : Block) (scene : Scene) (lane : Lane) (current : List (Option ℕ))
     given_behind : HaveGiven lane before after n (suc count)
     given_behind = subst (λ (c : ℕ). HaveGiven lane before after n c) (add-one count) (given_again scene lane before between after n count 1 g given_part)
 
+  -- Variables that keep offsets are mentioned behind the indices, and count nothing.
+
+  kept_each : (N : ℕ → Type 0) (hs : List Hidden) → ((e : ℕ) → terms_mention e (kept_terms hs) ≡ true → N e) → AllByRecursion (HiddenSuits x scene lane) hs
+      → AllByRecursion (λ h. IsMentioned scene lane N (hidden_register scene lane h)) hs
+  kept_each N [] more suits = tt
+  kept_each N (h ∷ hs) more suits = (
+    record {
+      entity = h.entity;
+      mentioned = more h.entity (left_of (h.entity == h.entity) (terms_mention h.entity (kept_terms hs)) (itself h.entity));
+      register_is = ap (λ (c : Option Counter). register_seen c (held_at scene.held.now h.entity) lane) (sym suits.0.counter);
+    },
+    kept_each N hs (λ e q. more e (right_of (e == h.entity) (terms_mention e (kept_terms hs)) q)) suits.1,
+  )
+
+  pub way_counted : (way : Option Way) (memory first n count : ℕ) (ts : CoreTerms) (old new : Draft) (steps : List ReachStep) → WaySuits x scene lane memory first way → MadeWay scene lane current old new first way steps
+      → Counts old new (FormIs (λ register. IsMentioned scene lane (λ entity. target_mentions entity (target_to way ts) ≡ true) register) (λ r. IsAccess x n count r) (λ r. IsLedUse x lane.number n count r) (λ r. ⊥)) 0 nothing nothing
+  way_counted None memory first n count ts old new steps suits m = counts_none old new _ m.0
+  way_counted (Some w) memory first n count ts old new steps suits m =
+      way_counts (λ register. IsMentioned scene lane (λ entity. target_mentions entity (target_to (Some w) ts) ≡ true) register) (λ r. IsAccess x n count r) (λ r. IsLedUse x lane.number n count r) (λ r. ⊥)
+      scene lane current (Some w) first (kept_each (λ entity. target_mentions entity (target_to (Some w) ts) ≡ true) w.hidden (λ e q. way_mentions w e ts q) suits.0) old new steps m
+
+  -- indices with the steps of the way of what they name
+  pub through_counted : (r : Ref) (ts : plain.Terms) → AllCounted ts → (old named new : Draft) (before after : Accesses) (n : ℕ) (aim : Aim) → MadeTerms scene lane current ts old named before after n aim.number aim.indices
+      → MadeWay scene lane current named new (first_view scene r) (way_of (known_in scene) r) aim.steps → n + terms_accesses ts < 2 ^ 32 → Stands x old new scene lane current before n (terms_accesses ts) → NamedSuits x scene lane n r ts
+      → CountsThrough x scene lane old new before after n r ts
+  through_counted r ts all old named new before after n aim m steps few s w = record {
+    counts =
+        counts_same old new (IsOfNamed x scene lane n r ts) (IsOfNamed x scene lane n r ts) (terms_products (core_terms (known_in scene) n ts) + 0) (target_products (target_to (way_of (known_in scene) r) (core_terms (known_in scene) n ts))) _ _ _ _
+        (λ o h. h) (let e = named_products (way_of (known_in scene) r) (core_terms (known_in scene) n ts) in omega (arith, e)) (λ i. refl) (λ i. refl)
+        (behind_counts old named new (IsOfNamed x scene lane n r ts) (terms_products (core_terms (known_in scene) n ts)) 0 _ _ indices
+        (way_counted (way_of (known_in scene) r) (memory_of (known_in scene) r) (first_view scene r) n (terms_accesses ts) (core_terms (known_in scene) n ts) named new aim.steps w.1.1 steps));
+    given = f.given;
+  }
+    where
+      way : FormsPart scene lane current named new after after (λ y. WaySuits y scene lane (memory_of (known_in scene) r) (first_view scene r) (way_of (known_in scene) r))
+      way = way_part scene lane current (way_of (known_in scene) r) (memory_of (known_in scene) r) (first_view scene r) named new after aim.steps steps
+
+      f : CountsTerms x scene lane old named before after n ts
+      f = all old named before after n aim.number aim.indices m few (record { agrees = agrees_before x named new way.extends s.agrees; started = s.started; scope = s.scope; noted = s.noted; next = s.next }) w.0
+
+      indices : Counts old named (IsOfNamed x scene lane n r ts) (terms_products (core_terms (known_in scene) n ts)) (ranged n (terms_accesses ts) one_each) (ranged n (terms_accesses ts) (use_of x scene lane.number))
+      indices =
+          counts_same old named (IsOfTerms x scene lane n ts) (IsOfNamed x scene lane n r ts) (terms_products (core_terms (known_in scene) n ts)) (terms_products (core_terms (known_in scene) n ts)) _ _ _ _
+          (λ o h. part_wider (AllMention n ts) (NamedMention n r ts) n (terms_accesses ts) n (terms_accesses ts) (λ e q. named_mentions (way_of (known_in scene) r) e (core_terms (known_in scene) n ts) q) (omega arith) (omega arith) o h)
+          (omega arith) (λ i. refl) (λ i. refl) f.counts
+
   counted_access : (place : Place) (k : Option Kind) (r : Ref) (ts : plain.Terms) → AllCounted ts → Counted (plain.term place k (plain.accessed r ts))
   counted_access place k r ts all old new before after n next v m few s w = record {
     counts =
-        subst (λ (p : ℕ). Counts old new (IsOfTerm x scene lane n (plain.term place k (plain.accessed r ts))) p (ranged n (suc (terms_accesses ts)) one_each) (ranged n (suc (terms_accesses ts)) (use_of x scene lane.number)))
-        (sym (unled_products scene n place k r ts))
-        (read_behind place k (plain.accessed r ts) (memory_of (known_in scene) r) old m.middle new before m.between after n (terms_accesses ts) (AllMention n ts) (Mentions n (plain.term place k (plain.accessed r ts))) (terms_products (core_terms (known_in scene) n ts)) m.aim v own mentioned m.reads behind w.1.1 f.counts f.given);
+        read_behind place k (plain.accessed r ts) (memory_of (known_in scene) r) old m.middle new before m.between after n (terms_accesses ts) (NamedMention n r ts) (Mentions n (plain.term place k (plain.accessed r ts)))
+        (target_products (target_to (way_of (known_in scene) r) (core_terms (known_in scene) n ts))) m.aim v own (λ e q. q) m.reads behind w.1.1 f.counts f.given;
     given =
-        given_behind place k (plain.accessed r ts) (memory_of (known_in scene) r) old m.middle new before m.between after n (terms_accesses ts) (AllMention n ts) (Mentions n (plain.term place k (plain.accessed r ts))) (terms_products (core_terms (known_in scene) n ts)) m.aim v own mentioned m.reads behind w.1.1 f.counts f.given;
+        given_behind place k (plain.accessed r ts) (memory_of (known_in scene) r) old m.middle new before m.between after n (terms_accesses ts) (NamedMention n r ts) (Mentions n (plain.term place k (plain.accessed r ts)))
+        (target_products (target_to (way_of (known_in scene) r) (core_terms (known_in scene) n ts))) m.aim v own (λ e q. q) m.reads behind w.1.1 f.counts f.given;
   }
     where
-      mentioned : (e : ℕ) → AllMention n ts e → Mentions n (plain.term place k (plain.accessed r ts)) e
-      mentioned e q = unled_mentions scene n place k r ts e ∙ q
-
       own : m.aim.number ≡ n + terms_accesses ts
-      own = all_numbered scene lane current ts old m.middle before m.between n m.aim.number m.aim.indices m.indices (omega (arith, few))
+      own = all_numbered scene lane current ts old m.named before m.between n m.aim.number m.aim.indices m.indices (omega (arith, few))
 
-      part : FormsPart scene lane current old m.middle before m.between (λ y. TermsSuit y scene lane n ts × AreNumbers ts)
-      part = (all_formed scene lane current ts old m.middle before m.between n m.aim.number m.aim.indices m.indices (omega (arith, few))).part
+      through : FormsAim scene lane current old m.middle before m.between (memory_of (known_in scene) r) m.aim (λ y. NamedSuits y scene lane n r ts)
+      through = through_made scene lane current ts r n old m.named m.middle before m.between m.aim m.row (all_formed scene lane current ts old m.named before m.between n m.aim.number m.aim.indices m.indices (omega (arith, few))) m.steps
 
       at_middle : Agrees x m.middle
       at_middle =
@@ -395,11 +447,11 @@ module _ (x : Block) (scene : Scene) (lane : Lane) (current : List (Option ℕ))
       whole : Stands x old new scene lane current before n (terms_accesses ts + 1)
       whole = subst (λ (c : ℕ). Stands x old new scene lane current before n c) (sym (add-one (terms_accesses ts))) s
 
-      f : CountsTerms x scene lane old m.middle before m.between n ts
-      f = all old m.middle before m.between n m.aim.number m.aim.indices m.indices (omega (arith, few)) (stands_first old m.middle new before n (terms_accesses ts) 1 at_middle whole) w.0
+      f : CountsThrough x scene lane old m.middle before m.between n r ts
+      f = through_counted r ts all old m.named m.middle before m.between n m.aim m.indices m.steps (omega (arith, few)) (stands_first old m.middle new before n (terms_accesses ts) 1 at_middle whole) (w.0, w.1.0)
 
       behind : Stands x m.middle new scene lane current m.between (n + terms_accesses ts) 1
-      behind = stands_behind old m.middle new before m.between n (terms_accesses ts) 1 _ part w.0 at_middle s.agrees f.given whole
+      behind = stands_behind old m.middle new before m.between n (terms_accesses ts) 1 _ through.part (w.0, w.1.0) at_middle s.agrees f.given whole
 
   counted_bank : (place : Place) (k : Option Kind) (r : Ref) (bank : ℕ) (at : Place) (t : plain.Term) → Counted t → Counted (plain.term place k (plain.in_bank r bank at t))
   counted_bank place k r bank at t one old new before after n next v m few s w = record {
@@ -462,3 +514,7 @@ module _ (x : Block) (scene : Scene) (lane : Lane) (current : List (Option ℕ))
     pub all_counted : (ts : plain.Terms) → AllCounted ts
     all_counted plain.no_terms = counted_none
     all_counted (plain.term_then t ts) = counted_then t ts (counted t) (all_counted ts)
+
+  pub named_counted : (r : Ref) (ts : plain.Terms) (old new : Draft) (before after : Accesses) (n : ℕ) (aim : Aim) → MadeThrough scene lane current r ts old new before after n aim → n + terms_accesses ts < 2 ^ 32
+      → Stands x old new scene lane current before n (terms_accesses ts) → NamedSuits x scene lane n r ts → CountsThrough x scene lane old new before after n r ts
+  named_counted r ts old new before after n aim m few s w = through_counted r ts (all_counted ts) old m.middle new before after n aim m.indices m.steps few s w

@@ -1,6 +1,6 @@
 -- Expressions are formed: by recursion on the expression, each part behind those before it.
-use Rattle.std.proofs.Common.{◌≡◌, ℕ, suc, ◌+◌, ◌^◌, ◌<◌, List, Some, None, refl, sym, ◌∙◌, subst, arith, length}
-use Rattle.std.specs.Prelude.{Bool as Truth, true, false, [], Option}
+use Rattle.std.proofs.Common.{◌≡◌, ℕ, suc, ◌+◌, ◌^◌, ◌<◌, List, Some, None, refl, sym, ap, ◌∙◌, subst, arith, length}
+use Rattle.std.specs.Prelude.{Bool as Truth, true, false, [], ◌∷◌, Option}
 use Rattle.std.specs.List.{AllByRecursion}
 use Rattle.dh_base.specs.declared.places.Place.{Place}
 use Rattle.dh_value.specs.declared.kinds.Kind.{Kind}
@@ -14,26 +14,31 @@ use Rattle.dh_tree.specs.Elements.{dims_at}
 use Rattle.dh_tree.specs.PlainTrees as plain
 use Rattle.dh_meaning.specs.AccessNumbers.{term_accesses, terms_accesses}
 use Rattle.dh_meaning.specs.Bindings.{kind_or_first}
-use Rattle.dh_meaning.specs.CoreOf.{entity_number, memory_of}
+use Rattle.dh_meaning.specs.CoreOf.{dims_by, entity_number, memory_of, way_of}
+use Rattle.dh_meaning.specs.Ways.{Hidden, Way}
 use Rattle.dh_code.specs.declared.places.Held.{Held}
 use Rattle.dh_code.specs.Slots.{held_at}
+use Rattle.dh_plan.specs.declared.operations.ReachStep.{ReachStep}
 use Rattle.dh_plan.specs.Blocks.{kind_at}
+use Rattle.dh_plan.specs.Ordered.{offsets_taken}
 use Rattle.dh_expressions.specs.declared.accesses.Accesses.{Accesses}
 use Rattle.dh_expressions.specs.declared.drafts.Draft.{Draft}
 use Rattle.dh_expressions.specs.declared.elements.Aim.{Aim}
 use Rattle.dh_expressions.specs.declared.scenes.Lane.{Lane}
 use Rattle.dh_expressions.specs.declared.scenes.Scene.{Scene}
 use Rattle.dh_expressions.specs.Drafted.{Extends}
-use Rattle.dh_expressions.specs.Evaluated.{counter_of, known_in}
-use Rattle.dh_formed.specs.Formed.{Agrees, AimSuits, AreNumbers, Block, FormsPart, FormsTerm, FormsTerms, FormsValue, HasKind, HasNumbers, IsNoted, IsNumberThere, IsScope, OperandsSuit, ReadSuits, RowSuits, Started, TermSuits, TermsSuit, VariableSuits, count_of}
-use Rattle.dh_expressions.specs.MadeTerms.{MadeIndices, MadeTerm, MadeTerms, number_behind}
-use Rattle.dh_expressions.specs.MadeValues.{MadeBy}
+use Rattle.dh_expressions.specs.Evaluated.{counter_of, hidden_register}
+use Rattle.dh_expressions.specs.Named.{first_view, known_in}
+use Rattle.dh_formed.specs.Formed.{Agrees, AimSuits, AreNumbers, Block, FormsAim, FormsPart, FormsTerm, FormsTerms, FormsValue, HasKind, HasNumbers, HiddenSuits, IsNoted, IsNumberThere, IsRowForm, IsScope, NamedSuits, OperandsSuit, ReadSuits, RowSuits, Started, TermSuits, TermsSuit, WaySuits, VariableSuits, count_of}
+use Rattle.dh_expressions.specs.MadeTerms.{MadeHidden, MadeIndices, MadeTerm, MadeTerms, MadeThrough, MadeWay, number_behind}
+use Rattle.dh_expressions.specs.MadeValues.{MadeBy, MadeShown}
 use Rattle.dh_expressions.specs.Shown.{kind_written, register_at}
 use Rattle.dh_formed.proofs.AccessesFormed.{noted_later, scope_later}
-use Rattle.dh_formed.proofs.ElementsFormed.{WhereRead, read_forms}
+use Rattle.dh_formed.proofs.ElementsFormed.{WhereRead, all_weaker, number_later, read_forms}
 use Rattle.dh_formed.proofs.IteratorsFormed.{iterator_forms}
 use Rattle.dh_expressions.proofs.Pushing.{extends_again, extends_self}
 use Rattle.dh_formed.proofs.ValuesFormed.{ShowsThere, agrees_before, constant_forms, converted_forms, forms_again, forms_none, kind_later, kind_same, number_forms, operation_forms, shown_forms, started_later}
+use Rattle.dh_formed.proofs.WaysFormed.{memory_aim, way_aim}
 
 -- Numbers of accesses.
 
@@ -60,7 +65,7 @@ module _ (scene : Scene) (lane : Lane) (current : List (Option ℕ)) where
 
   numbered_access : (place : Place) (k : Option Kind) (r : Ref) (ts : plain.Terms) → AllNumbered ts → Numbered (plain.term place k (plain.accessed r ts))
   numbered_access place k r ts all old new before after n next v m few =
-      m.next_is ∙ (behind_is m.aim.number (n + terms_accesses ts) (all old m.middle before m.between n m.aim.number m.aim.indices m.indices (omega (arith, few))) (omega (arith, few)) ∙ omega arith)
+      m.next_is ∙ (behind_is m.aim.number (n + terms_accesses ts) (all old m.named before m.between n m.aim.number m.aim.indices m.indices (omega (arith, few))) (omega (arith, few)) ∙ omega arith)
 
   numbered_bank : (place : Place) (k : Option Kind) (r : Ref) (bank : ℕ) (at : Place) (t : plain.Term) → Numbered t → Numbered (plain.term place k (plain.in_bank r bank at t))
   numbered_bank place k r bank at t one old new before after n next v m few =
@@ -248,7 +253,7 @@ module _ (scene : Scene) (lane : Lane) (current : List (Option ℕ)) where
     moved x w = subst (λ (i : ℕ). ReadSuits x scene lane memory i place form (kind_or_first k)) (sym is) w
 
     read_behind : (First Where : Block → Type 0) → Part old middle before between First → ((x : Block) → Where x → First x) → ((x : Block) → Where x → AtNumber x)
-        → ((x : Block) → Agrees x middle → Started x old → IsScope x old scene lane current → IsNoted x old before → Where x → AimSuits x middle memory aim)
+        → ((x : Block) → Agrees x middle → Started x old → IsScope x old scene lane current → IsNoted x old before → Where x → AimSuits x middle memory form aim)
         → Term old new before after v Where (kind_or_first k)
     read_behind First Where f first suits aims = record {
       part = part_again old middle new before between after First (WhereRead scene lane current (plain.term place k form) memory aim middle (kind_or_first k)) Where f r.part first (λ x at s sc no w. (aims x at s sc no w, moved x (suits x w)));
@@ -257,34 +262,108 @@ module _ (scene : Scene) (lane : Lane) (current : List (Option ℕ)) where
           r.gives x at (started_later x old middle f.extends s) (scope_later x old middle scene lane current f.extends sc) (f.notes x before_at s sc no (first x w)) (aims x before_at s sc no w, moved x (suits x w));
     }
 
-  pub aim_of_indices : (x : Block) (d : Draft) (memory count : ℕ) (aim : Aim) → aim.row ≡ None → count ≡ length (dims_at x.plan.table memory) → HasNumbers x d count aim.indices → AimSuits x d memory aim
-  aim_of_indices x d memory count aim none all h = record { indices = h.each; row = subst (λ (o : Option ℕ). RowSuits x d memory aim.indices o) (sym none) (h.long ∙ all) }
-
-  pub aim_of_row : (x : Block) (d : Draft) (memory value : ℕ) (aim : Aim) → aim.indices ≡ [] → aim.row ≡ Some value → IsNumberThere x d value → AimSuits x d memory aim
-  aim_of_row x d memory value aim none is h = record {
+  pub aim_of_row : (x : Block) (d : Draft) (memory value : ℕ) (form : plain.TermForm) (aim : Aim) → IsRowForm form → aim.indices ≡ [] → aim.steps ≡ [] → aim.row ≡ Some value → IsNumberThere x d value → AimSuits x d memory form aim
+  aim_of_row x d memory value form aim row none still is h = record {
     indices = subst (λ (vs : List ℕ). AllByRecursion (IsNumberThere x d) vs) (sym none) tt;
-    row = subst (λ (o : Option ℕ). RowSuits x d memory aim.indices o) (sym is) h;
+    offsets = subst (λ (ss : List ReachStep). AllByRecursion (IsNumberThere x d) (offsets_taken ss)) (sym still) tt;
+    row = subst (λ (o : Option ℕ). RowSuits x d memory form aim o) (sym is) (h, (still, row));
   }
+
+  -- Variables that keep offsets, one behind the other.
+
+  hidden_formed : (hs : List Hidden) (old new : Draft) (a : Accesses) (values : List ℕ) → MadeHidden scene lane current hs old new values
+      → FormsTerms scene lane current old new a a values (λ x. AllByRecursion (HiddenSuits x scene lane) hs) (length hs)
+  hidden_formed [] old new a values m = record {
+    part = record {
+      extends = subst (λ (d : Draft). Extends old d) (sym m.0) (extends_self old);
+      forms = λ x at s sc no w. forms_none x old new m.0;
+      notes = λ x at s sc no w. subst (λ (d : Draft). IsNoted x d a) (sym m.0) no;
+    };
+    gives = λ x at s sc no w. subst (λ (us : List ℕ). HasNumbers x new 0 us) (sym m.1) (record { long = refl; each = tt });
+  }
+  hidden_formed (h ∷ hs) old new a values (middle, (v, (more, (shown, (rest, are))))) = hidden_then h hs old middle new a values v more are (shown_first h old middle a v shown) (hidden_formed hs middle new a more rest)
+    where
+      shown_first : (h : Hidden) (old middle : Draft) (a : Accesses) (v : ℕ) → MadeShown current (hidden_register scene lane h) old middle v → Term old middle a a v (λ x. HiddenSuits x scene lane h) h.kind
+      shown_first h old middle a v m =
+          term_value old middle a a v (ShowsThere current (hidden_register scene lane h) old) (λ x. HiddenSuits x scene lane h) (λ x. kind_at x.plan.registers (hidden_register scene lane h)) h.kind refl
+          (shown_forms current (hidden_register scene lane h) old middle v m) (λ x sc w. (w.register.there, λ value at. sc.given (hidden_register scene lane h) value at)) (λ x w. w.register.kind_is)
+
+      hidden_then : (h : Hidden) (hs : List Hidden) (old middle new : Draft) (a : Accesses) (values : List ℕ) (v : ℕ) (more : List ℕ) → values ≡ v ∷ more
+          → Term old middle a a v (λ x. HiddenSuits x scene lane h) h.kind → FormsTerms scene lane current middle new a a more (λ x. AllByRecursion (HiddenSuits x scene lane) hs) (length hs)
+          → FormsTerms scene lane current old new a a values (λ x. HiddenSuits x scene lane h × AllByRecursion (HiddenSuits x scene lane) hs) (suc (length hs))
+      hidden_then h hs old middle new a values v more are f g = record {
+        part = part_again old middle new a a a (λ x. HiddenSuits x scene lane h) (λ x. AllByRecursion (HiddenSuits x scene lane) hs) (λ x. HiddenSuits x scene lane h × AllByRecursion (HiddenSuits x scene lane) hs) f.part g.part (λ x w. w.0) (λ x at s sc no w. w.1);
+        gives = λ x at s sc no w.
+            let before_at = agrees_before x middle new g.part.extends at in
+            let k = f.gives x before_at s sc no w.0 in
+            let behind = g.gives x at (started_later x old middle f.part.extends s) (scope_later x old middle scene lane current f.part.extends sc) (f.part.notes x before_at s sc no w.0) w.1 in
+            subst (λ (us : List ℕ). HasNumbers x new (suc (length hs)) us) (sym are) (record {
+              long = ap suc behind.long;
+              each = ((h.kind, (w.0.integer, kind_later x middle new _ v g.part.extends k)), behind.each);
+            });
+      }
+
+  pub hidden_long : (hs : List Hidden) (old new : Draft) (values : List ℕ) → MadeHidden scene lane current hs old new values → length values ≡ length hs
+  hidden_long [] old new values m = ap (λ (us : List ℕ). length us) m.1
+  hidden_long (h ∷ hs) old new values (middle, (v, (more, (shown, (rest, are))))) = ap (λ (us : List ℕ). length us) are ∙ ap suc (hidden_long hs middle new more rest)
+
+  -- what stands behind indices: nothing for a memory, for a view the steps of its way
+  pub way_part : (way : Option Way) (memory first : ℕ) (old new : Draft) (a : Accesses) (steps : List ReachStep) → MadeWay scene lane current old new first way steps → Part old new a a (λ x. WaySuits x scene lane memory first way)
+  way_part None memory first old new a steps m = record {
+    extends = subst (λ (d : Draft). Extends old d) (sym m.0) (extends_self old);
+    forms = λ x at s sc no w. forms_none x old new m.0;
+    notes = λ x at s sc no w. subst (λ (d : Draft). IsNoted x d a) (sym m.0) no;
+  }
+  way_part (Some w) memory first old new a steps m =
+      part_where old new a a (λ x. AllByRecursion (HiddenSuits x scene lane) w.hidden) (λ x. WaySuits x scene lane memory first (Some w)) (λ x h. h.0) (hidden_formed w.hidden old new a m.values m.hidden).part
+
+  way_gives : (way : Option Way) (memory first count : ℕ) (old new : Draft) (a : Accesses) (form : plain.TermForm) (aim : Aim) → MadeWay scene lane current old new first way aim.steps → aim.row ≡ None
+      → (x : Block) → Agrees x new → Started x old → IsScope x old scene lane current → IsNoted x old a → WaySuits x scene lane memory first way → count ≡ length (dims_by (dims_at x.plan.table memory) way)
+      → HasNumbers x new count aim.indices → AimSuits x new memory form aim
+  way_gives None memory first count old new a form aim m row x at s sc noted suits all indices = memory_aim x scene lane memory first new form aim count row indices m.1 all
+  way_gives (Some w) memory first count old new a form aim m row x at s sc noted suits all indices =
+      way_aim x scene lane memory first new form aim count row indices w m.values m.steps_are ((hidden_formed w.hidden old new a m.values m.hidden).gives x at s sc noted suits.0) suits all
+
+  numbers_later : (x : Block) (old new : Draft) (count : ℕ) (values : List ℕ) → Extends old new → HasNumbers x old count values → HasNumbers x new count values
+  numbers_later x old new count values e h = record { long = h.long; each = all_weaker _ _ values (λ n k. number_later x old new n e k) h.each }
+
+  -- indices, and the steps behind them, name an element
+  pub through_made : (ts : plain.Terms) (r : Ref) (n : ℕ) (old named new : Draft) (before after : Accesses) (aim : Aim) → aim.row ≡ None
+      → FormsTerms scene lane current old named before after aim.indices (λ x. TermsSuit x scene lane n ts × AreNumbers ts) (count_of ts)
+      → MadeWay scene lane current named new (first_view scene r) (way_of (known_in scene) r) aim.steps
+      → FormsAim scene lane current old new before after (memory_of (known_in scene) r) aim (λ x. NamedSuits x scene lane n r ts)
+  through_made ts r n old named new before after aim row f m = record {
+    part = part_again old named new before after after (λ x. TermsSuit x scene lane n ts × AreNumbers ts) (λ x. WaySuits x scene lane (memory_of (known_in scene) r) (first_view scene r) (way_of (known_in scene) r)) (λ x. NamedSuits x scene lane n r ts) f.part way
+        (λ x w. w.0) (λ x at s sc no w. w.1.1);
+    gives = λ x at s sc no w form.
+        let before_at = agrees_before x named new way.extends at in
+        way_gives (way_of (known_in scene) r) (memory_of (known_in scene) r) (first_view scene r) (count_of ts) named new after form aim m row x at
+        (started_later x old named f.part.extends s) (scope_later x old named scene lane current f.part.extends sc) (f.part.notes x before_at s sc no w.0) w.1.1 w.1.0
+        (numbers_later x named new (count_of ts) aim.indices way.extends (f.gives x before_at s sc no w.0));
+  }
+    where
+      way : Part named new after after (λ x. WaySuits x scene lane (memory_of (known_in scene) r) (first_view scene r) (way_of (known_in scene) r))
+      way = way_part (way_of (known_in scene) r) (memory_of (known_in scene) r) (first_view scene r) named new after aim.steps m
 
   formed_access : (place : Place) (k : Option Kind) (r : Ref) (ts : plain.Terms) → AllFormed ts → Formed (plain.term place k (plain.accessed r ts))
   formed_access place k r ts all old new before after n next v m few =
       read_behind place k (plain.accessed r ts) (memory_of (known_in scene) r) old m.middle new before m.between after m.aim v (n + terms_accesses ts) own
       (read_forms scene lane current (plain.term place k (plain.accessed r ts)) (memory_of (known_in scene) r) m.aim m.middle new m.between after v (kind_or_first k) m.reads)
-      (λ x. TermsSuit x scene lane n ts × AreNumbers ts) (λ x. TermSuits x scene lane n (plain.term place k (plain.accessed r ts))) f.part (λ x w. w.0) (λ x w. w.1.1)
-      (λ x at s sc no w. aim_of_indices x m.middle (memory_of (known_in scene) r) (count_of ts) m.aim m.row w.1.0 (f.gives x at s sc no w.0))
+      (λ x. NamedSuits x scene lane n r ts) (λ x. TermSuits x scene lane n (plain.term place k (plain.accessed r ts))) through.part (λ x w. (w.0, w.1.0)) (λ x w. w.1.1)
+      (λ x at s sc no w. through.gives x at s sc no (w.0, w.1.0) (plain.accessed r ts))
     where
       own : m.aim.number ≡ n + terms_accesses ts
-      own = all_numbered ts old m.middle before m.between n m.aim.number m.aim.indices m.indices (omega (arith, few))
+      own = all_numbered ts old m.named before m.between n m.aim.number m.aim.indices m.indices (omega (arith, few))
 
-      f : FormsTerms scene lane current old m.middle before m.between m.aim.indices (λ x. TermsSuit x scene lane n ts × AreNumbers ts) (count_of ts)
-      f = all old m.middle before m.between n m.aim.number m.aim.indices m.indices (omega (arith, few))
+      through : FormsAim scene lane current old m.middle before m.between (memory_of (known_in scene) r) m.aim (λ x. NamedSuits x scene lane n r ts)
+      through = through_made ts r n old m.named m.middle before m.between m.aim m.row (all old m.named before m.between n m.aim.number m.aim.indices m.indices (omega (arith, few))) m.steps
 
   formed_bank : (place : Place) (k : Option Kind) (r : Ref) (bank : ℕ) (at : Place) (t : plain.Term) → Formed t → Formed (plain.term place k (plain.in_bank r bank at t))
   formed_bank place k r bank at t one old new before after n next v m few =
       read_behind place k (plain.in_bank r bank at t) (memory_of (known_in scene) r) old m.middle new before m.between after m.aim v (n + term_accesses t) own
       (read_forms scene lane current (plain.term place k (plain.in_bank r bank at t)) (memory_of (known_in scene) r) m.aim m.middle new m.between after v (kind_or_first k) m.reads)
       (λ x. TermSuits x scene lane n t) (λ x. TermSuits x scene lane n (plain.term place k (plain.in_bank r bank at t))) f.part (λ x w. w.0.0) (λ x w. w.1)
-      (λ x agrees s sc no w. aim_of_row x m.middle (memory_of (known_in scene) r) m.value m.aim m.none m.row_is (kind_written t, (w.0.1, f.gives x agrees s sc no w.0.0)))
+      (λ x agrees s sc no w. aim_of_row x m.middle (memory_of (known_in scene) r) m.value (plain.in_bank r bank at t) m.aim tt m.none m.steps m.row_is (kind_written t, (w.0.1, f.gives x agrees s sc no w.0.0)))
     where
       own : m.aim.number ≡ n + term_accesses t
       own = numbered t old m.middle before m.between n m.aim.number m.value m.row (omega (arith, few))
@@ -327,3 +406,7 @@ module _ (scene : Scene) (lane : Lane) (current : List (Option ℕ)) where
   pub indices_formed : (ts : plain.Terms) (old new : Draft) (before after : Accesses) (n : ℕ) (aim : Aim) → MadeIndices scene lane current ts old new before after n aim → n + terms_accesses ts < 2 ^ 32
       → FormsTerms scene lane current old new before after aim.indices (λ x. TermsSuit x scene lane n ts × AreNumbers ts) (count_of ts)
   indices_formed ts old new before after n aim m few = all_formed ts old new before after n aim.number aim.indices m.indices few
+
+  pub through_formed : (r : Ref) (ts : plain.Terms) (old new : Draft) (before after : Accesses) (n : ℕ) (aim : Aim) → MadeThrough scene lane current r ts old new before after n aim → n + terms_accesses ts < 2 ^ 32
+      → FormsAim scene lane current old new before after (memory_of (known_in scene) r) aim (λ x. NamedSuits x scene lane n r ts)
+  through_formed r ts old new before after n aim m few = through_made ts r n old m.middle new before after aim m.row (all_formed ts old m.middle before after n aim.number aim.indices m.indices few) m.steps

@@ -1,20 +1,25 @@
 -- When expressions are there: by recursion on the expression, each part behind those before it.
 use Rattle.std.proofs.Common.{◌≡◌, ℕ, suc, ◌+◌, ◌^◌, ◌<◌, ◌≤◌, true, List, Some, None, sym, ap, ◌∙◌, subst, arith, length, map, add-one}
-use Rattle.std.specs.Prelude.{Bool as Truth, [], ◌||◌, max, Option}
+use Rattle.std.specs.Prelude.{Bool as Truth, [], ◌∷◌, ◌++◌, ◌||◌, ◌==◌, max, slice_get, Option}
+use Rattle.std.specs.List.{AllByRecursion}
 use Rattle.dh_base.specs.declared.places.Place.{Place}
 use Rattle.dh_value.specs.declared.kinds.Kind.{Kind}
 use Rattle.dh_value.specs.declared.operators.Op.{Op}
 use Rattle.dh_value.specs.Operations.{truth}
+use Rattle.dh_tree.specs.declared.trees.counters.Counter.{Counter}
 use Rattle.dh_tree.specs.declared.trees.expressions.Ref.{Ref}
 use Rattle.dh_tree.specs.PlainTrees as plain
 use Rattle.dh_meaning.specs.AccessNumbers.{term_accesses, terms_accesses}
 use Rattle.dh_meaning.specs.Bindings.{kind_found, kind_or_first}
-use Rattle.dh_meaning.specs.CoreOf.{core_term, entity_number, memory_of, reach_of}
-use Rattle.dh_meaning.specs.Levels.{Leveled, Levels, greatest, read_leveled}
+use Rattle.dh_meaning.specs.Core.{CoreTerms}
+use Rattle.dh_meaning.specs.CoreOf.{core_term, core_terms, entity_number, kept_terms, memory_of, reach_of, target_to, way_of}
+use Rattle.dh_meaning.specs.Levels.{Leveled, Levels, greatest, read_leveled, terms_leveled}
+use Rattle.dh_meaning.specs.Ways.{Hidden, Way}
 use Rattle.dh_code.specs.Slots.{held_at}
+use Rattle.dh_plan.specs.declared.operations.ReachStep.{ReachStep}
 use Rattle.dh_plan.specs.LegalSchedules.{greatest_of}
-use Rattle.dh_plan.specs.Ordered.{one_or_none}
-use Rattle.dh_plan.specs.PlanPhases.{term_mentions}
+use Rattle.dh_plan.specs.Ordered.{offsets_taken, one_or_none}
+use Rattle.dh_plan.specs.PlanPhases.{target_mentions, term_mentions, terms_mention}
 use Rattle.dh_expressions.specs.declared.accesses.Accesses.{Accesses}
 use Rattle.dh_expressions.specs.declared.drafts.Draft.{Draft}
 use Rattle.dh_expressions.specs.declared.elements.Aim.{Aim}
@@ -22,18 +27,21 @@ use Rattle.dh_expressions.specs.declared.scenes.Lane.{Lane}
 use Rattle.dh_expressions.specs.declared.scenes.Scene.{Scene}
 use Rattle.dh_formed.specs.Counted.{HaveGiven, Stands}
 use Rattle.dh_expressions.specs.Drafted.{Extends}
-use Rattle.dh_expressions.specs.Evaluated.{counter_of, known_in}
-use Rattle.dh_formed.specs.Formed.{Agrees, AreNumbers, Block, FormsPart, ReadSuits, TermSuits, TermsSuit}
-use Rattle.dh_expressions.specs.MadeTerms.{MadeRead, MadeTerm, MadeTerms}
-use Rattle.dh_formed.specs.Timed.{AgreeInTime, AreBounded, Clocks, EntityAt, HasClock, LevelsThen, NotedInTime, ReadsAgree, StandsInTime, TimesTerm, TimesTerms, TimesValue, VariableAt, Within, aim_clock, all_leveled, clock_of, leveled}
+use Rattle.dh_expressions.specs.Evaluated.{counter_of, hidden_register}
+use Rattle.dh_expressions.specs.Named.{first_view, known_in}
+use Rattle.dh_formed.specs.Formed.{Agrees, AreNumbers, Block, FormsAim, FormsPart, HiddenSuits, NamedSuits, ReadSuits, TermSuits, TermsSuit, WaySuits}
+use Rattle.dh_expressions.specs.MadeTerms.{MadeHidden, MadeRead, MadeSteps, MadeTerm, MadeTerms, MadeThrough, MadeWay}
+use Rattle.dh_formed.specs.Timed.{AgreeInTime, AreBounded, Clocks, CurrentAt, EntityAt, HasClock, LevelsThen, NotedInTime, ReadsAgree, StandsInTime, TimesAim, TimesTerm, TimesTerms, TimesValue, VariableAt, Within, aim_clock, all_leveled, clock_of, leveled, named_leveled}
 use Rattle.dh_formed.proofs.ElementsFormed.{read_forms}
-use Rattle.dh_formed.proofs.LevelsBehind.{all_levels_behind, levels_behind, operation_leveled, read_grows, read_keeps}
+use Rattle.dh_formed.proofs.LevelsBehind.{all_levels_behind, levels_behind, named_level, named_levels, named_levels_behind, operation_leveled, read_grows, read_keeps, way_level}
+use Rattle.dh_formed.proofs.NamedTargets.{named_mentions, way_mentions}
 use Rattle.dh_formed.proofs.ReadsTimed.{greatest_append, read_timed}
-use Rattle.dh_formed.proofs.TermsCounted.{AllMention, Mentions, all_counted, counted, itself, left_of, operation_mentions, right_of, stands_behind, stands_first}
-use Rattle.dh_formed.proofs.TermsFormed.{all_formed, all_numbered, formed, numbered}
-use Rattle.dh_formed.proofs.Unled.{unled_leveled, unled_mentions}
+use Rattle.dh_formed.proofs.TermsCounted.{AllMention, Mentions, NamedMention, all_counted, counted, itself, left_of, operation_mentions, right_of, stands_behind, stands_first, through_counted}
+use Rattle.dh_formed.proofs.TermsFormed.{all_formed, all_numbered, formed, hidden_long, numbered, through_made, way_part}
 use Rattle.dh_formed.proofs.ValuesFormed.{agrees_before}
-use Rattle.dh_formed.proofs.ValuesTimed.{agree_before, converted_timed, number_timed, operation_timed, time_later, variable_timed, within_again, within_more, word_timed}
+use Rattle.dh_formed.proofs.ValuesTimed.{agree_before, converted_timed, number_timed, operation_timed, shown_timed, time_later, variable_timed, within_again, within_more, within_none, word_timed}
+use Rattle.dh_formed.proofs.WaysFormed.{steps_take}
+use Rattle.dh_expressions.proofs.Pushing.{extends_again, extends_self}
 
 module _ (c : Clocks) (scene : Scene) (lane : Lane) (current : List (Option ℕ)) (shared : ℕ → Option ℕ) (outer : ℕ) where
   abbrev InTime : (old new : Draft) → (before : Accesses) → (n count : ℕ) → Levels → Type 0
@@ -272,22 +280,84 @@ module _ (c : Clocks) (scene : Scene) (lane : Lane) (current : List (Option ℕ)
 
   -- Reads: the values of the element first, then the read itself.
 
-  indices_clock : (memory level : ℕ) (aim : Aim) → aim.row ≡ None → greatest_of (map (clock_of c) aim.indices) ≡ level → aim_clock c memory aim ≡ level
-  indices_clock memory level aim none at =
-      greatest_append (clock_of c) aim.indices (one_or_none aim.row)
-      ∙ (ap (λ k. max k (greatest_of (map (clock_of c) (one_or_none aim.row)))) at ∙ (ap (λ (o : Option ℕ). max level (greatest_of (map (clock_of c) (one_or_none o)))) none ∙ alone level))
+  indices_clock : (memory level behind : ℕ) (aim : Aim) → aim.row ≡ None → greatest_of (map (clock_of c) aim.indices) ≡ level → greatest_of (map (clock_of c) (offsets_taken aim.steps)) ≡ behind → aim_clock c memory aim ≡ max level behind
+  indices_clock memory level behind aim none at offsets =
+      greatest_append (clock_of c) aim.indices (offsets_taken aim.steps ++ one_or_none aim.row)
+      ∙ (ap (λ k. max k (greatest_of (map (clock_of c) (offsets_taken aim.steps ++ one_or_none aim.row)))) at
+      ∙ ap (λ k. max level k) (greatest_append (clock_of c) (offsets_taken aim.steps) (one_or_none aim.row)
+      ∙ (ap (λ k. max k (greatest_of (map (clock_of c) (one_or_none aim.row)))) offsets ∙ (ap (λ (o : Option ℕ). max behind (greatest_of (map (clock_of c) (one_or_none o)))) none ∙ alone behind))))
     where
       alone : (n : ℕ) → max n 0 ≡ n
       alone n = omega arith
 
-  row_clock : (memory level value : ℕ) (aim : Aim) → aim.indices ≡ [] → aim.row ≡ Some value → clock_of c value ≡ level → aim_clock c memory aim ≡ level
-  row_clock memory level value aim none is at =
-      greatest_append (clock_of c) aim.indices (one_or_none aim.row)
-      ∙ (ap (λ (vs : List ℕ). max (greatest_of (map (clock_of c) vs)) (greatest_of (map (clock_of c) (one_or_none aim.row)))) none
-      ∙ (ap (λ (o : Option ℕ). max 0 (greatest_of (map (clock_of c) (one_or_none o)))) is ∙ (ap (λ k. max 0 (max k 0)) at ∙ alone level)))
+  row_clock : (memory level value : ℕ) (aim : Aim) → aim.indices ≡ [] → aim.steps ≡ [] → aim.row ≡ Some value → clock_of c value ≡ level → aim_clock c memory aim ≡ level
+  row_clock memory level value aim none still is at =
+      greatest_append (clock_of c) aim.indices (offsets_taken aim.steps ++ one_or_none aim.row)
+      ∙ (ap (λ (vs : List ℕ). max (greatest_of (map (clock_of c) vs)) (greatest_of (map (clock_of c) (offsets_taken aim.steps ++ one_or_none aim.row)))) none
+      ∙ (ap (λ (ss : List ReachStep). max 0 (greatest_of (map (clock_of c) (offsets_taken ss ++ one_or_none aim.row)))) still
+      ∙ (ap (λ (o : Option ℕ). max 0 (greatest_of (map (clock_of c) (one_or_none o)))) is ∙ (ap (λ k. max 0 (max k 0)) at ∙ alone level))))
     where
       alone : (n : ℕ) → max 0 (max n 0) ≡ n
       alone n = omega arith
+
+  -- Variables that keep offsets, each at its own level.
+
+  abbrev HiddenAt : Levels → List Hidden → Type 0
+  HiddenAt k hs = AllByRecursion (λ h. CurrentAt c (slice_get current (hidden_register scene lane h)) (k.variables h.entity)) hs
+
+  kept_at : (hs : List Hidden) (k : Levels) → Variables (λ e. terms_mention e (kept_terms hs) ≡ true) k → AllByRecursion (HiddenSuits c.block scene lane) hs → HiddenAt k hs
+  kept_at [] k more suits = tt
+  kept_at (h ∷ hs) k more suits = (
+    subst (λ (o : Option Counter). VariableAt c o (held_at scene.held.now h.entity) lane current (k.variables h.entity)) suits.0.counter
+        (more h.entity (left_of (h.entity == h.entity) (terms_mention h.entity (kept_terms hs)) (itself h.entity))),
+    kept_at hs k (λ e q. more e (right_of (e == h.entity) (terms_mention e (kept_terms hs)) q)) suits.1,
+  )
+
+  hidden_extends : (hs : List Hidden) (old new : Draft) (values : List ℕ) → MadeHidden scene lane current hs old new values → Extends old new
+  hidden_extends [] old new values m = subst (λ (d : Draft). Extends old d) (sym m.0) (extends_self old)
+  hidden_extends (h ∷ hs) old new values (d, (v, (more, (shown, (rest, are))))) =
+      extends_again old d new (shown_timed current (hidden_register scene lane h) (λ x. 0) old d v shown).extends (hidden_extends hs d new more rest)
+
+  hidden_timed : (hs : List Hidden) (k : Levels) → AreBounded k → HiddenAt k hs → (old new : Draft) (values : List ℕ) → MadeHidden scene lane current hs old new values → AgreeInTime c new → c.block.first ≤ length old.operations.items
+      → Within c old new k.most × (greatest_of (map (clock_of c) values) ≡ (terms_leveled shared outer (kept_terms hs) k).level)
+  hidden_timed [] k bounded sees old new values m agree started = (within_none c old new k.most m.0, ap (λ (us : List ℕ). greatest_of (map (clock_of c) us)) m.1)
+  hidden_timed (h ∷ hs) k bounded sees old new values (d, (v, (more, (shown, (rest, are))))) agree started =
+      hidden_then h k old d new values v more (terms_leveled shared outer (kept_terms hs) k).level bounded sees.0 are
+      (shown_timed current (hidden_register scene lane h) (λ x. k.variables h.entity) old d v shown) (hidden_extends hs d new more rest) agree started
+      (λ began. hidden_timed hs k bounded sees.1 d new more rest agree began)
+    where
+      hidden_then : (h : Hidden) (k : Levels) (old d new : Draft) (values : List ℕ) (v : ℕ) (more : List ℕ) (level : ℕ) → AreBounded k → CurrentAt c (slice_get current (hidden_register scene lane h)) (k.variables h.entity) → values ≡ v ∷ more
+          → TimesValue old d v (λ x. CurrentAt x (slice_get current (hidden_register scene lane h)) (k.variables h.entity)) (λ x. k.variables h.entity) → Extends d new → AgreeInTime c new → c.block.first ≤ length old.operations.items
+          → (c.block.first ≤ length d.operations.items → Within c d new k.most × (greatest_of (map (clock_of c) more) ≡ level))
+          → Within c old new k.most × (greatest_of (map (clock_of c) values) ≡ max (k.variables h.entity) level)
+      hidden_then h k old d new values v more level bounded see are made extends agree started rest =
+          let before = agree_before c d new extends agree in
+          let behind = rest (time_later c old d made.extends started) in (
+            within_again c old d new (k.variables h.entity) k.most (bounded.variables h.entity) (made.within c before started see) behind.0,
+            ap (λ (us : List ℕ). greatest_of (map (clock_of c) us)) are
+                ∙ (ap (λ j. max j (greatest_of (map (clock_of c) more))) (made.at c before started see) ∙ ap (λ j. max (k.variables h.entity) j) behind.1),
+          )
+
+  -- what stands behind indices: nothing for a memory, for a view the steps of its way
+  way_timed : (way : Option Way) (memory first : ℕ) (k : Levels) (ts : CoreTerms) → AreBounded k → Variables (λ e. target_mentions e (target_to way ts) ≡ true) k → WaySuits c.block scene lane memory first way
+      → (old new : Draft) (steps : List ReachStep) → MadeWay scene lane current old new first way steps → AgreeInTime c new → c.block.first ≤ length old.operations.items
+      → Within c old new k.most × (greatest_of (map (clock_of c) (offsets_taken steps)) ≡ way_level shared outer way k)
+  way_timed None memory first k ts bounded vars suits old new steps m agree started =
+      (within_none c old new k.most m.0, ap (λ (ss : List ReachStep). greatest_of (map (clock_of c) (offsets_taken ss))) m.1)
+  way_timed (Some w) memory first k ts bounded vars suits old new steps m agree started =
+      steps_timed w memory first k old new steps m suits (hidden_timed w.hidden k bounded (kept_at w.hidden k (λ e q. vars e (way_mentions w e ts q)) suits.0) old new m.values m.hidden agree started)
+    where
+      steps_timed : (w : Way) (memory first : ℕ) (k : Levels) (old new : Draft) (steps : List ReachStep) (m : MadeSteps scene lane current old new first w steps) → WaySuits c.block scene lane memory first (Some w)
+          → Within c old new k.most × (greatest_of (map (clock_of c) m.values) ≡ (terms_leveled shared outer (kept_terms w.hidden) k).level)
+          → Within c old new k.most × (greatest_of (map (clock_of c) (offsets_taken steps)) ≡ (terms_leveled shared outer (kept_terms w.hidden) k).level)
+      steps_timed w memory first k old new steps m suits h = (
+        h.0,
+        ap (λ (ss : List ReachStep). greatest_of (map (clock_of c) (offsets_taken ss))) m.steps_are
+            ∙ (ap (λ (vs : List ℕ). greatest_of (map (clock_of c) vs)) (steps_take c.block scene.through.now memory w.steps first (length w.hidden) w.is.shape.dims m.values long suits.1) ∙ h.1),
+      )
+        where
+          long : length m.values ≡ length w.hidden
+          long = hidden_long scene lane current w.hidden old new m.values m.hidden
 
   module _ (place : Place) (k : Option Kind) (form : plain.TermForm) (r : Ref) (old middle new : Draft) (before between after : Accesses) (n count : ℕ) (l : Levels) (first : Leveled) (aim : Aim) (v : ℕ)
       (own : aim.number ≡ n + count) (levels : LevelsThen n count l first)
@@ -330,29 +400,73 @@ module _ (c : Clocks) (scene : Scene) (lane : Lane) (current : List (Option ℕ)
       noted = read_part.noted;
     }
 
-  timed_access : (place : Place) (k : Option Kind) (r : Ref) (ts : plain.Terms) → AllTimed ts → Timed (plain.term place k (plain.accessed r ts))
-  timed_access place k r ts all old new before after n next v m few l s w vars reads =
-      subst (λ (j : Leveled). TimesTerm c old new after j v) (sym (unled_leveled scene n place k r ts shared outer l))
-      (read_behind place k (plain.accessed r ts) r old m.middle new before m.between after n (terms_accesses ts) l first m.aim v own behind m.reads following w.1.1 (indices_clock (memory_of (known_in scene) r) first.level m.aim m.row f.at) f.within s.bounded read)
+  -- indices with the steps of the way of what they name
+  aim_timed : (r : Ref) (ts : plain.Terms) → AllTimed ts → (old named new : Draft) (before after : Accesses) (n : ℕ) (aim : Aim) → aim.row ≡ None → MadeTerms scene lane current ts old named before after n aim.number aim.indices
+      → MadeWay scene lane current named new (first_view scene r) (way_of (known_in scene) r) aim.steps → n + terms_accesses ts < 2 ^ 32
+      → (l : Levels) → InTime old new before n (terms_accesses ts) l → NamedSuits c.block scene lane n r ts → Variables (NamedMention c.block scene lane current n r ts) l
+      → ReadsAgree c (named_leveled scene shared outer n r ts l).levels (n + terms_accesses ts)
+      → TimesAim c old new after (named_leveled scene shared outer n r ts l) (memory_of (known_in scene) r) aim
+  aim_timed r ts all old named new before after n aim row m steps few l s w vars reads = record {
+    within = subst (λ (k : Levels). Within c old new k.most) (sym same) (within_again c old named new first.levels.most first.levels.most (self first.levels.most) f.within way.0);
+    at =
+        indices_clock (memory_of (known_in scene) r) first.level (way_level shared outer (way_of (known_in scene) r) first.levels) aim row f.at way.1
+        ∙ sym (named_level shared outer (way_of (known_in scene) r) (core_terms (known_in scene) n ts) l);
+    noted = f.noted;
+  }
     where
-      -- no name has a way
-      read : ReadsAgree c (read_leveled shared outer (reach_of (known_in scene) (n + terms_accesses ts) place r) (all_leveled scene shared outer n ts l)).levels (n + suc (terms_accesses ts))
-      read = subst (λ (j : Leveled). ReadsAgree c j.levels (n + suc (terms_accesses ts))) (unled_leveled scene n place k r ts shared outer l) reads
-
-      named : Variables (AllMention c.block scene lane current n ts) l
-      named e q = vars e (unled_mentions scene n place k r ts e ∙ q)
-
       first : Leveled
       first = all_leveled scene shared outer n ts l
 
-      behind : LevelsThen n (terms_accesses ts) l first
+      same : (named_leveled scene shared outer n r ts l).levels ≡ (all_leveled scene shared outer n ts l).levels
+      same = named_levels shared outer (way_of (known_in scene) r) (core_terms (known_in scene) n ts) l
+
+      behind : LevelsThen n (terms_accesses ts) l (all_leveled scene shared outer n ts l)
       behind = all_levels_behind scene shared outer ts n l
 
-      own : m.aim.number ≡ n + terms_accesses ts
-      own = all_numbered scene lane current ts old m.middle before m.between n m.aim.number m.aim.indices m.indices (omega (arith, few))
+      more : Extends named new
+      more = (way_part scene lane current (way_of (known_in scene) r) (memory_of (known_in scene) r) (first_view scene r) named new after aim.steps steps).extends
 
-      part : FormsPart scene lane current old m.middle before m.between (λ y. TermsSuit y scene lane n ts × AreNumbers ts)
-      part = (all_formed scene lane current ts old m.middle before m.between n m.aim.number m.aim.indices m.indices (omega (arith, few))).part
+      at_named : Agrees c.block named
+      at_named = agrees_before c.block named new more s.stands.agrees
+
+      here : InTime old named before n (terms_accesses ts) l
+      here = record {
+        stands = record { agrees = at_named; started = s.stands.started; scope = s.stands.scope; noted = s.stands.noted; next = s.stands.next };
+        agree = agree_before c named new more s.agree;
+        bounded = s.bounded;
+        guards = s.guards;
+        noted = s.noted;
+        outer_few = s.outer_few;
+        outers = s.outers;
+        shares = s.shares;
+      }
+
+      mentioned : Variables (AllMention c.block scene lane current n ts) l
+      mentioned e q = vars e (named_mentions (way_of (known_in scene) r) e (core_terms (known_in scene) n ts) q)
+
+      f : TimesTerms c old named after (all_leveled scene shared outer n ts l) aim.indices
+      f = all old named before after n aim.number aim.indices m few l here w.0 mentioned (subst (λ (k : Levels). ReadsAgree c k (n + terms_accesses ts)) same reads)
+
+      began : c.block.first ≤ length named.operations.items
+      began = time_later c old named (all_formed scene lane current ts old named before after n aim.number aim.indices m few).part.extends s.stands.started
+
+      way : Within c named new (all_leveled scene shared outer n ts l).levels.most × (greatest_of (map (clock_of c) (offsets_taken aim.steps)) ≡ way_level shared outer (way_of (known_in scene) r) (all_leveled scene shared outer n ts l).levels)
+      way =
+          way_timed (way_of (known_in scene) r) (memory_of (known_in scene) r) (first_view scene r) (all_leveled scene shared outer n ts l).levels (core_terms (known_in scene) n ts) (behind.bounded s.bounded)
+          (variables_later (NamedMention c.block scene lane current n r ts) l (all_leveled scene shared outer n ts l).levels behind.variables vars) w.1.1 named new aim.steps steps s.agree began
+
+  timed_access : (place : Place) (k : Option Kind) (r : Ref) (ts : plain.Terms) → AllTimed ts → Timed (plain.term place k (plain.accessed r ts))
+  timed_access place k r ts all old new before after n next v m few l s w vars reads =
+      read_behind place k (plain.accessed r ts) r old m.middle new before m.between after n (terms_accesses ts) l (named_leveled scene shared outer n r ts l) m.aim v own behind m.reads following w.1.1 f.at f.within s.bounded reads
+    where
+      behind : LevelsThen n (terms_accesses ts) l (named_leveled scene shared outer n r ts l)
+      behind = named_levels_behind scene shared outer r ts n l
+
+      own : m.aim.number ≡ n + terms_accesses ts
+      own = all_numbered scene lane current ts old m.named before m.between n m.aim.number m.aim.indices m.indices (omega (arith, few))
+
+      through : FormsAim scene lane current old m.middle before m.between (memory_of (known_in scene) r) m.aim (λ y. NamedSuits y scene lane n r ts)
+      through = through_made scene lane current ts r n old m.named m.middle before m.between m.aim m.row (all_formed scene lane current ts old m.named before m.between n m.aim.number m.aim.indices m.indices (omega (arith, few))) m.steps
 
       more : Extends m.middle new
       more = (read_forms scene lane current (plain.term place k (plain.accessed r ts)) (memory_of (known_in scene) r) m.aim m.middle new m.between after v (kind_or_first k) m.reads).part.extends
@@ -366,22 +480,22 @@ module _ (c : Clocks) (scene : Scene) (lane : Lane) (current : List (Option ℕ)
       here : InTime old m.middle before n (terms_accesses ts) l
       here = time_first old m.middle new before n (terms_accesses ts) 1 l at_middle (agree_before c m.middle new more s.agree) whole
 
-      kept : ReadsAgree c first.levels (n + terms_accesses ts)
-      kept = λ i o site less. sym (read_keeps shared outer (reach_of (known_in scene) (n + terms_accesses ts) place r) first i (λ e. never i e less)) ∙ read i o site (omega (arith, less))
+      kept : ReadsAgree c (named_leveled scene shared outer n r ts l).levels (n + terms_accesses ts)
+      kept = λ i o site less. sym (read_keeps shared outer (reach_of (known_in scene) (n + terms_accesses ts) place r) (named_leveled scene shared outer n r ts l) i (λ e. never i e less)) ∙ reads i o site (omega (arith, less))
         where
           never : (i : ℕ) → i ≡ n + terms_accesses ts → i < n + terms_accesses ts → ⊥
           never i e less = omega (arith, e, less)
 
-      f : TimesTerms c old m.middle m.between first m.aim.indices
-      f = all old m.middle before m.between n m.aim.number m.aim.indices m.indices (omega (arith, few)) l here w.0 named kept
+      f : TimesAim c old m.middle m.between (named_leveled scene shared outer n r ts l) (memory_of (known_in scene) r) m.aim
+      f = aim_timed r ts all old m.named m.middle before m.between n m.aim m.row m.indices m.steps (omega (arith, few)) l here (w.0, w.1.0) vars kept
 
-      following : InTime m.middle new m.between (n + terms_accesses ts) 1 first.levels
-      following = time_behind old m.middle new before m.between n (terms_accesses ts) 1 l first _ part w.0 at_middle
-          (all_counted c.block scene lane current ts old m.middle before m.between n m.aim.number m.aim.indices m.indices (omega (arith, few)) here.stands w.0).given behind f.noted whole
+      following : InTime m.middle new m.between (n + terms_accesses ts) 1 (named_leveled scene shared outer n r ts l).levels
+      following = time_behind old m.middle new before m.between n (terms_accesses ts) 1 l (named_leveled scene shared outer n r ts l) _ through.part (w.0, w.1.0) at_middle
+          (through_counted c.block scene lane current r ts (all_counted c.block scene lane current ts) old m.named m.middle before m.between n m.aim m.indices m.steps (omega (arith, few)) here.stands (w.0, w.1.0)).given behind f.noted whole
 
   timed_bank : (place : Place) (k : Option Kind) (r : Ref) (bank : ℕ) (at : Place) (t : plain.Term) → Timed t → Timed (plain.term place k (plain.in_bank r bank at t))
   timed_bank place k r bank at t one old new before after n next v m few l s w vars reads =
-      read_behind place k (plain.in_bank r bank at t) r old m.middle new before m.between after n (term_accesses t) l first m.aim v own behind m.reads following w.1 (row_clock (memory_of (known_in scene) r) first.level m.value m.aim m.none m.row_is f.at) f.within s.bounded reads
+      read_behind place k (plain.in_bank r bank at t) r old m.middle new before m.between after n (term_accesses t) l first m.aim v own behind m.reads following w.1 (row_clock (memory_of (known_in scene) r) first.level m.value m.aim m.none m.steps m.row_is f.at) f.within s.bounded reads
     where
       first : Leveled
       first = leveled scene shared outer n t l
@@ -450,3 +564,9 @@ module _ (c : Clocks) (scene : Scene) (lane : Lane) (current : List (Option ℕ)
     pub all_timed : (ts : plain.Terms) → AllTimed ts
     all_timed plain.no_terms = timed_none
     all_timed (plain.term_then t ts) = timed_then t ts (timed t) (all_timed ts)
+
+  pub through_timed : (r : Ref) (ts : plain.Terms) (old new : Draft) (before after : Accesses) (n : ℕ) (aim : Aim) → MadeThrough scene lane current r ts old new before after n aim → n + terms_accesses ts < 2 ^ 32
+      → (l : Levels) → InTime old new before n (terms_accesses ts) l → NamedSuits c.block scene lane n r ts → Variables (NamedMention c.block scene lane current n r ts) l
+      → ReadsAgree c (named_leveled scene shared outer n r ts l).levels (n + terms_accesses ts)
+      → TimesAim c old new after (named_leveled scene shared outer n r ts l) (memory_of (known_in scene) r) aim
+  through_timed r ts old new before after n aim m few l s w vars reads = aim_timed r ts (all_timed ts) old m.middle new before after n aim m.row m.indices m.steps few l s w vars reads

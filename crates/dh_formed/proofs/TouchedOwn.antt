@@ -100,8 +100,8 @@ module _ (scene : Scene) (lane : Lane) (current : List (Option ℕ)) where
   access_own : (place : Place) (k : Option Kind) (r : Ref) (ts : plain.Terms) → AllOwn ts → Own (plain.term place k (plain.accessed r ts))
   access_own place k r ts all old new before after n next v p few m out =
       read_other _ _ p.aim p.middle new p.between after v m p.reads
-      (outside_own n (terms_accesses ts) m p.aim.number (all_numbered scene lane current ts old p.middle before p.between n p.aim.number p.aim.indices p.indices (omega (arith, few))) out)
-      ∙ all old p.middle before p.between n p.aim.number p.aim.indices p.indices (omega (arith, few)) m (outside_part n (terms_accesses ts) m out)
+      (outside_own n (terms_accesses ts) m p.aim.number (all_numbered scene lane current ts old p.named before p.between n p.aim.number p.aim.indices p.indices (omega (arith, few))) out)
+      ∙ all old p.named before p.between n p.aim.number p.aim.indices p.indices (omega (arith, few)) m (outside_part n (terms_accesses ts) m out)
 
   bank_own : (place : Place) (k : Option Kind) (r : Ref) (bank : ℕ) (at : Place) (t : plain.Term) → Own t → Own (plain.term place k (plain.in_bank r bank at t))
   bank_own place k r bank at t one old new before after n next v p few m out =

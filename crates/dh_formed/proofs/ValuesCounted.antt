@@ -1,24 +1,30 @@
 -- Values count nothing but the multiplication of an operator, and see no register but that of a variable.
-use Rattle.std.proofs.Common.{◌≡◌, ℕ, zero, suc, ◌+◌, ◌^◌, ◌<◌, ◌≤◌, ◌⊎◌, inl, inr, true, false, List, Some, None, refl, arith, length}
-use Rattle.std.specs.Prelude.{Bool as Truth, if◌then◌else◌, slice_get, Option}
+use Rattle.std.proofs.Common.{◌≡◌, ℕ, zero, suc, ◌+◌, ◌<◌, ◌≤◌, ◌⊎◌, inl, inr, true, false, List, Some, None, refl, arith, length}
+use Rattle.std.specs.Prelude.{Bool as Truth, [], ◌∷◌, if◌then◌else◌, slice_get, Option}
+use Rattle.std.specs.List.{AllByRecursion}
 use Rattle.dh_value.specs.declared.kinds.Kind.{Kind}
 use Rattle.dh_value.specs.declared.kinds.Kind.TheVariants as kind
 use Rattle.dh_value.specs.declared.operators.Op.{Op}
 use Rattle.dh_value.specs.declared.operators.Op.TheVariants as op
 use Rattle.dh_tree.specs.declared.trees.counters.Counter.{Counter}
 use Rattle.dh_tree.specs.PlainTrees.{Term}
+use Rattle.dh_meaning.specs.Ways.{Hidden, Way}
 use Rattle.dh_code.specs.declared.places.Held.{Held}
 use Rattle.dh_plan.specs.declared.operations.OperationForm.{OperationForm}
 use Rattle.dh_plan.specs.declared.operations.OperationForm.TheVariants.{Constant, Old, Compute, Convert}
 use Rattle.dh_plan.specs.declared.operations.Reach.{Reach}
+use Rattle.dh_plan.specs.declared.operations.ReachStep.{ReachStep}
 use Rattle.dh_plan.specs.DoneProgram.{product_of}
 use Rattle.dh_plan.specs.LegalSchedules.{is_product}
 use Rattle.dh_expressions.specs.declared.copies.AccessAt.{AccessAt}
 use Rattle.dh_expressions.specs.declared.drafts.Draft.{Draft}
 use Rattle.dh_expressions.specs.declared.scenes.Lane.{Lane}
+use Rattle.dh_expressions.specs.declared.scenes.Scene.{Scene}
 use Rattle.dh_expressions.specs.Copying.{AddsCopies, AddsCopy, AddsEither}
 use Rattle.dh_formed.specs.Counted.{Counts, FormIs, nothing, register_seen}
 use Rattle.dh_expressions.specs.Drafted.{Pushes}
+use Rattle.dh_expressions.specs.Evaluated.{hidden_register}
+use Rattle.dh_expressions.specs.MadeTerms.{MadeHidden, MadeWay}
 use Rattle.dh_expressions.specs.MadeValues.{IsThere, MadeBit, MadeBits, MadeBy, MadeConverted, MadeCurrent, MadeExtended, MadeHeld, MadeIterator, MadeLowestBit, MadeNumber, MadeOffset, MadeOperation, MadeShifted, MadeShown, MadeSum, MadeTotal, MadeTruth}
 use Rattle.dh_expressions.specs.Shown.{guard_of, is_kept, is_read_term, register_at}
 use Rattle.dh_formed.proofs.CopiesFormed.{copies_forms}
@@ -160,19 +166,41 @@ module _ (Sees : ℕ → Type 0) (Probes Reads Writes : Reach → Type 0) where
   either_counts old new (Some one) None joined h = counts_none old new Is h.0
   either_counts old new (Some one) (Some other) joined h = compute_counts old new h.0 one other op.Either h.1.1
 
-  copy_counts : (leader bank : ℕ → ℕ) (guard : Option ℕ) (n : ℕ) (d new : Draft) (cs copies : List AccessAt) (ns after : List ℕ) → length cs ≡ n → leader n ≤ n
-      → AddsCopy d new cs copies ns after n (leader n) (bank n) guard → Still d new
-  copy_counts leader bank guard n d new cs copies ns after long low (inl s) = counts_none d new Is s.same
-  copy_counts leader bank guard n d new cs copies ns after long low (inr s) =
+  copy_counts : (leader bank place : ℕ → ℕ) (guard : Option ℕ) (n : ℕ) (d new : Draft) (cs copies : List AccessAt) → length cs ≡ n → leader n ≤ n
+      → AddsCopy d new cs copies n (leader n) (bank n) (place n) guard → Still d new
+  copy_counts leader bank place guard n d new cs copies long low (inl s) = counts_none d new Is s.same
+  copy_counts leader bank place guard n d new cs copies long low (inr s) =
       let led = there cs (leader n) (less (leader n) (length cs) low s.other long) in
       either_counts d new led.0.guard guard s.joins.joined (s.joins.joins led.0 led.1).adds
     where
       less : (m l : ℕ) → m ≤ n → (m ≡ n → ⊥) → l ≡ n → m < l
       less m l few other long = omega (arith, few, other, long)
 
-  pub copies_counts : (leader bank : ℕ → ℕ) (guards : List (Option ℕ)) → ((p : ℕ) → leader p ≤ p) → (n : ℕ) (old new : Draft) (numbers after : List ℕ) (copies : List AccessAt) → n < 2 ^ 64
-      → AddsCopies leader bank guards n old new numbers after copies → Still old new
-  copies_counts leader bank guards low zero old new numbers after copies few m = counts_none old new Is m.0
-  copies_counts leader bank guards low (suc n) old new numbers after copies few (d, (ns, (cs, (before, step)))) =
-      still_again old d new (copies_counts leader bank guards low n old d numbers ns cs (omega (arith, few)) before)
-      (copy_counts leader bank (guard_of guards n) n d new cs copies ns after (copies_forms leader bank guards low n old d numbers ns cs (omega (arith, few)) before).long (low n) step)
+  pub copies_counts : (leader bank place : ℕ → ℕ) (guards : List (Option ℕ)) → ((p : ℕ) → leader p ≤ p) → (n : ℕ) (old new : Draft) (copies : List AccessAt) → AddsCopies leader bank place guards n old new copies → Still old new
+  copies_counts leader bank place guards low zero old new copies m = counts_none old new Is m.0
+  copies_counts leader bank place guards low (suc n) old new copies (d, (cs, (before, step))) =
+      still_again old d new (copies_counts leader bank place guards low n old d cs before)
+      (copy_counts leader bank place (guard_of guards n) n d new cs copies (copies_forms leader bank place guards low n old d cs before).long (low n) step)
+
+  -- Variables that keep offsets.
+
+  hidden_counts : (scene : Scene) (lane : Lane) (current : List (Option ℕ)) (hs : List Hidden) → AllByRecursion (λ h. Sees (hidden_register scene lane h)) hs → (old new : Draft) (values : List ℕ) → MadeHidden scene lane current hs old new values → Still old new
+  hidden_counts scene lane current [] sees old new values m = counts_none old new Is m.0
+  hidden_counts scene lane current (h ∷ hs) sees old new values (d, (v, (more, (shown, (rest, are))))) =
+      still_again old d new (shown_counts current (hidden_register scene lane h) sees.0 old d v shown) (hidden_counts scene lane current hs sees.1 d new more rest)
+
+  abbrev SeesOn : Scene → Lane → Option Way → Type 0
+  SeesOn scene lane None = Unit {0}
+  SeesOn scene lane (Some w) = AllByRecursion (λ h. Sees (hidden_register scene lane h)) w.hidden
+
+  sees_each : ((register : ℕ) → Sees register) → (scene : Scene) (lane : Lane) (hs : List Hidden) → AllByRecursion (λ h. Sees (hidden_register scene lane h)) hs
+  sees_each any scene lane [] = tt
+  sees_each any scene lane (h ∷ hs) = (any (hidden_register scene lane h), sees_each any scene lane hs)
+
+  pub sees_any : ((register : ℕ) → Sees register) → (scene : Scene) (lane : Lane) (way : Option Way) → SeesOn scene lane way
+  sees_any any scene lane None = tt
+  sees_any any scene lane (Some w) = sees_each any scene lane w.hidden
+
+  pub way_counts : (scene : Scene) (lane : Lane) (current : List (Option ℕ)) (way : Option Way) (first : ℕ) → SeesOn scene lane way → (old new : Draft) (steps : List ReachStep) → MadeWay scene lane current old new first way steps → Still old new
+  way_counts scene lane current None first sees old new steps m = counts_none old new Is m.0
+  way_counts scene lane current (Some w) first sees old new steps m = hidden_counts scene lane current w.hidden sees old new m.values m.hidden

@@ -1,6 +1,6 @@
 -- What is counted of the operations that are put down, and what each of them is: multiplications, probes, reads and
 -- writes of each access, and the registers that are seen. Nothing is checked or set in an expression.
-use Rattle.std.specs.Prelude.{◌≡◌, ℕ, ◌+◌, ◌<◌, ◌≤◌, ◌==◌, ◌&&◌, nat_le, nat_lt, true, if◌then◌else◌, List, [], ◌∷◌, ◌++◌, length, slice_get, Option, Some, None}
+use Rattle.std.specs.Prelude.{◌≡◌, ℕ, ◌+◌, ◌<◌, ◌≤◌, ◌==◌, ◌&&◌, nat_le, nat_lt, true, if◌then◌else◌, List, ◌++◌, length, slice_get, Option, Some, None}
 use Rattle.std.specs.List.{AllByRecursion}
 use Rattle.dh_tree.specs.declared.trees.counters.Counter.{Counter}
 use Rattle.dh_tree.specs.PlainTrees as plain
@@ -19,12 +19,11 @@ use Rattle.dh_expressions.specs.declared.accesses.Touched.{Touched}
 use Rattle.dh_expressions.specs.declared.drafts.Draft.{Draft}
 use Rattle.dh_expressions.specs.declared.scenes.Lane.{Lane}
 use Rattle.dh_expressions.specs.declared.scenes.Scene.{Scene}
-use Rattle.dh_expressions.specs.Copying.{leaders_at}
 use Rattle.dh_expressions.specs.Evaluated.{counter_of, known_in}
 use Rattle.dh_formed.specs.Formed.{Agrees, Block, IsNoted, IsScope, Site, Started}
 use Rattle.dh_expressions.specs.Noted.{touched_in}
-use Rattle.dh_expressions.specs.Numbers.{narrowed}
 use Rattle.dh_expressions.specs.Shown.{register_at}
+use Rattle.dh_expressions.specs.Standings.{banks_at}
 
 -- What an operation is: which registers it sees, and which accesses it probes, reads or writes.
 abbrev pub FormIs : (Sees : ℕ → Type 0) → (Probes Reads Writes : Reach → Type 0) → OperationForm → Type 0
@@ -83,10 +82,10 @@ pub record IsAccess (x : Block) (n count : ℕ) (r : Reach) : Type 0 where
   pub there : x.sites r.access ≡ Some site
   pub memory_is : r.memory ≡ site.memory
 
--- it reaches the bank of its path, behind the leaders before it
+-- it reaches the banks of its path, with its place there
 pub record IsUse (x : Block) (path n count : ℕ) (r : Reach) : Type 0 where
   pub access : IsAccess x n count r
-  pub banks_are : r.banks ≡ (access.site.standing.bank path, narrowed (leaders_at access.site.standing.leader access.site.standing.bank (access.site.standing.bank path) path)) ∷ []
+  pub banks_are : r.banks ≡ banks_at access.site.standing path
 
 -- a read is done by a path that leads
 pub record IsLedUse (x : Block) (path n count : ℕ) (r : Reach) : Type 0 where

@@ -2,19 +2,24 @@
 use Rattle.std.specs.Prelude.{◌≡◌, ℕ, ◌+◌, ◌<◌, ◌^◌, true, List, Option}
 use Rattle.dh_value.specs.declared.kinds.Kind.{Kind}
 use Rattle.dh_value.specs.declared.operators.Op.{Op}
+use Rattle.dh_tree.specs.declared.trees.expressions.Ref.{Ref}
 use Rattle.dh_tree.specs.Indices.{form_of}
 use Rattle.dh_tree.specs.PlainTrees.{Term, Terms}
 use Rattle.dh_meaning.specs.AccessNumbers.{term_accesses, terms_accesses}
-use Rattle.dh_plan.specs.DoneProgram.{product_of}
+use Rattle.dh_meaning.specs.CoreOf.{core_terms, target_to, way_of}
+use Rattle.dh_plan.specs.declared.operations.OperationForm.{OperationForm}
+use Rattle.dh_plan.specs.DoneProgram.{product_of, target_products}
+use Rattle.dh_plan.specs.PlanPhases.{target_mentions}
 use Rattle.dh_expressions.specs.declared.accesses.Accesses.{Accesses}
 use Rattle.dh_expressions.specs.declared.drafts.Draft.{Draft}
 use Rattle.dh_expressions.specs.declared.elements.Aim.{Aim}
 use Rattle.dh_expressions.specs.declared.scenes.Lane.{Lane}
 use Rattle.dh_expressions.specs.declared.scenes.Scene.{Scene}
-use Rattle.dh_formed.specs.Counted.{Counts, CountsTerm, CountsTerms, FormIs, IsAccess, IsUse, Stands, given_at_paths, nothing, one_each, ranged}
-use Rattle.dh_formed.specs.Formed.{AccessSuits, Agrees, AreNumbers, Block, IsNoted, IsScope, Started, TermSuits, TermsSuit}
-use Rattle.dh_expressions.specs.MadeTerms.{MadeIndices, MadeTerm, MadeWrite}
+use Rattle.dh_formed.specs.Counted.{Counts, CountsTerm, CountsTerms, FormIs, HaveGiven, IsAccess, IsLedUse, IsMentioned, IsUse, Stands, given_at_paths, nothing, one_each, ranged, use_of}
+use Rattle.dh_formed.specs.Formed.{AccessSuits, Agrees, AreNumbers, Block, IsNoted, IsScope, NamedSuits, Started, TermSuits, TermsSuit}
+use Rattle.dh_expressions.specs.MadeTerms.{MadeIndices, MadeTerm, MadeThrough, MadeWrite}
 use Rattle.dh_expressions.specs.MadeValues.{MadeHeld, MadeOperation}
+use Rattle.dh_expressions.specs.Named.{known_in}
 use Rattle.dh_expressions.specs.Reaching.{place_written}
 
 -- An operator counts its own multiplication at most. What is meant by `⊥` is that none of it is there.
@@ -40,6 +45,22 @@ IndicesCount =
     (x : Block) (scene : Scene) (lane : Lane) (current : List (Option ℕ)) (ts : Terms) (old new : Draft) (before after : Accesses) (n : ℕ) (aim : Aim)
     → MadeIndices scene lane current ts old new before after n aim → n + terms_accesses ts < 2 ^ 32
     → Stands x old new scene lane current before n (terms_accesses ts) → TermsSuit x scene lane n ts × AreNumbers ts → CountsTerms x scene lane old new before after n ts
+
+-- indices with the steps of the way of what they name: registers are seen of what the target mentions
+abbrev pub IsOfNamed : Block → Scene → Lane → (n : ℕ) → Ref → Terms → OperationForm → Type 0
+IsOfNamed x scene lane n r ts =
+    FormIs (λ register. IsMentioned scene lane (λ entity. target_mentions entity (target_to (way_of (known_in scene) r) (core_terms (known_in scene) n ts)) ≡ true) register)
+    (λ u. IsAccess x n (terms_accesses ts) u) (λ u. IsLedUse x lane.number n (terms_accesses ts) u) (λ u. ⊥)
+
+pub record CountsThrough (x : Block) (scene : Scene) (lane : Lane) (old new : Draft) (before after : Accesses) (n : ℕ) (r : Ref) (ts : Terms) : Type 0 where
+  pub counts : Counts old new (IsOfNamed x scene lane n r ts) (target_products (target_to (way_of (known_in scene) r) (core_terms (known_in scene) n ts))) (ranged n (terms_accesses ts) one_each) (ranged n (terms_accesses ts) (use_of x scene lane.number))
+  pub given : HaveGiven lane before after n (terms_accesses ts)
+
+abbrev pub ThroughCounts : Type 0
+ThroughCounts =
+    (x : Block) (scene : Scene) (lane : Lane) (current : List (Option ℕ)) (r : Ref) (ts : Terms) (old new : Draft) (before after : Accesses) (n : ℕ) (aim : Aim)
+    → MadeThrough scene lane current r ts old new before after n aim → n + terms_accesses ts < 2 ^ 32
+    → Stands x old new scene lane current before n (terms_accesses ts) → NamedSuits x scene lane n r ts → CountsThrough x scene lane old new before after n r ts
 
 -- the writing of an element at a path: one probe and one write of its access, and what reads gave stays
 pub record CountsWrite (x : Block) (lane : Lane) (old new : Draft) (before after : Accesses) (number : ℕ) : Type 0 where

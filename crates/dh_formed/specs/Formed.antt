@@ -1,7 +1,7 @@
 -- What a plan asks of the operations of a block, as far as they are put down: each takes earlier values of the block,
 -- of the kinds that it needs. It is stated for every list of kinds that agrees with the operations so far, so that it
 -- stays true when operations are added behind; no step and no word is spoken of.
-use Rattle.std.specs.Prelude.{◌≡◌, ℕ, ◌+◌, ◌<◌, ◌≤◌, ◌^◌, Bool as Truth, false, List, length, slice_get, Option, Some, None}
+use Rattle.std.specs.Prelude.{◌≡◌, ℕ, ◌+◌, ◌<◌, ◌≤◌, ◌^◌, Bool as Truth, false, List, [], ◌∷◌, length, slice_get, Option, Some, None}
 use Rattle.std.specs.List.{AllByRecursion}
 use Rattle.dh_base.specs.declared.places.Place.{Place}
 use Rattle.dh_value.specs.declared.kinds.Kind.{Kind}
@@ -9,21 +9,25 @@ use Rattle.dh_value.specs.declared.kinds.Kind.TheVariants.{Bool, Unsigned, Signe
 use Rattle.dh_value.specs.declared.operators.Op.{Op}
 use Rattle.dh_value.specs.Words.{IsInteger, IsKind, IsWidth}
 use Rattle.dh_value.specs.Operations.{Suits, result_of}
+use Rattle.dh_tree.specs.declared.tables.Dim.{Dim}
 use Rattle.dh_tree.specs.declared.trees.counters.Counter.{Counter}
-use Rattle.dh_tree.specs.Elements.{banks_of, dims_at}
+use Rattle.dh_tree.specs.Elements.{dims_at}
+use Rattle.dh_tree.specs.declared.trees.expressions.Ref.{Ref}
 use Rattle.dh_tree.specs.PlainTrees as plain
+use Rattle.dh_tree.specs.ViewElements.{offsets_needed}
 use Rattle.dh_meaning.specs.AccessNumbers.{term_accesses, terms_accesses}
 use Rattle.dh_meaning.specs.Bindings.{kind_or_first}
-use Rattle.dh_meaning.specs.CoreOf.{entity_number, memory_of}
+use Rattle.dh_meaning.specs.CoreOf.{dims_named, entity_number, memory_of, way_of}
 use Rattle.dh_meaning.specs.Effects.{kind_in}
+use Rattle.dh_meaning.specs.Ways.{Hidden, Step as ViewStep, Way}
 use Rattle.dh_code.specs.Extended.{extension_of}
 use Rattle.dh_code.specs.declared.places.Held.{Held}
 use Rattle.dh_code.specs.Slots.{held_at}
 use Rattle.dh_plan.specs.declared.operations.Operation.{Operation}
 use Rattle.dh_plan.specs.Blocks.{kind_at}
-use Rattle.dh_plan.specs.Ordered.{TakesEarlier}
+use Rattle.dh_plan.specs.Ordered.{TakesEarlier, offsets_taken}
 use Rattle.dh_plan.specs.PlainPlans.{PlainPlan}
-use Rattle.dh_plan.specs.PlanKinds.{OperationSuits, form_kind, kind_of_value}
+use Rattle.dh_plan.specs.PlanKinds.{AreBanks, AreSteps, OperationSuits, form_kind, kind_of_value}
 use Rattle.dh_expressions.specs.declared.accesses.Accesses.{Accesses}
 use Rattle.dh_expressions.specs.declared.accesses.Touched.{Touched}
 use Rattle.dh_expressions.specs.declared.copies.AccessAt.{AccessAt}
@@ -31,13 +35,14 @@ use Rattle.dh_expressions.specs.declared.drafts.Draft.{Draft}
 use Rattle.dh_expressions.specs.declared.elements.Aim.{Aim}
 use Rattle.dh_expressions.specs.declared.scenes.Lane.{Lane}
 use Rattle.dh_expressions.specs.declared.scenes.Scene.{Scene}
-use Rattle.dh_expressions.specs.Copying.{AreNone, HasScopes, leaders_at}
+use Rattle.dh_expressions.specs.declared.scenes.Through.{Through}
+use Rattle.dh_expressions.specs.Copying.{AreNone, HasScopes}
 use Rattle.dh_expressions.specs.Drafted.{Extends}
-use Rattle.dh_expressions.specs.Evaluated.{counter_of, known_in}
+use Rattle.dh_expressions.specs.Evaluated.{counter_of, hidden_register}
+use Rattle.dh_expressions.specs.Named.{first_view, known_in, number_of_parent}
 use Rattle.dh_expressions.specs.Noted.{given_in, touched_in}
-use Rattle.dh_expressions.specs.Numbers.{narrowed}
 use Rattle.dh_expressions.specs.Shown.{kind_written, register_at}
-use Rattle.dh_expressions.specs.Standings.{Standing, standing_at}
+use Rattle.dh_expressions.specs.Standings.{Standing, banks_at, copy_places, standing_at}
 
 -- an access of a block: its memory, and where it stands
 pub record Site : Type 0 where
@@ -111,7 +116,7 @@ pub record IsScope (x : Block) (d : Draft) (scene : Scene) (lane : Lane) (curren
 pub record IsLaidCopy (x : Block) (d : Draft) (s : Standing) (path : ℕ) (c : AccessAt) : Type 0 where
   pub leader_is : c.leader ≡ s.leader path
   pub bank_is : c.bank ≡ s.bank path
-  pub place_is : c.place ≡ narrowed (leaders_at s.leader s.bank (s.bank path) path)
+  pub place_is : c.place ≡ copy_places s path
   pub guard : IsGuard x d c.guard
 
 -- an access that stands so has its fault, and its copies
@@ -168,12 +173,12 @@ pub record SharesMemory (x : Block) (memory number : ℕ) : Type 0 where
   pub same : site.memory ≡ memory
 
 -- an access of a memory by a number, of a place and a form, stands in the block; its memory is one of the plan's,
--- and its bank at this path one of the memory's
+-- and its banks at this path are the memory's, each listed once
 pub record AccessSuits (x : Block) (scene : Scene) (lane : Lane) (memory number : ℕ) (place : Place) (form : plain.TermForm) (writes : Truth) : Type 0 where
   pub site : x.sites number ≡ Some (record { memory = memory; standing = standing_at scene lane.around memory place form writes })
   pub small : memory < 2 ^ 32
   pub memory_there : memory < length x.plan.table
-  pub bank : (standing_at scene lane.around memory place form writes).bank lane.number < banks_of (dims_at x.plan.table memory)
+  pub banks : AreBanks x.plan x.first x.kinds memory (banks_at (standing_at scene lane.around memory place form writes) lane.number)
 
 -- a read has the kind of its memory, and shares a read of the same memory at most
 pub record ReadSuits (x : Block) (scene : Scene) (lane : Lane) (memory number : ℕ) (place : Place) (form : plain.TermForm) (k : Kind) : Type 0 where
@@ -181,14 +186,42 @@ pub record ReadSuits (x : Block) (scene : Scene) (lane : Lane) (memory number : 
   pub kind_is : kind_in x.plan.table memory ≡ k
   pub shares : (earlier : ℕ) → slice_get scene.shares.now number ≡ Some (Some earlier) → SharesMemory x memory earlier
 
--- the values that name an element are numbers of the block: a row, or as many indices as the memory has dimensions
-abbrev pub RowSuits : Block → Draft → (memory : ℕ) → (indices : List ℕ) → Option ℕ → Type 0
-RowSuits x d memory indices None = length indices ≡ length (dims_at x.plan.table memory)
-RowSuits x d memory indices (Some row) = IsNumberThere x d row
+-- a row is one of a bank that the access names
+abbrev pub IsRowForm : plain.TermForm → Type 0
+IsRowForm (plain.in_bank r bank at row) = Unit {0}
+IsRowForm form = ⊥
 
-pub record AimSuits (x : Block) (d : Draft) (memory : ℕ) (aim : Aim) : Type 0 where
+-- The values that name an element are numbers of the block: a row, or as many indices as what is named has dimensions,
+-- with views behind that lead from these to those of the memory.
+abbrev pub RowSuits : Block → Draft → (memory : ℕ) → plain.TermForm → Aim → Option ℕ → Type 0
+RowSuits x d memory form aim None = (dims : List Dim) × ((length aim.indices ≡ length dims) × AreSteps x.plan x.first x.kinds memory aim.steps dims)
+RowSuits x d memory form aim (Some row) = IsNumberThere x d row × ((aim.steps ≡ []) × IsRowForm form)
+
+pub record AimSuits (x : Block) (d : Draft) (memory : ℕ) (form : plain.TermForm) (aim : Aim) : Type 0 where
   pub indices : AllByRecursion (IsNumberThere x d) aim.indices
-  pub row : RowSuits x d memory aim.indices aim.row
+  pub offsets : AllByRecursion (IsNumberThere x d) (offsets_taken aim.steps)
+  pub row : RowSuits x d memory form aim aim.row
+
+-- Ways.
+
+-- the register of a variable that keeps an offset, which is no iterator, has its kind, an integer kind
+pub record HiddenSuits (x : Block) (scene : Scene) (lane : Lane) (h : Hidden) : Type 0 where
+  pub integer : IsInteger h.kind
+  pub counter : counter_of scene h.entity ≡ None
+  pub register : RegisterSuits x (hidden_register scene lane h) h.kind
+
+-- views of the plan, the first of this number, that follow one another from these dimensions to those of the memory,
+-- and take so many offsets together
+abbrev pub StepsSuit : Block → List Through → (memory first : ℕ) → List ViewStep → (count : ℕ) → List Dim → Type 0
+StepsSuit x through memory first [] count dims = (count ≡ 0) × (dims ≡ dims_at x.plan.table memory)
+StepsSuit x through memory first (s ∷ ss) count dims =
+    ((slice_get x.plan.views first ≡ Some s.is) × ((s.is.shape.dims ≡ dims) × (s.offsets ≡ offsets_needed s.is.sort s.is.parent.dims)))
+    × ((more : ℕ) × ((count ≡ s.offsets + more) × StepsSuit x through memory (number_of_parent through first) ss more s.is.parent.dims))
+
+-- the way of what an access names
+abbrev pub WaySuits : Block → Scene → Lane → (memory first : ℕ) → Option Way → Type 0
+WaySuits x scene lane memory first None = Unit {0}
+WaySuits x scene lane memory first (Some w) = AllByRecursion (HiddenSuits x scene lane) w.hidden × StepsSuit x scene.through.now memory first w.steps (length w.hidden) w.is.shape.dims
 
 -- how many indices there are, and whether all have integer kinds
 abbrev pub count_of : plain.Terms → ℕ
@@ -211,7 +244,7 @@ module _ (x : Block) (scene : Scene) (lane : Lane) where
     FormSuits n place k (plain.named r) = VariableSuits x (counter_of scene (entity_number r.entity)) (held_at scene.held.now (entity_number r.entity)) lane k
     FormSuits n place k (plain.accessed r indices) =
         (TermsSuit n indices × AreNumbers indices)
-        × ((count_of indices ≡ length (dims_at x.plan.table (memory_of (known_in scene) r)))
+        × (((count_of indices ≡ length (dims_named (known_in scene) x.plan.table r)) × WaySuits x scene lane (memory_of (known_in scene) r) (first_view scene r) (way_of (known_in scene) r))
         × ReadSuits x scene lane (memory_of (known_in scene) r) (n + terms_accesses indices) place (plain.accessed r indices) k)
     FormSuits n place k (plain.in_bank r bank at row) =
         (TermSuits n row × IsInteger (kind_written row))
@@ -223,6 +256,12 @@ module _ (x : Block) (scene : Scene) (lane : Lane) where
     pub TermsSuit : (n : ℕ) → plain.Terms → Type 0
     TermsSuit n plain.no_terms = Unit {0}
     TermsSuit n (plain.term_then t ts) = TermSuits n t × TermsSuit (n + term_accesses t) ts
+
+-- indices of what a name stands for suit it, and so does its way
+abbrev pub NamedSuits : Block → Scene → Lane → (n : ℕ) → Ref → plain.Terms → Type 0
+NamedSuits x scene lane n r ts =
+    (TermsSuit x scene lane n ts × AreNumbers ts)
+    × ((count_of ts ≡ length (dims_named (known_in scene) x.plan.table r)) × WaySuits x scene lane (memory_of (known_in scene) r) (first_view scene r) (way_of (known_in scene) r))
 
 -- Parts of an expression: they form what they add where the scope and what is noted are of the block, and what is
 -- noted behind them is.
@@ -244,3 +283,8 @@ pub record HasNumbers (x : Block) (d : Draft) (count : ℕ) (values : List ℕ) 
 pub record FormsTerms (scene : Scene) (lane : Lane) (current : List (Option ℕ)) (old new : Draft) (before after : Accesses) (values : List ℕ) (Where : Block → Type 0) (count : ℕ) : Type 0 where
   pub part : FormsPart scene lane current old new before after Where
   pub gives : (x : Block) → Agrees x new → Started x old → IsScope x old scene lane current → IsNoted x old before → Where x → HasNumbers x new count values
+
+-- with values that name an element of a memory
+pub record FormsAim (scene : Scene) (lane : Lane) (current : List (Option ℕ)) (old new : Draft) (before after : Accesses) (memory : ℕ) (aim : Aim) (Where : Block → Type 0) : Type 0 where
+  pub part : FormsPart scene lane current old new before after Where
+  pub gives : (x : Block) → Agrees x new → Started x old → IsScope x old scene lane current → IsNoted x old before → Where x → (form : plain.TermForm) → AimSuits x new memory form aim

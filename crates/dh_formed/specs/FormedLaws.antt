@@ -4,8 +4,10 @@ use Rattle.dh_value.specs.declared.kinds.Kind.{Kind}
 use Rattle.dh_value.specs.declared.operators.Op.{Op}
 use Rattle.dh_value.specs.Words.{IsInteger}
 use Rattle.dh_tree.specs.Indices.{form_of}
+use Rattle.dh_tree.specs.declared.trees.expressions.Ref.{Ref}
 use Rattle.dh_tree.specs.PlainTrees.{Term, Terms}
 use Rattle.dh_meaning.specs.AccessNumbers.{term_accesses, terms_accesses}
+use Rattle.dh_meaning.specs.CoreOf.{memory_of}
 use Rattle.dh_meaning.specs.Effects.{kind_in}
 use Rattle.dh_code.specs.declared.places.Held.{Held}
 use Rattle.dh_plan.specs.Blocks.{kind_at}
@@ -14,9 +16,10 @@ use Rattle.dh_expressions.specs.declared.drafts.Draft.{Draft}
 use Rattle.dh_expressions.specs.declared.elements.Aim.{Aim}
 use Rattle.dh_expressions.specs.declared.scenes.Lane.{Lane}
 use Rattle.dh_expressions.specs.declared.scenes.Scene.{Scene}
-use Rattle.dh_formed.specs.Formed.{AccessSuits, AimSuits, AreNumbers, FormsPart, FormsTerm, FormsTerms, FormsValue, HasKind, HeldSuits, OperandsSuit, ReadSuits, TermSuits, TermsSuit, count_of}
-use Rattle.dh_expressions.specs.MadeTerms.{MadeIndices, MadeRead, MadeTerm, MadeWrite}
+use Rattle.dh_formed.specs.Formed.{AccessSuits, AimSuits, AreNumbers, FormsAim, FormsPart, FormsTerm, FormsTerms, FormsValue, HasKind, HeldSuits, NamedSuits, OperandsSuit, ReadSuits, TermSuits, TermsSuit, count_of}
+use Rattle.dh_expressions.specs.MadeTerms.{MadeIndices, MadeRead, MadeTerm, MadeThrough, MadeWrite}
 use Rattle.dh_expressions.specs.MadeValues.{MadeConverted, MadeHeld, MadeIterator, MadeOperation, MadeShown}
+use Rattle.dh_expressions.specs.Named.{known_in}
 use Rattle.dh_expressions.specs.Reaching.{place_written}
 use Rattle.dh_expressions.specs.Shown.{is_kept, kind_written}
 
@@ -55,7 +58,7 @@ abbrev pub ReadsForm : Type 0
 ReadsForm =
     (scene : Scene) (lane : Lane) (current : List (Option ℕ)) (access : Term) (memory : ℕ) (aim : Aim) (old new : Draft) (before after : Accesses) (v : ℕ) (k : Kind)
     → MadeRead scene lane access memory aim old new before after v
-    → FormsTerm scene lane current old new before after v (λ x. AimSuits x old memory aim × ReadSuits x scene lane memory aim.number (place_written access) (form_of access) k) k
+    → FormsTerm scene lane current old new before after v (λ x. AimSuits x old memory (form_of access) aim × ReadSuits x scene lane memory aim.number (place_written access) (form_of access) k) k
 
 -- the writing of a value of its kind
 abbrev pub WritesForm : Type 0
@@ -63,7 +66,7 @@ WritesForm =
     (scene : Scene) (lane : Lane) (current : List (Option ℕ)) (access : Term) (memory : ℕ) (aim : Aim) (old new : Draft) (before after : Accesses) (value : ℕ)
     → MadeWrite scene lane access memory aim value old new before after
     → FormsPart scene lane current old new before after
-    (λ x. (AimSuits x old memory aim × AccessSuits x scene lane memory aim.number (place_written access) (form_of access) true) × HasKind x old (kind_in x.plan.table memory) value)
+    (λ x. (AimSuits x old memory (form_of access) aim × AccessSuits x scene lane memory aim.number (place_written access) (form_of access) true) × HasKind x old (kind_in x.plan.table memory) value)
 
 -- an expression whose accesses are numbered from n on, where these numbers are few
 abbrev pub TermsForm : Type 0
@@ -78,6 +81,13 @@ IndicesForm =
     (scene : Scene) (lane : Lane) (current : List (Option ℕ)) (ts : Terms) (old new : Draft) (before after : Accesses) (n : ℕ) (aim : Aim)
     → MadeIndices scene lane current ts old new before after n aim → n + terms_accesses ts < 2 ^ 32
     → FormsTerms scene lane current old new before after aim.indices (λ x. TermsSuit x scene lane n ts × AreNumbers ts) (count_of ts)
+
+-- indices of what a name stands for, and behind them the offsets on its way: they name an element of its memory
+abbrev pub ThroughForms : Type 0
+ThroughForms =
+    (scene : Scene) (lane : Lane) (current : List (Option ℕ)) (r : Ref) (ts : Terms) (old new : Draft) (before after : Accesses) (n : ℕ) (aim : Aim)
+    → MadeThrough scene lane current r ts old new before after n aim → n + terms_accesses ts < 2 ^ 32
+    → FormsAim scene lane current old new before after (memory_of (known_in scene) r) aim (λ x. NamedSuits x scene lane n r ts)
 
 -- the number behind an expression's accesses
 abbrev pub TermsAreNumbered : Type 0

@@ -1,11 +1,12 @@
 -- When the values of expressions are there. A value is there at the clock of its level; no operation of an expression
 -- is there later than the greatest level so far. It is stated for every list of clocks that agrees with the operations
 -- so far, each at the least clock at which all is there that it takes.
-use Rattle.std.specs.Prelude.{◌≡◌, ℕ, ◌+◌, ◌-◌, ◌<◌, ◌≤◌, List, length, map, slice_get, slice_index, Option, Some, None}
+use Rattle.std.specs.Prelude.{◌≡◌, ℕ, ◌+◌, ◌-◌, ◌<◌, ◌≤◌, List, [], length, map, slice_get, slice_index, Option, Some, None}
 use Rattle.dh_tree.specs.declared.trees.counters.Counter.{Counter}
+use Rattle.dh_tree.specs.declared.trees.expressions.Ref.{Ref}
 use Rattle.dh_tree.specs.PlainTrees as plain
-use Rattle.dh_meaning.specs.CoreOf.{core_term, core_terms}
-use Rattle.dh_meaning.specs.Levels.{Leveled, Levels, term_leveled, terms_leveled}
+use Rattle.dh_meaning.specs.CoreOf.{core_term, core_terms, target_to, way_of}
+use Rattle.dh_meaning.specs.Levels.{Leveled, Levels, target_leveled, term_leveled, terms_leveled}
 use Rattle.dh_code.specs.declared.places.Held.{Held}
 use Rattle.dh_code.specs.Slots.{held_at}
 use Rattle.dh_plan.specs.declared.operations.Operation.{Operation}
@@ -110,6 +111,10 @@ leveled scene shared outer n t l = term_leveled shared outer (core_term (known_i
 abbrev pub all_leveled : Scene → (shared : ℕ → Option ℕ) → (outer n : ℕ) → plain.Terms → Levels → Leveled
 all_leveled scene shared outer n ts l = terms_leveled shared outer (core_terms (known_in scene) n ts) l
 
+-- and behind indices and what keeps the offsets on the way of what they name
+abbrev pub named_leveled : Scene → (shared : ℕ → Option ℕ) → (outer n : ℕ) → Ref → plain.Terms → Levels → Leveled
+named_leveled scene shared outer n r ts l = target_leveled shared outer (target_to (way_of (known_in scene) r) (core_terms (known_in scene) n ts)) l
+
 -- an expression at a path
 pub record TimesTerm (c : Clocks) (old new : Draft) (after : Accesses) (made : Leveled) (value : ℕ) : Type 0 where
   pub within : Within c old new made.levels.most
@@ -135,7 +140,13 @@ pub record LevelsThen (n count : ℕ) (l : Levels) (made : Leveled) : Type 0 whe
 
 -- the clock at which the values are there that name an element
 abbrev pub aim_clock : Clocks → (memory : ℕ) → Aim → ℕ
-aim_clock c memory aim = greatest_of (map (clock_of c) (reach_takes (reach_told memory aim None)))
+aim_clock c memory aim = greatest_of (map (clock_of c) (reach_takes (reach_told memory aim [])))
+
+-- the values that name an element, through views or not
+pub record TimesAim (c : Clocks) (old new : Draft) (after : Accesses) (made : Leveled) (memory : ℕ) (aim : Aim) : Type 0 where
+  pub within : Within c old new made.levels.most
+  pub at : aim_clock c memory aim ≡ made.level
+  pub noted : NotedInTime c after
 
 -- the writing of a value of a level at a path, under tests of this level
 pub record StandsToWrite (c : Clocks) (old new : Draft) (scene : Scene) (lane : Lane) (current : List (Option ℕ)) (before : Accesses) (memory : ℕ) (aim : Aim) (outer level value most : ℕ) : Type 0 where

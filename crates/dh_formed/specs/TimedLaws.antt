@@ -2,24 +2,25 @@
 use Rattle.std.specs.Prelude.{◌≡◌, ℕ, ◌+◌, ◌<◌, ◌^◌, max, true, List, slice_get, Option}
 use Rattle.dh_value.specs.declared.kinds.Kind.{Kind}
 use Rattle.dh_value.specs.declared.operators.Op.{Op}
+use Rattle.dh_tree.specs.declared.trees.expressions.Ref.{Ref}
 use Rattle.dh_tree.specs.Indices.{form_of}
 use Rattle.dh_tree.specs.PlainTrees.{Term, Terms}
 use Rattle.dh_meaning.specs.AccessNumbers.{term_accesses, terms_accesses}
-use Rattle.dh_meaning.specs.CoreOf.{core_term, core_terms}
+use Rattle.dh_meaning.specs.CoreOf.{core_term, core_terms, memory_of, target_to, way_of}
 use Rattle.dh_meaning.specs.Levels.{Levels}
-use Rattle.dh_plan.specs.PlanPhases.{term_mentions, terms_mention}
+use Rattle.dh_plan.specs.PlanPhases.{target_mentions, term_mentions, terms_mention}
 use Rattle.dh_expressions.specs.declared.accesses.Accesses.{Accesses}
 use Rattle.dh_expressions.specs.declared.drafts.Draft.{Draft}
 use Rattle.dh_expressions.specs.declared.elements.Aim.{Aim}
 use Rattle.dh_expressions.specs.declared.scenes.Lane.{Lane}
 use Rattle.dh_expressions.specs.declared.scenes.Scene.{Scene}
 use Rattle.dh_expressions.specs.Evaluated.{known_in}
-use Rattle.dh_formed.specs.Formed.{AccessSuits, AreNumbers, TermSuits, TermsSuit}
-use Rattle.dh_expressions.specs.MadeTerms.{MadeIndices, MadeTerm, MadeWrite}
+use Rattle.dh_formed.specs.Formed.{AccessSuits, AreNumbers, NamedSuits, TermSuits, TermsSuit}
+use Rattle.dh_expressions.specs.MadeTerms.{MadeIndices, MadeTerm, MadeThrough, MadeWrite}
 use Rattle.dh_expressions.specs.MadeValues.{MadeConverted, MadeHeld, MadeOperation, MadeShown}
 use Rattle.dh_expressions.specs.Reaching.{place_written}
 use Rattle.dh_expressions.specs.Shown.{is_kept}
-use Rattle.dh_formed.specs.Timed.{Clocks, CurrentAt, EntityAt, HasClock, LevelsThen, ReadsAgree, StandsInTime, StandsToWrite, TimesTerm, TimesTerms, TimesValue, TimesWrite, all_leveled, leveled}
+use Rattle.dh_formed.specs.Timed.{Clocks, CurrentAt, EntityAt, HasClock, LevelsThen, ReadsAgree, StandsInTime, StandsToWrite, TimesAim, TimesTerm, TimesTerms, TimesValue, TimesWrite, all_leveled, leveled, named_leveled}
 
 -- an operator, when both operands are there
 abbrev pub OperationsInTime : Type 0
@@ -51,6 +52,11 @@ abbrev pub AllLevelsGoOn : Type 0
 AllLevelsGoOn =
     (scene : Scene) (shared : ℕ → Option ℕ) (outer : ℕ) (ts : Terms) (n : ℕ) (l : Levels) → LevelsThen n (terms_accesses ts) l (all_leveled scene shared outer n ts l)
 
+-- and behind indices with the steps of a way
+abbrev pub NamedLevelsGoOn : Type 0
+NamedLevelsGoOn =
+    (scene : Scene) (shared : ℕ → Option ℕ) (outer : ℕ) (r : Ref) (ts : Terms) (n : ℕ) (l : Levels) → LevelsThen n (terms_accesses ts) l (named_leveled scene shared outer n r ts l)
+
 -- a write
 abbrev pub WritesInTime : Type 0
 WritesInTime =
@@ -78,3 +84,13 @@ IndicesInTime =
     → ((entity : ℕ) → terms_mention entity (core_terms (known_in scene) n ts) ≡ true → EntityAt c scene lane current l entity)
     → ReadsAgree c (all_leveled scene shared outer n ts l).levels (n + terms_accesses ts)
     → TimesTerms c old new after (all_leveled scene shared outer n ts l) aim.indices
+
+-- indices with the steps behind them
+abbrev pub ThroughInTime : Type 0
+ThroughInTime =
+    (c : Clocks) (scene : Scene) (lane : Lane) (current : List (Option ℕ)) (shared : ℕ → Option ℕ) (outer : ℕ) (r : Ref) (ts : Terms) (old new : Draft) (before after : Accesses) (n : ℕ) (aim : Aim)
+    → MadeThrough scene lane current r ts old new before after n aim → n + terms_accesses ts < 2 ^ 32
+    → (l : Levels) → StandsInTime c old new scene lane current before shared outer n (terms_accesses ts) l → NamedSuits c.block scene lane n r ts
+    → ((entity : ℕ) → target_mentions entity (target_to (way_of (known_in scene) r) (core_terms (known_in scene) n ts)) ≡ true → EntityAt c scene lane current l entity)
+    → ReadsAgree c (named_leveled scene shared outer n r ts l).levels (n + terms_accesses ts)
+    → TimesAim c old new after (named_leveled scene shared outer n r ts l) (memory_of (known_in scene) r) aim

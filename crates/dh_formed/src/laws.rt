@@ -1,9 +1,9 @@
 //! Laws on the operations of expressions, stated on functions that do nothing.
 
-ghost use Rattle.dh_formed.specs.FormedLaws.{ConversionsForm, HeldValuesForm, IndicesForm, IteratorsForm, OperationsForm, ReadsForm, ShownVariablesForm, TermsAreNumbered, TermsForm, WritesForm};
+ghost use Rattle.dh_formed.specs.FormedLaws.{ConversionsForm, HeldValuesForm, IndicesForm, IteratorsForm, OperationsForm, ReadsForm, ShownVariablesForm, TermsAreNumbered, TermsForm, ThroughForms, WritesForm};
 ghost use Rattle.dh_formed.specs.Commanded.{ComputesForm, ConstantsForm, PartsAreCounted, SelectsCount, SelectsForm, SelectsInTime, SetsCount, SetsForm, SetsInTime, TermsTouchOwn, WritesTouchOwn};
-ghost use Rattle.dh_formed.specs.CountedLaws.{HeldIsPure, IndicesCount, IsPure, TermsCount, WritesCount};
-ghost use Rattle.dh_formed.specs.TimedLaws.{AllLevelsGoOn, ConvertedInTime, HeldInTime, IndicesInTime, LevelsGoOn, OperationsInTime, ShownInTime, TermsInTime, WritesInTime};
+ghost use Rattle.dh_formed.specs.CountedLaws.{HeldIsPure, IndicesCount, IsPure, TermsCount, ThroughCounts, WritesCount};
+ghost use Rattle.dh_formed.specs.TimedLaws.{AllLevelsGoOn, ConvertedInTime, HeldInTime, IndicesInTime, LevelsGoOn, NamedLevelsGoOn, OperationsInTime, ShownInTime, TermsInTime, ThroughInTime, WritesInTime};
 ghost use Rattle.dh_formed.specs.TypedOperands.{TypedOperandsSuit};
 ghost use Rattle.dh_formed.specs.WholeBlocks.{BlocksAgree, BlocksAgreeInTime, BlocksAreFormed, BlocksHaveLengths};
 
@@ -29,6 +29,7 @@ pub fn expressions_are_formed()
     ensures numbered { TermsAreNumbered }
     ensures terms { TermsForm }
     ensures indices { IndicesForm }
+    ensures through { ThroughForms }
 {}
 
 /// Values count no multiplication but that of an operator; they access no memory, see no register, and set none.
@@ -42,6 +43,7 @@ pub fn values_are_counted()
 pub fn expressions_are_counted()
     ensures terms { TermsCount }
     ensures indices { IndicesCount }
+    ensures through { ThroughCounts }
     ensures writes { WritesCount }
 {}
 
@@ -57,12 +59,14 @@ pub fn values_are_in_time()
 pub fn levels_go_on()
     ensures terms { LevelsGoOn }
     ensures indices { AllLevelsGoOn }
+    ensures named { NamedLevelsGoOn }
 {}
 
 /// An expression's value is there at the clock of its level, and no operation of it later than the greatest level.
 pub fn expressions_are_in_time()
     ensures terms { TermsInTime }
     ensures indices { IndicesInTime }
+    ensures through { ThroughInTime }
     ensures writes { WritesInTime }
 {}
 

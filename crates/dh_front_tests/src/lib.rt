@@ -20,3 +20,5 @@ mod plan_sizes;
 mod schedules;
 #[cfg(test)]
 mod texts;
+#[cfg(test)]
+mod view_maps;

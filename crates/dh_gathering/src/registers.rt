@@ -15,7 +15,8 @@ use std::alloc::Global;
 
 /// The kind of the registers of an entity: that of a variable, or of a counter of so many turns for an iterator.
 fn register_kind(program: &Typed, entity: u32, kind: Kind) -> Kind
-    ensures { IsRegisterKind (counter_in (counters_of (program_seen program.now)) (Some entity)) kind
+    ensures { IsRegisterKind (counter_in (counters_of (program_seen program.now)) (Some entity))
+        kind
         result }
 {
     match program.counter(entity) {

@@ -43,7 +43,8 @@ fn joined_net(
     requires table { table ≡ net.now.table }
     requires faults { faults ≡ net.now.faults }
     requires registers { registers ≡ net.now.registers }
-    requires joined { PortsJoined net.now.cells cells (ports_of net.now.table) net.now.drivers drivers }
+    requires joined { PortsJoined net.now.cells cells (ports_of net.now.table)
+        net.now.drivers drivers }
     ensures { IsJoined net.now result }
 {
     Net {

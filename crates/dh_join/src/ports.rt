@@ -66,7 +66,8 @@ fn join_former(
 ) -> Result<Option<Driver>, NoMemory>
     requires former { IsOneOf cells.old port write (Some former) }
     requires second { IsOneOf cells.old port write second }
-    ensures { IfOk result (λ joined. JoinsFound cells.old cells.new port write (Some former) second joined) }
+    ensures { IfOk result (λ joined. JoinsFound cells.old cells.new port write
+        (Some former) second joined) }
 {
     match second {
         None => Ok(Some(former)),
@@ -87,7 +88,8 @@ fn join_found(
 ) -> Result<Option<Driver>, NoMemory>
     requires first { IsOneOf cells.old port write first }
     requires second { IsOneOf cells.old port write second }
-    ensures { IfOk result (λ joined. JoinsFound cells.old cells.new port write first second joined) }
+    ensures { IfOk result (λ joined. JoinsFound cells.old cells.new port write
+        first second joined) }
 {
     match first {
         None => Ok(second),

@@ -1,7 +1,7 @@
 -- An access that gets its operations is laid, and all others stay as they are: by recursion on what is put down for
 -- expressions and commands.
-use Rattle.std.proofs.Common.{◌≡◌, ◌⊎◌, inl, inr, ⊎_elim, ◌<◌, ◌≤◌, ◌+◌, ◌^◌, ℕ, zero, suc, List, Some, None, ap, sym, ◌∙◌, subst, length, arith, refl, add-one}
-use Rattle.std.specs.Prelude.{Bool as Truth, true, false, if◌then◌else◌, ◌==◌, ◌&&◌, [], ◌∷◌, ◌++◌, Option, slice_get, slice_index_or}
+use Rattle.std.proofs.Common.{◌≡◌, ◌⊎◌, inl, inr, ⊎_elim, ◌≤◌, ◌+◌, ◌^◌, ℕ, zero, suc, List, Some, None, ap, sym, ◌∙◌, subst, length, arith, refl, add-one}
+use Rattle.std.specs.Prelude.{Bool as Truth, true, false, [], ◌∷◌, ◌++◌, Option, slice_get, slice_index_or}
 use Rattle.std.proofs.lemmas.List.{length-append}
 use Rattle.dh_base.specs.declared.outcomes.FaultKind.{FaultKind}
 use Rattle.dh_base.specs.declared.outcomes.FaultKind.TheVariants.{OutOfRange}
@@ -13,14 +13,19 @@ use Rattle.dh_value.specs.Operations.{truth}
 use Rattle.dh_tree.specs.declared.trees.counters.Counter.{Counter}
 use Rattle.dh_tree.specs.Indices.{form_of}
 use Rattle.dh_tree.specs.PlainTrees as plain
-use Rattle.dh_tree.specs.PlainTrees.{Term, Action, action, ActionForm, lets, lets_memory, views, assigns, stores, reduces, calls, blocks, decides, repeats, counts, MaybeAction, no_action, one_action, Actions, no_actions, action_then, Groups, no_groups, group_then}
+use Rattle.dh_tree.specs.PlainTrees.{Term, Action, action, ActionForm, lets, lets_memory, views, assigns, stores, reduces, calls, blocks, decides, repeats, counts, MaybeAction, no_action, one_action, Actions, no_actions, action_then, Groups, no_groups, group_then, ViewPlan}
+use Rattle.dh_tree.specs.Seen.{terms}
+use Rattle.dh_tree.specs.ViewOffsets.{offsets_of}
+use Rattle.dh_tree.specs.declared.trees.expressions.Ref.{Ref}
 use Rattle.dh_meaning.specs.Bindings.{kind_or_first}
-use Rattle.dh_meaning.specs.CoreOf.{entity_number}
+use Rattle.dh_meaning.specs.CoreOf.{entity_number, way_of, memory_of}
+use Rattle.dh_meaning.specs.Ways.{hidden_in, Hidden}
 use Rattle.dh_code.specs.Extended.{extension_of}
 use Rattle.dh_code.specs.Made.{same_kind}
 use Rattle.dh_code.specs.declared.places.Held.{Held}
 use Rattle.dh_code.specs.Slots.{held_at}
 use Rattle.dh_plan.specs.declared.operations.OperationForm.TheVariants.{Compute, Constant, Convert}
+use Rattle.dh_plan.specs.declared.operations.ReachStep.{ReachStep}
 use Rattle.dh_expressions.specs.declared.accesses.Accesses.{Accesses}
 use Rattle.dh_expressions.specs.declared.accesses.Touched.{Touched}
 use Rattle.dh_expressions.specs.declared.copies.AccessAt.{AccessAt}
@@ -29,34 +34,35 @@ use Rattle.dh_expressions.specs.declared.elements.Aim.{Aim}
 use Rattle.dh_expressions.specs.declared.scenes.Around.{Around}
 use Rattle.dh_expressions.specs.declared.scenes.Lane.{Lane}
 use Rattle.dh_expressions.specs.declared.scenes.Scene.{Scene}
-use Rattle.dh_expressions.specs.Copying.{AddsAllCopies, AddsCopies, AddsCopy, AreNone, JoinsGuards, leaders_at}
+use Rattle.dh_expressions.specs.Copying.{AddsAllCopies, AddsCopies, AddsCopy, AreNone, JoinsGuards}
 use Rattle.dh_expressions.specs.Drafted.{Extends}
-use Rattle.dh_expressions.specs.Evaluated.{counter_of}
-use Rattle.dh_expressions.specs.MadeTerms.{MadeRead, MadeTerm, MadeTerms, MadeWrite}
+use Rattle.dh_expressions.specs.Evaluated.{counter_of, known_in}
+use Rattle.dh_expressions.specs.MadeTerms.{MadeRead, MadeTerm, MadeTerms, MadeWrite, MadeWay}
 use Rattle.dh_expressions.specs.MadeValues.{MadeBy, MadeConverted}
-use Rattle.dh_expressions.specs.Noted.{Notes, copied_in, copy_or_alone, given_then, is_bare, is_bare_of, noted_in, touched_in, touched_of}
-use Rattle.dh_expressions.specs.Numbers.{narrowed}
+use Rattle.dh_expressions.specs.Noted.{Notes, copied_in, given_then, is_bare, is_bare_of, noted_in, touched_in, touched_of}
 use Rattle.dh_expressions.specs.Reaching.{place_written}
 use Rattle.dh_expressions.specs.Shown.{guard_of, is_kept, kind_written, register_at}
-use Rattle.dh_expressions.specs.Standings.{Standing, standing_at}
+use Rattle.dh_expressions.specs.Standings.{Standing, standing_at, copy_places}
 use Rattle.dh_expressions.specs.Touching.{AddsTouched, IsNew, TouchesAt}
 use Rattle.dh_expressions.proofs.AccessesKept.{bare_within, named_extends, noted_touched, place_noted}
 use Rattle.dh_expressions.proofs.CopiesMade.{guard_long, guard_place}
-use Rattle.dh_expressions.proofs.ListPlaces.{place_of_more, place_within, set_long, there}
+use Rattle.dh_expressions.proofs.ListPlaces.{place_of_more, place_within, set_long}
 use Rattle.dh_expressions.proofs.Pushing.{at_seam, extends_again, extends_self, pushed_extends}
+use Rattle.dh_expressions.specs.Named.{first_view}
 use Rattle.dh_formed.proofs.CopiesFormed.{FormsCopies, copies_forms}
 use Rattle.dh_formed.proofs.ElementsFormed.{found_extends}
 use Rattle.dh_formed.proofs.IteratorsFormed.{iterator_forms}
 use Rattle.dh_formed.proofs.ValuesFormed.{held_forms, number_forms, operation_forms, shown_forms}
+use Rattle.dh_formed.proofs.TermsFormed.{way_part}
 use Rattle.dh_commands.specs.declared.buildings.Building.{Building}
 use Rattle.dh_commands.specs.declared.choices.Left.{Left}
 use Rattle.dh_commands.specs.LanesRun.{lane_of, paths_counted}
-use Rattle.dh_commands.specs.MadeCommands.{Commanding, FoldedWith, MadeActionForm, MadeActions, MadeAim, MadeArm, MadeAssigned, MadeCleared, MadeCommand, MadeGroups, MadeLanes, MadeOldOperand, MadeOperand, MadeOther, MadeReduced, MadeStored, MadeStoring}
-use Rattle.dh_laid.specs.LaidAccesses.{AreLaid, AreNamed, CommandsLay, EachLay, GroupsLay, IsLaid, Lays, TermsLay, TestsLay, copy_in, touched_count}
+use Rattle.dh_commands.specs.MadeCommands.{Commanding, FoldedWith, MadeActionForm, MadeActions, MadeAim, MadeArm, MadeAssigned, MadeCleared, MadeCommand, MadeGroups, MadeLanes, MadeOldOperand, MadeOperand, MadeOther, MadeReduced, MadeStored, MadeStoring, MadeView, MadeHolds, MadeKept}
+use Rattle.dh_laid.specs.LaidAccesses.{AreLaid, AreNamed, CommandsLay, EachLay, GroupsLay, IsLaid, Lays, TermsLay, TestsLay, touched_count}
 use Rattle.dh_laid.specs.LaidQuiet.{StandsIn}
 use Rattle.dh_laid.proofs.ArmsLaid.{arm_guards_form}
 use Rattle.dh_laid.proofs.ChoicesLaid.{choices_form}
-use Rattle.dh_laid.proofs.FaultsKept.{choices_faults, converted_faults, copies_faults, finds_faults, folded_faults, guards_faults, held_faults, number_faults, operation_faults, same_faults, variable_faults}
+use Rattle.dh_laid.proofs.FaultsKept.{choices_faults, converted_faults, copies_faults, finds_faults, folded_faults, guards_faults, held_faults, number_faults, operation_faults, same_faults, variable_faults, way_faults}
 use Rattle.dh_laid.proofs.ValuesLogged.{stands_arm, tests_same}
 
 -- Composition.
@@ -99,7 +105,7 @@ lays_again a b c x y z h k = record {
 
 -- Copies: only those that lead have guards.
 
-module _ (leader bank : ℕ → ℕ) (guards : List (Option ℕ)) where
+module _ (leader bank place : ℕ → ℕ) (guards : List (Option ℕ)) where
   record AreAlone (n : ℕ) (copies : List AccessAt) : Type 0 where
     long : length copies ≡ n
     alone : (k : ℕ) (c : AccessAt) → slice_get copies k ≡ Some c → (leader k ≡ k → ⊥) → c.guard ≡ None
@@ -115,9 +121,9 @@ module _ (leader bank : ℕ → ℕ) (guards : List (Option ℕ)) where
       by k c other (inl at) = before k c at other
       by k c other (inr p) = ap (λ (a : AccessAt). a.guard) p.1 ∙ own (λ same. other (ap leader (p.0 ∙ long) ∙ (same ∙ sym (p.0 ∙ long))))
 
-  copy_alone_more : (n : ℕ) (d new : Draft) (cs copies : List AccessAt) (ns after : List ℕ) → AreAlone n cs → AddsCopy d new cs copies ns after n (leader n) (bank n) (guard_of guards n) → AreAlone (suc n) copies
-  copy_alone_more n d new cs copies ns after h (inl s) = alone_more n cs copies _ h.long s.copies_are h.alone (λ other. absurd (other s.own))
-  copy_alone_more n d new cs copies ns after h (inr s) =
+  copy_alone_more : (n : ℕ) (d new : Draft) (cs copies : List AccessAt) → AreAlone n cs → AddsCopy d new cs copies n (leader n) (bank n) (place n) (guard_of guards n) → AreAlone (suc n) copies
+  copy_alone_more n d new cs copies h (inl s) = alone_more n cs copies _ h.long s.copies_are h.alone (λ other. absurd (other s.own))
+  copy_alone_more n d new cs copies h (inr s) =
       alone_more n s.changed copies _ (ap (λ (l : List AccessAt). length l) s.joins.changed_is ∙ (guard_long cs (leader n) s.joins.joined ∙ h.long)) s.copies_are changed_alone (λ other. refl)
     where
       changed_alone : (k : ℕ) (c : AccessAt) → slice_get s.changed k ≡ Some c → (leader k ≡ k → ⊥) → c.guard ≡ None
@@ -129,29 +135,15 @@ module _ (leader bank : ℕ → ℕ) (guards : List (Option ℕ)) where
               let join : JoinsGuards d new (p.1.0).guard (guard_of guards n) s.joins.joined = s.joins.joins p.1.0 p.1.1.0 in
               ap (λ (a : AccessAt). a.guard) p.1.1.1 ∙ join.none (h.alone (leader n) p.1.0 p.1.1.0 (λ same. other (ap leader p.0 ∙ (same ∙ sym p.0))))
 
-  copies_alone : (n : ℕ) (old new : Draft) (numbers after : List ℕ) (copies : List AccessAt) → AddsCopies leader bank guards n old new numbers after copies → AreAlone n copies
-  copies_alone zero old new numbers after copies m = record {
-    long = ap (λ (cs : List AccessAt). length cs) m.1.1;
-    alone = λ k c at other. absurd (lost k c (sym (ap (λ (cs : List AccessAt). slice_get cs k) m.1.1) ∙ at));
+  copies_alone : (n : ℕ) (old new : Draft) (copies : List AccessAt) → AddsCopies leader bank place guards n old new copies → AreAlone n copies
+  copies_alone zero old new copies m = record {
+    long = ap (λ (cs : List AccessAt). length cs) m.1;
+    alone = λ k c at other. absurd (lost k c (sym (ap (λ (cs : List AccessAt). slice_get cs k) m.1) ∙ at));
   }
     where
       lost : (k : ℕ) (c : AccessAt) → slice_get [] k ≡ Some c → ⊥
       lost k c e = cc
-  copies_alone (suc n) old new numbers after copies (d, (ns, (cs, (before, step)))) = copy_alone_more n d new cs copies ns after (copies_alone n old d numbers ns cs before) step
-
-  -- counts of leaders look at the paths before alone
-  leaders_same : (other reached : ℕ → ℕ) (own n : ℕ) → ((p : ℕ) → p < n → leader p ≡ other p) → ((p : ℕ) → p < n → bank p ≡ reached p) → leaders_at leader bank own n ≡ leaders_at other reached own n
-  leaders_same other reached own zero ls bs = refl
-  leaders_same other reached own (suc n) ls bs =
-      let w : n < suc n = omega arith in
-      let l = ls n w in let b = bs n w in
-      let rest = leaders_same other reached own n (λ p less. ls p (more p less)) (λ p less. bs p (more p less)) in
-      ap (λ m. if (m == n) && (bank n == own) then suc (leaders_at leader bank own n) else leaders_at leader bank own n) l
-      ∙ (ap (λ m. if (other n == n) && (m == own) then suc (leaders_at leader bank own n) else leaders_at leader bank own n) b
-      ∙ ap (λ m. if (other n == n) && (reached n == own) then suc m else m) rest)
-    where
-      more : (p : ℕ) → p < n → p < suc n
-      more p less = omega (arith, less)
+  copies_alone (suc n) old new copies (d, (cs, (before, step))) = copy_alone_more n d new cs copies (copies_alone n old d cs before) step
 
 -- How many accesses have operations.
 
@@ -235,18 +227,18 @@ module _ (scene : Scene) (around : Around) (stands : StandsIn scene around) (mem
   leads p = omega arith
 
   -- a new one
-  module _ (old new : Draft) (before : Accesses) (t : Touched) (a : AddsTouched old new scene around stood before t) where
-    copies : AddsAllCopies stood.leader stood.bank around.guards.now a.middle new before.counts.items t.copies
+  module _ (old new : Draft) (t : Touched) (a : AddsTouched old new scene around stood t) where
+    copies : AddsAllCopies stood.leader stood.bank (copy_places stood) around.guards.now a.middle new t.copies
     copies = a.copies stands.scopes stands.low
 
-    formed_copies : FormsCopies stood.leader stood.bank around.guards.now leads (length around.guards.now) a.middle new before.counts.items copies.0 t.copies
-    formed_copies = copies_forms stood.leader stood.bank around.guards.now leads (length around.guards.now) a.middle new before.counts.items copies.0 t.copies stands.few copies.1
+    formed_copies : FormsCopies stood.leader stood.bank (copy_places stood) around.guards.now leads (length around.guards.now) a.middle new t.copies
+    formed_copies = copies_forms stood.leader stood.bank (copy_places stood) around.guards.now leads (length around.guards.now) a.middle new t.copies copies
 
     touched_extends : Extends old new
     touched_extends = extends_again old a.middle new (named_extends old a.middle t.fault place a.names) formed_copies.extends
 
     touched_faults : new.faults ≡ (a.middle).faults
-    touched_faults = copies_faults stood.leader stood.bank around.guards.now leads (length around.guards.now) a.middle new before.counts.items copies.0 t.copies stands.few copies.1
+    touched_faults = copies_faults stood.leader stood.bank (copy_places stood) around.guards.now leads (length around.guards.now) a.middle new t.copies copies
 
     fault_named : (named : List (FaultKind × Place)) → AreNamed named new → length named ≤ 2 ^ 32 → slice_get named t.fault ≡ Some (OutOfRange, place)
     fault_named named all few =
@@ -257,35 +249,21 @@ module _ (scene : Scene) (around : Around) (stands : StandsIn scene around) (mem
             (formed_copies.extends.faults (length old.faults) (OutOfRange, place)
             (subst (λ (fs : List (FaultKind × Place)). slice_get fs (length old.faults) ≡ Some (OutOfRange, place)) (sym a.names.faults) (at_seam old.faults (OutOfRange, place))))
 
-    copy_told : (p : ℕ) → p < length t.copies → ((copy_in t p).leader ≡ stood.leader p) × ((copy_in t p).bank ≡ stood.bank p)
-    copy_told p less =
-        let c = there t.copies p less in
-        let is : copy_in t p ≡ c.0 = ap (λ o. copy_or_alone p o) c.1 in
-        (ap (λ (k : AccessAt). k.leader) is ∙ formed_copies.leaders p c.0 c.1, ap (λ (k : AccessAt). k.bank) is ∙ formed_copies.banks p c.0 c.1)
-
-    new_laid : AreNone before.counts.items → (named : List (FaultKind × Place)) → AreNamed named new → length named ≤ 2 ^ 32 → IsLaid named t
-    new_laid none named all few = record {
+    new_laid : (named : List (FaultKind × Place)) → AreNamed named new → length named ≤ 2 ^ 32 → IsLaid named t
+    new_laid named all few = record {
       place = place;
       fault = fault_named named all few;
       alone = λ k c at other. alone_copies.alone k c at (λ same. other (formed_copies.leaders k c at ∙ same));
-      places = λ k c at.
-          let w = place_within t.copies k c at in
-          formed_copies.places none k c at
-          ∙ ap narrowed (ap (λ m. leaders_at stood.leader stood.bank m k) (sym (formed_copies.banks k c at))
-          ∙ leaders_same stood.leader stood.bank around.guards.now (λ path. (copy_in t path).leader) (λ path. (copy_in t path).bank) c.bank k (λ p less. sym (copy_told p (before_it p k less w)).0) (λ p less. sym (copy_told p (before_it p k less w)).1));
     }
       where
-        alone_copies : AreAlone stood.leader stood.bank around.guards.now (length around.guards.now) t.copies
-        alone_copies = copies_alone stood.leader stood.bank around.guards.now (length around.guards.now) a.middle new before.counts.items copies.0 t.copies copies.1
-
-        before_it : (p k : ℕ) → p < k → k < length t.copies → p < length t.copies
-        before_it p k less w = omega (arith, less, w)
+        alone_copies : AreAlone stood.leader stood.bank (copy_places stood) around.guards.now (length around.guards.now) t.copies
+        alone_copies = copies_alone stood.leader stood.bank (copy_places stood) around.guards.now (length around.guards.now) a.middle new t.copies copies
 
   pub touch_lays : (old new : Draft) (before after : Accesses) (number : ℕ) → TouchesAt scene around stood old new before after number → Lays old new before after
   touch_lays old new before after number t = record {
     extends = t.extends;
     laid = λ named all few laid none m u at.
-        ⊎_elim (λ was. laid m u was) (λ (fresh : IsNew old new scene around stood before number m u). new_laid old new before u fresh.adds none named all few) (t.known m u at);
+        ⊎_elim (λ was. laid m u was) (λ (fresh : IsNew old new scene around stood number m u). new_laid old new u fresh.adds named all few) (t.known m u at);
     none = t.none;
     long = t.long;
     few = by t.adds t.fresh;
@@ -297,13 +275,13 @@ module _ (scene : Scene) (around : Around) (stands : StandsIn scene around) (mem
       still : new ≡ old → length new.faults + touched_count before.touched.items ≤ length old.faults + touched_count after.touched.items
       still same = not_fewer (length new.faults) (length old.faults) (touched_count before.touched.items) (touched_count after.touched.items) (ap (λ (d : Draft). length d.faults) same) (count_more before.touched.items after.touched.items (sym t.long) kept)
 
-      by : (new ≡ old) ⊎ ((u : Touched) × AddsTouched old new scene around stood before u) → (new ≡ old) ⊎ (is_bare before number ≡ true) → length new.faults + touched_count before.touched.items ≤ length old.faults + touched_count after.touched.items
+      by : (new ≡ old) ⊎ ((u : Touched) × AddsTouched old new scene around stood u) → (new ≡ old) ⊎ (is_bare before number ≡ true) → length new.faults + touched_count before.touched.items ≤ length old.faults + touched_count after.touched.items
       by (inl same) o = still same
       by (inr a) (inl same) = still same
       by (inr (u, a)) (inr bare) =
           let here = t.there (bare_within before number bare) in
           one_more (length new.faults) (length old.faults) (touched_count before.touched.items) (touched_count after.touched.items)
-          (ap (λ (fs : List (FaultKind × Place)). length fs) (touched_faults old new before u a ∙ a.names.faults) ∙ length-append old.faults ((OutOfRange, place) ∷ []))
+          (ap (λ (fs : List (FaultKind × Place)). length fs) (touched_faults old new u a ∙ a.names.faults) ∙ length-append old.faults ((OutOfRange, place) ∷ []))
           (count_one before.touched.items after.touched.items number here.0 (sym t.long) kept (bare_there (slice_get before.touched.items number) bare) (touched_there after.touched.items number here.0 here.1))
 
 -- what a read gave is noted
@@ -338,8 +316,6 @@ notes_lays d before after number path value h = record {
           place = stood.place;
           fault = subst (λ (n : ℕ). slice_get named n ≡ Some (OutOfRange, stood.place)) old.1.1.0 stood.fault;
           alone = subst (λ (cs : List AccessAt). (k : ℕ) (c : AccessAt) → slice_get cs k ≡ Some c → (c.leader ≡ k → ⊥) → c.guard ≡ None) old.1.1.1 stood.alone;
-          places = subst (λ (cs : List AccessAt). (k : ℕ) (c : AccessAt) → slice_get cs k ≡ Some c
-              → c.place ≡ narrowed (leaders_at (λ path. (copy_or_alone path (slice_get cs path)).leader) (λ path. (copy_or_alone path (slice_get cs path)).bank) c.bank k)) old.1.1.1 stood.places;
         }
 
 -- Values.
@@ -380,8 +356,8 @@ module _ (scene : Scene) (lane : Lane) (stands : StandsIn scene lane.around) whe
   read_lays access memory aim old new before after v r =
       lays_again old r.first new before r.middle after (touch_lays scene lane.around stands memory (place_written access) (form_of access) false old r.first before r.middle aim.number r.touches)
       (lays_again r.first new new r.middle r.middle after
-      (lays_quiet r.first new r.middle r.middle (extends_again r.first r.second new (pushed_extends r.first r.second _ _ _ r.probes) (found_extends r.second new memory aim (copied_in r.middle aim.number lane.number) _ v r.finds))
-      (finds_faults r.second new memory aim (copied_in r.middle aim.number lane.number) _ v r.finds ∙ r.probes.faults) refl)
+      (lays_quiet r.first new r.middle r.middle (extends_again r.first r.second new (pushed_extends r.first r.second _ _ _ r.probes) (found_extends scene (form_of access) r.second new memory aim (copied_in r.middle aim.number lane.number) _ v r.finds))
+      (finds_faults scene (form_of access) r.second new memory aim (copied_in r.middle aim.number lane.number) _ v r.finds ∙ r.probes.faults) refl)
       (notes_lays new r.middle after aim.number lane.number v r.notes))
 
   pub write_lays : (access : Term) (memory : ℕ) (aim : Aim) (value : ℕ) (old new : Draft) (before after : Accesses) → MadeWrite scene lane access memory aim value old new before after → Lays old new before after
@@ -390,6 +366,12 @@ module _ (scene : Scene) (lane : Lane) (stands : StandsIn scene lane.around) whe
       (lays_quiet w.first new after after (extends_again w.first w.second new (pushed_extends w.first w.second _ _ _ w.probes) (pushed_extends w.second new _ _ _ w.writes)) (w.writes.faults ∙ w.probes.faults) refl)
 
   module _ (current : List (Option ℕ)) where
+    -- what stands behind indices
+    way_lays : (r : Ref) (old new : Draft) (a : Accesses) (steps : List ReachStep) → MadeWay scene lane current old new (first_view scene r) (way_of (known_in scene) r) steps → Lays old new a a
+    way_lays r old new a steps m =
+        lays_quiet old new a a (way_part scene lane current (way_of (known_in scene) r) (memory_of (known_in scene) r) (first_view scene r) old new a steps m).extends
+        (way_faults scene lane current (way_of (known_in scene) r) (first_view scene r) old new steps m) refl
+
     mutual
       pub term_lays : (t : Term) (old new : Draft) (before after : Accesses) (n next v : ℕ) → MadeTerm scene lane current t old new before after n next v → Lays old new before after
       term_lays (plain.term place k (plain.number negative z)) old new before after n next v m = lays_quiet old new before after (number_forms (kind_or_first k) negative z old new v m.part).extends (number_faults (kind_or_first k) negative z old new v m.part) m.same
@@ -398,7 +380,9 @@ module _ (scene : Scene) (lane : Lane) (stands : StandsIn scene lane.around) whe
           lays_quiet old new before after (variable_extends (counter_of scene (entity_number r.entity)) (held_at scene.held.now (entity_number r.entity)) lane current (kind_or_first k) old new v m.part)
           (variable_faults (counter_of scene (entity_number r.entity)) (held_at scene.held.now (entity_number r.entity)) lane current (kind_or_first k) old new v m.part) m.same
       term_lays (plain.term place k (plain.accessed r ts)) old new before after n next v m =
-          lays_again old m.middle new before m.between after (terms_lay ts old m.middle before m.between n m.aim.number m.aim.indices m.indices) (read_lays _ _ m.aim m.middle new m.between after v m.reads)
+          lays_again old m.middle new before m.between after
+          (lays_again old m.named m.middle before m.between m.between (terms_lay ts old m.named before m.between n m.aim.number m.aim.indices m.indices) (way_lays r m.named m.middle m.between m.aim.steps m.steps))
+          (read_lays _ _ m.aim m.middle new m.between after v m.reads)
       term_lays (plain.term place k (plain.in_bank r bank at row)) old new before after n next v m =
           lays_again old m.middle new before m.between after (term_lays row old m.middle before m.between n m.aim.number m.value m.row) (read_lays _ _ m.aim m.middle new m.between after v m.reads)
       term_lays (plain.term place k (plain.applied op left right)) old new before after n next v m =
@@ -415,7 +399,8 @@ module _ (scene : Scene) (lane : Lane) (stands : StandsIn scene lane.around) whe
           lays_again old m.middle new before m.between after (term_lays t old m.middle before m.between n m.own m.a m.first) (terms_lay ts m.middle new m.between after m.own next m.more m.rest)
 
     pub aim_lays : (form : plain.TermForm) (old new : Draft) (before after : Accesses) (n : ℕ) (aimed : Option (Aim × ℕ)) → MadeAim scene lane current form old new before after n aimed → Lays old new before after
-    aim_lays (plain.accessed r ts) old new before after n (Some (aim, memory)) m = terms_lay ts old new before after n aim.number aim.indices m.0.indices
+    aim_lays (plain.accessed r ts) old new before after n (Some (aim, memory)) m =
+        lays_again old m.0.middle new before after after (terms_lay ts old m.0.middle before after n aim.number aim.indices m.0.indices) (way_lays r m.0.middle new after aim.steps m.0.steps)
     aim_lays (plain.accessed r ts) old new before after n None m = absurd m
     aim_lays (plain.in_bank r bank at row) old new before after n (Some (aim, memory)) m = term_lays row old new before after n aim.number m.0.value m.0.row
     aim_lays (plain.in_bank r bank at row) old new before after n None m = absurd m
@@ -453,6 +438,17 @@ module _ (scene : Scene) (lane : Lane) (stands : StandsIn scene lane.around) whe
       (lays_quiet m.middle new.draft new.accesses new.accesses (folded_extends lane old.values.current.items (held_at scene.held.now entity) op t m.value m.middle new.draft m.folded m.folds)
       (folded_faults lane old.values.current.items (held_at scene.held.now entity) op t m.value m.middle new.draft m.folded m.folds) refl)
 
+  holds_lays : (first : ℕ) (offsets : List Term) (values : List ℕ) (old new : Draft) (a : Accesses) (held : List ℕ) → MadeHolds scene first offsets values old new held → Lays old new a a
+  holds_lays first [] values old new a held m = lays_none old new a a m.0 refl
+  holds_lays first (t ∷ ts) [] old new a held m = lays_none old new a a m.0 refl
+  holds_lays first (t ∷ ts) (v ∷ vs) old new a held (d, (h, (more, (one, (rest, is))))) =
+      lays_again old d new a a a (lays_quiet old d a a (held_forms t (held_at scene.held.now first).kind v old d h one).extends (held_faults t (held_at scene.held.now first).kind v old d h one) refl) (holds_lays (suc first) ts vs d new a more rest)
+
+  pub kept_lays : (first entity : ℕ) (offsets : List Term) (old new : Building) (next : ℕ) → MadeKept scene lane first entity offsets old new next → Lays old.draft new.draft old.accesses new.accesses
+  kept_lays first entity offsets old new next m =
+      lays_again old.draft m.middle new.draft old.accesses new.accesses new.accesses (terms_lay old.values.current.items (terms offsets) old.draft m.middle old.accesses new.accesses first next m.values m.offsets_made)
+      (holds_lays entity offsets m.values m.middle new.draft new.accesses m.held m.holds)
+
   pub stored_lays : (first : ℕ) (target t : Term) (old new : Building) (next : ℕ) → MadeStored scene lane first target t old new next → Lays old.draft new.draft old.accesses new.accesses
   stored_lays first target t old new next m =
       lays_again old.draft m.middle new.draft old.accesses m.between new.accesses (term_lays old.values.current.items t old.draft m.middle old.accesses m.between first m.own m.value m.term)
@@ -487,6 +483,11 @@ arm_lays Inner around holds tests old new first next lefts m inner =
 -- All commands.
 
 module _ (scene : Scene) where
+  view_lays : (hidden : List Hidden) (form : ViewPlan) (around : Around) (old new : Building) (first next : ℕ) → StandsIn scene around → MadeView scene hidden form around old new first next → Lays old.draft new.draft old.accesses new.accesses
+  view_lays [] form around old new first next s m = lays_still old new m.still
+  view_lays (h ∷ hs) form around old new first next s m =
+      lanes_lay (λ n b d k. MadeKept scene (lane_of around n) first h.entity (offsets_of form) b d k) (λ n b d k one. kept_lays scene (lane_of around n) s first h.entity (offsets_of form) b d k one) (paths_counted around) first old new next m
+
   mutual
     pub command_lays : (a : Action) (around : Around) (old new : Building) (first next : ℕ) → StandsIn scene around → MadeCommand scene a around old new first next → Lays old.draft new.draft old.accesses new.accesses
     command_lays (action id place form) around old new first next s m = action_lays form around old new first next s m
@@ -520,7 +521,7 @@ module _ (scene : Scene) where
         (choices_faults m.tests m.joined.choices (length m.joined.choices) m.after_other.draft new.draft m.joined.middle new.values m.joined.choose) m.joined.same)))
     action_lays (blocks body) around old new first next s m = groups_lays body around old new first next s m
     action_lays (lets_memory name shape shape_places value) around old new first next s m = lays_still old new m.still
-    action_lays (views name parent form) around old new first next s m = lays_still old new m.still
+    action_lays (views name parent form) around old new first next s m = view_lays (hidden_in (way_of (known_in scene) name)) form around old new first next s m
     action_lays (calls function arguments) around old new first next s m = lays_still old new m.still
     action_lays (repeats test body) around old new first next s m = lays_still old new m.still
     action_lays (counts iterator declared low high factor body combine combine_place) around old new first next s m = lays_still old new m.still

@@ -4,15 +4,18 @@ use Rattle.std.specs.Prelude.{Bool as Truth, true, false, [], ◌∷◌, Option}
 use Rattle.std.specs.List.{AllByRecursion}
 use Rattle.dh_value.specs.declared.operators.Op.{Op}
 use Rattle.dh_tree.specs.Indices.{form_of}
-use Rattle.dh_tree.specs.PlainTrees.{Term, Action, action, ActionForm, lets, lets_memory, views, assigns, stores, reduces, calls, blocks, decides, repeats, counts, MaybeAction, no_action, one_action, Actions, no_actions, action_then, Groups, no_groups, group_then}
-use Rattle.dh_meaning.specs.AccessNumbers.{term_accesses}
-use Rattle.dh_meaning.specs.CoreOf.{entity_number}
+use Rattle.dh_tree.specs.PlainTrees.{Term, Action, action, ActionForm, lets, lets_memory, views, assigns, stores, reduces, calls, blocks, decides, repeats, counts, MaybeAction, no_action, one_action, Actions, no_actions, action_then, Groups, no_groups, group_then, ViewPlan}
+use Rattle.dh_tree.specs.ViewOffsets.{offsets_of}
+use Rattle.dh_meaning.specs.AccessNumbers.{plan_accesses, term_accesses}
+use Rattle.dh_meaning.specs.CoreOf.{entity_number, way_of}
+use Rattle.dh_meaning.specs.Ways.{Hidden, hidden_in}
 use Rattle.dh_code.specs.Slots.{held_at}
 use Rattle.dh_expressions.specs.declared.accesses.Accesses.{Accesses}
 use Rattle.dh_expressions.specs.declared.drafts.Draft.{Draft}
 use Rattle.dh_expressions.specs.declared.scenes.Around.{Around}
 use Rattle.dh_expressions.specs.declared.scenes.Scene.{Scene}
 use Rattle.dh_expressions.specs.Drafted.{Extends}
+use Rattle.dh_expressions.specs.Evaluated.{known_in}
 use Rattle.dh_expressions.specs.Shown.{kind_written, register_at}
 use Rattle.dh_expressions.proofs.Pushing.{extends_again}
 use Rattle.dh_formed.specs.Formed.{Agrees, Block, Forms, FormsTerm, IsNoted, Started, TermSuits}
@@ -24,19 +27,20 @@ use Rattle.dh_commands.specs.declared.buildings.Building.{Building}
 use Rattle.dh_commands.specs.declared.choices.Left.{Left}
 use Rattle.dh_commands.specs.Joined.{IsLeft}
 use Rattle.dh_commands.specs.LanesRun.{lane_of, paths_counted}
-use Rattle.dh_commands.specs.MadeCommands.{AssignedTo, ClearedTo, Commanding, MadeActionForm, MadeActions, MadeArm, MadeAssigned, MadeCleared, MadeReduced, MadeStored, ReducedTo, StoredTo, MadeBoth, MadeCommand, MadeGroups, MadeIf, MadeNoArm, MadeOther, MadeTested, MadeTests}
+use Rattle.dh_commands.specs.MadeCommands.{AssignedTo, ClearedTo, Commanding, MadeActionForm, MadeActions, MadeArm, MadeAssigned, MadeCleared, MadeReduced, MadeStored, ReducedTo, StoredTo, MadeBoth, MadeCommand, MadeGroups, MadeIf, MadeKept, MadeNoArm, MadeOther, MadeTested, MadeTests, MadeView}
 use Rattle.dh_commands.specs.Undone.{AreReady}
 use Rattle.dh_commands.proofs.ArmsLeft.{AreSame, same_ready}
 use Rattle.dh_laid.specs.Laid.{AreHeld, AreLeft, AreTruths, AreGuardsThere, FormsAround, FormsGuards, FormsJoined, FormsTested, FormsTests, FormsThere, LeftHolds, StandsRound, aim_accesses}
-use Rattle.dh_laid.specs.LaidCommands.{AssignmentSuits, ClearingSuits, ReducingSuits, StoreSuits, ActionSuits, ActionsSuit, AreFew, AreFewActions, AreFewGroups, AreFewIn, AreFewOf, AreFewOther, AreLogged, CommandSuits, CommandsForm, FormsCommand, GroupsForm, GroupsSuit, OtherSuits, StandsHeld, TestSuits}
+use Rattle.dh_laid.specs.LaidCommands.{AssignmentSuits, ClearingSuits, ReducingSuits, StoreSuits, ActionSuits, ActionsSuit, AreFew, AreFewActions, AreFewGroups, AreFewIn, AreFewOf, AreFewOther, AreLogged, CommandSuits, CommandsForm, FormsCommand, GroupsForm, GroupsSuit, KeepingSuits, OtherSuits, StandsHeld, TestSuits}
 use Rattle.dh_laid.proofs.ArmsLaid.{arm_guards_form}
 use Rattle.dh_laid.proofs.ChoicesLaid.{truths_later}
 use Rattle.dh_laid.proofs.JoinsLaid.{arms_leave, joins_form}
+use Rattle.dh_laid.proofs.KeptLaid.{all_keeps_form}
 use Rattle.dh_laid.proofs.PathsLaid.{all_assignments_form, all_clearings_form, extends_same, round_later, tests_form, there_same}
 use Rattle.dh_laid.proofs.ReducersLaid.{all_reduces_form}
 use Rattle.dh_laid.proofs.StoresLaid.{all_stores_form}
 use Rattle.dh_laid.proofs.ValuesLaid.{arms_end, held_later}
-use Rattle.dh_laid.proofs.ValuesLogged.{IsBack, arm_back, arm_long, joined_logged, lanes_logged, logged_again, logged_equal, logged_one, logged_ready, logged_same, tests_same}
+use Rattle.dh_laid.proofs.ValuesLogged.{IsBack, arm_back, arm_long, joined_logged, lanes_logged, logged_again, logged_equal, logged_from, logged_one, logged_ready, logged_same, tests_same}
 
 -- an arm, and what it left
 pub record FormsEnded (x : Block) (old new : Building) (lefts : List Left) : Type 0 where
@@ -285,6 +289,16 @@ stored_forms scene around first target t old new next m few =
     (all_stores_form scene around first target t (paths_counted around) old new next m few (omega arith))
     (lanes_logged (λ n b d k. MadeStored scene (lane_of around n) first target t b d k) (λ n b d k one. logged_equal b.values d.values one.same) (paths_counted around) first old new next m)
 
+-- offsets of a view
+view_forms : (scene : Scene) (hidden : List Hidden) (form : ViewPlan) (around : Around) (old new : Building) (first next : ℕ) → MadeView scene hidden form around old new first next → first + plan_accesses form < 2 ^ 32
+    → FormsCommand scene around old new (λ x. KeepingSuits x scene around first hidden (offsets_of form))
+view_forms scene [] form around old new first next m few = still_forms scene around old new m.still
+view_forms scene (h ∷ hs) form around old new first next m few =
+    around_form scene around old new (λ x. KeepingSuits x scene around first (h ∷ hs) (offsets_of form))
+    (all_keeps_form scene around first h.entity (offsets_of form) (paths_counted around) old new next m few (omega arith))
+    (lanes_logged (λ n b d k. MadeKept scene (lane_of around n) first h.entity (offsets_of form) b d k)
+    (λ n b d k one. logged_from scene (lane_of around n) h.entity one.held b.values d.values one.sets) (paths_counted around) first old new next m)
+
 -- All commands.
 
 module _ (scene : Scene) where
@@ -309,7 +323,7 @@ module _ (scene : Scene) where
         (other_forms other around m.tests m.after_chosen m.after_other m.behind next m.other_left m.other few.1.1)
     action_forms (blocks body) around old new first next m few = groups_form body around old new first next m few
     action_forms (lets_memory name shape shape_places value) around old new first next m few = still_forms scene around old new m.still
-    action_forms (views name parent form) around old new first next m few = still_forms scene around old new m.still
+    action_forms (views name parent form) around old new first next m few = view_forms scene (hidden_in (way_of (known_in scene) name)) form around old new first next m few
     action_forms (calls function arguments) around old new first next m few = still_forms scene around old new m.still
     action_forms (repeats test body) around old new first next m few = still_forms scene around old new m.still
     action_forms (counts iterator declared low high factor body combine combine_place) around old new first next m few = still_forms scene around old new m.still

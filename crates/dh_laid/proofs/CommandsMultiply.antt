@@ -11,9 +11,13 @@ use Rattle.dh_value.specs.declared.operators.Op.TheVariants.{Both}
 use Rattle.dh_value.specs.Operations.{truth}
 use Rattle.dh_tree.specs.Indices.{form_of}
 use Rattle.dh_tree.specs.PlainTrees as plain
-use Rattle.dh_tree.specs.PlainTrees.{Term, Action, action, ActionForm, lets, lets_memory, views, assigns, stores, reduces, calls, blocks, decides, repeats, counts, MaybeAction, no_action, one_action, Actions, no_actions, action_then, Groups, no_groups, group_then}
+use Rattle.dh_tree.specs.PlainTrees.{Term, Action, action, ActionForm, lets, lets_memory, views, assigns, stores, reduces, calls, blocks, decides, repeats, counts, MaybeAction, no_action, one_action, Actions, no_actions, action_then, Groups, no_groups, group_then, ViewPlan}
+use Rattle.dh_tree.specs.declared.trees.expressions.Ref.{Ref}
+use Rattle.dh_tree.specs.Seen.{terms}
+use Rattle.dh_tree.specs.ViewOffsets.{offsets_of}
 use Rattle.dh_meaning.specs.Bindings.{kind_or_first}
-use Rattle.dh_meaning.specs.CoreOf.{entity_number}
+use Rattle.dh_meaning.specs.CoreOf.{entity_number, way_of}
+use Rattle.dh_meaning.specs.Ways.{Hidden, hidden_in}
 use Rattle.dh_code.specs.Extended.{extension_of}
 use Rattle.dh_code.specs.Made.{same_kind}
 use Rattle.dh_code.specs.Slots.{held_at}
@@ -21,6 +25,7 @@ use Rattle.dh_plan.specs.declared.operations.Operation.{Operation}
 use Rattle.dh_plan.specs.declared.operations.OperationForm.{OperationForm}
 use Rattle.dh_plan.specs.declared.operations.OperationForm.TheVariants.{Compute, Constant, Convert, Select}
 use Rattle.dh_plan.specs.declared.operations.Reach.{Reach}
+use Rattle.dh_plan.specs.declared.operations.ReachStep.{ReachStep}
 use Rattle.dh_plan.specs.DoneProgram.{block_products, product_of}
 use Rattle.dh_plan.specs.LegalSchedules.{is_product}
 use Rattle.dh_expressions.specs.declared.accesses.Accesses.{Accesses}
@@ -32,23 +37,24 @@ use Rattle.dh_expressions.specs.declared.scenes.Around.{Around}
 use Rattle.dh_expressions.specs.declared.scenes.Lane.{Lane}
 use Rattle.dh_expressions.specs.declared.scenes.Scene.{Scene}
 use Rattle.dh_expressions.specs.Drafted.{Pushes}
-use Rattle.dh_expressions.specs.Evaluated.{counter_of}
-use Rattle.dh_expressions.specs.MadeTerms.{MadeRead, MadeTerm, MadeTerms, MadeWrite}
+use Rattle.dh_expressions.specs.Evaluated.{counter_of, known_in}
+use Rattle.dh_expressions.specs.MadeTerms.{MadeRead, MadeTerm, MadeTerms, MadeWay, MadeWrite}
 use Rattle.dh_expressions.specs.MadeValues.{MadeConverted, MadeHeld, MadeShown}
+use Rattle.dh_expressions.specs.Named.{first_view}
 use Rattle.dh_expressions.specs.Noted.{copied_in}
 use Rattle.dh_expressions.specs.Reaching.{Finds, place_written}
 use Rattle.dh_expressions.specs.Shown.{guard_of, is_kept, kind_written, register_at}
-use Rattle.dh_expressions.specs.Standings.{standing_at}
+use Rattle.dh_expressions.specs.Standings.{copy_places, standing_at}
 use Rattle.dh_expressions.specs.Touching.{AddsTouched, TouchesAt}
 use Rattle.dh_formed.specs.Counted.{Counts, FormIs}
-use Rattle.dh_formed.proofs.ValuesCounted.{compute_counts, copies_counts, held_counts, number_counts, operation_counts, shown_counts, variable_counts}
+use Rattle.dh_formed.proofs.ValuesCounted.{compute_counts, copies_counts, held_counts, number_counts, operation_counts, sees_any, shown_counts, variable_counts, way_counts}
 use Rattle.dh_commands.specs.declared.buildings.Building.{Building}
 use Rattle.dh_commands.specs.declared.assignments.Values.{Values}
 use Rattle.dh_commands.specs.declared.choices.Choice.{Choice}
 use Rattle.dh_commands.specs.declared.choices.Left.{Left}
 use Rattle.dh_commands.specs.LanesRun.{lane_of, paths_counted}
-use Rattle.dh_commands.specs.MadeCommands.{Commanding, FoldedWith, MadeActionForm, MadeActions, MadeAim, MadeArm, MadeArmGuard, MadeArmGuards, MadeAssigned, MadeBehind, MadeChoiceBy, MadeChoices, MadeCleared, MadeCommand, MadeGroups, MadeGuard, MadeLanes, MadeOldOperand, MadeOperand, MadeOther, MadeOutcome, MadeReduced, MadeStored, MadeStoring, MadeTests}
-use Rattle.dh_laid.specs.LaidProducts.{AddsProducts, CommandsHaveProducts, GroupsHaveProducts, action_products, aim_products, all_products_in, groups_products, other_products, own_products, part_products, products_in}
+use Rattle.dh_commands.specs.MadeCommands.{Commanding, FoldedWith, MadeActionForm, MadeActions, MadeAim, MadeArm, MadeArmGuard, MadeArmGuards, MadeAssigned, MadeBehind, MadeChoiceBy, MadeChoices, MadeCleared, MadeCommand, MadeGroups, MadeGuard, MadeHolds, MadeKept, MadeLanes, MadeOldOperand, MadeOperand, MadeOther, MadeOutcome, MadeReduced, MadeStored, MadeStoring, MadeTests, MadeView}
+use Rattle.dh_laid.specs.LaidProducts.{AddsProducts, CommandsHaveProducts, GroupsHaveProducts, action_products, aim_products, all_products_in, groups_products, offset_products, other_products, own_products, part_products, products_in}
 use Rattle.dh_laid.specs.LaidQuiet.{StandsIn}
 use Rattle.dh_laid.proofs.ValuesLogged.{arm_long, stands_arm, tests_same}
 
@@ -121,23 +127,23 @@ module _ (scene : Scene) (lane : Lane) (stands : StandsIn scene lane.around) whe
       leads : (p : ℕ) → (standing_at scene lane.around memory (place_written access) (form_of access) writes).leader p ≤ p
       leads p = omega arith
 
-      by : (new ≡ old) ⊎ ((u : Touched) × AddsTouched old new scene lane.around (standing_at scene lane.around memory (place_written access) (form_of access) writes) before u) → AddsNone old new
+      by : (new ≡ old) ⊎ ((u : Touched) × AddsTouched old new scene lane.around (standing_at scene lane.around memory (place_written access) (form_of access) writes) u) → AddsNone old new
       by (inl same) = none_none old new same
       by (inr (u, a)) =
-          let copies = a.copies stands.scopes stands.low in
           none_again old a.middle new (none_same old a.middle a.names.operations)
           (products_counted a.middle new 0 _ _
           (copies_counts any_register any_reach any_reach any_reach (standing_at scene lane.around memory (place_written access) (form_of access) writes).leader
-          (standing_at scene lane.around memory (place_written access) (form_of access) writes).bank lane.around.guards.now leads (length lane.around.guards.now) a.middle new before.counts.items copies.0 u.copies stands.few copies.1))
+          (standing_at scene lane.around memory (place_written access) (form_of access) writes).bank (copy_places (standing_at scene lane.around memory (place_written access) (form_of access) writes)) lane.around.guards.now leads (length lane.around.guards.now) a.middle new u.copies
+          (a.copies stands.scopes stands.low)))
 
-  finds_products_added : (old new : Draft) (memory : ℕ) (aim : Aim) (copy : AccessAt) (found : Option ℕ) (v : ℕ) → Finds old new memory aim copy found v → AddsNone old new
-  finds_products_added old new memory aim copy None v m = none_pushed old new v copy.guard _ m refl
-  finds_products_added old new memory aim copy (Some n) v m = none_none old new m.0
+  finds_products_added : (form : plain.TermForm) (old new : Draft) (memory : ℕ) (aim : Aim) (copy : AccessAt) (found : Option ℕ) (v : ℕ) → Finds scene form old new memory aim copy found v → AddsNone old new
+  finds_products_added form old new memory aim copy None v m = none_pushed old new v copy.guard _ m refl
+  finds_products_added form old new memory aim copy (Some n) v m = none_none old new m.0
 
   read_products_added : (access : Term) (memory : ℕ) (aim : Aim) (old new : Draft) (before after : Accesses) (v : ℕ) → MadeRead scene lane access memory aim old new before after v → AddsNone old new
   read_products_added access memory aim old new before after v r =
       none_again old r.first new (touch_products_added access memory false old r.first before r.middle aim.number r.touches)
-      (none_again r.first r.second new (none_pushed r.first r.second _ _ _ r.probes refl) (finds_products_added r.second new memory aim (copied_in r.middle aim.number lane.number) _ v r.finds))
+      (none_again r.first r.second new (none_pushed r.first r.second _ _ _ r.probes refl) (finds_products_added (form_of access) r.second new memory aim (copied_in r.middle aim.number lane.number) _ v r.finds))
 
   write_products_added : (access : Term) (memory : ℕ) (aim : Aim) (value : ℕ) (old new : Draft) (before after : Accesses) → MadeWrite scene lane access memory aim value old new before after → AddsNone old new
   write_products_added access memory aim value old new before after w =
@@ -145,6 +151,12 @@ module _ (scene : Scene) (lane : Lane) (stands : StandsIn scene lane.around) whe
       (none_again w.first w.second new (none_pushed w.first w.second _ _ _ w.probes refl) (none_pushed w.second new _ _ _ w.writes refl))
 
   module _ (current : List (Option ℕ)) where
+    -- what stands behind indices
+    way_added : (r : Ref) (old new : Draft) (steps : List ReachStep) → MadeWay scene lane current old new (first_view scene r) (way_of (known_in scene) r) steps → AddsNone old new
+    way_added r old new steps m =
+        products_counted old new 0 _ _
+        (way_counts any_register any_reach any_reach any_reach scene lane current (way_of (known_in scene) r) (first_view scene r) (sees_any any_register any_reach any_reach any_reach (λ register. tt) scene lane (way_of (known_in scene) r)) old new steps m)
+
     mutual
       term_products_added : (t : Term) (old new : Draft) (before after : Accesses) (n next v : ℕ) → MadeTerm scene lane current t old new before after n next v → AddsProducts old new (products_in t)
       term_products_added (plain.term place k (plain.number negative z)) old new before after n next v m =
@@ -154,8 +166,9 @@ module _ (scene : Scene) (lane : Lane) (stands : StandsIn scene lane.around) whe
           products_counted old new 0 _ _
           (variable_counts any_register any_reach any_reach any_reach (counter_of scene (entity_number r.entity)) (held_at scene.held.now (entity_number r.entity)) lane current (kind_or_first k) tt old new v m.part)
       term_products_added (plain.term place k (plain.accessed r ts)) old new before after n next v m =
-          products_within old new (all_products_in ts + 0) (all_products_in ts) (omega arith)
-          (products_again old m.middle new (all_products_in ts) 0 (terms_products_added ts old m.middle before m.between n m.aim.number m.aim.indices m.indices)
+          products_within old new (all_products_in ts + 0 + 0) (all_products_in ts) (omega arith)
+          (products_again old m.middle new (all_products_in ts + 0) 0
+          (products_again old m.named m.middle (all_products_in ts) 0 (terms_products_added ts old m.named before m.between n m.aim.number m.aim.indices m.indices) (way_added r m.named m.middle m.aim.steps m.steps))
           (read_products_added _ _ m.aim m.middle new m.between after v m.reads))
       term_products_added (plain.term place k (plain.in_bank r bank at row)) old new before after n next v m =
           products_within old new (products_in row + 0) (products_in row) (omega arith)
@@ -176,7 +189,9 @@ module _ (scene : Scene) (lane : Lane) (stands : StandsIn scene lane.around) whe
           (terms_products_added ts m.middle new m.between after m.own next m.more m.rest)
 
     aim_products_added : (form : plain.TermForm) (old new : Draft) (before after : Accesses) (n : ℕ) (aimed : Option (Aim × ℕ)) → MadeAim scene lane current form old new before after n aimed → AddsProducts old new (aim_products form)
-    aim_products_added (plain.accessed r ts) (old) new before after n (Some (aim, memory)) m = terms_products_added ts old new before after n aim.number aim.indices m.0.indices
+    aim_products_added (plain.accessed r ts) old new before after n (Some (aim, memory)) m =
+        products_within old new (all_products_in ts + 0) (all_products_in ts) (omega arith)
+        (products_again old m.0.middle new (all_products_in ts) 0 (terms_products_added ts old m.0.middle before after n aim.number aim.indices m.0.indices) (way_added r m.0.middle new aim.steps m.0.steps))
     aim_products_added (plain.accessed r ts) old new before after n None m = absurd m
     aim_products_added (plain.in_bank r bank at row) old new before after n (Some (aim, memory)) m = term_products_added row old new before after n aim.number m.0.value m.0.row
     aim_products_added (plain.in_bank r bank at row) old new before after n None m = absurd m
@@ -220,12 +235,26 @@ folded_products_added lane current held op t value old new v m =
     products_within old new (0 + (product_of op + 0)) (product_of op) (omega arith)
     (products_again old m.third new 0 (product_of op + 0) front (products_again m.third m.fourth new (product_of op) 0 all last))
 
+-- offsets as the variables hold them that keep them
+holds_products_added : (scene : Scene) (first : ℕ) (offsets : List Term) (values : List ℕ) (old new : Draft) (held : List ℕ) → MadeHolds scene first offsets values old new held → AddsNone old new
+holds_products_added scene first [] values old new held m = none_none old new m.0
+holds_products_added scene first (t ∷ ts) [] old new held m = none_none old new m.0
+holds_products_added scene first (t ∷ ts) (v ∷ vs) old new held (d, (h, (more, (one, (rest, is))))) =
+    none_again old d new (held_products_added t (held_at scene.held.now first).kind v old d h one) (holds_products_added scene (suc first) ts vs d new more rest)
+
 module _ (scene : Scene) (lane : Lane) (stands : StandsIn scene lane.around) where
   assigned_products_added : (first entity : ℕ) (t : Term) (old new : Building) (next : ℕ) → MadeAssigned scene lane first entity t old new next → AddsProducts old.draft new.draft (products_in t)
   assigned_products_added first entity t old new next m =
       products_within old.draft new.draft (products_in t + 0) (products_in t) (omega arith)
       (products_again old.draft m.middle new.draft (products_in t) 0 (term_products_added scene lane stands old.values.current.items t old.draft m.middle old.accesses new.accesses first next m.value m.term)
       (held_products_added t (held_at scene.held.now entity).kind m.value m.middle new.draft m.held m.holds))
+
+  kept_products_added : (first entity : ℕ) (offsets : List Term) (old new : Building) (next : ℕ) → MadeKept scene lane first entity offsets old new next → AddsProducts old.draft new.draft (all_products_in (terms offsets))
+  kept_products_added first entity offsets old new next m =
+      products_within old.draft new.draft (all_products_in (terms offsets) + 0) (all_products_in (terms offsets)) (omega arith)
+      (products_again old.draft m.middle new.draft (all_products_in (terms offsets)) 0
+      (terms_products_added scene lane stands old.values.current.items (terms offsets) old.draft m.middle old.accesses new.accesses first next m.values m.offsets_made)
+      (holds_products_added scene entity offsets m.values m.middle new.draft m.held m.holds))
 
   cleared_products_added : (entity : ℕ) (old new : Building) → MadeCleared scene lane entity old new → AddsNone old.draft new.draft
   cleared_products_added entity old new m =
@@ -334,12 +363,19 @@ both_products_added : (a b d : Draft) (p q n : ℕ) → AddsProducts a b (p * n)
 both_products_added a b d p q n h k = subst (λ (i : ℕ). AddsProducts a d i) (times_sum p q n) (products_again a b d (p * n) (q * n) h k)
 
 module _ (scene : Scene) where
+  view_products_added : (hidden : List Hidden) (form : ViewPlan) (around : Around) (old new : Building) (first next : ℕ) → StandsIn scene around → MadeView scene hidden form around old new first next
+      → AddsProducts old.draft new.draft (offset_products hidden (terms (offsets_of form)) * paths_counted around)
+  view_products_added [] form around old new first next s m = still_products_added old new (paths_counted around) m.still
+  view_products_added (h ∷ hs) form around old new first next s m =
+      lanes_products_added (λ n b d k. MadeKept scene (lane_of around n) first h.entity (offsets_of form) b d k) (all_products_in (terms (offsets_of form)))
+      (λ n b d k one. kept_products_added scene (lane_of around n) s first h.entity (offsets_of form) b d k one) (paths_counted around) first old new next m
+
   mutual
-    command_products_added : (a : Action) (around : Around) (old new : Building) (first next : ℕ) → StandsIn scene around → MadeCommand scene a around old new first next → AddsProducts old.draft new.draft (action_products a * paths_counted around)
+    command_products_added : (a : Action) (around : Around) (old new : Building) (first next : ℕ) → StandsIn scene around → MadeCommand scene a around old new first next → AddsProducts old.draft new.draft (action_products (known_in scene) a * paths_counted around)
     command_products_added (action id place form) around old new first next s m = own_products_added form around old new first next s m
 
     own_products_added : (form : ActionForm) (around : Around) (old new : Building) (first next : ℕ) → StandsIn scene around → MadeActionForm scene form around old new first next
-        → AddsProducts old.draft new.draft (own_products form * paths_counted around)
+        → AddsProducts old.draft new.draft (own_products (known_in scene) form * paths_counted around)
     own_products_added (lets name declared (Some value)) around old new first next s m =
         lanes_products_added (λ n b d k. MadeAssigned scene (lane_of around n) first (entity_number name.entity) value b d k) (products_in value)
         (λ n b d k one. assigned_products_added scene (lane_of around n) s first (entity_number name.entity) value b d k one) (paths_counted around) first old new next m
@@ -359,43 +395,43 @@ module _ (scene : Scene) where
         let many : length m.tests ≡ paths_counted around = (tests_same scene around first test (paths_counted around) old m.tested m.own m.tests m.test).1 in
         let joined : AddsNone m.after_other.draft new.draft =
         choices_products_added m.tests m.joined.choices (length m.joined.choices) m.after_other.draft new.draft m.joined.middle new.values m.joined.choose in
-        let two : AddsProducts m.after_chosen.draft m.after_other.draft (other_products other * paths_counted around) =
+        let two : AddsProducts m.after_chosen.draft m.after_other.draft (other_products (known_in scene) other * paths_counted around) =
         other_products_added other around m.tests m.after_chosen m.after_other m.behind next m.other_left s many m.other in
-        let last : AddsProducts m.after_chosen.draft new.draft (other_products other * paths_counted around) =
-        products_within m.after_chosen.draft new.draft (other_products other * paths_counted around + 0) (other_products other * paths_counted around) (plus_none (other_products other * paths_counted around))
-        (products_again m.after_chosen.draft m.after_other.draft new.draft (other_products other * paths_counted around) 0 two joined) in
-        both_products_added old.draft m.tested.draft new.draft (products_in test) (action_products chosen + other_products other) (paths_counted around)
+        let last : AddsProducts m.after_chosen.draft new.draft (other_products (known_in scene) other * paths_counted around) =
+        products_within m.after_chosen.draft new.draft (other_products (known_in scene) other * paths_counted around + 0) (other_products (known_in scene) other * paths_counted around) (plus_none (other_products (known_in scene) other * paths_counted around))
+        (products_again m.after_chosen.draft m.after_other.draft new.draft (other_products (known_in scene) other * paths_counted around) 0 two joined) in
+        both_products_added old.draft m.tested.draft new.draft (products_in test) (action_products (known_in scene) chosen + other_products (known_in scene) other) (paths_counted around)
         (tests_products_added scene around s first test (paths_counted around) old m.tested m.own m.tests m.test)
-        (both_products_added m.tested.draft m.after_chosen.draft new.draft (action_products chosen) (other_products other) (paths_counted around)
-        (arm_products_added (MadeCommand scene chosen) around true m.tests m.tested m.after_chosen m.own m.behind m.chosen_left m.chosen (action_products chosen) many
+        (both_products_added m.tested.draft m.after_chosen.draft new.draft (action_products (known_in scene) chosen) (other_products (known_in scene) other) (paths_counted around)
+        (arm_products_added (MadeCommand scene chosen) around true m.tests m.tested m.after_chosen m.own m.behind m.chosen_left m.chosen (action_products (known_in scene) chosen) many
         (command_products_added chosen m.chosen.arm m.chosen.begin m.chosen.inside m.own m.behind
         (stands_arm scene (MadeCommand scene chosen) around true m.tests m.tested m.after_chosen m.own m.behind m.chosen_left m.chosen s many) m.chosen.command)) last)
     own_products_added (blocks body) around old new first next s m = groups_products_added body around old new first next s m
     own_products_added (lets_memory name shape shape_places value) around old new first next s m = still_products_added old new (paths_counted around) m.still
-    own_products_added (views name parent form) around old new first next s m = still_products_added old new (paths_counted around) m.still
+    own_products_added (views name parent form) around old new first next s m = view_products_added (hidden_in (way_of (known_in scene) name)) form around old new first next s m
     own_products_added (calls function arguments) around old new first next s m = still_products_added old new (paths_counted around) m.still
     own_products_added (repeats test body) around old new first next s m = still_products_added old new (paths_counted around) m.still
     own_products_added (counts iterator declared low high factor body combine combine_place) around old new first next s m = still_products_added old new (paths_counted around) m.still
 
     other_products_added : (other : MaybeAction) (around : Around) (tests : List ℕ) (old new : Building) (first next : ℕ) (lefts : List Left) → StandsIn scene around → length tests ≡ paths_counted around
-        → MadeOther scene other around tests old new first next lefts → AddsProducts old.draft new.draft (other_products other * paths_counted around)
+        → MadeOther scene other around tests old new first next lefts → AddsProducts old.draft new.draft (other_products (known_in scene) other * paths_counted around)
     other_products_added no_action around tests old new first next lefts s many m = still_products_added old new (paths_counted around) m.still
     other_products_added (one_action a) around tests old new first next lefts s many m =
-        arm_products_added (MadeCommand scene a) around false tests old new first next lefts m (action_products a) many
+        arm_products_added (MadeCommand scene a) around false tests old new first next lefts m (action_products (known_in scene) a) many
         (command_products_added a m.arm m.begin m.inside first next (stands_arm scene (MadeCommand scene a) around false tests old new first next lefts m s many) m.command)
 
     part_products_added : (part : Actions) (around : Around) (old new : Building) (first next : ℕ) → StandsIn scene around → MadeActions scene part around old new first next
-        → AddsProducts old.draft new.draft (part_products part * paths_counted around)
+        → AddsProducts old.draft new.draft (part_products (known_in scene) part * paths_counted around)
     part_products_added no_actions around old new first next s m = still_products_added old new (paths_counted around) m.still
     part_products_added (action_then a rest) around old new first next s m =
-        both_products_added old.draft m.middle.draft new.draft (action_products a) (part_products rest) (paths_counted around) (command_products_added a around old m.middle first m.own s m.one)
+        both_products_added old.draft m.middle.draft new.draft (action_products (known_in scene) a) (part_products (known_in scene) rest) (paths_counted around) (command_products_added a around old m.middle first m.own s m.one)
         (part_products_added rest around m.middle new m.own next s m.rest)
 
     groups_products_added : (body : Groups) (around : Around) (old new : Building) (first next : ℕ) → StandsIn scene around → MadeGroups scene body around old new first next
-        → AddsProducts old.draft new.draft (groups_products body * paths_counted around)
+        → AddsProducts old.draft new.draft (groups_products (known_in scene) body * paths_counted around)
     groups_products_added no_groups around old new first next s m = still_products_added old new (paths_counted around) m.still
     groups_products_added (group_then g rest) around old new first next s m =
-        both_products_added old.draft m.middle.draft new.draft (part_products g) (groups_products rest) (paths_counted around) (part_products_added g around old m.middle first m.own s m.one)
+        both_products_added old.draft m.middle.draft new.draft (part_products (known_in scene) g) (groups_products (known_in scene) rest) (paths_counted around) (part_products_added g around old m.middle first m.own s m.one)
         (groups_products_added rest around m.middle new m.own next s m.rest)
 
 pub commands_have_products : CommandsHaveProducts

@@ -1,14 +1,17 @@
 -- The numbers of the accesses of whole commands, by recursion on what was put down for them.
-use Rattle.std.proofs.Common.{◌≡◌, inl, inr, ◌<◌, ◌+◌, ◌^◌, ℕ, zero, suc, List, Some, None, ap, sym, ◌∙◌, subst, length, arith}
+use Rattle.std.proofs.Common.{◌≡◌, inl, inr, ◌<◌, ◌+◌, ◌^◌, ℕ, zero, suc, List, [], ◌∷◌, Some, None, ap, sym, ◌∙◌, subst, length, arith}
 use Rattle.std.specs.Prelude.{Bool as Truth, true, false, Option}
 use Rattle.dh_base.specs.declared.places.Place.{Place}
 use Rattle.dh_value.specs.declared.kinds.Kind.{Kind}
 use Rattle.dh_value.specs.declared.operators.Op.{Op}
 use Rattle.dh_tree.specs.Indices.{form_of}
 use Rattle.dh_tree.specs.PlainTrees as plain
-use Rattle.dh_tree.specs.PlainTrees.{Term, Action, action, lets, lets_memory, views, assigns, stores, reduces, calls, blocks, decides, repeats, counts, MaybeAction, no_action, one_action, Actions, no_actions, action_then, Groups, no_groups, group_then}
+use Rattle.dh_tree.specs.PlainTrees.{Term, Action, action, lets, lets_memory, views, assigns, stores, reduces, calls, blocks, decides, repeats, counts, MaybeAction, no_action, one_action, Actions, no_actions, action_then, Groups, no_groups, group_then, ViewPlan}
+use Rattle.dh_tree.specs.Seen.{terms}
+use Rattle.dh_tree.specs.ViewOffsets.{offsets_of}
 use Rattle.dh_meaning.specs.AccessNumbers.{accesses_of, form_accesses, groups_accesses, other_accesses, part_accesses, plan_accesses, term_accesses, terms_accesses}
-use Rattle.dh_meaning.specs.CoreOf.{entity_number}
+use Rattle.dh_meaning.specs.CoreOf.{entity_number, way_of}
+use Rattle.dh_meaning.specs.Ways.{Hidden, hidden_in}
 use Rattle.dh_accesses.specs.Counted.{behind}
 use Rattle.dh_accesses.proofs.CountedParts.{behind_few}
 use Rattle.dh_expressions.specs.declared.accesses.Accesses.{Accesses}
@@ -17,6 +20,7 @@ use Rattle.dh_expressions.specs.declared.elements.Aim.{Aim}
 use Rattle.dh_expressions.specs.declared.scenes.Around.{Around}
 use Rattle.dh_expressions.specs.declared.scenes.Lane.{Lane}
 use Rattle.dh_expressions.specs.declared.scenes.Scene.{Scene}
+use Rattle.dh_expressions.specs.Evaluated.{known_in}
 use Rattle.dh_expressions.specs.MadeTerms.{MadeTerm, number_behind}
 use Rattle.dh_expressions.specs.Noted.{touched_in}
 use Rattle.dh_formed.proofs.TermsFormed.{all_numbered, numbered}
@@ -24,7 +28,7 @@ use Rattle.dh_formed.proofs.TouchedOwn.{all_touched_own, touched_own, writes_tou
 use Rattle.dh_commands.specs.declared.buildings.Building.{Building}
 use Rattle.dh_commands.specs.declared.choices.Left.{Left}
 use Rattle.dh_commands.specs.LanesRun.{lane_of, paths_counted}
-use Rattle.dh_commands.specs.MadeCommands.{AssignedTo, ClearedTo, Commanding, MadeActions, MadeAim, MadeArm, MadeAssigned, MadeCleared, MadeCommand, MadeGroups, MadeIf, MadeLanes, MadeOther, MadeReduced, MadeStored, MadeStoring, MadeTests, ReducedTo, StoredTo}
+use Rattle.dh_commands.specs.MadeCommands.{AssignedTo, ClearedTo, Commanding, MadeActions, MadeAim, MadeArm, MadeAssigned, MadeCleared, MadeCommand, MadeGroups, MadeIf, MadeKept, MadeLanes, MadeOther, MadeReduced, MadeStored, MadeStoring, MadeTests, MadeView, ReducedTo, StoredTo}
 use Rattle.dh_laid.specs.Laid.{aim_accesses}
 use Rattle.dh_laid.specs.LaidCommands.{AreFew, AreFewActions, AreFewGroups, AreFewIn, AreFewOther}
 use Rattle.dh_laid.specs.LaidNumbers.{AreStraight, AreStraightGroups, CommandsNumber, GroupsNumber, IsAccessForm, IsOutside, IsStraight, IsStraightOther, Numbers, ReachingNumber, StoresReach, StoresReachGroups, StoresReachOther, StoresReachPart}
@@ -129,8 +133,8 @@ module _ (scene : Scene) (lane : Lane) (current : List (Option ℕ)) (t : Term) 
       → MadeStoring scene lane (plain.term place k form) t value aimed end behind new next → own + form_accesses form < 2 ^ 32 → Stored (form_accesses form)
   stored_number place k (plain.accessed r ts) (Some (aim, memory)) is a m few =
       written_number (plain.term place k (plain.accessed r ts)) memory aim (terms_accesses ts)
-      (all_numbered scene lane current ts middle end between behind own aim.number aim.indices a.0.indices (omega (arith, few))) few
-      (λ number out. all_touched_own scene lane current ts middle end between behind own aim.number aim.indices a.0.indices (omega (arith, few)) number out) m
+      (all_numbered scene lane current ts middle a.0.middle between behind own aim.number aim.indices a.0.indices (omega (arith, few))) few
+      (λ number out. all_touched_own scene lane current ts middle a.0.middle between behind own aim.number aim.indices a.0.indices (omega (arith, few)) number out) m
   stored_number place k (plain.accessed r ts) None is a m few = absurd a
   stored_number place k (plain.in_bank r bank at row) (Some (aim, memory)) is a m few =
       written_number (plain.term place k (plain.in_bank r bank at row)) memory aim (term_accesses row)
@@ -222,6 +226,22 @@ inner_count : (old new : Building) (first c next : ℕ) → Numbers old new firs
 inner_count old new first c next h = numbers_as old new first c (0 + c) next (omega arith) h
 
 module _ (scene : Scene) where
+  -- the offsets of a view
+  kept_number : (lane : Lane) (first entity : ℕ) (offsets : List Term) (old new : Building) (next : ℕ) → MadeKept scene lane first entity offsets old new next → first + terms_accesses (terms offsets) < 2 ^ 32 → Numbers old new first (terms_accesses (terms offsets)) next
+  kept_number lane first entity offsets old new next m few = record {
+    next_is = all_numbered scene lane old.values.current.items (terms offsets) old.draft m.middle old.accesses new.accesses first next m.values m.offsets_made few;
+    only = λ number out. all_touched_own scene lane old.values.current.items (terms offsets) old.draft m.middle old.accesses new.accesses first next m.values m.offsets_made few number out;
+  }
+
+  view_reached : (hidden : List Hidden) (form : ViewPlan) (around : Around) (old new : Building) (first next : ℕ) → MadeView scene hidden form around old new first next → 0 < paths_counted around → first + (plan_accesses form + 0) < 2 ^ 32
+      → Numbers old new first (plan_accesses form + 0) next
+  view_reached [] form around old new first next m some few = numbers_idle old new first (plan_accesses form + 0) next m.still m.next_is few
+  view_reached (h ∷ hs) form around old new first next m some few =
+      let less : first + plan_accesses form < 2 ^ 32 = omega (arith, few) in
+      own_count old new first (plan_accesses form) next
+      (lanes_number (λ n b d k. MadeKept scene (lane_of around n) first h.entity (offsets_of form) b d k) first (plan_accesses form)
+      (λ n b d k one. kept_number (lane_of around n) first h.entity (offsets_of form) b d k one less) (paths_counted around) old new next some m)
+
   mutual
     pub command_reached : (a : Action) (around : Around) (old new : Building) (first next : ℕ) (m : MadeCommand scene a around old new first next) → StoresReach a → 0 < paths_counted around → first + accesses_of a < 2 ^ 32
         → AreFew scene a around old new first next m × Numbers old new first (accesses_of a) next
@@ -260,7 +280,8 @@ module _ (scene : Scene) where
         let all : AreFewGroups scene body around old new first next m × Numbers old new first (groups_accesses body) next = groups_reached body around old new first next m is some (omega (arith, few)) in
         (all.0, inner_count old new first (groups_accesses body) next all.1)
     command_reached (action id place (lets_memory name shape shape_places value)) around old new first next m is some few = (tt, numbers_none old new first next (ap (λ (b : Building). b.accesses) m.still) m.next_is)
-    command_reached (action id place (views name parent form)) around old new first next m is some few = (tt, numbers_idle old new first (plan_accesses form + 0) next m.still m.next_is few)
+    command_reached (action id place (views name parent form)) around old new first next m is some few =
+        (omega (arith, few), view_reached (hidden_in (way_of (known_in scene) name)) form around old new first next m some few)
     command_reached (action id place (calls function arguments)) around old new first next m is some few = (tt, numbers_none old new first next (ap (λ (b : Building). b.accesses) m.still) m.next_is)
     command_reached (action id place (repeats test body)) around old new first next m is some few = (tt, numbers_idle old new first (term_accesses test + accesses_of body) next m.still m.next_is few)
     command_reached (action id place (counts iterator declared low high factor body combine combine_place)) around old new first next m is some few =

@@ -9,12 +9,15 @@ use Rattle.dh_value.specs.declared.operators.Op.TheVariants.{Both}
 use Rattle.dh_value.specs.Operations.{truth}
 use Rattle.dh_tree.specs.Indices.{form_of}
 use Rattle.dh_tree.specs.PlainTrees as plain
-use Rattle.dh_tree.specs.PlainTrees.{Term, Action, action, ActionForm, lets, lets_memory, views, assigns, stores, reduces, calls, blocks, decides, repeats, counts, MaybeAction, no_action, one_action, Actions, no_actions, action_then, Groups, no_groups, group_then}
+use Rattle.dh_tree.specs.PlainTrees.{Term, Action, action, lets, lets_memory, views, assigns, stores, reduces, calls, blocks, decides, repeats, counts, MaybeAction, no_action, one_action, Actions, no_actions, action_then, Groups, no_groups, group_then, ViewPlan}
+use Rattle.dh_tree.specs.declared.trees.expressions.Ref.{Ref}
 use Rattle.dh_base.specs.declared.places.Place.{Place}
 use Rattle.dh_tree.specs.Seen.{terms}
-use Rattle.dh_meaning.specs.AccessNumbers.{accesses_of, form_accesses, groups_accesses, other_accesses, part_accesses, term_accesses, terms_accesses}
+use Rattle.dh_tree.specs.ViewOffsets.{offsets_of}
+use Rattle.dh_meaning.specs.AccessNumbers.{accesses_of, form_accesses, groups_accesses, other_accesses, part_accesses, plan_accesses, term_accesses, terms_accesses}
 use Rattle.dh_meaning.specs.Bindings.{kind_or_first}
-use Rattle.dh_meaning.specs.CoreOf.{entity_number}
+use Rattle.dh_meaning.specs.CoreOf.{entity_number, way_of}
+use Rattle.dh_meaning.specs.Ways.{Hidden, hidden_in}
 use Rattle.dh_code.specs.Extended.{extension_of}
 use Rattle.dh_code.specs.Made.{same_kind}
 use Rattle.dh_code.specs.Slots.{held_at}
@@ -22,6 +25,7 @@ use Rattle.dh_plan.specs.declared.operations.Operation.{Operation}
 use Rattle.dh_plan.specs.declared.operations.OperationForm.{OperationForm}
 use Rattle.dh_plan.specs.declared.operations.OperationForm.TheVariants.{Compute, Constant, Convert, Probe, Select}
 use Rattle.dh_plan.specs.declared.operations.Reach.{Reach}
+use Rattle.dh_plan.specs.declared.operations.ReachStep.{ReachStep}
 use Rattle.dh_plan.specs.DoneProgram.{counts_probe, probes_among, product_of}
 use Rattle.dh_expressions.specs.declared.accesses.Accesses.{Accesses}
 use Rattle.dh_expressions.specs.declared.accesses.Touched.{Touched}
@@ -32,24 +36,25 @@ use Rattle.dh_expressions.specs.declared.scenes.Around.{Around}
 use Rattle.dh_expressions.specs.declared.scenes.Lane.{Lane}
 use Rattle.dh_expressions.specs.declared.scenes.Scene.{Scene}
 use Rattle.dh_expressions.specs.Drafted.{Pushes}
-use Rattle.dh_expressions.specs.Evaluated.{counter_of}
-use Rattle.dh_expressions.specs.MadeTerms.{MadeRead, MadeTerm, MadeTerms, MadeWrite}
+use Rattle.dh_expressions.specs.Evaluated.{counter_of, known_in}
+use Rattle.dh_expressions.specs.MadeTerms.{MadeRead, MadeTerm, MadeTerms, MadeWay, MadeWrite}
 use Rattle.dh_expressions.specs.MadeValues.{MadeConverted, MadeHeld, MadeShown}
+use Rattle.dh_expressions.specs.Named.{first_view}
 use Rattle.dh_expressions.specs.Noted.{copied_in}
 use Rattle.dh_expressions.specs.Reaching.{Finds, place_written}
 use Rattle.dh_expressions.specs.Shown.{guard_of, is_kept, kind_written, register_at}
-use Rattle.dh_expressions.specs.Standings.{standing_at}
+use Rattle.dh_expressions.specs.Standings.{copy_places, standing_at}
 use Rattle.dh_expressions.specs.Touching.{AddsTouched, TouchesAt}
 use Rattle.dh_formed.specs.Counted.{Counts, FormIs, nothing, one_each, ranged}
 use Rattle.dh_formed.proofs.PartsCounted.{ranged_none, ranged_one, ranged_sum}
 use Rattle.dh_formed.proofs.TermsFormed.{all_numbered, numbered}
-use Rattle.dh_formed.proofs.ValuesCounted.{copies_counts, held_counts, number_counts, operation_counts, shown_counts, variable_counts}
+use Rattle.dh_formed.proofs.ValuesCounted.{copies_counts, held_counts, number_counts, operation_counts, sees_any, shown_counts, variable_counts, way_counts}
 use Rattle.dh_commands.specs.declared.buildings.Building.{Building}
 use Rattle.dh_commands.specs.declared.assignments.Values.{Values}
 use Rattle.dh_commands.specs.declared.choices.Choice.{Choice}
 use Rattle.dh_commands.specs.declared.choices.Left.{Left}
 use Rattle.dh_commands.specs.LanesRun.{lane_of, paths_counted}
-use Rattle.dh_commands.specs.MadeCommands.{Commanding, FoldedWith, MadeActions, MadeAim, MadeArm, MadeArmGuard, MadeArmGuards, MadeAssigned, MadeBehind, MadeChoiceBy, MadeChoices, MadeCleared, MadeCommand, MadeGroups, MadeGuard, MadeLanes, MadeOldOperand, MadeOperand, MadeOther, MadeOutcome, MadeReduced, MadeStored, MadeStoring, MadeTests}
+use Rattle.dh_commands.specs.MadeCommands.{Commanding, FoldedWith, MadeActions, MadeAim, MadeArm, MadeArmGuard, MadeArmGuards, MadeAssigned, MadeBehind, MadeChoiceBy, MadeChoices, MadeCleared, MadeCommand, MadeGroups, MadeGuard, MadeHolds, MadeKept, MadeLanes, MadeOldOperand, MadeOperand, MadeOther, MadeOutcome, MadeReduced, MadeStored, MadeStoring, MadeTests, MadeView}
 use Rattle.dh_laid.specs.LaidCommands.{AreFewIn}
 use Rattle.dh_laid.specs.LaidNumbers.{AreStraight, AreStraightGroups, IsAccessForm, IsStraight, IsStraightOther}
 use Rattle.dh_laid.specs.LaidProbes.{AddsProbes, CommandsProbe, GroupsProbe}
@@ -162,24 +167,24 @@ module _ (scene : Scene) (lane : Lane) (stands : StandsIn scene lane.around) whe
       leads : (p : ℕ) → (standing_at scene lane.around memory (place_written access) (form_of access) writes).leader p ≤ p
       leads p = omega arith
 
-      by : (new ≡ old) ⊎ ((u : Touched) × AddsTouched old new scene lane.around (standing_at scene lane.around memory (place_written access) (form_of access) writes) before u) → AddsNone old new
+      by : (new ≡ old) ⊎ ((u : Touched) × AddsTouched old new scene lane.around (standing_at scene lane.around memory (place_written access) (form_of access) writes) u) → AddsNone old new
       by (inl same) = none_none old new same
       by (inr (u, a)) =
-          let copies = a.copies stands.scopes stands.low in
           none_again old a.middle new (none_same old a.middle a.names.operations)
           (probes_counted a.middle new 0 _ _
           (copies_counts any_register any_reach any_reach any_reach (standing_at scene lane.around memory (place_written access) (form_of access) writes).leader
-          (standing_at scene lane.around memory (place_written access) (form_of access) writes).bank lane.around.guards.now leads (length lane.around.guards.now) a.middle new before.counts.items copies.0 u.copies stands.few copies.1))
+          (standing_at scene lane.around memory (place_written access) (form_of access) writes).bank (copy_places (standing_at scene lane.around memory (place_written access) (form_of access) writes)) lane.around.guards.now leads (length lane.around.guards.now) a.middle new u.copies
+          (a.copies stands.scopes stands.low)))
 
-  finds_probed : (old new : Draft) (memory : ℕ) (aim : Aim) (copy : AccessAt) (found : Option ℕ) (v : ℕ) → Finds old new memory aim copy found v → AddsNone old new
-  finds_probed old new memory aim copy None v m = none_pushed old new v copy.guard _ m (λ access. refl)
-  finds_probed old new memory aim copy (Some n) v m = none_none old new m.0
+  finds_probed : (form : plain.TermForm) (old new : Draft) (memory : ℕ) (aim : Aim) (copy : AccessAt) (found : Option ℕ) (v : ℕ) → Finds scene form old new memory aim copy found v → AddsNone old new
+  finds_probed form old new memory aim copy None v m = none_pushed old new v copy.guard _ m (λ access. refl)
+  finds_probed form old new memory aim copy (Some n) v m = none_none old new m.0
 
   read_probed : (access : Term) (memory : ℕ) (aim : Aim) (old new : Draft) (before after : Accesses) (v : ℕ) → MadeRead scene lane access memory aim old new before after v → AddsProbes old new (once aim.number 1)
   read_probed access memory aim old new before after v r =
       none_then_probes old r.first new (once aim.number 1) (touch_probed access memory false old r.first before r.middle aim.number r.touches)
       (probes_then_none r.first r.second new (once aim.number 1) (probe_pushed r.first r.second _ aim.number _ _ _ refl r.probes)
-      (finds_probed r.second new memory aim (copied_in r.middle aim.number lane.number) _ v r.finds))
+      (finds_probed (form_of access) r.second new memory aim (copied_in r.middle aim.number lane.number) _ v r.finds))
 
   write_probed : (access : Term) (memory : ℕ) (aim : Aim) (value : ℕ) (old new : Draft) (before after : Accesses) → MadeWrite scene lane access memory aim value old new before after → AddsProbes old new (once aim.number 1)
   write_probed access memory aim value old new before after w =
@@ -187,6 +192,12 @@ module _ (scene : Scene) (lane : Lane) (stands : StandsIn scene lane.around) whe
       (probes_then_none w.first w.second new (once aim.number 1) (probe_pushed w.first w.second _ aim.number _ _ _ refl w.probes) (none_pushed w.second new _ _ _ w.writes (λ access. refl)))
 
   module _ (current : List (Option ℕ)) where
+    -- what stands behind indices
+    way_added : (r : Ref) (old new : Draft) (steps : List ReachStep) → MadeWay scene lane current old new (first_view scene r) (way_of (known_in scene) r) steps → AddsNone old new
+    way_added r old new steps m =
+        probes_counted old new 0 _ _
+        (way_counts any_register any_reach any_reach any_reach scene lane current (way_of (known_in scene) r) (first_view scene r) (sees_any any_register any_reach any_reach any_reach (λ register. tt) scene lane (way_of (known_in scene) r)) old new steps m)
+
     mutual
       term_probed : (t : Term) (old new : Draft) (before after : Accesses) (n next v : ℕ) → MadeTerm scene lane current t old new before after n next v → AreFewIn n t → AddsProbes old new (once n (term_accesses t))
       term_probed (plain.term place k (plain.number negative z)) old new before after n next v m few =
@@ -198,8 +209,8 @@ module _ (scene : Scene) (lane : Lane) (stands : StandsIn scene lane.around) whe
           (variable_counts any_register any_reach any_reach any_reach (counter_of scene (entity_number r.entity)) (held_at scene.held.now (entity_number r.entity)) lane current (kind_or_first k) tt old new v m.part))
       term_probed (plain.term place k (plain.accessed r ts)) old new before after n next v m few =
           let less : n + terms_accesses ts < 2 ^ 32 = omega (arith, few) in
-          once_behind old m.middle new n m.aim.number (terms_accesses ts) (all_numbered scene lane current ts old m.middle before m.between n m.aim.number m.aim.indices m.indices less)
-          (terms_probed ts old m.middle before m.between n m.aim.number m.aim.indices m.indices less) (read_probed _ _ m.aim m.middle new m.between after v m.reads)
+          once_behind old m.middle new n m.aim.number (terms_accesses ts) (all_numbered scene lane current ts old m.named before m.between n m.aim.number m.aim.indices m.indices less)
+          (probes_then_none old m.named m.middle (once n (terms_accesses ts)) (terms_probed ts old m.named before m.between n m.aim.number m.aim.indices m.indices less) (way_added r m.named m.middle m.aim.steps m.steps)) (read_probed _ _ m.aim m.middle new m.between after v m.reads)
       term_probed (plain.term place k (plain.in_bank r bank at row)) old new before after n next v m few =
           let less : n + term_accesses row < 2 ^ 32 = omega (arith, few) in
           once_behind old m.middle new n m.aim.number (term_accesses row) (numbered scene lane current row old m.middle before m.between n m.aim.number m.value m.row less)
@@ -227,8 +238,8 @@ module _ (scene : Scene) (lane : Lane) (stands : StandsIn scene lane.around) whe
         → AddsProbes middle new.draft (once own (form_accesses form))
     stored_behind t value place k (plain.accessed r ts) (Some (aim, memory)) middle end between behind new own next is a m few =
         let less : own + terms_accesses ts < 2 ^ 32 = omega (arith, few) in
-        once_behind middle end new.draft own aim.number (terms_accesses ts) (all_numbered scene lane current ts middle end between behind own aim.number aim.indices a.0.indices less)
-        (terms_probed ts middle end between behind own aim.number aim.indices a.0.indices less)
+        once_behind middle end new.draft own aim.number (terms_accesses ts) (all_numbered scene lane current ts middle a.0.middle between behind own aim.number aim.indices a.0.indices less)
+        (probes_then_none middle a.0.middle end (once own (terms_accesses ts)) (terms_probed ts middle a.0.middle between behind own aim.number aim.indices a.0.indices less) (way_added r a.0.middle end aim.steps a.0.steps))
         (none_then_probes end m.0 new.draft (once aim.number 1) (held_probed t _ value end m.0 m.1.0 m.1.1.0) (write_probed _ memory aim m.1.0 m.0 new.draft behind new.accesses m.1.1.1.0))
     stored_behind t value place k (plain.accessed r ts) None middle end between behind new own next is a m few = absurd a
     stored_behind t value place k (plain.in_bank r bank at row) (Some (aim, memory)) middle end between behind new own next is a m few =
@@ -263,12 +274,26 @@ folded_probed lane current held op t value old new v m =
     (none_again m.third m.fourth new (none_pushed m.third m.fourth m.all None (Compute op m.left m.right) m.pushes (λ access. refl))
     (converted_probed (same_kind held.kind (extension_of op held.kind (kind_written t))) held.kind m.all m.fourth new v m.own))))
 
+-- offsets as the variables hold them that keep them
+holds_probed : (scene : Scene) (first : ℕ) (offsets : List Term) (values : List ℕ) (old new : Draft) (held : List ℕ) → MadeHolds scene first offsets values old new held → AddsNone old new
+holds_probed scene first [] values old new held m = none_none old new m.0
+holds_probed scene first (t ∷ ts) [] old new held m = none_none old new m.0
+holds_probed scene first (t ∷ ts) (v ∷ vs) old new held (d, (h, (more, (one, (rest, is))))) =
+    none_again old d new (held_probed t (held_at scene.held.now first).kind v old d h one) (holds_probed scene (suc first) ts vs d new more rest)
+
 module _ (scene : Scene) (lane : Lane) (stands : StandsIn scene lane.around) where
   pub assigned_probed : (first entity : ℕ) (t : Term) (old new : Building) (next : ℕ) → AreFewIn first t → MadeAssigned scene lane first entity t old new next → AddsProbes old.draft new.draft (once first (term_accesses t))
   assigned_probed first entity t old new next few m =
       probes_then_none old.draft m.middle new.draft (once first (term_accesses t))
       (term_probed scene lane stands old.values.current.items t old.draft m.middle old.accesses new.accesses first next m.value m.term few)
       (held_probed t (held_at scene.held.now entity).kind m.value m.middle new.draft m.held m.holds)
+
+  pub kept_probed : (first entity : ℕ) (offsets : List Term) (old new : Building) (next : ℕ) → first + terms_accesses (terms offsets) < 2 ^ 32 → MadeKept scene lane first entity offsets old new next
+      → AddsProbes old.draft new.draft (once first (terms_accesses (terms offsets)))
+  kept_probed first entity offsets old new next few m =
+      probes_then_none old.draft m.middle new.draft (once first (terms_accesses (terms offsets)))
+      (terms_probed scene lane stands old.values.current.items (terms offsets) old.draft m.middle old.accesses new.accesses first next m.values m.offsets_made few)
+      (holds_probed scene entity offsets m.values m.middle new.draft m.held m.holds)
 
   pub cleared_probed : (first entity : ℕ) (old new : Building) → MadeCleared scene lane entity old new → AddsProbes old.draft new.draft (once first 0)
   cleared_probed first entity old new m =
@@ -391,6 +416,15 @@ inner_probed : (old new : Draft) (n c paths : ℕ) → AddsProbes old new (often
 inner_probed old new n c paths h = often_count old new n c (0 + c) paths (omega arith) h
 
 module _ (scene : Scene) where
+  view_probed : (hidden : List Hidden) (form : ViewPlan) (around : Around) (old new : Building) (first next : ℕ) → StandsIn scene around → MadeView scene hidden form around old new first next → offsets_of form ≡ [] → first + plan_accesses form < 2 ^ 32
+      → AddsProbes old.draft new.draft (often first (plan_accesses form + 0) (paths_counted around))
+  view_probed [] form around old new first next s m is few =
+      subst (λ (l : List Term). AddsProbes old.draft new.draft (often first (terms_accesses (terms l) + 0) (paths_counted around))) (sym is) (still_probed old new first (paths_counted around) m.still)
+  view_probed (h ∷ hs) form around old new first next s m is few =
+      own_probed old.draft new.draft first (plan_accesses form) (paths_counted around)
+      (lanes_probed (λ n b d k. MadeKept scene (lane_of around n) first h.entity (offsets_of form) b d k) first (plan_accesses form)
+      (λ n b d k one. kept_probed scene (lane_of around n) s first h.entity (offsets_of form) b d k few one) (paths_counted around) old new next m)
+
   mutual
     pub command_probed : (a : Action) (around : Around) (old new : Building) (first next : ℕ) → StandsIn scene around → MadeCommand scene a around old new first next → IsStraight a → 0 < paths_counted around → first + accesses_of a < 2 ^ 32
         → AddsProbes old.draft new.draft (often first (accesses_of a) (paths_counted around))
@@ -435,7 +469,7 @@ module _ (scene : Scene) where
         inner_probed old.draft new.draft first (groups_accesses body) (paths_counted around) (groups_probed body around old new first next s m is some (omega (arith, few)))
     command_probed (action id place (lets_memory name shape shape_places value)) around old new first next s m is some few = still_probed old new first (paths_counted around) m.still
     command_probed (action id place (views name parent form)) around old new first next s m is some few =
-        subst (λ (l : List Term). AddsProbes old.draft new.draft (often first (terms_accesses (terms l) + 0) (paths_counted around))) (sym is) (still_probed old new first (paths_counted around) m.still)
+        view_probed (hidden_in (way_of (known_in scene) name)) form around old new first next s m is (omega (arith, few))
     command_probed (action id place (calls function arguments)) around old new first next s m is some few = still_probed old new first (paths_counted around) m.still
     command_probed (action id place (repeats test body)) around old new first next s m is some few = absurd is
     command_probed (action id place (counts iterator declared low high factor body combine combine_place)) around old new first next s m is some few = absurd is

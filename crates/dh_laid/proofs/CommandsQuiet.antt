@@ -9,9 +9,13 @@ use Rattle.dh_value.specs.declared.operators.Op.TheVariants.{Both}
 use Rattle.dh_value.specs.Operations.{truth}
 use Rattle.dh_tree.specs.Indices.{form_of}
 use Rattle.dh_tree.specs.PlainTrees as plain
-use Rattle.dh_tree.specs.PlainTrees.{Term, Action, action, ActionForm, lets, lets_memory, views, assigns, stores, reduces, calls, blocks, decides, repeats, counts, MaybeAction, no_action, one_action, Actions, no_actions, action_then, Groups, no_groups, group_then}
+use Rattle.dh_tree.specs.PlainTrees.{Term, Action, action, ActionForm, lets, lets_memory, views, assigns, stores, reduces, calls, blocks, decides, repeats, counts, MaybeAction, no_action, one_action, Actions, no_actions, action_then, Groups, no_groups, group_then, ViewPlan}
+use Rattle.dh_tree.specs.declared.trees.expressions.Ref.{Ref}
+use Rattle.dh_tree.specs.Seen.{terms}
+use Rattle.dh_tree.specs.ViewOffsets.{offsets_of}
 use Rattle.dh_meaning.specs.Bindings.{kind_or_first}
-use Rattle.dh_meaning.specs.CoreOf.{entity_number}
+use Rattle.dh_meaning.specs.CoreOf.{entity_number, way_of}
+use Rattle.dh_meaning.specs.Ways.{Hidden, hidden_in}
 use Rattle.dh_code.specs.Extended.{extension_of}
 use Rattle.dh_code.specs.Made.{same_kind}
 use Rattle.dh_code.specs.Slots.{held_at}
@@ -19,6 +23,7 @@ use Rattle.dh_plan.specs.declared.operations.Operation.{Operation}
 use Rattle.dh_plan.specs.declared.operations.OperationForm.{OperationForm}
 use Rattle.dh_plan.specs.declared.operations.OperationForm.TheVariants.{Check, Compute, Constant, Convert, Old, Probe, Read, Select, Set, Write}
 use Rattle.dh_plan.specs.declared.operations.Reach.{Reach}
+use Rattle.dh_plan.specs.declared.operations.ReachStep.{ReachStep}
 use Rattle.dh_expressions.specs.declared.accesses.Accesses.{Accesses}
 use Rattle.dh_expressions.specs.declared.accesses.Touched.{Touched}
 use Rattle.dh_expressions.specs.declared.copies.AccessAt.{AccessAt}
@@ -28,23 +33,24 @@ use Rattle.dh_expressions.specs.declared.scenes.Around.{Around}
 use Rattle.dh_expressions.specs.declared.scenes.Lane.{Lane}
 use Rattle.dh_expressions.specs.declared.scenes.Scene.{Scene}
 use Rattle.dh_expressions.specs.Drafted.{Pushes}
-use Rattle.dh_expressions.specs.Evaluated.{counter_of}
-use Rattle.dh_expressions.specs.MadeTerms.{MadeRead, MadeTerm, MadeTerms, MadeWrite}
+use Rattle.dh_expressions.specs.Evaluated.{counter_of, known_in}
+use Rattle.dh_expressions.specs.MadeTerms.{MadeRead, MadeTerm, MadeTerms, MadeWay, MadeWrite}
 use Rattle.dh_expressions.specs.MadeValues.{MadeConverted, MadeHeld, MadeShown}
+use Rattle.dh_expressions.specs.Named.{first_view}
 use Rattle.dh_expressions.specs.Noted.{copied_in}
 use Rattle.dh_expressions.specs.Reaching.{Finds, place_written}
 use Rattle.dh_expressions.specs.Shown.{guard_of, is_kept, kind_written, register_at}
-use Rattle.dh_expressions.specs.Standings.{standing_at}
+use Rattle.dh_expressions.specs.Standings.{copy_places, standing_at}
 use Rattle.dh_expressions.specs.Touching.{AddsTouched, TouchesAt}
 use Rattle.dh_formed.specs.Counted.{Counts, FormIs}
 use Rattle.dh_formed.proofs.ElementsFormed.{all_append}
-use Rattle.dh_formed.proofs.ValuesCounted.{copies_counts, held_counts, number_counts, operation_counts, shown_counts, variable_counts}
+use Rattle.dh_formed.proofs.ValuesCounted.{copies_counts, held_counts, number_counts, operation_counts, sees_any, shown_counts, variable_counts, way_counts}
 use Rattle.dh_commands.specs.declared.buildings.Building.{Building}
 use Rattle.dh_commands.specs.declared.assignments.Values.{Values}
 use Rattle.dh_commands.specs.declared.choices.Choice.{Choice}
 use Rattle.dh_commands.specs.declared.choices.Left.{Left}
 use Rattle.dh_commands.specs.LanesRun.{lane_of, paths_counted}
-use Rattle.dh_commands.specs.MadeCommands.{Commanding, FoldedWith, MadeActionForm, MadeActions, MadeAim, MadeArm, MadeArmGuard, MadeArmGuards, MadeAssigned, MadeBehind, MadeChoiceBy, MadeChoices, MadeCleared, MadeCommand, MadeGroups, MadeGuard, MadeLanes, MadeOldOperand, MadeOperand, MadeOther, MadeOutcome, MadeReduced, MadeStored, MadeStoring, MadeTests}
+use Rattle.dh_commands.specs.MadeCommands.{Commanding, FoldedWith, MadeActionForm, MadeActions, MadeAim, MadeArm, MadeArmGuard, MadeArmGuards, MadeAssigned, MadeBehind, MadeChoiceBy, MadeChoices, MadeCleared, MadeCommand, MadeGroups, MadeGuard, MadeHolds, MadeKept, MadeLanes, MadeOldOperand, MadeOperand, MadeOther, MadeOutcome, MadeReduced, MadeStored, MadeStoring, MadeTests, MadeView}
 use Rattle.dh_laid.specs.LaidQuiet.{AddsQuiet, CommandsAreQuiet, GroupsAreQuiet, IsQuiet, StandsIn, TermsAreQuiet, QuietSetsNone}
 use Rattle.dh_laid.proofs.ValuesLogged.{stands_arm, tests_same}
 
@@ -95,23 +101,23 @@ module _ (scene : Scene) (lane : Lane) (stands : StandsIn scene lane.around) whe
       leads : (p : ℕ) → (standing_at scene lane.around memory (place_written access) (form_of access) writes).leader p ≤ p
       leads p = omega arith
 
-      by : (new ≡ old) ⊎ ((u : Touched) × AddsTouched old new scene lane.around (standing_at scene lane.around memory (place_written access) (form_of access) writes) before u) → AddsQuiet old new
+      by : (new ≡ old) ⊎ ((u : Touched) × AddsTouched old new scene lane.around (standing_at scene lane.around memory (place_written access) (form_of access) writes) u) → AddsQuiet old new
       by (inl same) = quiet_none old new same
       by (inr (u, a)) =
-          let copies = a.copies stands.scopes stands.low in
           quiet_again old a.middle new (quiet_same old a.middle a.names.operations)
           (quiet_counted a.middle new 0 _ _
           (copies_counts any_register any_reach any_reach any_reach (standing_at scene lane.around memory (place_written access) (form_of access) writes).leader
-          (standing_at scene lane.around memory (place_written access) (form_of access) writes).bank lane.around.guards.now leads (length lane.around.guards.now) a.middle new before.counts.items copies.0 u.copies stands.few copies.1))
+          (standing_at scene lane.around memory (place_written access) (form_of access) writes).bank (copy_places (standing_at scene lane.around memory (place_written access) (form_of access) writes)) lane.around.guards.now leads (length lane.around.guards.now) a.middle new u.copies
+          (a.copies stands.scopes stands.low)))
 
-  finds_quiet : (old new : Draft) (memory : ℕ) (aim : Aim) (copy : AccessAt) (found : Option ℕ) (v : ℕ) → Finds old new memory aim copy found v → AddsQuiet old new
-  finds_quiet old new memory aim copy None v m = quiet_pushed old new v copy.guard _ m tt
-  finds_quiet old new memory aim copy (Some n) v m = quiet_none old new m.0
+  finds_quiet : (form : plain.TermForm) (old new : Draft) (memory : ℕ) (aim : Aim) (copy : AccessAt) (found : Option ℕ) (v : ℕ) → Finds scene form old new memory aim copy found v → AddsQuiet old new
+  finds_quiet form old new memory aim copy None v m = quiet_pushed old new v copy.guard _ m tt
+  finds_quiet form old new memory aim copy (Some n) v m = quiet_none old new m.0
 
   read_quiet : (access : Term) (memory : ℕ) (aim : Aim) (old new : Draft) (before after : Accesses) (v : ℕ) → MadeRead scene lane access memory aim old new before after v → AddsQuiet old new
   read_quiet access memory aim old new before after v r =
       quiet_again old r.first new (touch_quiet access memory false old r.first before r.middle aim.number r.touches)
-      (quiet_again r.first r.second new (quiet_pushed r.first r.second _ _ _ r.probes tt) (finds_quiet r.second new memory aim (copied_in r.middle aim.number lane.number) _ v r.finds))
+      (quiet_again r.first r.second new (quiet_pushed r.first r.second _ _ _ r.probes tt) (finds_quiet (form_of access) r.second new memory aim (copied_in r.middle aim.number lane.number) _ v r.finds))
 
   write_quiet : (access : Term) (memory : ℕ) (aim : Aim) (value : ℕ) (old new : Draft) (before after : Accesses) → MadeWrite scene lane access memory aim value old new before after → AddsQuiet old new
   write_quiet access memory aim value old new before after w =
@@ -119,6 +125,12 @@ module _ (scene : Scene) (lane : Lane) (stands : StandsIn scene lane.around) whe
       (quiet_again w.first w.second new (quiet_pushed w.first w.second _ _ _ w.probes tt) (quiet_pushed w.second new _ _ _ w.writes tt))
 
   module _ (current : List (Option ℕ)) where
+    -- what stands behind indices
+    way_added : (r : Ref) (old new : Draft) (steps : List ReachStep) → MadeWay scene lane current old new (first_view scene r) (way_of (known_in scene) r) steps → AddsQuiet old new
+    way_added r old new steps m =
+        quiet_counted old new 0 _ _
+        (way_counts any_register any_reach any_reach any_reach scene lane current (way_of (known_in scene) r) (first_view scene r) (sees_any any_register any_reach any_reach any_reach (λ register. tt) scene lane (way_of (known_in scene) r)) old new steps m)
+
     mutual
       term_quiet : (t : Term) (old new : Draft) (before after : Accesses) (n next v : ℕ) → MadeTerm scene lane current t old new before after n next v → AddsQuiet old new
       term_quiet (plain.term place k (plain.number negative z)) old new before after n next v m =
@@ -128,7 +140,8 @@ module _ (scene : Scene) (lane : Lane) (stands : StandsIn scene lane.around) whe
           quiet_counted old new 0 _ _
           (variable_counts any_register any_reach any_reach any_reach (counter_of scene (entity_number r.entity)) (held_at scene.held.now (entity_number r.entity)) lane current (kind_or_first k) tt old new v m.part)
       term_quiet (plain.term place k (plain.accessed r ts)) old new before after n next v m =
-          quiet_again old m.middle new (terms_quiet ts old m.middle before m.between n m.aim.number m.aim.indices m.indices) (read_quiet _ _ m.aim m.middle new m.between after v m.reads)
+          quiet_again old m.middle new (quiet_again old m.named m.middle (terms_quiet ts old m.named before m.between n m.aim.number m.aim.indices m.indices) (way_added r m.named m.middle m.aim.steps m.steps))
+          (read_quiet _ _ m.aim m.middle new m.between after v m.reads)
       term_quiet (plain.term place k (plain.in_bank r bank at row)) old new before after n next v m =
           quiet_again old m.middle new (term_quiet row old m.middle before m.between n m.aim.number m.value m.row) (read_quiet _ _ m.aim m.middle new m.between after v m.reads)
       term_quiet (plain.term place k (plain.applied op left right)) old new before after n next v m =
@@ -145,7 +158,7 @@ module _ (scene : Scene) (lane : Lane) (stands : StandsIn scene lane.around) whe
           quiet_again old m.middle new (term_quiet t old m.middle before m.between n m.own m.a m.first) (terms_quiet ts m.middle new m.between after m.own next m.more m.rest)
 
     aim_quiet : (form : plain.TermForm) (old new : Draft) (before after : Accesses) (n : ℕ) (aimed : Option (Aim × ℕ)) → MadeAim scene lane current form old new before after n aimed → AddsQuiet old new
-    aim_quiet (plain.accessed r ts) (old) new before after n (Some (aim, memory)) m = terms_quiet ts old new before after n aim.number aim.indices m.0.indices
+    aim_quiet (plain.accessed r ts) old new before after n (Some (aim, memory)) m = quiet_again old m.0.middle new (terms_quiet ts old m.0.middle before after n aim.number aim.indices m.0.indices) (way_added r m.0.middle new aim.steps m.0.steps)
     aim_quiet (plain.accessed r ts) old new before after n None m = absurd m
     aim_quiet (plain.in_bank r bank at row) old new before after n (Some (aim, memory)) m = term_quiet row old new before after n aim.number m.0.value m.0.row
     aim_quiet (plain.in_bank r bank at row) old new before after n None m = absurd m
@@ -185,11 +198,23 @@ folded_quiet lane current held op t value old new v m =
     (quiet_again m.third m.fourth new (quiet_pushed m.third m.fourth m.all None (Compute op m.left m.right) m.pushes tt)
     (converted_quiet (same_kind held.kind (extension_of op held.kind (kind_written t))) held.kind m.all m.fourth new v m.own))))
 
+-- offsets as the variables hold them that keep them
+holds_quiet : (scene : Scene) (first : ℕ) (offsets : List Term) (values : List ℕ) (old new : Draft) (held : List ℕ) → MadeHolds scene first offsets values old new held → AddsQuiet old new
+holds_quiet scene first [] values old new held m = quiet_none old new m.0
+holds_quiet scene first (t ∷ ts) [] old new held m = quiet_none old new m.0
+holds_quiet scene first (t ∷ ts) (v ∷ vs) old new held (d, (h, (more, (one, (rest, is))))) =
+    quiet_again old d new (held_quiet t (held_at scene.held.now first).kind v old d h one) (holds_quiet scene (suc first) ts vs d new more rest)
+
 module _ (scene : Scene) (lane : Lane) (stands : StandsIn scene lane.around) where
   assigned_quiet : (first entity : ℕ) (t : Term) (old new : Building) (next : ℕ) → MadeAssigned scene lane first entity t old new next → AddsQuiet old.draft new.draft
   assigned_quiet first entity t old new next m =
       quiet_again old.draft m.middle new.draft (term_quiet scene lane stands old.values.current.items t old.draft m.middle old.accesses new.accesses first next m.value m.term)
       (held_quiet t (held_at scene.held.now entity).kind m.value m.middle new.draft m.held m.holds)
+
+  kept_quiet : (first entity : ℕ) (offsets : List Term) (old new : Building) (next : ℕ) → MadeKept scene lane first entity offsets old new next → AddsQuiet old.draft new.draft
+  kept_quiet first entity offsets old new next m =
+      quiet_again old.draft m.middle new.draft (terms_quiet scene lane stands old.values.current.items (terms offsets) old.draft m.middle old.accesses new.accesses first next m.values m.offsets_made)
+      (holds_quiet scene entity offsets m.values m.middle new.draft m.held m.holds)
 
   cleared_quiet : (entity : ℕ) (old new : Building) → MadeCleared scene lane entity old new → AddsQuiet old.draft new.draft
   cleared_quiet entity old new m =
@@ -265,6 +290,11 @@ arm_quiet Inner around holds tests old new first next lefts m inner =
 -- All commands.
 
 module _ (scene : Scene) where
+  view_quiet : (hidden : List Hidden) (form : ViewPlan) (around : Around) (old new : Building) (first next : ℕ) → StandsIn scene around → MadeView scene hidden form around old new first next → AddsQuiet old.draft new.draft
+  view_quiet [] form around old new first next s m = quiet_none old.draft new.draft (ap (λ (b : Building). b.draft) m.still)
+  view_quiet (h ∷ hs) form around old new first next s m =
+      lanes_quiet (λ n b d k. MadeKept scene (lane_of around n) first h.entity (offsets_of form) b d k) (λ n b d k one. kept_quiet scene (lane_of around n) s first h.entity (offsets_of form) b d k one) (paths_counted around) first old new next m
+
   mutual
     command_quiet : (a : Action) (around : Around) (old new : Building) (first next : ℕ) → StandsIn scene around → MadeCommand scene a around old new first next → AddsQuiet old.draft new.draft
     command_quiet (action id place form) around old new first next s m = action_quiet form around old new first next s m
@@ -295,7 +325,7 @@ module _ (scene : Scene) where
         (choices_quiet m.tests m.joined.choices (length m.joined.choices) m.after_other.draft new.draft m.joined.middle new.values m.joined.choose)))
     action_quiet (blocks body) around old new first next s m = groups_quiet body around old new first next s m
     action_quiet (lets_memory name shape shape_places value) around old new first next s m = quiet_none old.draft new.draft (ap (λ (b : Building). b.draft) m.still)
-    action_quiet (views name parent form) around old new first next s m = quiet_none old.draft new.draft (ap (λ (b : Building). b.draft) m.still)
+    action_quiet (views name parent form) around old new first next s m = view_quiet (hidden_in (way_of (known_in scene) name)) form around old new first next s m
     action_quiet (calls function arguments) around old new first next s m = quiet_none old.draft new.draft (ap (λ (b : Building). b.draft) m.still)
     action_quiet (repeats test body) around old new first next s m = quiet_none old.draft new.draft (ap (λ (b : Building). b.draft) m.still)
     action_quiet (counts iterator declared low high factor body combine combine_place) around old new first next s m = quiet_none old.draft new.draft (ap (λ (b : Building). b.draft) m.still)

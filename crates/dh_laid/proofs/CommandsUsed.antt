@@ -1,17 +1,22 @@
 -- Commands at all paths, with their arms: by recursion on what was put down for them.
 use Rattle.std.proofs.Common.{◌≡◌, ◌⊎◌, inl, inr, ◌<◌, ◌≤◌, ◌+◌, ◌-◌, ◌^◌, ℕ, zero, suc, List, Some, None, ap, sym, ◌∙◌, subst, length, arith, refl}
-use Rattle.std.specs.Prelude.{Bool as Truth, true, false, ◌++◌, Option, slice_get}
+use Rattle.std.specs.Prelude.{Bool as Truth, true, false, [], ◌∷◌, ◌++◌, Option, slice_get}
 use Rattle.std.proofs.lemmas.Bool.{cases_lt}
 use Rattle.dh_value.specs.declared.operators.Op.{Op}
 use Rattle.dh_tree.specs.Indices.{form_of}
-use Rattle.dh_tree.specs.PlainTrees.{Term, Action, action, lets, lets_memory, views, assigns, stores, reduces, calls, blocks, decides, repeats, counts, MaybeAction, no_action, one_action, Actions, no_actions, action_then, Groups, no_groups, group_then}
-use Rattle.dh_meaning.specs.AccessNumbers.{accesses_of, groups_accesses, other_accesses, part_accesses, plan_accesses, term_accesses}
-use Rattle.dh_meaning.specs.CoreOf.{entity_number}
+use Rattle.dh_tree.specs.PlainTrees.{Term, Action, action, lets, lets_memory, views, assigns, stores, reduces, calls, blocks, decides, repeats, counts, MaybeAction, no_action, one_action, Actions, no_actions, action_then, Groups, no_groups, group_then, ViewPlan}
+use Rattle.dh_tree.specs.Seen.{terms}
+use Rattle.dh_tree.specs.ViewOffsets.{offsets_of}
+use Rattle.dh_meaning.specs.AccessNumbers.{accesses_of, groups_accesses, other_accesses, part_accesses, plan_accesses, term_accesses, terms_accesses}
+use Rattle.dh_meaning.specs.CoreOf.{entity_number, way_of}
+use Rattle.dh_meaning.specs.Ways.{Hidden, hidden_in}
+use Rattle.dh_code.specs.Slots.{held_at}
 use Rattle.dh_expressions.specs.declared.accesses.Accesses.{Accesses}
 use Rattle.dh_expressions.specs.declared.drafts.Draft.{Draft}
 use Rattle.dh_expressions.specs.declared.paths.Level.{Level}
 use Rattle.dh_expressions.specs.declared.scenes.Around.{Around}
 use Rattle.dh_expressions.specs.declared.scenes.Scene.{Scene}
+use Rattle.dh_expressions.specs.Evaluated.{known_in}
 use Rattle.dh_expressions.specs.Levels.{leader_number}
 use Rattle.dh_expressions.proofs.ListPlaces.{there}
 use Rattle.dh_formed.specs.Counted.{AreNext, given_at_paths, length_given, ranged}
@@ -19,8 +24,8 @@ use Rattle.dh_formed.specs.Formed.{Site}
 use Rattle.dh_commands.specs.declared.buildings.Building.{Building}
 use Rattle.dh_commands.specs.declared.choices.Left.{Left}
 use Rattle.dh_commands.specs.LanesRun.{lane_of, paths_counted}
-use Rattle.dh_commands.specs.MadeCommands.{Commanding, MadeActions, MadeArm, MadeAssigned, MadeCleared, MadeCommand, MadeGroups, MadeLanes, MadeOther, MadeReduced, MadeStored, MadeTests}
-use Rattle.dh_laid.specs.BlockSites.{HasSites, actions_sites, all_there, command_sites, groups_sites, other_sites, target_sites, term_sites}
+use Rattle.dh_commands.specs.MadeCommands.{Commanding, MadeActions, MadeArm, MadeAssigned, MadeCleared, MadeCommand, MadeGroups, MadeHolds, MadeKept, MadeLanes, MadeOther, MadeReduced, MadeStored, MadeTests, MadeView}
+use Rattle.dh_laid.specs.BlockSites.{HasSites, actions_sites, all_there, command_sites, groups_sites, other_sites, target_sites, term_sites, terms_sites, view_sites}
 use Rattle.dh_laid.specs.Laid.{aim_accesses}
 use Rattle.dh_laid.specs.LaidCommands.{AreFewIn}
 use Rattle.dh_laid.specs.LaidNumbers.{IsAccessForm, IsOutside, Numbers, StoresReach, StoresReachGroups, StoresReachOther, StoresReachPart}
@@ -28,10 +33,17 @@ use Rattle.dh_laid.specs.LaidQuiet.{StandsIn}
 use Rattle.dh_laid.specs.LaidUses.{AddsLedUses, used_by, EachWrite, EachWriteActions, EachWriteGroups, EachWriteOther, IsUnshared, PathsLead, SharesInside, used_to}
 use Rattle.dh_laid.proofs.CommandsNumbered.{actions_reached, aims_within, arm_number, command_reached, groups_reached, numbers_then, other_reached, some_arm, tests_number}
 use Rattle.dh_laid.proofs.ReadsUsed.{AreLed, UsesPart, led_same}
-use Rattle.dh_laid.proofs.SitesLaid.{PlacesAgree, actions_sites_long, all_sites, command_sites_long, no_sites, places_behind, places_front, target_sites_long, term_sites_long, test_places_long, two_long}
-use Rattle.dh_laid.proofs.TermsUsed.{UsesLane, assigned_used, cleared_used, long_is, reduced_used, stored_used, term_used}
-use Rattle.dh_laid.proofs.UsesAdded.{AddsNone, choices_used, guards_used, no_accesses, none_none, none_then_uses, ranged_more, ranged_nothing, ranged_then, ranged_without, used_nowhere, uses_then_none}
+use Rattle.dh_laid.proofs.SitesLaid.{PlacesAgree, actions_sites_long, all_sites, command_sites_long, no_sites, places_behind, places_front, target_sites_long, term_sites_long, terms_sites_long, test_places_long, two_long}
+use Rattle.dh_laid.proofs.TermsUsed.{UsesLane, assigned_used, cleared_used, long_is, reduced_used, stored_used, term_used, terms_used}
+use Rattle.dh_laid.proofs.UsesAdded.{AddsNone, choices_used, guards_used, held_used, no_accesses, none_again, none_none, none_then_uses, ranged_more, ranged_nothing, ranged_then, ranged_without, used_nowhere, uses_then_none}
 use Rattle.dh_laid.proofs.ValuesLogged.{arm_long, stands_arm, tests_same}
+
+-- offsets as the variables hold them that keep them
+holds_used : (scene : Scene) (sites : ℕ → Option Site) (first : ℕ) (offsets : List Term) (values : List ℕ) (old new : Draft) (held : List ℕ) → MadeHolds scene first offsets values old new held → AddsNone scene sites old new
+holds_used scene sites first [] values old new held m = none_none scene sites old new m.0
+holds_used scene sites first (t ∷ ts) [] old new held m = none_none scene sites old new m.0
+holds_used scene sites first (t ∷ ts) (v ∷ vs) old new held (d, (h, (more, (one, (rest, is))))) =
+    none_again scene sites old d new (held_used scene sites t (held_at scene.held.now first).kind v old d h one) (holds_used scene sites (suc first) ts vs d new more rest)
 
 -- What stands before and behind.
 
@@ -288,6 +300,26 @@ module _ (scene : Scene) (sites : ℕ → Option Site) (inside : SharesInside sc
         (λ n b d k. MadeReduced scene (lane_of around n) first entity op t b d k)
         (λ n b d k less one led nx. reduced_used scene sites (lane_of around n) stands less first b d k led entity op t few has nx one) (paths_counted around) new next (omega arith) (omega arith) m))
 
+    -- the offsets of a view
+    kept_here : (entity n : ℕ) (offsets : List Term) → n < paths_counted around → (b d : Building) (k : ℕ) → first + terms_accesses (terms offsets) < 2 ^ 32 → HasSites sites first (terms_sites scene around (terms offsets))
+        → MadeKept scene (lane_of around n) first entity offsets b d k → AreLed sites b.accesses → AreNext scene (lane_of around n) b.accesses first (terms_accesses (terms offsets))
+        → UsesLane scene sites (lane_of around n) b.draft d.draft b.accesses d.accesses first (terms_accesses (terms offsets)) (terms_accesses (terms offsets))
+    kept_here entity n offsets less b d k few has m led nx =
+        let h : UsesPart scene sites (lane_of around n) b.draft m.middle b.accesses d.accesses first (terms_accesses (terms offsets)) =
+        terms_used scene sites (lane_of around n) stands less b.values.current.items (terms offsets) b.draft m.middle b.accesses d.accesses first k m.values m.offsets_made few has led nx in
+        record { uses = uses_then_none scene sites b.draft m.middle d.draft _ h.uses (holds_used scene sites entity offsets m.values m.middle d.draft m.held m.holds); given = h.given; led = h.led }
+
+    kept_all : (entity : ℕ) (offsets : List Term) → first + terms_accesses (terms offsets) < 2 ^ 32 → HasSites sites first (terms_sites scene around (terms offsets)) → Begins scene sites (paths_counted around) old.accesses first (terms_accesses (terms offsets) + 0)
+        → MadeLanes (λ n b d k. MadeKept scene (lane_of around n) first entity offsets b d k) (paths_counted around) first old new next → Used scene sites (paths_counted around) old new first (terms_accesses (terms offsets) + 0)
+    kept_all entity offsets few has begins m =
+        used_count (paths_counted around) old new first (terms_accesses (terms offsets)) (terms_accesses (terms offsets) + 0) (no_more (terms_accesses (terms offsets)))
+        (used_all (paths_counted around) old new first (terms_accesses (terms offsets))
+        (lanes_used around old first (terms_accesses (terms offsets)) (terms_accesses (terms offsets))
+        (sites_are sites first (terms_accesses (terms offsets)) (terms_sites scene around (terms offsets)) (terms_sites_long scene around (terms offsets)) has)
+        (begins_count (paths_counted around) old.accesses first (terms_accesses (terms offsets) + 0) (terms_accesses (terms offsets)) (sym (no_more (terms_accesses (terms offsets)))) begins)
+        (λ n b d k. MadeKept scene (lane_of around n) first entity offsets b d k)
+        (λ n b d k less one led nx. kept_here entity n offsets less b d k few has one led nx) (paths_counted around) new next (omega arith) (omega arith) m))
+
     cleared_all : (entity : ℕ) → Begins scene sites (paths_counted around) old.accesses first 0 → MadeLanes (λ n b d k. MadeCleared scene (lane_of around n) entity b d × (k ≡ first)) (paths_counted around) first old new next
         → Used scene sites (paths_counted around) old new first 0
     cleared_all entity begins m =
@@ -325,6 +357,12 @@ module _ (scene : Scene) (sites : ℕ → Option Site) (inside : SharesInside sc
         → MadeTests scene around first t (paths_counted around) old new next tests → Used scene sites (paths_counted around) old new first (term_accesses t)
     tests_used t tests few has begins m =
         used_all (paths_counted around) old new first (term_accesses t) (tests_used_to around first t old stands few has begins (paths_counted around) new next tests (omega arith) m)
+
+  view_used : (hidden : List Hidden) (form : ViewPlan) (around : Around) (old new : Building) (first next : ℕ) → StandsIn scene around → MadeView scene hidden form around old new first next → first + plan_accesses form < 2 ^ 32
+      → PlacesAgree sites first (view_sites scene around hidden form) → Begins scene sites (paths_counted around) old.accesses first (plan_accesses form + 0) → Used scene sites (paths_counted around) old new first (plan_accesses form + 0)
+  view_used [] form around old new first next s m few has begins = idle_used (paths_counted around) old new first (plan_accesses form + 0) m.still (no_sites sites first (plan_accesses form + 0) has) begins
+  view_used (h ∷ hs) form around old new first next s m few has begins =
+      kept_all around old new first next s h.entity (offsets_of form) few (all_sites sites first (terms_sites scene around (terms (offsets_of form))) has) begins m
 
   mutual
     pub command_used : (a : Action) (around : Around) (old new : Building) (first next : ℕ) → StandsIn scene around → PathsLead around → (m : MadeCommand scene a around old new first next) → StoresReach a → 0 < paths_counted around
@@ -389,7 +427,7 @@ module _ (scene : Scene) (sites : ℕ → Option Site) (inside : SharesInside sc
         (begins_count (paths_counted around) old.accesses first (0 + groups_accesses body) (groups_accesses body) (sym (none_before (groups_accesses body))) begins))
     command_used (action id place (lets_memory name shape shape_places value)) around old new first next s leads m is some few writes has begins = still_used (paths_counted around) old new first m.still begins
     command_used (action id place (views name parent form)) around old new first next s leads m is some few writes has begins =
-        idle_used (paths_counted around) old new first (plan_accesses form + 0) m.still (no_sites sites first (plan_accesses form + 0) has) begins
+        view_used (hidden_in (way_of (known_in scene) name)) form around old new first next s m (omega (arith, few)) has begins
     command_used (action id place (calls function arguments)) around old new first next s leads m is some few writes has begins = still_used (paths_counted around) old new first m.still begins
     command_used (action id place (repeats test body)) around old new first next s leads m is some few writes has begins =
         idle_used (paths_counted around) old new first (term_accesses test + accesses_of body) m.still (no_sites sites first (term_accesses test + accesses_of body) has) begins

@@ -1,27 +1,33 @@
 -- No fault is named by values, guards and choices, nor by what sets registers: only accesses name faults.
-use Rattle.std.proofs.Common.{◌≡◌, ◌⊎◌, inl, inr, ◌<◌, ◌≤◌, ◌^◌, ℕ, zero, suc, List, Some, None, ap, ◌∙◌, length, arith}
+use Rattle.std.proofs.Common.{◌≡◌, ◌⊎◌, inl, inr, ◌<◌, ◌≤◌, ℕ, zero, suc, List, Some, None, ap, ◌∙◌, length, arith, ◌∷◌, []}
 use Rattle.std.specs.Prelude.{Bool as Truth, true, false, Option, slice_get}
 use Rattle.dh_value.specs.declared.kinds.Kind.{Kind}
 use Rattle.dh_value.specs.declared.kinds.Kind.TheVariants as kind
 use Rattle.dh_value.specs.declared.operators.Op.{Op}
 use Rattle.dh_tree.specs.declared.trees.counters.Counter.{Counter}
+use Rattle.dh_tree.specs.PlainTrees as plain
 use Rattle.dh_tree.specs.PlainTrees.{Term}
 use Rattle.dh_code.specs.Extended.{extension_of}
 use Rattle.dh_code.specs.Made.{same_kind}
 use Rattle.dh_code.specs.declared.places.Held.{Held}
+use Rattle.dh_plan.specs.declared.operations.ReachStep.{ReachStep}
 use Rattle.dh_expressions.specs.declared.copies.AccessAt.{AccessAt}
 use Rattle.dh_expressions.specs.declared.drafts.Draft.{Draft}
 use Rattle.dh_expressions.specs.declared.elements.Aim.{Aim}
 use Rattle.dh_expressions.specs.declared.scenes.Lane.{Lane}
+use Rattle.dh_expressions.specs.declared.scenes.Scene.{Scene}
 use Rattle.dh_expressions.specs.Copying.{AddsCopies, AddsCopy, AddsEither}
 use Rattle.dh_expressions.specs.MadeValues.{IsThere, MadeBit, MadeBits, MadeBy, MadeConverted, MadeCurrent, MadeExtended, MadeHeld, MadeIterator, MadeLowestBit, MadeNumber, MadeOffset, MadeOperation, MadeShifted, MadeShown, MadeSum, MadeTotal, MadeTruth}
 use Rattle.dh_expressions.specs.Reaching.{Finds}
 use Rattle.dh_expressions.specs.Shown.{guard_of, is_kept, is_read_term, kind_written, register_at}
 use Rattle.dh_expressions.proofs.ListPlaces.{there}
+use Rattle.dh_expressions.specs.MadeTerms.{MadeHidden, MadeWay}
+use Rattle.dh_expressions.specs.Evaluated.{hidden_register}
 use Rattle.dh_formed.proofs.CopiesFormed.{copies_forms}
 use Rattle.dh_commands.specs.declared.assignments.Values.{Values}
 use Rattle.dh_commands.specs.declared.choices.Choice.{Choice}
 use Rattle.dh_commands.specs.MadeCommands.{FoldedWith, MadeArmGuard, MadeArmGuards, MadeBehind, MadeChoiceBy, MadeChoices, MadeGuard, MadeOldOperand, MadeOperand, MadeOutcome}
+use Rattle.dh_meaning.specs.Ways.{Hidden, Way}
 
 -- nothing is put down
 pub same_faults : (old new : Draft) → new ≡ old → new.faults ≡ old.faults
@@ -121,9 +127,20 @@ folded_faults lane current held op t value old new v m =
 
 -- Elements.
 
-pub finds_faults : (old new : Draft) (memory : ℕ) (aim : Aim) (copy : AccessAt) (found : Option ℕ) (v : ℕ) → Finds old new memory aim copy found v → new.faults ≡ old.faults
-finds_faults old new memory aim copy None v m = m.faults
-finds_faults old new memory aim copy (Some n) v m = same_faults old new m.0
+pub finds_faults : (scene : Scene) (form : plain.TermForm) (old new : Draft) (memory : ℕ) (aim : Aim) (copy : AccessAt) (found : Option ℕ) (v : ℕ) → Finds scene form old new memory aim copy found v → new.faults ≡ old.faults
+finds_faults scene form old new memory aim copy None v m = m.faults
+finds_faults scene form old new memory aim copy (Some n) v m = same_faults old new m.0
+
+-- Variables that keep offsets.
+
+hidden_faults : (scene : Scene) (lane : Lane) (current : List (Option ℕ)) (hs : List Hidden) (old new : Draft) (values : List ℕ) → MadeHidden scene lane current hs old new values → new.faults ≡ old.faults
+hidden_faults scene lane current [] old new values m = same_faults old new m.0
+hidden_faults scene lane current (h ∷ hs) old new values (d, (v, (more, (shown, (rest, are))))) =
+    hidden_faults scene lane current hs d new more rest ∙ shown_faults current (hidden_register scene lane h) old d v shown
+
+pub way_faults : (scene : Scene) (lane : Lane) (current : List (Option ℕ)) (way : Option Way) (first : ℕ) (old new : Draft) (steps : List ReachStep) → MadeWay scene lane current old new first way steps → new.faults ≡ old.faults
+way_faults scene lane current None first old new steps m = same_faults old new m.0
+way_faults scene lane current (Some w) first old new steps m = hidden_faults scene lane current w.hidden old new m.values m.hidden
 
 -- Guards of copies.
 
@@ -132,22 +149,22 @@ either_faults old new None other joined h = same_faults old new h.0
 either_faults old new (Some one) None joined h = same_faults old new h.0
 either_faults old new (Some one) (Some other) joined h = h.1.1.faults
 
-copy_faults : (leader bank : ℕ → ℕ) (guard : Option ℕ) (n : ℕ) (d new : Draft) (cs copies : List AccessAt) (ns after : List ℕ) → length cs ≡ n → leader n ≤ n
-    → AddsCopy d new cs copies ns after n (leader n) (bank n) guard → new.faults ≡ d.faults
-copy_faults leader bank guard n d new cs copies ns after long low (inl s) = same_faults d new s.same
-copy_faults leader bank guard n d new cs copies ns after long low (inr s) =
+copy_faults : (leader bank place : ℕ → ℕ) (guard : Option ℕ) (n : ℕ) (d new : Draft) (cs copies : List AccessAt) → length cs ≡ n → leader n ≤ n
+    → AddsCopy d new cs copies n (leader n) (bank n) (place n) guard → new.faults ≡ d.faults
+copy_faults leader bank place guard n d new cs copies long low (inl s) = same_faults d new s.same
+copy_faults leader bank place guard n d new cs copies long low (inr s) =
     let led = there cs (leader n) (less (leader n) (length cs) low s.other long) in
     either_faults d new led.0.guard guard s.joins.joined (s.joins.joins led.0 led.1).adds
   where
     less : (m l : ℕ) → m ≤ n → (m ≡ n → ⊥) → l ≡ n → m < l
     less m l few other long = omega (arith, few, other, long)
 
-pub copies_faults : (leader bank : ℕ → ℕ) (guards : List (Option ℕ)) → ((p : ℕ) → leader p ≤ p) → (n : ℕ) (old new : Draft) (numbers after : List ℕ) (copies : List AccessAt) → n < 2 ^ 64
-    → AddsCopies leader bank guards n old new numbers after copies → new.faults ≡ old.faults
-copies_faults leader bank guards low zero old new numbers after copies few m = same_faults old new m.0
-copies_faults leader bank guards low (suc n) old new numbers after copies few (d, (ns, (cs, (before, step)))) =
-    copy_faults leader bank (guard_of guards n) n d new cs copies ns after (copies_forms leader bank guards low n old d numbers ns cs (omega (arith, few)) before).long (low n) step
-    ∙ copies_faults leader bank guards low n old d numbers ns cs (omega (arith, few)) before
+pub copies_faults : (leader bank place : ℕ → ℕ) (guards : List (Option ℕ)) → ((p : ℕ) → leader p ≤ p) → (n : ℕ) (old new : Draft) (copies : List AccessAt)
+    → AddsCopies leader bank place guards n old new copies → new.faults ≡ old.faults
+copies_faults leader bank place guards low zero old new copies m = same_faults old new m.0
+copies_faults leader bank place guards low (suc n) old new copies (d, (cs, (before, step))) =
+    copy_faults leader bank place (guard_of guards n) n d new cs copies (copies_forms leader bank place guards low n old d cs before).long (low n) step
+    ∙ copies_faults leader bank place guards low n old d cs before
 
 -- Arms.
 

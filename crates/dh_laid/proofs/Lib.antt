@@ -1,6 +1,7 @@
 pub mod ValuesLaid
 pub mod ArmsLaid
 pub mod PathsLaid
+pub mod KeptLaid
 pub mod ChoicesLaid
 pub mod JoinsLaid
 pub mod ReducersLaid

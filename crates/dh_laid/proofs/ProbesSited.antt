@@ -1,32 +1,36 @@
 -- Each access of a command that has a site is probed once at each path, and no other is: by recursion on what was put
 -- down for it.
 use Rattle.std.proofs.Common.{◌≡◌, ◌⊎◌, inl, inr, ◌<◌, ◌≤◌, ◌+◌, ◌^◌, ℕ, List, Some, None, ap, sym, ◌∙◌, subst, length, arith, refl}
-use Rattle.std.specs.Prelude.{◌&&◌, nat_le, nat_lt, Bool as Truth, true, false, if◌then◌else◌, [], ◌++◌, Option}
+use Rattle.std.specs.Prelude.{◌&&◌, nat_le, nat_lt, Bool as Truth, true, false, if◌then◌else◌, [], ◌∷◌, ◌++◌, Option}
 use Rattle.std.proofs.lemmas.Bool.{cases_lt}
 use Rattle.std.proofs.lemmas.Bool.Decides.{nat_tests}
-use Rattle.dh_tree.specs.PlainTrees.{Action, action, lets, lets_memory, views, assigns, stores, reduces, calls, blocks, decides, repeats, counts, MaybeAction, no_action, one_action, Actions, no_actions, action_then, Groups, no_groups, group_then}
+use Rattle.dh_tree.specs.PlainTrees.{Action, action, lets, lets_memory, views, assigns, stores, reduces, calls, blocks, decides, repeats, counts, MaybeAction, no_action, one_action, Actions, no_actions, action_then, Groups, no_groups, group_then, ViewPlan}
+use Rattle.dh_tree.specs.Seen.{terms}
+use Rattle.dh_tree.specs.ViewOffsets.{offsets_of}
 use Rattle.dh_meaning.specs.AccessNumbers.{accesses_of, groups_accesses, other_accesses, part_accesses, plan_accesses, term_accesses}
-use Rattle.dh_meaning.specs.CoreOf.{entity_number}
+use Rattle.dh_meaning.specs.CoreOf.{entity_number, way_of}
+use Rattle.dh_meaning.specs.Ways.{Hidden, hidden_in}
 use Rattle.dh_expressions.specs.declared.drafts.Draft.{Draft}
 use Rattle.dh_expressions.specs.declared.scenes.Around.{Around}
 use Rattle.dh_expressions.specs.declared.scenes.Scene.{Scene}
+use Rattle.dh_expressions.specs.Evaluated.{known_in}
 use Rattle.dh_formed.specs.Counted.{nothing, ranged}
 use Rattle.dh_formed.specs.Formed.{Site}
 use Rattle.dh_formed.proofs.PartsCounted.{ranged_sum}
 use Rattle.dh_commands.specs.declared.buildings.Building.{Building}
 use Rattle.dh_commands.specs.declared.choices.Left.{Left}
 use Rattle.dh_commands.specs.LanesRun.{lane_of, paths_counted}
-use Rattle.dh_commands.specs.MadeCommands.{Commanding, MadeActions, MadeArm, MadeAssigned, MadeCleared, MadeCommand, MadeGroups, MadeOther, MadeReduced, MadeStored}
-use Rattle.dh_laid.specs.BlockSites.{actions_sites, all_there, command_sites, groups_sites, other_sites, target_sites, term_sites}
+use Rattle.dh_commands.specs.MadeCommands.{Commanding, MadeActions, MadeArm, MadeAssigned, MadeCleared, MadeCommand, MadeGroups, MadeKept, MadeOther, MadeReduced, MadeStored, MadeView}
+use Rattle.dh_laid.specs.BlockSites.{actions_sites, all_there, command_sites, groups_sites, other_sites, target_sites, term_sites, terms_sites, view_sites}
 use Rattle.dh_laid.specs.LaidCommands.{AreFewIn}
 use Rattle.dh_laid.specs.LaidNumbers.{StoresReach, StoresReachGroups, StoresReachOther, StoresReachPart}
 use Rattle.dh_laid.specs.LaidProbes.{AddsProbes}
 use Rattle.dh_laid.specs.LaidQuiet.{StandsIn}
 use Rattle.dh_laid.specs.LaidUses.{probed_by}
 use Rattle.dh_laid.proofs.CommandsNumbered.{actions_reached, command_reached, some_arm, tests_number}
-use Rattle.dh_laid.proofs.CommandsProbe.{assigned_probed, choices_probed, cleared_probed, guards_probed, lanes_probed, none_none, none_then_probes, often, probes_again, probes_then_none, reduced_probed, stored_probed, tests_probed}
+use Rattle.dh_laid.proofs.CommandsProbe.{assigned_probed, choices_probed, cleared_probed, guards_probed, kept_probed, lanes_probed, none_none, none_then_probes, often, probes_again, probes_then_none, reduced_probed, stored_probed, tests_probed}
 use Rattle.dh_laid.proofs.CommandsUsed.{AreSites, sites_are}
-use Rattle.dh_laid.proofs.SitesLaid.{PlacesAgree, actions_sites_long, all_sites, command_sites_long, no_sites, places_behind, places_front, target_sites_long, term_sites_long, test_places_long, two_long}
+use Rattle.dh_laid.proofs.SitesLaid.{PlacesAgree, actions_sites_long, all_sites, command_sites_long, no_sites, places_behind, places_front, target_sites_long, term_sites_long, terms_sites_long, test_places_long, two_long}
 use Rattle.dh_laid.proofs.TermsUsed.{long_is}
 use Rattle.dh_laid.proofs.ValuesLogged.{arm_long, stands_arm, tests_same}
 
@@ -113,6 +117,14 @@ module _ (scene : Scene) (sites : ℕ → Option Site) where
   term_sited around old new first count ss long has h =
       probed_count old new first count (count + 0) (paths_counted around) (no_more count) (probed_often old new first count (paths_counted around) (sites_are sites first count ss long (all_sites sites first ss has)) h)
 
+  view_sited : (hidden : List Hidden) (form : ViewPlan) (around : Around) (old new : Building) (first next : ℕ) → StandsIn scene around → MadeView scene hidden form around old new first next → first + plan_accesses form < 2 ^ 32
+      → PlacesAgree sites first (view_sites scene around hidden form) → Probed old.draft new.draft first (plan_accesses form + 0) (paths_counted around)
+  view_sited [] form around old new first next s m few has = idle_sited old new first (plan_accesses form + 0) (paths_counted around) m.still (no_sites sites first (plan_accesses form + 0) has)
+  view_sited (h ∷ hs) form around old new first next s m few has =
+      term_sited around old.draft new.draft first (plan_accesses form) (terms_sites scene around (terms (offsets_of form))) (terms_sites_long scene around (terms (offsets_of form))) has
+      (lanes_probed (λ n b d k. MadeKept scene (lane_of around n) first h.entity (offsets_of form) b d k) first (plan_accesses form)
+      (λ n b d k one. kept_probed scene (lane_of around n) s first h.entity (offsets_of form) b d k few one) (paths_counted around) old new next m)
+
   mutual
     pub command_sited : (a : Action) (around : Around) (old new : Building) (first next : ℕ) → StandsIn scene around → (m : MadeCommand scene a around old new first next) → StoresReach a → 0 < paths_counted around → first + accesses_of a < 2 ^ 32
         → PlacesAgree sites first (command_sites scene a around old new first next m) → Probed old.draft new.draft first (accesses_of a) (paths_counted around)
@@ -168,7 +180,7 @@ module _ (scene : Scene) (sites : ℕ → Option Site) where
         probed_count old.draft new.draft first (groups_accesses body) (0 + groups_accesses body) (paths_counted around) (none_before (groups_accesses body)) (groups_sited body around old new first next s m is some (omega (arith, few)) has)
     command_sited (action id place (lets_memory name shape shape_places value)) around old new first next s m is some few has = still_sited old new first (paths_counted around) m.still
     command_sited (action id place (views name parent form)) around old new first next s m is some few has =
-        idle_sited old new first (plan_accesses form + 0) (paths_counted around) m.still (no_sites sites first (plan_accesses form + 0) has)
+        view_sited (hidden_in (way_of (known_in scene) name)) form around old new first next s m (omega (arith, few)) has
     command_sited (action id place (calls function arguments)) around old new first next s m is some few has = still_sited old new first (paths_counted around) m.still
     command_sited (action id place (repeats test body)) around old new first next s m is some few has =
         idle_sited old new first (term_accesses test + accesses_of body) (paths_counted around) m.still (no_sites sites first (term_accesses test + accesses_of body) has)

@@ -1,5 +1,5 @@
 -- The multiplications that are counted in the tree are those of the program's expressions and commands.
-use Rattle.std.proofs.Common.{◌≡◌, ◌+◌, ℕ, List, [], ◌∷◌, Option, Some, None, refl, ap, sym, ◌∙◌, subst, arith}
+use Rattle.std.proofs.Common.{◌≡◌, ◌+◌, ℕ, List, [], ◌∷◌, Option, Some, None, refl, ap, ◌∙◌, arith}
 use Rattle.dh_value.specs.declared.kinds.Kind.{Kind}
 use Rattle.dh_value.specs.declared.kinds.Kind.TheVariants as kind
 use Rattle.dh_value.specs.declared.operators.Op.{Op}
@@ -8,13 +8,14 @@ use Rattle.dh_tree.specs.Indices.{form_of}
 use Rattle.dh_tree.specs.PlainTrees as plain
 use Rattle.dh_tree.specs.PlainTrees.{Action, action, lets, lets_memory, views, assigns, stores, reduces, calls, blocks, decides, repeats, counts, MaybeAction, no_action, one_action, Actions, no_actions, action_then, Groups, no_groups, group_then}
 use Rattle.dh_tree.specs.Seen.{terms}
+use Rattle.dh_tree.specs.ViewOffsets.{offsets_of}
 use Rattle.dh_meaning.specs.AccessNumbers.{accesses_of, part_accesses, term_accesses}
 use Rattle.dh_meaning.specs.Core.{CoreCommands, CoreTerm, CoreTerms, no_commands, no_terms, term_and, variable}
 use Rattle.dh_meaning.specs.CoreOf.{Known, core_action, core_groups, core_other, core_part, core_term, core_terms, depth_of, entity_number, extended, extended_both, kept_by, kept_terms, kind_of, operation_of, store_to, target_to, terms_both, way_of}
 use Rattle.dh_meaning.specs.Ways.{Hidden, Way, hidden_in}
 use Rattle.dh_plan.specs.DoneProgram.{command_products, commands_products, product_of, target_products, term_products, terms_products}
 use Rattle.dh_laid.specs.LaidNumbers.{AreStraight, AreStraightGroups, IsAccessForm, IsStraight, IsStraightOther}
-use Rattle.dh_laid.specs.LaidProducts.{CommandsMultiply, GroupsMultiply, TermsMultiply, action_products, aim_products, all_products_in, groups_products, other_products, part_products, products_in}
+use Rattle.dh_laid.specs.LaidProducts.{CommandsMultiply, GroupsMultiply, TermsMultiply, action_products, aim_products, all_products_in, groups_products, offset_products, other_products, part_products, products_in}
 
 extended_products : (k : Kind) (t : CoreTerm) → term_products (extended k t) ≡ term_products t
 extended_products kind.Bool t = refl
@@ -112,8 +113,15 @@ module _ (known : Known) where
   drop_none : (whole p : ℕ) → whole ≡ p + 0 → whole ≡ p
   drop_none whole p h = omega (arith, h)
 
+  -- offsets that variables keep, and those that none keeps
+  pub kept_products : (hs : List Hidden) (n : ℕ) (ts : plain.Terms) (rest : CoreCommands) → commands_products (kept_by hs (core_terms known n ts) rest) ≡ offset_products hs ts + commands_products rest
+  kept_products [] n plain.no_terms rest = none_sum (commands_products rest)
+  kept_products [] n (plain.term_then t ts) rest = none_sum (commands_products rest)
+  kept_products (h ∷ hs) n plain.no_terms rest = none_sum (commands_products rest)
+  kept_products (h ∷ hs) n (plain.term_then t ts) rest = one_more (terms_products (core_terms known n (plain.term_then t ts))) (all_products_in (plain.term_then t ts)) (commands_products rest) (terms_same n (plain.term_then t ts))
+
   mutual
-    action_same : (n : ℕ) (a : Action) (rest : CoreCommands) → IsStraight a → commands_products (core_action known n a rest) ≡ action_products a + commands_products rest
+    action_same : (n : ℕ) (a : Action) (rest : CoreCommands) → IsStraight a → commands_products (core_action known n a rest) ≡ action_products known a + commands_products rest
     action_same n (action id place (lets name declared (Some value))) rest is = one_more _ (products_in value) (commands_products rest) (term_same n value)
     action_same n (action id place (lets name declared None)) rest is = refl
     action_same n (action id place (assigns target value)) rest is = one_more _ (products_in value) (commands_products rest) (term_same n value)
@@ -125,30 +133,30 @@ module _ (known : Known) where
         (operation_products o _ _ (variable (kind_of known target) (depth_of known target) (entity_number target.entity)) (core_term known n value)) (term_same n value)
     action_same n (action id place (decides test chosen other)) rest is =
         if_sum (term_products (core_term known n test)) (commands_products (core_action known (n + term_accesses test) chosen no_commands))
-        (commands_products (core_other known (n + term_accesses test + accesses_of chosen) other)) (commands_products rest) (products_in test) (action_products chosen) (other_products other) (term_same n test)
+        (commands_products (core_other known (n + term_accesses test + accesses_of chosen) other)) (commands_products rest) (products_in test) (action_products known chosen) (other_products known other) (term_same n test)
         (action_same (n + term_accesses test) chosen no_commands is.0) (other_same (n + term_accesses test + accesses_of chosen) other is.1)
     action_same n (action id place (blocks body)) rest is = groups_same n body rest is
     action_same n (action id place (lets_memory name shape shape_places value)) rest is = none_sum (commands_products rest)
     action_same n (action id place (views name parent form)) rest is =
-        subst (λ (l : List plain.Term). commands_products (kept_by (hidden_in (way_of known name)) (core_terms known n (terms l)) rest) ≡ 0 + commands_products rest) (sym is) (none_sum (commands_products rest))
+        kept_products (hidden_in (way_of known name)) n (terms (offsets_of form)) rest
     action_same n (action id place (calls function arguments)) rest is = none_sum (commands_products rest)
     action_same n (action id place (repeats test body)) rest is = absurd is
     action_same n (action id place (counts iterator declared low high factor body combine combine_place)) rest is = absurd is
 
-    other_same : (n : ℕ) (other : MaybeAction) → IsStraightOther other → commands_products (core_other known n other) ≡ other_products other
+    other_same : (n : ℕ) (other : MaybeAction) → IsStraightOther other → commands_products (core_other known n other) ≡ other_products known other
     other_same n no_action is = refl
-    other_same n (one_action a) is = drop_none (commands_products (core_action known n a no_commands)) (action_products a) (action_same n a no_commands is)
+    other_same n (one_action a) is = drop_none (commands_products (core_action known n a no_commands)) (action_products known a) (action_same n a no_commands is)
 
-    part_same : (n : ℕ) (part : Actions) (rest : CoreCommands) → AreStraight part → commands_products (core_part known n part rest) ≡ part_products part + commands_products rest
+    part_same : (n : ℕ) (part : Actions) (rest : CoreCommands) → AreStraight part → commands_products (core_part known n part rest) ≡ part_products known part + commands_products rest
     part_same n no_actions rest is = none_sum (commands_products rest)
     part_same n (action_then a behind) rest is =
-        then_sum (commands_products (core_part known n (action_then a behind) rest)) (action_products a) (part_products behind) (commands_products (core_part known (n + accesses_of a) behind rest)) (commands_products rest)
+        then_sum (commands_products (core_part known n (action_then a behind) rest)) (action_products known a) (part_products known behind) (commands_products (core_part known (n + accesses_of a) behind rest)) (commands_products rest)
         (action_same n a (core_part known (n + accesses_of a) behind rest) is.0) (part_same (n + accesses_of a) behind rest is.1)
 
-    groups_same : (n : ℕ) (body : Groups) (rest : CoreCommands) → AreStraightGroups body → commands_products (core_groups known n body rest) ≡ groups_products body + commands_products rest
+    groups_same : (n : ℕ) (body : Groups) (rest : CoreCommands) → AreStraightGroups body → commands_products (core_groups known n body rest) ≡ groups_products known body + commands_products rest
     groups_same n no_groups rest is = none_sum (commands_products rest)
     groups_same n (group_then part behind) rest is =
-        then_sum (commands_products (core_groups known n (group_then part behind) rest)) (part_products part) (groups_products behind) (commands_products (core_groups known (n + part_accesses part) behind rest)) (commands_products rest)
+        then_sum (commands_products (core_groups known n (group_then part behind) rest)) (part_products known part) (groups_products known behind) (commands_products (core_groups known (n + part_accesses part) behind rest)) (commands_products rest)
         (part_same n part (core_groups known (n + part_accesses part) behind rest) is.0) (groups_same (n + part_accesses part) behind rest is.1)
 
 pub terms_multiply : TermsMultiply

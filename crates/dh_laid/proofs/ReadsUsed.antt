@@ -1,7 +1,7 @@
 -- Reads and writes at one path: a read is done where the path leads and no earlier read is shared, a write always. What
 -- is noted of accesses tells their leaders, and what was given.
-use Rattle.std.proofs.Common.{◌≡◌, ◌⊎◌, inl, inr, ⊎_elim, ◌<◌, ◌≤◌, ◌+◌, ◌^◌, ℕ, List, Some, None, ap, sym, ◌∙◌, subst, length, arith, refl}
-use Rattle.std.specs.Prelude.{◌==◌, Bool as Truth, true, false, if◌then◌else◌, [], ◌∷◌, Option, slice_get}
+use Rattle.std.proofs.Common.{◌≡◌, ◌⊎◌, inl, inr, ⊎_elim, ◌<◌, ◌≤◌, ◌+◌, ℕ, List, Some, None, ap, sym, ◌∙◌, subst, length, arith, refl}
+use Rattle.std.specs.Prelude.{◌==◌, Bool as Truth, true, false, if◌then◌else◌, Option, slice_get}
 use Rattle.std.proofs.lemmas.Bool.{cases_eq}
 use Rattle.std.proofs.lemmas.Bool.Decides.{nat_tests}
 use Rattle.dh_tree.specs.Indices.{form_of}
@@ -16,13 +16,13 @@ use Rattle.dh_expressions.specs.declared.elements.Aim.{Aim}
 use Rattle.dh_expressions.specs.declared.scenes.Around.{Around}
 use Rattle.dh_expressions.specs.declared.scenes.Lane.{Lane}
 use Rattle.dh_expressions.specs.declared.scenes.Scene.{Scene}
-use Rattle.dh_expressions.specs.Copying.{AreNone, leaders_at}
+use Rattle.dh_expressions.specs.Copying.{AreNone}
 use Rattle.dh_expressions.specs.Evaluated.{source_at}
 use Rattle.dh_expressions.specs.MadeTerms.{MadeRead, MadeWrite}
+use Rattle.dh_expressions.specs.Named.{banks_told}
 use Rattle.dh_expressions.specs.Noted.{Notes, copied_in, copied_of, copy_or_alone, given_by, given_in, noted_in, touched_in}
-use Rattle.dh_expressions.specs.Numbers.{narrowed}
-use Rattle.dh_expressions.specs.Reaching.{Finds, place_written, reach_told}
-use Rattle.dh_expressions.specs.Standings.{Standing, standing_at}
+use Rattle.dh_expressions.specs.Reaching.{Finds, copy_banks, place_written, reach_told}
+use Rattle.dh_expressions.specs.Standings.{Standing, copy_places, standing_at}
 use Rattle.dh_expressions.specs.Touching.{AddsTouched, IsNew, TouchesAt}
 use Rattle.dh_expressions.proofs.AccessesKept.{noted_touched, place_noted}
 use Rattle.dh_expressions.proofs.ListPlaces.{set_long, some_same, there}
@@ -39,12 +39,12 @@ use Rattle.dh_laid.proofs.UsesAdded.{AddsNone, any_register, no_reach, none_agai
 
 -- The leaders of accesses.
 
--- its copies have the leaders of where it stands, the banks, and the places behind the leaders before
+-- its copies have the leaders of where it stands, the banks, and the places
 pub record IsLed (s : Standing) (t : Touched) : Type 0 where
   pub long : length t.copies ≡ length s.guards
   pub each : (path : ℕ) (c : AccessAt) → slice_get t.copies path ≡ Some c → c.leader ≡ s.leader path
   pub banks : (path : ℕ) (c : AccessAt) → slice_get t.copies path ≡ Some c → c.bank ≡ s.bank path
-  pub places : (path : ℕ) (c : AccessAt) → slice_get t.copies path ≡ Some c → c.place ≡ narrowed (leaders_at s.leader s.bank (s.bank path) path)
+  pub places : (path : ℕ) (c : AccessAt) → slice_get t.copies path ≡ Some c → c.place ≡ copy_places s path
 
 -- so has each access of the block that has operations; no bank is counted
 pub record AreLed (sites : ℕ → Option Site) (a : Accesses) : Type 0 where
@@ -56,13 +56,12 @@ pub led_same : (sites : ℕ → Option Site) (a b : Accesses) → b ≡ a → Ar
 led_same sites a b same h = subst (λ (c : Accesses). AreLed sites c) (sym same) h
 
 -- an access gets its copies
-module _ (sites : ℕ → Option Site) (scene : Scene) (around : Around) (stands : StandsIn scene around) (site : Site) (low : (p : ℕ) → site.standing.leader p ≤ p) (few : length site.standing.guards < 2 ^ 64) (old new : Draft) (before after : Accesses) (number : ℕ) (at : sites number ≡ Some site) (t : TouchesAt scene around site.standing old new before after number) (h : AreLed sites before) where
-  new_led : (u : Touched) → AddsTouched old new scene around site.standing before u → IsLed site.standing u
+module _ (sites : ℕ → Option Site) (scene : Scene) (around : Around) (stands : StandsIn scene around) (site : Site) (low : (p : ℕ) → site.standing.leader p ≤ p) (old new : Draft) (before after : Accesses) (number : ℕ) (at : sites number ≡ Some site) (t : TouchesAt scene around site.standing old new before after number) (h : AreLed sites before) where
+  new_led : (u : Touched) → AddsTouched old new scene around site.standing u → IsLed site.standing u
   new_led u a =
-      let copies = a.copies stands.scopes stands.low in
-      let f : FormsCopies site.standing.leader site.standing.bank site.standing.guards low (length site.standing.guards) a.middle new before.counts.items copies.0 u.copies =
-      copies_forms site.standing.leader site.standing.bank site.standing.guards low (length site.standing.guards) a.middle new before.counts.items copies.0 u.copies few copies.1 in
-      record { long = f.long; each = f.leaders; banks = f.banks; places = f.places h.none }
+      let f : FormsCopies site.standing.leader site.standing.bank (copy_places site.standing) site.standing.guards low (length site.standing.guards) a.middle new u.copies =
+      copies_forms site.standing.leader site.standing.bank (copy_places site.standing) site.standing.guards low (length site.standing.guards) a.middle new u.copies (a.copies stands.scopes stands.low) in
+      record { long = f.long; each = f.leaders; banks = f.banks; places = f.places }
 
   pub touch_led : AreLed sites after
   touch_led = record {
@@ -71,7 +70,7 @@ module _ (sites : ℕ → Option Site) (scene : Scene) (around : Around) (stands
     none = t.none h.none;
   }
     where
-      laid : (m : ℕ) (u : Touched) (o : Site) → sites m ≡ Some o → IsNew old new scene around site.standing before number m u → IsLed o.standing u
+      laid : (m : ℕ) (u : Touched) (o : Site) → sites m ≡ Some o → IsNew old new scene around site.standing number m u → IsLed o.standing u
       laid m u o here fresh =
           let own : site ≡ o = some_same site o (sym at ∙ (ap sites (sym fresh.own) ∙ here)) in
           subst (λ (w : Site). IsLed w.standing u) own (new_led u fresh.adds)
@@ -98,7 +97,7 @@ notes_led sites before after number path value h k = record {
           long = subst (λ (cs : List AccessAt). length cs ≡ length o.standing.guards) old.1.1.1 stood.long;
           each = subst (λ (cs : List AccessAt). (q : ℕ) (c : AccessAt) → slice_get cs q ≡ Some c → c.leader ≡ o.standing.leader q) old.1.1.1 stood.each;
           banks = subst (λ (cs : List AccessAt). (q : ℕ) (c : AccessAt) → slice_get cs q ≡ Some c → c.bank ≡ o.standing.bank q) old.1.1.1 stood.banks;
-          places = subst (λ (cs : List AccessAt). (q : ℕ) (c : AccessAt) → slice_get cs q ≡ Some c → c.place ≡ narrowed (leaders_at o.standing.leader o.standing.bank (o.standing.bank q) q)) old.1.1.1 stood.places;
+          places = subst (λ (cs : List AccessAt). (q : ℕ) (c : AccessAt) → slice_get cs q ≡ Some c → c.place ≡ copy_places o.standing q) old.1.1.1 stood.places;
         }
 
 -- One path.
@@ -130,14 +129,13 @@ module _ (scene : Scene) (sites : ℕ → Option Site) (lane : Lane) (stands : S
   touch_used : (writes : Truth) (old new : Draft) (before after : Accesses) → TouchesAt scene lane.around (stood writes) old new before after aim.number → AddsNone scene sites old new
   touch_used writes old new before after t = by t.adds
     where
-      by : (new ≡ old) ⊎ ((u : Touched) × AddsTouched old new scene lane.around (stood writes) before u) → AddsNone scene sites old new
+      by : (new ≡ old) ⊎ ((u : Touched) × AddsTouched old new scene lane.around (stood writes) u) → AddsNone scene sites old new
       by (inl same) = none_none scene sites old new same
       by (inr (u, a)) =
-          let copies = a.copies stands.scopes stands.low in
           none_again scene sites old a.middle new (none_same scene sites old a.middle a.names.operations)
           (uses_counted scene sites a.middle new 0 _ _
-          (copies_counts any_register no_reach no_reach no_reach (stood writes).leader (stood writes).bank (stood writes).guards (low writes) (length (stood writes).guards) a.middle new before.counts.items copies.0 u.copies stands.few
-          copies.1))
+          (copies_counts any_register no_reach no_reach no_reach (stood writes).leader (stood writes).bank (copy_places (stood writes)) (stood writes).guards (low writes) (length (stood writes).guards) a.middle new u.copies
+          (a.copies stands.scopes stands.low)))
 
   -- the leader that is noted at this path
   leader_is : (writes : Truth) (a : Accesses) (u : Touched) → touched_in a aim.number ≡ Some u → IsLed (stood writes) u → (copied_in a aim.number lane.number).leader ≡ (stood writes).leader lane.number
@@ -148,7 +146,7 @@ module _ (scene : Scene) (sites : ℕ → Option Site) (lane : Lane) (stands : S
   -- a read or a write at this path, where it leads
   led_use : (writes : Truth) (a : Accesses) (u : Touched) → touched_in a aim.number ≡ Some u → IsLed (stood writes) u → sites aim.number ≡ Some (site writes) → (stood writes).leader lane.number ≡ lane.number
       → ((earlier : ℕ) → slice_get scene.shares.now aim.number ≡ Some (Some earlier) → ⊥)
-      → IsLeadersUse scene sites (reach_told memory aim (Some ((copied_in a aim.number lane.number).bank, (copied_in a aim.number lane.number).place)))
+      → IsLeadersUse scene sites (reach_told memory aim (copy_banks scene (form_of access) (copied_in a aim.number lane.number)))
   led_use writes a u is led at leads alone = record {
     site = site writes;
     there = at;
@@ -157,8 +155,8 @@ module _ (scene : Scene) (sites : ℕ → Option Site) (lane : Lane) (stands : S
     within = within;
     leads = leads;
     banks_are =
-        ap (λ (k : AccessAt). (k.bank, k.place) ∷ []) (ap (λ o. copied_of o lane.number) is ∙ ap (λ o. copy_or_alone lane.number o) c.1)
-        ∙ (ap (λ (b : ℕ). (b, (c.0).place) ∷ []) (led.banks lane.number c.0 c.1) ∙ ap (λ (q : ℕ). ((stood writes).bank lane.number, q) ∷ []) (led.places lane.number c.0 c.1));
+        ap (λ (k : AccessAt). copy_banks scene (form_of access) k) (ap (λ o. copied_of o lane.number) is ∙ ap (λ o. copy_or_alone lane.number o) c.1)
+        ∙ (ap (λ (b : ℕ). banks_told scene (form_of access) b (c.0).place) (led.banks lane.number c.0 c.1) ∙ ap (λ (q : ℕ). banks_told scene (form_of access) ((stood writes).bank lane.number) q) (led.places lane.number c.0 c.1));
     alone = alone;
   }
     where
@@ -186,14 +184,14 @@ module _ (scene : Scene) (sites : ℕ → Option Site) (lane : Lane) (stands : S
       both true = refl
       both false = refl
 
-  find_none : (d e : Draft) (copy : AccessAt) (v n : ℕ) (found : Option ℕ) → found ≡ Some n → uses_here aim.number ≡ 0 → Finds d e memory aim copy found v → AddsLedUses scene sites d e own_use
-  find_none d e copy v n found is none h = uses_same scene sites d e _ own_use (λ k. none_used k none) (none_none scene sites d e (subst (λ (o : Option ℕ). Finds d e memory aim copy o v) is h).0)
+  find_none : (d e : Draft) (copy : AccessAt) (v n : ℕ) (found : Option ℕ) → found ≡ Some n → uses_here aim.number ≡ 0 → Finds scene (form_of access) d e memory aim copy found v → AddsLedUses scene sites d e own_use
+  find_none d e copy v n found is none h = uses_same scene sites d e _ own_use (λ k. none_used k none) (none_none scene sites d e (subst (λ (o : Option ℕ). Finds scene (form_of access) d e memory aim copy o v) is h).0)
 
-  find_one : (d e : Draft) (copy : AccessAt) (v : ℕ) (found : Option ℕ) → found ≡ None → uses_here aim.number ≡ 1 → IsLeadersUse scene sites (reach_told memory aim (Some (copy.bank, copy.place))) → Finds d e memory aim copy found v
+  find_one : (d e : Draft) (copy : AccessAt) (v : ℕ) (found : Option ℕ) → found ≡ None → uses_here aim.number ≡ 1 → IsLeadersUse scene sites (reach_told memory aim (copy_banks scene (form_of access) copy)) → Finds scene (form_of access) d e memory aim copy found v
       → AddsLedUses scene sites d e own_use
   find_one d e copy v found is one led h =
-      use_pushed scene sites d e v copy.guard (Read (reach_told memory aim (Some (copy.bank, copy.place)))) own_use (subst (λ (o : Option ℕ). Finds d e memory aim copy o v) is h) (λ k. one_used k one)
-      (λ r told. led_reach scene sites (reach_told memory aim (Some (copy.bank, copy.place))) r led told) (λ r told. told)
+      use_pushed scene sites d e v copy.guard (Read (reach_told memory aim (copy_banks scene (form_of access) copy))) own_use (subst (λ (o : Option ℕ). Finds scene (form_of access) d e memory aim copy o v) is h) (λ k. one_used k one)
+      (λ r told. led_reach scene sites (reach_told memory aim (copy_banks scene (form_of access) copy)) r led told) (λ r told. told)
 
   module _ (d e : Draft) (a : Accesses) (v : ℕ) (u : Touched) (is : touched_in a aim.number ≡ Some u) (led : IsLed (stood false) u) (at : sites aim.number ≡ Some (site false)) (own : given_at_paths a aim.number ≡ lane.number) (known : aim.number < length scene.shares.now) (shares : (earlier : ℕ) → slice_get scene.shares.now aim.number ≡ Some (Some earlier) → lane.number < given_at_paths a earlier) where
     abbrev copy : AccessAt
@@ -206,7 +204,7 @@ module _ (scene : Scene) (sites : ℕ → Option Site) (lane : Lane) (stands : S
     copy_leads = leader_is false a u is led
 
     abbrev Found : (share : Option (Option ℕ)) → Type 0
-    Found share = Finds d e memory aim copy (given_by a (source_at share aim.number lane.number copy.leader)) v
+    Found share = Finds scene (form_of access) d e memory aim copy (given_by a (source_at share aim.number lane.number copy.leader)) v
 
     not_shared : slice_get scene.shares.now aim.number ≡ Some None → Found (Some None) → AddsLedUses scene sites d e own_use
     not_shared told h = ⊎_elim leads follows (cases_eq leader lane.number)
@@ -241,7 +239,7 @@ module _ (scene : Scene) (sites : ℕ → Option Site) (lane : Lane) (stands : S
             less : (c l g : ℕ) → c ≡ l → g ≡ lane.number → l ≤ lane.number → (l ≡ lane.number → ⊥) → c < g
             less c l g same all few other = omega (arith, same, all, few, other)
 
-    find_used : Finds d e memory aim copy (given_by a (source_at (slice_get scene.shares.now aim.number) aim.number lane.number copy.leader)) v → AddsLedUses scene sites d e own_use
+    find_used : Finds scene (form_of access) d e memory aim copy (given_by a (source_at (slice_get scene.shares.now aim.number) aim.number lane.number copy.leader)) v → AddsLedUses scene sites d e own_use
     find_used h = by (slice_get scene.shares.now aim.number) refl h
       where
         lost : (o : Option ℕ) × (slice_get scene.shares.now aim.number ≡ Some o) → slice_get scene.shares.now aim.number ≡ None → ⊥
@@ -257,10 +255,10 @@ module _ (scene : Scene) (sites : ℕ → Option Site) (lane : Lane) (stands : S
   -- a read
   module _ (old new : Draft) (before after : Accesses) (v : ℕ) (m : MadeRead scene lane access memory aim old new before after v) (at : sites aim.number ≡ Some (site false)) (led : AreLed sites before) (next : AreNext scene lane before aim.number 1) where
     middle_led : AreLed sites m.middle
-    middle_led = touch_led sites scene lane.around stands (site false) (low false) stands.few old m.first before m.middle aim.number at m.touches led
+    middle_led = touch_led sites scene lane.around stands (site false) (low false) old m.first before m.middle aim.number at m.touches led
 
     touched : (u : Touched) × (touched_in m.middle aim.number ≡ Some u)
-    touched = touch_there sites scene lane.around stands (site false) (low false) stands.few old m.first before m.middle aim.number at m.touches led
+    touched = touch_there sites scene lane.around stands (site false) (low false) old m.first before m.middle aim.number at m.touches led
 
     own_given : given_at_paths m.middle aim.number ≡ lane.number
     own_given = touch_gives scene lane.around (stood false) old m.first before m.middle aim.number aim.number m.touches ∙ next.each aim.number (omega arith) (omega arith)
@@ -320,10 +318,10 @@ module _ (scene : Scene) (sites : ℕ → Option Site) (lane : Lane) (stands : S
         by (Some (Some shared)) told = absurd (alone.own shared told)
 
     pub write_led : AreLed sites after
-    write_led = touch_led sites scene lane.around stands (site true) (low true) stands.few old m.first before after aim.number at m.touches led
+    write_led = touch_led sites scene lane.around stands (site true) (low true) old m.first before after aim.number at m.touches led
 
     touched_there : (u : Touched) × (touched_in after aim.number ≡ Some u)
-    touched_there = touch_there sites scene lane.around stands (site true) (low true) stands.few old m.first before after aim.number at m.touches led
+    touched_there = touch_there sites scene lane.around stands (site true) (low true) old m.first before after aim.number at m.touches led
 
     pub write_used : AddsLedUses scene sites old new own_use
     write_used =

@@ -7,17 +7,22 @@ use Rattle.std.proofs.lemmas.List.{length-append, length-map, length-replicate}
 use Rattle.std.proofs.lemmas.Option.{slice_get-map, slice_get_past}
 use Rattle.dh_tree.specs.Indices.{form_of}
 use Rattle.dh_tree.specs.PlainTrees as plain
-use Rattle.dh_tree.specs.PlainTrees.{Term, Action, action, ActionForm, lets, lets_memory, views, assigns, stores, reduces, calls, blocks, decides, repeats, counts, MaybeAction, no_action, one_action, Actions, no_actions, action_then, Groups, no_groups, group_then}
+use Rattle.dh_tree.specs.PlainTrees.{Term, Action, action, ActionForm, lets, lets_memory, views, assigns, stores, reduces, calls, blocks, decides, repeats, counts, MaybeAction, no_action, one_action, Actions, no_actions, action_then, Groups, no_groups, group_then, ViewPlan}
+use Rattle.dh_tree.specs.Seen.{terms}
+use Rattle.dh_tree.specs.ViewOffsets.{offsets_of}
 use Rattle.dh_meaning.specs.AccessNumbers.{accesses_of, groups_accesses, other_accesses, part_accesses, plan_accesses, term_accesses, terms_accesses}
+use Rattle.dh_meaning.specs.CoreOf.{way_of}
 use Rattle.dh_meaning.specs.Phases.{Located}
+use Rattle.dh_meaning.specs.Ways.{Hidden, hidden_in}
 use Rattle.dh_expressions.specs.declared.scenes.Around.{Around}
 use Rattle.dh_expressions.specs.declared.scenes.Scene.{Scene}
+use Rattle.dh_expressions.specs.Evaluated.{known_in}
 use Rattle.dh_expressions.proofs.Pushing.{at_seam, in_front}
 use Rattle.dh_formed.specs.Formed.{Site}
 use Rattle.dh_commands.specs.declared.buildings.Building.{Building}
 use Rattle.dh_commands.specs.declared.choices.Left.{Left}
 use Rattle.dh_commands.specs.MadeCommands.{MadeActions, MadeCommand, MadeGroups, MadeOther}
-use Rattle.dh_laid.specs.BlockSites.{HasSites, MadeEach, actions_sites, all_there, block_sites, command_sites, groups_sites, none_there, one_site, other_sites, places_from, site_or, sites_from, target_sites, term_sites, terms_sites}
+use Rattle.dh_laid.specs.BlockSites.{HasSites, MadeEach, actions_sites, all_there, block_sites, command_sites, groups_sites, none_there, one_site, other_sites, places_from, site_or, sites_from, target_sites, term_sites, terms_sites, view_sites}
 use Rattle.dh_laid.specs.LaidNumbers.{IsAccessForm, StoresReach, StoresReachGroups, StoresReachOther, StoresReachPart}
 use Rattle.dh_laid.specs.LaidUses.{AreAlong}
 
@@ -176,6 +181,10 @@ module _ (scene : Scene) (around : Around) where
       (two_long (term_sites scene around t) (target_sites scene around target) (term_accesses t) (term_accesses target) (term_sites_long t) (target_sites_long target is))
 
 module _ (scene : Scene) where
+  pub view_sites_long : (hidden : List Hidden) (form : ViewPlan) (around : Around) → length (view_sites scene around hidden form) ≡ plan_accesses form + 0
+  view_sites_long [] form around = none_long scene around (plan_accesses form + 0)
+  view_sites_long (h ∷ hs) form around = all_long scene around (terms_sites scene around (terms (offsets_of form))) (plan_accesses form) (terms_sites_long scene around (terms (offsets_of form))) ∙ no_more (plan_accesses form)
+
   mutual
     pub command_sites_long : (a : Action) (around : Around) (old new : Building) (first next : ℕ) (m : MadeCommand scene a around old new first next) → StoresReach a
         → length (command_sites scene a around old new first next m) ≡ accesses_of a
@@ -193,7 +202,7 @@ module _ (scene : Scene) where
         (other_sites_long other around m.tests m.after_chosen m.after_other m.behind next m.other_left m.other is.1))
     command_sites_long (action id place (blocks body)) around old new first next m is = groups_sites_long body around old new first next m is ∙ none_before (groups_accesses body)
     command_sites_long (action id place (lets_memory name shape shape_places value)) around old new first next m is = no_more 0
-    command_sites_long (action id place (views name parent form)) around old new first next m is = none_long scene around (plan_accesses form + 0)
+    command_sites_long (action id place (views name parent form)) around old new first next m is = view_sites_long (hidden_in (way_of (known_in scene) name)) form around
     command_sites_long (action id place (calls function arguments)) around old new first next m is = no_more 0
     command_sites_long (action id place (repeats test body)) around old new first next m is = none_long scene around (term_accesses test + accesses_of body)
     command_sites_long (action id place (counts iterator declared low high factor body combine combine_place)) around old new first next m is =

@@ -1,5 +1,5 @@
 -- Stores are formed: the value, then what names the element, then its write.
-use Rattle.std.proofs.Common.{◌≡◌, ◌+◌, ◌<◌, ◌^◌, ℕ, List, Some, None, sym, ◌∙◌, subst, arith}
+use Rattle.std.proofs.Common.{◌≡◌, ◌+◌, ◌<◌, ◌^◌, ℕ, List, Some, None, refl, sym, ◌∙◌, subst, arith}
 use Rattle.std.specs.Prelude.{true, Option}
 use Rattle.dh_tree.specs.Indices.{form_of}
 use Rattle.dh_tree.specs.Memories.{table_of}
@@ -19,10 +19,10 @@ use Rattle.dh_expressions.specs.Evaluated.{known_in}
 use Rattle.dh_expressions.specs.Reaching.{place_written}
 use Rattle.dh_expressions.specs.Shown.{kind_written}
 use Rattle.dh_expressions.proofs.Pushing.{extends_again, extends_self}
-use Rattle.dh_formed.specs.Formed.{AccessSuits, Agrees, AimSuits, AreNumbers, Block, FormsPart, FormsTerm, FormsTerms, FormsValue, HasKind, HeldSuits, IsNoted, IsScope, Started, TermSuits, TermsSuit, count_of}
+use Rattle.dh_formed.specs.Formed.{AccessSuits, Agrees, AimSuits, Block, FormsAim, FormsPart, FormsTerm, FormsValue, HasKind, HeldSuits, IsNoted, IsScope, NamedSuits, Started, TermSuits}
 use Rattle.dh_formed.proofs.AccessesFormed.{noted_later, scope_later}
 use Rattle.dh_formed.proofs.ElementsFormed.{aim_later, write_forms}
-use Rattle.dh_formed.proofs.TermsFormed.{all_numbered, aim_of_indices, aim_of_row, formed, indices_formed, numbered}
+use Rattle.dh_formed.proofs.TermsFormed.{all_numbered, aim_of_row, formed, numbered, through_formed}
 use Rattle.dh_formed.proofs.ValuesFormed.{agrees_before, forms_again, forms_none, held_forms, kind_later, kind_same, started_later}
 use Rattle.dh_commands.specs.declared.buildings.Building.{Building}
 use Rattle.dh_commands.specs.declared.assignments.Values.{Values}
@@ -36,7 +36,7 @@ module _ (scene : Scene) (lane : Lane) (current : List (Option ℕ)) (target t :
   -- what an aim adds is formed, and what it gives names an element
   record Aims (old new : Draft) (before after : Accesses) (memory number : ℕ) (aim : Aim) (First : Block → Type 0) : Type 0 where
     part : FormsPart scene lane current old new before after First
-    gives : (x : Block) → Agrees x new → Started x old → IsScope x old scene lane current → IsNoted x old before → First x → AimSuits x new memory aim
+    gives : (x : Block) → Agrees x new → Started x old → IsScope x old scene lane current → IsNoted x old before → First x → AimSuits x new memory (form_of target) aim
     number_is : aim.number ≡ number
 
   abbrev StoresWhere : (old : Draft) → (memory number : ℕ) → (First : Block → Type 0) → Block → Type 0
@@ -48,7 +48,7 @@ module _ (scene : Scene) (lane : Lane) (current : List (Option ℕ)) (target t :
       let held : FormsValue middle m.0 m.1.0 (λ x. HeldSuits t (kind_in (table_of (program_seen scene.program.now)) memory) × HasKind x middle (kind_written t) value) (λ x. kind_in (table_of (program_seen scene.program.now)) memory) =
       held_forms t (kind_in (table_of (program_seen scene.program.now)) memory) value middle m.0 m.1.0 m.1.1.0 in
       let writes : FormsPart scene lane current m.0 new.draft between new.accesses
-      (λ x. (AimSuits x m.0 memory aim × AccessSuits x scene lane memory aim.number (place_written target) (form_of target) true) × HasKind x m.0 (kind_in x.plan.table memory) m.1.0) =
+      (λ x. (AimSuits x m.0 memory (form_of target) aim × AccessSuits x scene lane memory aim.number (place_written target) (form_of target) true) × HasKind x m.0 (kind_in x.plan.table memory) m.1.0) =
       write_forms scene lane current target memory aim m.0 new.draft between new.accesses m.1.0 m.1.1.1.0 in
       let first : Extends old m.0 = extends_again old middle m.0 aims.part.extends held.extends in
       record {
@@ -67,10 +67,10 @@ module _ (scene : Scene) (lane : Lane) (current : List (Option ℕ)) (target t :
     where
       suits : (h : FormsValue middle m.0 m.1.0 (λ x. HeldSuits t (kind_in (table_of (program_seen scene.program.now)) memory) × HasKind x middle (kind_written t) value) (λ x. kind_in (table_of (program_seen scene.program.now)) memory)) → Extends old m.0
           → (x : Block) → Agrees x m.0 → Started x old → IsScope x old scene lane current → IsNoted x old before → StoresWhere old memory number First x
-          → (AimSuits x m.0 memory aim × AccessSuits x scene lane memory aim.number (place_written target) (form_of target) true) × HasKind x m.0 (kind_in x.plan.table memory) m.1.0
+          → (AimSuits x m.0 memory (form_of target) aim × AccessSuits x scene lane memory aim.number (place_written target) (form_of target) true) × HasKind x m.0 (kind_in x.plan.table memory) m.1.0
       suits h first x a s sc k w = (
         (
-          aim_later x middle m.0 memory aim h.extends (aims.gives x (agrees_before x middle m.0 h.extends a) s sc k w.1.0),
+          aim_later x middle m.0 memory (form_of target) aim h.extends (aims.gives x (agrees_before x middle m.0 h.extends a) s sc k w.1.0),
           subst (λ (n : ℕ). AccessSuits x scene lane memory n (place_written target) (form_of target) true) (sym aims.number_is) w.1.1.access,
         ),
         kind_same x m.0 _ _ m.1.0 w.1.1.same (h.gives x a (started_later x old middle aims.part.extends s) (w.1.1.holds, kind_later x old middle (kind_written t) value aims.part.extends w.0)),
@@ -90,35 +90,37 @@ module _ (scene : Scene) (lane : Lane) (current : List (Option ℕ)) (target t :
       }
 
   stored_by : (form : plain.TermForm) (aimed : Option (Aim × ℕ)) (middle end : Draft) (between behind : Accesses) (new : Building) (n next : ℕ) → MadeAim scene lane current form middle end between behind n aimed
-      → MadeStoring scene lane target t value aimed end behind new next → n + aim_accesses form < 2 ^ 32 → FormsPart scene lane current middle new.draft between new.accesses (StoredWhere middle n form)
-  stored_by (plain.accessed r ts) (Some (aim, memory)) middle end between behind new n next a m few =
-      let f : FormsTerms scene lane current middle end between behind aim.indices (λ x. TermsSuit x scene lane n ts × AreNumbers ts) (count_of ts) = indices_formed scene lane current ts middle end between behind n aim a.0 few in
+      → MadeStoring scene lane target t value aimed end behind new next → n + aim_accesses form < 2 ^ 32 → form_of target ≡ form → FormsPart scene lane current middle new.draft between new.accesses (StoredWhere middle n form)
+  stored_by (plain.accessed r ts) (Some (aim, memory)) middle end between behind new n next a m few is =
+      let f : FormsAim scene lane current middle end between behind (memory_of (known_in scene) r) aim (λ x. NamedSuits x scene lane n r ts) = through_formed scene lane current r ts middle end between behind n aim a.0 few in
       written middle end between behind new (memory_of (known_in scene) r) (n + terms_accesses ts) next aim (λ x. AimingSuits x scene lane n (plain.accessed r ts))
       (record {
-        part = record { extends = f.part.extends; forms = λ x ag s sc k w. f.part.forms x ag s sc k w.0; notes = λ x ag s sc k w. f.part.notes x ag s sc k w.0 };
-        gives = λ x ag s sc k w. aim_of_indices scene lane current x end (memory_of (known_in scene) r) (count_of ts) aim a.0.row w.1 (f.gives x ag s sc k w.0);
-        number_is = all_numbered scene lane current ts middle end between behind n aim.number aim.indices a.0.indices few;
+        part = f.part;
+        gives = λ x ag s sc k w. f.gives x ag s sc k w (form_of target);
+        number_is = all_numbered scene lane current ts middle a.0.middle between behind n aim.number aim.indices a.0.indices few;
       }) (subst (λ (i : ℕ). MadeStoring scene lane target t value (Some (aim, i)) end behind new next) a.1 m)
-  stored_by (plain.accessed r ts) None middle end between behind new n next a m few = absurd a
-  stored_by (plain.in_bank r bank at row) (Some (aim, memory)) middle end between behind new n next a m few =
+  stored_by (plain.accessed r ts) None middle end between behind new n next a m few is = absurd a
+  stored_by (plain.in_bank r bank at row) (Some (aim, memory)) middle end between behind new n next a m few is =
       let f : FormsTerm scene lane current middle end between behind a.0.value (λ x. TermSuits x scene lane n row) (kind_written row) = formed scene lane current row middle end between behind n aim.number a.0.value a.0.row few in
       written middle end between behind new (memory_of (known_in scene) r) (n + term_accesses row) next aim (λ x. AimingSuits x scene lane n (plain.in_bank r bank at row))
       (record {
         part = record { extends = f.part.extends; forms = λ x ag s sc k w. f.part.forms x ag s sc k w.0; notes = λ x ag s sc k w. f.part.notes x ag s sc k w.0 };
-        gives = λ x ag s sc k w. aim_of_row scene lane current x end (memory_of (known_in scene) r) a.0.value aim a.0.none a.0.row_is (kind_written row, (w.1, f.gives x ag s sc k w.0));
+        gives = λ x ag s sc k w.
+            subst (λ (u : plain.TermForm). AimSuits x end (memory_of (known_in scene) r) u aim) (sym is)
+            (aim_of_row scene lane current x end (memory_of (known_in scene) r) a.0.value (plain.in_bank r bank at row) aim tt a.0.none a.0.steps a.0.row_is (kind_written row, (w.1, f.gives x ag s sc k w.0)));
         number_is = numbered scene lane current row middle end between behind n aim.number a.0.value a.0.row few;
       }) (subst (λ (i : ℕ). MadeStoring scene lane target t value (Some (aim, i)) end behind new next) a.1 m)
-  stored_by (plain.in_bank r bank at row) None middle end between behind new n next a m few = absurd a
-  stored_by (plain.number negative z) None middle end between behind new n next a m few = stored_none middle end between behind new next (plain.number negative z) n a m
-  stored_by (plain.number negative z) (Some aimed) middle end between behind new n next a m few = absurd a
-  stored_by (plain.truth_value b) None middle end between behind new n next a m few = stored_none middle end between behind new next (plain.truth_value b) n a m
-  stored_by (plain.truth_value b) (Some aimed) middle end between behind new n next a m few = absurd a
-  stored_by (plain.named r) None middle end between behind new n next a m few = stored_none middle end between behind new next (plain.named r) n a m
-  stored_by (plain.named r) (Some aimed) middle end between behind new n next a m few = absurd a
-  stored_by (plain.applied o l r) None middle end between behind new n next a m few = stored_none middle end between behind new next (plain.applied o l r) n a m
-  stored_by (plain.applied o l r) (Some aimed) middle end between behind new n next a m few = absurd a
-  stored_by (plain.converted inner to) None middle end between behind new n next a m few = stored_none middle end between behind new next (plain.converted inner to) n a m
-  stored_by (plain.converted inner to) (Some aimed) middle end between behind new n next a m few = absurd a
+  stored_by (plain.in_bank r bank at row) None middle end between behind new n next a m few is = absurd a
+  stored_by (plain.number negative z) None middle end between behind new n next a m few is = stored_none middle end between behind new next (plain.number negative z) n a m
+  stored_by (plain.number negative z) (Some aimed) middle end between behind new n next a m few is = absurd a
+  stored_by (plain.truth_value b) None middle end between behind new n next a m few is = stored_none middle end between behind new next (plain.truth_value b) n a m
+  stored_by (plain.truth_value b) (Some aimed) middle end between behind new n next a m few is = absurd a
+  stored_by (plain.named r) None middle end between behind new n next a m few is = stored_none middle end between behind new next (plain.named r) n a m
+  stored_by (plain.named r) (Some aimed) middle end between behind new n next a m few is = absurd a
+  stored_by (plain.applied o l r) None middle end between behind new n next a m few is = stored_none middle end between behind new next (plain.applied o l r) n a m
+  stored_by (plain.applied o l r) (Some aimed) middle end between behind new n next a m few is = absurd a
+  stored_by (plain.converted inner to) None middle end between behind new n next a m few is = stored_none middle end between behind new next (plain.converted inner to) n a m
+  stored_by (plain.converted inner to) (Some aimed) middle end between behind new n next a m few is = absurd a
 
 pub stores_form : StoresForm
 stores_form scene lane first target t old new next m few =
@@ -127,7 +129,7 @@ stores_form scene lane first target t old new next m few =
     let own : m.own ≡ first + term_accesses t = numbered scene lane old.values.current.items t old.draft m.middle old.accesses m.between first m.own m.value m.term (omega (arith, few)) in
     let stored : FormsPart scene lane old.values.current.items m.middle new.draft m.between new.accesses
     (λ x. HasKind x m.middle (kind_written t) m.value × (AimingSuits x scene lane m.own (form_of target) × StoringSuits x scene lane m.own target t (form_of target))) =
-    stored_by scene lane old.values.current.items target t m.value (form_of target) m.aimed m.middle m.end m.between m.behind new m.own next m.aims m.stores (omega (arith, own, few)) in
+    stored_by scene lane old.values.current.items target t m.value (form_of target) m.aimed m.middle m.end m.between m.behind new m.own next m.aims m.stores (omega (arith, own, few)) refl in
     record {
       extends = extends_again old.draft m.middle new.draft term.part.extends stored.extends;
       forms = λ x a s sc k h w.

@@ -4,14 +4,16 @@ use Rattle.std.specs.Prelude.{false, [], ◌∷◌, ◌++◌, Option, slice_get}
 use Rattle.dh_base.specs.declared.places.Place.{Place}
 use Rattle.dh_value.specs.declared.kinds.Kind.{Kind}
 use Rattle.dh_value.specs.Operations.{truth}
+use Rattle.dh_tree.specs.declared.trees.expressions.Ref.{Ref}
 use Rattle.dh_tree.specs.Indices.{form_of}
 use Rattle.dh_tree.specs.PlainTrees as plain
 use Rattle.dh_tree.specs.PlainTrees.{Term}
 use Rattle.dh_meaning.specs.AccessNumbers.{form_accesses, term_accesses, terms_accesses}
 use Rattle.dh_meaning.specs.Bindings.{kind_or_first}
-use Rattle.dh_meaning.specs.CoreOf.{entity_number, memory_of}
+use Rattle.dh_meaning.specs.CoreOf.{entity_number, memory_of, way_of}
 use Rattle.dh_code.specs.Slots.{held_at}
 use Rattle.dh_plan.specs.declared.operations.OperationForm.TheVariants.{Constant}
+use Rattle.dh_plan.specs.declared.operations.ReachStep.{ReachStep}
 use Rattle.dh_plan.specs.DoneProgram.{product_of}
 use Rattle.dh_expressions.specs.declared.accesses.Accesses.{Accesses}
 use Rattle.dh_expressions.specs.declared.drafts.Draft.{Draft}
@@ -19,13 +21,14 @@ use Rattle.dh_expressions.specs.declared.elements.Aim.{Aim}
 use Rattle.dh_expressions.specs.declared.scenes.Lane.{Lane}
 use Rattle.dh_expressions.specs.declared.scenes.Scene.{Scene}
 use Rattle.dh_expressions.specs.Evaluated.{counter_of, known_in}
-use Rattle.dh_expressions.specs.MadeTerms.{MadeRead, MadeTerm, MadeTerms}
+use Rattle.dh_expressions.specs.MadeTerms.{MadeRead, MadeTerm, MadeTerms, MadeWay}
+use Rattle.dh_expressions.specs.Named.{first_view}
 use Rattle.dh_expressions.specs.Shown.{is_kept}
 use Rattle.dh_formed.specs.Counted.{AreNext, HaveGiven, given_at_paths, ranged, use_shared}
 use Rattle.dh_formed.specs.Formed.{Site}
 use Rattle.dh_formed.proofs.TermsCounted.{given_again, given_none, next_first, next_second}
 use Rattle.dh_formed.proofs.TermsFormed.{all_numbered, numbered}
-use Rattle.dh_formed.proofs.ValuesCounted.{number_counts, operation_counts, variable_counts}
+use Rattle.dh_formed.proofs.ValuesCounted.{number_counts, operation_counts, sees_any, variable_counts, way_counts}
 use Rattle.dh_commands.specs.declared.buildings.Building.{Building}
 use Rattle.dh_commands.specs.LanesRun.{paths_counted}
 use Rattle.dh_commands.specs.MadeCommands.{MadeAim, MadeAssigned, MadeCleared, MadeReduced, MadeStored, MadeStoring}
@@ -87,6 +90,12 @@ module _ (scene : Scene) (sites : ℕ → Option Site) (lane : Lane) (stands : S
       (read_used scene sites lane stands within (plain.term place k form) memory aim b c y z v m (sites_last sites n aim.number ss (read_site scene lane.around memory place form) (long_is n aim.number ss p long is) has) h.led
       (next_behind scene sites lane a b x y n aim.number p 1 is (next_one scene sites lane x n p next) h))
 
+  -- the steps of the way of what a name stands for
+  way_used : (r : Ref) (old new : Draft) (steps : List ReachStep) → MadeWay scene lane current old new (first_view scene r) (way_of (known_in scene) r) steps → AddsNone scene sites old new
+  way_used r old new steps m =
+      uses_counted scene sites old new 0 _ _
+      (way_counts any_register no_reach no_reach no_reach scene lane current (way_of (known_in scene) r) (first_view scene r) (sees_any any_register no_reach no_reach no_reach (λ register. tt) scene lane (way_of (known_in scene) r)) old new steps m)
+
   mutual
     pub term_used : (t : Term) (old new : Draft) (before after : Accesses) (n next v : ℕ) → MadeTerm scene lane current t old new before after n next v → n + term_accesses t < 2 ^ 32 → HasSites sites n (term_sites scene lane.around t)
         → AreLed sites before → AreNext scene lane before n (term_accesses t) → UsesPart scene sites lane old new before after n (term_accesses t)
@@ -102,9 +111,11 @@ module _ (scene : Scene) (sites : ℕ → Option Site) (lane : Lane) (stands : S
     term_used (plain.term place k (plain.accessed r ts)) old new before after n next v m few has led nx =
         let less : n + terms_accesses ts < 2 ^ 32 = omega (arith, few) in
         read_behind place k (plain.accessed r ts) (memory_of (known_in scene) r) m.aim old m.middle new before m.between after n (terms_accesses ts) v (terms_sites scene lane.around ts) (terms_sites_long scene lane.around ts)
-        (all_numbered scene lane current ts old m.middle before m.between n m.aim.number m.aim.indices m.indices less) has nx
-        (terms_used ts old m.middle before m.between n m.aim.number m.aim.indices m.indices less (sites_front sites n (terms_sites scene lane.around ts) _ has) led
+        (all_numbered scene lane current ts old m.named before m.between n m.aim.number m.aim.indices m.indices less) has nx
+        (part_still scene sites lane old m.named m.middle before m.between n (terms_accesses ts)
+        (terms_used ts old m.named before m.between n m.aim.number m.aim.indices m.indices less (sites_front sites n (terms_sites scene lane.around ts) _ has) led
         (next_first scene lane before n (terms_accesses ts) 1 (next_one scene sites lane before n (terms_accesses ts) nx)))
+        (way_used r m.named m.middle m.aim.steps m.steps))
         m.reads
     term_used (plain.term place k (plain.in_bank r bank at row)) old new before after n next v m few has led nx =
         let less : n + term_accesses row < 2 ^ 32 = omega (arith, few) in
@@ -172,9 +183,11 @@ module _ (scene : Scene) (sites : ℕ → Option Site) (lane : Lane) (stands : S
       → UsesLane scene sites lane middle new.draft between new.accesses own (aim_accesses form) (form_accesses form)
   target_used t value place k (plain.accessed r ts) (Some (aim, memory)) middle end between behind new own next is (a, same) m few has led nx leads alone =
       write_behind place k (plain.accessed r ts) memory t value aim middle end new between behind own next (terms_accesses ts) (terms_sites scene lane.around ts) (terms_sites_long scene lane.around ts)
-      (all_numbered scene lane current ts middle end between behind own aim.number aim.indices a.indices (omega (arith, few)))
+      (all_numbered scene lane current ts middle a.middle between behind own aim.number aim.indices a.indices (omega (arith, few)))
       (subst (λ (i : ℕ). HasSites sites own (terms_sites scene lane.around ts ++ write_site scene lane.around i place (plain.accessed r ts) ∷ [])) (sym same) has) leads alone
-      (terms_used ts middle end between behind own aim.number aim.indices a.indices (omega (arith, few)) (sites_front sites own (terms_sites scene lane.around ts) _ has) led nx) m
+      (part_still scene sites lane middle a.middle end between behind own (terms_accesses ts)
+      (terms_used ts middle a.middle between behind own aim.number aim.indices a.indices (omega (arith, few)) (sites_front sites own (terms_sites scene lane.around ts) _ has) led nx) (way_used r a.middle end aim.steps a.steps))
+      m
   target_used t value place k (plain.accessed r ts) None middle end between behind new own next is a m few has led nx leads alone = absurd a
   target_used t value place k (plain.in_bank r bank at row) (Some (aim, memory)) middle end between behind new own next is (a, same) m few has led nx leads alone =
       write_behind place k (plain.in_bank r bank at row) memory t value aim middle end new between behind own next (term_accesses row) (term_sites scene lane.around row) (term_sites_long scene lane.around row)

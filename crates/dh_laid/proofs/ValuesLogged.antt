@@ -4,9 +4,12 @@ use Rattle.std.specs.Prelude.{Bool as Truth, Option, slice_get, slice_index}
 use Rattle.std.specs.List.{AllByRecursion}
 use Rattle.std.proofs.lemmas.List.{append-nil}
 use Rattle.dh_tree.specs.PlainTrees.{Term}
+use Rattle.dh_code.specs.Slots.{held_at}
 use Rattle.dh_expressions.specs.declared.drafts.Draft.{Draft}
 use Rattle.dh_expressions.specs.declared.scenes.Around.{Around}
+use Rattle.dh_expressions.specs.declared.scenes.Lane.{Lane}
 use Rattle.dh_expressions.specs.declared.scenes.Scene.{Scene}
+use Rattle.dh_expressions.specs.Shown.{register_at}
 use Rattle.dh_commands.specs.declared.assignments.Change.{Change}
 use Rattle.dh_commands.specs.declared.assignments.Values.{Values}
 use Rattle.dh_commands.specs.declared.buildings.Building.{Building}
@@ -15,6 +18,7 @@ use Rattle.dh_commands.specs.declared.choices.Left.{Left}
 use Rattle.dh_commands.specs.Joined.{IsLeft}
 use Rattle.dh_commands.specs.LanesRun.{paths_counted}
 use Rattle.dh_commands.specs.MadeCommands.{Commanding, MadeArm, MadeArmGuards, MadeChoiceBy, MadeChoices, MadeJoined, MadeLanes, MadeTests}
+use Rattle.dh_commands.specs.Setting.{SetsFrom}
 use Rattle.dh_commands.specs.Undone.{AreReady, Assigns, EndsArm, HasRoom, lefts_of, undone}
 use Rattle.dh_commands.proofs.ArmsLeft.{AreSame, lefts_given}
 use Rattle.dh_commands.proofs.ChangesBack.{logs_again, logs_none, logs_one}
@@ -29,6 +33,12 @@ logged_one old new register path value s = logs_one (λ d. Unit {0}) old new reg
 
 pub logged_equal : (old new : Values) → new ≡ old → AreLogged old new
 logged_equal old new e = subst (λ (v : Values). AreLogged old v) (sym e) (logs_none (λ d. Unit {0}) old)
+
+-- variables that are given values one after the other
+pub logged_from : (scene : Scene) (lane : Lane) (first : ℕ) (values : List ℕ) (old new : Values) → SetsFrom scene lane old new first values → AreLogged old new
+logged_from scene lane first [] old new s = logged_equal old new s
+logged_from scene lane first (v ∷ values) old new (middle, (set, rest)) =
+    logged_again old middle new (logged_one old middle (register_at (held_at scene.held.now first) lane) lane.number v set) (logged_from scene lane (suc first) values middle new rest)
 
 pub logged_same : (old new : Values) → AreSame old new → AreLogged old new
 logged_same old new s = record {

@@ -1,15 +1,18 @@
 -- Where the accesses of a block stand, by their numbers: each of its memory, at the paths that stand round it and where
 -- the guards of its arms hold, which only what was put down tells. A block is of commands, put down one after the other,
--- or of a test. All that is stated of the operations of blocks is stated of these sites. A loop in an arm has no turn,
--- and views that move are refused: their accesses have their numbers all the same, but they are put down nowhere and have
--- no site.
+-- or of a test. All that is stated of the operations of blocks is stated of these sites. A loop in an arm has no turn, and
+-- offsets that no variable keeps are not evaluated: their accesses have their numbers all the same, but they are put down
+-- nowhere and have no site.
 use Rattle.std.specs.Prelude.{◌≡◌, ℕ, ◌+◌, ◌-◌, nat_lt, true, false, if◌then◌else◌, List, [], ◌∷◌, ◌++◌, map, replicate, slice_get, Option, Some, None}
 use Rattle.dh_base.specs.declared.places.Place.{Place}
 use Rattle.dh_tree.specs.PlainTrees as plain
-use Rattle.dh_tree.specs.PlainTrees.{Action, action, ActionForm, lets, lets_memory, views, assigns, stores, reduces, calls, blocks, decides, repeats, counts, MaybeAction, no_action, one_action, Actions, no_actions, action_then, Groups, no_groups, group_then}
+use Rattle.dh_tree.specs.PlainTrees.{Action, action, ActionForm, lets, lets_memory, views, assigns, stores, reduces, calls, blocks, decides, repeats, counts, MaybeAction, no_action, one_action, Actions, no_actions, action_then, Groups, no_groups, group_then, ViewPlan}
+use Rattle.dh_tree.specs.Seen.{terms}
+use Rattle.dh_tree.specs.ViewOffsets.{offsets_of}
 use Rattle.dh_meaning.specs.AccessNumbers.{accesses_of, other_accesses, plan_accesses, term_accesses}
-use Rattle.dh_meaning.specs.CoreOf.{memory_of}
+use Rattle.dh_meaning.specs.CoreOf.{memory_of, way_of}
 use Rattle.dh_meaning.specs.Phases.{Located}
+use Rattle.dh_meaning.specs.Ways.{Hidden, hidden_in}
 use Rattle.dh_expressions.specs.declared.scenes.Around.{Around}
 use Rattle.dh_expressions.specs.declared.scenes.Scene.{Scene}
 use Rattle.dh_expressions.specs.Evaluated.{known_in}
@@ -62,6 +65,11 @@ all_there ss = map (λ (s : Site). Some s) ss
 abbrev pub none_there : (count : ℕ) → List (Option Site)
 none_there count = replicate count None
 
+-- those of the offsets of a view, where a variable keeps one on its way
+abbrev pub view_sites : Scene → Around → List Hidden → ViewPlan → List (Option Site)
+view_sites scene around [] form = none_there (plan_accesses form + 0)
+view_sites scene around (h ∷ hs) form = all_there (terms_sites scene around (terms (offsets_of form)))
+
 module _ (scene : Scene) where
   abbrev mutual
     -- as many as the command has accesses
@@ -80,8 +88,8 @@ module _ (scene : Scene) where
     action_sites (blocks body) around old new first next m = groups_sites body around old new first next m
     action_sites (lets_memory name shape shape_places value) around old new first next m = []
     action_sites (calls function arguments) around old new first next m = []
-    -- views, which put nothing down, and loops without turns
-    action_sites (views name parent form) around old new first next m = none_there (plan_accesses form + 0)
+    action_sites (views name parent form) around old new first next m = view_sites scene around (hidden_in (way_of (known_in scene) name)) form
+    -- loops without turns
     action_sites (repeats test body) around old new first next m = none_there (term_accesses test + accesses_of body)
     action_sites (counts iterator declared low high factor body combine combine_place) around old new first next m = none_there (accesses_of body + other_accesses combine)
 

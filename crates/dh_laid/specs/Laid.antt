@@ -1,13 +1,12 @@
 -- What is asked of the operations of commands: what variables were given in a step are values of its block, of the kinds
 -- of their registers, and so are the values that are taken back.
-use Rattle.std.specs.Prelude.{◌≡◌, ℕ, ◌+◌, ◌<◌, ◌≤◌, ◌^◌, Bool as Truth, false, true, List, length, slice_get, Option, Some, drop}
+use Rattle.std.specs.Prelude.{◌≡◌, ℕ, suc, ◌+◌, ◌<◌, ◌≤◌, ◌^◌, Bool as Truth, false, true, List, [], ◌∷◌, length, slice_get, Option, Some, drop}
 use Rattle.std.specs.List.{AllByRecursion}
 use Rattle.dh_value.specs.declared.kinds.Kind.{Kind}
 use Rattle.dh_value.specs.declared.kinds.Kind.TheVariants.{Bool}
 use Rattle.dh_value.specs.declared.operators.Op.{Op}
 use Rattle.dh_value.specs.Operations.{Suits, result_of}
 use Rattle.dh_value.specs.Words.{IsInteger, IsKind}
-use Rattle.dh_tree.specs.Elements.{dims_at}
 use Rattle.dh_tree.specs.Indices.{form_of}
 use Rattle.dh_tree.specs.Memories.{table_of}
 use Rattle.dh_tree.specs.PlainTrees as plain
@@ -29,7 +28,7 @@ use Rattle.dh_expressions.specs.Drafted.{Extends}
 use Rattle.dh_expressions.specs.Evaluated.{known_in}
 use Rattle.dh_expressions.specs.Reaching.{place_written}
 use Rattle.dh_expressions.specs.Shown.{kind_written, register_at}
-use Rattle.dh_formed.specs.Formed.{AccessSuits, Agrees, AreNumbers, Block, Forms, HasKind, HeldSuits, IsExtension, IsGuard, IsNoted, IsScope, Started, TermSuits, TermsSuit, count_of, operand_kind}
+use Rattle.dh_formed.specs.Formed.{AccessSuits, Agrees, Block, Forms, HasKind, HeldSuits, IsExtension, IsGuard, IsNoted, IsScope, Started, TermSuits, operand_kind, NamedSuits}
 use Rattle.dh_commands.specs.declared.assignments.Change.{Change}
 use Rattle.dh_commands.specs.declared.assignments.Values.{Values}
 use Rattle.dh_commands.specs.declared.buildings.Building.{Building}
@@ -68,6 +67,11 @@ pub record FormsAtPath (scene : Scene) (lane : Lane) (old new : Building) (Where
 -- a value of its kind for the register of a variable at a path
 abbrev pub FitsRegister : Block → Scene → Lane → (entity : ℕ) → Type 0
 FitsRegister x scene lane entity = (held_at scene.held.now entity).kind ≡ kind_at x.plan.registers (register_at (held_at scene.held.now entity) lane)
+
+-- values of offsets for those of variables that keep them, whose entities follow one another
+abbrev pub KeptFits : Block → Scene → Lane → (first : ℕ) → (offsets : List Term) → Type 0
+KeptFits x scene lane first [] = Unit {0}
+KeptFits x scene lane first (t ∷ ts) = (HeldSuits t (held_at scene.held.now first).kind × FitsRegister x scene lane first) × KeptFits x scene lane (suc first) ts
 
 -- an assignment, and a variable that is set to 0 or false
 abbrev pub AssignmentsForm : Type 0
@@ -230,7 +234,7 @@ aim_accesses form = 0
 
 -- what names the element that is stored is there, and of integer kinds
 abbrev pub AimingSuits : Block → Scene → Lane → (n : ℕ) → plain.TermForm → Type 0
-AimingSuits x scene lane n (plain.accessed r ts) = (TermsSuit x scene lane n ts × AreNumbers ts) × (count_of ts ≡ length (dims_at x.plan.table (memory_of (known_in scene) r)))
+AimingSuits x scene lane n (plain.accessed r ts) = NamedSuits x scene lane n r ts
 AimingSuits x scene lane n (plain.in_bank r bank at row) = TermSuits x scene lane n row × IsInteger (kind_written row)
 AimingSuits x scene lane n form = Unit {0}
 

@@ -1,5 +1,5 @@
--- Accesses with operations are laid: what was put down for them names their faults, and only paths that lead have guards,
--- with places counted by leaders. It holds whatever the step, and all that is put down for commands and tests keeps it.
+-- Accesses with operations are laid: what was put down for them names their faults, and only paths that lead have guards.
+-- It holds whatever the step, and all that is put down for commands and tests keeps it.
 use Rattle.std.specs.Prelude.{◌≡◌, ℕ, suc, ◌+◌, ◌≤◌, ◌^◌, List, [], ◌∷◌, length, map, slice_get, Option, Some, None}
 use Rattle.dh_base.specs.declared.outcomes.FaultKind.{FaultKind}
 use Rattle.dh_base.specs.declared.outcomes.FaultKind.TheVariants.{OutOfRange}
@@ -13,11 +13,10 @@ use Rattle.dh_expressions.specs.declared.drafts.Draft.{Draft}
 use Rattle.dh_expressions.specs.declared.scenes.Around.{Around}
 use Rattle.dh_expressions.specs.declared.scenes.Lane.{Lane}
 use Rattle.dh_expressions.specs.declared.scenes.Scene.{Scene}
-use Rattle.dh_expressions.specs.Copying.{AreNone, leaders_at}
+use Rattle.dh_expressions.specs.Copying.{AreNone}
 use Rattle.dh_expressions.specs.Drafted.{Extends}
 use Rattle.dh_expressions.specs.MadeTerms.{MadeTerm}
 use Rattle.dh_expressions.specs.Noted.{copy_or_alone, touched_in}
-use Rattle.dh_expressions.specs.Numbers.{narrowed}
 use Rattle.dh_expressions.specs.Standings.{Standing}
 use Rattle.dh_commands.specs.declared.buildings.Building.{Building}
 use Rattle.dh_commands.specs.MadeCommands.{MadeCommand, MadeGroups, MadeTests}
@@ -31,23 +30,22 @@ abbrev pub place_named : Option (FaultKind × Place) → Place
 place_named None = record { line = 0; column = 0 }
 place_named (Some f) = f.1
 
--- by the copies that it has; a path is done where that is which leads it
+-- by the copies that it has, whatever banks they can reach; a path is done where that is which leads it
 abbrev pub standing_of : List (FaultKind × Place) → Touched → Standing
 standing_of named t = record {
   place = place_named (slice_get named t.fault);
   leader = λ path. (copy_in t path).leader;
   bank = λ path. (copy_in t path).bank;
+  places = λ path. (copy_in t path).place;
+  reaches = λ bank place. [];
   guards = map (λ (c : AccessAt). (copy_in t c.leader).guard) t.copies;
 }
 
--- What holds of an access with operations whatever the step: its fault is named, only leaders have guards, and places
--- are counted by leaders.
+-- What holds of an access with operations whatever the step: its fault is named, and only leaders have guards.
 pub record IsLaid (named : List (FaultKind × Place)) (t : Touched) : Type 0 where
   pub place : Place
   pub fault : slice_get named t.fault ≡ Some (OutOfRange, place)
   pub alone : (k : ℕ) (c : AccessAt) → slice_get t.copies k ≡ Some c → (c.leader ≡ k → ⊥) → c.guard ≡ None
-  pub places : (k : ℕ) (c : AccessAt) → slice_get t.copies k ≡ Some c
-      → c.place ≡ narrowed (leaders_at (λ path. (copy_in t path).leader) (λ path. (copy_in t path).bank) c.bank k)
 
 abbrev pub AreLaid : List (FaultKind × Place) → Accesses → Type 0
 AreLaid named a = (number : ℕ) (t : Touched) → touched_in a number ≡ Some t → IsLaid named t

@@ -7,16 +7,20 @@ use Rattle.dh_value.specs.declared.operators.Op.{Op}
 use Rattle.dh_value.specs.Words.{IsKind}
 use Rattle.dh_tree.specs.Indices.{form_of}
 use Rattle.dh_tree.specs.PlainTrees.{Term, Action, action, ActionForm, lets, lets_memory, views, assigns, stores, reduces, calls, blocks, decides, repeats, counts, MaybeAction, no_action, one_action, Actions, no_actions, action_then, Groups, no_groups, group_then}
-use Rattle.dh_meaning.specs.AccessNumbers.{term_accesses}
-use Rattle.dh_meaning.specs.CoreOf.{entity_number}
+use Rattle.dh_tree.specs.Seen.{terms}
+use Rattle.dh_tree.specs.ViewOffsets.{offsets_of}
+use Rattle.dh_meaning.specs.AccessNumbers.{plan_accesses, term_accesses}
+use Rattle.dh_meaning.specs.CoreOf.{entity_number, way_of}
 use Rattle.dh_meaning.specs.Phases.{Located}
+use Rattle.dh_meaning.specs.Ways.{Hidden, hidden_in}
 use Rattle.dh_code.specs.Slots.{held_at}
 use Rattle.dh_expressions.specs.declared.drafts.Draft.{Draft}
 use Rattle.dh_expressions.specs.declared.scenes.Around.{Around}
 use Rattle.dh_expressions.specs.declared.scenes.Scene.{Scene}
 use Rattle.dh_expressions.specs.Drafted.{Extends}
+use Rattle.dh_expressions.specs.Evaluated.{known_in}
 use Rattle.dh_expressions.specs.Shown.{kind_written, register_at}
-use Rattle.dh_formed.specs.Formed.{Agrees, Block, HeldSuits, IsNoted, Started, TermSuits}
+use Rattle.dh_formed.specs.Formed.{Agrees, AreNumbers, Block, HeldSuits, IsNoted, Started, TermSuits, TermsSuit}
 use Rattle.dh_commands.specs.declared.assignments.Values.{Values}
 use Rattle.dh_commands.specs.declared.buildings.Building.{Building}
 use Rattle.dh_commands.specs.declared.choices.Left.{Left}
@@ -24,7 +28,7 @@ use Rattle.dh_commands.specs.LanesRun.{lane_of, paths_counted}
 use Rattle.dh_commands.specs.MadeCommands.{MadeActions, MadeCommand, MadeGroups, MadeActionForm, MadeOther}
 use Rattle.dh_commands.specs.Undone.{AreReady, Logs}
 use Rattle.dh_laid.specs.BlockSites.{MadeEach}
-use Rattle.dh_laid.specs.Laid.{AimingSuits, AreHeld, FitsRegister, FormsThere, ReducerSuits, StandsRound, StoringSuits, aim_accesses}
+use Rattle.dh_laid.specs.Laid.{AimingSuits, AreHeld, FitsRegister, FormsThere, KeptFits, ReducerSuits, StandsRound, StoringSuits, aim_accesses}
 
 -- Accesses are few.
 
@@ -48,7 +52,7 @@ module _ (scene : Scene) where
         × (AreFew chosen m.chosen.arm m.chosen.begin m.chosen.inside m.own m.behind m.chosen.command × AreFewOther other around m.tests m.after_chosen m.after_other m.behind next m.other_left m.other)
     AreFewOf (blocks body) around old new first next m = AreFewGroups body around old new first next m
     AreFewOf (lets_memory name shape shape_places value) around old new first next m = Unit {0}
-    AreFewOf (views name parent form) around old new first next m = Unit {0}
+    AreFewOf (views name parent form) around old new first next m = first + plan_accesses form < 2 ^ 32
     AreFewOf (calls function arguments) around old new first next m = Unit {0}
     AreFewOf (repeats test body) around old new first next m = Unit {0}
     AreFewOf (counts iterator declared low high factor body combine combine_place) around old new first next m = Unit {0}
@@ -87,6 +91,12 @@ module _ (x : Block) (scene : Scene) (around : Around) where
       → TermSuits x scene (lane_of around n) first t
       × (AimingSuits x scene (lane_of around n) (first + term_accesses t) (form_of target) × StoringSuits x scene (lane_of around n) (first + term_accesses t) target t (form_of target))
 
+  -- offsets of a view, where variables keep them
+  abbrev pub KeepingSuits : (first : ℕ) → List Hidden → (offsets : List Term) → Type 0
+  KeepingSuits first [] offsets = Unit {0}
+  KeepingSuits first (h ∷ hs) offsets =
+      (n : ℕ) → n < paths_counted around → (TermsSuit x scene (lane_of around n) first (terms offsets) × AreNumbers (terms offsets)) × KeptFits x scene (lane_of around n) h.entity offsets
+
   abbrev pub TestSuits : (first : ℕ) → Term → Type 0
   TestSuits first t = (kind_written t ≡ Bool) × ((n : ℕ) → n < paths_counted around → TermSuits x scene (lane_of around n) first t)
 
@@ -107,7 +117,7 @@ module _ (x : Block) (scene : Scene) where
         × (CommandSuits chosen m.chosen.arm m.chosen.begin m.chosen.inside m.own m.behind m.chosen.command × OtherSuits other around m.tests m.after_chosen m.after_other m.behind next m.other_left m.other)
     ActionSuits (blocks body) around old new first next m = GroupsSuit body around old new first next m
     ActionSuits (lets_memory name shape shape_places value) around old new first next m = Unit {0}
-    ActionSuits (views name parent form) around old new first next m = Unit {0}
+    ActionSuits (views name parent form) around old new first next m = KeepingSuits x scene around first (hidden_in (way_of (known_in scene) name)) (offsets_of form)
     ActionSuits (calls function arguments) around old new first next m = Unit {0}
     ActionSuits (repeats test body) around old new first next m = Unit {0}
     ActionSuits (counts iterator declared low high factor body combine combine_place) around old new first next m = Unit {0}

@@ -15,10 +15,11 @@ use Rattle.dh_expressions.specs.declared.accesses.Accesses.{Accesses}
 use Rattle.dh_expressions.specs.declared.drafts.Draft.{Draft}
 use Rattle.dh_expressions.specs.declared.scenes.Around.{Around}
 use Rattle.dh_expressions.specs.declared.scenes.Scene.{Scene}
-use Rattle.dh_expressions.specs.Copying.{AreNone, leaders_at}
+use Rattle.dh_expressions.specs.Copying.{AreNone}
 use Rattle.dh_expressions.specs.Levels.{leader_number}
 use Rattle.dh_expressions.specs.Noted.{touched_in}
 use Rattle.dh_expressions.specs.Numbers.{narrowed}
+use Rattle.dh_expressions.specs.Standings.{banks_at}
 use Rattle.dh_formed.specs.Counted.{use_shared}
 use Rattle.dh_formed.specs.Formed.{Site}
 use Rattle.dh_commands.specs.declared.buildings.Building.{Building}
@@ -38,8 +39,8 @@ pub record AddsUses (old new : Draft) (uses : (access : ℕ) → ℕ) : Type 0 w
   pub adds : new.operations.items ≡ old.operations.items ++ more
   pub uses_are : (access : ℕ) → operations_using access more ≡ uses access
 
--- A read or a write of an access that has a site in the block: it is done for a path that leads, on the bank of that
--- path behind the leaders before it, and the access shares no earlier one.
+-- A read or a write of an access that has a site in the block: it is done for a path that leads, on the banks of that
+-- path, and the access shares no earlier one.
 pub record IsLeadersUse (scene : Scene) (sites : ℕ → Option Site) (r : Reach) : Type 0 where
   pub site : Site
   pub there : sites r.access ≡ Some site
@@ -47,7 +48,7 @@ pub record IsLeadersUse (scene : Scene) (sites : ℕ → Option Site) (r : Reach
   pub path : ℕ
   pub within : path < length site.standing.guards
   pub leads : site.standing.leader path ≡ path
-  pub banks_are : r.banks ≡ (site.standing.bank path, narrowed (leaders_at site.standing.leader site.standing.bank (site.standing.bank path) path)) ∷ []
+  pub banks_are : r.banks ≡ banks_at site.standing path
   pub alone : (earlier : ℕ) → slice_get scene.shares.now r.access ≡ Some (Some earlier) → ⊥
 
 -- so is each of these that reads or writes

@@ -21,7 +21,7 @@ use Rattle.dh_meaning.specs.Core.{CoreTerm, variable, CoreTerms, no_terms, term_
 use Rattle.dh_meaning.specs.CoreOf.{Known, core_action, core_action_form, core_groups, core_part, core_term, core_terms, depth_of, entity_number, kept_by, kind_of, operation_of, store_to, way_of}
 use Rattle.dh_meaning.specs.Ways.{Hidden, hidden_in}
 use Rattle.dh_meaning.specs.Levels.{Levels, Leveled, any_assigns, arms_joined, assigns_to, choice_levels, command_leveled, commands_leveled, greatest, term_leveled, with_value, with_variables}
-use Rattle.dh_ways.specs.declared.ways.Led.{Led}
+use Rattle.dh_lengths.specs.declared.leads.Leads.{Leads}
 use Rattle.dh_lengths.specs.LedBy.{IsLedBy}
 use Rattle.dh_events.specs.Tables.{numbered, with_number}
 use Rattle.dh_events.proofs.Turns.{at_item}
@@ -141,7 +141,7 @@ gives_assign old mid new outer depth level n entity v g a =
       marks = λ x. ap (λ b. b || false) (number_swap e x);
     }
 
-pub gives_reduce : {ways : List Led} (old mid new : Held) (outer now first level : ℕ) (r : Ref) (value : Expr) → now ≡ variable_in old.variables.items r.entity → level ≡ max now first → LevelsTerm ways old mid outer value first → AssignsLevel mid new r.entity level → LevelsReduce ways old new outer r value
+pub gives_reduce : {ways : Leads} (old mid new : Held) (outer now first level : ℕ) (r : Ref) (value : Expr) → now ≡ variable_in old.variables.items r.entity → level ≡ max now first → LevelsTerm ways old mid outer value first → AssignsLevel mid new r.entity level → LevelsReduce ways old new outer r value
 gives_reduce old mid new outer now first level r value held most one a known u s low o =
     let l = levels_seen old in
     let v = core_term known (count old) (term_seen value) in
@@ -229,17 +229,17 @@ module _ (known : Known) where
 
 -- Loops: what the rest comes to from here, all come to.
 
-pub record PartSo (ways : List Led) (known : Known) (start now : Held) (outer : ℕ) (rest all : List Command) : Type 0 where
+pub record PartSo (ways : Leads) (known : Known) (start now : Held) (outer : ℕ) (rest all : List Command) : Type 0 where
   pub led : IsLedBy ways known
   pub sound : IsSound now
   pub within : outer ≤ count now
   pub so : (new : Held) → GivesCommands now new outer (core_part known (count now) (actions (map action_seen rest)) no_commands) (part_accesses (actions (map action_seen rest)))
       → GivesCommands start new outer (core_part known (count start) (actions (map action_seen all)) no_commands) (part_accesses (actions (map action_seen all)))
 
-pub part_begin : {ways : List Led} (known : Known) (h : Held) (outer : ℕ) (all : List Command) → IsLedBy ways known → IsSound h → outer ≤ count h → PartSo ways known h h outer all all
+pub part_begin : {ways : Leads} (known : Known) (h : Held) (outer : ℕ) (all : List Command) → IsLedBy ways known → IsSound h → outer ≤ count h → PartSo ways known h h outer all all
 part_begin known h outer all u s low = record { led = u; sound = s; within = low; so = λ new g. g }
 
-pub part_turn : {ways : List Led} (known : Known) (start now next : Held) (outer : ℕ) (all : List Command) (i : ℕ) (c : Command) → i < length all → c ≡ get_or all i c → LevelsCommand ways now next outer c → PartSo ways known start now outer (drop i all) all → PartSo ways known start next outer (drop (i + 1) all) all
+pub part_turn : {ways : Leads} (known : Known) (start now next : Held) (outer : ℕ) (all : List Command) (i : ℕ) (c : Command) → i < length all → c ≡ get_or all i c → LevelsCommand ways now next outer c → PartSo ways known start now outer (drop i all) all → PartSo ways known start next outer (drop (i + 1) all) all
 part_turn known start now next outer all i c within is one h =
     let g = one known h.led h.sound h.within in
     let a = action_seen c in
@@ -256,7 +256,7 @@ part_turn known start now next outer all i c within is one h =
           (subst (λ (n : ℕ). GivesCommands next new outer (core_part known n rest no_commands) (part_accesses rest)) g.counted behind)));
     }
 
-pub part_end : {ways : List Led} (known : Known) (start now : Held) (outer : ℕ) (rest all : List Command) → rest ≡ [] → PartSo ways known start now outer rest all
+pub part_end : {ways : Leads} (known : Known) (start now : Held) (outer : ℕ) (rest all : List Command) → rest ≡ [] → PartSo ways known start now outer rest all
     → GivesCommands start now outer (core_part known (count start) (actions (map action_seen all)) no_commands) (part_accesses (actions (map action_seen all)))
 part_end known start now outer rest all none h =
     h.so now (subst (λ (l : List Command). GivesCommands now now outer (core_part known (count now) (actions (map action_seen l)) no_commands) (part_accesses (actions (map action_seen l)))) (sym none) (gives_nothing now outer h.sound))
@@ -296,7 +296,7 @@ module _ (old new : Held) (outer : ℕ) (c : Command) where
   abbrev FormGives : Known → ActionForm → Type 0
   FormGives known f = GivesCommands old new outer (core_action_form known (count old) f no_commands) (own_accesses f + inner_accesses f)
 
-  pub by_form : {ways : List Led} (f : ActionForm) → action_form_seen c.form ≡ f → ((known : Known) → IsLedBy ways known → IsSound old → outer ≤ count old → FormGives known f) → LevelsCommand ways old new outer c
+  pub by_form : {ways : Leads} (f : ActionForm) → action_form_seen c.form ≡ f → ((known : Known) → IsLedBy ways known → IsSound old → outer ≤ count old → FormGives known f) → LevelsCommand ways old new outer c
   by_form f is h known u s low = subst (λ (x : ActionForm). FormGives known x) (sym is) (h known u s low)
 
 pub with_count : (old new : Held) (outer m n : ℕ) (cs : CoreCommands) → m ≡ n → GivesCommands old new outer cs m → GivesCommands old new outer cs n

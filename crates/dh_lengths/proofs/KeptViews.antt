@@ -10,7 +10,7 @@ use Rattle.dh_meaning.specs.Core.{CoreTerms, no_terms, term_and, keep, CoreComma
 use Rattle.dh_meaning.specs.CoreOf.{Known, core_term, core_terms, kept_by}
 use Rattle.dh_meaning.specs.Levels.{Levels, any_assigns, commands_leveled, kept_leveled, term_leveled, with_value, with_variables}
 use Rattle.dh_meaning.specs.Ways.{Hidden}
-use Rattle.dh_ways.specs.declared.ways.Led.{Led}
+use Rattle.dh_lengths.specs.declared.leads.Leads.{Leads}
 use Rattle.dh_events.specs.Tables.{numbered}
 use Rattle.dh_events.proofs.Turns.{at_place}
 use Rattle.dh_lengths.specs.declared.held.Held.{Held}
@@ -157,7 +157,7 @@ view_skipped old new outer n (h ∷ hs) ts none g = cc
 
 -- The offsets, one by one.
 
-pub record EachSo (ways : List Led) (known : Known) (start now : Held) (outer : ℕ) (levels : List ℕ) (rest all : List Term) : Type 0 where
+pub record EachSo (ways : Leads) (known : Known) (start now : Held) (outer : ℕ) (levels : List ℕ) (rest all : List Term) : Type 0 where
   pub led : IsLedBy ways known
   pub sound : IsSound now
   pub within : outer ≤ count now
@@ -165,7 +165,7 @@ pub record EachSo (ways : List Led) (known : Known) (start now : Held) (outer : 
       → GivesEach now new (each_level (told now.shares.now) outer (core_terms known (count now) (terms rest)) (levels_seen now)) (levels_behind (told now.shares.now) outer (core_terms known (count now) (terms rest)) (levels_seen now)) more (terms_accesses (terms rest))
       → GivesEach start new (each_level (told start.shares.now) outer (core_terms known (count start) (terms all)) (levels_seen start)) (levels_behind (told start.shares.now) outer (core_terms known (count start) (terms all)) (levels_seen start)) (levels ++ more) (terms_accesses (terms all))
 
-pub each_begin : {ways : List Led} (known : Known) (h : Held) (outer : ℕ) (levels : List ℕ) (all : List Term) → levels ≡ [] → IsLedBy ways known → IsSound h → outer ≤ count h → EachSo ways known h h outer levels all all
+pub each_begin : {ways : Leads} (known : Known) (h : Held) (outer : ℕ) (levels : List ℕ) (all : List Term) → levels ≡ [] → IsLedBy ways known → IsSound h → outer ≤ count h → EachSo ways known h h outer levels all all
 each_begin known h outer levels all none u s low = record {
   led = u;
   sound = s;
@@ -174,7 +174,7 @@ each_begin known h outer levels all none u s low = record {
       subst (λ (ls : List ℕ). GivesEach h new (each_level (told h.shares.now) outer (core_terms known (count h) (terms all)) (levels_seen h)) (levels_behind (told h.shares.now) outer (core_terms known (count h) (terms all)) (levels_seen h)) (ls ++ more) (terms_accesses (terms all))) (sym none) g;
 }
 
-pub each_turn : {ways : List Led} (known : Known) (start now next : Held) (outer level : ℕ) (levels next_levels : List ℕ) (t : Term) (rest left all : List Term) → left ≡ t ∷ rest → next_levels ≡ levels ++ level ∷ []
+pub each_turn : {ways : Leads} (known : Known) (start now next : Held) (outer level : ℕ) (levels next_levels : List ℕ) (t : Term) (rest left all : List Term) → left ≡ t ∷ rest → next_levels ≡ levels ++ level ∷ []
     → (IsLedBy ways known → IsSound now → outer ≤ count now → GivesLevel now next (term_leveled (told now.shares.now) outer (core_term known (count now) t) (levels_seen now)) level (term_accesses t)) → EachSo ways known start now outer levels left all
     → EachSo ways known start next outer next_levels rest all
 each_turn known start now next outer level levels next_levels t rest left all cut longer one h =
@@ -205,7 +205,7 @@ each_turn known start now next outer level levels next_levels t rest left all cu
           })));
     }
 
-pub each_end : {ways : List Led} (known : Known) (start now : Held) (outer : ℕ) (levels : List ℕ) (rest all : List Term) → rest ≡ [] → EachSo ways known start now outer levels rest all
+pub each_end : {ways : Leads} (known : Known) (start now : Held) (outer : ℕ) (levels : List ℕ) (rest all : List Term) → rest ≡ [] → EachSo ways known start now outer levels rest all
     → GivesEach start now (each_level (told start.shares.now) outer (core_terms known (count start) (terms all)) (levels_seen start)) (levels_behind (told start.shares.now) outer (core_terms known (count start) (terms all)) (levels_seen start)) levels (terms_accesses (terms all))
 each_end known start now outer levels rest all none h =
     subst (λ (ls : List ℕ). GivesEach start now (each_level (told start.shares.now) outer (core_terms known (count start) (terms all)) (levels_seen start)) (levels_behind (told start.shares.now) outer (core_terms known (count start) (terms all)) (levels_seen start)) ls (terms_accesses (terms all))) (append-nil levels)

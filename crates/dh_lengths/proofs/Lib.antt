@@ -9,4 +9,7 @@ pub mod CommandLevels
 pub mod PhaseLines
 pub mod StraightCores
 pub mod PhaseWalking
+pub mod PhasesTold
 pub mod KeptViews
+pub mod NamesLed
+pub mod WaysLeveled

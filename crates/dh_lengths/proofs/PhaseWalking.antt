@@ -25,7 +25,7 @@ use Rattle.dh_events.proofs.Turns.{at_item}
 use Rattle.dh_ports.proofs.PhaseShapes.{IsFull, Shaped, no_phase, one_phase, more_phases, shape, size}
 use Rattle.dh_ports.proofs.PhaseSizes.{full, other_full, stage_size}
 use Rattle.dh_ports.proofs.StagesKnown as stages
-use Rattle.dh_ways.specs.declared.ways.Led.{Led}
+use Rattle.dh_lengths.specs.declared.leads.Leads.{Leads}
 use Rattle.dh_lengths.specs.LedBy.{IsLedBy}
 use Rattle.dh_lengths.specs.declared.held.Held.{Held}
 use Rattle.dh_lengths.specs.declared.lengths.Walk.{Walk}
@@ -140,7 +140,7 @@ closes_still old new open_is held lengths still going known base line s = by (la
 abbrev pub put_held : Walk → Held → Walk
 put_held w h = record { held = h; pending = w.pending; going = w.going; lengths = w.lengths }
 
-pub tested_so : {ways : List Led} (old a new : Walk) (h : Held) (test : Expr) (level : ℕ) → Closes old a → LevelsTerm ways a.held h 0 test level → Tells (put_held a h) new → WalksTest ways old new test
+pub tested_so : {ways : Leads} (old a new : Walk) (h : Held) (test : Expr) (level : ℕ) → Closes old a → LevelsTerm ways a.held h 0 test level → Tells (put_held a h) new → WalksTest ways old new test
 tested_so old a new h test level closes levels t known u base line s =
     let k = closes known base line s in
     let g = levels known u k.stands.sound (none_low (count a.held)) in
@@ -270,7 +270,7 @@ few_one : (n : ℕ) → n ≡ 1 → n ≤ 1
 few_one n e = omega (arith, e)
 
 -- a straight command goes on with the open phase, or begins one
-pub walked_straight : {ways : List Led} (old a new : Walk) (c : Command) → OpensBy old.going old a → LevelsCommand ways a.held new.held 0 c → new.lengths.items ≡ a.lengths.items → new.pending ≡ true → new.going ≡ true → WalksStraight ways old new c
+pub walked_straight : {ways : Leads} (old a new : Walk) (c : Command) → OpensBy old.going old a → LevelsCommand ways a.held new.held 0 c → new.lengths.items ≡ a.lengths.items → new.pending ≡ true → new.going ≡ true → WalksStraight ways old new c
 walked_straight old a new c opens levels lengths open_is going_is known u r base line stage s = by old.going refl
   where
     n : ℕ
@@ -313,7 +313,7 @@ walked_straight old a new c opens levels lengths open_is going_is known u r base
 
 -- A command without phases.
 
-pub walked_none : {ways : List Led} (stages : List ℕ) (old new : Walk) (c : Command) → stage_of (action_seen c) ≡ 0 → Skips old.held new.held (accesses_of (action_seen c)) → new.lengths.items ≡ old.lengths.items → new.pending ≡ old.pending → new.going ≡ old.going → WalksCommand ways stages old new c
+pub walked_none : {ways : Leads} (stages : List ℕ) (old new : Walk) (c : Command) → stage_of (action_seen c) ≡ 0 → Skips old.held new.held (accesses_of (action_seen c)) → new.lengths.items ≡ old.lengths.items → new.pending ≡ old.pending → new.going ≡ old.going → WalksCommand ways stages old new c
 walked_none stages old new c stage skips lengths open_is going_is known u r base line tells s =
     let g = skips_gives old.held new.held (accesses_of (action_seen c)) s.sound skips in
     let none = none_phases r (count old.held) (action_seen c) stage in
@@ -384,7 +384,7 @@ sum_later : (o a b m n : ℕ) → a ≡ o + m → b ≡ a + n → b ≡ o + (0 +
 sum_later o a b m n e f = omega (arith, e, f)
 
 -- a command by what is seen of its form, where it has more phases than one straight one
-module _ (ways : List Led) (stages : List ℕ) (old new : Walk) (c : Command) where
+module _ (ways : Leads) (stages : List ℕ) (old new : Walk) (c : Command) where
   abbrev FormWalked : ActionForm → Type 0
   FormWalked f =
       (known : Known) → IsLedBy ways known → (r : Around) (base : List ℕ) (line : List Phase) → TellInside (numbered stages) f → are_straight (form_phases r (count old.held) c.id c.place f) ≡ false → Stands known base old line
@@ -397,7 +397,7 @@ module _ (ways : List Led) (stages : List ℕ) (old new : Walk) (c : Command) wh
       (walked known u r base line (subst (λ (x : ActionForm). TellInside (numbered stages) x) is tells.1) (subst (λ (x : ActionForm). are_straight (form_phases r (count old.held) c.id c.place x) ≡ false) is more) s)
 
 -- an `if`
-pub walked_choice : {ways : List Led} (stages : List ℕ) (old w1 w2 w3 w4 new : Walk) (c x : Command) (test : Expr) (other : MaybeAction) → WalksTest ways old w1 test → WalksCommand ways stages w1 w2 x → Closes w2 w3
+pub walked_choice : {ways : Leads} (stages : List ℕ) (old w1 w2 w3 w4 new : Walk) (c x : Command) (test : Expr) (other : MaybeAction) → WalksTest ways old w1 test → WalksCommand ways stages w1 w2 x → Closes w2 w3
     → ((known : Known) → IsLedBy ways known → (r : Around) (base : List ℕ) (line : List Phase) → TellOther (numbered stages) other → Stands known base w3 line → IsWalked known base line w3 w4 (other_phases r (count w3.held) other) (other_accesses other)) → Closes w4 new
     → FormWalked ways stages old new c (plain.decides (term_seen test) (action_seen x) other)
 walked_choice stages old w1 w2 w3 w4 new c x test other one two three four five known u r base line tells more s =
@@ -435,7 +435,7 @@ walked_choice stages old w1 w2 w3 w4 new c x test other one two three four five 
     (p5.shares ∙ same4)
 
 -- a `while`
-pub walked_repeat : {ways : List Led} (stages : List ℕ) (old w1 w2 new : Walk) (c x : Command) (test : Expr) → WalksTest ways old w1 test → WalksCommand ways stages w1 w2 x → Closes w2 new → FormWalked ways stages old new c (plain.repeats (term_seen test) (action_seen x))
+pub walked_repeat : {ways : Leads} (stages : List ℕ) (old w1 w2 new : Walk) (c x : Command) (test : Expr) → WalksTest ways old w1 test → WalksCommand ways stages w1 w2 x → Closes w2 new → FormWalked ways stages old new c (plain.repeats (term_seen test) (action_seen x))
 walked_repeat stages old w1 w2 new c x test one two three known u r base line tells more s =
     let k = term_accesses (term_seen test) in
     let p1 = one known u base line s in
@@ -458,7 +458,7 @@ abbrev pub put_going : Walk → Walk
 put_going w = record { held = w.held; pending = w.pending; going = true; lengths = w.lengths }
 
 -- a `for`
-pub walked_turns : {ways : List Led} (stages : List ℕ) (old w1 w2 w3 new : Walk) (c x : Command) (iterator : _) (declared : _) (low high : _) (factor : _) (combine : MaybeAction) (combine_place : Place) → Closes old w1 → WalksCommand ways stages w1 w2 x
+pub walked_turns : {ways : Leads} (stages : List ℕ) (old w1 w2 w3 new : Walk) (c x : Command) (iterator : _) (declared : _) (low high : _) (factor : _) (combine : MaybeAction) (combine_place : Place) → Closes old w1 → WalksCommand ways stages w1 w2 x
     → ((known : Known) → IsLedBy ways known → (r : Around) (base : List ℕ) (line : List Phase) → TellOther (numbered stages) combine → Stands known base (put_going w2) line → IsWalked known base line (put_going w2) w3 (other_phases r (count w2.held) combine) (other_accesses combine)) → Closes w3 new
     → FormWalked ways stages old new c (plain.counts iterator declared low high factor (action_seen x) combine combine_place)
 walked_turns stages old w1 w2 w3 new c x iterator declared low high factor combine combine_place one two three four known u r base line tells more s =
@@ -504,7 +504,7 @@ part_begin stages known r base line w all tells s = record { standing = line; st
 sum_next : (a b m n all : ℕ) → b ≡ a + m → a + (m + n) ≡ all → b + n ≡ all
 sum_next a b m n all e f = omega (arith, e, f)
 
-pub part_turn : {ways : List Led} (stages : List ℕ) (known : Known) → IsLedBy ways known → (r : Around) (base : List ℕ) (line : List Phase) (start now next : Walk) (all : List Command) (i : ℕ) (c : Command) → i < length all → c ≡ get_or all i c → WalksCommand ways stages now next c
+pub part_turn : {ways : Leads} (stages : List ℕ) (known : Known) → IsLedBy ways known → (r : Around) (base : List ℕ) (line : List Phase) (start now next : Walk) (all : List Command) (i : ℕ) (c : Command) → i < length all → c ≡ get_or all i c → WalksCommand ways stages now next c
     → PartWalked stages known r base line start now (drop i all) all → PartWalked stages known r base line start next (drop (i + 1) all) all
 part_turn stages known u r base line start now next all i c within is walks h =
     let cut = at_item all i c within is in
@@ -575,7 +575,7 @@ groups_turn stages known r base line start now next all i part cs rest within is
       tells = tells.1;
     }
 
-pub walked_block : {ways : List Led} (stages : List ℕ) (old now : Walk) (c : Command) (rest all : List (Vec Command Global)) → rest ≡ []
+pub walked_block : {ways : Leads} (stages : List ℕ) (old now : Walk) (c : Command) (rest all : List (Vec Command Global)) → rest ≡ []
     → ((known : Known) → IsLedBy ways known → (r : Around) (base : List ℕ) (line : List Phase) → TellGroups (numbered stages) (groups (map part_seen all)) → Stands known base old line → GroupsWalked stages known r base line old now rest all)
     → FormWalked ways stages old (put_released now) c (plain.blocks (groups (map part_seen all)))
 walked_block stages old now c rest all none walks known u r base line tells more s =
@@ -658,7 +658,7 @@ begun_stands known w shares b =
       small = subst (λ (l : Levels). AreSmall (count w.held) l) (sym seen) (record { variables = λ e. none_low (count w.held); reads = λ k. none_low (count w.held); most = none_low (count w.held) });
     })
 
-pub all_told : {ways : List Led} (p : Program) (first : ℕ) (before stages_are : List ℕ) (shares : List (Option ℕ)) (w0 w1 w2 : Walk) (body : Command) → p.body ≡ action_seen body → IsNumbered first p.body → before ≡ [] → numbered stages_are ≡ stages_in (action_seen body) (numbered before)
+pub all_told : {ways : Leads} (p : Program) (first : ℕ) (before stages_are : List ℕ) (shares : List (Option ℕ)) (w0 w1 w2 : Walk) (body : Command) → p.body ≡ action_seen body → IsNumbered first p.body → before ≡ [] → numbered stages_are ≡ stages_in (action_seen body) (numbered before)
     → IsLedBy ways (known_of p) → TellsShares p shares → IsBegun w0 shares → WalksCommand ways stages_are w0 w1 body → Closes w1 w2 → w2.lengths.items ≡ lengths_of p
 all_told p first before stages_are shares w0 w1 w2 body same numbered_from none counted led tells b walks closes =
     let tells_all = stages_tell (numbered stages_are) (action_seen body) (stages.known first (action_seen body) (numbered before) (numbered stages_are) (subst (IsNumbered first) same numbered_from) (λ i w. ap (λ f. f i) counted)) in
@@ -674,10 +674,10 @@ all_told p first before stages_are shares w0 w1 w2 body same numbered_from none 
 
 -- Cases on how many phases a command has.
 
-pub where_none : {ways : List Led} (stages_are : List ℕ) (old new : Walk) (c : Command) (stage : ℕ) → stage ≡ numbered stages_are c.id → stage ≡ 0 → (stage_of (action_seen c) ≡ 0 → WalksCommand ways stages_are old new c) → WalksCommand ways stages_are old new c
+pub where_none : {ways : Leads} (stages_are : List ℕ) (old new : Walk) (c : Command) (stage : ℕ) → stage ≡ numbered stages_are c.id → stage ≡ 0 → (stage_of (action_seen c) ≡ 0 → WalksCommand ways stages_are old new c) → WalksCommand ways stages_are old new c
 where_none stages_are old new c stage is none f known u r base line tells s = f (sym tells.0 ∙ (sym is ∙ none)) known u r base line tells s
 
-pub where_one : {ways : List Led} (stages_are : List ℕ) (old new : Walk) (c : Command) (stage : ℕ) → stage ≡ numbered stages_are c.id → stage ≡ 1 → WalksStraight ways old new c → WalksCommand ways stages_are old new c
+pub where_one : {ways : Leads} (stages_are : List ℕ) (old new : Walk) (c : Command) (stage : ℕ) → stage ≡ numbered stages_are c.id → stage ≡ 1 → WalksStraight ways old new c → WalksCommand ways stages_are old new c
 where_one stages_are old new c stage is one f known u r base line tells s = f known u r base line (sym tells.0 ∙ (sym is ∙ one)) s
 
 -- a view has one at most
@@ -686,7 +686,7 @@ view_few true c = refl
 view_few false c = refl
 
 -- a form that never has more
-pub never_more : {ways : List Led} (stages_are : List ℕ) (w : Walk) (c : Command) (f : ActionForm) → ((r : Around) → are_straight (form_phases r (count w.held) c.id c.place f) ≡ true) → FormWalked ways stages_are w w c f
+pub never_more : {ways : Leads} (stages_are : List ℕ) (w : Walk) (c : Command) (f : ActionForm) → ((r : Around) → are_straight (form_phases r (count w.held) c.id c.place f) ≡ true) → FormWalked ways stages_are w w c f
 never_more stages_are w c f few known u r base line tells more s = absurd (untrue (sym (few r) ∙ more))
   where
     untrue : true ≡ false → ⊥

@@ -7,10 +7,9 @@ use Rattle.dh_meaning.specs.AccessNumbers.{maybe_accesses, term_accesses, terms_
 use Rattle.dh_meaning.specs.Core.{Reach, CoreTerm}
 use Rattle.dh_meaning.specs.CoreOf.{Known, core_term, core_terms, entity_number, first_value, store_to}
 use Rattle.dh_meaning.specs.Levels.{Levels, Leveled, level_ground, read_leveled, term_leveled, terms_leveled, command_leveled, with_variables, with_value}
-use Rattle.dh_lengths.specs.LedBy.{IsLedBy}
-use Rattle.dh_meaning.specs.Ways.{Hidden, hidden_in, way_in}
-use Rattle.dh_ways.specs.declared.ways.Led.{Led}
-use Rattle.dh_ways.specs.Seen.{led_seen}
+use Rattle.dh_lengths.specs.LedBy.{way_by, IsLedBy}
+use Rattle.dh_meaning.specs.Ways.{Hidden, hidden_in}
+use Rattle.dh_lengths.specs.declared.leads.Leads.{Leads}
 use Rattle.dh_events.specs.Tables.{numbered}
 use Rattle.dh_lengths.specs.declared.held.Held.{Held}
 use Rattle.dh_lengths.specs.declared.undoing.Mark.{Mark}
@@ -77,7 +76,7 @@ pub record GivesLevel (old new : Held) (i : Leveled) (level n : ℕ) : Type 0 wh
   pub keeps : KeepsVariables old new
 
 -- what is told where levels are small, of programs with these ways
-abbrev pub Leveling : (ways : List Led) → (old : Held) → (outer : ℕ) → (Known → Type 0) → Type 0
+abbrev pub Leveling : (ways : Leads) → (old : Held) → (outer : ℕ) → (Known → Type 0) → Type 0
 Leveling ways old outer P = (known : Known) → IsLedBy ways known → IsSound old → outer ≤ count old → P known
 
 -- the greatest level of the variables that keep the offsets on a way
@@ -86,8 +85,8 @@ hidden_level variables [] = 0
 hidden_level variables (h ∷ hs) = max (variables h.entity) (hidden_level variables hs)
 
 -- that of a name, with a level of its indices
-abbrev pub level_through : (ways : List Led) → (variables : ℕ → ℕ) → Option ℕ → (level : ℕ) → ℕ
-level_through ways variables entity level = max level (hidden_level variables (hidden_in (way_in (map led_seen ways) entity)))
+abbrev pub level_through : (ways : Leads) → (variables : ℕ → ℕ) → Option ℕ → (level : ℕ) → ℕ
+level_through ways variables entity level = max level (hidden_level variables (hidden_in (way_by ways entity)))
 
 abbrev pub leveled : ℕ → Levels → Leveled
 leveled level levels = record { level = level; levels = levels }
@@ -98,16 +97,16 @@ ReadsNext old new outer indices level =
     (r : Reach) → r.number ≡ count old → IsSound old → outer ≤ count old → indices ≤ count old
     → GivesLevel old new (read_leveled (told old.shares.now) outer r (leveled indices (levels_seen old))) level 1
 
-abbrev pub LevelsTerm : (ways : List Led) → (old new : Held) → (outer : ℕ) → Expr → (level : ℕ) → Type 0
+abbrev pub LevelsTerm : (ways : Leads) → (old new : Held) → (outer : ℕ) → Expr → (level : ℕ) → Type 0
 LevelsTerm ways old new outer e level =
     Leveling ways old outer (λ known. GivesLevel old new (term_leveled (told old.shares.now) outer (core_term known (count old) (term_seen e)) (levels_seen old)) level (term_accesses (term_seen e)))
 
-abbrev pub LevelsTerms : (ways : List Led) → (old new : Held) → (outer : ℕ) → List Expr → (level : ℕ) → Type 0
+abbrev pub LevelsTerms : (ways : Leads) → (old new : Held) → (outer : ℕ) → List Expr → (level : ℕ) → Type 0
 LevelsTerms ways old new outer es level =
     Leveling ways old outer (λ known. GivesLevel old new (terms_leveled (told old.shares.now) outer (core_terms known (count old) (terms (map term_seen es))) (levels_seen old)) level (terms_accesses (terms (map term_seen es))))
 
 -- what a `let` sets its variable to
-abbrev pub LevelsMaybe : (ways : List Led) → (old new : Held) → (outer : ℕ) → Option Expr → (level : ℕ) → Type 0
+abbrev pub LevelsMaybe : (ways : Leads) → (old new : Held) → (outer : ℕ) → Option Expr → (level : ℕ) → Type 0
 LevelsMaybe ways old new outer value level =
     Leveling ways old outer (λ known. (declared : _)
     → GivesLevel old new (term_leveled (told old.shares.now) outer (first_value known (count old) declared (option_map term_seen value)) (levels_seen old)) level (maybe_accesses (option_map term_seen value)))
@@ -120,7 +119,7 @@ pub record GivesLevels (old new : Held) (l : Levels) (n : ℕ) : Type 0 where
   pub keeps : KeepsVariables old new
 
 -- a store
-abbrev pub LevelsStore : (ways : List Led) → (old new : Held) → (outer : ℕ) → (target value : Expr) → Type 0
+abbrev pub LevelsStore : (ways : Leads) → (old new : Held) → (outer : ℕ) → (target value : Expr) → Type 0
 LevelsStore ways old new outer target value =
     Leveling ways old outer (λ known. GivesLevels old new (command_leveled (told old.shares.now) outer (store_to known (count old + term_accesses (term_seen value)) (term_seen target) (core_term known (count old) (term_seen value))) (levels_seen old)) (term_accesses (term_seen value) + term_accesses (term_seen target)))
 

@@ -10,15 +10,15 @@ use Rattle.dh_meaning.specs.AccessNumbers.{plan_accesses, terms_accesses}
 use Rattle.dh_meaning.specs.Core.{CoreTerms, no_terms, term_and, no_commands}
 use Rattle.dh_meaning.specs.CoreOf.{core_terms, kept_by, way_of}
 use Rattle.dh_meaning.specs.Levels.{Levels, term_leveled, with_value, with_variables}
-use Rattle.dh_meaning.specs.Ways.{Hidden, hidden_in, way_in}
-use Rattle.dh_ways.specs.declared.ways.Led.{Led}
-use Rattle.dh_ways.specs.Seen.{led_seen}
+use Rattle.dh_meaning.specs.Ways.{Hidden, hidden_in}
+use Rattle.dh_lengths.specs.declared.leads.Leads.{Leads}
 use Rattle.dh_events.specs.Tables.{numbered}
 use Rattle.dh_lengths.specs.declared.held.Held.{Held}
 use Rattle.dh_lengths.specs.declared.undoing.Mark.{Mark}
 use Rattle.dh_lengths.specs.SharedReads.{told}
 use Rattle.dh_lengths.specs.Undone.{has_mark, undone}
 use Rattle.dh_lengths.specs.HeldLevels.{count, levels_seen, IsSound, KeepsVariables, Leveling}
+use Rattle.dh_lengths.specs.LedBy.{way_by}
 use Rattle.dh_lengths.specs.LeveledCommands.{GivesCommands}
 
 abbrev pub each_level : (shared : ℕ → Option ℕ) → (outer : ℕ) → CoreTerms → Levels → List ℕ
@@ -43,7 +43,7 @@ pub record GivesEach (old new : Held) (each : List ℕ) (behind : Levels) (level
   pub counted : count new ≡ count old + n
   pub keeps : KeepsVariables old new
 
-abbrev pub LevelsEach : List Led → (old new : Held) → (outer : ℕ) → List Term → (levels : List ℕ) → Type 0
+abbrev pub LevelsEach : Leads → (old new : Held) → (outer : ℕ) → List Term → (levels : List ℕ) → Type 0
 LevelsEach ways old new outer ts levels =
     Leveling ways old outer (λ known.
     GivesEach old new (each_level (told old.shares.now) outer (core_terms known (count old) (terms ts)) (levels_seen old)) (levels_behind (told old.shares.now) outer (core_terms known (count old) (terms ts)) (levels_seen old)) levels (terms_accesses (terms ts)))
@@ -64,11 +64,11 @@ abbrev pub first_of : List Hidden → Option ℕ
 first_of [] = None
 first_of (h ∷ hs) = Some h.entity
 
-abbrev pub first_kept : List Led → Option ℕ → Option ℕ
-first_kept ways entity = first_of (hidden_in (way_in (map led_seen ways) entity))
+abbrev pub first_kept : Leads → Option ℕ → Option ℕ
+first_kept ways entity = first_of (hidden_in (way_by ways entity))
 
 -- a view's command
-abbrev pub LevelsView : List Led → (old new : Held) → (outer : ℕ) → Ref → ViewForm → Type 0
+abbrev pub LevelsView : Leads → (old new : Held) → (outer : ℕ) → Ref → ViewForm → Type 0
 LevelsView ways old new outer name form =
     Leveling ways old outer (λ known.
     GivesCommands old new outer (kept_by (hidden_in (way_of known name)) (core_terms known (count old) (terms (offsets_of (plan_seen form)))) no_commands) (plan_accesses (plan_seen form)))

@@ -11,7 +11,7 @@ use Rattle.dh_meaning.specs.Bindings.{kind_found}
 use Rattle.dh_meaning.specs.Core.{CoreCommands, no_commands, command_and}
 use Rattle.dh_meaning.specs.CoreOf.{Known, core_action, core_other, core_term, folded_into}
 use Rattle.dh_meaning.specs.Levels.{any_assigns, commands_leveled}
-use Rattle.dh_ways.specs.declared.ways.Led.{Led}
+use Rattle.dh_lengths.specs.declared.leads.Leads.{Leads}
 use Rattle.dh_events.specs.Tables.{numbered}
 use Rattle.dh_lengths.specs.declared.held.Held.{Held}
 use Rattle.dh_lengths.specs.declared.undoing.Mark.{Mark}
@@ -31,14 +31,14 @@ pub record GivesCommands (old new : Held) (outer : ℕ) (cs : CoreCommands) (n :
   pub undoes : undone changes (numbered new.variables.items) ≡ numbered old.variables.items
   pub marks : (e : ℕ) → has_mark e changes ≡ any_assigns e cs
 
-abbrev pub LevelsCommand : (ways : List Led) → (old new : Held) → (outer : ℕ) → Command → Type 0
+abbrev pub LevelsCommand : (ways : Leads) → (old new : Held) → (outer : ℕ) → Command → Type 0
 LevelsCommand ways old new outer c = Leveling ways old outer (λ known. GivesCommands old new outer (core_action known (count old) (action_seen c) no_commands) (accesses_of (action_seen c)))
 
-abbrev pub LevelsOther : (ways : List Led) → (old new : Held) → (outer : ℕ) → Option (Box Command Global) → Type 0
+abbrev pub LevelsOther : (ways : Leads) → (old new : Held) → (outer : ℕ) → Option (Box Command Global) → Type 0
 LevelsOther ways old new outer other =
     Leveling ways old outer (λ known. GivesCommands old new outer (core_other known (count old) (maybe_seen (option_map (λ b. action_seen b.value) other))) (other_accesses (maybe_seen (option_map (λ b. action_seen b.value) other))))
 
 -- a reducer, whatever its operator
-abbrev pub LevelsReduce : (ways : List Led) → (old new : Held) → (outer : ℕ) → Ref → Expr → Type 0
+abbrev pub LevelsReduce : (ways : Leads) → (old new : Held) → (outer : ℕ) → Ref → Expr → Type 0
 LevelsReduce ways old new outer target value =
     Leveling ways old outer (λ known. (op : Op) → GivesCommands old new outer (command_and (folded_into known target op (kind_found (term_seen value)) (core_term known (count old) (term_seen value))) no_commands) (term_accesses (term_seen value)))

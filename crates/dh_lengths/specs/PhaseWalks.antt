@@ -12,7 +12,7 @@ use Rattle.dh_meaning.specs.Effects.{Block, tests}
 use Rattle.dh_meaning.specs.Levels.{block_length, commands_leveled, level_ground}
 use Rattle.dh_meaning.specs.Phases.{Located, Phase, straight, turns, repeated, decided, of_list, one_straight, other_phases, phases}
 use Rattle.dh_meaning.specs.Sites.{Around}
-use Rattle.dh_ways.specs.declared.ways.Led.{Led}
+use Rattle.dh_lengths.specs.declared.leads.Leads.{Leads}
 use Rattle.dh_lengths.specs.LedBy.{IsLedBy}
 use Rattle.dh_events.specs.Stages.{form_stage, stage_of}
 use Rattle.dh_events.specs.Tables.{numbered}
@@ -147,7 +147,7 @@ pub record IsTested (known : Known) (base : List ℕ) (line : List Phase) (test 
   pub counted : count new.held ≡ count old.held + term_accesses (term_seen test)
   pub shares : new.held.shares.now ≡ old.held.shares.now
 
-abbrev pub WalksTest : (ways : List Led) → (old new : Walk) → Expr → Type 0
+abbrev pub WalksTest : (ways : Leads) → (old new : Walk) → Expr → Type 0
 WalksTest ways old new test = (known : Known) → IsLedBy ways known → (base : List ℕ) (line : List Phase) → Stands known base old line → IsTested known base line test old new
 
 -- further phases, with so many accesses
@@ -157,17 +157,17 @@ pub record IsWalked (known : Known) (base : List ℕ) (line : List Phase) (old n
   pub counted : count new.held ≡ count old.held + n
   pub shares : new.held.shares.now ≡ old.held.shares.now
 
-abbrev pub WalksStraight : (ways : List Led) → (old new : Walk) → Command → Type 0
+abbrev pub WalksStraight : (ways : Leads) → (old new : Walk) → Command → Type 0
 WalksStraight ways old new c =
     (known : Known) → IsLedBy ways known → (r : Around) (base : List ℕ) (line : List Phase) → stage_of (action_seen c) ≡ 1 → Stands known base old line
     → IsWalked known base line old new (phases r (count old.held) (action_seen c)) (accesses_of (action_seen c))
 
-abbrev pub WalksCommand : (ways : List Led) → (stages : List ℕ) → (old new : Walk) → Command → Type 0
+abbrev pub WalksCommand : (ways : Leads) → (stages : List ℕ) → (old new : Walk) → Command → Type 0
 WalksCommand ways stages old new c =
     (known : Known) → IsLedBy ways known → (r : Around) (base : List ℕ) (line : List Phase) → TellsStages (numbered stages) (action_seen c) → Stands known base old line
     → IsWalked known base line old new (phases r (count old.held) (action_seen c)) (accesses_of (action_seen c))
 
-abbrev pub WalksOther : (ways : List Led) → (stages : List ℕ) → (old new : Walk) → Option (Box Command Global) → Type 0
+abbrev pub WalksOther : (ways : Leads) → (stages : List ℕ) → (old new : Walk) → Option (Box Command Global) → Type 0
 WalksOther ways stages old new other =
     (known : Known) → IsLedBy ways known → (r : Around) (base : List ℕ) (line : List Phase) → TellOther (numbered stages) (maybe_seen (option_map (λ b. action_seen b.value) other)) → Stands known base old line
     → IsWalked known base line old new (other_phases r (count old.held) (maybe_seen (option_map (λ b. action_seen b.value) other))) (other_accesses (maybe_seen (option_map (λ b. action_seen b.value) other)))

@@ -4,19 +4,19 @@ ghost use Rattle.std.specs.Prelude.{OnOk};
 ghost use Rattle.dh_lengths.specs.LeveledCommands.{LevelsCommand, LevelsOther, LevelsReduce};
 
 use crate::held::Held;
+use crate::leads::Leads;
 use crate::skipping::skip_command;
 use crate::terms::{level_maybe, level_store, level_term};
 use crate::undoing::{join, marks_of, redo, since, undo};
 use crate::views::level_view;
 use dh_base::NoMemory;
 use dh_tree::{Command, CommandForm, Expr, Ref};
-use dh_ways::Led;
 use std::alloc::Global;
 
 /// A reducer: what the variable holds and a value are put together.
 fn level_reduce(
     held: &mut Held<'_>,
-    ways: &[Led],
+    ways: &Leads<'_>,
     outer: usize,
     target: &Ref,
     value: &Expr,
@@ -33,7 +33,7 @@ fn level_reduce(
 pub fn level_command(
     alloc: Global,
     held: &mut Held<'_>,
-    ways: &[Led],
+    ways: &Leads<'_>,
     outer: usize,
     command: &Command,
 ) -> Result<(), NoMemory>
@@ -87,7 +87,7 @@ pub fn level_command(
 fn level_other(
     alloc: Global,
     held: &mut Held<'_>,
-    ways: &[Led],
+    ways: &Leads<'_>,
     outer: usize,
     other: &Option<Box<Command>>,
 ) -> Result<(), NoMemory>

@@ -3,22 +3,23 @@
 //! A straight phase stays open while commands may join it: it is told its length when the next one begins, since
 //! the block that joins a loop's copies goes on with the last phase of a turn.
 
-ghost use Rattle.std.specs.Prelude.{◌≡◌, ℕ, [], IfOk, OnOk};
-ghost use Rattle.dh_tree.specs.Forms.{unbuilt_forms};
+ghost use Rattle.std.specs.Prelude.{◌≡◌, ℕ, IfOk, OnOk};
 ghost use Rattle.dh_tree.specs.Numbers.{IsNumbered};
 ghost use Rattle.dh_tree.specs.Seen.{program_seen};
+ghost use Rattle.dh_ways.specs.CutStands.{HasFewWays};
 ghost use Rattle.dh_lengths.specs.PhaseBlocks.{lengths_of};
 ghost use Rattle.dh_lengths.specs.PhaseWalks.{Closes, OpensBy, Tells, WalksCommand, WalksOther, WalksStraight, WalksTest};
 
 use crate::commands::level_command;
 use crate::held::Held;
+use crate::leads::Leads;
 use crate::sharing::shared_reads;
 use crate::skipping::skip_command;
 use crate::terms::level_term;
 use dh_base::NoMemory;
 use dh_events::{get_at, note_stages};
 use dh_tree::{Command, CommandForm, Expr, Typed};
-use dh_ways::Led;
+use dh_ways::ways_in;
 use std::alloc::Global;
 
 /// Where a walk along phases stands.
@@ -63,7 +64,7 @@ fn open_phase(walk: &mut Walk<'_>) -> Result<(), NoMemory>
 }
 
 /// A test, which is a phase of its own.
-fn walk_test(walk: &mut Walk<'_>, ways: &[Led], test: &Expr) -> Result<(), NoMemory>
+fn walk_test(walk: &mut Walk<'_>, ways: &Leads<'_>, test: &Expr) -> Result<(), NoMemory>
     ensures { OnOk result (WalksTest ways.now walk.old walk.new test.now) }
 {
     close(walk)?;
@@ -75,7 +76,7 @@ fn walk_test(walk: &mut Walk<'_>, ways: &[Led], test: &Expr) -> Result<(), NoMem
 fn walk_straight(
     alloc: Global,
     walk: &mut Walk<'_>,
-    ways: &[Led],
+    ways: &Leads<'_>,
     command: &Command,
 ) -> Result<(), NoMemory>
     ensures { OnOk result (WalksStraight ways.now walk.old walk.new command.now) }
@@ -92,7 +93,7 @@ fn walk_straight(
 fn walk_command(
     alloc: Global,
     walk: &mut Walk<'_>,
-    ways: &[Led],
+    ways: &Leads<'_>,
     stages: &[usize],
     command: &Command,
 ) -> Result<(), NoMemory>
@@ -150,7 +151,7 @@ fn walk_command(
 fn walk_other(
     alloc: Global,
     walk: &mut Walk<'_>,
-    ways: &[Led],
+    ways: &Leads<'_>,
     stages: &[usize],
     other: &Option<Box<Command>>,
 ) -> Result<(), NoMemory>
@@ -170,10 +171,15 @@ fn walk_other(
 /// `NoMemory` where an allocation was refused.
 pub fn phase_lengths(alloc: Global, program: &Typed) -> Result<Vec<u64>, NoMemory>
     requires numbered { (first : ℕ) × IsNumbered first (program_seen program.now).body }
-    requires built { unbuilt_forms (program_seen program.now) ≡ [] }
+    requires few { HasFewWays (program_seen program.now) }
     ensures { IfOk result (λ lengths. lengths.items ≡ lengths_of (program_seen program.now)) }
 {
     let body = &program.tree().body;
+    let table = ways_in(alloc, program)?;
+    let ways = Leads {
+        program,
+        ways: &table,
+    };
     let shares = shared_reads(alloc, body)?;
     let mut stages = Vec::new(alloc);
     note_stages(&mut stages, body)?;
@@ -190,9 +196,7 @@ pub fn phase_lengths(alloc: Global, program: &Typed) -> Result<Vec<u64>, NoMemor
         going: false,
         lengths: Vec::new(alloc),
     };
-    // while views are refused there is none
-    let ways: Vec<Led> = Vec::new(alloc);
-    walk_command(alloc, &mut walk, ways.as_slice(), stages.as_slice(), body)?;
+    walk_command(alloc, &mut walk, &ways, stages.as_slice(), body)?;
     close(&mut walk)?;
     Ok(walk.lengths)
 }

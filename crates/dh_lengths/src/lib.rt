@@ -8,6 +8,7 @@
 
 mod commands;
 mod held;
+mod leads;
 mod lengths;
 mod live;
 mod sharing;

@@ -6,13 +6,14 @@ ghost use Rattle.dh_events.specs.Tables.{numbered};
 ghost use Rattle.dh_ways.specs.Seen.{hidden_seen};
 
 use crate::held::Held;
+use crate::leads::{Leads, way_of};
 use crate::skipping::{skip, skip_term};
 use dh_base::NoMemory;
 use dh_events::get_at;
 use dh_tree::{Expr, ExprForm};
-use dh_ways::{Hidden, Led, way_among};
+use dh_ways::{Hidden, WayRef};
 
-/// The greatest of a level and of those of the variables that keep the offsets on a way.
+/// The greatest of a level and of those of these variables.
 fn level_hidden(variables: &[usize], hidden: &[Hidden], level: usize) -> usize
     ensures { result ≡ max level
         (hidden_level (numbered variables.now) (map hidden_seen hidden.now)) }
@@ -24,12 +25,29 @@ fn level_hidden(variables: &[usize], hidden: &[Hidden], level: usize) -> usize
     most
 }
 
+/// The greatest of a level and of those of the variables that keep the offsets on a way.
+fn level_on(variables: &[usize], way: &WayRef<'_>, level: usize) -> usize
+    ensures { result ≡ max level
+        (hidden_level (numbered variables.now) (map hidden_seen way.now.hidden)) }
+{
+    let (own, behind) = way.split();
+    let first = level_hidden(variables, own, level);
+    let mut most = first;
+    let mut rest = behind;
+    while let Some(next) = rest {
+        let (kept, further) = next.split();
+        most = level_hidden(variables, kept, most);
+        rest = further;
+    }
+    most
+}
+
 /// The level of what names an element, by that of its indices: through views it is not before their offsets.
-fn level_through(held: &Held<'_>, ways: &[Led], entity: Option<u32>, level: usize) -> usize
+fn level_through(held: &Held<'_>, ways: &Leads<'_>, entity: Option<u32>, level: usize) -> usize
     ensures { result ≡ through ways.now (levels_seen held.now).variables entity level }
 {
-    match way_among(ways, entity) {
-        Some(way) => level_hidden(held.variables.as_slice(), way.hidden.as_slice(), level),
+    match way_of(ways, entity) {
+        Some(way) => level_on(held.variables.as_slice(), &way, level),
         None => level,
     }
 }
@@ -38,7 +56,7 @@ fn level_through(held: &Held<'_>, ways: &[Led], entity: Option<u32>, level: usiz
 #[cycle(leveling)]
 pub fn level_term(
     held: &mut Held<'_>,
-    ways: &[Led],
+    ways: &Leads<'_>,
     outer: usize,
     value: &Expr,
 ) -> Result<usize, NoMemory>
@@ -70,7 +88,7 @@ pub fn level_term(
 #[cycle(leveling)]
 fn level_terms(
     held: &mut Held<'_>,
-    ways: &[Led],
+    ways: &Leads<'_>,
     outer: usize,
     indices: &[Expr],
 ) -> Result<usize, NoMemory>
@@ -87,7 +105,7 @@ fn level_terms(
 /// The level of what a `let` sets its variable to; 0 where it has no right side.
 pub fn level_maybe(
     held: &mut Held<'_>,
-    ways: &[Led],
+    ways: &Leads<'_>,
     outer: usize,
     value: &Option<Expr>,
 ) -> Result<usize, NoMemory>
@@ -110,7 +128,7 @@ fn skip_store(held: &mut Held<'_>, target: &Expr, value: &Expr) -> Result<(), No
 /// Notes the levels of the reads of a store, and of the write.
 pub fn level_store(
     held: &mut Held<'_>,
-    ways: &[Led],
+    ways: &Leads<'_>,
     outer: usize,
     target: &Expr,
     value: &Expr,

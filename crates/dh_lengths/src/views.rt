@@ -6,18 +6,18 @@ ghost use Rattle.dh_tree.specs.ViewOffsets.{offsets_of};
 ghost use Rattle.dh_lengths.specs.KeptLevels.{first_kept, LevelsEach, LevelsView, SetsLevels};
 
 use crate::held::Held;
+use crate::leads::{Leads, way_of};
 use crate::skipping::skip_offsets;
 use crate::terms::level_term;
 use dh_base::NoMemory;
 use dh_tree::{Expr, Ref, ViewForm};
-use dh_ways::{Led, way_among};
 use std::alloc::Global;
 
 /// The levels of expressions, in order. Notes those of their reads.
 fn level_all(
     alloc: Global,
     held: &mut Held<'_>,
-    ways: &[Led],
+    ways: &Leads<'_>,
     outer: usize,
     values: &[Expr],
 ) -> Result<Vec<usize>, NoMemory>
@@ -35,7 +35,7 @@ fn level_all(
 fn level_suffixes(
     alloc: Global,
     held: &mut Held<'_>,
-    ways: &[Led],
+    ways: &Leads<'_>,
     outer: usize,
     by: &[(u64, Expr)],
 ) -> Result<Vec<usize>, NoMemory>
@@ -53,7 +53,7 @@ fn level_suffixes(
 fn level_offsets(
     alloc: Global,
     held: &mut Held<'_>,
-    ways: &[Led],
+    ways: &Leads<'_>,
     outer: usize,
     form: &ViewForm,
 ) -> Result<Vec<usize>, NoMemory>
@@ -79,11 +79,11 @@ fn keep_levels(held: &mut Held<'_>, first: u32, levels: &[usize]) -> Result<(), 
 }
 
 /// The number of the first variable that keeps an offset on the way of a name.
-fn first_hidden(ways: &[Led], entity: Option<u32>) -> Option<u32>
+fn first_hidden(ways: &Leads<'_>, entity: Option<u32>) -> Option<u32>
     ensures { result ≡ first_kept ways.now entity }
 {
-    match way_among(ways, entity) {
-        Some(way) => match way.hidden.as_slice().first() {
+    match way_of(ways, entity) {
+        Some(way) => match way.first_hidden() {
             Some(one) => Some(one.entity),
             None => None,
         },
@@ -95,7 +95,7 @@ fn first_hidden(ways: &[Led], entity: Option<u32>) -> Option<u32>
 pub fn level_view(
     alloc: Global,
     held: &mut Held<'_>,
-    ways: &[Led],
+    ways: &Leads<'_>,
     outer: usize,
     name: &Ref,
     form: &ViewForm,

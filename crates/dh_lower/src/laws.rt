@@ -48,7 +48,8 @@ pub fn writes_come_by_ports()
     ensures commute { PutsCommute }
     ensures step { (plan : PlainPlan) (u : Uses) (users : (port : ℕ) → List User)
         → StepPortsRise plan u users }
-    ensures clock { (table : List MemEntry) (wires : List ℕ) (dss : List (List Driver)) (ps : List Port)
+    ensures clock { (table : List MemEntry) (wires : List ℕ) (dss : List (List Driver))
+        (ps : List Port)
         → ClockWrites table wires dss ps }
 {}
 

@@ -30,10 +30,14 @@ abbrev pub memory_ports : (memory : ℕ) → MemEntry → (k count : ℕ) → Li
 memory_ports memory e k zero = []
 memory_ports memory e k (suc n) = port_of memory e k ∷ memory_ports memory e (k + 1) n
 
+-- all ports of the memory with this number
+abbrev pub all_ports : (memory : ℕ) → MemEntry → List Port
+all_ports memory e = memory_ports memory e 0 (port_count e)
+
 -- the ports of memories of which the first has this number
 abbrev pub ports_from : (memory : ℕ) → List MemEntry → List Port
 ports_from memory [] = []
-ports_from memory (e ∷ es) = memory_ports memory e 0 (port_count e) ++ ports_from (memory + 1) es
+ports_from memory (e ∷ es) = all_ports memory e ++ ports_from (memory + 1) es
 
 -- the ports of a table
 abbrev pub ports_of : List MemEntry → List Port

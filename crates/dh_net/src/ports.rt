@@ -3,7 +3,7 @@
 ghost use Rattle.std.specs.Prelude.{◌≡◌, ◌<◌, ◌++◌, IfOk, OnOk};
 ghost use Rattle.std.specs.List.{AllByRecursion};
 ghost use Rattle.dh_tree.specs.Shapes.{IsProgramTable};
-ghost use Rattle.dh_net.specs.BankPorts.{port_count, port_of, memory_ports, ports_of};
+ghost use Rattle.dh_net.specs.BankPorts.{port_count, port_of, all_ports, ports_of};
 ghost use Rattle.dh_extents.specs.Extents.{IsSmallMemory};
 
 use crate::validity::{kind_width, row_width};
@@ -65,7 +65,7 @@ pub fn memory_port(memory: usize, entry: &MemEntry, k: u64) -> Port
 // Adds the ports of the memory with this number.
 fn push_ports(ports: &mut Vec<Port>, memory: usize, entry: &MemEntry) -> Result<(), NoMemory>
     requires { IsSmallMemory entry.now }
-    ensures { OnOk result (ports.new.items ≡ ports.old.items ++ memory_ports memory entry.now 0 (port_count entry.now)) }
+    ensures { OnOk result (ports.new.items ≡ ports.old.items ++ all_ports memory entry.now) }
 {
     for k in 0..count_ports(entry) {
         ports.push(memory_port(memory, entry, k))?;

@@ -72,7 +72,8 @@ fn has_few_banks(dims: &[Dim]) -> bool
 fn elements_within(dims: &[Dim], most: u64) -> Option<u64>
     requires dims { AllByRecursion IsDim dims.now }
     requires most { most ≤ most_elements }
-    ensures { MatchOption result (most < elements_of dims.now) (λ n. (n ≡ elements_of dims.now) × (n ≤ most)) }
+    ensures { MatchOption result (most < elements_of dims.now)
+        (λ n. (n ≡ elements_of dims.now) × (n ≤ most)) }
 {
     let mut count = 1;
     for dim in dims {

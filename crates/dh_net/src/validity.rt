@@ -4,7 +4,7 @@ ghost use Rattle.std.specs.Prelude.{◌≡◌, ℕ, ◌<◌, ◌≤◌, ◌^◌,
 ghost use Rattle.std.specs.List.{AllByRecursion};
 ghost use Rattle.dh_tree.specs.Shapes.{IsProgramTable};
 ghost use Rattle.dh_value.specs.Words.{width_of};
-ghost use Rattle.dh_net.specs.BankPorts.{port_count, memory_ports, ports_of};
+ghost use Rattle.dh_net.specs.BankPorts.{port_count, all_ports, ports_of};
 ghost use Rattle.dh_net.specs.Clock.{wire_width as width_at};
 ghost use Rattle.dh_extents.specs.Extents.{IsSmallMemory};
 ghost use Rattle.dh_net.specs.RowWidths.{IsRowWidth};
@@ -265,7 +265,7 @@ fn are_drivers(cells: &[Cell], port: Port, drivers: &[Driver]) -> bool
 fn drive_memory(cells: &[Cell], memory: usize, entry: &MemEntry, lists: &[Items<Driver>]) -> bool
     requires memory { IsSmallMemory entry.now }
     requires ports { length lists.now ≡ port_count entry.now }
-    ensures { IsTrue result ↔ DrivePorts cells.now (memory_ports memory entry.now 0 (port_count entry.now)) lists.now }
+    ensures { IsTrue result ↔ DrivePorts cells.now (all_ports memory entry.now) lists.now }
 {
     for (k, drivers) in lists.iter().enumerate() {
         if !are_drivers(

@@ -5,8 +5,11 @@ use Rattle.std.specs.Prelude.{Bool as Truth, true, false, ◌-◌, ◌^◌, if�
 use Rattle.std.specs.List.{AllByRecursion}
 use Rattle.std.proofs.lemmas.Bool.{cases_lt, eq-eqb}
 use Rattle.std.proofs.lemmas.List.{append-nil, append_cancel_left}
-use Rattle.dh_tree.specs.PlainTrees.{Action, action, lets, lets_memory, views, assigns, stores, reduces, calls, blocks, decides, repeats, counts, MaybeAction, no_action, one_action, Actions, no_actions, action_then, Groups, no_groups, group_then}
-use Rattle.dh_meaning.specs.CoreOf.{entity_number}
+use Rattle.dh_tree.specs.PlainTrees.{Action, action, lets, lets_memory, views, assigns, stores, reduces, calls, blocks, decides, repeats, counts, MaybeAction, no_action, one_action, Actions, no_actions, action_then, Groups, no_groups, group_then, ViewPlan, Term}
+use Rattle.dh_tree.specs.ViewOffsets.{offsets_of}
+use Rattle.dh_tree.specs.Seen.{terms}
+use Rattle.dh_meaning.specs.CoreOf.{entity_number, way_of}
+use Rattle.dh_meaning.specs.Ways.{Hidden, hidden_in}
 use Rattle.dh_code.specs.Slots.{held_at}
 use Rattle.dh_expressions.specs.declared.drafts.Draft.{Draft}
 use Rattle.dh_expressions.specs.declared.paths.Level.{Level}
@@ -15,6 +18,10 @@ use Rattle.dh_expressions.specs.declared.scenes.Scene.{Scene}
 use Rattle.dh_expressions.specs.Levels.{rank_number}
 use Rattle.dh_expressions.specs.Shown.{register_at}
 use Rattle.dh_expressions.proofs.ListPlaces.{place_within, some_same, there}
+use Rattle.dh_expressions.specs.Evaluated.{known_in}
+use Rattle.dh_expressions.specs.declared.scenes.Lane.{Lane}
+use Rattle.dh_expressions.specs.declared.accesses.Accesses.{Accesses}
+use Rattle.dh_expressions.specs.MadeTerms.{MadeTerms}
 use Rattle.dh_commands.specs.declared.assignments.Change.{Change}
 use Rattle.dh_commands.specs.declared.assignments.Values.{Values}
 use Rattle.dh_commands.specs.declared.buildings.Building.{Building}
@@ -22,17 +29,19 @@ use Rattle.dh_commands.specs.declared.choices.Choice.{Choice}
 use Rattle.dh_commands.specs.declared.choices.Left.{Left}
 use Rattle.dh_commands.specs.Joined.{AreChoices, IsLeft, JoinsArms}
 use Rattle.dh_commands.specs.LanesRun.{lane_of, paths_counted}
-use Rattle.dh_commands.specs.MadeCommands.{AssignedTo, ClearedTo, Commanding, MadeActions, MadeArm, MadeAssigned, MadeChoice, MadeChoiceBy, MadeChoices, MadeCleared, MadeCommand, MadeGroups, MadeJoined, MadeLanes, MadeNoArm, MadeOther, MadeReduced, ReducedTo, StoredTo}
+use Rattle.dh_commands.specs.MadeCommands.{AssignedTo, ClearedTo, Commanding, MadeActions, MadeArm, MadeAssigned, MadeChoice, MadeChoiceBy, MadeChoices, MadeCleared, MadeCommand, MadeGroups, MadeJoined, MadeLanes, MadeNoArm, MadeOther, MadeReduced, ReducedTo, StoredTo, KeptTo, MadeKept, MadeView}
 use Rattle.dh_commands.specs.ShownVariables.{register_in}
 use Rattle.dh_commands.specs.Undone.{AreReady, Assigns, EndsArm, HasRoom, IsChange, Logs, change_at, first_left, left_at, lefts_of, undone}
 use Rattle.dh_commands.proofs.ArmsJoined.{choice_set}
 use Rattle.dh_commands.proofs.ArmsLeft.{AreSame, ArmLeft, IsSetAt, arm_ended, lefts_given, nothing_left, same_again, same_ready}
 use Rattle.dh_commands.proofs.ChangesBack.{changes_logs, logs_again, logs_none, logs_one}
 use Rattle.dh_commands.proofs.JoinedArms.{first_more, left_if, left_or}
+use Rattle.dh_commands.specs.Setting.{IsAmong, SetsFrom}
+use Rattle.dh_commands.proofs.KeptWords.{holds_long}
 use Rattle.dh_laid.specs.LaidCommands.{AreLogged}
 use Rattle.dh_laid.proofs.ValuesLogged.{arm_back, arm_long, tests_same}
 use Rattle.dh_paced.specs.Standing.{IsUnder}
-use Rattle.dh_paced.specs.Assigned.{IsAssignedIn, IsAssignedInGroups, IsAssignedInOther, IsAssignedInPart}
+use Rattle.dh_paced.specs.Assigned.{IsAssignedIn, IsAssignedInGroups, IsAssignedInOther, IsAssignedInPart, IsKept}
 
 pub cases_last : (i n : ℕ) → i < suc n → (i < n) ⊎ (i ≡ n)
 cases_last i n less = split (cases_lt i n)
@@ -69,6 +78,17 @@ set_left (c ∷ cs) behind r (inl same) = by (first_left (lefts_of cs behind) r)
 set_left (c ∷ cs) behind r (inr h) =
     let before : (l : Left) × (first_left (lefts_of cs behind) r ≡ Some l) = set_left cs behind r h in
     (before.0, first_more (lefts_of cs behind) (left_at c (undone cs behind)) r ∙ ap (λ o. left_or o (left_if (left_at c (undone cs behind)) r)) before.1)
+
+-- as many values are held as there are offsets
+terms_long : (scene : Scene) (lane : Lane) (current : List (Option ℕ)) (offsets : List Term) (old new : Draft) (before after : Accesses) (n next : ℕ) (values : List ℕ) → MadeTerms scene lane current (terms offsets) old new before after n next values
+    → length values ≡ length offsets
+terms_long scene lane current [] old new before after n next values m = ap (λ (vs : List ℕ). length vs) m.none
+terms_long scene lane current (t ∷ ts) old new before after n next values m =
+    ap (λ (vs : List ℕ). length vs) m.values_are ∙ ap suc (terms_long scene lane current ts m.middle new m.between after m.own next m.more m.rest)
+
+pub kept_long : (scene : Scene) (lane : Lane) (first entity : ℕ) (offsets : List Term) (old new : Building) (next : ℕ) (m : MadeKept scene lane first entity offsets old new next) → length m.held ≡ length offsets
+kept_long scene lane first entity offsets old new next m =
+    holds_long scene entity offsets m.values m.middle new.draft m.held m.holds ∙ terms_long scene lane old.values.current.items offsets old.draft m.middle old.accesses new.accesses first next m.values m.offsets_made
 
 module _ (scene : Scene) (top : Around) where
   -- registers are those of the block's paths
@@ -176,6 +196,85 @@ module _ (scene : Scene) (top : Around) where
 
   lanes_all : (e : ℕ) (old new : Values) → LogsTo (λ f. f ≡ e) e (paths_counted top) old new → LogsOf (λ f. f ≡ e) old new
   lanes_all e old new l = record { logs = l.logs; covers = λ f i same within. subst (λ (k : ℕ). IsSet l.logs.more (register_in scene top k i)) (sym same) (l.covers i within) }
+
+  -- Offsets that variables keep.
+
+  -- one is set, and those behind it
+  set_then : (May : ℕ → Type 0) (n first count : ℕ) (old mid new : Values) (l : Logs (IsChange scene top May) old mid) → IsSet l.more (register_in scene top first n)
+      → (logs : Logs (IsChange scene top May) mid new) × ((e : ℕ) → suc first ≤ e → e < suc first + count → IsSet logs.more (register_in scene top e n))
+      → (logs : Logs (IsChange scene top May) old new) × ((e : ℕ) → first ≤ e → e < first + suc count → IsSet logs.more (register_in scene top e n))
+  set_then May n first count old mid new l own_set (k, covers) =
+      let all : Logs (IsChange scene top May) old new = logs_again (IsChange scene top May) old mid new l k in
+      let equal : l.more ++ k.more ≡ all.more = more_is (IsChange scene top May) old new (l.more ++ k.more) all (again_log (IsChange scene top May) (IsChange scene top May) (IsChange scene top May) old mid new l k) in
+      (all, λ e from below. subst (λ (cs : List Change). IsSet cs (register_in scene top e n)) equal (by e from below (cases_lt first e)))
+    where
+      both : (a b : ℕ) → a ≤ b → b ≤ a → a ≡ b
+      both a b f g = omega (arith, f, g)
+
+      by : (e : ℕ) → first ≤ e → e < first + suc count → (first < e) ⊎ (e ≤ first) → IsSet (l.more ++ k.more) (register_in scene top e n)
+      by e from below (inl less) = set_behind l.more k.more (register_in scene top e n) (covers e (omega (arith, less)) (omega (arith, below)))
+      by e from below (inr few) = subst (λ (i : ℕ). IsSet (l.more ++ k.more) (register_in scene top i n)) (both first e from few) (set_front l.more k.more (register_in scene top first n) own_set)
+
+  set_logged : (May : ℕ → Type 0) (around : Around) (n : ℕ) → around.levels.now ≡ top.levels.now → n < paths_counted top → (first : ℕ) (values : List ℕ) (old new : Values) → ((e : ℕ) → first ≤ e → e < first + length values → May e)
+      → SetsFrom scene (lane_of around n) old new first values → ((e : ℕ) → May e → register_in scene top e n < length old.current.items)
+      → (logs : Logs (IsChange scene top May) old new) × ((e : ℕ) → first ≤ e → e < first + length values → IsSet logs.more (register_in scene top e n))
+  set_logged May around n same within first [] old new may s room =
+      (subst (λ (v : Values). Logs (IsChange scene top May) old v) (sym s) (logs_none (IsChange scene top May) old), λ e from below. absurd (never first e from below))
+    where
+      never : (k e : ℕ) → k ≤ e → e < k + 0 → ⊥
+      never k e f b = omega (arith, f, b)
+  set_logged May around n same within first (value ∷ values) old new may (mid, (set, rest)) room =
+      let own : May first = may first (omega arith) (omega arith) in
+      let a : Assigns old mid (register_in scene top first n) n value = subst (λ (r : ℕ). Assigns old mid r n value) (register_under around first n same) set in
+      let is : IsChange scene top May (change_at old.current.items (register_in scene top first n) n) = record { entity = first; may = own; within = within; register_is = refl } in
+      let l : Logs (IsChange scene top May) old mid = logs_one (IsChange scene top May) old mid (register_in scene top first n) n value is a in
+      set_then May n first (length values) old mid new l (one_set (IsChange scene top May) old mid (register_in scene top first n) n value is a (room first own))
+      (set_logged May around n same within (suc first) values mid new (λ e from below. may e (omega (arith, from)) (omega (arith, below))) rest (λ e m. subst (λ (k : ℕ). register_in scene top e n < k) (sym l.long) (room e m)))
+
+  -- at the first paths, so many
+  record LogsEach (May : ℕ → Type 0) (count : ℕ) (old new : Values) : Type 0 where
+    logs : Logs (IsChange scene top May) old new
+    covers : (e i : ℕ) → May e → i < count → IsSet logs.more (register_in scene top e i)
+
+  kept_logged : (around : Around) (entity : ℕ) (offsets : List Term) → IsUnder top around → (count first : ℕ) (old new : Building) (next : ℕ) → count ≤ paths_counted top → HaveRoom (IsAmong entity (length offsets)) old.values
+      → KeptTo scene around first entity offsets count old new next → LogsEach (IsAmong entity (length offsets)) count old.values new.values
+  kept_logged around entity offsets u zero first old new next within room m = record {
+    logs = subst (λ (b : Building). Logs (IsChange scene top (IsAmong entity (length offsets))) old.values b.values) (sym m.0) (logs_none (IsChange scene top (IsAmong entity (length offsets))) old.values);
+    covers = λ e i may less. absurd (never i less);
+  }
+    where
+      never : (i : ℕ) → i < 0 → ⊥
+      never i h = omega (arith, h)
+  kept_logged around entity offsets u (suc n) first old new next within room m = further m.0 m.1.0 m.1.1.1 (kept_logged around entity offsets u n first old m.0 m.1.0 (omega (arith, within)) room m.1.1.0)
+    where
+      May : ℕ → Type 0
+      May e = IsAmong entity (length offsets) e
+
+      further : (b : Building) (k : ℕ) → MadeKept scene (lane_of around n) first entity offsets b new next → LogsEach May n old.values b.values → LogsEach May (suc n) old.values new.values
+      further b k one front =
+          behind (set_logged May around n u.levels (omega (arith, within)) entity one.held b.values new.values (λ e from below. (from, subst (λ (l : ℕ). e < entity + l) (kept_long scene (lane_of around n) first entity offsets b new next one) below)) one.sets
+          (λ e may. subst (λ (l : ℕ). register_in scene top e n < l) (sym front.logs.long) (room e n may (omega (arith, within)))))
+        where
+          behind : (logs : Logs (IsChange scene top May) b.values new.values) × ((e : ℕ) → entity ≤ e → e < entity + length one.held → IsSet logs.more (register_in scene top e n)) → LogsEach May (suc n) old.values new.values
+          behind (l, covers) =
+              let all : Logs (IsChange scene top May) old.values new.values = logs_again (IsChange scene top May) old.values b.values new.values front.logs l in
+              let equal : front.logs.more ++ l.more ≡ all.more =
+              more_is (IsChange scene top May) old.values new.values (front.logs.more ++ l.more) all (again_log (IsChange scene top May) (IsChange scene top May) (IsChange scene top May) old.values b.values new.values front.logs l) in
+              record { logs = all; covers = λ e i may less. subst (λ (cs : List Change). IsSet cs (register_in scene top e i)) equal (by e i may (cases_last i n less)) }
+            where
+              by : (e i : ℕ) → May e → (i < n) ⊎ (i ≡ n) → IsSet (front.logs.more ++ l.more) (register_in scene top e i)
+              by e i may (inl less) = set_front front.logs.more l.more (register_in scene top e i) (front.covers e i may less)
+              by e i may (inr same) =
+                  subst (λ (k : ℕ). IsSet (front.logs.more ++ l.more) (register_in scene top e k)) (sym same)
+                  (set_behind front.logs.more l.more (register_in scene top e n) (covers e may.0 (subst (λ (k : ℕ). e < entity + k) (sym (kept_long scene (lane_of around n) first entity offsets b new next one)) may.1)))
+
+  view_logged : (hs : List Hidden) (form : ViewPlan) (around : Around) (old new : Building) (first next : ℕ) → MadeView scene hs form around old new first next → IsUnder top around → HaveRoom (IsKept hs (length (offsets_of form))) old.values
+      → LogsOf (IsKept hs (length (offsets_of form))) old.values new.values
+  view_logged [] form around old new first next m u room = logged_none (λ e. ⊥) (λ e h. h) old.values new.values (ap (λ (b : Building). b.values) m.still)
+  view_logged (x ∷ xs) form around old new first next m u room =
+      let l : LogsEach (IsAmong x.entity (length (offsets_of form))) (paths_counted top) old.values new.values =
+      kept_logged around x.entity (offsets_of form) u (paths_counted top) first old new next (omega arith) room (subst (λ (n : ℕ). KeptTo scene around first x.entity (offsets_of form) n old new next) u.counted m) in
+      record { logs = l.logs; covers = l.covers }
 
   -- Arms.
 
@@ -388,8 +487,8 @@ module _ (scene : Scene) (top : Around) where
       arm_leaves May old.values m.inside.values new.values lefts (subst (λ (v : Values). LogsOf May v m.inside.values) m.begin_values h) m.ends
 
   mutual
-    pub command_logged : (a : Action) (around : Around) (old new : Building) (first next : ℕ) → MadeCommand scene a around old new first next → IsUnder top around → AreReady old.values → HaveRoom (IsAssignedIn a) old.values
-        → LogsOf (IsAssignedIn a) old.values new.values
+    pub command_logged : (a : Action) (around : Around) (old new : Building) (first next : ℕ) → MadeCommand scene a around old new first next → IsUnder top around → AreReady old.values → HaveRoom (IsAssignedIn (known_in scene) a) old.values
+        → LogsOf (IsAssignedIn (known_in scene) a) old.values new.values
     command_logged (action id place (lets name declared (Some value))) around old new first next m u ready room =
         let e : ℕ = entity_number name.entity in
         lanes_all e old.values new.values
@@ -423,54 +522,54 @@ module _ (scene : Scene) (top : Around) where
     command_logged (action id place (decides test chosen other)) around old new first next m u ready room =
         let tested : (m.tested.values ≡ old.values) × (length m.tests ≡ paths_counted around) = tests_same scene around first test (paths_counted around) old m.tested m.own m.tests m.test in
         let long : length m.tests ≡ paths_counted top = tested.1 ∙ u.counted in
-        let one : LeavesOf (IsAssignedIn chosen) m.tested.values m.after_chosen.values m.chosen.inside.values.current.items m.chosen_left =
-        arm_logged (MadeCommand scene chosen) around true m.tests m.tested m.after_chosen m.own m.behind m.chosen_left m.chosen (IsAssignedIn chosen)
+        let one : LeavesOf (IsAssignedIn (known_in scene) chosen) m.tested.values m.after_chosen.values m.chosen.inside.values.current.items m.chosen_left =
+        arm_logged (MadeCommand scene chosen) around true m.tests m.tested m.after_chosen m.own m.behind m.chosen_left m.chosen (IsAssignedIn (known_in scene) chosen)
         (command_logged chosen m.chosen.arm m.chosen.begin m.chosen.inside m.own m.behind m.chosen.command
         (under_arm (MadeCommand scene chosen) around true m.tests m.tested m.after_chosen m.own m.behind m.chosen_left m.chosen u long)
         (values_at AreReady old.values m.chosen.begin.values (m.chosen.begin_values ∙ tested.0) ready)
-        (values_at (HaveRoom (IsAssignedIn chosen)) old.values m.chosen.begin.values (m.chosen.begin_values ∙ tested.0) (λ e i may within. room e i (inl may) within))) in
+        (values_at (HaveRoom (IsAssignedIn (known_in scene) chosen)) old.values m.chosen.begin.values (m.chosen.begin_values ∙ tested.0) (λ e i may within. room e i (inl may) within))) in
         let ready_one : AreReady m.after_chosen.values = same_ready m.tested.values m.after_chosen.values one.same (values_at AreReady old.values m.tested.values tested.0 ready) in
         let behind : List (Option ℕ) = behind_other other around m.tests m.after_chosen m.after_other m.behind next m.other_left m.other in
-        let two : LeavesOf (IsAssignedInOther other) m.after_chosen.values m.after_other.values behind m.other_left =
+        let two : LeavesOf (IsAssignedInOther (known_in scene) other) m.after_chosen.values m.after_other.values behind m.other_left =
         other_logged other around m.tests m.after_chosen m.after_other m.behind next m.other_left m.other u long ready_one
         (λ e i may within. subst (λ (n : ℕ). register_in scene top e i < n) (sym (ap (λ (os : List (Option ℕ)). length os) one.same.current ∙ ap (λ (v : Values). length v.current.items) tested.0)) (room e i (inr may) within)) in
         let ready_two : AreReady m.after_other.values = same_ready m.after_chosen.values m.after_other.values two.same ready_one in
-        let l : LogsOf (λ e. IsAssignedIn chosen e ⊎ IsAssignedInOther other e) m.after_other.values new.values =
-        joined_logged (IsAssignedIn chosen) (IsAssignedInOther other) m.tests long m.chosen_left m.other_left m.tested.values m.after_other.values m.chosen.inside.values.current.items behind ready_two
+        let l : LogsOf (λ e. IsAssignedIn (known_in scene) chosen e ⊎ IsAssignedInOther (known_in scene) other e) m.after_other.values new.values =
+        joined_logged (IsAssignedIn (known_in scene) chosen) (IsAssignedInOther (known_in scene) other) m.tests long m.chosen_left m.other_left m.tested.values m.after_other.values m.chosen.inside.values.current.items behind ready_two
         (same_again m.tested.values m.after_chosen.values m.after_other.values one.same two.same) one.left
-        (based (IsAssignedInOther other) m.tested.values.current.items m.after_chosen.values.current.items behind m.other_left one.same.current two.left) one.covers two.covers
+        (based (IsAssignedInOther (known_in scene) other) m.tested.values.current.items m.after_chosen.values.current.items behind m.other_left one.same.current two.left) one.covers two.covers
         m.after_other new refl m.joined in
-        begun_same (λ e. IsAssignedIn chosen e ⊎ IsAssignedInOther other e) old.values m.after_other.values new.values
+        begun_same (λ e. IsAssignedIn (known_in scene) chosen e ⊎ IsAssignedInOther (known_in scene) other e) old.values m.after_other.values new.values
         (same_again old.values m.tested.values m.after_other.values (equal_same old.values m.tested.values tested.0) (same_again m.tested.values m.after_chosen.values m.after_other.values one.same two.same)) l
     command_logged (action id place (blocks body)) around old new first next m u ready room = groups_logged body around old new first next m u ready room
     command_logged (action id place (lets_memory name shape shape_places value)) around old new first next m u ready room = logged_none (λ e. ⊥) (λ e h. h) old.values new.values (ap (λ (b : Building). b.values) m.still)
-    command_logged (action id place (views name parent form)) around old new first next m u ready room = logged_none (λ e. ⊥) (λ e h. h) old.values new.values (ap (λ (b : Building). b.values) m.still)
+    command_logged (action id place (views name parent form)) around old new first next m u ready room = view_logged (hidden_in (way_of (known_in scene) name)) form around old new first next m u room
     command_logged (action id place (calls function arguments)) around old new first next m u ready room = logged_none (λ e. ⊥) (λ e h. h) old.values new.values (ap (λ (b : Building). b.values) m.still)
     command_logged (action id place (repeats test body)) around old new first next m u ready room = logged_none (λ e. ⊥) (λ e h. h) old.values new.values (ap (λ (b : Building). b.values) m.still)
     command_logged (action id place (counts iterator declared low high factor body combine combine_place)) around old new first next m u ready room = logged_none (λ e. ⊥) (λ e h. h) old.values new.values (ap (λ (b : Building). b.values) m.still)
 
     pub other_logged : (other : MaybeAction) (around : Around) (tests : List ℕ) (old new : Building) (first next : ℕ) (lefts : List Left) (m : MadeOther scene other around tests old new first next lefts) → IsUnder top around
-        → length tests ≡ paths_counted top → AreReady old.values → HaveRoom (IsAssignedInOther other) old.values → LeavesOf (IsAssignedInOther other) old.values new.values (behind_other other around tests old new first next lefts m) lefts
+        → length tests ≡ paths_counted top → AreReady old.values → HaveRoom (IsAssignedInOther (known_in scene) other) old.values → LeavesOf (IsAssignedInOther (known_in scene) other) old.values new.values (behind_other other around tests old new first next lefts m) lefts
     other_logged no_action around tests old new first next lefts m u long ready room = none_leaves (λ e. ⊥) (λ e h. h) old new first next lefts m
     other_logged (one_action a) around tests old new first next lefts m u long ready room =
-        arm_logged (MadeCommand scene a) around false tests old new first next lefts m (IsAssignedIn a)
+        arm_logged (MadeCommand scene a) around false tests old new first next lefts m (IsAssignedIn (known_in scene) a)
         (command_logged a m.arm m.begin m.inside first next m.command (under_arm (MadeCommand scene a) around false tests old new first next lefts m u long) (values_at AreReady old.values m.begin.values m.begin_values ready)
-        (values_at (HaveRoom (IsAssignedIn a)) old.values m.begin.values m.begin_values room))
+        (values_at (HaveRoom (IsAssignedIn (known_in scene) a)) old.values m.begin.values m.begin_values room))
 
-    pub part_logged : (part : Actions) (around : Around) (old new : Building) (first next : ℕ) → MadeActions scene part around old new first next → IsUnder top around → AreReady old.values → HaveRoom (IsAssignedInPart part) old.values
-        → LogsOf (IsAssignedInPart part) old.values new.values
+    pub part_logged : (part : Actions) (around : Around) (old new : Building) (first next : ℕ) → MadeActions scene part around old new first next → IsUnder top around → AreReady old.values → HaveRoom (IsAssignedInPart (known_in scene) part) old.values
+        → LogsOf (IsAssignedInPart (known_in scene) part) old.values new.values
     part_logged no_actions around old new first next m u ready room = logged_none (λ e. ⊥) (λ e h. h) old.values new.values (ap (λ (b : Building). b.values) m.still)
     part_logged (action_then a rest) around old new first next m u ready room =
-        let one : LogsOf (IsAssignedIn a) old.values m.middle.values = command_logged a around old m.middle first m.own m.one u ready (λ e i may within. room e i (inl may) within) in
-        logged_both (IsAssignedIn a) (IsAssignedInPart rest) old.values m.middle.values new.values one
-        (part_logged rest around m.middle new m.own next m.rest u (ready_later (IsAssignedIn a) old.values m.middle.values one.logs ready)
-        (room_later (IsAssignedInPart rest) old.values m.middle.values one.logs.long (λ e i may within. room e i (inr may) within)))
+        let one : LogsOf (IsAssignedIn (known_in scene) a) old.values m.middle.values = command_logged a around old m.middle first m.own m.one u ready (λ e i may within. room e i (inl may) within) in
+        logged_both (IsAssignedIn (known_in scene) a) (IsAssignedInPart (known_in scene) rest) old.values m.middle.values new.values one
+        (part_logged rest around m.middle new m.own next m.rest u (ready_later (IsAssignedIn (known_in scene) a) old.values m.middle.values one.logs ready)
+        (room_later (IsAssignedInPart (known_in scene) rest) old.values m.middle.values one.logs.long (λ e i may within. room e i (inr may) within)))
 
-    pub groups_logged : (body : Groups) (around : Around) (old new : Building) (first next : ℕ) → MadeGroups scene body around old new first next → IsUnder top around → AreReady old.values → HaveRoom (IsAssignedInGroups body) old.values
-        → LogsOf (IsAssignedInGroups body) old.values new.values
+    pub groups_logged : (body : Groups) (around : Around) (old new : Building) (first next : ℕ) → MadeGroups scene body around old new first next → IsUnder top around → AreReady old.values → HaveRoom (IsAssignedInGroups (known_in scene) body) old.values
+        → LogsOf (IsAssignedInGroups (known_in scene) body) old.values new.values
     groups_logged no_groups around old new first next m u ready room = logged_none (λ e. ⊥) (λ e h. h) old.values new.values (ap (λ (b : Building). b.values) m.still)
     groups_logged (group_then part rest) around old new first next m u ready room =
-        let one : LogsOf (IsAssignedInPart part) old.values m.middle.values = part_logged part around old m.middle first m.own m.one u ready (λ e i may within. room e i (inl may) within) in
-        logged_both (IsAssignedInPart part) (IsAssignedInGroups rest) old.values m.middle.values new.values one
-        (groups_logged rest around m.middle new m.own next m.rest u (ready_later (IsAssignedInPart part) old.values m.middle.values one.logs ready)
-        (room_later (IsAssignedInGroups rest) old.values m.middle.values one.logs.long (λ e i may within. room e i (inr may) within)))
+        let one : LogsOf (IsAssignedInPart (known_in scene) part) old.values m.middle.values = part_logged part around old m.middle first m.own m.one u ready (λ e i may within. room e i (inl may) within) in
+        logged_both (IsAssignedInPart (known_in scene) part) (IsAssignedInGroups (known_in scene) rest) old.values m.middle.values new.values one
+        (groups_logged rest around m.middle new m.own next m.rest u (ready_later (IsAssignedInPart (known_in scene) part) old.values m.middle.values one.logs ready)
+        (room_later (IsAssignedInGroups (known_in scene) rest) old.values m.middle.values one.logs.long (λ e i may within. room e i (inr may) within)))

@@ -224,8 +224,8 @@ module _ (plan : PlainPlan) (block : ℕ) (scene : Scene) (around : Around) (spa
   abbrev Mentioned : ℕ → Type 0
   Mentioned e = commands_mention e (core_commands (known_in scene) cs) ≡ true
 
-  ground_here : IsGround clocks_here scene around spaces shared Mentioned (IsReadOfEach cs) Made
-  ground_here = ground_of clocks_here scene around spaces shared Mentioned (IsReadOfEach cs) Made old h.begins h.variables h.shares
+  ground_here : IsGround clocks_here scene around spaces shared Mentioned (IsReadOfEach (known_in scene) cs) Made
+  ground_here = ground_of clocks_here scene around spaces shared Mentioned (IsReadOfEach (known_in scene) cs) Made old h.begins h.variables h.shares
 
   agree_end : AgreeInTime clocks_here end
   agree_end = (blocks_agree_in_time plan block sites_here levels_here.reads outer_here old.draft end h.whole.cut h.whole.ordered).0
@@ -236,19 +236,19 @@ module _ (plan : PlainPlan) (block : ℕ) (scene : Scene) (around : Around) (spa
   least_from : (e : ℕ) → 0 ≤ e
   least_from e = omega arith
 
-  begun_here : StandsFor clocks_here scene around spaces shared Mentioned (IsReadOfEach cs) Made around old 0 0 level_ground
+  begun_here : StandsFor clocks_here scene around spaces shared Mentioned (IsReadOfEach (known_in scene) cs) Made around old 0 0 level_ground
   begun_here =
-      stands_begun clocks_here scene around spaces shared Mentioned (IsReadOfEach cs) Made old h.begins 0 (let e = h.whole.cut.first in omega (arith, e)) (λ e read. least_from e) h.bare
+      stands_begun clocks_here scene around spaces shared Mentioned (IsReadOfEach (known_in scene) cs) Made old h.begins 0 (let e = h.whole.cut.first in omega (arith, e)) (λ e read. least_from e) h.bare
 
-  all_paced : EachPaced clocks_here scene around spaces shared Mentioned (IsReadOfEach cs) Made ground_here old new levels_here (end_of 0 cs)
+  all_paced : EachPaced clocks_here scene around spaces shared Mentioned (IsReadOfEach (known_in scene) cs) Made ground_here old new levels_here (end_of 0 cs)
   all_paced =
-      each_paced clocks_here scene around spaces shared Mentioned (IsReadOfEach cs) Made ground_here cs 0 old new m level_ground h.reaches h.rising h.suits h.assigns_own begun_here (λ x i. i) (λ x from. refl) (λ e read from. read) (λ e mentioned. mentioned)
+      each_paced clocks_here scene around spaces shared Mentioned (IsReadOfEach (known_in scene) cs) Made ground_here cs 0 old new m level_ground h.reaches h.rising h.suits h.assigns_own begun_here (λ x i. i) (λ x from. refl) (λ e read from. read) (λ e mentioned. mentioned)
       (λ x s at. refl) agrees_new (agree_before clocks_here new.draft end h.whole.extends agree_end)
 
   straight_length : block_clocks plan block ≡ block_length shared (commands (core_commands (known_in scene) cs))
   straight_length =
-      length_is plan block scene around spaces shared Mentioned (IsReadOfEach cs) Made sites_here levels_here.reads outer_here old new end h.whole h.begins.some levels_here (end_of 0 cs) all_paced.paces all_paced.noted agree_end
-      (λ i read. (each_below 0 cs h.rising i (read_of_each cs h.reaches i read), (each_read_site scene around cs old new m h.reaches i read, refl)))
+      length_is plan block scene around spaces shared Mentioned (IsReadOfEach (known_in scene) cs) Made sites_here levels_here.reads outer_here old new end h.whole h.begins.some levels_here (end_of 0 cs) all_paced.paces all_paced.noted agree_end
+      (λ i read. (each_below 0 cs h.rising i (read_of_each (known_in scene) cs h.reaches i read), (each_read_site scene around cs old new m h.reaches i read, refl)))
       (λ k reads. (each_go scene shared cs 0 level_ground h.reaches h.rising).least k (omega arith) reads)
       ∙ ap (λ (l : Levels). suc l.most) (each_leveled (known_in scene) shared cs level_ground)
 

@@ -1,5 +1,5 @@
 -- Whole commands in time: by recursion on the command and on what was put down for it.
-use Rattle.std.proofs.Common.{◌≡◌, ◌⊎◌, inl, inr, ℕ, suc, ◌+◌, ◌^◌, ◌<◌, ◌≤◌, true, false, Some, None, Option, List, length, refl, sym, ap, ◌∙◌, subst, arith}
+use Rattle.std.proofs.Common.{◌≡◌, ◌⊎◌, inl, inr, ℕ, suc, ◌+◌, ◌^◌, ◌<◌, ◌≤◌, true, false, Some, None, Option, List, length, refl, sym, ap, ◌∙◌, subst, arith, [], ◌∷◌}
 use Rattle.std.specs.Prelude.{Bool as Truth, ◌||◌, max}
 use Rattle.std.proofs.lemmas.Bool.{cases_lt}
 use Rattle.dh_value.specs.declared.operators.Op.{Op}
@@ -7,10 +7,13 @@ use Rattle.dh_tree.specs.declared.trees.expressions.Ref.{Ref}
 use Rattle.dh_tree.specs.Indices.{form_of}
 use Rattle.dh_tree.specs.PlainTrees as plain
 use Rattle.dh_tree.specs.PlainTrees.{Term, Action, action, ActionForm, lets, lets_memory, views, assigns, stores, reduces, calls, blocks, decides, repeats, counts, MaybeAction, no_action, one_action, Actions, no_actions, action_then, Groups, no_groups, group_then}
+use Rattle.dh_tree.specs.ViewOffsets.{offsets_of}
+use Rattle.dh_tree.specs.Seen.{terms}
 use Rattle.dh_meaning.specs.AccessNumbers.{accesses_of, groups_accesses, other_accesses, part_accesses, plan_accesses, term_accesses, terms_accesses}
 use Rattle.dh_meaning.specs.Core.{no_commands}
-use Rattle.dh_meaning.specs.CoreOf.{core_action, core_groups, core_other, core_part, entity_number}
-use Rattle.dh_meaning.specs.Levels.{Leveled, Levels, any_assigns, choice_levels, greatest, term_leveled, with_value, with_variables}
+use Rattle.dh_meaning.specs.CoreOf.{core_action, core_groups, core_other, core_part, entity_number, core_terms, way_of}
+use Rattle.dh_meaning.specs.Levels.{Leveled, Levels, any_assigns, choice_levels, greatest, term_leveled, with_value, with_variables, kept_leveled}
+use Rattle.dh_meaning.specs.Ways.{Hidden, hidden_in}
 use Rattle.dh_expressions.specs.declared.drafts.Draft.{Draft}
 use Rattle.dh_expressions.specs.declared.scenes.Around.{Around}
 use Rattle.dh_expressions.specs.declared.scenes.Scene.{Scene}
@@ -18,7 +21,7 @@ use Rattle.dh_expressions.specs.Drafted.{Extends}
 use Rattle.dh_expressions.specs.Evaluated.{known_in}
 use Rattle.dh_formed.specs.Counted.{given_at_paths}
 use Rattle.dh_formed.specs.Formed.{Agrees, Block, TermSuits}
-use Rattle.dh_formed.specs.Timed.{AgreeInTime, AreBounded, Clocks, LevelsThen, ReadsAgree, all_leveled, leveled}
+use Rattle.dh_formed.specs.Timed.{AgreeInTime, AreBounded, Clocks, LevelsThen, ReadsAgree, leveled, named_leveled}
 use Rattle.dh_formed.proofs.LevelsBehind.{levels_behind}
 use Rattle.dh_formed.proofs.ValuesFormed.{agrees_before}
 use Rattle.dh_formed.proofs.ValuesTimed.{agree_before, time_later, within_again, within_none}
@@ -26,11 +29,11 @@ use Rattle.dh_commands.specs.declared.assignments.Values.{Values}
 use Rattle.dh_commands.specs.declared.buildings.Building.{Building}
 use Rattle.dh_commands.specs.declared.choices.Left.{Left}
 use Rattle.dh_commands.specs.LanesRun.{lane_of, paths_counted}
-use Rattle.dh_commands.specs.MadeCommands.{AssignedTo, ClearedTo, MadeActions, MadeArm, MadeCommand, MadeGroups, MadeIf, MadeOther, MadeTests, ReducedTo, StoredTo}
+use Rattle.dh_commands.specs.MadeCommands.{AssignedTo, ClearedTo, MadeActions, MadeArm, MadeCommand, MadeGroups, MadeIf, MadeOther, MadeTests, ReducedTo, StoredTo, KeptTo, MadeView}
 use Rattle.dh_commands.specs.Undone.{AreReady}
 use Rattle.dh_commands.specs.ShownVariables.{register_in}
 use Rattle.dh_laid.specs.Laid.{AreTruths, FormsJoined, FormsTested, FormsThere}
-use Rattle.dh_laid.specs.LaidCommands.{ActionsSuit, AreFew, AreFewOther, AssignmentSuits, ClearingSuits, CommandSuits, FormsCommand, GroupsSuit, OtherSuits, ReducingSuits, StoreSuits, TestSuits}
+use Rattle.dh_laid.specs.LaidCommands.{ActionsSuit, AreFew, AreFewOther, AssignmentSuits, ClearingSuits, CommandSuits, FormsCommand, GroupsSuit, OtherSuits, ReducingSuits, StoreSuits, TestSuits, KeepingSuits}
 use Rattle.dh_laid.specs.LaidNumbers.{Numbers, StoresReach, StoresReachGroups, StoresReachOther, StoresReachPart}
 use Rattle.dh_laid.proofs.CommandsLaid.{FormsArm, FormsEnded, actions_form, arm_forms, command_forms, groups_form, held_moved, other_forms, tests_extend}
 use Rattle.dh_laid.proofs.CommandsNumbered.{actions_reached, command_reached, groups_reached, some_arm, tests_number}
@@ -41,15 +44,16 @@ use Rattle.dh_laid.proofs.ValuesLogged.{logged_ready, tests_same}
 use Rattle.dh_commands.proofs.ArmsLeft.{same_again, same_ready}
 use Rattle.dh_paced.specs.Assigned.{IsAssignedIn, IsAssignedInOther}
 use Rattle.dh_paced.specs.Paced.{IsIn, IsReadGroups, IsReadIn, IsReadOther, IsReadPart, action_levels, between_arms, groups_levels, other_levels, part_levels}
-use Rattle.dh_paced.specs.Standing.{AreCurrent, IsGround, IsTarget, OwnsGroups, OwnsIn, OwnsOther, OwnsPart, OwnsTarget, OwnsTerm, Paces, StandsFor, TakesAlone}
+use Rattle.dh_paced.specs.Standing.{AreCurrent, IsGround, IsTarget, OwnsGroups, OwnsIn, OwnsOther, OwnsPart, OwnsTarget, OwnsTerm, Paces, StandsFor, TakesAlone, OwnsView}
 use Rattle.dh_paced.proofs.ArmsPaced.{PacesArm, arm_paced, arm_stands, joined_paced}
 use Rattle.dh_paced.proofs.AssignedCore.{assigned_true, is_target, or_true, other_target, other_true, true_assigned, true_or, true_other}
 use Rattle.dh_paced.proofs.AssignmentsLogged.{HaveRoom, LeavesOf, arm_logged, based, behind_other, command_logged, other_logged, under_arm, values_at}
 use Rattle.dh_paced.proofs.CoreAppended.{action_then_levels, part_then_levels}
 use Rattle.dh_paced.proofs.LanesPaced.{assigned_paced, cleared_paced, reads_less, reduced_paced}
-use Rattle.dh_paced.proofs.LevelsOfCommands.{LevelsGo, action_go, assigned_levels, groups_go, other_go, part_go, reduced_core, reduced_leveled, stored_leveled, view_leveled}
+use Rattle.dh_paced.proofs.LevelsOfCommands.{LevelsGo, action_go, assigned_levels, groups_go, other_go, part_go, reduced_core, reduced_leveled, view_leveled, keeping_levels}
 use Rattle.dh_paced.proofs.StoresPaced.{by_indices_paced, by_row_paced}
 use Rattle.dh_paced.proofs.TestsPaced.{TestsAt, TestsPaced, tests_paced}
+use Rattle.dh_paced.proofs.KeepingPaced.{kept_paced}
 
 module _ (c : Clocks) (scene : Scene) (top : Around) (spaces : ℕ) (shared : ℕ → Option ℕ) (Variable Read Own : ℕ → Type 0) (g : IsGround c scene top spaces shared Variable Read Own) where
   abbrev pub Pace : (old new : Building) → Levels → (next : ℕ) → Type 0
@@ -156,13 +160,11 @@ module _ (c : Clocks) (scene : Scene) (top : Around) (spaces : ℕ) (shared : �
         → Pace old new (action_levels (known_in scene) shared outer n (action 0 (record { line = 0; column = 0 }) (stores target t)) l) (n + ((term_accesses t + term_accesses target) + 0))
     stored_here (plain.term place k (plain.accessed r ts)) t m few suits own reads =
         paces_to old new _ (n + (term_accesses t + (terms_accesses ts + 1))) (n + ((term_accesses t + suc (terms_accesses ts)) + 0)) (omega arith)
-        (paces_as old new _ _ (n + (term_accesses t + (terms_accesses ts + 1))) (sym (stored_leveled scene shared outer n place k r ts t l))
         (by_indices_paced c scene top spaces shared Variable Read Own g around outer n l old s t own.0 place k r ts own.1.0 own.1.1 (omega (arith, few))
-        (reads_less c (all_leveled scene shared outer (n + term_accesses t) ts (leveled scene shared outer n t l).levels).levels (n + term_accesses t + terms_accesses ts) (n + ((term_accesses t + suc (terms_accesses ts)) + 0)) (omega arith)
-        (subst (λ (x : Levels). ReadsAgree c x (n + ((term_accesses t + suc (terms_accesses ts)) + 0))) (stored_leveled scene shared outer n place k r ts t l) reads)) new next
+        (reads_less c (named_leveled scene shared outer (n + term_accesses t) r ts (leveled scene shared outer n t l).levels).levels (n + term_accesses t + terms_accesses ts) (n + ((term_accesses t + suc (terms_accesses ts)) + 0)) (omega arith) reads) new next
         (subst (λ (i : ℕ). StoredTo scene around i (plain.term place k (plain.accessed r ts)) t (paths_counted top) old new next) same
         (subst (λ (i : ℕ). StoredTo scene around first (plain.term place k (plain.accessed r ts)) t i old new next) s.under.counted m)) agrees agree
-        (λ i within. subst (λ (j : ℕ). StoreSuits c.block scene around j (plain.term place k (plain.accessed r ts)) t) same suits i (within_around i within))))
+        (λ i within. subst (λ (j : ℕ). StoreSuits c.block scene around j (plain.term place k (plain.accessed r ts)) t) same suits i (within_around i within)))
     stored_here (plain.term place k (plain.in_bank r bank at row)) t m few suits own reads =
         paces_to old new _ (n + (term_accesses t + (term_accesses row + 1))) (n + ((term_accesses t + suc (term_accesses row)) + 0)) (omega arith)
         (by_row_paced c scene top spaces shared Variable Read Own g around outer n l old s t own.0 place at k r bank row own.1.0 own.1.1 (omega (arith, few))
@@ -175,6 +177,19 @@ module _ (c : Clocks) (scene : Scene) (top : Around) (spaces : ℕ) (shared : �
     stored_here (plain.term place k (plain.named r)) t m few suits own reads = absurd own.1
     stored_here (plain.term place k (plain.applied op left right)) t m few suits own reads = absurd own.1
     stored_here (plain.term place k (plain.converted inner to)) t m few suits own reads = absurd own.1
+
+  -- a view, whose variables keep its offsets, or that keeps none
+  view_paced : (hs : List Hidden) (form : plain.ViewPlan) (around : Around) (old new : Building) (first next : ℕ) → MadeView scene hs form around old new first next → (n : ℕ) → first ≡ n → n + plan_accesses form < 2 ^ 32
+      → KeepingSuits c.block scene around first hs (offsets_of form) → (outer : ℕ) (l : Levels) → Stand around old outer n l → OwnsView c scene top spaces shared Variable Read Own outer n hs form
+      → ReadsAgree c (keeping_levels scene shared hs outer n (offsets_of form) l) (n + (plan_accesses form + 0)) → Agrees c.block new.draft → AgreeInTime c new.draft
+      → Pace old new (keeping_levels scene shared hs outer n (offsets_of form) l) (n + (plan_accesses form + 0))
+  view_paced [] form around old new first next m n same few suits outer l s own reads agrees agree = still_paced around old new outer n (plan_accesses form + 0) l m.still (λ i h read. own i h read) s
+  view_paced (h ∷ hs) form around old new first next m n same few suits outer l s own reads agrees agree =
+      paces_to old new (kept_leveled shared outer h.entity (core_terms (known_in scene) n (terms (offsets_of form))) l) (n + plan_accesses form) (n + (plan_accesses form + 0)) (omega arith)
+      (kept_paced c scene top spaces shared Variable Read Own g around outer n l old s h.entity (offsets_of form) few own.0 own.1
+      (reads_less c (kept_leveled shared outer h.entity (core_terms (known_in scene) n (terms (offsets_of form))) l) (n + plan_accesses form) (n + (plan_accesses form + 0)) (omega arith) reads) new next
+      (subst (λ (i : ℕ). KeptTo scene around i h.entity (offsets_of form) (paths_counted top) old new next) same (subst (λ (i : ℕ). KeptTo scene around first h.entity (offsets_of form) i old new next) s.under.counted m)) agrees agree
+      (λ k within. subst (λ (i : ℕ). KeepingSuits c.block scene around i (h ∷ hs) (offsets_of form)) same suits k (subst (λ (i : ℕ). k < i) (sym s.under.counted) within)))
 
   -- Parts of a block.
 
@@ -229,10 +244,10 @@ module _ (c : Clocks) (scene : Scene) (top : Around) (spaces : ℕ) (shared : �
     tested_go : LevelsThen n (term_accesses test) l tested
     tested_go = levels_behind scene shared outer test n l
 
-    chosen_go : LevelsGo (IsReadIn n1 chosen) n1 (accesses_of chosen) tested.levels behind_chosen
+    chosen_go : LevelsGo (IsReadIn (known_in scene) n1 chosen) n1 (accesses_of chosen) tested.levels behind_chosen
     chosen_go = action_go scene shared inner n1 chosen tested.levels reaches.0
 
-    rest_go : LevelsGo (IsReadOther n2 other) n2 (other_accesses other) between behind_other_arm
+    rest_go : LevelsGo (IsReadOther (known_in scene) n2 other) n2 (other_accesses other) between behind_other_arm
     rest_go = other_go scene shared inner n2 other between reaches.1
 
     few_test : first + term_accesses test < 2 ^ 32
@@ -362,19 +377,19 @@ module _ (c : Clocks) (scene : Scene) (top : Around) (spaces : ℕ) (shared : �
       room_of : (May : ℕ → Type 0) → ((e : ℕ) → May e → IsTarget c scene top spaces shared Variable Read Own e) → (v : Values) → length v.current.items ≡ spaces → HaveRoom scene top May v
       room_of May targets v long = λ e i may within. let t = targets e may in subst (λ (k : ℕ). register_in scene top e i < k) (sym long) (g.room e i t.is t.no_counter within)
 
-      chosen_targets : (e : ℕ) → IsAssignedIn chosen e → IsTarget c scene top spaces shared Variable Read Own e
+      chosen_targets : (e : ℕ) → IsAssignedIn (known_in scene) chosen e → IsTarget c scene top spaces shared Variable Read Own e
       chosen_targets e is = is_target c scene top spaces shared Variable Read Own inner n1 e chosen tested.levels own.1.0 is
 
-      other_targets : (e : ℕ) → IsAssignedInOther other e → IsTarget c scene top spaces shared Variable Read Own e
+      other_targets : (e : ℕ) → IsAssignedInOther (known_in scene) other e → IsTarget c scene top spaces shared Variable Read Own e
       other_targets e is = other_target c scene top spaces shared Variable Read Own inner n2 e other between own.1.1 is
 
-      chosen_leaves : LeavesOf scene top (IsAssignedIn chosen) m.tested.values m.after_chosen.values m.chosen.inside.values.current.items m.chosen_left
+      chosen_leaves : LeavesOf scene top (IsAssignedIn (known_in scene) chosen) m.tested.values m.after_chosen.values m.chosen.inside.values.current.items m.chosen_left
       chosen_leaves =
-          arm_logged scene top (MadeCommand scene chosen) around true m.tests m.tested m.after_chosen m.own m.behind m.chosen_left m.chosen (IsAssignedIn chosen)
+          arm_logged scene top (MadeCommand scene chosen) around true m.tests m.tested m.after_chosen m.own m.behind m.chosen_left m.chosen (IsAssignedIn (known_in scene) chosen)
           (command_logged scene top chosen m.chosen.arm m.chosen.begin m.chosen.inside m.own m.behind m.chosen.command
           (under_arm scene top (MadeCommand scene chosen) around true m.tests m.tested m.after_chosen m.own m.behind m.chosen_left m.chosen s.under tests_long)
           (values_at scene top AreReady m.tested.values m.chosen.begin.values m.chosen.begin_values ready_tested)
-          (values_at scene top (HaveRoom scene top (IsAssignedIn chosen)) m.tested.values m.chosen.begin.values m.chosen.begin_values (room_of (IsAssignedIn chosen) chosen_targets m.tested.values long_tested)))
+          (values_at scene top (HaveRoom scene top (IsAssignedIn (known_in scene) chosen)) m.tested.values m.chosen.begin.values m.chosen.begin_values (room_of (IsAssignedIn (known_in scene) chosen) chosen_targets m.tested.values long_tested)))
 
       ready_chosen : AreReady m.after_chosen.values
       ready_chosen = same_ready m.tested.values m.after_chosen.values chosen_leaves.same ready_tested
@@ -385,8 +400,8 @@ module _ (c : Clocks) (scene : Scene) (top : Around) (spaces : ℕ) (shared : �
       abbrev behind_two : List (Option ℕ)
       behind_two = behind_other scene top other around m.tests m.after_chosen m.after_other m.behind next m.other_left m.other
 
-      other_leaves : LeavesOf scene top (IsAssignedInOther other) m.after_chosen.values m.after_other.values behind_two m.other_left
-      other_leaves = other_logged scene top other around m.tests m.after_chosen m.after_other m.behind next m.other_left m.other s.under tests_long ready_chosen (room_of (IsAssignedInOther other) other_targets m.after_chosen.values long_chosen)
+      other_leaves : LeavesOf scene top (IsAssignedInOther (known_in scene) other) m.after_chosen.values m.after_other.values behind_two m.other_left
+      other_leaves = other_logged scene top other around m.tests m.after_chosen m.after_other m.behind next m.other_left m.other s.under tests_long ready_chosen (room_of (IsAssignedInOther (known_in scene) other) other_targets m.after_chosen.values long_chosen)
 
       -- the first arm
       chosen_stands : Agrees c.block m.chosen.begin.draft → AgreeInTime c m.chosen.begin.draft → Stand m.chosen.arm m.chosen.begin inner n1 tested.levels
@@ -446,9 +461,9 @@ module _ (c : Clocks) (scene : Scene) (top : Around) (spaces : ℕ) (shared : �
           let level_few : tested.level ≤ between.most = let f = tested_go.level_few s.bounded in let h = chosen_go.more in omega (arith, f, h) in
           let two = second_arm (other_stands one) other_truths tests_are.at tests_long level_few agrees_other agree_other reads_other in
           let last =
-          joined_paced c scene top spaces shared Variable Read Own g (IsAssignedIn chosen) (IsAssignedInOther other) m.tests tests_long m.chosen_left m.other_left m.tested.values m.after_other.values m.chosen.inside.values.current.items behind_two
+          joined_paced c scene top spaces shared Variable Read Own g (IsAssignedIn (known_in scene) chosen) (IsAssignedInOther (known_in scene) other) m.tests tests_long m.chosen_left m.other_left m.tested.values m.after_other.values m.chosen.inside.values.current.items behind_two
           (same_ready m.after_chosen.values m.after_other.values other_leaves.same ready_chosen) (same_again m.tested.values m.after_chosen.values m.after_other.values chosen_leaves.same other_leaves.same) chosen_leaves.left
-          (based scene top (IsAssignedInOther other) m.tested.values.current.items m.after_chosen.values.current.items behind_two m.other_left chosen_leaves.same.current other_leaves.left) chosen_leaves.covers other_leaves.covers
+          (based scene top (IsAssignedInOther (known_in scene) other) m.tested.values.current.items m.after_chosen.values.current.items behind_two m.other_left chosen_leaves.same.current other_leaves.left) chosen_leaves.covers other_leaves.covers
           m.after_other new refl m.joined tested.level tests_are.at tested.levels behind_chosen behind_other_arm one.left two.left tested_stands.current (λ e is. by e is) (let h = rest_go.more in omega (arith, level_few, h))
           (λ e. let b = chosen_go.bounded (tested_go.bounded s.bounded) in let v = b.variables e in let h = rest_go.more in omega (arith, v, h)) (λ e. (rest_go.bounded bounded_between).variables e)
           (core_action (known_in scene) n1 chosen no_commands) (core_other (known_in scene) n2 other) (λ e is. assigned_by e is) (λ e isnt is. never e isnt is) (n2 + other_accesses other) agree
@@ -464,22 +479,22 @@ module _ (c : Clocks) (scene : Scene) (top : Around) (spaces : ℕ) (shared : �
             given = last.given;
           })
         where
-          by : (e : ℕ) → IsAssignedIn chosen e ⊎ IsAssignedInOther other e → IsTarget c scene top spaces shared Variable Read Own e
+          by : (e : ℕ) → IsAssignedIn (known_in scene) chosen e ⊎ IsAssignedInOther (known_in scene) other e → IsTarget c scene top spaces shared Variable Read Own e
           by e (inl is) = chosen_targets e is
           by e (inr is) = other_targets e is
 
-          split : (e : ℕ) → (any_assigns e (core_action (known_in scene) n1 chosen no_commands) ≡ true) ⊎ (any_assigns e (core_other (known_in scene) n2 other) ≡ true) → IsAssignedIn chosen e ⊎ IsAssignedInOther other e
+          split : (e : ℕ) → (any_assigns e (core_action (known_in scene) n1 chosen no_commands) ≡ true) ⊎ (any_assigns e (core_other (known_in scene) n2 other) ≡ true) → IsAssignedIn (known_in scene) chosen e ⊎ IsAssignedInOther (known_in scene) other e
           split e (inl is) = inl (true_assigned scene n1 e chosen is)
           split e (inr is) = inr (true_other scene n2 e other is)
 
-          assigned_by : (e : ℕ) → (any_assigns e (core_action (known_in scene) n1 chosen no_commands) || any_assigns e (core_other (known_in scene) n2 other)) ≡ true → IsAssignedIn chosen e ⊎ IsAssignedInOther other e
+          assigned_by : (e : ℕ) → (any_assigns e (core_action (known_in scene) n1 chosen no_commands) || any_assigns e (core_other (known_in scene) n2 other)) ≡ true → IsAssignedIn (known_in scene) chosen e ⊎ IsAssignedInOther (known_in scene) other e
           assigned_by e is = split e (true_or (any_assigns e (core_action (known_in scene) n1 chosen no_commands)) (any_assigns e (core_other (known_in scene) n2 other)) is)
 
           clash : (b : Truth) → b ≡ false → b ≡ true → ⊥
           clash true p q = absurd (cc)
           clash false p q = cc
 
-          never : (e : ℕ) → (any_assigns e (core_action (known_in scene) n1 chosen no_commands) || any_assigns e (core_other (known_in scene) n2 other)) ≡ false → IsAssignedIn chosen e ⊎ IsAssignedInOther other e → ⊥
+          never : (e : ℕ) → (any_assigns e (core_action (known_in scene) n1 chosen no_commands) || any_assigns e (core_other (known_in scene) n2 other)) ≡ false → IsAssignedIn (known_in scene) chosen e ⊎ IsAssignedInOther (known_in scene) other e → ⊥
           never e isnt (inl is) = clash _ isnt (or_true _ _ (inl (assigned_true scene n1 e chosen is)))
           never e isnt (inr is) = clash _ isnt (or_true _ _ (inr (other_true scene n2 e other is)))
 
@@ -543,7 +558,10 @@ module _ (c : Clocks) (scene : Scene) (top : Around) (spaces : ℕ) (shared : �
         (reads_less c (groups_levels (known_in scene) shared outer n body l) (n + groups_accesses body) (n + (0 + groups_accesses body)) (omega arith) reads) agrees agree)
     command_paced (action id place (lets_memory name shape shape_places value)) around old new first next m n same reaches few suits outer l s own reads agrees agree = still_paced around old new outer n 0 l m.still (λ i h read. none_in n i h read) s
     command_paced (action id place (views name parent form)) around old new first next m n same reaches few suits outer l s own reads agrees agree =
-        paces_as old new l _ (n + (plan_accesses form + 0)) (sym (view_leveled scene shared outer n name parent form l)) (still_paced around old new outer n (plan_accesses form + 0) l m.still (λ i h read. own i h read) s)
+        let hs : List Hidden = hidden_in (way_of (known_in scene) name) in
+        let split : action_levels (known_in scene) shared outer n (action id place (views name parent form)) l ≡ keeping_levels scene shared hs outer n (offsets_of form) l = view_leveled scene shared hs outer n (offsets_of form) l in
+        paces_as old new (keeping_levels scene shared hs outer n (offsets_of form) l) (action_levels (known_in scene) shared outer n (action id place (views name parent form)) l) (n + (plan_accesses form + 0)) (sym split)
+        (view_paced hs form around old new first next m n same (omega (arith, few)) suits outer l s own (subst (λ (w : Levels). ReadsAgree c w (n + (plan_accesses form + 0))) split reads) agrees agree)
     command_paced (action id place (calls function arguments)) around old new first next m n same reaches few suits outer l s own reads agrees agree = still_paced around old new outer n 0 l m.still (λ i h read. none_in n i h read) s
     command_paced (action id place (repeats test body)) around old new first next m n same reaches few suits outer l s own reads agrees agree =
         still_paced around old new outer n (term_accesses test + accesses_of body) l m.still (λ i h read. own i h read) s
@@ -573,8 +591,8 @@ module _ (c : Clocks) (scene : Scene) (top : Around) (spaces : ℕ) (shared : �
         let lr : Levels = part_levels (known_in scene) shared outer k rest la in
         let split : part_levels (known_in scene) shared outer n (action_then a rest) l ≡ lr = action_then_levels (known_in scene) n a (core_part (known_in scene) k rest no_commands) shared outer l in
         let told : ReadsAgree c lr (n + (accesses_of a + part_accesses rest)) = subst (λ (w : Levels). ReadsAgree c w (n + (accesses_of a + part_accesses rest))) split reads in
-        let rest_go : LevelsGo (IsReadPart k rest) k (part_accesses rest) la lr = part_go scene shared outer k rest la reaches.1 in
-        let one_go : LevelsGo (IsReadIn n a) n (accesses_of a) l la = action_go scene shared outer n a l reaches.0 in
+        let rest_go : LevelsGo (IsReadPart (known_in scene) k rest) k (part_accesses rest) la lr = part_go scene shared outer k rest la reaches.1 in
+        let one_go : LevelsGo (IsReadIn (known_in scene) n a) n (accesses_of a) l la = action_go scene shared outer n a l reaches.0 in
         let reached = command_reached scene a around old m.middle first m.own m.one reaches.0 (some_around around old outer n l s) (few_first first n (accesses_of a) same (few_front n (accesses_of a) (part_accesses rest) few)) in
         let own_is : m.own ≡ k = own_next first n (accesses_of a) m.own same reached.1.next_is in
         let f : FormsCommand scene around old m.middle (λ x. CommandSuits x scene a around old m.middle first m.own m.one) = command_forms scene a around old m.middle first m.own m.one reached.0 in
@@ -583,7 +601,7 @@ module _ (c : Clocks) (scene : Scene) (top : Around) (spaces : ℕ) (shared : �
         let agrees_middle : Agrees c.block m.middle.draft = agrees_before c.block m.middle.draft new.draft more agrees in
         let p : Pace old m.middle la k =
         command_paced a around old m.middle first m.own m.one n same reaches.0 (few_front n (accesses_of a) (part_accesses rest) few) suits.0 outer l s own.0
-        (reads_before (IsReadPart k rest) n (accesses_of a) (part_accesses rest) la lr rest_go told) agrees_middle (agree_before c m.middle.draft new.draft more agree) in
+        (reads_before (IsReadPart (known_in scene) k rest) n (accesses_of a) (part_accesses rest) la lr rest_go told) agrees_middle (agree_before c m.middle.draft new.draft more agree) in
         let q : Pace m.middle new lr (k + part_accesses rest) =
         part_paced rest around m.middle new m.own next m.rest k own_is reaches.1 (few_behind n (accesses_of a) (part_accesses rest) few) suits.1 outer la
         (stands_then around old m.middle outer n k l la _ s f agrees_middle suits.0 one_go.bounded one_go.more p) own.1 (reads_behind n (accesses_of a) (part_accesses rest) lr told) agrees agree in
@@ -601,8 +619,8 @@ module _ (c : Clocks) (scene : Scene) (top : Around) (spaces : ℕ) (shared : �
         let lr : Levels = groups_levels (known_in scene) shared outer k rest la in
         let split : groups_levels (known_in scene) shared outer n (group_then part rest) l ≡ lr = part_then_levels (known_in scene) n part (core_groups (known_in scene) k rest no_commands) shared outer l in
         let told : ReadsAgree c lr (n + (part_accesses part + groups_accesses rest)) = subst (λ (w : Levels). ReadsAgree c w (n + (part_accesses part + groups_accesses rest))) split reads in
-        let rest_go : LevelsGo (IsReadGroups k rest) k (groups_accesses rest) la lr = groups_go scene shared outer k rest la reaches.1 in
-        let one_go : LevelsGo (IsReadPart n part) n (part_accesses part) l la = part_go scene shared outer n part l reaches.0 in
+        let rest_go : LevelsGo (IsReadGroups (known_in scene) k rest) k (groups_accesses rest) la lr = groups_go scene shared outer k rest la reaches.1 in
+        let one_go : LevelsGo (IsReadPart (known_in scene) n part) n (part_accesses part) l la = part_go scene shared outer n part l reaches.0 in
         let reached = actions_reached scene part around old m.middle first m.own m.one reaches.0 (some_around around old outer n l s) (few_first first n (part_accesses part) same (few_front n (part_accesses part) (groups_accesses rest) few)) in
         let own_is : m.own ≡ k = own_next first n (part_accesses part) m.own same reached.1.next_is in
         let f : FormsCommand scene around old m.middle (λ x. ActionsSuit x scene part around old m.middle first m.own m.one) = actions_form scene part around old m.middle first m.own m.one reached.0 in
@@ -611,7 +629,7 @@ module _ (c : Clocks) (scene : Scene) (top : Around) (spaces : ℕ) (shared : �
         let agrees_middle : Agrees c.block m.middle.draft = agrees_before c.block m.middle.draft new.draft more agrees in
         let p : Pace old m.middle la k =
         part_paced part around old m.middle first m.own m.one n same reaches.0 (few_front n (part_accesses part) (groups_accesses rest) few) suits.0 outer l s own.0
-        (reads_before (IsReadGroups k rest) n (part_accesses part) (groups_accesses rest) la lr rest_go told) agrees_middle (agree_before c m.middle.draft new.draft more agree) in
+        (reads_before (IsReadGroups (known_in scene) k rest) n (part_accesses part) (groups_accesses rest) la lr rest_go told) agrees_middle (agree_before c m.middle.draft new.draft more agree) in
         let q : Pace m.middle new lr (k + groups_accesses rest) =
         groups_paced rest around m.middle new m.own next m.rest k own_is reaches.1 (few_behind n (part_accesses part) (groups_accesses rest) few) suits.1 outer la
         (stands_then around old m.middle outer n k l la _ s f agrees_middle suits.0 one_go.bounded one_go.more p) own.1 (reads_behind n (part_accesses part) (groups_accesses rest) lr told) agrees agree in

@@ -4,7 +4,7 @@ use Rattle.std.specs.List.{AllByRecursion}
 use Rattle.std.proofs.lemmas.Bool.{cases_lt}
 use Rattle.dh_meaning.specs.AccessNumbers.{accesses_of}
 use Rattle.dh_meaning.specs.Core.{no_commands}
-use Rattle.dh_meaning.specs.CoreOf.{core_action, core_commands}
+use Rattle.dh_meaning.specs.CoreOf.{core_action, core_commands, Known}
 use Rattle.dh_meaning.specs.Levels.{Levels}
 use Rattle.dh_meaning.specs.OnePhase.{any_makes, makes}
 use Rattle.dh_meaning.specs.Phases.{Located}
@@ -50,10 +50,10 @@ each_from from [] rising m i = absurd i
 each_from from (c ∷ cs) rising m (inl i) = let r = rising.0 in let f = i.0 in omega (arith, r, f)
 each_from from (c ∷ cs) rising m (inr i) = let r = rising.0 in let f = each_from (c.first + accesses_of c.command) cs rising.1.1 m i in omega (arith, r, f)
 
-pub read_of_each : (cs : List Located) → AllByRecursion (λ (c : Located). StoresReach c.command) cs → (m : ℕ) → IsReadOfEach cs m → IsOfEach cs m
-read_of_each [] reach m i = absurd i
-read_of_each (c ∷ cs) reach m (inl i) = inl (read_in c.first c.command m i reach.0)
-read_of_each (c ∷ cs) reach m (inr i) = inr (read_of_each cs reach.1 m i)
+pub read_of_each : (known : Known) (cs : List Located) → AllByRecursion (λ (c : Located). StoresReach c.command) cs → (m : ℕ) → IsReadOfEach known cs m → IsOfEach cs m
+read_of_each known [] reach m i = absurd i
+read_of_each known (c ∷ cs) reach m (inl i) = inl (read_in known c.first c.command m i reach.0)
+read_of_each known (c ∷ cs) reach m (inr i) = inr (read_of_each known cs reach.1 m i)
 
 end_behind : (from : ℕ) (cs : List Located) → AreRising from cs → from ≤ end_of from cs
 end_behind from [] rising = omega arith
@@ -71,13 +71,13 @@ module _ (scene : Scene) (shared : ℕ → Option ℕ) where
     pub before_them : (m : ℕ) → m < from → (each_levels (known_in scene) shared cs l).reads m ≡ l.reads m
     pub more : l.most ≤ (each_levels (known_in scene) shared cs l).most
     pub bounded : AreBounded l → AreBounded (each_levels (known_in scene) shared cs l)
-    pub least : (k : ℕ) → l.most ≤ k → ((m : ℕ) → IsReadOfEach cs m → (each_levels (known_in scene) shared cs l).reads m ≤ k) → (each_levels (known_in scene) shared cs l).most ≤ k
+    pub least : (k : ℕ) → l.most ≤ k → ((m : ℕ) → IsReadOfEach (known_in scene) cs m → (each_levels (known_in scene) shared cs l).reads m ≤ k) → (each_levels (known_in scene) shared cs l).most ≤ k
 
   pub each_go : (cs : List Located) (from : ℕ) (l : Levels) → AllByRecursion (λ (c : Located). StoresReach c.command) cs → AreRising from cs → EachGo cs from l
   each_go [] from l reach rising = record { before_them = λ m less. refl; more = omega arith; bounded = λ b. b; least = λ k small reads. small }
   each_go (c ∷ cs) from l reach rising =
       let la : Levels = action_levels (known_in scene) shared 0 c.first c.command l in
-      let one : LevelsGo (IsReadIn c.first c.command) c.first (accesses_of c.command) l la = action_go scene shared 0 c.first c.command l reach.0 in
+      let one : LevelsGo (IsReadIn (known_in scene) c.first c.command) c.first (accesses_of c.command) l la = action_go scene shared 0 c.first c.command l reach.0 in
       let rest : EachGo cs (c.first + accesses_of c.command) la = each_go cs (c.first + accesses_of c.command) la reach.1 rising.1.1 in
       let r = rising.0 in
       record {
@@ -85,7 +85,7 @@ module _ (scene : Scene) (shared : ℕ → Option ℕ) where
         more = let s = one.more in let t = rest.more in omega (arith, s, t);
         bounded = λ b. rest.bounded (one.bounded b);
         least = λ k small reads.
-            rest.least k (one.least k small (λ m i. subst (λ (n : ℕ). n ≤ k) (rest.before_them m (read_in c.first c.command m i reach.0).1) (reads m (inl i)))) (λ m i. reads m (inr i));
+            rest.least k (one.least k small (λ m i. subst (λ (n : ℕ). n ≤ k) (rest.before_them m (read_in (known_in scene) c.first c.command m i reach.0).1) (reads m (inl i)))) (λ m i. reads m (inr i));
       }
 
 module _ (c : Clocks) (scene : Scene) (top : Around) (spaces : ℕ) (shared : ℕ → Option ℕ) (Variable Read Own : ℕ → Type 0) (g : IsGround c scene top spaces shared Variable Read Own) where
@@ -133,7 +133,7 @@ module _ (c : Clocks) (scene : Scene) (top : Around) (spaces : ℕ) (shared : �
 
   pub each_paced : (cs : List Located) (from : ℕ) (old new : Building) (m : MadeEach scene top cs old new) (l : Levels) → AllByRecursion (λ (d : Located). StoresReach d.command) cs → AreRising from cs → EachSuits c.block scene top cs old new m
       → AllByRecursion (λ (d : Located). AssignsOwn scene top d.first d.command) cs → StandsFor c scene top spaces shared Variable Read Own top old 0 from l
-      → ((x : ℕ) → any_makes x cs ≡ true → Own x) → ((x : ℕ) → from ≤ x → c.outer x ≡ outer_each (known_in scene) shared cs l x) → ((e : ℕ) → Read e → from ≤ e → IsReadOfEach cs e)
+      → ((x : ℕ) → any_makes x cs ≡ true → Own x) → ((x : ℕ) → from ≤ x → c.outer x ≡ outer_each (known_in scene) shared cs l x) → ((e : ℕ) → Read e → from ≤ e → IsReadOfEach (known_in scene) cs e)
       → ((e : ℕ) → commands_mention e (core_commands (known_in scene) cs) ≡ true → Variable e)
       → ((x : ℕ) (s : Site) → c.block.sites x ≡ Some s → (each_levels (known_in scene) shared cs l).reads x ≡ c.reads x) → Agrees c.block new.draft → AgreeInTime c new.draft
       → EachPaced old new (each_levels (known_in scene) shared cs l) (end_of from cs)
@@ -150,13 +150,13 @@ module _ (c : Clocks) (scene : Scene) (top : Around) (spaces : ℕ) (shared : �
       let k : ℕ = d.first + accesses_of d.command in
       let la : Levels = action_levels (known_in scene) shared 0 d.first d.command l in
       let f : FormsCommand scene top old mid (λ x. CommandSuits x scene d.command top old mid d.first next m) = one_formed d old mid next m reach.0 rising.1.0 in
-      let one_go : LevelsGo (IsReadIn d.first d.command) d.first (accesses_of d.command) l la = action_go scene shared 0 d.first d.command l reach.0 in
+      let one_go : LevelsGo (IsReadIn (known_in scene) d.first d.command) d.first (accesses_of d.command) l la = action_go scene shared 0 d.first d.command l reach.0 in
       let rest_go : EachGo scene shared cs k la = each_go scene shared cs k la reach.1 rising.1.1 in
       let more : Extends mid.draft new.draft = each_extends cs k mid new rest reach.1 rising.1.1 in
       let agrees_mid : Agrees c.block mid.draft = agrees_before c.block mid.draft new.draft more agrees in
       let here : StandsFor c scene top spaces shared Variable Read Own top old 0 d.first l = stands_gap old from d.first l rising.0 (λ e read more. each_first e (reads e read more)) s in
       let mention = λ (e : ℕ). action_then_mentions (known_in scene) d.first d.command (core_commands (known_in scene) cs) e in
-      let known : Knows c scene top spaces shared Variable Read Own d.first (accesses_of d.command) (λ x. outer_in (known_in scene) shared 0 d.first d.command l x) (IsReadIn d.first d.command) (λ x. makes x d.first d.command) (core_action (known_in scene) d.first d.command no_commands) =
+      let known : Knows c scene top spaces shared Variable Read Own d.first (accesses_of d.command) (λ x. outer_in (known_in scene) shared 0 d.first d.command l x) (IsReadIn (known_in scene) d.first d.command) (λ x. makes x d.first d.command) (core_action (known_in scene) d.first d.command no_commands) =
       record {
         own = λ x i. own x (left_of (makes x d.first d.command) (any_makes x cs) i);
         outer_is = λ x i. outers x (let r = rising.0 in let a = i.0 in omega (arith, r, a)) ∙ pick_low x k (outer_in (known_in scene) shared 0 d.first d.command l x) (outer_each (known_in scene) shared cs la x) i.1;
@@ -179,20 +179,20 @@ module _ (c : Clocks) (scene : Scene) (top : Around) (spaces : ℕ) (shared : �
         extends = extends_again old.draft mid.draft new.draft f.extends q.extends;
       }
     where
-      each_first : (e : ℕ) → IsReadOfEach (d ∷ cs) e → d.first ≤ e
-      each_first e (inl i) = (read_in d.first d.command e i reach.0).0
-      each_first e (inr i) = let a = each_from (d.first + accesses_of d.command) cs rising.1.1 e (read_of_each cs reach.1 e i) in omega (arith, a)
+      each_first : (e : ℕ) → IsReadOfEach (known_in scene) (d ∷ cs) e → d.first ≤ e
+      each_first e (inl i) = (read_in (known_in scene) d.first d.command e i reach.0).0
+      each_first e (inr i) = let a = each_from (d.first + accesses_of d.command) cs rising.1.1 e (read_of_each (known_in scene) cs reach.1 e i) in omega (arith, a)
 
-      read_here : (e : ℕ) → IsIn d.first (accesses_of d.command) e → IsReadOfEach (d ∷ cs) e → IsReadIn d.first d.command e
+      read_here : (e : ℕ) → IsIn d.first (accesses_of d.command) e → IsReadOfEach (known_in scene) (d ∷ cs) e → IsReadIn (known_in scene) d.first d.command e
       read_here e i (inl r) = r
-      read_here e i (inr r) = absurd (let a = each_from (d.first + accesses_of d.command) cs rising.1.1 e (read_of_each cs reach.1 e r) in let b = i.1 in never a b)
+      read_here e i (inr r) = absurd (let a = each_from (d.first + accesses_of d.command) cs rising.1.1 e (read_of_each (known_in scene) cs reach.1 e r) in let b = i.1 in never a b)
         where
           never : d.first + accesses_of d.command ≤ e → e < d.first + accesses_of d.command → ⊥
           never a b = omega (arith, a, b)
 
-      read_behind : (e : ℕ) → d.first + accesses_of d.command ≤ e → IsReadOfEach (d ∷ cs) e → IsReadOfEach cs e
+      read_behind : (e : ℕ) → d.first + accesses_of d.command ≤ e → IsReadOfEach (known_in scene) (d ∷ cs) e → IsReadOfEach (known_in scene) cs e
       read_behind e from_k (inr r) = r
-      read_behind e from_k (inl r) = absurd (let b = (read_in d.first d.command e r reach.0).1 in never from_k b)
+      read_behind e from_k (inl r) = absurd (let b = (read_in (known_in scene) d.first d.command e r reach.0).1 in never from_k b)
         where
           never : d.first + accesses_of d.command ≤ e → e < d.first + accesses_of d.command → ⊥
           never a b = omega (arith, a, b)

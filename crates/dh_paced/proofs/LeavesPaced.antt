@@ -6,14 +6,15 @@ use Rattle.dh_value.specs.declared.kinds.Kind.TheVariants as kind
 use Rattle.dh_value.specs.declared.operators.Op.{Op}
 use Rattle.dh_tree.specs.PlainTrees as plain
 use Rattle.dh_tree.specs.PlainTrees.{Term}
+use Rattle.dh_tree.specs.declared.trees.expressions.Ref.{Ref}
 use Rattle.dh_meaning.specs.AccessNumbers.{term_accesses, terms_accesses}
-use Rattle.dh_meaning.specs.CoreOf.{core_term, core_terms}
+use Rattle.dh_meaning.specs.CoreOf.{core_term, core_terms, memory_of, target_to, way_of}
 use Rattle.dh_meaning.specs.Levels.{Levels}
 use Rattle.dh_code.specs.Extended.{extension_of}
 use Rattle.dh_code.specs.Made.{same_kind}
 use Rattle.dh_code.specs.declared.places.Held.{Held}
 use Rattle.dh_plan.specs.declared.operations.OperationForm.TheVariants.{Convert}
-use Rattle.dh_plan.specs.PlanPhases.{term_mentions, terms_mention}
+use Rattle.dh_plan.specs.PlanPhases.{term_mentions, terms_mention, target_mentions}
 use Rattle.dh_expressions.specs.declared.accesses.Accesses.{Accesses}
 use Rattle.dh_expressions.specs.declared.drafts.Draft.{Draft}
 use Rattle.dh_expressions.specs.declared.scenes.Around.{Around}
@@ -21,21 +22,22 @@ use Rattle.dh_expressions.specs.declared.scenes.Lane.{Lane}
 use Rattle.dh_expressions.specs.declared.scenes.Scene.{Scene}
 use Rattle.dh_expressions.specs.Drafted.{Extends}
 use Rattle.dh_expressions.specs.Evaluated.{known_in}
-use Rattle.dh_expressions.specs.MadeTerms.{MadeTerm, MadeTerms}
+use Rattle.dh_expressions.specs.MadeTerms.{MadeTerm, MadeTerms, MadeThrough}
 use Rattle.dh_expressions.specs.MadeValues.{IsThere, MadeConverted}
 use Rattle.dh_expressions.specs.Shown.{kind_written, register_at}
 use Rattle.dh_expressions.proofs.ListPlaces.{place_within, some_same}
 use Rattle.dh_expressions.proofs.Pushing.{extends_again, extends_self}
+use Rattle.dh_expressions.specs.declared.elements.Aim.{Aim}
 use Rattle.dh_formed.specs.Counted.{AreNext, HaveGiven, given_at_paths}
-use Rattle.dh_formed.specs.Formed.{Agrees, AreNumbers, FormsPart, IsNoted, IsScope, TermSuits, TermsSuit}
-use Rattle.dh_formed.specs.Timed.{AgreeInTime, AreBounded, Clocks, CurrentAt, EntityAt, GuardAt, HasClock, NotedInTime, ReadsAgree, StandsInTime, TimesTerm, TimesTerms, TimesValue, Within, all_leveled, clock_of, leveled}
-use Rattle.dh_formed.proofs.TermsCounted.{all_counted, counted}
-use Rattle.dh_formed.proofs.TermsFormed.{all_formed, formed}
-use Rattle.dh_formed.proofs.TermsTimed.{all_timed, timed}
+use Rattle.dh_formed.specs.Formed.{Agrees, AreNumbers, FormsPart, IsNoted, IsScope, TermSuits, TermsSuit, NamedSuits}
+use Rattle.dh_formed.specs.Timed.{AgreeInTime, AreBounded, Clocks, CurrentAt, EntityAt, GuardAt, HasClock, NotedInTime, ReadsAgree, StandsInTime, TimesTerm, TimesTerms, TimesValue, Within, all_leveled, clock_of, leveled, TimesAim, named_leveled}
+use Rattle.dh_formed.proofs.TermsCounted.{all_counted, counted, named_counted}
+use Rattle.dh_formed.proofs.TermsFormed.{all_formed, formed, through_formed}
+use Rattle.dh_formed.proofs.TermsTimed.{all_timed, timed, through_timed}
 use Rattle.dh_formed.proofs.ValuesTimed.{agree_before, compute_timed, held_timed, shown_timed, time_later, timed_pushed, within_again, within_none}
 use Rattle.dh_commands.specs.MadeCommands.{FoldedWith, MadeOldOperand, MadeOperand}
 use Rattle.dh_paced.specs.Paced.{IsIn}
-use Rattle.dh_paced.specs.Standing.{AreOwn, IsGround, OwnsTerm, OwnsTerms}
+use Rattle.dh_paced.specs.Standing.{AreOwn, IsGround, OwnsTerm, OwnsTerms, OwnsNamed}
 
 -- Values in time.
 
@@ -187,3 +189,23 @@ module _ (c : Clocks) (scene : Scene) (top : Around) (spaces : ℕ) (shared : �
       where
         part : FormsPart scene lane current old mid before after (λ x. TermsSuit x scene lane n ts × AreNumbers ts)
         part = (all_formed scene lane current ts old mid before after n next vs m few).part
+
+    -- indices with what keeps the offsets on the way of what they name
+    pub record NamedHere (r : Ref) (ts : plain.Terms) (aim : Aim) : Type 0 where
+      pub extends : Extends old mid
+      pub timed_is : TimesAim c old mid after (named_leveled scene shared outer n r ts l) (memory_of (known_in scene) r) aim
+      pub given : HaveGiven lane before after n (terms_accesses ts)
+      pub noted : IsNoted c.block mid after
+
+    pub named_here : (r : Ref) (ts : plain.Terms) (aim : Aim) → MadeThrough scene lane current r ts old mid before after n aim → n + terms_accesses ts < 2 ^ 32 → OwnsNamed c scene top spaces shared Variable Read Own outer n r ts → AreNext scene lane before n (terms_accesses ts)
+        → NamedSuits c.block scene lane n r ts → ((e : ℕ) → Variable e → target_mentions e (target_to (way_of (known_in scene) r) (core_terms (known_in scene) n ts)) ≡ true → EntityAt c scene lane current l e)
+        → ReadsAgree c (named_leveled scene shared outer n r ts l).levels (n + terms_accesses ts) → NamedHere r ts aim
+    named_here r ts aim m few own is_next suits vars reads = record {
+      extends = part.extends;
+      timed_is = through_timed c scene lane current shared outer r ts old mid before after n aim m few l (stands_here (terms_accesses ts) own.are is_next) suits (λ e mentioned. vars e (own.names e mentioned) mentioned) reads;
+      given = (named_counted c.block scene lane current r ts old mid before after n aim m few (stands_here (terms_accesses ts) own.are is_next).stands suits).given;
+      noted = part.notes c.block h.agrees h.started h.scope h.noted suits;
+    }
+      where
+        part : FormsPart scene lane current old mid before after (λ x. NamedSuits x scene lane n r ts)
+        part = (through_formed scene lane current r ts old mid before after n aim m few).part

@@ -1,29 +1,27 @@
 -- The levels behind a command: of reads those of its own alone are others, and the greatest level is no more than it was,
 -- or than that of one of these reads. By recursion on the command.
-use Rattle.std.proofs.Common.{◌≡◌, ◌⊎◌, inl, inr, ℕ, suc, ◌+◌, ◌<◌, ◌≤◌, Some, None, Option, refl, ap, sym, ◌∙◌, subst, arith}
+use Rattle.std.proofs.Common.{◌≡◌, ◌⊎◌, inl, inr, ℕ, suc, ◌+◌, ◌<◌, ◌≤◌, Some, None, Option, List, [], ◌∷◌, refl, sym, ◌∙◌, subst, arith}
 use Rattle.std.specs.Prelude.{Bool as Truth, true, false, ◌==◌, ◌||◌, if◌then◌else◌, max}
 use Rattle.dh_value.specs.declared.operators.Op.{Op}
 use Rattle.dh_tree.specs.declared.trees.expressions.Ref.{Ref}
 use Rattle.dh_tree.specs.Indices.{form_of}
 use Rattle.dh_tree.specs.PlainTrees as plain
 use Rattle.dh_tree.specs.PlainTrees.{Term, Action, action, ActionForm, lets, lets_memory, views, assigns, stores, reduces, calls, blocks, decides, repeats, counts, MaybeAction, no_action, one_action, Actions, no_actions, action_then, Groups, no_groups, group_then}
-use Rattle.dh_base.specs.declared.places.Place.{Place}
-use Rattle.dh_value.specs.declared.kinds.Kind.{Kind}
+use Rattle.dh_tree.specs.ViewOffsets.{offsets_of}
+use Rattle.dh_tree.specs.Seen.{terms}
 use Rattle.dh_meaning.specs.AccessNumbers.{accesses_of, groups_accesses, other_accesses, part_accesses, plan_accesses, term_accesses, terms_accesses}
 use Rattle.dh_meaning.specs.Bindings.{kind_found}
-use Rattle.dh_meaning.specs.Core.{CoreCommands, CoreTerm, no_commands, store, variable}
-use Rattle.dh_meaning.specs.CoreOf.{core_action, core_action_form, core_groups, core_other, core_part, core_term, core_terms, depth_of, entity_number, kind_of, operation_of, reach_of, store_to, target_to}
-use Rattle.dh_meaning.specs.Levels.{Leveled, Levels, any_assigns, arms_joined, choice_levels, command_leveled, commands_leveled, greatest, term_leveled, with_value, with_variables}
-use Rattle.dh_meaning.specs.Ways.{Way}
-use Rattle.dh_code.proofs.CommandsFlattened.{no_way}
+use Rattle.dh_meaning.specs.Core.{CoreCommands, CoreTerm, no_commands, variable}
+use Rattle.dh_meaning.specs.CoreOf.{core_action, core_groups, core_other, core_part, core_term, core_terms, depth_of, entity_number, kind_of, operation_of, store_to, Known, kept_by, way_of}
+use Rattle.dh_meaning.specs.Levels.{Leveled, Levels, any_assigns, arms_joined, choice_levels, command_leveled, commands_leveled, greatest, term_leveled, with_value, with_variables, kept_leveled}
+use Rattle.dh_meaning.specs.Ways.{Hidden, hidden_in}
 use Rattle.dh_expressions.specs.declared.scenes.Scene.{Scene}
 use Rattle.dh_expressions.specs.Evaluated.{known_in}
-use Rattle.dh_formed.specs.Timed.{AreBounded, LevelsThen, all_leveled, leveled}
-use Rattle.dh_formed.proofs.LevelsBehind.{all_levels_behind, levels_behind, operation_leveled}
-use Rattle.dh_commands.proofs.CoreRuns.{view_rest}
+use Rattle.dh_formed.specs.Timed.{AreBounded, LevelsThen, leveled}
+use Rattle.dh_formed.proofs.LevelsBehind.{levels_behind, operation_leveled, named_levels_behind}
 use Rattle.dh_laid.specs.Laid.{aim_accesses}
 use Rattle.dh_laid.specs.LaidNumbers.{IsAccessForm, StoresReach, StoresReachGroups, StoresReachOther, StoresReachPart}
-use Rattle.dh_paced.specs.Paced.{IsIn, IsReadIn, IsReadGroups, IsReadOther, IsReadPart, action_levels, between_arms, groups_levels, other_levels, part_levels}
+use Rattle.dh_paced.specs.Paced.{IsIn, IsReadIn, IsReadGroups, IsReadOther, IsReadPart, action_levels, between_arms, groups_levels, other_levels, part_levels, IsReadOfView}
 use Rattle.dh_paced.proofs.CoreAppended.{action_then_levels, part_then_levels}
 
 -- Reads are among the accesses.
@@ -37,42 +35,46 @@ aims_fewer (plain.term place k (plain.named r)) is = absurd is
 aims_fewer (plain.term place k (plain.applied op left right)) is = absurd is
 aims_fewer (plain.term place k (plain.converted inner to)) is = absurd is
 
+read_view : (hs : List Hidden) (first : ℕ) (form : plain.ViewPlan) (m : ℕ) → IsReadOfView hs first form m → IsIn first (plan_accesses form + 0) m
+read_view [] first form m h = absurd h
+read_view (x ∷ xs) first form m h = let l = h.1 in (h.0, omega (arith, l))
+
 mutual
-  pub read_in : (first : ℕ) (a : Action) (m : ℕ) → IsReadIn first a m → StoresReach a → IsIn first (accesses_of a) m
-  read_in first (action id place (lets name declared (Some value))) m h s = let l = h.1 in (h.0, omega (arith, l))
-  read_in first (action id place (lets name declared None)) m h s = absurd h
-  read_in first (action id place (assigns target value)) m h s = let l = h.1 in (h.0, omega (arith, l))
-  read_in first (action id place (stores target value)) m h s = let l = h.1 in let e = aims_fewer target s in (h.0, omega (arith, l, e))
-  read_in first (action id place (reduces target op value)) m h s = let l = h.1 in (h.0, omega (arith, l))
-  read_in first (action id place (decides test chosen other)) m (inl h) s = let l = h.1 in (h.0, omega (arith, l))
-  read_in first (action id place (decides test chosen other)) m (inr (inl h)) s =
-      let r : IsIn (first + term_accesses test) (accesses_of chosen) m = read_in (first + term_accesses test) chosen m h s.0 in
+  pub read_in : (known : Known) (first : ℕ) (a : Action) (m : ℕ) → IsReadIn known first a m → StoresReach a → IsIn first (accesses_of a) m
+  read_in known first (action id place (lets name declared (Some value))) m h s = let l = h.1 in (h.0, omega (arith, l))
+  read_in known first (action id place (lets name declared None)) m h s = absurd h
+  read_in known first (action id place (assigns target value)) m h s = let l = h.1 in (h.0, omega (arith, l))
+  read_in known first (action id place (stores target value)) m h s = let l = h.1 in let e = aims_fewer target s in (h.0, omega (arith, l, e))
+  read_in known first (action id place (reduces target op value)) m h s = let l = h.1 in (h.0, omega (arith, l))
+  read_in known first (action id place (decides test chosen other)) m (inl h) s = let l = h.1 in (h.0, omega (arith, l))
+  read_in known first (action id place (decides test chosen other)) m (inr (inl h)) s =
+      let r : IsIn (first + term_accesses test) (accesses_of chosen) m = read_in known (first + term_accesses test) chosen m h s.0 in
       let f = r.0 in let l = r.1 in (omega (arith, f), omega (arith, l))
-  read_in first (action id place (decides test chosen other)) m (inr (inr h)) s =
-      let r : IsIn (first + term_accesses test + accesses_of chosen) (other_accesses other) m = read_in_other (first + term_accesses test + accesses_of chosen) other m h s.1 in
+  read_in known first (action id place (decides test chosen other)) m (inr (inr h)) s =
+      let r : IsIn (first + term_accesses test + accesses_of chosen) (other_accesses other) m = read_in_other known (first + term_accesses test + accesses_of chosen) other m h s.1 in
       let f = r.0 in let l = r.1 in (omega (arith, f), omega (arith, l))
-  read_in first (action id place (blocks body)) m h s = let r : IsIn first (groups_accesses body) m = read_in_groups first body m h s in let l = r.1 in (r.0, omega (arith, l))
-  read_in first (action id place (lets_memory name shape shape_places value)) m h s = absurd h
-  read_in first (action id place (views name parent form)) m h s = absurd h
-  read_in first (action id place (calls function arguments)) m h s = absurd h
-  read_in first (action id place (repeats test body)) m h s = absurd h
-  read_in first (action id place (counts iterator declared low high factor body combine combine_place)) m h s = absurd h
+  read_in known first (action id place (blocks body)) m h s = let r : IsIn first (groups_accesses body) m = read_in_groups known first body m h s in let l = r.1 in (r.0, omega (arith, l))
+  read_in known first (action id place (lets_memory name shape shape_places value)) m h s = absurd h
+  read_in known first (action id place (views name parent form)) m h s = read_view (hidden_in (way_of known name)) first form m h
+  read_in known first (action id place (calls function arguments)) m h s = absurd h
+  read_in known first (action id place (repeats test body)) m h s = absurd h
+  read_in known first (action id place (counts iterator declared low high factor body combine combine_place)) m h s = absurd h
 
-  pub read_in_other : (first : ℕ) (other : MaybeAction) (m : ℕ) → IsReadOther first other m → StoresReachOther other → IsIn first (other_accesses other) m
-  read_in_other first no_action m h s = absurd h
-  read_in_other first (one_action a) m h s = read_in first a m h s
+  pub read_in_other : (known : Known) (first : ℕ) (other : MaybeAction) (m : ℕ) → IsReadOther known first other m → StoresReachOther other → IsIn first (other_accesses other) m
+  read_in_other known first no_action m h s = absurd h
+  read_in_other known first (one_action a) m h s = read_in known first a m h s
 
-  pub read_in_part : (first : ℕ) (part : Actions) (m : ℕ) → IsReadPart first part m → StoresReachPart part → IsIn first (part_accesses part) m
-  read_in_part first no_actions m h s = absurd h
-  read_in_part first (action_then a rest) m (inl h) s = let r : IsIn first (accesses_of a) m = read_in first a m h s.0 in let l = r.1 in (r.0, omega (arith, l))
-  read_in_part first (action_then a rest) m (inr h) s =
-      let r : IsIn (first + accesses_of a) (part_accesses rest) m = read_in_part (first + accesses_of a) rest m h s.1 in let f = r.0 in let l = r.1 in (omega (arith, f), omega (arith, l))
+  pub read_in_part : (known : Known) (first : ℕ) (part : Actions) (m : ℕ) → IsReadPart known first part m → StoresReachPart part → IsIn first (part_accesses part) m
+  read_in_part known first no_actions m h s = absurd h
+  read_in_part known first (action_then a rest) m (inl h) s = let r : IsIn first (accesses_of a) m = read_in known first a m h s.0 in let l = r.1 in (r.0, omega (arith, l))
+  read_in_part known first (action_then a rest) m (inr h) s =
+      let r : IsIn (first + accesses_of a) (part_accesses rest) m = read_in_part known (first + accesses_of a) rest m h s.1 in let f = r.0 in let l = r.1 in (omega (arith, f), omega (arith, l))
 
-  pub read_in_groups : (first : ℕ) (body : Groups) (m : ℕ) → IsReadGroups first body m → StoresReachGroups body → IsIn first (groups_accesses body) m
-  read_in_groups first no_groups m h s = absurd h
-  read_in_groups first (group_then part rest) m (inl h) s = let r : IsIn first (part_accesses part) m = read_in_part first part m h s.0 in let l = r.1 in (r.0, omega (arith, l))
-  read_in_groups first (group_then part rest) m (inr h) s =
-      let r : IsIn (first + part_accesses part) (groups_accesses rest) m = read_in_groups (first + part_accesses part) rest m h s.1 in let f = r.0 in let l = r.1 in (omega (arith, f), omega (arith, l))
+  pub read_in_groups : (known : Known) (first : ℕ) (body : Groups) (m : ℕ) → IsReadGroups known first body m → StoresReachGroups body → IsIn first (groups_accesses body) m
+  read_in_groups known first no_groups m h s = absurd h
+  read_in_groups known first (group_then part rest) m (inl h) s = let r : IsIn first (part_accesses part) m = read_in_part known first part m h s.0 in let l = r.1 in (r.0, omega (arith, l))
+  read_in_groups known first (group_then part rest) m (inr h) s =
+      let r : IsIn (first + part_accesses part) (groups_accesses rest) m = read_in_groups known (first + part_accesses part) rest m h s.1 in let f = r.0 in let l = r.1 in (omega (arith, f), omega (arith, l))
 
 -- Levels.
 
@@ -101,6 +103,11 @@ levels_none P first count l = record { before_them = λ m less. refl; behind_the
   where
     self : (n : ℕ) → n ≤ n
     self n = omega arith
+
+-- of more reads
+levels_among : (P Q : ℕ → Type 0) (first count : ℕ) (l made : Levels) → ((m : ℕ) → P m → Q m) → LevelsGo P first count l made → LevelsGo Q first count l made
+levels_among P Q first count l made more h =
+    record { before_them = h.before_them; behind_them = h.behind_them; more = h.more; bounded = h.bounded; least = λ k small reads. h.least k small (λ m p. reads m (more m p)) }
 
 -- an expression, whose value a variable takes, or none
 levels_taken : (first count : ℕ) (l : Levels) (made : Leveled) → LevelsThen first count l made → LevelsGo (IsIn first count) first count l made.levels
@@ -163,17 +170,16 @@ reduced_core scene first r op value =
     operation_of op (kind_of (known_in scene) r) (kind_found value) (variable (kind_of (known_in scene) r) (depth_of (known_in scene) r) (entity_number r.entity)) (core_term (known_in scene) first value)
 
 module _ (scene : Scene) (shared : ℕ → Option ℕ) where
-  -- no name has a way: a store has the levels of its value and then those of its indices, and a view leaves them
-  pub stored_leveled : (outer first : ℕ) (place : Place) (k : Option Kind) (r : Ref) (ts : plain.Terms) (value : Term) (l : Levels)
-      → command_leveled shared outer (store_to (known_in scene) (first + term_accesses value) (plain.term place k (plain.accessed r ts)) (core_term (known_in scene) first value)) l
-      ≡ (all_leveled scene shared outer (first + term_accesses value) ts (leveled scene shared outer first value l).levels).levels
-  stored_leveled outer first place k r ts value l =
-      ap (λ (w : Option Way). command_leveled shared outer
-      (store (reach_of (known_in scene) (first + term_accesses value + terms_accesses ts) place r) (target_to w (core_terms (known_in scene) (first + term_accesses value) ts)) (core_term (known_in scene) first value)) l)
-      (no_way (known_in scene).memories r.entity)
+  -- the levels behind offsets that variables keep
+  abbrev pub keeping_levels : List Hidden → (outer first : ℕ) → (offsets : List Term) → Levels → Levels
+  keeping_levels [] outer first offsets l = l
+  keeping_levels (h ∷ hs) outer first offsets l = kept_leveled shared outer h.entity (core_terms (known_in scene) first (terms offsets)) l
 
-  pub view_leveled : (outer first : ℕ) (name parent : Ref) (form : plain.ViewPlan) (l : Levels) → commands_leveled shared outer (core_action_form (known_in scene) first (views name parent form) no_commands) l ≡ l
-  view_leveled outer first name parent form l = ap (λ cs. commands_leveled shared outer cs l) (view_rest scene first name parent form no_commands)
+  pub view_leveled : (hs : List Hidden) (outer first : ℕ) (offsets : List Term) (l : Levels) → commands_leveled shared outer (kept_by hs (core_terms (known_in scene) first (terms offsets)) no_commands) l ≡ keeping_levels hs outer first offsets l
+  view_leveled [] outer first [] l = refl
+  view_leveled [] outer first (t ∷ ts) l = refl
+  view_leveled (h ∷ hs) outer first [] l = refl
+  view_leveled (h ∷ hs) outer first (t ∷ ts) l = refl
 
   pub reduced_leveled : (outer first : ℕ) (r : Ref) (op : Op) (value : Term) (l : Levels)
       → greatest (l.variables (entity_number r.entity)) (leveled scene shared outer first value l) ≡ term_leveled shared outer (reduced_core scene first r op value) l
@@ -222,9 +228,8 @@ module _ (scene : Scene) (shared : ℕ → Option ℕ) where
       → Go (IsIn first (term_accesses value + aim_accesses (form_of target))) first ((term_accesses value + term_accesses target) + 0) l
       (command_leveled shared outer (store_to (known_in scene) (first + term_accesses value) target (core_term (known_in scene) first value)) l)
   stored_go outer first (plain.term place k (plain.accessed r ts)) value l is =
-      levels_made _ first ((term_accesses value + suc (terms_accesses ts)) + 0) l _ _ (sym (stored_leveled outer first place k r ts value l))
-      (stored_two first (term_accesses value) (terms_accesses ts) (suc (terms_accesses ts)) l _ _ (levels_taken first (term_accesses value) l (leveled scene shared outer first value l) (levels_behind scene shared outer value first l))
-      (levels_taken (first + term_accesses value) (terms_accesses ts) _ _ (all_levels_behind scene shared outer ts (first + term_accesses value) (leveled scene shared outer first value l).levels)) (omega arith))
+      stored_two first (term_accesses value) (terms_accesses ts) (suc (terms_accesses ts)) l _ _ (levels_taken first (term_accesses value) l (leveled scene shared outer first value l) (levels_behind scene shared outer value first l))
+      (levels_taken (first + term_accesses value) (terms_accesses ts) _ _ (named_levels_behind scene shared outer r ts (first + term_accesses value) (leveled scene shared outer first value l).levels)) (omega arith)
   stored_go outer first (plain.term place k (plain.in_bank r bank at row)) value l is =
       stored_two first (term_accesses value) (term_accesses row) (suc (term_accesses row)) l _ _ (levels_taken first (term_accesses value) l (leveled scene shared outer first value l) (levels_behind scene shared outer value first l))
       (levels_taken (first + term_accesses value) (term_accesses row) _ _ (levels_behind scene shared outer row (first + term_accesses value) (leveled scene shared outer first value l).levels)) (omega arith)
@@ -234,12 +239,33 @@ module _ (scene : Scene) (shared : ℕ → Option ℕ) where
   stored_go outer first (plain.term place k (plain.applied op left right)) value l is = absurd is
   stored_go outer first (plain.term place k (plain.converted inner to)) value l is = absurd is
 
+  -- offsets that variables keep, each of which has its own level
+  both_in : (n a b m : ℕ) → IsIn n a m ⊎ IsIn (n + a) b m → IsIn n (a + b) m
+  both_in n a b m (inl h) = let l = h.1 in (h.0, omega (arith, l))
+  both_in n a b m (inr h) = let f = h.0 in let l = h.1 in (omega (arith, f), omega (arith, l))
+
+  pub kept_go : (ts : plain.Terms) (outer e n : ℕ) (l : Levels) → Go (IsIn n (terms_accesses ts)) n (terms_accesses ts) l (kept_leveled shared outer e (core_terms (known_in scene) n ts) l)
+  kept_go plain.no_terms outer e n l = levels_none _ n 0 l
+  kept_go (plain.term_then t ts) outer e n l =
+      let t1 : Leveled = leveled scene shared outer n t l in
+      let k : Levels = kept_leveled shared outer (suc e) (core_terms (known_in scene) (n + term_accesses t) ts) t1.levels in
+      let behind = levels_behind scene shared outer t n l in
+      let rest : Go (IsIn (n + term_accesses t) (terms_accesses ts)) (n + term_accesses t) (terms_accesses ts) t1.levels k = kept_go ts outer (suc e) (n + term_accesses t) t1.levels in
+      levels_among (λ m. IsIn n (term_accesses t) m ⊎ IsIn (n + term_accesses t) (terms_accesses ts) m) (IsIn n (term_accesses t + terms_accesses ts)) n (term_accesses t + terms_accesses ts) l (with_variables k (with_value k.variables e t1.level))
+      (λ m h. both_in n (term_accesses t) (terms_accesses ts) m h)
+      (levels_assigned (λ m. IsIn n (term_accesses t) m ⊎ IsIn (n + term_accesses t) (terms_accesses ts) m) n (term_accesses t + terms_accesses ts) e t1.level l k (λ b. let f = behind.level_few b in let m = rest.more in omega (arith, f, m))
+      (levels_both (IsIn n (term_accesses t)) (IsIn (n + term_accesses t) (terms_accesses ts)) n (term_accesses t) (terms_accesses ts) l t1.levels k (λ m p. p) (levels_taken n (term_accesses t) l t1 behind) rest))
+
+  view_go : (hs : List Hidden) (outer first : ℕ) (form : plain.ViewPlan) (l : Levels) → Go (IsReadOfView hs first form) first (plan_accesses form + 0) l (keeping_levels hs outer first (offsets_of form) l)
+  view_go [] outer first form l = levels_none _ first (plan_accesses form + 0) l
+  view_go (h ∷ hs) outer first form l = levels_as _ first (plan_accesses form) (plan_accesses form + 0) l _ (omega arith) (kept_go (terms (offsets_of form)) outer h.entity first l)
+
   -- an `if`, from its arms
   chosen_go : (outer first : ℕ) (test : Term) (chosen : Action) (other : MaybeAction) (l : Levels) → StoresReach chosen → StoresReachOther other
-      → ((k : Levels) → Go (IsReadIn (first + term_accesses test) chosen) (first + term_accesses test) (accesses_of chosen) k (action_levels (known_in scene) shared (max outer (leveled scene shared outer first test l).level) (first + term_accesses test) chosen k))
-      → ((k : Levels) → Go (IsReadOther (first + term_accesses test + accesses_of chosen) other) (first + term_accesses test + accesses_of chosen) (other_accesses other) k
+      → ((k : Levels) → Go (IsReadIn (known_in scene) (first + term_accesses test) chosen) (first + term_accesses test) (accesses_of chosen) k (action_levels (known_in scene) shared (max outer (leveled scene shared outer first test l).level) (first + term_accesses test) chosen k))
+      → ((k : Levels) → Go (IsReadOther (known_in scene) (first + term_accesses test + accesses_of chosen) other) (first + term_accesses test + accesses_of chosen) (other_accesses other) k
       (other_levels (known_in scene) shared (max outer (leveled scene shared outer first test l).level) (first + term_accesses test + accesses_of chosen) other k))
-      → Go (IsReadIn first (action 0 (record { line = 0; column = 0 }) (decides test chosen other))) first (term_accesses test + (accesses_of chosen + other_accesses other)) l
+      → Go (IsReadIn (known_in scene) first (action 0 (record { line = 0; column = 0 }) (decides test chosen other))) first (term_accesses test + (accesses_of chosen + other_accesses other)) l
       (choice_levels (leveled scene shared outer first test l) (core_action (known_in scene) (first + term_accesses test) chosen no_commands) (core_other (known_in scene) (first + term_accesses test + accesses_of chosen) other)
       (action_levels (known_in scene) shared (max outer (leveled scene shared outer first test l).level) (first + term_accesses test) chosen (leveled scene shared outer first test l).levels)
       (other_levels (known_in scene) shared (max outer (leveled scene shared outer first test l).level) (first + term_accesses test + accesses_of chosen) other (between_arms (known_in scene) shared outer first test chosen l)))
@@ -263,25 +289,25 @@ module _ (scene : Scene) (shared : ℕ → Option ℕ) where
       tg : LevelsThen first (term_accesses test) l t
       tg = levels_behind scene shared outer test first l
 
-      cg : Go (IsReadIn (first + term_accesses test) chosen) (first + term_accesses test) (accesses_of chosen) t.levels c
+      cg : Go (IsReadIn (known_in scene) (first + term_accesses test) chosen) (first + term_accesses test) (accesses_of chosen) t.levels c
       cg = go_chosen t.levels
 
-      og : Go (IsReadOther (first + term_accesses test + accesses_of chosen) other) (first + term_accesses test + accesses_of chosen) (other_accesses other) between o
+      og : Go (IsReadOther (known_in scene) (first + term_accesses test + accesses_of chosen) other) (first + term_accesses test + accesses_of chosen) (other_accesses other) between o
       og = go_other between
 
       up : (x a b d : ℕ) → x ≤ a → a ≤ b → b ≤ d → x ≤ d
       up x a b d e f g = omega (arith, e, f, g)
 
-      arms : Go (λ k. IsReadIn (first + term_accesses test) chosen k ⊎ IsReadOther (first + term_accesses test + accesses_of chosen) other k) (first + term_accesses test) (accesses_of chosen + other_accesses other) t.levels o
+      arms : Go (λ k. IsReadIn (known_in scene) (first + term_accesses test) chosen k ⊎ IsReadOther (known_in scene) (first + term_accesses test + accesses_of chosen) other k) (first + term_accesses test) (accesses_of chosen + other_accesses other) t.levels o
       arms =
-          levels_both (IsReadIn (first + term_accesses test) chosen) (IsReadOther (first + term_accesses test + accesses_of chosen) other) (first + term_accesses test) (accesses_of chosen) (other_accesses other) t.levels between o
-          (λ k p. read_in (first + term_accesses test) chosen k p straight) (levels_between _ (first + term_accesses test) (accesses_of chosen) t.levels c cg) og
+          levels_both (IsReadIn (known_in scene) (first + term_accesses test) chosen) (IsReadOther (known_in scene) (first + term_accesses test + accesses_of chosen) other) (first + term_accesses test) (accesses_of chosen) (other_accesses other) t.levels between o
+          (λ k p. read_in (known_in scene) (first + term_accesses test) chosen k p straight) (levels_between _ (first + term_accesses test) (accesses_of chosen) t.levels c cg) og
 
-      all : Go (λ k. IsIn first (term_accesses test) k ⊎ (IsReadIn (first + term_accesses test) chosen k ⊎ IsReadOther (first + term_accesses test + accesses_of chosen) other k)) first (term_accesses test + (accesses_of chosen + other_accesses other)) l o
+      all : Go (λ k. IsIn first (term_accesses test) k ⊎ (IsReadIn (known_in scene) (first + term_accesses test) chosen k ⊎ IsReadOther (known_in scene) (first + term_accesses test + accesses_of chosen) other k)) first (term_accesses test + (accesses_of chosen + other_accesses other)) l o
       all = levels_both (IsIn first (term_accesses test)) _ first (term_accesses test) (accesses_of chosen + other_accesses other) l t.levels o (λ k p. p) (levels_taken first (term_accesses test) l t tg) arms
 
   mutual
-    pub action_go : (outer first : ℕ) (a : Action) (l : Levels) → StoresReach a → Go (IsReadIn first a) first (accesses_of a) l (action_levels (known_in scene) shared outer first a l)
+    pub action_go : (outer first : ℕ) (a : Action) (l : Levels) → StoresReach a → Go (IsReadIn (known_in scene) first a) first (accesses_of a) l (action_levels (known_in scene) shared outer first a l)
     action_go outer first (action id place (lets name declared (Some value))) l s = assigned_go outer first (entity_number name.entity) value l
     action_go outer first (action id place (lets name declared None)) l s = levels_assigned _ first 0 (entity_number name.entity) 0 l l (λ b. omega arith) (levels_none _ first 0 l)
     action_go outer first (action id place (assigns target value)) l s = assigned_go outer first (entity_number target.entity) value l
@@ -293,25 +319,26 @@ module _ (scene : Scene) (shared : ℕ → Option ℕ) where
     action_go outer first (action id place (blocks body)) l s = levels_as _ first (groups_accesses body) (0 + groups_accesses body) l _ (omega arith) (groups_go outer first body l s)
     action_go outer first (action id place (lets_memory name shape shape_places value)) l s = levels_none _ first 0 l
     action_go outer first (action id place (views name parent form)) l s =
-        levels_made _ first (plan_accesses form + 0) l l _ (sym (view_leveled outer first name parent form l)) (levels_none _ first (plan_accesses form + 0) l)
+        levels_made _ first (plan_accesses form + 0) l (keeping_levels (hidden_in (way_of (known_in scene) name)) outer first (offsets_of form) l) _ (sym (view_leveled (hidden_in (way_of (known_in scene) name)) outer first (offsets_of form) l))
+        (view_go (hidden_in (way_of (known_in scene) name)) outer first form l)
     action_go outer first (action id place (calls function arguments)) l s = levels_none _ first 0 l
     action_go outer first (action id place (repeats test body)) l s = levels_none _ first (term_accesses test + accesses_of body) l
     action_go outer first (action id place (counts iterator declared low high factor body combine combine_place)) l s = levels_none _ first (0 + (accesses_of body + other_accesses combine)) l
 
-    pub other_go : (outer first : ℕ) (other : MaybeAction) (l : Levels) → StoresReachOther other → Go (IsReadOther first other) first (other_accesses other) l (other_levels (known_in scene) shared outer first other l)
+    pub other_go : (outer first : ℕ) (other : MaybeAction) (l : Levels) → StoresReachOther other → Go (IsReadOther (known_in scene) first other) first (other_accesses other) l (other_levels (known_in scene) shared outer first other l)
     other_go outer first no_action l s = levels_none _ first 0 l
     other_go outer first (one_action a) l s = action_go outer first a l s
 
-    pub part_go : (outer first : ℕ) (part : Actions) (l : Levels) → StoresReachPart part → Go (IsReadPart first part) first (part_accesses part) l (part_levels (known_in scene) shared outer first part l)
+    pub part_go : (outer first : ℕ) (part : Actions) (l : Levels) → StoresReachPart part → Go (IsReadPart (known_in scene) first part) first (part_accesses part) l (part_levels (known_in scene) shared outer first part l)
     part_go outer first no_actions l s = levels_none _ first 0 l
     part_go outer first (action_then a rest) l s =
         levels_made _ first (accesses_of a + part_accesses rest) l _ _ (sym (action_then_levels (known_in scene) first a (core_part (known_in scene) (first + accesses_of a) rest no_commands) shared outer l))
-        (levels_both (IsReadIn first a) (IsReadPart (first + accesses_of a) rest) first (accesses_of a) (part_accesses rest) l (action_levels (known_in scene) shared outer first a l) _ (λ k p. read_in first a k p s.0)
+        (levels_both (IsReadIn (known_in scene) first a) (IsReadPart (known_in scene) (first + accesses_of a) rest) first (accesses_of a) (part_accesses rest) l (action_levels (known_in scene) shared outer first a l) _ (λ k p. read_in (known_in scene) first a k p s.0)
         (action_go outer first a l s.0) (part_go outer (first + accesses_of a) rest (action_levels (known_in scene) shared outer first a l) s.1))
 
-    pub groups_go : (outer first : ℕ) (body : Groups) (l : Levels) → StoresReachGroups body → Go (IsReadGroups first body) first (groups_accesses body) l (groups_levels (known_in scene) shared outer first body l)
+    pub groups_go : (outer first : ℕ) (body : Groups) (l : Levels) → StoresReachGroups body → Go (IsReadGroups (known_in scene) first body) first (groups_accesses body) l (groups_levels (known_in scene) shared outer first body l)
     groups_go outer first no_groups l s = levels_none _ first 0 l
     groups_go outer first (group_then part rest) l s =
         levels_made _ first (part_accesses part + groups_accesses rest) l _ _ (sym (part_then_levels (known_in scene) first part (core_groups (known_in scene) (first + part_accesses part) rest no_commands) shared outer l))
-        (levels_both (IsReadPart first part) (IsReadGroups (first + part_accesses part) rest) first (part_accesses part) (groups_accesses rest) l (part_levels (known_in scene) shared outer first part l) _ (λ k p. read_in_part first part k p s.0)
+        (levels_both (IsReadPart (known_in scene) first part) (IsReadGroups (known_in scene) (first + part_accesses part) rest) first (part_accesses part) (groups_accesses rest) l (part_levels (known_in scene) shared outer first part l) _ (λ k p. read_in_part (known_in scene) first part k p s.0)
         (part_go outer first part l s.0) (groups_go outer (first + part_accesses part) rest (part_levels (known_in scene) shared outer first part l) s.1))

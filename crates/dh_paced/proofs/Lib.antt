@@ -9,6 +9,7 @@ pub mod TestsPaced
 pub mod ChoicesPaced
 pub mod AssignedCore
 pub mod ArmsPaced
+pub mod KeepingPaced
 pub mod CommandsPaced
 pub mod OwnsCommands
 pub mod ReadsHaveSites

@@ -1,6 +1,6 @@
 -- Stores at one path after the other: the value, then what names the element, then its write.
 use Rattle.std.proofs.Common.{◌≡◌, ◌⊎◌, inl, inr, ℕ, suc, ◌+◌, ◌^◌, ◌<◌, ◌≤◌, true, Some, None, Option, List, [], length, map, sym, ap, ◌∙◌, subst, arith}
-use Rattle.std.specs.Prelude.{max, slice_get}
+use Rattle.std.specs.Prelude.{max, slice_get, ◌++◌}
 use Rattle.std.proofs.lemmas.Bool.{cases_lt}
 use Rattle.dh_base.specs.declared.places.Place.{Place}
 use Rattle.dh_value.specs.declared.kinds.Kind.{Kind}
@@ -16,7 +16,8 @@ use Rattle.dh_meaning.specs.Effects.{entry_kind}
 use Rattle.dh_meaning.specs.Levels.{Leveled, Levels}
 use Rattle.dh_code.specs.Slots.{held_at}
 use Rattle.dh_plan.specs.LegalSchedules.{greatest_of}
-use Rattle.dh_plan.specs.Ordered.{one_or_none}
+use Rattle.dh_plan.specs.Ordered.{one_or_none, offsets_taken}
+use Rattle.dh_plan.specs.declared.operations.ReachStep.{ReachStep}
 use Rattle.dh_expressions.specs.declared.accesses.Accesses.{Accesses}
 use Rattle.dh_expressions.specs.declared.drafts.Draft.{Draft}
 use Rattle.dh_expressions.specs.declared.elements.Aim.{Aim}
@@ -25,17 +26,17 @@ use Rattle.dh_expressions.specs.declared.scenes.Lane.{Lane}
 use Rattle.dh_expressions.specs.declared.scenes.Scene.{Scene}
 use Rattle.dh_expressions.specs.Drafted.{Extends}
 use Rattle.dh_expressions.specs.Evaluated.{counter_of, known_in}
-use Rattle.dh_expressions.specs.MadeTerms.{MadeTerm, MadeTerms, MadeWrite}
+use Rattle.dh_expressions.specs.MadeTerms.{MadeTerm, MadeWrite, MadeThrough}
 use Rattle.dh_expressions.specs.Reaching.{place_written}
 use Rattle.dh_expressions.proofs.Pushing.{extends_again, pushed_extends}
 use Rattle.dh_formed.specs.Counted.{AreNext, HaveGiven, given_at_paths}
 use Rattle.dh_formed.specs.Formed.{AccessSuits, Agrees, IsNoted, IsScope, TermSuits}
-use Rattle.dh_formed.specs.Timed.{AgreeInTime, Clocks, EntityAt, HasClock, LevelsThen, NotedInTime, ReadsAgree, TimesValue, VariableAt, Within, aim_clock, all_leveled, clock_of, leveled}
+use Rattle.dh_formed.specs.Timed.{AgreeInTime, Clocks, EntityAt, HasClock, LevelsThen, NotedInTime, ReadsAgree, TimesValue, VariableAt, Within, aim_clock, clock_of, leveled, named_leveled}
 use Rattle.dh_formed.proofs.AccessesFormed.{noted_later, scope_later}
-use Rattle.dh_formed.proofs.LevelsBehind.{all_levels_behind, levels_behind}
+use Rattle.dh_formed.proofs.LevelsBehind.{levels_behind, named_levels_behind}
 use Rattle.dh_formed.proofs.ReadsCounted.{write_gives}
 use Rattle.dh_formed.proofs.ReadsTimed.{greatest_append, written_noted, written_within}
-use Rattle.dh_formed.proofs.TermsFormed.{all_formed, all_numbered, formed, numbered}
+use Rattle.dh_formed.proofs.TermsFormed.{all_numbered, formed, numbered, through_formed}
 use Rattle.dh_formed.proofs.ValuesFormed.{agrees_before}
 use Rattle.dh_formed.proofs.ValuesTimed.{agree_before, held_timed, time_later, within_again}
 use Rattle.dh_commands.specs.declared.buildings.Building.{Building}
@@ -45,26 +46,19 @@ use Rattle.dh_commands.specs.MadeCommands.{MadeAim, MadeStored, MadeStoring, Sto
 use Rattle.dh_laid.specs.Laid.{AimingSuits, FormsThere, StoringSuits}
 use Rattle.dh_laid.proofs.StoresLaid.{stores_form}
 use Rattle.dh_paced.specs.Paced.{IsIn}
-use Rattle.dh_paced.specs.Standing.{AreCurrent, IsGround, OwnsTerm, OwnsTerms, OwnsWrite, Paces, StandsFor}
+use Rattle.dh_paced.specs.Standing.{AreCurrent, IsGround, OwnsTerm, OwnsWrite, Paces, StandsFor, OwnsNamed}
 use Rattle.dh_paced.proofs.AssigningPaced.{entity_under}
 use Rattle.dh_paced.proofs.LanesPaced.{AtLane, given_end, given_more, lane_here, lane_scope, lane_started, lanes_paced}
-use Rattle.dh_paced.proofs.LeavesPaced.{IsHere, TermHere, TermsHere, next_of, term_here, terms_here}
+use Rattle.dh_paced.proofs.LeavesPaced.{IsHere, TermHere, next_of, term_here, NamedHere, named_here}
 
 -- The clock of what names an element.
 
-indices_clock : (c : Clocks) (memory level : ℕ) (aim : Aim) → aim.row ≡ None → greatest_of (map (clock_of c) aim.indices) ≡ level → aim_clock c memory aim ≡ level
-indices_clock c memory level aim none at =
-    greatest_append (clock_of c) aim.indices (one_or_none aim.row)
-    ∙ (ap (λ k. max k (greatest_of (map (clock_of c) (one_or_none aim.row)))) at ∙ (ap (λ (o : Option ℕ). max level (greatest_of (map (clock_of c) (one_or_none o)))) none ∙ alone level))
-  where
-    alone : (n : ℕ) → max n 0 ≡ n
-    alone n = omega arith
-
-row_clock : (c : Clocks) (memory level value : ℕ) (aim : Aim) → aim.indices ≡ [] → aim.row ≡ Some value → clock_of c value ≡ level → aim_clock c memory aim ≡ level
-row_clock c memory level value aim none is at =
-    greatest_append (clock_of c) aim.indices (one_or_none aim.row)
-    ∙ (ap (λ (vs : List ℕ). max (greatest_of (map (clock_of c) vs)) (greatest_of (map (clock_of c) (one_or_none aim.row)))) none
-    ∙ (ap (λ (o : Option ℕ). max 0 (greatest_of (map (clock_of c) (one_or_none o)))) is ∙ (ap (λ k. max 0 (max k 0)) at ∙ alone level)))
+row_clock : (c : Clocks) (memory level value : ℕ) (aim : Aim) → aim.indices ≡ [] → aim.steps ≡ [] → aim.row ≡ Some value → clock_of c value ≡ level → aim_clock c memory aim ≡ level
+row_clock c memory level value aim none still is at =
+    greatest_append (clock_of c) aim.indices (offsets_taken aim.steps ++ one_or_none aim.row)
+    ∙ (ap (λ (vs : List ℕ). max (greatest_of (map (clock_of c) vs)) (greatest_of (map (clock_of c) (offsets_taken aim.steps ++ one_or_none aim.row)))) none
+    ∙ (ap (λ (ss : List ReachStep). max 0 (greatest_of (map (clock_of c) (offsets_taken ss ++ one_or_none aim.row)))) still
+    ∙ (ap (λ (o : Option ℕ). max 0 (greatest_of (map (clock_of c) (one_or_none o)))) is ∙ (ap (λ k. max 0 (max k 0)) at ∙ alone level))))
   where
     alone : (n : ℕ) → max 0 (max n 0) ≡ n
     alone n = omega arith
@@ -300,16 +294,16 @@ module _ (c : Clocks) (scene : Scene) (top : Around) (spaces : ℕ) (shared : �
         by e read among (inr from) = absurd (write.unread (subst (λ (n : ℕ). Read n) (let b = among.1 in omega (arith, from, b)) read))
 
   -- by indices
-  module _ (place : Place) (kd : Option Kind) (r : Ref) (ts : plain.Terms) (owns : OwnsTerms c scene top spaces shared Variable Read Own outer aimed_at ts) (write : OwnsWrite c scene top spaces shared Variable Read Own outer (aimed_at + terms_accesses ts))
-      (few : aimed_at + terms_accesses ts < 2 ^ 32) (reads : ReadsAgree c (all_leveled scene shared outer aimed_at ts valued.levels).levels (aimed_at + terms_accesses ts)) where
+  module _ (place : Place) (kd : Option Kind) (r : Ref) (ts : plain.Terms) (owns : OwnsNamed c scene top spaces shared Variable Read Own outer aimed_at r ts) (write : OwnsWrite c scene top spaces shared Variable Read Own outer (aimed_at + terms_accesses ts))
+      (few : aimed_at + terms_accesses ts < 2 ^ 32) (reads : ReadsAgree c (named_leveled scene shared outer aimed_at r ts valued.levels).levels (aimed_at + terms_accesses ts)) where
     abbrev target_by : Term
     target_by = plain.term place kd (plain.accessed r ts)
 
     abbrev indices : Leveled
-    indices = all_leveled scene shared outer aimed_at ts valued.levels
+    indices = named_leveled scene shared outer aimed_at r ts valued.levels
 
     indices_go : LevelsThen aimed_at (terms_accesses ts) valued.levels indices
-    indices_go = all_levels_behind scene shared outer ts aimed_at valued.levels
+    indices_go = named_levels_behind scene shared outer r ts aimed_at valued.levels
 
     abbrev Here_by : (k : ℕ) → Building → Type 0
     Here_by k b = Lane_of c scene top spaces shared Variable Read Own g around outer first l old s target_by t own indices (terms_accesses ts) indices_go reads owns.are.own k b
@@ -340,11 +334,11 @@ module _ (c : Clocks) (scene : Scene) (top : Around) (spaces : ℕ) (shared : �
             stored_more c scene top spaces shared Variable Read Own g around outer first l old s target_by t own indices (terms_accesses ts) indices_go reads owns.are.own k within b d n m few_value h agrees agree to_middle w.0
             m.end m.behind memory aim aims write stores access there
           where
-            moved : MadeTerms scene lane b.values.current.items ts m.middle m.end m.between m.behind aimed_at aim.number aim.indices
-            moved = subst (λ (i : ℕ). MadeTerms scene lane b.values.current.items ts m.middle m.end m.between m.behind i aim.number aim.indices) own_is a.0.indices
+            moved : MadeThrough scene lane b.values.current.items r ts m.middle m.end m.between m.behind aimed_at aim
+            moved = subst (λ (i : ℕ). MadeThrough scene lane b.values.current.items r ts m.middle m.end m.between m.behind i aim) own_is a.0
 
             number_is : aim.number ≡ aimed_at + terms_accesses ts
-            number_is = all_numbered scene lane b.values.current.items ts m.middle m.end m.between m.behind aimed_at aim.number aim.indices moved few
+            number_is = all_numbered scene lane b.values.current.items ts m.middle moved.middle m.between m.behind aimed_at aim.number aim.indices moved.indices few
 
             value : TimesValue m.end stores.0 stores.1.0 (λ x. HasClock x 0 m.value) (λ x. 0)
             value = held_timed t (entry_kind (slice_get (table_of (program_seen scene.program.now)) memory)) m.value (λ x. 0) m.end stores.0 stores.1.0 stores.1.1.0
@@ -353,22 +347,22 @@ module _ (c : Clocks) (scene : Scene) (top : Around) (spaces : ℕ) (shared : �
             from_end = extends_again m.end stores.0 d.draft value.extends (write_extends scene lane target_by memory aim stores.1.0 stores.0 d.draft m.behind d.accesses stores.1.1.1.0)
 
             to_middle : Extends m.middle d.draft
-            to_middle = extends_again m.middle m.end d.draft (all_formed scene lane b.values.current.items ts m.middle m.end m.between m.behind aimed_at aim.number aim.indices moved few).part.extends from_end
+            to_middle = extends_again m.middle m.end d.draft (through_formed scene lane b.values.current.items r ts m.middle m.end m.between m.behind aimed_at aim moved few).part.extends from_end
 
             aims_is : IsHere c scene top spaces shared Variable Read Own g lane outer b.values.current.items m.middle m.end m.between valued.levels
             aims_is = aims_here c scene top spaces shared Variable Read Own g around outer first l old s target_by t own indices (terms_accesses ts) indices_go reads owns.are.own k within b d n m few_value h agrees agree to_middle w.0 m.end from_end
 
-            made_here : TermsHere c scene top spaces shared Variable Read Own g lane outer b.values.current.items m.middle m.end m.between m.behind aimed_at aim.number valued.levels aims_is ts aim.indices
+            made_here : NamedHere c scene top spaces shared Variable Read Own g lane outer b.values.current.items m.middle m.end m.between m.behind aimed_at aim.number valued.levels aims_is r ts aim
             made_here =
-                terms_here c scene top spaces shared Variable Read Own g lane outer b.values.current.items m.middle m.end m.between m.behind aimed_at aim.number valued.levels aims_is ts aim.indices moved few owns
-                (aims_next c scene top spaces shared Variable Read Own g around outer first l old s target_by t own indices (terms_accesses ts) indices_go reads owns.are.own k within b d n m few_value h agrees agree to_middle w.0) w.1.0.0
+                named_here c scene top spaces shared Variable Read Own g lane outer b.values.current.items m.middle m.end m.between m.behind aimed_at aim.number valued.levels aims_is r ts aim moved few owns
+                (aims_next c scene top spaces shared Variable Read Own g around outer first l old s target_by t own indices (terms_accesses ts) indices_go reads owns.are.own k within b d n m few_value h agrees agree to_middle w.0) w.1.0
                 (λ e v mentioned. aims_vars c scene top spaces shared Variable Read Own g around outer first l old s target_by t own indices (terms_accesses ts) indices_go reads owns.are.own k within b d n m few_value h agrees agree to_middle w.0 e v) reads
 
             aims : AimsHere c scene top spaces shared Variable Read Own g around outer first l old s target_by t own k b.values.current.items m.middle m.end m.between m.behind (terms_accesses ts) indices memory aim
             aims = record {
               extends = made_here.extends;
               within = made_here.timed_is.within;
-              clock = indices_clock c memory indices.level aim a.0.row made_here.timed_is.at;
+              clock = ap (λ (i : ℕ). aim_clock c i aim) a.1 ∙ made_here.timed_is.at;
               in_time = made_here.timed_is.noted;
               given = made_here.given;
               noted = made_here.noted;
@@ -460,7 +454,7 @@ module _ (c : Clocks) (scene : Scene) (top : Around) (spaces : ℕ) (shared : �
             aims = record {
               extends = made_here.extends;
               within = made_here.timed_is.within;
-              clock = row_clock c memory row_made.level a.0.value aim a.0.none a.0.row_is made_here.timed_is.at;
+              clock = row_clock c memory row_made.level a.0.value aim a.0.none a.0.steps a.0.row_is made_here.timed_is.at;
               in_time = made_here.timed_is.noted;
               given = made_here.given;
               noted = made_here.noted;

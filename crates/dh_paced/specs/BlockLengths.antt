@@ -1,13 +1,15 @@
 -- A block of straight commands is as long as its phase, and that of a test; from what stands as it begins.
-use Rattle.std.specs.Prelude.{◌≡◌, ◌⊎◌, ℕ, ◌+◌, ◌<◌, ◌≤◌, ◌^◌, true, false, List, length, slice_get, Option, Some, None}
+use Rattle.std.specs.Prelude.{◌≡◌, ◌⊎◌, ℕ, ◌+◌, ◌<◌, ◌≤◌, ◌^◌, true, false, List, [], ◌∷◌, length, slice_get, Option, Some, None}
 use Rattle.std.specs.List.{AllByRecursion}
 use Rattle.dh_tree.specs.PlainTrees.{Term, Action, action, ActionForm, lets, lets_memory, views, assigns, stores, reduces, calls, blocks, decides, repeats, counts, MaybeAction, no_action, one_action, Actions, no_actions, action_then, Groups, no_groups, group_then}
+use Rattle.dh_tree.specs.ViewOffsets.{offsets_of}
 use Rattle.dh_meaning.specs.AccessNumbers.{accesses_of, part_accesses, term_accesses}
-use Rattle.dh_meaning.specs.CoreOf.{core_commands, core_term, entity_number}
+use Rattle.dh_meaning.specs.CoreOf.{core_commands, core_term, entity_number, way_of}
 use Rattle.dh_meaning.specs.Effects.{commands, tests}
 use Rattle.dh_meaning.specs.Levels.{block_length}
 use Rattle.dh_meaning.specs.OnePhase.{any_makes}
 use Rattle.dh_meaning.specs.Phases.{Located}
+use Rattle.dh_meaning.specs.Ways.{Hidden, hidden_in}
 use Rattle.dh_plan.specs.declared.operations.Operation.{Operation}
 use Rattle.dh_plan.specs.LegalSchedules.{block_clocks, is_read}
 use Rattle.dh_plan.specs.Ordered.{IsOrdered}
@@ -25,6 +27,7 @@ use Rattle.dh_commands.specs.declared.buildings.Building.{Building}
 use Rattle.dh_commands.specs.LanesRun.{paths_counted}
 use Rattle.dh_commands.specs.MadeCommands.{MadeTests}
 use Rattle.dh_commands.specs.ShownVariables.{register_in}
+use Rattle.dh_commands.specs.Setting.{IsAmong}
 use Rattle.dh_laid.specs.BareCommands.{AreRising}
 use Rattle.dh_laid.specs.BlockSites.{MadeEach, block_sites, test_sites}
 use Rattle.dh_laid.specs.Laid.{StandsRound}
@@ -42,6 +45,12 @@ module _ (scene : Scene) (around : Around) where
       (counter_of scene e ≡ None)
       × (((i j : ℕ) → i < paths_counted around → j < paths_counted around → register_in scene around e i ≡ register_in scene around e j → i ≡ j) ⊎ (term_mentions e (core_term (known_in scene) first t) ≡ false))
 
+  -- variables that keep offsets are no iterators, and others at each path
+  abbrev pub KeepsOwn : List Hidden → (first : ℕ) → (offsets : List Term) → Type 0
+  KeepsOwn [] first offsets = Unit {0}
+  KeepsOwn (h ∷ hs) first offsets =
+      (e : ℕ) → IsAmong h.entity (length offsets) e → (counter_of scene e ≡ None) × ((i j : ℕ) → i < paths_counted around → j < paths_counted around → register_in scene around e i ≡ register_in scene around e j → i ≡ j)
+
   abbrev mutual
     pub AssignsOwn : (first : ℕ) → Action → Type 0
     AssignsOwn first (action id place form) = AssignsOwnBy first form
@@ -55,7 +64,7 @@ module _ (scene : Scene) (around : Around) where
     AssignsOwnBy first (decides test chosen other) = AssignsOwn (first + term_accesses test) chosen × AssignsOwnOther (first + term_accesses test + accesses_of chosen) other
     AssignsOwnBy first (blocks body) = AssignsOwnGroups first body
     AssignsOwnBy first (lets_memory name shape shape_places value) = Unit {0}
-    AssignsOwnBy first (views name parent form) = Unit {0}
+    AssignsOwnBy first (views name parent form) = KeepsOwn (hidden_in (way_of (known_in scene) name)) first (offsets_of form)
     AssignsOwnBy first (calls function arguments) = Unit {0}
     AssignsOwnBy first (repeats test body) = Unit {0}
     AssignsOwnBy first (counts iterator declared low high factor body combine combine_place) = Unit {0}
@@ -115,7 +124,7 @@ pub record IsStraightPaced (plan : PlainPlan) (block : ℕ) (scene : Scene) (aro
   pub assigns_own : AllByRecursion (λ (c : Located). AssignsOwn scene around c.first c.command) cs
   pub variables : HaveRegisters scene around spaces (λ e. commands_mention e (core_commands (known_in scene) cs) ≡ true)
   -- (a loop without turns in an arm makes none of its accesses)
-  pub shares : ShareWithin scene shared (λ number. any_makes number cs ≡ true) (IsReadOfEach cs)
+  pub shares : ShareWithin scene shared (λ number. any_makes number cs ≡ true) (IsReadOfEach (known_in scene) cs)
 
 abbrev pub StraightsAreLong : Type 0
 StraightsAreLong =

@@ -2,12 +2,13 @@
 -- are those behind its straight commands in the core.
 use Rattle.std.specs.Prelude.{◌⊎◌, ℕ, ◌+◌, ◌<◌, ◌≤◌, max, nat_lt, if◌then◌else◌, List, [], ◌∷◌, Option, Some, None}
 use Rattle.dh_tree.specs.Indices.{form_of}
-use Rattle.dh_tree.specs.PlainTrees.{Term, Action, action, ActionForm, lets, lets_memory, views, assigns, stores, reduces, calls, blocks, decides, repeats, counts, MaybeAction, no_action, one_action, Actions, no_actions, action_then, Groups, no_groups, group_then}
-use Rattle.dh_meaning.specs.AccessNumbers.{accesses_of, part_accesses, term_accesses}
+use Rattle.dh_tree.specs.PlainTrees.{Term, Action, action, ActionForm, lets, lets_memory, views, assigns, stores, reduces, calls, blocks, decides, repeats, counts, MaybeAction, no_action, one_action, Actions, no_actions, action_then, Groups, no_groups, group_then, ViewPlan}
+use Rattle.dh_meaning.specs.AccessNumbers.{accesses_of, part_accesses, term_accesses, plan_accesses}
 use Rattle.dh_meaning.specs.Core.{no_commands}
-use Rattle.dh_meaning.specs.CoreOf.{Known, core_action, core_groups, core_other, core_part, core_term}
+use Rattle.dh_meaning.specs.CoreOf.{Known, core_action, core_groups, core_other, core_part, core_term, way_of}
 use Rattle.dh_meaning.specs.Levels.{Leveled, Levels, commands_leveled, term_leveled, with_variables}
 use Rattle.dh_meaning.specs.Phases.{Located}
+use Rattle.dh_meaning.specs.Ways.{Hidden, hidden_in}
 use Rattle.dh_laid.specs.Laid.{aim_accesses}
 
 -- Reads.
@@ -16,48 +17,54 @@ use Rattle.dh_laid.specs.Laid.{aim_accesses}
 abbrev pub IsIn : (first count number : ℕ) → Type 0
 IsIn first count number = (first ≤ number) × (number < first + count)
 
-abbrev mutual
-  -- a read of a command whose accesses are numbered from `first` on: each access is one but the writes of stores
-  pub IsReadIn : (first : ℕ) → Action → (number : ℕ) → Type 0
-  IsReadIn first (action id place form) number = IsReadOf first form number
+-- of the offsets of a view, where a variable keeps one on its way
+abbrev pub IsReadOfView : List Hidden → (first : ℕ) → ViewPlan → (number : ℕ) → Type 0
+IsReadOfView [] first form number = ⊥
+IsReadOfView (h ∷ hs) first form number = IsIn first (plan_accesses form) number
 
-  pub IsReadOf : (first : ℕ) → ActionForm → (number : ℕ) → Type 0
-  IsReadOf first (lets name declared (Some value)) number = IsIn first (term_accesses value) number
-  IsReadOf first (lets name declared None) number = ⊥
-  IsReadOf first (assigns target value) number = IsIn first (term_accesses value) number
-  IsReadOf first (stores target value) number = IsIn first (term_accesses value + aim_accesses (form_of target)) number
-  IsReadOf first (reduces target op value) number = IsIn first (term_accesses value) number
-  IsReadOf first (decides test chosen other) number =
-      IsIn first (term_accesses test) number
-      ⊎ (IsReadIn (first + term_accesses test) chosen number ⊎ IsReadOther (first + term_accesses test + accesses_of chosen) other number)
-  IsReadOf first (blocks body) number = IsReadGroups first body number
-  IsReadOf first (lets_memory name shape shape_places value) number = ⊥
-  IsReadOf first (views name parent form) number = ⊥
-  IsReadOf first (calls function arguments) number = ⊥
-  -- a loop in a straight command has no turn
-  IsReadOf first (repeats test body) number = ⊥
-  IsReadOf first (counts iterator declared low high factor body combine combine_place) number = ⊥
+module _ (known : Known) where
+  abbrev mutual
+    -- a read of a command whose accesses are numbered from `first` on: each access is one but the writes of stores
+    pub IsReadIn : (first : ℕ) → Action → (number : ℕ) → Type 0
+    IsReadIn first (action id place form) number = IsReadOf first form number
 
-  pub IsReadOther : (first : ℕ) → MaybeAction → (number : ℕ) → Type 0
-  IsReadOther first no_action number = ⊥
-  IsReadOther first (one_action a) number = IsReadIn first a number
+    pub IsReadOf : (first : ℕ) → ActionForm → (number : ℕ) → Type 0
+    IsReadOf first (lets name declared (Some value)) number = IsIn first (term_accesses value) number
+    IsReadOf first (lets name declared None) number = ⊥
+    IsReadOf first (assigns target value) number = IsIn first (term_accesses value) number
+    IsReadOf first (stores target value) number = IsIn first (term_accesses value + aim_accesses (form_of target)) number
+    IsReadOf first (reduces target op value) number = IsIn first (term_accesses value) number
+    IsReadOf first (decides test chosen other) number =
+        IsIn first (term_accesses test) number
+        ⊎ (IsReadIn (first + term_accesses test) chosen number ⊎ IsReadOther (first + term_accesses test + accesses_of chosen) other number)
+    IsReadOf first (blocks body) number = IsReadGroups first body number
+    IsReadOf first (lets_memory name shape shape_places value) number = ⊥
+    IsReadOf first (views name parent form) number = IsReadOfView (hidden_in (way_of known name)) first form number
+    IsReadOf first (calls function arguments) number = ⊥
+    -- a loop in a straight command has no turn
+    IsReadOf first (repeats test body) number = ⊥
+    IsReadOf first (counts iterator declared low high factor body combine combine_place) number = ⊥
 
-  pub IsReadPart : (first : ℕ) → Actions → (number : ℕ) → Type 0
-  IsReadPart first no_actions number = ⊥
-  IsReadPart first (action_then a rest) number = IsReadIn first a number ⊎ IsReadPart (first + accesses_of a) rest number
+    pub IsReadOther : (first : ℕ) → MaybeAction → (number : ℕ) → Type 0
+    IsReadOther first no_action number = ⊥
+    IsReadOther first (one_action a) number = IsReadIn first a number
 
-  pub IsReadGroups : (first : ℕ) → Groups → (number : ℕ) → Type 0
-  IsReadGroups first no_groups number = ⊥
-  IsReadGroups first (group_then part rest) number = IsReadPart first part number ⊎ IsReadGroups (first + part_accesses part) rest number
+    pub IsReadPart : (first : ℕ) → Actions → (number : ℕ) → Type 0
+    IsReadPart first no_actions number = ⊥
+    IsReadPart first (action_then a rest) number = IsReadIn first a number ⊎ IsReadPart (first + accesses_of a) rest number
+
+    pub IsReadGroups : (first : ℕ) → Groups → (number : ℕ) → Type 0
+    IsReadGroups first no_groups number = ⊥
+    IsReadGroups first (group_then part rest) number = IsReadPart first part number ⊎ IsReadGroups (first + part_accesses part) rest number
 
 -- an access, or a read, of one of these commands
 abbrev pub IsOfEach : List Located → (number : ℕ) → Type 0
 IsOfEach [] number = ⊥
 IsOfEach (c ∷ cs) number = IsIn c.first (accesses_of c.command) number ⊎ IsOfEach cs number
 
-abbrev pub IsReadOfEach : List Located → (number : ℕ) → Type 0
-IsReadOfEach [] number = ⊥
-IsReadOfEach (c ∷ cs) number = IsReadIn c.first c.command number ⊎ IsReadOfEach cs number
+abbrev pub IsReadOfEach : Known → List Located → (number : ℕ) → Type 0
+IsReadOfEach known [] number = ⊥
+IsReadOfEach known (c ∷ cs) number = IsReadIn known c.first c.command number ⊎ IsReadOfEach known cs number
 
 -- Levels.
 

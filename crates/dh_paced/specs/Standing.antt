@@ -1,13 +1,17 @@
 -- What stands in time where a command begins, and behind it: what variables were given is there at their levels, whatever
 -- the path, and reads of the block have given at all paths.
-use Rattle.std.specs.Prelude.{◌≡◌, ◌⊎◌, ℕ, ◌+◌, ◌<◌, ◌≤◌, max, true, false, List, length, slice_get, Option, Some, None}
+use Rattle.std.specs.Prelude.{◌≡◌, ◌⊎◌, ℕ, ◌+◌, ◌<◌, ◌≤◌, max, true, false, List, [], ◌∷◌, length, slice_get, Option, Some, None}
 use Rattle.dh_tree.specs.Indices.{form_of}
 use Rattle.dh_tree.specs.PlainTrees as plain
-use Rattle.dh_tree.specs.PlainTrees.{Term, Action, action, ActionForm, lets, lets_memory, views, assigns, stores, reduces, calls, blocks, decides, repeats, counts, MaybeAction, no_action, one_action, Actions, no_actions, action_then, Groups, no_groups, group_then}
+use Rattle.dh_tree.specs.PlainTrees.{Term, Action, action, ActionForm, lets, lets_memory, views, assigns, stores, reduces, calls, blocks, decides, repeats, counts, MaybeAction, no_action, one_action, Actions, no_actions, action_then, Groups, no_groups, group_then, ViewPlan}
+use Rattle.dh_tree.specs.ViewOffsets.{offsets_of}
+use Rattle.dh_tree.specs.Seen.{terms}
+use Rattle.dh_tree.specs.declared.trees.expressions.Ref.{Ref}
 use Rattle.dh_meaning.specs.AccessNumbers.{accesses_of, other_accesses, part_accesses, plan_accesses, term_accesses, terms_accesses}
-use Rattle.dh_meaning.specs.CoreOf.{core_term, core_terms, entity_number}
+use Rattle.dh_meaning.specs.CoreOf.{core_term, core_terms, entity_number, target_to, way_of}
 use Rattle.dh_meaning.specs.Levels.{Levels}
-use Rattle.dh_plan.specs.PlanPhases.{term_mentions, terms_mention}
+use Rattle.dh_meaning.specs.Ways.{Hidden, hidden_in}
+use Rattle.dh_plan.specs.PlanPhases.{term_mentions, terms_mention, target_mentions}
 use Rattle.dh_expressions.specs.declared.accesses.Accesses.{Accesses}
 use Rattle.dh_expressions.specs.declared.scenes.Around.{Around}
 use Rattle.dh_expressions.specs.declared.scenes.Scene.{Scene}
@@ -18,6 +22,7 @@ use Rattle.dh_formed.specs.Timed.{AreBounded, Clocks, EntityAt, GuardAt, NotedIn
 use Rattle.dh_commands.specs.declared.buildings.Building.{Building}
 use Rattle.dh_commands.specs.LanesRun.{lane_of, paths_counted}
 use Rattle.dh_commands.specs.ShownVariables.{register_in}
+use Rattle.dh_commands.specs.Setting.{IsAmong}
 use Rattle.dh_laid.specs.Laid.{StandsRound}
 use Rattle.dh_laid.specs.LaidCommands.{StandsHeld}
 use Rattle.dh_paced.specs.Paced.{IsIn, action_levels, between_arms, part_levels}
@@ -54,6 +59,11 @@ module _ (c : Clocks) (scene : Scene) (top : Around) (spaces : ℕ) (shared : �
     pub are : AreOwn outer n (terms_accesses ts)
     pub names : (e : ℕ) → terms_mention e (core_terms (known_in scene) n ts) ≡ true → Variable e
 
+  -- and with what keeps the offsets on the way of what a name stands for
+  pub record OwnsNamed (outer n : ℕ) (r : Ref) (ts : plain.Terms) : Type 0 where
+    pub are : AreOwn outer n (terms_accesses ts)
+    pub names : (e : ℕ) → target_mentions e (target_to (way_of (known_in scene) r) (core_terms (known_in scene) n ts)) ≡ true → Variable e
+
   -- a write
   pub record OwnsWrite (outer n : ℕ) : Type 0 where
     pub own : Own n
@@ -61,7 +71,7 @@ module _ (c : Clocks) (scene : Scene) (top : Around) (spaces : ℕ) (shared : �
     pub unread : Read n → ⊥
 
   abbrev pub OwnsTarget : (outer n : ℕ) → plain.TermForm → Type 0
-  OwnsTarget outer n (plain.accessed r ts) = OwnsTerms outer n ts × OwnsWrite outer (n + terms_accesses ts)
+  OwnsTarget outer n (plain.accessed r ts) = OwnsNamed outer n r ts × OwnsWrite outer (n + terms_accesses ts)
   OwnsTarget outer n (plain.in_bank r bank at row) = OwnsTerm outer n row × OwnsWrite outer (n + term_accesses row)
   OwnsTarget outer n (plain.number negative z) = ⊥
   OwnsTarget outer n (plain.truth_value b) = ⊥
@@ -79,6 +89,13 @@ module _ (c : Clocks) (scene : Scene) (top : Around) (spaces : ℕ) (shared : �
   TakesAlone e n t =
       ((i j : ℕ) → i < paths_counted top → j < paths_counted top → register_in scene top e i ≡ register_in scene top e j → i ≡ j) ⊎ (term_mentions e (core_term (known_in scene) n t) ≡ false)
 
+  -- the variables that keep offsets of a view, where one keeps an offset on its way, are others at each path; where none
+  -- does no access of an offset is put down
+  abbrev pub OwnsView : (outer first : ℕ) → List Hidden → ViewPlan → Type 0
+  OwnsView outer first [] form = (m : ℕ) → IsIn first (plan_accesses form + 0) m → Read m → ⊥
+  OwnsView outer first (h ∷ hs) form =
+      OwnsTerms outer first (terms (offsets_of form)) × ((e : ℕ) → IsAmong h.entity (length (offsets_of form)) e → IsTarget e × ((i j : ℕ) → i < paths_counted top → j < paths_counted top → register_in scene top e i ≡ register_in scene top e j → i ≡ j))
+
   abbrev mutual
     pub OwnsIn : (outer first : ℕ) → Action → Levels → Type 0
     OwnsIn outer first (action id place form) l = OwnsBy outer first form l
@@ -95,9 +112,9 @@ module _ (c : Clocks) (scene : Scene) (top : Around) (spaces : ℕ) (shared : �
         × OwnsOther (max outer (leveled scene shared outer first test l).level) (first + term_accesses test + accesses_of chosen) other (between_arms (known_in scene) shared outer first test chosen l))
     OwnsBy outer first (blocks body) l = OwnsGroups outer first body l
     OwnsBy outer first (lets_memory name shape shape_places value) l = Unit {0}
-    -- no access of a view is put down, nor of a loop without turns
-    OwnsBy outer first (views name parent form) l = (m : ℕ) → IsIn first (plan_accesses form + 0) m → Read m → ⊥
+    OwnsBy outer first (views name parent form) l = OwnsView outer first (hidden_in (way_of (known_in scene) name)) form
     OwnsBy outer first (calls function arguments) l = Unit {0}
+    -- no access of a loop without turns is put down
     OwnsBy outer first (repeats test body) l = (m : ℕ) → IsIn first (term_accesses test + accesses_of body) m → Read m → ⊥
     OwnsBy outer first (counts iterator declared low high factor body combine combine_place) l = (m : ℕ) → IsIn first (accesses_of body + other_accesses combine) m → Read m → ⊥
 

@@ -163,8 +163,5 @@ loops_are_own scene named long =
     let body : resolved_action (body_scope p) p.body ≡ p.body = ap (λ (x : Program). x.body) named in
     let entities : (last_scope p).entities ≡ p.entities = ap (λ (x : Program). x.entities) named in
     own_loops scene (size (body_scope p)) (size (at_end (body_scope p) p.body)) (text.ascend (body_scope p) p.body body)
-    (subst (λ (n : ℕ). size (at_end (body_scope p) p.body) ≤ n) (ap (λ (l : List Entity). length l) entities ∙ sym long) (same (size (at_end (body_scope p) p.body))))
+    (subst (λ (n : ℕ). n ≤ length scene.held.now) (sym (ap (λ (l : List Entity). length l) entities)) long)
     (ascend (counters_of p) (known_of p) (body_scope p) p.body nothing_around 0 body (among_self (counters_of p)))
-  where
-    same : (n : ℕ) → n ≤ n
-    same n = omega arith

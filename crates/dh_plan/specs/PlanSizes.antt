@@ -5,6 +5,7 @@ use Rattle.std.specs.Prelude.{ℕ, zero, suc, ◌+◌, ◌*◌, ◌<◌, nat_lt,
 use Rattle.dh_tree.specs.Elements.{banks_of}
 use Rattle.dh_tree.specs.Memories.{memory_in, memories_of, Memory}
 use Rattle.dh_tree.specs.PlainTrees.{Term, term, TermForm, number, truth_value, named, accessed, in_bank, applied, converted, Terms, no_terms, term_then, Action, action, ActionForm, lets, lets_memory, views, assigns, stores, reduces, calls, blocks, decides, repeats, counts, MaybeAction, no_action, one_action, Actions, no_actions, action_then, Groups, no_groups, group_then, Program}
+use Rattle.dh_meaning.specs.Ways.{base_of, way_to}
 use Rattle.dh_meets.specs.Charges.{charge, paths_of}
 use Rattle.dh_meets.specs.SourceEvents.{SourceAccess, accesses_in, trace}
 use Rattle.dh_tree.specs.Seen.{terms}
@@ -92,9 +93,9 @@ abbrev pub entity_banks_charged : Program → (access : ℕ) → (entity : Optio
 entity_banks_charged p access None = 0
 entity_banks_charged p access (Some memory) = banks_charged p memory access (memory_banks (memory_in (memories_of p) (Some memory)))
 
--- an access in each copy in which it stands
+-- an access in each copy in which it stands, with the banks that it charges of the memory that its name leads to
 abbrev pub access_size : Program → (access : ℕ) → SourceAccess → ℕ
-access_size p access a = length (paths_of a) * suc (entity_banks_charged p access a.entity)
+access_size p access a = length (paths_of a) * suc (entity_banks_charged p access (base_of (way_to p a.entity) a.entity))
 
 -- accesses numbered from one on
 abbrev pub accesses_size : Program → (from : ℕ) → List SourceAccess → ℕ

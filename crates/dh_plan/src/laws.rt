@@ -86,7 +86,8 @@ pub fn passes_compose()
 /// A plan's way through views is that of the meaning, where its passages are of the steps.
 #[tactic(auto, using(crate::proofs::ViewsPassed::passed))]
 pub fn ways_are_passed()
-    ensures { (views : List ViewMap) (steps : List Step) (passages : List Passage) (offsets indices : List ℤ)
+    ensures { (views : List ViewMap) (steps : List Step) (passages : List Passage)
+        (offsets indices : List ℤ)
         → AreOfSteps views steps passages offsets
         → indices_behind views passages indices ≡ indices_through steps indices offsets }
 {}

@@ -1,5 +1,5 @@
 -- What an access takes of a bank is its charge there.
-use Rattle.std.proofs.Common.{◌≡◌, ℕ, zero, suc, ◌+◌, ◌-◌, ◌<◌, ◌≤◌, ◌==◌, ◌&&◌, nat_lt, Bool, true, false, if◌then◌else◌, List, [], ◌∷◌, ◌++◌, length, map, refl, ap, sym, ◌∙◌, subst, arith, ◌⊎◌, inl, inr}
+use Rattle.std.proofs.Common.{◌≡◌, ℕ, zero, suc, ◌+◌, ◌<◌, ◌≤◌, ◌==◌, ◌&&◌, nat_lt, Bool, true, false, if◌then◌else◌, List, [], ◌∷◌, ◌++◌, length, map, refl, ap, sym, ◌∙◌, subst, arith, ◌⊎◌, inl, inr}
 use mathlib.Core.Path.{fun_ext}
 use Rattle.std.specs.Prelude.{Option, Some, None, option_map, slice_get, slice_index}
 use Rattle.std.specs.Option.{is_some}
@@ -15,17 +15,17 @@ use Rattle.dh_tree.specs.PlainTrees.{Program}
 use Rattle.dh_meaning.specs.Ways as ways
 use Rattle.dh_meaning.specs.Ways.{Way, all_bindings_of, way_to}
 use Rattle.dh_meaning.specs.Paths.{Path, same_path}
+use Rattle.dh_ways.proofs.MemoriesUnled.{memory_unled}
 use Rattle.dh_meets.specs.Charges as charges
 use Rattle.dh_meets.specs.Charges.{bank_reached, key_of, paths_of, reaches, reaches_in, charge, charge_of, charge_by, reaches_by, charge_through}
 use Rattle.dh_meets.specs.Sharing.{shared}
 use Rattle.dh_meets.specs.SourceEvents.{SourceAccess, accesses_in, trace}
-use Rattle.dh_ports.specs.declared.levels.Step.TheVariants as step
 use Rattle.dh_ports.specs.declared.moves.Move.{Move}
 use Rattle.dh_ports.specs.declared.moves.Move.TheVariants as move
-use Rattle.dh_ports.specs.Claims.{base_of, keys_on, counts_to, claim_at, claims_from, claims_in, claims_at, claims_of, count_on, owner_of}
+use Rattle.dh_ports.specs.Claims.{base_of, counts_to, claim_at, claims_from, claims_in, claims_at, claims_of, count_on, owner_of}
 use Rattle.dh_ports.specs.Expanded.{taken_by, all_taken}
 use Rattle.dh_ports.specs.Scanned.{flag_at, spending_step}
-use Rattle.dh_ports.specs.Wholes.{banks_in, banks_at, TakesCharge}
+use Rattle.dh_ports.specs.Wholes.{banks_in, banks_at}
 
 absurd : {A : Type 0} → ⊥ → A
 absurd e = elim e [ ]
@@ -371,3 +371,7 @@ module _ (p : Program) (flags : List Bool) (event k memory number bank : ℕ) (a
               none_of (inr (behind (base_of (table_of p) m) (banks_in (slice_get (table_of p) m)) (base_of (table_of p) number) _ bank (bases_apart (table_of p) m number f) (counts_long p mine.memory.shape.dims a (banks_of mine.memory.shape.dims) ∙ sym banks_are))) (less_never m number f)
           by_place (inr f) (inl g) = none_of (inl (ahead (base_of (table_of p) number) (banks_at p number) (base_of (table_of p) m) bank (bases_apart (table_of p) number m g) there)) (more_never m number g)
           by_place (inr f) (inr g) = same_number (equal m number g f)
+
+-- the memory of a number has no way
+pub number_unled : (p : Program) (entity : Option ℕ) (number : ℕ) → number_in (memories_of p) entity ≡ Some number → way_to p entity ≡ None
+number_unled p entity number e = let d = found (memories_of p) entity number e in memory_unled p entity d.memory d.is

@@ -26,13 +26,15 @@ use Rattle.dh_meets.specs.SourceEvents.{SourceAccess}
 use Rattle.dh_events.specs.declared.dependence.Scope.{Scope}
 use Rattle.dh_ports.specs.declared.moves.Layout.{Layout}
 use Rattle.dh_ports.specs.declared.moves.Move.TheVariants as move
-use Rattle.dh_ports.specs.Banks.{bank_at_path}
+use Rattle.dh_ports.specs.Banks.{bank_at_path, each_below}
 use Rattle.dh_events.specs.Accesses.{entity_in, loops_in}
 use Rattle.dh_ports.specs.Claims.{base_of, AreBases, keys_on, counts_to, claim_at, claim_in, claims_from, claims_in, claims_at, claims_of, source_of, count_on}
 use Rattle.dh_ports.specs.Layouts.{IsLayout}
 use Rattle.dh_events.specs.Scopes.{AreScopes}
 use Rattle.dh_ports.specs.Wholes.{banks_in}
 use Rattle.dh_ports.proofs.ClaimFacts.{counts_long, bases_apart}
+use Rattle.dh_ports.proofs.EachFacts.{each_long}
+use Rattle.dh_ports.proofs.PathNumbers.{each_same}
 use Rattle.dh_ports.proofs.StartFacts.{base_most}
 
 absurd : {A : Type 0} → ⊥ → A
@@ -46,7 +48,7 @@ shift a b = omega arith
 plus_none : (n : ℕ) → n ≡ n + 0
 plus_none n = omega arith
 
-claims_last : (event base : ℕ) (xs : List ℕ) (x : ℕ) → claims_from event base (xs ++ x ∷ []) ≡ claims_from event base xs ++ claim_at event (base + length xs) x
+pub claims_last : (event base : ℕ) (xs : List ℕ) (x : ℕ) → claims_from event base (xs ++ x ∷ []) ≡ claims_from event base xs ++ claim_at event (base + length xs) x
 claims_last event base [] x = append-nil (claim_at event base x) ∙ ap (λ n. claim_at event n x) (plus_none base)
 claims_last event base (y ∷ xs) x =
     ap (λ l. claim_at event base y ++ l) (claims_last event (suc base) xs x)
@@ -103,6 +105,11 @@ module _ (tree : Tree) (dims : List Dim) (writes : Bool) (e : Expr) (bank : ℕ)
       ∙ (ap (λ k. claim_in event base n bank ++ claim_at event (base + n) k) (count_here n)
       ∙ one_more event base n bank)))
 
+-- counts of each bank
+pub counts_each : (p : Program) (dims : List Dim) (a : SourceAccess) (n : ℕ) → counts_to p dims a n ≡ each_below (count_on p (way_to p a.entity) dims a) n
+counts_each p dims a zero = refl
+counts_each p dims a (suc n) = ap (λ l. l ++ count_on p (way_to p a.entity) dims a n ∷ []) (counts_each p dims a n)
+
 -- The claims of an access.
 
 module _ (tree : Tree) (event : ℕ) (loops : List Counter) (writes : Bool) (e : Expr) (unled : way_to (program_seen tree) (entity_in (form_seen e.form)) ≡ None) where
@@ -136,8 +143,13 @@ module _ (tree : Tree) (event : ℕ) (loops : List Counter) (writes : Bool) (e :
           ∙ (ap (λ ls. claims_from event base (counts_to (program_seen tree) dims (source_of ls writes e) banks)) none
           ∙ one_claim tree dims writes e bank (reached writes) unled event base banks)
 
-      pub all_claimed : (counts : List ℕ) → counts ≡ counts_to (program_seen tree) dims (source_of loops writes e) banks → claims_of (program_seen tree) event (source_of loops writes e) ≡ claims_from event base counts
-      all_claimed counts told = claims_here ∙ ap (claims_from event base) (sym told)
+      pub all_claimed : (counts : List ℕ) → counts ≡ each_below (keys_on (program_seen tree) dims (source_of loops writes e)) banks → claims_of (program_seen tree) event (source_of loops writes e) ≡ claims_from event base counts
+      all_claimed counts told =
+          claims_here
+          ∙ ap (claims_from event base)
+          (counts_each (program_seen tree) dims (source_of loops writes e) banks
+          ∙ (ap (λ w. each_below (count_on (program_seen tree) w dims (source_of loops writes e)) banks) unled
+          ∙ (each_same (count_on (program_seen tree) None dims (source_of loops writes e)) (keys_on (program_seen tree) dims (source_of loops writes e)) banks (λ k i. refl) ∙ sym told)))
 
 -- Bounds.
 
@@ -242,7 +254,7 @@ shape_at table es m x ds same h inside is dims_are =
       few = subst (λ (l : List Dim). banks_of l ≤ 64) (sym dims_are) s.shape.few_banks;
     }
 
-index_found : (xs : List ℕ) (m d : ℕ) → m < length xs → get_or xs m d ≡ slice_index xs m
+pub index_found : (xs : List ℕ) (m d : ℕ) → m < length xs → get_or xs m d ≡ slice_index xs m
 index_found [] m d inside = absurd (none m inside)
   where
     none : (k : ℕ) → k < 0 → ⊥
@@ -280,5 +292,5 @@ scopes_at p layout l (Some id) h = l.scopes id h
 pub kept_scopes : (bs : List Binding) (scopes shown : List (Option Scope)) → shown ≡ scopes → AreScopes bs scopes → AreScopes bs shown
 kept_scopes bs scopes shown same h = subst (λ (l : List (Option Scope)). AreScopes bs l) (sym same) h
 
-pub counted_few : (p : Program) (dims : List Dim) (a : SourceAccess) (banks base : ℕ) (counts : List ℕ) → counts ≡ counts_to p dims a banks → base + banks ≤ 2097152 → base + length counts ≤ 2097152
-counted_few p dims a banks base counts told few = subst (λ (n : ℕ). base + n ≤ 2097152) (sym (ap length told ∙ counts_long p dims a banks)) few
+pub each_few : (f : ℕ → ℕ) (banks base : ℕ) (counts : List ℕ) → counts ≡ each_below f banks → base + banks ≤ 2097152 → base + length counts ≤ 2097152
+each_few f banks base counts told few = subst (λ (n : ℕ). base + n ≤ 2097152) (sym (ap length told ∙ each_long f banks)) few

@@ -3,12 +3,10 @@ use Rattle.std.proofs.Common.{◌≡◌, ℕ, zero, suc, ◌+◌, ◌*◌, ◌%�
 use Rattle.std.specs.Prelude.{Option, Some, None, option_map, slice_get, slice_index}
 use Rattle.std.specs.List.{AllByRecursion, filter, list_any}
 use Rattle.std.specs.Set.{distinct_count, unique_keys, is_member}
-use Rattle.std.proofs.lemmas.Bool.{eqb-true, eq-eqb, cases_Bool, or_cases, cases_lt, ltb-true}
-use Rattle.std.proofs.lemmas.Option.{slice_get_within}
+use Rattle.std.proofs.lemmas.Bool.{eqb-true, eq-eqb, cases_Bool, or_cases, ltb-true}
 use Rattle.std.proofs.Math.Nat.{mod-lt}
 use Rattle.dh_tree.specs.declared.tables.Dim.{Dim}
 use Rattle.dh_tree.specs.declared.tables.MemEntry.{MemEntry}
-use Rattle.dh_tree.specs.declared.trees.counters.Counter.{Counter}
 use Rattle.dh_tree.specs.Counters.{counters_of}
 use Rattle.dh_tree.specs.Elements.{banks_of, bank_of}
 use Rattle.dh_tree.specs.Memories.{Memory, memories_of, memory_in, number_in, same_entity, entry_of, table_of}
@@ -26,7 +24,7 @@ use Rattle.dh_carried.specs.MadeCopies.{IsPathAmong}
 use Rattle.dh_carried.proofs.ChargedBanks.{charged_reaches, may_below, reaching_charges}
 use Rattle.dh_ports.specs.declared.moves.Move.{Move}
 use Rattle.dh_ports.specs.declared.moves.Move.TheVariants as move
-use Rattle.dh_ports.specs.Claims.{base_of, count_on, counts_to, owner_of, claim_at, claims_from, claims_in, claims_at, claims_of}
+use Rattle.dh_ports.specs.Claims.{base_of, count_on, counts_to, owner_of, claims_from, claims_in, claims_at, claims_of}
 use Rattle.dh_ports.specs.WritesFound.{can_reach}
 use Rattle.dh_ports.proofs.ClaimFacts.{Declared, found, counts_long, count_at}
 
@@ -246,7 +244,7 @@ at_all P [] n a h e = cc
 at_all P (x ∷ xs) zero a h e = let same : x ≡ a = cc in subst P same h.0
 at_all P (x ∷ xs) (suc n) a h e = at_all P xs n a h.1 e
 
-banks_some : (dims : List Dim) → AllByRecursion IsDim dims → 1 ≤ banks_of dims
+pub banks_some : (dims : List Dim) → AllByRecursion IsDim dims → 1 ≤ banks_of dims
 banks_some [] h = omega arith
 banks_some (d ∷ ds) h = both d.banks (banks_of ds) h.0.banks (banks_some ds h.1)
   where
@@ -273,11 +271,11 @@ reached_within : (p : Program) (a : SourceAccess) (path : Path) (m : Memory) (ba
 reached_within p a path m bank b s e (with_indices indices) f g = subst (λ (n : ℕ). n < banks_of m.shape.dims) g (bank_told m.shape.dims (indices_in (counters_of p) a.site.loops path indices) s.dims)
 reached_within p a path m bank b s e (in_row other row) f g = subst (λ (n : ℕ). n < banks_of m.shape.dims) g (b.rows other row m f e)
 
-path_there : (t : Path → Bool) (xs : List Path) → list_any t xs ≡ true → (x : Path) × (IsPathAmong x xs × (t x ≡ true))
+pub path_there : (t : Path → Bool) (xs : List Path) → list_any t xs ≡ true → (x : Path) × (IsPathAmong x xs × (t x ≡ true))
 path_there t [] e = cc
 path_there t (x ∷ xs) e = elim (or_cases (t x) (list_any t xs) e) [ inl f ↦ (x, (inl refl, f)) | inr f ↦ (let at = path_there t xs f in (at.0, (inr at.1.0, at.1.1))) ]
 
-there_path : (t : Path → Bool) (xs : List Path) (x : Path) → IsPathAmong x xs → t x ≡ true → list_any t xs ≡ true
+pub there_path : (t : Path → Bool) (xs : List Path) (x : Path) → IsPathAmong x xs → t x ≡ true → list_any t xs ≡ true
 there_path t [] x h e = absurd h
 there_path t (y ∷ ys) x (inl f) e = ap (λ b. b || list_any t ys) (ap t (sym f) ∙ e)
 there_path t (y ∷ ys) x (inr h) e = either (t y) (list_any t ys) (there_path t ys x h e)

@@ -107,7 +107,7 @@ module _ {K : Type 0} (eq : K → K → Bool) (own : (k : K) → eq k k ≡ true
             by true h = ap (λ l. g p ∷ l) h ∙ both (bank (f n) == b) (g p) (map g (filter (λ q. bank q == b) ps)) (map g (filter (λ q. bank q == b) ps))
             by false h = h
 
-    reaching_most : (n b : ℕ) → distinct_count eq (reaching n b) ≤ n
+    pub reaching_most : (n b : ℕ) → distinct_count eq (reaching n b) ≤ n
     reaching_most zero b = least 0
       where
         least : (n : ℕ) → 0 ≤ n

@@ -1,13 +1,25 @@
 -- What is known of the loops and variables of a program, from what was noted of its body.
-use Rattle.std.proofs.Common.{◌≡◌, ℕ, zero, suc, List, [], ◌∷◌, ◌++◌, length, refl, ap, ◌∙◌, subst, arith}
+use Rattle.std.proofs.Common.{◌≡◌, ℕ, zero, suc, List, [], ◌∷◌, ◌++◌, length, map, refl, ap, sym, ◌∙◌, subst, arith}
 use mathlib.Core.Path.{fun_ext}
 use Rattle.std.specs.Prelude.{Option, Vec}
 use Rattle.std.specs.Global.{Global}
+use Rattle.std.specs.List.{AllByRecursion}
+use Rattle.std.proofs.lemmas.List.{map-append}
 use Rattle.dh_tree.specs.declared.trees.counters.Counter.{Counter}
+use Rattle.dh_tree.specs.Memories.{Memory}
 use Rattle.dh_tree.specs.PlainTrees.{Action, Program}
 use Rattle.dh_meaning.specs.Bindings.{Binding, bindings}
-use Rattle.dh_meaning.specs.Ways.{all_bindings_of, view_bindings}
+use Rattle.dh_meaning.specs.Ways as definitions
+use Rattle.dh_meaning.specs.Ways.{Standing, all_bindings_of, behind_hidden, hidden_binding, hidden_bindings, hidden_of, led_binding, standings, view_bindings, ways_of}
+use Rattle.dh_ways.specs.declared.ways.Hidden.{Hidden}
+use Rattle.dh_ways.specs.Kept.{Led}
+use Rattle.dh_ways.specs.HiddenVariables.{all_hidden}
+use Rattle.dh_ways.specs.Leading.{LeadsTo}
+use Rattle.dh_ways.specs.Seen.{hidden_seen, led_seen}
+use Rattle.dh_ways.specs.Stands.{hidden_of_program}
+use Rattle.dh_ways.proofs.StandsFound.{hidden_are}
 use Rattle.dh_events.specs.declared.dependence.Scope.{Scope}
+use Rattle.dh_ports.specs.Carriers.{Follow}
 use Rattle.dh_ports.specs.Layouts.{no_rounds}
 use Rattle.dh_events.specs.Rounds.{rounds_in, rounds_of, AreRounds}
 use Rattle.dh_events.specs.Scopes.{AreScopes}
@@ -41,3 +53,24 @@ no_loops (r ∷ rounds) e id = absurd (some (length rounds) e)
 
 pub no_scopes : (p : Program) (rounds : List (Vec Counter Global)) (scopes : List (Option Scope)) → length rounds ≡ 0 → (id : ℕ) → (rounds_of rounds id ≡ [] → ⊥) → AreScopes (all_bindings_of p) scopes
 no_scopes p rounds scopes e id h = absurd (h (no_loops rounds e id))
+
+-- Views.
+
+hidden_told : (first : ℕ) (ss : List Standing) → map hidden_binding (all_hidden first ss) ≡ hidden_bindings first ss
+hidden_told first [] = refl
+hidden_told first (s ∷ ss) = map-append hidden_binding (hidden_of first s) (all_hidden (behind_hidden first s) ss) ∙ ap (λ l. map hidden_binding (hidden_of first s) ++ l) (hidden_told (behind_hidden first s) ss)
+
+-- the variables of views that code finds are those of the program
+pub bindings_found : (p : Program) (led : List Led) (hidden shown : List Hidden) → map led_seen led ≡ ways_of p → hidden ≡ hidden_of_program p → shown ≡ hidden → map led_binding (map led_seen led) ++ map hidden_binding (map hidden_seen shown) ≡ view_bindings p
+bindings_found p led hidden shown e f g =
+    ap (λ ls. map led_binding ls ++ map hidden_binding (map hidden_seen shown)) e
+    ∙ (ap (λ hs. map led_binding (ways_of p) ++ map hidden_binding (map hidden_seen hs)) (g ∙ f)
+    ∙ (ap (λ hs. map led_binding (ways_of p) ++ map hidden_binding hs) (hidden_are p) ∙ ap (λ bs. map led_binding (ways_of p) ++ bs) (hidden_told (length p.entities) (standings 0 p.body))))
+
+-- ways that lead to memories are followed
+pub follow_all : (ms : List Memory) (led : List Led) (ws : List definitions.Led) → map led_seen led ≡ ws → AllByRecursion (λ l. LeadsTo ms l.way) ws → AllByRecursion (λ l. Follow l.way) led
+follow_all ms led ws e h = all led (subst (λ (ls : List definitions.Led). AllByRecursion (λ l. LeadsTo ms l.way) ls) (sym e) h)
+  where
+    all : (ls : List Led) → AllByRecursion (λ l. LeadsTo ms l.way) (map led_seen ls) → AllByRecursion (λ l. Follow l.way) ls
+    all [] h = tt
+    all (l ∷ ls) h = (record { dims = h.0.memory.shape.dims; lead = h.0.steps }, all ls h.1)

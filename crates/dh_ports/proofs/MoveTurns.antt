@@ -1,5 +1,5 @@
 -- Steps of the loops over events and banks.
-use Rattle.std.proofs.Common.{◌≡◌, ℕ, zero, suc, ◌+◌, ◌-◌, ◌<◌, ◌≤◌, ◌==◌, Bool, false, if◌then◌else◌, List, [], ◌∷◌, ◌++◌, append_assoc, append-nil, length, drop, get_or, refl, ap, sym, ◌∙◌, subst, arith, ◌⊎◌, inl, inr}
+use Rattle.std.proofs.Common.{◌≡◌, ℕ, zero, suc, ◌+◌, ◌<◌, ◌≤◌, ◌==◌, Bool, false, if◌then◌else◌, List, [], ◌∷◌, ◌++◌, append_assoc, append-nil, length, drop, get_or, refl, ap, sym, ◌∙◌, subst, arith, ◌⊎◌, inl, inr}
 use Rattle.std.specs.Prelude.{Option, Some, slice_get, slice_index, Vec}
 use Rattle.std.specs.Global.{Global}
 use Rattle.std.specs.List.{AllByRecursion}
@@ -137,9 +137,6 @@ copies_at rounds es i d few inside access writes phase round element newest is =
 
 -- One event more, arm by arm.
 
-same_place : (i : ℕ) → i + 1 - 1 ≡ i
-same_place i = omega arith
-
 module _ (p : Program) (rounds : List (Vec Counter Global)) (es : List Event) (i : ℕ) (d : Event) (before new whole : List Move) (inside : i < length es) (so_far : before ++ moves_from p (loops_in rounds) i (all_seen (drop i es)) ≡ whole) (within : AllByRecursion (IsMoveOf (length es)) before) where
   abbrev pub Turned : Type 0
   Turned = (new ++ moves_from p (loops_in rounds) (i + 1) (all_seen (drop (i + 1) es)) ≡ whole) × AllByRecursion (IsMoveOf (length es)) new
@@ -147,8 +144,8 @@ module _ (p : Program) (rounds : List (Vec Counter Global)) (es : List Event) (i
   turned : (e : Event) → get_or es i d ≡ e → new ≡ before ++ moves_of p (loops_in rounds) i e → Turned
   turned e is more = (moves_turn p (loops_in rounds) es i e before new whole inside (same_item es i d e inside is) so_far more, within_turn p (loops_in rounds) (length es) i e before new inside within more)
 
-  pub touch_turn : (access : _) (writes : Bool) (phase : ℕ) (round : Option ℕ) (element : Option ℕ) (newest : ℕ) → get_or es i d ≡ event.Touch access writes phase round element newest → new ≡ before ++ claims_of p (i + 1 - 1) (source_of (loops_in rounds round) writes access.now) → Turned
-  touch_turn access writes phase round element newest is so = turned (event.Touch access writes phase round element newest) is (so ∙ ap (λ n. before ++ claims_of p n (source_of (loops_in rounds round) writes access.now)) (same_place i))
+  pub touch_turn : (access : _) (writes : Bool) (phase : ℕ) (round : Option ℕ) (element : Option ℕ) (newest : ℕ) → get_or es i d ≡ event.Touch access writes phase round element newest → new ≡ before ++ claims_of p i (source_of (loops_in rounds round) writes access.now) → Turned
+  touch_turn access writes phase round element newest is so = turned (event.Touch access writes phase round element newest) is so
 
   pub begin_turn : get_or es i d ≡ event.Begins → new ≡ before ++ move.Begin ∷ [] → Turned
   begin_turn is so = turned event.Begins is so
@@ -172,10 +169,3 @@ module _ (p : Program) (rounds : List (Vec Counter Global)) (es : List Event) (i
 
 pub moves_done : (p : Program) (loops : Option ℕ → List Counter) (es : List Event) (i : ℕ) (moves whole : List Move) → length es ≤ i → moves ++ moves_from p loops i (all_seen (drop i es)) ≡ whole → moves ≡ whole
 moves_done p loops es i moves whole past so = sym (append-nil moves) ∙ (ap (λ l. moves ++ moves_from p loops i (all_seen l)) (sym (drop_all i es past)) ∙ so)
-
--- no pair was seen at a later moment either
-pub seen_later : (f : ℕ → ℕ) (moment : ℕ) → ((pair : ℕ) → f pair < moment) → (pair : ℕ) → f pair < moment + 1
-seen_later f moment h pair = more (f pair) moment (h pair)
-  where
-    more : (a b : ℕ) → a < b → a < b + 1
-    more a b e = omega (arith, e)

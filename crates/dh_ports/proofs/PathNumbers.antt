@@ -6,21 +6,17 @@ use Rattle.std.proofs.lemmas.Nat.{mul-add-lt, div-mul-add, mod-mul-add}
 use Rattle.dh_meaning.specs.Paths.{Path, same_path, outer_paths, copies_of, all_copies, paths_from, paths_in}
 use Rattle.dh_meets.specs.Charges.{picked}
 use Rattle.dh_ports.specs.Banks.{path_at, keys_in, key_number}
+pub use Rattle.dh_ports.specs.Banks.{each_below}
 use Rattle.dh_meaning.specs.Paths.{copies_in}
 
 absurd : {A : Type 0} → ⊥ → A
 absurd e = elim e [ ]
 
--- the values of a function below a number
-abbrev pub each_below : {A : Type 0} → (ℕ → A) → ℕ → List A
-each_below f zero = []
-each_below f (suc n) = each_below f n ++ f n ∷ []
-
 pub each_same : {A : Type 0} (f g : ℕ → A) (n : ℕ) → ((k : ℕ) → k < n → f k ≡ g k) → each_below f n ≡ each_below g n
 each_same f g zero e = refl
 each_same f g (suc n) e = ap (λ l. l ++ f n ∷ []) (each_same f g n (λ k h. e k (omega (arith, h)))) ∙ ap (λ x. each_below g n ++ x ∷ []) (e n (omega arith))
 
-each_more : {A : Type 0} (f : ℕ → A) (m n : ℕ) → each_below f (m + n) ≡ each_below f m ++ each_below (λ k. f (m + k)) n
+pub each_more : {A : Type 0} (f : ℕ → A) (m n : ℕ) → each_below f (m + n) ≡ each_below f m ++ each_below (λ k. f (m + k)) n
 each_more f m zero = ap (each_below f) (none m) ∙ sym (nothing (each_below f m))
   where
     none : (m : ℕ) → m + 0 ≡ m
@@ -53,7 +49,7 @@ one_more (suc f) fs e = (omega arith, by (copies_in fs) e)
     by (suc n) e = omega arith
 
 -- a multiple of the copies more leads to the same path
-path_round : (fs : List ℕ) (k n : ℕ) → 1 ≤ copies_in fs → path_at fs (k * copies_in fs + n) ≡ path_at fs n
+pub path_round : (fs : List ℕ) (k n : ℕ) → 1 ≤ copies_in fs → path_at fs (k * copies_in fs + n) ≡ path_at fs n
 path_round [] k n e = refl
 path_round (f ∷ fs) k n e =
     let more = one_more f fs e in

@@ -3,38 +3,40 @@ use Rattle.std.proofs.Common.{◌≡◌, ℕ, zero, suc, ◌+◌, ◌-◌, ◌<�
 use mathlib.Core.Path.{fun_ext}
 use Rattle.std.specs.Prelude.{Option, Some, None, option_map, slice_get, slice_index}
 use Rattle.std.specs.Option.{is_some}
-use Rattle.std.specs.List.{filter}
-use Rattle.std.specs.Set.{distinct_count}
+use Rattle.std.specs.List.{AllByRecursion}
 use Rattle.std.proofs.lemmas.Bool.{cases_Bool, cases_lt, eqb-true}
 use Rattle.std.proofs.lemmas.List.{length-map}
 use Rattle.std.proofs.lemmas.Option.{slice_get_within, slice_get-map}
 use Rattle.dh_base.specs.declared.places.Place.{Place}
 use Rattle.dh_tree.specs.declared.tables.MemEntry.{MemEntry}
-use Rattle.dh_tree.specs.declared.trees.counters.Counter.{Counter}
 use Rattle.dh_tree.specs.Elements.{banks_of}
 use Rattle.dh_tree.specs.Meets.{Meets, nothing, access, all, one, In, Distinct, load, upto}
 use Rattle.dh_tree.specs.Memories.{Memory, memories_of, memory_in, number_in, table_of, entry_of}
 use Rattle.dh_tree.specs.PlainTrees.{Program}
 use Rattle.dh_tree.specs.Shapes.{IsProgramTable}
-use Rattle.dh_meaning.specs.Paths.{same_path}
-use Rattle.dh_meaning.specs.Ways.{Way, way_to}
-use Rattle.dh_ways.proofs.NoWays.{no_way_to}
+use Rattle.dh_tree.specs.ViewBreaches.{action_view_breaches, known_views, view_breaches_of}
+use Rattle.dh_tree.specs.ViewFactors.{factor_breaches_of}
+use Rattle.dh_tree.specs.Counters.{counters_of}
+use Rattle.dh_viewing.proofs.KeptViews.{first_none}
+use Rattle.dh_meaning.specs.Paths.{Path}
+use Rattle.dh_meaning.specs.Ways.{Way, way_in, way_to, way_unless, ways_of}
+use Rattle.dh_ways.specs.Leading.{LeadsTo}
+use Rattle.dh_ways.proofs.WaysLead.{ways_lead}
 use Rattle.dh_meaning.specs.Sites.{nothing_around}
-use Rattle.dh_meets.specs.Charges.{charge, charge_of, key_of, paths_of, reaches, charge_by}
+use Rattle.dh_meets.specs.Charges.{bank_reached, charge, charge_of, indices_in, charge_by}
 use Rattle.dh_meets.specs.MayMeet.{meets_in}
 use Rattle.dh_meets.specs.Ports.{memory_ports, ports_of, place_in}
 use Rattle.dh_meets.specs.Sharing.{shared}
-use Rattle.dh_meets.specs.SourceEvents.{SourceAccess, accesses_in, trace}
+use Rattle.dh_meets.specs.SourceEvents.{Element, with_indices, in_row, SourceAccess, accesses_in, trace}
 use Rattle.dh_events.specs.declared.events.Event.{Event}
 use Rattle.dh_events.specs.declared.events.Site.{Site}
 use Rattle.dh_ports.specs.declared.levels.Step.{Step}
-use Rattle.dh_ports.specs.declared.levels.Step.TheVariants as step
 use Rattle.dh_ports.specs.declared.moves.Move.{Move}
 use Rattle.dh_ports.specs.declared.moves.Move.TheVariants as move
 use Rattle.dh_ports.specs.Claims.{access_of, base_of, ports_in, claims_of, moves_from}
 use Rattle.dh_ports.specs.Courses.{count, before_at, Ties}
 use Rattle.dh_ports.specs.Expanded.{all_taken}
-use Rattle.dh_events.specs.Incidents.{Incident, touches, closed, incidents}
+use Rattle.dh_events.specs.Incidents.{Incident, closed}
 use Rattle.dh_ports.specs.Levels.{Level, start}
 use Rattle.dh_events.specs.Noted.{all_seen}
 use Rattle.dh_ports.specs.Scanned.{flag_at, spending_step, spent_place}
@@ -42,12 +44,14 @@ use Rattle.dh_ports.specs.Spent.{Spends}
 use Rattle.dh_ports.specs.Told.{IsToldBefore}
 use Rattle.dh_ports.specs.Wholes.{no_stages, happenings_of, at_touches, Touched, touched, of_access, sites_in, TellsLoops, loops_known, AreEventsOf, TellsShared, TellsSpent, banks_in, banks_at}
 use Rattle.dh_events.specs.Stages.{stages_in}
-use Rattle.dh_ports.proofs.ClaimFacts.{Declared, found, takes_charge}
-use Rattle.dh_ports.proofs.ClaimedBanks.{Claims, Claimed, claimed, Bounds, Reaching, reaching, some_kept, charged_reach}
-use Rattle.dh_ports.proofs.AccessClaims.{event_of, at_event, there_is, touched_long, Follows, follow_all, nth_claims, claim_lists, TouchAt, touch_at, none_claims, stripped, claims_same, access_is}
+use Rattle.dh_ports.proofs.ClaimFacts.{found, takes_charge}
+use Rattle.dh_ports.proofs.ClaimedBanks.{Claims, claimed, bank_told, Bounds, LeadsAt, reaching, charged_reach}
+use Rattle.dh_ports.proofs.AccessClaims.{event_of, at_event, there_is, touched_long, follow_all, nth_claims, claim_lists, TouchAt, touch_at, none_claims, stripped, claims_same, access_is}
 use Rattle.dh_ports.proofs.FirstSpent.{none_spends, first_spends}
 use Rattle.dh_ports.proofs.IncidentTies.{action_ties}
-use Rattle.dh_ports.proofs.SpentWalk.{FirstOver, Stops, walk}
+use Rattle.dh_ports.proofs.RowsUnviewed.{row_unviewed}
+use Rattle.dh_ports.proofs.SpentWalk.{Stops, walk}
+use Rattle.dh_ports.proofs.ThroughClaims.{way_leads}
 use Rattle.dh_ports.proofs.TouchedSame.{action_same}
 use Rattle.dh_ports.proofs.Wholes.{whole, access_in}
 use Rattle.dh_tree.proofs.LargestSums.{upto_first, upto_second, upto_one_first, upto_one_second}
@@ -329,12 +333,33 @@ module _ (p : Program) (xs : List Incident) (w : IsWhole p xs) (flags : List Boo
           of_option None = refl
           of_option (Some a) = refl
 
-none_some : (w : Way) → ◌≡◌ {A = Option Way} None (Some w) → ⊥
-none_some w e = cc
+-- the views on each way of a program follow one another to a memory
+pub ways_follow : (p : Program) → view_breaches_of p ≡ [] → IsProgramTable (table_of p) → AllByRecursion (λ l. LeadsTo (memories_of p) l.way) (ways_of p)
+ways_follow p views table = ways_lead p (first_none (factor_breaches_of p) (action_view_breaches (known_views p) p.body) views) table
+
+module _ (p : Program) (views : view_breaches_of p ≡ []) (table : IsProgramTable (table_of p)) (k : ℕ) (a : SourceAccess) (e : slice_get (accesses_in (trace p)) k ≡ Some a) where
+  -- what has a way is a view
+  way_among : (m : Option Memory) (o : Option Way) (w : Way) → way_unless m o ≡ Some w → o ≡ Some w
+  way_among (Some m) o w u = cc
+  way_among None None w u = cc
+  way_among None (Some x) w u = u
+
+  none_some : (w : Way) → ◌≡◌ {A = Option Way} None (Some w) → ⊥
+  none_some w e = cc
+
+  bank_within : (w : Way) → way_in (ways_of p) a.entity ≡ Some w → LeadsTo (memories_of p) w → (path : Path) (element : Element) → a.element ≡ element → bank_reached (counters_of p) w.is.shape.dims a path element < banks_of w.is.shape.dims
+  bank_within w u leads path (with_indices indices) f = bank_told w.is.shape.dims (indices_in (counters_of p) a.site.loops path indices) leads.own.own.dims
+  bank_within w u leads path (in_row bank row) f = absurd (none_some w (sym (row_unviewed p views k a e bank row f) ∙ u))
+
+  pub leads_at : (w : Way) → way_to p a.entity ≡ Some w → LeadsAt p w a
+  leads_at w u =
+      let among = way_among (memory_in (memories_of p) a.entity) (way_in (ways_of p) a.entity) w u in
+      let leads = way_leads (memories_of p) (ways_of p) a.entity w (ways_follow p views table) among in
+      record { leads = leads; inside = λ path. bank_within w among leads path a.element refl }
 
 -- what is told before keeps accesses in the banks of their memories
 pub bounds_of : (p : Program) → IsToldBefore p → (k : ℕ) (a : SourceAccess) → slice_get (accesses_in (trace p)) k ≡ Some a → Bounds p a
-bounds_of p h k a e = record { table = h.table; ways_lead = λ w u. absurd (none_some w (sym (no_way_to p h.ready.built a.entity) ∙ u)); rows = λ bank row m f g. h.banks k bank a row m e f g }
+bounds_of p h k a e = record { table = h.table; ways_lead = λ w u. leads_at p h.ready.views h.table k a e w u; rows = λ bank row m f g. h.banks k bank a row m e f g }
 
 pub spent_told : (p : Program) (events : List Event) (flags : List Bool) → IsToldBefore p → TellsLoops p → AreEventsOf p events → length flags ≡ length events → TellsShared p events flags
     → TellsSpent p (spent_place (table_of p) events flags (moves_from p (loops_known p) 0 (all_seen events)))

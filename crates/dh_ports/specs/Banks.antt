@@ -1,18 +1,16 @@
 -- Which bank an access reaches, from the value of its indices in the first copy.
-use Rattle.std.specs.Prelude.{◌≡◌, ℕ, ◌+◌, ◌*◌, ◌/◌, ◌%◌, ◌<◌, ◌^◌, if◌then◌else◌, Bool, List, [], ◌∷◌, length, map, slice_index_or, Option, Some, None, ℤ, pos, ◌+ℤ◌, unsigned_abs}
+use Rattle.std.specs.Prelude.{◌≡◌, ℕ, zero, suc, ◌+◌, ◌*◌, ◌/◌, ◌%◌, if◌then◌else◌, Bool, List, [], ◌∷◌, ◌++◌, length, map, slice_index_or, Option, Some, None, pos, ◌+ℤ◌, unsigned_abs}
 use Rattle.dh_tree.specs.declared.tables.Dim.{Dim}
 use Rattle.dh_tree.specs.declared.trees.counters.Counter.{Counter}
 use Rattle.dh_tree.specs.declared.trees.expressions.Expr.{Expr}
 use Rattle.dh_tree.specs.declared.trees.programs.Tree.{Tree}
 use Rattle.dh_tree.specs.Counters.{counters_of}
 use Rattle.dh_tree.specs.Elements.{bank_of}
-use Rattle.dh_tree.specs.Indices.{IndexKind, constant, iterator, dynamic, index_kind}
+use Rattle.dh_tree.specs.Indices.{index_kind}
 use Rattle.dh_tree.specs.Seen.{form_seen, term_seen, terms, program_seen}
-use Rattle.dh_meaning.specs.Bindings.{Binding}
 use Rattle.dh_meaning.specs.Paths.{Path}
-use Rattle.dh_meets.specs.Charges.{level_of_loop, index_in, indices_in, bank_reached, key_of, depends}
+use Rattle.dh_meets.specs.Charges.{level_of_loop, index_in, indices_in, bank_reached}
 use Rattle.dh_meets.specs.SourceEvents.{SourceAccess}
-use Rattle.dh_ports.specs.Claims.{source_of}
 use Rattle.dh_meaning.specs.Paths.{copies_in}
 use Rattle.dh_ports.specs.declared.banks.Start.{Start}
 
@@ -39,6 +37,11 @@ abbrev pub bank_at_path : Tree → List Dim → SourceAccess → Path → ℕ
 bank_at_path tree dims a path = bank_reached (counters_in tree) dims a path a.element
 
 -- Paths by number.
+
+-- the values of a function below a number
+abbrev pub each_below : {A : Type 0} → (ℕ → A) → ℕ → List A
+each_below f zero = []
+each_below f (suc n) = each_below f n ++ f n ∷ []
 
 -- the path of a number, in ascending order: the copies of the last loop change first
 abbrev pub path_at : (factors : List ℕ) → (number : ℕ) → Path

@@ -1,6 +1,8 @@
 -- How copies of an access are told by numbers of paths.
-use Rattle.std.specs.Prelude.{◌≡◌, ℕ, ◌+◌, ◌-◌, ◌*◌, ◌/◌, ◌%◌, ◌<◌, ◌≤◌, ◌==◌, not, if◌then◌else◌, Bool, List, [], ◌∷◌, map, Option, pos, ◌+ℤ◌, unsigned_abs, ◌⊎◌, slice_index, slice_set, Vec}
+use Rattle.std.specs.Prelude.{◌≡◌, ℕ, ◌+◌, ◌-◌, ◌*◌, ◌/◌, ◌%◌, ◌<◌, ◌≤◌, ◌==◌, not, if◌then◌else◌, Bool, List, [], ◌∷◌, length, map, Option, pos, ◌+ℤ◌, unsigned_abs, ◌⊎◌, slice_index, slice_set, Vec}
 use Rattle.std.specs.Global.{Global}
+use Rattle.std.specs.List.{AllByRecursion, filter}
+use Rattle.std.specs.Set.{distinct_count}
 use Rattle.dh_tree.specs.declared.tables.Dim.{Dim}
 use Rattle.dh_tree.specs.declared.trees.counters.Counter.{Counter}
 use Rattle.dh_tree.specs.declared.trees.expressions.Expr.{Expr}
@@ -12,9 +14,10 @@ use Rattle.dh_meets.specs.Charges.{factors_of, depends, indices_in}
 use Rattle.dh_ports.specs.declared.copies.Level.{Level}
 use Rattle.dh_ports.specs.declared.copies.Lane.{Lane}
 use Rattle.dh_ports.specs.declared.copies.Paths.{Paths}
-use Rattle.dh_ports.specs.declared.copies.Seen.{Seen}
+use Rattle.dh_ports.specs.declared.copies.Reach.{Reach}
+use Rattle.dh_ports.specs.declared.counting.Seen.{Seen}
 use Rattle.dh_events.specs.declared.dependence.Scope.{Scope}
-use Rattle.dh_ports.specs.Banks.{bank_at_path, counters_in, keys_in, path_at}
+use Rattle.dh_ports.specs.Banks.{bank_at_path, counters_in, each_below, keys_in, path_at}
 use Rattle.dh_ports.specs.Claims.{source_of}
 use Rattle.dh_events.specs.Scopes.{AreScopes}
 use Rattle.dh_events.specs.Tables.{numbered, with_number}
@@ -90,22 +93,71 @@ pub record AreLanes (tree : Tree) (loops : List Counter) (dims : List Dim) (indi
   pub each : (picks : ℕ → Bool) (levels : List Level) (number : ℕ) → AreLevels picks 0 (factors_of loops) levels
       → bank_of_lanes levels lanes number ≡ bank_of dims (indices_in (counters_in tree) loops (path_at (factors_of loops) number) (terms (map term_seen indices)))
 
--- no pair was seen at a moment or later
-abbrev pub IsUnseen : Seen → (moment : ℕ) → Type 0
-IsUnseen seen moment = (pair : ℕ) → numbered seen.moments.items pair < moment
+-- an access by the numbers of its paths: its loops, and the lanes and the bank that tell what it reaches
+pub record Reaches (scopes : List (Option Scope)) (tree : Tree) (loops : List Counter) (dims : List Dim) (access : Expr) (writes : Bool) (reach : Reach) : Type 0 where
+  pub paths : ArePaths scopes loops access writes reach.paths
+  pub lanes : IsReach tree loops dims access reach.lanes.items reach.own
+
+-- the bank that it reaches at the path of a number, and the number of its key there
+abbrev pub bank_by : Reach → (number : ℕ) → ℕ
+bank_by reach number = reach.own + bank_of_lanes reach.paths.levels.items reach.lanes.items number
+
+abbrev pub key_by : Reach → (number : ℕ) → ℕ
+key_by reach number = key_of_levels reach.paths.levels.items number
+
+-- both can be told of each path
+pub record TellsPaths (reach : Reach) : Type 0 where
+  pub spread : AllByRecursion IsSpread reach.paths.levels.items
+  pub keys : HasFewKeys reach.paths.levels.items
+  pub below : (number : ℕ) → key_by reach number < reach.paths.count
+  pub lanes : HasFewBanks reach.lanes.items
+  pub alone : (reach.own ≡ 0) ⊎ (reach.lanes.items ≡ [])
+  pub few : reach.paths.count ≤ most_copies
+
+-- The copies of so many loops from the outside, each of which has so many paths inside it.
+
+abbrev pub stride_in : List Level → (loops count : ℕ) → ℕ
+stride_in [] loops count = count
+stride_in (l ∷ ls) loops count = if loops == 0 then count else stride_in ls (loops - 1) l.stride
+
+-- Pairs of a bank and a key.
+
+-- no pair was seen since the present moment began
+abbrev pub IsUnseen : Seen → Type 0
+IsUnseen seen = (pair : ℕ) → numbered seen.moments.items pair < seen.moment
+
+-- and none was seen later than it
+abbrev pub IsPast : Seen → Type 0
+IsPast seen = (pair : ℕ) → numbered seen.moments.items pair ≤ seen.moment
 
 -- a pair is seen, and was not seen at this moment before
-pub record Sees (old new : Seen) (pair moment : ℕ) (first : Bool) : Type 0 where
-  pub told : first ≡ not (numbered old.moments.items pair == moment)
-  pub seen : numbered new.moments.items ≡ with_number (numbered old.moments.items) pair moment
+pub record Sees (old new : Seen) (pair : ℕ) (first : Bool) : Type 0 where
+  pub told : first ≡ not (numbered old.moments.items pair == old.moment)
+  pub seen : numbered new.moments.items ≡ with_number (numbered old.moments.items) pair old.moment
+  pub same : new.moment ≡ old.moment
 
--- a pair is noted at a moment
-abbrev pub IsMarked : (old new : Seen) → (pair moment : ℕ) → Type 0
-IsMarked old new pair moment = numbered new.moments.items ≡ with_number (numbered old.moments.items) pair moment
+-- a pair is noted at the present moment
+pub record IsMarked (old new : Seen) (pair : ℕ) : Type 0 where
+  pub seen : numbered new.moments.items ≡ with_number (numbered old.moments.items) pair old.moment
+  pub same : new.moment ≡ old.moment
 
 -- a bank's count rises where the pair was not seen at this moment
 abbrev pub counted_at : (seen : Bool) → List ℕ → (bank : ℕ) → List ℕ
 counted_at seen counts bank = if seen then counts else slice_set counts bank (slice_index counts bank + 1)
 
-abbrev pub IsCounted : Seen → (old new : Vec ℕ Global) → (bank pair moment : ℕ) → Type 0
-IsCounted seen old new bank pair moment = new.items ≡ counted_at (numbered seen.moments.items pair == moment) old.items bank
+abbrev pub IsCounted : Seen → (old new : Vec ℕ Global) → (bank pair : ℕ) → Type 0
+IsCounted seen old new bank pair = new.items ≡ counted_at (numbered seen.moments.items pair == seen.moment) old.items bank
+
+-- Counts.
+
+abbrev pub same_number : ℕ → ℕ → Bool
+same_number a b = a == b
+
+-- with how many keys so many paths, from that of a number on, reach a bank
+abbrev pub keys_from : Reach → (from many bank : ℕ) → ℕ
+keys_from reach from many bank = distinct_count same_number (map (key_by reach) (filter (λ number. bank_by reach number == bank) (each_below (λ k. from + k) many)))
+
+-- the same of each of so many banks
+pub record AreCounts (reach : Reach) (from many banks : ℕ) (counts : List ℕ) : Type 0 where
+  pub long : length counts ≡ banks
+  pub each : (bank : ℕ) → bank < banks → slice_index counts bank ≡ keys_from reach from many bank

@@ -1,15 +1,17 @@
--- What is known of a program's loops and memories before its accesses claim banks.
-use Rattle.std.specs.Prelude.{◌≡◌, ℕ, ◌≤◌, Bool, List, [], Option, Some, slice_get, Vec}
+-- What is known of a program's loops, memories and views before its accesses claim banks.
+use Rattle.std.specs.Prelude.{◌≡◌, ℕ, ◌≤◌, Bool, List, [], Option, Some, map, slice_get, Vec}
 use Rattle.std.specs.Global.{Global}
 use Rattle.dh_tree.specs.declared.trees.counters.Counter.{Counter}
-use Rattle.dh_tree.specs.declared.trees.expressions.Expr.{Expr}
 use Rattle.dh_tree.specs.Memories.{table_of}
 use Rattle.dh_tree.specs.PlainTrees.{Program}
-use Rattle.dh_meaning.specs.Ways.{all_bindings_of}
+use Rattle.dh_meaning.specs.Ways.{all_bindings_of, ways_of}
+use Rattle.dh_ways.specs.Seen.{led_seen}
+use Rattle.dh_events.specs.declared.dependence.Scope.{Scope}
 use Rattle.dh_events.specs.declared.events.Event.{Event}
 use Rattle.dh_events.specs.declared.events.Event.TheVariants as event
 use Rattle.dh_ports.specs.declared.moves.Layout.{Layout}
 use Rattle.dh_events.specs.Accesses.{loops_in}
+use Rattle.dh_ports.specs.Carriers.{AreEach}
 use Rattle.dh_ports.specs.Claims.{AreBases}
 use Rattle.dh_ports.specs.Copies.{copies_round}
 use Rattle.dh_events.specs.Rounds.{rounds_in, rounds_of}
@@ -20,11 +22,16 @@ use Rattle.dh_meets.specs.FewCopies.{most_copies}
 abbrev pub no_rounds : ℕ → List Counter
 no_rounds id = []
 
+-- where loops are unrolled, it is known where variables are declared
+abbrev pub AreScopesWhere : Program → (rounds : List (Vec Counter Global)) → (scopes : List (Option Scope)) → Type 0
+AreScopesWhere p rounds scopes = (id : ℕ) → (rounds_of rounds id ≡ [] → ⊥) → AreScopes (all_bindings_of p) scopes
+
 pub record IsLayout (p : Program) (layout : Layout) : Type 0 where
   pub bases : AreBases (table_of p) layout.bases.items
   pub rounds : rounds_of layout.rounds.items ≡ rounds_in [] p.body no_rounds
-  -- where loops are unrolled
-  pub scopes : (id : ℕ) → (rounds_of layout.rounds.items id ≡ [] → ⊥) → AreScopes (all_bindings_of p) layout.scopes.items
+  pub scopes : AreScopesWhere p layout.rounds.items layout.scopes.items
+  pub ways : map led_seen layout.ways ≡ ways_of p
+  pub carriers : AreEach layout.ways layout.carriers.items
 
 -- no access stands in too many copies
 abbrev pub HaveFewCopies : List (Vec Counter Global) → List Event → Type 0

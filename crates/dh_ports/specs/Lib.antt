@@ -5,6 +5,8 @@ pub mod Expanded
 pub mod Claims
 pub mod Banks
 pub mod Copies
+pub mod Carriers
+pub mod CarriersMade
 pub mod Layouts
 pub mod Scanned
 pub mod Told

@@ -29,7 +29,8 @@ impl Model for Accepted {
 
     ghost view = { λ a. a.typed };
 
-    ghost invariant = { λ a. IsReady (program_seen a.typed) × KeepsPortRules (program_seen a.typed) };
+    ghost invariant = { λ a. IsReady (program_seen a.typed)
+        × KeepsPortRules (program_seen a.typed) };
 }
 
 impl Accepted {

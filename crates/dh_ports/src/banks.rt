@@ -183,12 +183,11 @@ pub fn entity_of(access: &Expr) -> Option<u32>
     }
 }
 
-/// The number of the memory that an access names, if it is one.
-pub fn memory_of(typed: &Typed, access: &Expr) -> Option<usize>
-    ensures { result ≡ number_in (memories_of (program_seen typed.now))
-        (entity_in (form_seen access.now.form)) }
+/// The number of the memory that an entity is, if it is one.
+pub fn number_of(typed: &Typed, entity: Option<u32>) -> Option<usize>
+    ensures { result ≡ number_in (memories_of (program_seen typed.now)) entity }
 {
-    match entity_of(access) {
+    match entity {
         Some(entity) => typed.memory_number(entity),
         None => None,
     }

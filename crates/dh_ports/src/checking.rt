@@ -18,7 +18,6 @@ use crate::spending::first_spent;
 use dh_base::{NoMemory, PassFault, Place, Rule};
 use dh_events::{Event, Notes, note_body, note_stages};
 use dh_tree::{Breach, Typed};
-use dh_ways::{Hidden, Led};
 use std::alloc::Global;
 
 /// The breach of ports that are spent at a place.
@@ -50,10 +49,7 @@ fn first_among(
     spent_ports_are_told();
     late_reads_are_told();
     let shared = find_shared(alloc, events)?;
-    // while views are refused there is none, and nothing that they keep
-    let led: Vec<Led> = Vec::new(alloc);
-    let hidden: Vec<Hidden> = Vec::new(alloc);
-    let layout = layout_of(alloc, typed, led.as_slice(), hidden.as_slice())?;
+    let layout = layout_of(alloc, typed)?;
     let moves = all_moves(alloc, typed, &layout, events)?;
     let spent = first_spent(alloc, typed, events, shared.as_slice(), moves.as_slice())?;
     let mut kept = spent_at(spent);

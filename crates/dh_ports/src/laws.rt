@@ -81,7 +81,8 @@ pub fn steps_follow_courses()
 /// The accesses of a command's incidents are those of its events, in order.
 pub fn incidents_touch_all()
     ensures { (stages : ℕ → ℕ) (round : Option ℕ) (behind : Open) (r : Around) (a : Action)
-        → touched (incidents stages round behind a) ≡ map of_access (accesses_in (source.events r a)) }
+        → touched (incidents stages round behind a)
+        ≡ map of_access (accesses_in (source.events r a)) }
 {}
 
 /// Two accesses of a program stand in one Straight phase exactly where their incidents have one phase, and the
@@ -117,5 +118,6 @@ pub fn spent_ports_are_told()
 pub fn late_reads_are_told()
     ensures { (p : Program) (events : List Event) (late : List Breach) → IsToldBefore p
         → TellsLoops p → TellsPhases p → AreEventsOf p events
-        → FindsLate events (moves_from p (loops_known p) 0 (all_seen events)) late → TellsLate p late }
+        → FindsLate events (moves_from p (loops_known p) 0 (all_seen events)) late
+        → TellsLate p late }
 {}

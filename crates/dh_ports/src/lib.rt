@@ -10,9 +10,13 @@
 
 mod accepted;
 mod banks;
+mod carrying;
 mod checking;
 mod copies;
+mod counting;
+mod grouping;
 mod laws;
+mod leading;
 mod levels;
 mod marks;
 mod moves;
@@ -21,5 +25,7 @@ mod sharing;
 mod spending;
 
 pub use accepted::Accepted;
+pub use carrying::{Carrier, carries};
 pub use checking::check_ports;
 pub use laws::port_breaches_are_one;
+pub use leading::carriers_of;

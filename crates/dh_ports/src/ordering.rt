@@ -51,7 +51,8 @@ fn note_write(classes: &mut Classes, events: &[Event<'_>], next: Move) -> Result
 /// The keys of banks in phases in which they are written.
 fn written_banks(alloc: Global, events: &[Event<'_>], moves: &[Move]) -> Result<Classes, NoMemory>
     requires within { AllByRecursion (IsMoveOf (length events.now)) moves.now }
-    ensures { IfOk result (λ classes. AllByRecursion (scanned.IsNoted classes events.now) moves.now) }
+    ensures { IfOk result (λ classes. AllByRecursion
+        (scanned.IsNoted classes events.now) moves.now) }
 {
     let mut classes = Classes::new(alloc);
     for next in moves {
@@ -110,7 +111,8 @@ fn ordering_steps(
     moves: &[Move],
 ) -> Result<Vec<Step>, NoMemory>
     requires within { AllByRecursion (IsMoveOf (length events.now)) moves.now }
-    ensures { IfOk result (λ steps. scanned.AreOrdering classes.now events.now moves.now steps.items) }
+    ensures { IfOk result (λ steps. scanned.AreOrdering classes.now events.now
+        moves.now steps.items) }
 {
     let mut steps = Vec::new(alloc);
     for next in moves {

@@ -72,7 +72,8 @@ fn is_beyond(step: Step, left: usize) -> bool
 /// The steps that moves are.
 fn spending_steps(alloc: Global, shared: &[bool], moves: &[Move]) -> Result<Vec<Step>, NoMemory>
     requires within { AllByRecursion (IsMoveOf (length shared.now)) moves.now }
-    ensures { IfOk result (λ steps. steps.items ≡ map (scanned.spending_step shared.now) moves.now) }
+    ensures { IfOk result (λ steps. steps.items
+        ≡ map (scanned.spending_step shared.now) moves.now) }
 {
     let mut steps = Vec::new(alloc);
     for next in moves {

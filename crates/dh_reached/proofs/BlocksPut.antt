@@ -60,17 +60,17 @@ unused_each : (P : Put → Reach → Type 0) (os : List Operation) → AreUnused
 unused_each P [] h = tt
 unused_each P (o ∷ os) h = (λ r e. absurd (no_reach (use_in o.form) r h.0 e), unused_each P os h.1)
 
-unused_behind : (u : Put) (os : List Operation) → AreUnused os → AllByRecursion (Goes u) (unused_puts os)
-unused_behind u [] h = tt
-unused_behind u (o ∷ os) h = (λ r t e f. absurd (no_reach (use_in o.form) t h.0 f), unused_behind u os h.1)
+unused_behind : (x : Step) (sites : ℕ → Option Site) (u : Put) (os : List Operation) → AreUnused os → AllByRecursion (Goes x sites u) (unused_puts os)
+unused_behind x sites u [] h = tt
+unused_behind x sites u (o ∷ os) h = (λ r t e f. absurd (no_reach (use_in o.form) t h.0 f), unused_behind x sites u os h.1)
 
-unused_order : (os : List Operation) → AreUnused os → AreInOrder (unused_puts os)
-unused_order [] h = tt
-unused_order (o ∷ os) h = (unused_behind (record { operation = o; path = 0 }) os h.1, unused_order os h.1)
+unused_order : (x : Step) (sites : ℕ → Option Site) (os : List Operation) → AreUnused os → AreInOrder x sites (unused_puts os)
+unused_order x sites [] h = tt
+unused_order x sites (o ∷ os) h = (unused_behind x sites (record { operation = o; path = 0 }) os h.1, unused_order x sites os h.1)
 
-unused_go : (us : List Put) (os : List Operation) → AreUnused os → GoAll us (unused_puts os)
-unused_go [] os h = tt
-unused_go (u ∷ us) os h = (unused_behind u os h, unused_go us os h)
+unused_go : (x : Step) (sites : ℕ → Option Site) (us : List Put) (os : List Operation) → AreUnused os → GoAll x sites us (unused_puts os)
+unused_go x sites [] os h = tt
+unused_go x sites (u ∷ us) os h = (unused_behind x sites u os h, unused_go x sites us os h)
 
 drop_front : {A : Type 0} (xs ys : List A) → drop (length xs) (xs ++ ys) ≡ ys
 drop_front [] ys = refl
@@ -84,7 +84,7 @@ block_uses plan block x sites first count old new more is unused h = record {
   all = is ∙ (ap (λ (os : List Operation). os ++ more) (ap (λ (os : List Operation). drop (length old.operations.items) os) h.adds ∙ drop_front old.operations.items (operations_of h.puts))
       ∙ (ap (λ (os : List Operation). operations_of h.puts ++ os) (sym (unused_are more)) ∙ sym (operations_both h.puts (unused_puts more))));
   uses = each_both (IsUse x sites) h.puts (unused_puts more) h.uses (unused_each (IsUse x sites) more unused);
-  order = order_both h.puts (unused_puts more) h.order (unused_order more unused) (unused_go h.puts more unused);
+  order = order_both x sites h.puts (unused_puts more) h.order (unused_order x sites more unused) (unused_go x sites h.puts more unused);
 }
 
 -- Numbers of a block.
@@ -162,7 +162,7 @@ module _ (x : Step) (sites : ℕ → Option Site) (scene : Scene) (table : x.sta
       → AllByRecursion (λ (c : Located). CommandKeeps x scene around.levels.now c.command) cs → ((number : ℕ) → from ≤ number → sites number ≡ block_sites scene around cs old new m number) → Fits x new.draft → Begun x old.draft → Stood old.accesses from
       → (count : ℕ) × PutsDown x sites from count old.draft new.draft
   each_put [] from old new m rising is reads keeps at f b h =
-      (0, (puts_added x sites from 0 (λ n. Unit {0}) (λ n. Unit {0}) old.draft new.draft (none_still old.draft new.draft (ap (λ (c : Building). c.draft) m))).down)
+      (0, (puts_added x sites from 0 (λ u r. Unit {0}) (λ n. Unit {0}) old.draft new.draft (none_still old.draft new.draft (ap (λ (c : Building). c.draft) m))).down)
   each_put (c ∷ cs) from old new (mid, (next, (one, rest))) rising is reads keeps at f b h =
       let e_rest = (each_lays scene around cs mid new stands.stands rest).extends in
       let e_one = (command_lays scene c.command around old mid c.first next stands.stands one).extends in

@@ -1,37 +1,40 @@
 -- What is put down for a whole command, with the arms of an `if`, by recursion on it and on what was put down for it.
 use Rattle.std.proofs.Common.{◌≡◌, ℕ, ◌+◌, ◌^◌, ◌<◌, List, Some, None, sym, ap, ◌∙◌, subst, arith, length}
-use Rattle.std.specs.Prelude.{Bool as Truth, true, false, ◌++◌, Option}
+use Rattle.std.specs.Prelude.{Bool as Truth, true, false, [], ◌∷◌, ◌++◌, Option}
 use Rattle.dh_base.specs.declared.places.Place.{Place}
 use Rattle.dh_value.specs.declared.kinds.Kind.{Kind}
 use Rattle.dh_tree.specs.Memories.{table_of}
 use Rattle.dh_tree.specs.PlainTrees as plain
-use Rattle.dh_tree.specs.PlainTrees.{Term, Action, action, ActionForm, lets, lets_memory, views, assigns, stores, reduces, calls, blocks, decides, repeats, counts, MaybeAction, no_action, one_action, Actions, no_actions, action_then, Groups, no_groups, group_then}
-use Rattle.dh_tree.specs.Seen.{program_seen}
-use Rattle.dh_meaning.specs.AccessNumbers.{accesses_of, form_accesses, groups_accesses, inner_accesses, other_accesses, own_accesses, part_accesses, plan_accesses, term_accesses}
-use Rattle.dh_meaning.specs.CoreOf.{entity_number}
+use Rattle.dh_tree.specs.PlainTrees.{Term, Action, action, ActionForm, lets, lets_memory, views, assigns, stores, reduces, calls, blocks, decides, repeats, counts, MaybeAction, no_action, one_action, Actions, no_actions, action_then, Groups, no_groups, group_then, ViewPlan}
+use Rattle.dh_tree.specs.Seen.{program_seen, terms}
+use Rattle.dh_tree.specs.ViewOffsets.{offsets_of}
+use Rattle.dh_meaning.specs.AccessNumbers.{accesses_of, form_accesses, groups_accesses, inner_accesses, other_accesses, own_accesses, part_accesses, plan_accesses, term_accesses, terms_accesses}
+use Rattle.dh_meaning.specs.CoreOf.{entity_number, way_of}
+use Rattle.dh_meaning.specs.Ways.{Hidden, hidden_in}
 use Rattle.dh_expressions.specs.declared.accesses.Accesses.{Accesses}
 use Rattle.dh_expressions.specs.declared.drafts.Draft.{Draft}
 use Rattle.dh_expressions.specs.declared.paths.Level.{Level}
 use Rattle.dh_expressions.specs.declared.scenes.Around.{Around}
 use Rattle.dh_expressions.specs.declared.scenes.Scene.{Scene}
 use Rattle.dh_expressions.specs.Drafted.{Begun, Fits, Step}
+use Rattle.dh_expressions.specs.Evaluated.{known_in}
 use Rattle.dh_expressions.proofs.Pushing.{begun_later, fits_before}
 use Rattle.dh_formed.specs.Formed.{Site}
 use Rattle.dh_commands.specs.declared.buildings.Building.{Building}
 use Rattle.dh_commands.specs.declared.choices.Left.{Left}
 use Rattle.dh_commands.specs.LanesRun.{paths_counted}
-use Rattle.dh_commands.specs.MadeCommands.{Commanding, MadeActionForm, MadeActions, MadeArm, MadeCommand, MadeGroups, MadeOther}
-use Rattle.dh_laid.specs.BlockSites.{action_sites, actions_sites, all_there, command_sites, groups_sites, other_sites, target_sites, term_sites}
+use Rattle.dh_commands.specs.MadeCommands.{Commanding, MadeActionForm, MadeActions, MadeArm, MadeCommand, MadeGroups, MadeOther, MadeView}
+use Rattle.dh_laid.specs.BlockSites.{action_sites, actions_sites, all_there, command_sites, groups_sites, other_sites, target_sites, term_sites, terms_sites, view_sites}
 use Rattle.dh_laid.specs.LaidNumbers.{IsAccessForm, StoresReach, StoresReachForm, StoresReachGroups, StoresReachOther, StoresReachPart}
 use Rattle.dh_laid.proofs.AccessesLaid.{actions_lays, arm_lays, command_lays, groups_lays, other_lays, tests_lay}
 use Rattle.dh_laid.proofs.ArmsLaid.{arm_guards_form}
 use Rattle.dh_laid.proofs.ChoicesLaid.{choices_form}
 use Rattle.dh_laid.proofs.CommandsNumbered.{actions_reached, aims_within, command_reached, some_arm, tests_number}
 use Rattle.dh_laid.proofs.ValuesLogged.{tests_same}
-use Rattle.dh_reached.specs.IndicesKept.{ActionKeeps, ActionsKeep, CommandKeeps, GroupsKeep, OtherKeeps}
+use Rattle.dh_reached.specs.IndicesKept.{ActionKeeps, ActionsKeep, CommandKeeps, GroupsKeep, OtherKeeps, ViewKeeps}
 use Rattle.dh_reached.specs.Puts.{PutsDown}
 use Rattle.dh_reached.specs.ReadsTold.{ActionReads, ActionsRead, BlockShares, CommandReads, GroupsRead, OtherReads}
-use Rattle.dh_reached.proofs.CommandsPut.{CommandPut, arm_paths, assigned_put, choices_none, cleared_put, down_before, down_behind, guards_none, put_as, put_idle, put_none, put_then, reduced_put, spread_arm, stored_put, tests_put}
+use Rattle.dh_reached.proofs.CommandsPut.{CommandPut, arm_paths, assigned_put, choices_none, cleared_put, down_before, down_behind, guards_none, kept_put, put_as, put_idle, put_none, put_then, reduced_put, spread_arm, stored_put, tests_put}
 use Rattle.dh_reached.proofs.LanesPut.{Behind}
 use Rattle.dh_reached.proofs.NoUses.{AddsNone}
 use Rattle.dh_reached.proofs.PlacesOf.{PlacesAt, actions_long, places_back, places_front, places_long, places_there, stored_long, there_long}
@@ -83,6 +86,18 @@ module _ (x : Step) (sites : ℕ → Option Site) (scene : Scene) (table : x.sta
       all = put_then x sites scene table IsRead paths some shares first t (c + e) old tested after_other h
           (put_then x sites scene table IsRead paths some shares (first + t) c e tested after_chosen after_other (subst (λ (n : ℕ). PutHere n c tested after_chosen) is k)
           (subst (λ (n : ℕ). PutHere n e after_chosen after_other) (is_behind ∙ ap (λ n. n + c) is) l))
+
+  -- the offsets of a view, where a variable keeps one on its way
+  view_put : (hs : List Hidden) (form : ViewPlan) (around : Around) (old new : Building) (first next : ℕ) → MadeView scene hs form around old new first next → StandsSpread scene around → paths_counted around ≡ paths
+      → first + (plan_accesses form + 0) < 2 ^ 32 → PlacesAt sites first (view_sites scene around hs form) → ViewKeeps x scene around.levels.now hs (offsets_of form) → Fits x new.draft → Begun x old.draft → Stood old.accesses first
+      → PutHere first (plan_accesses form + 0) old new
+  view_put [] form around old new first next m stands same few at keeps f b h =
+      put_as x sites scene table IsRead paths some shares first 0 (plan_accesses form + 0) old new
+      (omega (arith, (let e : terms_accesses (terms (offsets_of form)) ≡ 0 = ap (λ (os : List Term). terms_accesses (terms os)) keeps in e)))
+      (put_none x sites scene table IsRead paths some shares first old new m.still h)
+  view_put (k ∷ ks) form around old new first next m stands same few at keeps f b h =
+      put_as x sites scene table IsRead paths some shares first (terms_accesses (terms (offsets_of form))) (plan_accesses form + 0) old new (plus_none (plan_accesses form))
+      (kept_put x sites scene table IsRead paths some shares around stands same first old new f b h k.entity (offsets_of form) next m (omega (arith, few)) (places_there sites first (terms_sites scene around (terms (offsets_of form))) at) keeps)
 
   mutual
     pub command_put : (a : Action) (around : Around) (old new : Building) (first next : ℕ) (m : MadeCommand scene a around old new first next) → StoresReach a → StandsSpread scene around → paths_counted around ≡ paths
@@ -157,7 +172,7 @@ module _ (x : Step) (sites : ℕ → Option Site) (scene : Scene) (table : x.sta
     form_put (lets_memory name shape shape_places value) around old new first next m is stands same few at keeps reads f b h =
         put_as x sites scene table IsRead paths some shares first 0 (0 + 0) old new (omega arith) (put_none x sites scene table IsRead paths some shares first old new m.still h)
     form_put (views name parent form) around old new first next m is stands same few at keeps reads f b h =
-        put_idle x sites scene table IsRead paths some shares first (plan_accesses form + 0) old new m.still reads h
+        view_put (hidden_in (way_of (known_in scene) name)) form around old new first next m stands same few at keeps f b h
     form_put (calls function arguments) around old new first next m is stands same few at keeps reads f b h =
         put_as x sites scene table IsRead paths some shares first 0 (0 + 0) old new (omega arith) (put_none x sites scene table IsRead paths some shares first old new m.still h)
     form_put (repeats test body) around old new first next m is stands same few at keeps reads f b h =

@@ -1,6 +1,6 @@
 -- What is put down for a whole command, by recursion on it and on what was put down for it.
-use Rattle.std.proofs.Common.{◌≡◌, ◌⊎◌, inl, inr, ℕ, zero, suc, ◌+◌, ◌-◌, ◌^◌, ◌<◌, ◌≤◌, List, Some, None, sym, ap, ◌∙◌, subst, arith, length}
-use Rattle.std.specs.Prelude.{Bool as Truth, true, false, [], ◌∷◌, ◌++◌, slice_get, Option}
+use Rattle.std.proofs.Common.{◌≡◌, ◌⊎◌, inl, inr, ℕ, zero, suc, ◌+◌, ◌-◌, ◌^◌, ◌<◌, ◌≤◌, List, Some, None, refl, sym, ap, ◌∙◌, subst, arith, length, take}
+use Rattle.std.specs.Prelude.{Bool as Truth, true, false, [], ◌∷◌, ◌++◌, min, slice_get, Option}
 use Rattle.std.proofs.lemmas.Bool.{cases_lt}
 use Rattle.dh_base.specs.declared.places.Place.{Place}
 use Rattle.dh_value.specs.declared.kinds.Kind.{Kind}
@@ -9,16 +9,20 @@ use Rattle.dh_value.specs.Operations.{truth}
 use Rattle.dh_tree.specs.Memories.{table_of}
 use Rattle.dh_tree.specs.PlainTrees as plain
 use Rattle.dh_tree.specs.PlainTrees.{Term, Action, action, ActionForm, lets, lets_memory, views, assigns, stores, reduces, calls, blocks, decides, repeats, counts, MaybeAction, no_action, one_action, Actions, no_actions, action_then, Groups, no_groups, group_then}
-use Rattle.dh_tree.specs.Seen.{program_seen}
-use Rattle.dh_meaning.specs.AccessNumbers.{form_accesses, term_accesses}
+use Rattle.dh_tree.specs.Seen.{program_seen, terms}
+use Rattle.dh_meaning.specs.AccessNumbers.{form_accesses, term_accesses, terms_accesses}
 use Rattle.dh_meaning.specs.Paths.{copies_in}
+use Rattle.dh_meaning.specs.Ways.{Way}
+use Rattle.dh_code.specs.Slots.{held_at}
 use Rattle.dh_plan.specs.declared.operations.OperationForm.TheVariants.{Compute, Constant, Select}
+use Rattle.dh_plan.specs.declared.operations.Reach.{Reach}
 use Rattle.dh_expressions.specs.declared.accesses.Accesses.{Accesses}
 use Rattle.dh_expressions.specs.declared.drafts.Draft.{Draft}
 use Rattle.dh_expressions.specs.declared.paths.Level.{Level}
 use Rattle.dh_expressions.specs.declared.scenes.Around.{Around}
 use Rattle.dh_expressions.specs.declared.scenes.Scene.{Scene}
 use Rattle.dh_expressions.specs.Drafted.{Begun, Extends, Fits, Step}
+use Rattle.dh_expressions.specs.Levels.{path_at, rank_number}
 use Rattle.dh_expressions.specs.Shown.{guard_of}
 use Rattle.dh_expressions.proofs.ListPlaces.{there}
 use Rattle.dh_formed.specs.Counted.{AreNext, given_at_paths}
@@ -29,22 +33,25 @@ use Rattle.dh_commands.specs.declared.buildings.Building.{Building}
 use Rattle.dh_commands.specs.declared.choices.Choice.{Choice}
 use Rattle.dh_commands.specs.declared.choices.Left.{Left}
 use Rattle.dh_commands.specs.LanesRun.{lane_of, paths_counted}
-use Rattle.dh_commands.specs.MadeCommands.{Commanding, MadeArm, MadeArmGuard, MadeArmGuards, MadeAssigned, MadeBehind, MadeChoiceBy, MadeChoices, MadeCleared, MadeGuard, MadeLanes, MadeOutcome, MadeReduced, MadeStored, MadeTested, MadeTests}
-use Rattle.dh_commands.specs.ShownVariables.{factors_of}
+use Rattle.dh_commands.specs.MadeCommands.{Commanding, MadeArm, MadeArmGuard, MadeArmGuards, MadeAssigned, MadeBehind, MadeChoiceBy, MadeChoices, MadeCleared, MadeGuard, MadeKept, MadeLanes, MadeOutcome, MadeReduced, MadeStored, MadeTested, MadeTests}
+use Rattle.dh_commands.specs.Setting.{IsAmong}
+use Rattle.dh_commands.specs.ShownVariables.{ArePlaced, IsSeen, depth_in, factors_of, register_in, seen_path}
 use Rattle.dh_blocks.specs.PathsOfLevels.{AreSpread}
-use Rattle.dh_laid.specs.BlockSites.{target_sites, term_sites}
+use Rattle.dh_laid.specs.BlockSites.{target_sites, term_sites, terms_sites}
 use Rattle.dh_laid.specs.Laid.{aim_accesses}
 use Rattle.dh_laid.specs.LaidNumbers.{IsAccessForm}
-use Rattle.dh_laid.proofs.AccessesLaid.{assigned_lays, cleared_lays, reduced_lays, stored_lays, term_lays}
+use Rattle.dh_laid.proofs.AccessesLaid.{assigned_lays, cleared_lays, kept_lays, reduced_lays, stored_lays, term_lays}
 use Rattle.dh_laid.proofs.ValuesLogged.{arm_long, stands_arm}
-use Rattle.dh_reached.specs.IndicesKept.{FormKeeps, TermKeeps}
-use Rattle.dh_reached.specs.Puts.{AreSited, EachUse, Put, PutsAt, PutsDown, is_write}
+use Rattle.dh_reached.specs.IndicesKept.{AreSeenFrom, FormKeeps, TermKeeps, TermsKeep}
+use Rattle.dh_reached.specs.Puts.{AreSited, EachUse, IsUse, PlacesRise, Put, PutsAt, PutsDown, is_write}
 use Rattle.dh_reached.specs.ReadsTold.{BlockShares, NoneReads}
-use Rattle.dh_reached.proofs.LanesPut.{AllLanes, Behind, LaneDone, all_lanes, assigned_lane, cleared_lane, reduced_lane, tested_lane}
+use Rattle.dh_reached.proofs.LanesPut.{AllLanes, Behind, LaneDone, all_lanes, assigned_lane, cleared_lane, kept_lane, reduced_lane, tested_lane}
+use Rattle.dh_reached.proofs.LedUses.{IsLed, led_rise}
 use Rattle.dh_reached.proofs.NoUses.{AddsNone, before_none, behind_none, down_then, none_again, none_counted, none_pushed, none_still, puts_added}
 use Rattle.dh_reached.specs.ReachedBlocks.{StandsSpread}
 use Rattle.dh_reached.proofs.StoresPut.{IsLast, stored_lane}
-use Rattle.dh_reached.proofs.TermsPut.{SitesAt, sites_long}
+use Rattle.dh_reached.proofs.Stays.{Stays, stays_same}
+use Rattle.dh_reached.proofs.TermsPut.{SitesAt, all_sites_long, sites_long, target_ways, term_ways, terms_ways}
 
 -- Parts that use nothing.
 
@@ -86,6 +93,30 @@ tests_lanes : (scene : Scene) (around : Around) (first : ℕ) (t : Term) (count 
 tests_lanes scene around first t zero old new next tests m = (m.0, m.1.0)
 tests_lanes scene around first t (suc n) old new next tests m = (m.0, (m.1.0, (tests_lanes scene around first t n old m.0 m.1.0 m.1.1.0 m.1.1.1.1.0, (m.1.1.1.0, m.1.1.1.1.1.0))))
 
+-- registers are placed by the loops alone
+registers_by : (scene : Scene) (arm around : Around) → arm.levels.now ≡ around.levels.now → (e j : ℕ) → register_in scene arm e j ≡ register_in scene around e j
+registers_by scene arm around same e j = ap (λ (ls : List Level). min ((held_at scene.held.now e).first + rank_number ls (held_at scene.held.now e).depth j) (2 ^ 64 - 1)) same
+
+placed_by : (scene : Scene) (arm around : Around) → arm.levels.now ≡ around.levels.now → paths_counted arm ≡ paths_counted around → ArePlaced scene around → ArePlaced scene arm
+placed_by scene arm around same long placed = record {
+  apart = λ e f i j te tf ii ij is.
+      let a = placed.apart e f i j (up e te) (up f tf) (inside i ii) (inside j ij) (sym (register e i) ∙ (is ∙ register f j)) in
+      (a.0, path e i ∙ (a.1 ∙ sym (path f j)));
+  one = λ e i j te ii ij is. register e i ∙ (placed.one e i j (up e te) (inside i ii) (inside j ij) (sym (path e i) ∙ (is ∙ path e j)) ∙ sym (register e j));
+}
+  where
+    up : (e : ℕ) → IsSeen scene arm.levels.now e → IsSeen scene around.levels.now e
+    up e seen = subst (λ (ls : List Level). IsSeen scene ls e) same seen
+
+    inside : (i : ℕ) → i < paths_counted arm → i < paths_counted around
+    inside i l = subst (λ (n : ℕ). i < n) long l
+
+    register : (e i : ℕ) → register_in scene arm e i ≡ register_in scene around e i
+    register e i = registers_by scene arm around same e i
+
+    path : (e i : ℕ) → seen_path scene arm e i ≡ seen_path scene around e i
+    path e i = ap (λ (ls : List Level). take (depth_in scene e) (path_at ls i)) same
+
 pub spread_arm : (scene : Scene) (Inner : Commanding) (around : Around) (holds : Truth) (tests : List ℕ) (old new : Building) (first next : ℕ) (lefts : List Left) (m : MadeArm Inner around holds tests old new first next lefts)
     → StandsSpread scene around → length tests ≡ paths_counted around → StandsSpread scene m.arm
 spread_arm scene Inner around holds tests old new first next lefts m s many = record {
@@ -94,6 +125,7 @@ spread_arm scene Inner around holds tests old new first next lefts m s many = re
   few = subst (λ (n : ℕ). n < 2 ^ 32) (sym (paths_same Inner around holds tests old new first next lefts m many)) s.few;
   spread = subst (λ (ls : List Level). AreSpread ls) (sym m.levels) s.spread;
   counted = paths_same Inner around holds tests old new first next lefts m many ∙ (s.counted ∙ ap (λ (ls : List Level). copies_in (factors_of ls)) (sym m.levels));
+  placed = placed_by scene m.arm around m.levels (paths_same Inner around holds tests old new first next lefts m many) s.placed;
 }
   where
     paths_same : (Inner : Commanding) (around : Around) (holds : Truth) (tests : List ℕ) (old new : Building) (first next : ℕ) (lefts : List Left) (m : MadeArm Inner around holds tests old new first next lefts)
@@ -115,14 +147,14 @@ module _ (x : Step) (sites : ℕ → Option Site) where
   each_written [] = tt
   each_written (u ∷ us) = (λ r at w. tt, each_written us)
 
-  loose : (first count : ℕ) (old new : Draft) → PutsDown x sites first count old new → PutsAt x sites first count (λ n. Unit {0}) (λ n. Unit {0}) old new
+  loose : (first count : ℕ) (old new : Draft) → PutsDown x sites first count old new → PutsAt x sites first count (λ u r. Unit {0}) (λ n. Unit {0}) old new
   loose first count old new h = record { down = h; at = each_any h.puts; written = each_written h.puts }
 
   pub down_behind : (first count : ℕ) (a b c : Draft) → AddsNone a b → PutsDown x sites first count b c → PutsDown x sites first count a c
-  down_behind first count a b c h k = (behind_none x sites first count (λ n. Unit {0}) (λ n. Unit {0}) a b c h (loose first count b c k)).down
+  down_behind first count a b c h k = (behind_none x sites first count (λ u r. Unit {0}) (λ n. Unit {0}) a b c h (loose first count b c k)).down
 
   pub down_before : (first count : ℕ) (a b c : Draft) → PutsDown x sites first count a b → AddsNone b c → PutsDown x sites first count a c
-  down_before first count a b c h k = (before_none x sites first count (λ n. Unit {0}) (λ n. Unit {0}) a b c (loose first count a b h) k).down
+  down_before first count a b c h k = (before_none x sites first count (λ u r. Unit {0}) (λ n. Unit {0}) a b c (loose first count a b h) k).down
 
 module _ (x : Step) (sites : ℕ → Option Site) (scene : Scene) (table : x.start.table ≡ table_of (program_seen scene.program.now)) (IsRead : ℕ → Type 0) (paths : ℕ) (some : 0 < paths) (shares : BlockShares IsRead scene sites) where
   abbrev pub Stood : Accesses → (upto : ℕ) → Type 0
@@ -145,7 +177,7 @@ module _ (x : Step) (sites : ℕ → Option Site) (scene : Scene) (table : x.sta
   -- a loop that has no turn, with accesses that have no operations; or nothing at all
   pub put_idle : (first count : ℕ) (old new : Building) → new ≡ old → NoneReads IsRead first count → Stood old.accesses first → CommandPut first count old new
   put_idle first count old new still none h = record {
-    down = (puts_added x sites first count (λ n. Unit {0}) (λ n. Unit {0}) old.draft new.draft (none_still old.draft new.draft (ap (λ (b : Building). b.draft) still))).down;
+    down = (puts_added x sites first count (λ u r. Unit {0}) (λ n. Unit {0}) old.draft new.draft (none_still old.draft new.draft (ap (λ (b : Building). b.draft) still))).down;
     behind = subst (λ (b : Building). Stood b.accesses (first + count)) (sym still) (record {
       sited = h.sited;
       given = λ e is below. by e is below (cases_lt e first);
@@ -178,49 +210,83 @@ module _ (x : Step) (sites : ℕ → Option Site) (scene : Scene) (table : x.sta
     no_rest : (count : ℕ) (e : ℕ) → first + count ≤ e → e < first + count → IsRead e → ⊥
     no_rest count e more below is = omega (arith, more, below)
 
-    term_put : (t : Term) (One : ℕ → (b d : Building) → ℕ → Type 0) → ((n : ℕ) (b d : Building) (k : ℕ) → One n b d k → Extends b.draft d.draft)
-        → ((n : ℕ) (b d : Building) (k : ℕ) → n < paths_counted around → One n b d k → Fits x d.draft → Begun x b.draft → AreSited x sites b.accesses → AreNext scene (lane_of around n) b.accesses first (term_accesses t)
-        → LaneDone x sites scene table IsRead paths around n first (term_accesses t) (term_accesses t) (λ i. ⊥) b d)
-        → SitesAt sites first (term_sites scene around t) → (next : ℕ) → MadeLanes One (paths_counted around) first old new next → CommandPut first (term_accesses t) old new
-    term_put t One extends step at next m =
-        let l = all_lanes x sites scene table IsRead paths around same shares first (term_accesses t) (term_accesses t) (omega arith) (λ i. ⊥) nothing_one One extends step old h
-        (sites_are (term_sites scene around t) (term_accesses t) (let e = sites_long scene around t in omega (arith, e)) at) b new next m f (no_rest (term_accesses t)) in
-        record { down = l.down; behind = l.behind }
+    -- what it began with
+    abbrev begun : List (Option ℕ)
+    begun = old.values.current.items
+
+    -- the ways of accesses by their numbers
+    abbrev ways_at : List (Option Way) → ℕ → Option (Option Way)
+    ways_at ws number = slice_get ws (number - first)
+
+    ways_are : (ws : List (Option Way)) → SitesAt (ways_at ws) first ws
+    ways_are ws i w at = ap (λ k. slice_get ws k) (let e : first + i - first ≡ i = omega arith in e) ∙ at
+
+    abbrev Rises : (ways : ℕ → Option (Option Way)) → Type 0
+    Rises ways =
+        (u v : Put) (r t : Reach) → u.path < v.path → v.path < paths_counted around → r.access ≡ t.access → IsUse x sites u r → IsLed x scene around begun sites ways u r → IsLed x scene around begun sites ways v t
+        → PlacesRise x sites u v r t
+
+    rises : (ways : ℕ → Option (Option Way)) → Rises ways
+    rises ways u v r t less within = led_rise x scene around begun stands.placed stands.spread stands.counted sites ways u v r t less within stands.few
+
+    module _ (Sets : ℕ → Type 0) where
+      lanes_put : (ss : List Site) (ws : List (Option Way)) (count : ℕ) → length ss ≡ count → (One : ℕ → (b d : Building) → ℕ → Type 0) → ((n : ℕ) (b d : Building) (k : ℕ) → One n b d k → Extends b.draft d.draft)
+          → ((n : ℕ) (b d : Building) (k : ℕ) → n < paths_counted around → One n b d k → Fits x d.draft → Begun x b.draft → Stays scene around Sets begun b.values.current.items → AreSited x sites b.accesses
+          → AreNext scene (lane_of around n) b.accesses first count → LaneDone x sites scene table IsRead paths (ways_at ws) begun Sets around n first count count (λ i. ⊥) b d)
+          → SitesAt sites first ss → (next : ℕ) → MadeLanes One (paths_counted around) first old new next → CommandPut first count old new
+      lanes_put ss ws count long One extends step at next m =
+          let l = all_lanes x sites scene table IsRead paths (ways_at ws) begun Sets around same shares first count count (omega arith) (λ i. ⊥) nothing_one (rises (ways_at ws)) One extends step old refl h
+          (sites_are ss count (omega (arith, long)) at) b new next m f (no_rest count) in
+          record { down = l.down; behind = l.behind }
 
     pub assigned_put : (entity : ℕ) (t : Term) (next : ℕ) → MadeLanes (λ n b d k. MadeAssigned scene (lane_of around n) first entity t b d k) (paths_counted around) first old new next
-        → first + term_accesses t < 2 ^ 32 → SitesAt sites first (term_sites scene around t) → TermKeeps x scene around.levels.now t → CommandPut first (term_accesses t) old new
+        → first + term_accesses t < 2 ^ 32 → SitesAt sites first (term_sites scene around t) → TermKeeps x scene around.levels.now (λ e. e ≡ entity) t × IsSeen scene around.levels.now entity → CommandPut first (term_accesses t) old new
     assigned_put entity t next m few at keeps =
-        term_put t (λ n b d k. MadeAssigned scene (lane_of around n) first entity t b d k) (λ n b d k one. (assigned_lays scene (lane_of around n) stands.stands first entity t b d k one).extends)
-        (λ n b d k less one fd bd sited next. assigned_lane x sites scene table IsRead paths around stands n less first entity t b d k one few at keeps fd bd sited next) at next m
+        lanes_put (λ e. e ≡ entity) (term_sites scene around t) (term_ways scene t) (term_accesses t) (sites_long scene around t) (λ n b d k. MadeAssigned scene (lane_of around n) first entity t b d k)
+        (λ n b d k one. (assigned_lays scene (lane_of around n) stands.stands first entity t b d k one).extends)
+        (λ n b d k less one fd bd stays sited next.
+        assigned_lane x sites scene table IsRead paths (ways_at (term_ways scene t)) begun (λ e. e ≡ entity) around stands n less first entity t b d k keeps.1 refl one few at (ways_are (term_ways scene t)) keeps.0 fd bd stays sited next) at next m
 
     pub reduced_put : (entity : ℕ) (op : _) (t : Term) (next : ℕ) → MadeLanes (λ n b d k. MadeReduced scene (lane_of around n) first entity op t b d k) (paths_counted around) first old new next
-        → first + term_accesses t < 2 ^ 32 → SitesAt sites first (term_sites scene around t) → TermKeeps x scene around.levels.now t → CommandPut first (term_accesses t) old new
+        → first + term_accesses t < 2 ^ 32 → SitesAt sites first (term_sites scene around t) → TermKeeps x scene around.levels.now (λ e. e ≡ entity) t × IsSeen scene around.levels.now entity → CommandPut first (term_accesses t) old new
     reduced_put entity op t next m few at keeps =
-        term_put t (λ n b d k. MadeReduced scene (lane_of around n) first entity op t b d k) (λ n b d k one. (reduced_lays scene (lane_of around n) stands.stands first entity op t b d k one).extends)
-        (λ n b d k less one fd bd sited next. reduced_lane x sites scene table IsRead paths around stands n less first entity op t b d k one few at keeps fd bd sited next) at next m
+        lanes_put (λ e. e ≡ entity) (term_sites scene around t) (term_ways scene t) (term_accesses t) (sites_long scene around t) (λ n b d k. MadeReduced scene (lane_of around n) first entity op t b d k)
+        (λ n b d k one. (reduced_lays scene (lane_of around n) stands.stands first entity op t b d k one).extends)
+        (λ n b d k less one fd bd stays sited next.
+        reduced_lane x sites scene table IsRead paths (ways_at (term_ways scene t)) begun (λ e. e ≡ entity) around stands n less first entity op t b d k keeps.1 refl one few at (ways_are (term_ways scene t)) keeps.0 fd bd stays sited next) at next m
 
     pub tests_put : (t : Term) (next : ℕ) (tests : List ℕ) → MadeTests scene around first t (paths_counted around) old new next tests
-        → first + term_accesses t < 2 ^ 32 → SitesAt sites first (term_sites scene around t) → TermKeeps x scene around.levels.now t → CommandPut first (term_accesses t) old new
+        → first + term_accesses t < 2 ^ 32 → SitesAt sites first (term_sites scene around t) → TermKeeps x scene around.levels.now (λ e. ⊥) t → CommandPut first (term_accesses t) old new
     tests_put t next tests m few at keeps =
-        term_put t (λ n b d k. (v : ℕ) × MadeTested scene (lane_of around n) first t b d k v)
+        lanes_put (λ e. ⊥) (term_sites scene around t) (term_ways scene t) (term_accesses t) (sites_long scene around t) (λ n b d k. (v : ℕ) × MadeTested scene (lane_of around n) first t b d k v)
         (λ n b d k one. (term_lays scene (lane_of around n) stands.stands b.values.current.items t b.draft d.draft b.accesses d.accesses first k one.0 (one.1).term).extends)
-        (λ n b d k less one fd bd sited next. tested_lane x sites scene table IsRead paths around stands n less first t b d k one.0 one.1 few at keeps fd bd sited next) at next
+        (λ n b d k less one fd bd stays sited next.
+        tested_lane x sites scene table IsRead paths (ways_at (term_ways scene t)) begun (λ e. ⊥) around stands n less first t b d k one.0 one.1 few at (ways_are (term_ways scene t)) keeps fd bd stays sited next) at next
         (tests_lanes scene around first t (paths_counted around) old new next tests m)
+
+    -- the offsets that a view keeps
+    pub kept_put : (entity : ℕ) (offsets : List Term) (next : ℕ) → MadeLanes (λ n b d k. MadeKept scene (lane_of around n) first entity offsets b d k) (paths_counted around) first old new next
+        → first + terms_accesses (terms offsets) < 2 ^ 32 → SitesAt sites first (terms_sites scene around (terms offsets))
+        → TermsKeep x scene around.levels.now (λ e. IsAmong entity (length offsets) e) (terms offsets) × AreSeenFrom scene around.levels.now entity (length offsets) → CommandPut first (terms_accesses (terms offsets)) old new
+    kept_put entity offsets next m few at keeps =
+        lanes_put (λ e. IsAmong entity (length offsets) e) (terms_sites scene around (terms offsets)) (terms_ways scene (terms offsets)) (terms_accesses (terms offsets)) (all_sites_long scene around (terms offsets))
+        (λ n b d k. MadeKept scene (lane_of around n) first entity offsets b d k) (λ n b d k one. (kept_lays scene (lane_of around n) stands.stands first entity offsets b d k one).extends)
+        (λ n b d k less one fd bd stays sited next.
+        kept_lane x sites scene table IsRead paths (ways_at (terms_ways scene (terms offsets))) begun (λ e. IsAmong entity (length offsets) e) around stands n less first entity offsets b d k keeps.1 (λ e among. among) one few at
+        (ways_are (terms_ways scene (terms offsets))) keeps.0 fd bd stays sited next) at next m
 
     pub cleared_put : (entity : ℕ) (next : ℕ) → MadeLanes (λ n b d k. MadeCleared scene (lane_of around n) entity b d × (k ≡ first)) (paths_counted around) first old new next → CommandPut first 0 old new
     cleared_put entity next m =
-        let l = all_lanes x sites scene table IsRead paths around same shares first 0 0 (omega arith) (λ i. ⊥) nothing_one (λ n b d k. MadeCleared scene (lane_of around n) entity b d × (k ≡ first))
-        (λ n b d k one. (cleared_lays scene (lane_of around n) stands.stands entity b d one.0).extends)
-        (λ n b d k less one fd bd sited next. cleared_lane x sites scene table IsRead paths around stands n less first entity b d one.0 sited) old h
-        (λ m from below. absurd (never m from below)) b new next m f (no_rest 0) in
-        record { down = l.down; behind = l.behind }
+        lanes_put (λ e. Unit {0}) [] [] 0 refl (λ n b d k. MadeCleared scene (lane_of around n) entity b d × (k ≡ first)) (λ n b d k one. (cleared_lays scene (lane_of around n) stands.stands entity b d one.0).extends)
+        (λ n b d k less one fd bd stays sited next.
+        cleared_lane x sites scene table IsRead paths (ways_at []) begun (λ e. Unit {0}) around stands n less first entity b d (λ e path seen free inside. absurd (free tt)) one.0 sited) (λ i s at. absurd (never at)) next m
       where
-        never : (m : ℕ) → first ≤ m → m < first + 0 → ⊥
-        never m from below = omega (arith, from, below)
+        never : {s : Site} → None ≡ Some s → ⊥
+        never e = cc
 
     pub stored_put : (place : Place) (j : Option Kind) (form : plain.TermForm) (t : Term) (next : ℕ) → MadeLanes (λ n b d k. MadeStored scene (lane_of around n) first (plain.term place j form) t b d k) (paths_counted around) first old new next
         → IsAccessForm form → first + (term_accesses t + form_accesses form) < 2 ^ 32 → SitesAt sites first (term_sites scene around t ++ target_sites scene around (plain.term place j form))
-        → TermKeeps x scene around.levels.now t → FormKeeps x scene around.levels.now form → (IsRead (first + (term_accesses t + aim_accesses form)) → ⊥)
+        → TermKeeps x scene around.levels.now (λ e. ⊥) t → FormKeeps x scene around.levels.now (λ e. ⊥) form → (IsRead (first + (term_accesses t + aim_accesses form)) → ⊥)
         → length (term_sites scene around t ++ target_sites scene around (plain.term place j form)) ≡ term_accesses t + form_accesses form → aim_accesses form + 1 ≡ form_accesses form
         → CommandPut first (term_accesses t + form_accesses form) old new
     stored_put place j form t next m is few at keeps target_keeps written long aims =
@@ -229,17 +295,26 @@ module _ (x : Step) (sites : ℕ → Option Site) (scene : Scene) (table : x.sta
         reads : ℕ
         reads = term_accesses t + aim_accesses form
 
+        ways : ℕ → Option (Option Way)
+        ways = ways_at (term_ways scene t ++ target_ways scene (plain.term place j form))
+
         one_last : (i k : ℕ) → IsLast first (term_accesses t + aim_accesses form) i → IsLast first (term_accesses t + aim_accesses form) k → i ≡ k
         one_last i k p q = p ∙ sym q
 
         rest : (e : ℕ) → first + (term_accesses t + aim_accesses form) ≤ e → e < first + (term_accesses t + aim_accesses form + 1) → IsRead e → ⊥
         rest e more below is_read = written (subst (λ (i : ℕ). IsRead i) (let s : e ≡ first + (term_accesses t + aim_accesses form) = omega (arith, more, below) in s) is_read)
 
-        l : AllLanes x sites scene table IsRead paths around same shares first (term_accesses t + aim_accesses form + 1) (term_accesses t + aim_accesses form) (omega arith) (IsLast first (term_accesses t + aim_accesses form)) one_last
+        l : AllLanes x sites scene table IsRead paths ways begun (λ e. ⊥) around same shares first (term_accesses t + aim_accesses form + 1) (term_accesses t + aim_accesses form) (omega arith) (IsLast first (term_accesses t + aim_accesses form)) one_last (rises ways)
             (λ n b d k. MadeStored scene (lane_of around n) first (plain.term place j form) t b d k) (λ n b d k one. (stored_lays scene (lane_of around n) stands.stands first (plain.term place j form) t b d k one).extends)
-            (λ n b d k less one fd bd sited next. stored_lane x sites scene table IsRead paths around stands n less t first b d place j form k is one few at keeps target_keeps fd bd sited next) old h
+            (λ n b d k less one fd bd stays sited next.
+            stored_lane x sites scene table IsRead paths ways begun (λ e. ⊥) around stands n less t first b d place j stays
+            (stays_same scene around (λ e. ⊥) b.values.current.items d.values.current.items (ap (λ (w : Values). w.current.items) one.same)) form k is one few at (ways_are (term_ways scene t ++ target_ways scene (plain.term place j form)))
+            keeps target_keeps fd bd sited next) old refl h
             (sites_are (term_sites scene around t ++ target_sites scene around (plain.term place j form)) (term_accesses t + aim_accesses form) (omega (arith, long, aims)) at) b new
-        l = all_lanes x sites scene table IsRead paths around same shares first (term_accesses t + aim_accesses form + 1) (term_accesses t + aim_accesses form) (omega arith) (IsLast first (term_accesses t + aim_accesses form)) one_last
+        l = all_lanes x sites scene table IsRead paths ways begun (λ e. ⊥) around same shares first (term_accesses t + aim_accesses form + 1) (term_accesses t + aim_accesses form) (omega arith) (IsLast first (term_accesses t + aim_accesses form)) one_last (rises ways)
             (λ n b d k. MadeStored scene (lane_of around n) first (plain.term place j form) t b d k) (λ n b d k one. (stored_lays scene (lane_of around n) stands.stands first (plain.term place j form) t b d k one).extends)
-            (λ n b d k less one fd bd sited next. stored_lane x sites scene table IsRead paths around stands n less t first b d place j form k is one few at keeps target_keeps fd bd sited next) old h
+            (λ n b d k less one fd bd stays sited next.
+            stored_lane x sites scene table IsRead paths ways begun (λ e. ⊥) around stands n less t first b d place j stays
+            (stays_same scene around (λ e. ⊥) b.values.current.items d.values.current.items (ap (λ (w : Values). w.current.items) one.same)) form k is one few at (ways_are (term_ways scene t ++ target_ways scene (plain.term place j form)))
+            keeps target_keeps fd bd sited next) old refl h
             (sites_are (term_sites scene around t ++ target_sites scene around (plain.term place j form)) (term_accesses t + aim_accesses form) (omega (arith, long, aims)) at) b new next m f rest

@@ -6,13 +6,18 @@ use Rattle.std.specs.List.{AllByRecursion}
 use Rattle.dh_value.specs.declared.operators.Op.TheVariants.{Both}
 use Rattle.dh_value.specs.Operations.{is_true, truth}
 use Rattle.dh_tree.specs.PlainTrees as plain
-use Rattle.dh_tree.specs.PlainTrees.{Term, Action, action, ActionForm, lets, lets_memory, views, assigns, stores, reduces, calls, blocks, decides, repeats, counts, MaybeAction, no_action, one_action, Actions, no_actions, action_then, Groups, no_groups, group_then}
+use Rattle.dh_tree.specs.PlainTrees.{Term, Action, action, ActionForm, lets, lets_memory, views, assigns, stores, reduces, calls, blocks, decides, repeats, counts, MaybeAction, no_action, one_action, Actions, no_actions, action_then, Groups, no_groups, group_then, ViewPlan}
+use Rattle.dh_tree.specs.Seen.{terms}
+use Rattle.dh_tree.specs.ViewOffsets.{offsets_of}
 use Rattle.dh_meaning.specs.AccessNumbers.{accesses_of, other_accesses, plan_accesses, term_accesses}
 use Rattle.dh_plan.specs.Blocks.{is_on}
 use Rattle.dh_plan.specs.declared.operations.OperationForm.TheVariants.{Compute, Constant, Select}
 use Rattle.dh_expressions.specs.declared.drafts.Draft.{Draft}
 use Rattle.dh_expressions.specs.declared.scenes.Around.{Around}
 use Rattle.dh_expressions.specs.declared.scenes.Scene.{Scene}
+use Rattle.dh_expressions.specs.Evaluated.{known_in}
+use Rattle.dh_meaning.specs.CoreOf.{way_of}
+use Rattle.dh_meaning.specs.Ways.{Hidden, hidden_in}
 use Rattle.dh_expressions.specs.Drafted.{Begun, Fits, Gives, Step, holds, shown}
 use Rattle.dh_expressions.specs.Shown.{guard_of}
 use Rattle.dh_expressions.proofs.ListPlaces.{there}
@@ -25,7 +30,7 @@ use Rattle.dh_commands.specs.Choosing.{MakesGuard, MakesGuards}
 use Rattle.dh_commands.specs.LanesRun.{comes_out, paths_counted}
 use Rattle.dh_commands.specs.MadeCommands.{Commanding, MadeActionForm, MadeActions, MadeArm, MadeArmGuard, MadeArmGuards, MadeCommand, MadeGroups, MadeGuard, MadeNot, MadeOther}
 use Rattle.dh_commands.proofs.ArmGuards.{both_alone, both_made, guard_not, guards_more, guards_none, not_made}
-use Rattle.dh_laid.specs.BlockSites.{action_sites, actions_sites, all_there, command_sites, groups_sites, none_there, other_sites, target_sites, term_sites, terms_sites}
+use Rattle.dh_laid.specs.BlockSites.{action_sites, actions_sites, all_there, command_sites, groups_sites, none_there, other_sites, target_sites, term_sites, terms_sites, view_sites}
 use Rattle.dh_laid.proofs.AccessesLaid.{actions_lays, arm_lays, command_lays, groups_lays, other_lays, tests_lay}
 use Rattle.dh_laid.proofs.ArmsLaid.{arm_guards_form}
 use Rattle.dh_laid.proofs.ChoicesLaid.{choices_form}
@@ -161,6 +166,10 @@ module _ (x : Step) where
   -- Whole commands.
 
   module _ (scene : Scene) where
+    view_guarded : (hs : List Hidden) (form : ViewPlan) (around : Around) → EachPlace (IsGuardedIn around) (view_sites scene around hs form)
+    view_guarded [] form around = none_place (IsGuardedIn around) (plan_accesses form + 0)
+    view_guarded (h ∷ hs) form around = there_place (IsGuardedIn around) (terms_sites scene around (terms (offsets_of form))) (terms_guarded scene around (terms (offsets_of form)))
+
     mutual
       pub command_guarded : (a : Action) (around : Around) (old new : Building) (first next : ℕ) (m : MadeCommand scene a around old new first next) → StandsSpread scene around → Fits x new.draft → Begun x old.draft
           → EachPlace (IsGuardedIn around) (command_sites scene a around old new first next m)
@@ -196,7 +205,7 @@ module _ (x : Step) where
           (other_guarded other around m.tests m.after_chosen m.after_other m.behind next m.other_left m.other s many f_other b_chosen))
       form_guarded (blocks body) around old new first next m s f b = groups_guarded body around old new first next m s f b
       form_guarded (lets_memory name shape shape_places value) around old new first next m s f b = tt
-      form_guarded (views name parent form) around old new first next m s f b = none_place (IsGuardedIn around) (plan_accesses form + 0)
+      form_guarded (views name parent form) around old new first next m s f b = view_guarded (hidden_in (way_of (known_in scene) name)) form around
       form_guarded (calls function arguments) around old new first next m s f b = tt
       form_guarded (repeats test body) around old new first next m s f b = none_place (IsGuardedIn around) (term_accesses test + accesses_of body)
       form_guarded (counts iterator declared low high factor body combine combine_place) around old new first next m s f b = none_place (IsGuardedIn around) (accesses_of body + other_accesses combine)

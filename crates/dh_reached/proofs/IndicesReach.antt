@@ -20,10 +20,10 @@ use Rattle.dh_tree.specs.declared.tables.Dim.{Dim}
 use Rattle.dh_tree.specs.declared.trees.counters.Counter.{Counter}
 use Rattle.dh_tree.specs.declared.trees.expressions.Ref.{Ref}
 use Rattle.dh_tree.specs.Counters.{counter_in, counters_of}
-use Rattle.dh_tree.specs.Elements.{Spot, bank_of, banks_of, dims_at}
+use Rattle.dh_tree.specs.Elements.{Spot, bank_of, banks_of}
 use Rattle.dh_tree.specs.Indices.{IndexKind, constant, iterator, dynamic, counted, form_of, index_breaches, index_kind, indices_breaches, sum_kind}
 use Rattle.dh_tree.specs.Kinds.{found, signed_number}
-use Rattle.dh_tree.specs.Memories.{same_entity, table_of}
+use Rattle.dh_tree.specs.Memories.{same_entity}
 use Rattle.dh_tree.specs.PlainTrees as plain
 use Rattle.dh_tree.specs.Seen.{program_seen}
 use Rattle.dh_tree.specs.Shapes.{IsDim}
@@ -31,7 +31,7 @@ use Rattle.dh_tree.proofs.BankElements.{place_below}
 use Rattle.dh_meaning.specs.AccessNumbers.{term_accesses}
 use Rattle.dh_meaning.specs.Bindings.{kind_or_first}
 use Rattle.dh_meaning.specs.CoreOf.{core_term, depth_of, entity_number}
-use Rattle.dh_meaning.specs.Effects.{Variables, spot_by_indices, value_of}
+use Rattle.dh_meaning.specs.Effects.{Variables, value_of}
 use Rattle.dh_meaning.specs.Paths.{Path}
 use Rattle.dh_meets.specs.Charges.{index_in, level_of_loop}
 use Rattle.dh_code.specs.Extended.{extension_of}
@@ -41,7 +41,7 @@ use Rattle.dh_code.specs.Slots.{held_at}
 use Rattle.dh_plan.specs.Blocks.{numbers_at, spot_in_row, spot_of_reach}
 use Rattle.dh_plan.specs.declared.operations.OperationForm.TheVariants.{Compute, Constant, Convert}
 use Rattle.dh_sound.specs.IndexValues.{AllHaveIndexKinds, AnyLoop, AreOperands, FormInTurn, HasIndexKinds, HasIntegerKind, IsInTurn, IsIndexValue, NameInTurn, copy_at}
-use Rattle.dh_sound.proofs.BanksReached.{index_bank, spot_indices, spot_row}
+use Rattle.dh_sound.proofs.BanksReached.{index_bank, spot_row}
 use Rattle.dh_sound.proofs.ValuesOfIndices.{index_value}
 use Rattle.dh_expressions.specs.declared.accesses.Accesses.{Accesses}
 use Rattle.dh_expressions.specs.declared.drafts.Draft.{Draft}
@@ -55,7 +55,7 @@ use Rattle.dh_expressions.specs.Levels.{copy_number, copy_to, last_number, path_
 use Rattle.dh_expressions.specs.MadeTerms.{MadeTerm, MadeTerms}
 use Rattle.dh_expressions.specs.MadeValues.{MadeBy, MadeConverted, MadeExtended, MadeOperation}
 use Rattle.dh_expressions.specs.Numbers.{narrowed}
-use Rattle.dh_expressions.specs.ReachedBanks.{bank_by, index_first, indices_first, level_with}
+use Rattle.dh_expressions.specs.ReachedBanks.{index_first, indices_first, level_with}
 use Rattle.dh_expressions.specs.Reaching.{reach_told}
 use Rattle.dh_expressions.specs.Shown.{extended_shown, is_kept, is_read_term, kind_written}
 use Rattle.dh_expressions.proofs.Evaluating.{extended_same, extended_word, operation_value}
@@ -554,7 +554,7 @@ module _ (x : Step) (scene : Scene) (lane : Lane) (stands : StandsIn scene lane.
       product : (a b : ℕ) → 1 ≤ a → 0 < b → 0 < a * b
       product a b p q = let h = place_below 0 b 0 a p q in omega (arith, h)
 
-  bank_small : (dims : List Dim) (is : List ℕ) → AllByRecursion IsDim dims → bank_of dims is < banks_of dims
+  pub bank_small : (dims : List Dim) (is : List ℕ) → AllByRecursion IsDim dims → bank_of dims is < banks_of dims
   bank_small [] is h = omega arith
   bank_small (d ∷ ds) [] h = some_banks (d ∷ ds) h
   bank_small (d ∷ ds) (i ∷ is) h = place_below (i % d.banks) (banks_of ds) (bank_of ds is) d.banks (mod-lt i {m = d.banks} h.0.banks) (bank_small ds is h.1)
@@ -564,23 +564,16 @@ module _ (x : Step) (scene : Scene) (lane : Lane) (stands : StandsIn scene lane.
   narrowed_small : (n : ℕ) → n < 2 ^ 32 → narrowed n ≡ n
   narrowed_small n l = grind (arith, l)
 
-  -- by indices
-  pub indices_reach : (memory : ℕ) (r : Ref) (ts : plain.Terms) (aim : Aim) (old new : Draft) (before after : Accesses) (n : ℕ) → MadeTerms scene lane current ts old new before after n aim.number aim.indices → aim.row ≡ None
-      → x.start.table ≡ table_of (program_seen scene.program.now) → IndicesKeep x scene levels memory ts → Fits x new → Begun x old
-      → (b : ℕ × ℕ) (spot : Spot) → spot_of_reach x.start x.first x.words (reach_told memory aim (Some b)) ≡ Some spot → spot.bank ≡ narrowed (bank_by (program_seen scene.program.now) levels memory (plain.accessed r ts) lane.number)
-  indices_reach memory r ts aim old new before after n m row table k f s b spot e =
-      let plain_spot : spot_by_indices x.start.table (narrowed memory) (numbers_at x.first x.words aim.indices) ≡ Some spot = ap (λ o. spot_in_row x.start x.first x.words (reach_told memory aim (Some b)) o) (sym row) ∙ e in
-      let small = narrowed_small memory k.small in
-      let bank : spot.bank ≡ bank_of (dims_at x.start.table memory) (indices_first cs levels lane.number ts) =
-      (spot_indices x.start.table (narrowed memory) (numbers_at x.first x.words aim.indices) spot plain_spot).1
-      ∙ (ap (λ i. bank_of (dims_at x.start.table i) (map unsigned_abs (numbers_at x.first x.words aim.indices))) small
-      ∙ terms_bank (dims_at x.start.table memory) ts old new before after n aim.number aim.indices m k.dims k.kinds k.turns k.keeps f s) in
-      let below = bank_small (dims_at x.start.table memory) (indices_first cs levels lane.number ts) k.dims in
+  -- by indices, of dimensions of what is named
+  pub indices_bank : (memory : ℕ) (dims : List Dim) (ts : plain.Terms) (aim : Aim) (old new : Draft) (before after : Accesses) (n : ℕ) → MadeTerms scene lane current ts old new before after n aim.number aim.indices
+      → IndicesKeep x scene levels memory dims ts → Fits x new → Begun x old → bank_of dims (map unsigned_abs (numbers_at x.first x.words aim.indices)) ≡ narrowed (bank_of dims (indices_first cs levels lane.number ts))
+  indices_bank memory dims ts aim old new before after n m k f s =
+      let below = bank_small dims (indices_first cs levels lane.number ts) k.dims in
       let few = k.few in
-      bank ∙ (sym (narrowed_small (bank_of (dims_at x.start.table memory) (indices_first cs levels lane.number ts)) (omega (arith, below, few)))
-      ∙ ap (λ t. narrowed (bank_of (dims_at t memory) (indices_first cs levels lane.number ts))) table)
+      terms_bank dims ts old new before after n aim.number aim.indices m k.dims k.kinds k.turns k.keeps f s
+      ∙ sym (narrowed_small (bank_of dims (indices_first cs levels lane.number ts)) (omega (arith, below, few)))
 
   -- by a row
-  pub row_reaches : (memory value : ℕ) (aim : Aim) (b : ℕ × ℕ) (spot : Spot) → aim.row ≡ Some value → spot_of_reach x.start x.first x.words (reach_told memory aim (Some b)) ≡ Some spot → spot.bank ≡ b.0
+  pub row_reaches : (memory value : ℕ) (aim : Aim) (b : ℕ × ℕ) (spot : Spot) → aim.row ≡ Some value → spot_of_reach x.start x.first x.words (reach_told memory aim (b ∷ [])) ≡ Some spot → spot.bank ≡ b.0
   row_reaches memory value aim b spot row e =
-      (spot_row x.start.table (narrowed memory) b.0 (words.value_of (shown x value)) spot (ap (λ o. spot_in_row x.start x.first x.words (reach_told memory aim (Some b)) o) (sym row) ∙ e)).1
+      (spot_row x.start.table (narrowed memory) b.0 (words.value_of (shown x value)) spot (ap (λ o. spot_in_row x.start x.first x.words (reach_told memory aim (b ∷ [])) o) (sym row) ∙ e)).1

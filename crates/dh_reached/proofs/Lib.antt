@@ -1,7 +1,12 @@
+pub mod PlacesCounted
+pub mod NamedBanks
+pub mod Stays
+pub mod LedUses
 pub mod PutLists
 pub mod NoUses
 pub mod IndicesReach
 pub mod ReadsPut
+pub mod WaysReach
 pub mod TermsPut
 pub mod LanesPut
 pub mod StoresPut

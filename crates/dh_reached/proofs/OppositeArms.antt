@@ -8,14 +8,19 @@ use Rattle.std.proofs.lemmas.Bool.Decides.{nat_tests}
 use Rattle.dh_base.specs.declared.places.Place.{Place}
 use Rattle.dh_value.specs.Operations.{is_true}
 use Rattle.dh_tree.specs.Numbers.{AreNumbered, AreNumberedGroups, IsNumbered, IsNumberedInside, IsNumberedOther, commands_in, commands_in_groups, commands_in_part}
-use Rattle.dh_tree.specs.PlainTrees.{Action, action, ActionForm, lets, lets_memory, views, assigns, stores, reduces, calls, blocks, decides, repeats, counts, MaybeAction, no_action, one_action, Actions, no_actions, action_then, Groups, no_groups, group_then}
+use Rattle.dh_tree.specs.PlainTrees.{Action, action, ActionForm, lets, lets_memory, views, assigns, stores, reduces, calls, blocks, decides, repeats, counts, MaybeAction, no_action, one_action, Actions, no_actions, action_then, Groups, no_groups, group_then, ViewPlan}
+use Rattle.dh_tree.specs.Seen.{terms}
+use Rattle.dh_tree.specs.ViewOffsets.{offsets_of}
 use Rattle.dh_meaning.specs.AccessNumbers.{accesses_of, other_accesses, plan_accesses, term_accesses}
+use Rattle.dh_meaning.specs.CoreOf.{way_of}
+use Rattle.dh_meaning.specs.Ways.{Hidden, hidden_in}
 use Rattle.dh_meaning.specs.Sites as stood
 use Rattle.dh_meaning.specs.Sites.{Arm, in_arm}
-use Rattle.dh_meets.specs.SourceEvents.{SourceAccess, SourceEvent, accesses, assigned, command_events, events, groups_events, other_events, part_events, site_of, term_events, write_events}
+use Rattle.dh_meets.specs.SourceEvents.{SourceAccess, SourceEvent, accesses, assigned, command_events, events, groups_events, other_events, part_events, site_of, term_events, terms_events, write_events}
 use Rattle.dh_expressions.specs.declared.drafts.Draft.{Draft}
 use Rattle.dh_expressions.specs.declared.scenes.Around.{Around}
 use Rattle.dh_expressions.specs.declared.scenes.Scene.{Scene}
+use Rattle.dh_expressions.specs.Evaluated.{known_in}
 use Rattle.dh_expressions.specs.Drafted.{Begun, Fits, Step, holds, shown}
 use Rattle.dh_expressions.specs.Shown.{guard_of}
 use Rattle.dh_expressions.proofs.ListPlaces.{there}
@@ -25,7 +30,7 @@ use Rattle.dh_commands.specs.declared.buildings.Building.{Building}
 use Rattle.dh_commands.specs.declared.choices.Left.{Left}
 use Rattle.dh_commands.specs.LanesRun.{paths_counted}
 use Rattle.dh_commands.specs.MadeCommands.{MadeActionForm, MadeActions, MadeArm, MadeCommand, MadeGroups, MadeOther}
-use Rattle.dh_laid.specs.BlockSites.{action_sites, actions_sites, all_there, command_sites, groups_sites, none_there, one_site, other_sites, places_from, target_sites, term_sites}
+use Rattle.dh_laid.specs.BlockSites.{action_sites, actions_sites, all_there, command_sites, groups_sites, none_there, one_site, other_sites, places_from, target_sites, term_sites, terms_sites, view_sites}
 use Rattle.dh_laid.specs.LaidNumbers.{StoresReach, StoresReachForm, StoresReachGroups, StoresReachOther, StoresReachPart}
 use Rattle.dh_laid.proofs.AccessesLaid.{actions_lays, arm_lays, command_lays, groups_lays, other_lays, tests_lay}
 use Rattle.dh_laid.proofs.ChoicesLaid.{choices_form}
@@ -35,7 +40,7 @@ use Rattle.dh_sound.specs.PhaseFacts.{HasArm, arm_of}
 use Rattle.dh_sound.specs.Trails.{ArmsWithin, Below, EachAccess}
 use Rattle.dh_sound.proofs.EventCounts.{count_in, events_counted, part_counted, term_counted}
 use Rattle.dh_sound.proofs.Sited.{At, at_left, at_right}
-use Rattle.dh_sound.proofs.Sites.{StandsWithin, action_stands, each_both, groups_stand, part_stands, term_stands, write_stands}
+use Rattle.dh_sound.proofs.Sites.{StandsWithin, action_stands, each_both, groups_stand, part_stands, term_stands, terms_stand, write_stands}
 use Rattle.dh_sound.proofs.Trails.{below_up}
 use Rattle.dh_reached.specs.ReachedBlocks.{StandsSpread}
 use Rattle.dh_reached.proofs.CommandsPut.{arm_paths, spread_arm}
@@ -288,6 +293,12 @@ module _ (x : Step) (scene : Scene) (paths : ℕ) where
           (arm_on x (MadeCommand scene other) around false tests after_chosen after_other behind next left o (guards_fit x scene other around false tests after_chosen after_other behind next left o stands many fo) bc n test.0 within test.1
           (two.on n (subst (λ (i : ℕ). n < i) (sym (arm_paths (MadeCommand scene other) around false tests after_chosen after_other behind next left o many ∙ same)) less) on_t)).1
 
+  -- the offsets of a view stand in no further arm
+  view_excludes : (hs : List Hidden) (form : ViewPlan) (around : Around) (r : stood.Around) (id : ℕ) → Below id r.arms → HasOneOfEach r.arms → Excludes x paths (view_sites scene around hs form) (terms_events (site_of r id) (terms (offsets_of form)))
+  view_excludes [] form around r id w o = idle_excludes x paths (plan_accesses form + 0) (terms_events (site_of r id) (terms (offsets_of form)))
+  view_excludes (h ∷ hs) form around r id w o =
+      leaf x paths r id w o (all_there (terms_sites scene around (terms (offsets_of form)))) (terms_events (site_of r id) (terms (offsets_of form))) (terms_stand r id id id (terms (offsets_of form)))
+
   mutual
     pub command_excludes : (a : Action) (around : Around) (old new : Building) (first next : ℕ) (m : MadeCommand scene a around old new first next) → StoresReach a → StandsSpread scene around → paths_counted around ≡ paths → Fits x new.draft
         → Begun x old.draft → (r : stood.Around) (q : ℕ) → IsNumbered q a → Below q r.arms → HasOneOfEach r.arms → Excludes x paths (command_sites scene a around old new first next m) (events r a)
@@ -344,7 +355,7 @@ module _ (x : Step) (scene : Scene) (paths : ℕ) where
     form_excludes (blocks body) place around old new first next m is stands same f b r id num w o =
         groups_exclude body around old new first next m is stands same f b r (suc id) num (below_up id (suc id) r.arms (omega arith) w) o
     form_excludes (lets_memory name shape shape_places value) place around old new first next m is stands same f b r id num w o = nothing_excludes x paths []
-    form_excludes (views name parent form) place around old new first next m is stands same f b r id num w o = idle_excludes x paths (plan_accesses form + 0) (command_events r (site_of r id) (views name parent form))
+    form_excludes (views name parent form) place around old new first next m is stands same f b r id num w o = view_excludes (hidden_in (way_of (known_in scene) name)) form around r id w o
     form_excludes (calls function arguments) place around old new first next m is stands same f b r id num w o = nothing_excludes x paths []
     form_excludes (repeats test body) place around old new first next m is stands same f b r id num w o = idle_excludes x paths (term_accesses test + accesses_of body) (command_events r (site_of r id) (repeats test body))
     form_excludes (counts iterator declared low high factor body combine combine_place) place around old new first next m is stands same f b r id num w o =

@@ -6,17 +6,22 @@ use Rattle.std.proofs.lemmas.List.{length-append}
 use Rattle.dh_base.specs.declared.places.Place.{Place}
 use Rattle.dh_tree.specs.Indices.{form_of}
 use Rattle.dh_tree.specs.PlainTrees as plain
-use Rattle.dh_tree.specs.PlainTrees.{Action, action, ActionForm, lets, lets_memory, views, assigns, stores, reduces, calls, blocks, decides, repeats, counts, MaybeAction, no_action, one_action, Actions, no_actions, action_then, Groups, no_groups, group_then}
+use Rattle.dh_tree.specs.PlainTrees.{Action, action, ActionForm, lets, lets_memory, views, assigns, stores, reduces, calls, blocks, decides, repeats, counts, MaybeAction, no_action, one_action, Actions, no_actions, action_then, Groups, no_groups, group_then, ViewPlan}
+use Rattle.dh_tree.specs.Seen.{terms}
+use Rattle.dh_tree.specs.ViewOffsets.{offsets_of}
 use Rattle.dh_meaning.specs.AccessNumbers.{accesses_of, groups_accesses, other_accesses, own_accesses, inner_accesses, part_accesses, plan_accesses, term_accesses}
+use Rattle.dh_meaning.specs.CoreOf.{way_of}
+use Rattle.dh_meaning.specs.Ways.{Hidden, hidden_in}
 use Rattle.dh_expressions.specs.declared.scenes.Around.{Around}
 use Rattle.dh_expressions.specs.declared.scenes.Scene.{Scene}
+use Rattle.dh_expressions.specs.Evaluated.{known_in}
 use Rattle.dh_expressions.proofs.ListPlaces.{place_within}
 use Rattle.dh_expressions.proofs.Pushing.{in_front}
 use Rattle.dh_formed.specs.Formed.{Site}
 use Rattle.dh_commands.specs.declared.buildings.Building.{Building}
 use Rattle.dh_commands.specs.declared.choices.Left.{Left}
 use Rattle.dh_commands.specs.MadeCommands.{MadeActionForm, MadeActions, MadeCommand, MadeGroups, MadeOther}
-use Rattle.dh_laid.specs.BlockSites.{action_sites, actions_sites, all_there, command_sites, groups_sites, none_there, one_site, other_sites, places_from, sites_from, target_sites, term_sites, terms_sites}
+use Rattle.dh_laid.specs.BlockSites.{action_sites, actions_sites, all_there, command_sites, groups_sites, none_there, one_site, other_sites, places_from, sites_from, target_sites, term_sites, terms_sites, view_sites}
 use Rattle.dh_laid.specs.LaidNumbers.{IsAccessForm, StoresReach, StoresReachForm, StoresReachGroups, StoresReachOther, StoresReachPart}
 use Rattle.dh_reached.proofs.TermsPut.{SitesAt, all_sites_long, sites_long}
 
@@ -80,6 +85,11 @@ plus_none n = omega arith
 none_plus : (n : ℕ) → n ≡ 0 + n
 none_plus n = omega arith
 
+pub view_long : (scene : Scene) (around : Around) (hs : List Hidden) (form : ViewPlan) → length (view_sites scene around hs form) ≡ plan_accesses form + 0
+view_long scene around [] form = none_long (plan_accesses form + 0)
+view_long scene around (h ∷ hs) form =
+    there_long (terms_sites scene around (terms (offsets_of form))) ∙ (all_sites_long scene around (terms (offsets_of form)) ∙ plus_none (plan_accesses form))
+
 module _ (scene : Scene) where
   mutual
     pub places_long : (a : Action) (around : Around) (old new : Building) (first next : ℕ) (m : MadeCommand scene a around old new first next) → StoresReach a → length (command_sites scene a around old new first next m) ≡ accesses_of a
@@ -100,7 +110,7 @@ module _ (scene : Scene) where
         (other_long other around m.tests m.after_chosen m.after_other m.behind next m.other_left m.other is.1))
     form_long (blocks body) around old new first next m is = groups_long body around old new first next m is ∙ none_plus (groups_accesses body)
     form_long (lets_memory name shape shape_places value) around old new first next m is = omega arith
-    form_long (views name parent form) around old new first next m is = none_long (plan_accesses form + 0)
+    form_long (views name parent form) around old new first next m is = view_long scene around (hidden_in (way_of (known_in scene) name)) form
     form_long (calls function arguments) around old new first next m is = omega arith
     form_long (repeats test body) around old new first next m is = none_long (term_accesses test + accesses_of body)
     form_long (counts iterator declared low high factor body combine combine_place) around old new first next m is = none_long (accesses_of body + other_accesses combine) ∙ none_plus (accesses_of body + other_accesses combine)

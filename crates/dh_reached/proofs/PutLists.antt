@@ -1,9 +1,11 @@
 -- Lists of what was put down: what holds of each, and of any two in their order, holds where one stands behind the other.
 use Rattle.std.proofs.Common.{◌≡◌, ℕ, zero, suc, ◌<◌, List, Some, refl, ap, subst, arith}
-use Rattle.std.specs.Prelude.{[], ◌∷◌, ◌++◌, slice_get}
+use Rattle.std.specs.Prelude.{[], ◌∷◌, ◌++◌, slice_get, Option}
 use Rattle.std.specs.List.{AllByRecursion}
 use Rattle.dh_plan.specs.declared.operations.Operation.{Operation}
 use Rattle.dh_plan.specs.declared.operations.Reach.{Reach}
+use Rattle.dh_expressions.specs.Drafted.{Step}
+use Rattle.dh_formed.specs.Formed.{Site}
 use Rattle.dh_formed.proofs.ElementsFormed.{all_append, all_weaker}
 use Rattle.dh_reached.specs.Puts.{AreInOrder, EachUse, Goes, GoesBefore, Put, operations_of, used}
 
@@ -34,33 +36,34 @@ pub operations_both : (us vs : List Put) → operations_of (us ++ vs) ≡ operat
 operations_both [] vs = refl
 operations_both (u ∷ us) vs = ap (λ (os : List Operation). u.operation ∷ os) (operations_both us vs)
 
--- Order.
+-- Order, in a step.
 
-pub goes_at : (us : List Put) (i j : ℕ) (a b : Put) → AreInOrder us → slice_get us i ≡ Some a → slice_get us j ≡ Some b → i < j → Goes a b
-goes_at [] i j a b all at next less = absurd (none i at)
-  where
-    none : (i : ℕ) → slice_get [] i ≡ Some a → ⊥
-    none i e = cc
-goes_at (u ∷ us) zero zero a b all at next less = absurd (omega (arith, less))
-goes_at (u ∷ us) zero (suc j) a b all at next less = subst (λ (c : Put). Goes c b) (same u a at) (all_at (Goes u) us j b all.0 next)
-  where
-    same : (y x : Put) → Some y ≡ Some x → y ≡ x
-    same y x e = cc
-goes_at (u ∷ us) (suc i) zero a b all at next less = absurd (omega (arith, less))
-goes_at (u ∷ us) (suc i) (suc j) a b all at next less = goes_at us i j a b all.1 at next (omega (arith, less))
+module _ (x : Step) (sites : ℕ → Option Site) where
+  pub goes_at : (us : List Put) (i j : ℕ) (a b : Put) → AreInOrder x sites us → slice_get us i ≡ Some a → slice_get us j ≡ Some b → i < j → Goes x sites a b
+  goes_at [] i j a b all at next less = absurd (none i at)
+    where
+      none : (i : ℕ) → slice_get [] i ≡ Some a → ⊥
+      none i e = cc
+  goes_at (u ∷ us) zero zero a b all at next less = absurd (omega (arith, less))
+  goes_at (u ∷ us) zero (suc j) a b all at next less = subst (λ (c : Put). Goes x sites c b) (same u a at) (all_at (Goes x sites u) us j b all.0 next)
+    where
+      same : (y x : Put) → Some y ≡ Some x → y ≡ x
+      same y x e = cc
+  goes_at (u ∷ us) (suc i) zero a b all at next less = absurd (omega (arith, less))
+  goes_at (u ∷ us) (suc i) (suc j) a b all at next less = goes_at us i j a b all.1 at next (omega (arith, less))
 
--- those of one list before those of another
-abbrev pub GoAll : List Put → List Put → Type 0
-GoAll us vs = AllByRecursion (λ a. AllByRecursion (Goes a) vs) us
+  -- those of one list before those of another
+  abbrev pub GoAll : List Put → List Put → Type 0
+  GoAll us vs = AllByRecursion (λ a. AllByRecursion (Goes x sites a) vs) us
 
-pub order_both : (us vs : List Put) → AreInOrder us → AreInOrder vs → GoAll us vs → AreInOrder (us ++ vs)
-order_both [] vs h k g = k
-order_both (u ∷ us) vs h k g = (all_append (Goes u) us vs h.0 g.0, order_both us vs h.1 k g.1)
+  pub order_both : (us vs : List Put) → AreInOrder x sites us → AreInOrder x sites vs → GoAll us vs → AreInOrder x sites (us ++ vs)
+  order_both [] vs h k g = k
+  order_both (u ∷ us) vs h k g = (all_append (Goes x sites u) us vs h.0 g.0, order_both us vs h.1 k g.1)
 
--- what holds of each on both sides tells it
-pub go_by : (P Q : Put → Reach → Type 0) (us vs : List Put) → ((a b : Put) (r t : Reach) → P a r → Q b t → GoesBefore a b r t) → EachUse P us → EachUse Q vs → GoAll us vs
-go_by P Q [] vs so h k = tt
-go_by P Q (u ∷ us) vs so h k = (all_weaker (λ b. (t : Reach) → used b ≡ Some t → Q b t) (Goes u) vs (λ b q r t at next. so u b r t (h.0 r at) (q t next)) k, go_by P Q us vs so h.1 k)
+  -- what holds of each on both sides tells it
+  pub go_by : (P Q : Put → Reach → Type 0) (us vs : List Put) → ((a b : Put) (r t : Reach) → P a r → Q b t → GoesBefore x sites a b r t) → EachUse P us → EachUse Q vs → GoAll us vs
+  go_by P Q [] vs so h k = tt
+  go_by P Q (u ∷ us) vs so h k = (all_weaker (λ b. (t : Reach) → used b ≡ Some t → Q b t) (Goes x sites u) vs (λ b q r t at next. so u b r t (h.0 r at) (q t next)) k, go_by P Q us vs so h.1 k)
 
 -- Facts of uses.
 

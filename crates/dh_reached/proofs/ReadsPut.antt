@@ -10,6 +10,7 @@ use Rattle.dh_meaning.specs.Paths.{Path, copies_in}
 use Rattle.dh_plan.specs.Blocks.{spot_of_reach}
 use Rattle.dh_plan.specs.declared.operations.OperationForm.TheVariants.{Read, Write}
 use Rattle.dh_plan.specs.declared.operations.Reach.{Reach}
+use Rattle.dh_plan.specs.SoundPlans.{IsListed}
 use Rattle.dh_expressions.specs.declared.accesses.Accesses.{Accesses}
 use Rattle.dh_expressions.specs.declared.accesses.Touched.{Touched}
 use Rattle.dh_expressions.specs.declared.copies.AccessAt.{AccessAt}
@@ -19,15 +20,15 @@ use Rattle.dh_expressions.specs.declared.paths.Level.{Level}
 use Rattle.dh_expressions.specs.declared.scenes.Around.{Around}
 use Rattle.dh_expressions.specs.declared.scenes.Lane.{Lane}
 use Rattle.dh_expressions.specs.declared.scenes.Scene.{Scene}
-use Rattle.dh_expressions.specs.Copying.{AreCopies, AreNone, DoneBy, IsCopy, depends_at, leaders_at}
+use Rattle.dh_expressions.specs.Copying.{AreCopies, AreNone, DoneBy, IsCopy, depends_at}
 use Rattle.dh_expressions.specs.Drafted.{Begun, Extends, Fits, Pushes, Step, holds}
 use Rattle.dh_expressions.specs.Evaluated.{lane_guard, source_at}
 use Rattle.dh_expressions.specs.Levels.{leader_number, path_at}
 use Rattle.dh_expressions.specs.MadeTerms.{MadeRead, MadeWrite}
 use Rattle.dh_expressions.specs.Noted.{Notes, copied_in, copied_of, copy_or_alone, given_by, given_in, noted_in, touched_in}
-use Rattle.dh_expressions.specs.Numbers.{narrowed}
-use Rattle.dh_expressions.specs.Reaching.{Finds, place_written, reach_told}
-use Rattle.dh_expressions.specs.Standings.{IsTouched, Standing, standing_at}
+use Rattle.dh_expressions.specs.Named.{banks_told}
+use Rattle.dh_expressions.specs.Reaching.{Finds, copy_banks, place_written, reach_told}
+use Rattle.dh_expressions.specs.Standings.{IsTouched, Standing, banks_at, copy_places, standing_at}
 use Rattle.dh_expressions.specs.Touching.{AddsTouched, IsNew, TouchesAt}
 use Rattle.dh_expressions.proofs.AccessesKept.{noted_touched, place_noted}
 use Rattle.dh_expressions.proofs.ListPlaces.{set_long, some_same, there}
@@ -64,9 +65,9 @@ module _ (x : Step) (sites : ℕ → Option Site) (scene : Scene) (around : Arou
   touch_sited memory s old new before after number t site f b h = record {
     touched = λ m u o at is.
         ⊎_elim (λ was. h.touched m u o was is)
-        (λ (fresh : IsNew old new scene around s before number m u).
+        (λ (fresh : IsNew old new scene around s number m u).
         let own : record { memory = memory; standing = s } ≡ o = some_same (record { memory = memory; standing = s }) o (sym site ∙ (ap sites (sym fresh.own) ∙ is)) in
-        subst (λ (w : Site). IsTouched x w.standing u) own (fresh.is h.none stands.scopes stands.low x f b))
+        subst (λ (w : Site). IsTouched x w.standing u) own (fresh.is stands.scopes stands.low x f b))
         (t.known m u at);
     there = λ m o is. subst (λ (l : ℕ). m < l) (sym t.long) (h.there m o is);
     none = t.none h.none;
@@ -88,20 +89,30 @@ module _ (x : Step) (sites : ℕ → Option Site) (scene : Scene) (around : Arou
           let stood = h.touched m old.0 o old.1.0 is in
           record {
             fault = subst (λ (k : ℕ). slice_get x.named k ≡ Some (OutOfRange, o.standing.place)) old.1.1.0 stood.fault;
-            copies = subst (λ (cs : List AccessAt). AreCopies x o.standing.leader o.standing.bank o.standing.guards (length o.standing.guards) cs) old.1.1.1 stood.copies;
+            copies = subst (λ (cs : List AccessAt). AreCopies x o.standing.leader o.standing.bank (copy_places o.standing) o.standing.guards (length o.standing.guards) cs) old.1.1.1 stood.copies;
           }
 
 -- At a path.
 
-module _ (x : Step) (sites : ℕ → Option Site) (scene : Scene) (lane : Lane) (stands : StandsSpread scene lane.around) (within : lane.number < length lane.around.guards.now) where
+module _ (x : Step) (sites : ℕ → Option Site) (scene : Scene) (lane : Lane) (stands : StandsSpread scene lane.around) (within : lane.number < length lane.around.guards.now) (Led : Put → Reach → Type 0) where
+  -- at this path, where uses lead so
+  abbrev pub AtLane : Put → Reach → Type 0
+  AtLane u r = (u.path ≡ lane.number) × Led u r
+
   -- what is put down at the path for accesses from a first one on, so many
   pub record PutsHere (first count : ℕ) (Written : ℕ → Type 0) (old new : Draft) (before after : Accesses) : Type 0 where
-    pub puts : PutsAt x sites first count (λ path. path ≡ lane.number) Written old new
+    pub puts : PutsAt x sites first count AtLane Written old new
     pub sited : AreSited x sites after
 
-  -- where the values of an access lead in this step
-  abbrev pub ReachesAt : (memory : ℕ) → Aim → Standing → Type 0
-  ReachesAt memory aim s = (b : ℕ × ℕ) (spot : Spot) → b.0 ≡ s.bank lane.number → spot_of_reach x.start x.first x.words (reach_told memory aim (Some b)) ≡ Some spot → spot.bank ≡ s.bank lane.number
+  -- the reach of an access by its values, with the banks of this path
+  abbrev pub own_reach : (memory : ℕ) → Aim → Standing → Reach
+  own_reach memory aim s = reach_told memory aim (banks_at s lane.number)
+
+  -- where the values of an access lead in this step: to a bank that is listed, each with the place of this path
+  pub record ReachesAt (memory : ℕ) (aim : Aim) (s : Standing) : Type 0 where
+    pub listed : (spot : Spot) → spot_of_reach x.start x.first x.words (own_reach memory aim s) ≡ Some spot → IsListed spot.bank (s.places lane.number) (banks_at s lane.number)
+    pub placed : (bank place : ℕ) → IsListed bank place (banks_at s lane.number) → place ≡ s.places lane.number
+    pub led : (u : Put) → u.path ≡ lane.number → Led u (own_reach memory aim s)
 
   module _ (access : plain.Term) (memory : ℕ) (aim : Aim) (writes : Truth) where
     abbrev stood : Standing
@@ -116,13 +127,13 @@ module _ (x : Step) (sites : ℕ → Option Site) (scene : Scene) (lane : Lane) 
     touch_none : (old new : Draft) (before after : Accesses) → TouchesAt scene lane.around stood old new before after aim.number → AddsNone old new
     touch_none old new before after t = by t.adds
       where
-        by : (new ≡ old) ⊎ ((u : Touched) × AddsTouched old new scene lane.around stood before u) → AddsNone old new
+        by : (new ≡ old) ⊎ ((u : Touched) × AddsTouched old new scene lane.around stood u) → AddsNone old new
         by (inl same) = none_still old new same
         by (inr (u, a)) =
             let copies = a.copies stands.stands.scopes stands.stands.low in
             none_again old a.middle new (none_same old a.middle a.names.operations)
             (none_counted a.middle new 0 _ _
-            (copies_counts (λ register. Unit {0}) (λ r. Unit {0}) (λ r. ⊥) (λ r. ⊥) stood.leader stood.bank lane.around.guards.now low (length lane.around.guards.now) a.middle new before.counts.items copies.0 u.copies stands.stands.few copies.1))
+            (copies_counts (λ register. Unit {0}) (λ r. Unit {0}) (λ r. ⊥) (λ r. ⊥) stood.leader stood.bank (copy_places stood) lane.around.guards.now low (length lane.around.guards.now) a.middle new u.copies copies))
 
     -- the access at this path
     module _ (a : Accesses) (t : Touched) (is : touched_in a aim.number ≡ Some t) (laid : IsTouched x stood t) where
@@ -132,7 +143,7 @@ module _ (x : Step) (sites : ℕ → Option Site) (scene : Scene) (lane : Lane) 
       copy_is : copied_in a aim.number lane.number ≡ found_copy.0
       copy_is = ap (λ o. copied_of o lane.number) is ∙ ap (λ o. copy_or_alone lane.number o) found_copy.1
 
-      told : IsCopy x stood.leader stood.bank lane.around.guards.now (length lane.around.guards.now) lane.number found_copy.0
+      told : IsCopy x stood.leader stood.bank (copy_places stood) lane.around.guards.now (length lane.around.guards.now) lane.number found_copy.0
       told = laid.copies.each lane.number found_copy.0 found_copy.1
 
       leader_is : (copied_in a aim.number lane.number).leader ≡ stood.leader lane.number
@@ -141,9 +152,12 @@ module _ (x : Step) (sites : ℕ → Option Site) (scene : Scene) (lane : Lane) 
       bank_is : (copied_in a aim.number lane.number).bank ≡ stood.bank lane.number
       bank_is = ap (λ (c : AccessAt). c.bank) copy_is ∙ told.bank_is
 
-      banks_are : ◌≡◌ {A = List (ℕ × ℕ)} (((copied_in a aim.number lane.number).bank, (copied_in a aim.number lane.number).place) ∷ [])
-          ((stood.bank lane.number, narrowed (leaders_at stood.leader stood.bank (stood.bank lane.number) lane.number)) ∷ [])
-      banks_are = ap (λ (b : ℕ). (b, (copied_in a aim.number lane.number).place) ∷ []) bank_is ∙ ap (λ (p : ℕ). (stood.bank lane.number, p) ∷ []) (ap (λ (c : AccessAt). c.place) copy_is ∙ told.place_is)
+      place_is : (copied_in a aim.number lane.number).place ≡ stood.places lane.number
+      place_is = ap (λ (c : AccessAt). c.place) copy_is ∙ told.place_is
+
+      banks_are : copy_banks scene (form_of access) (copied_in a aim.number lane.number) ≡ banks_at stood lane.number
+      banks_are =
+          ap (λ (b : ℕ). banks_told scene (form_of access) b (copied_in a aim.number lane.number).place) bank_is ∙ ap (λ (q : ℕ). banks_told scene (form_of access) (stood.bank lane.number) q) place_is
 
       guard_done : stood.leader lane.number ≡ lane.number → holds x (copied_in a aim.number lane.number).guard → DoneBy x stood.leader lane.around.guards.now (length lane.around.guards.now) lane.number
       guard_done same on = told.by same (subst (λ (c : AccessAt). holds x c.guard) copy_is on)
@@ -158,18 +172,24 @@ module _ (x : Step) (sites : ℕ → Option Site) (scene : Scene) (lane : Lane) 
 
     -- the operation that reads, with a copy of the access
     read_pushed : (d e : Draft) (a : Accesses) (t : Touched) (v : ℕ) → touched_in a aim.number ≡ Some t → IsTouched x own t → own.leader lane.number ≡ lane.number
-        → Pushes d e v (copied_in a aim.number lane.number).guard (Read (reach_told memory aim (Some ((copied_in a aim.number lane.number).bank, (copied_in a aim.number lane.number).place))))
-        → PutsAt x sites aim.number 1 (λ path. path ≡ lane.number) (λ n. ⊥) d e
+        → Pushes d e v (copied_in a aim.number lane.number).guard (Read (reach_told memory aim (copy_banks scene (form_of access) (copied_in a aim.number lane.number))))
+        → PutsAt x sites aim.number 1 AtLane (λ n. ⊥) d e
     read_pushed d e a t v is laid leading p =
-        puts_one x sites aim.number 1 (λ path. path ≡ lane.number) (λ n. ⊥) d e v lane.number (copied_in a aim.number lane.number).guard (Read told_reach) p refl
+        puts_one x sites aim.number 1 AtLane (λ n. ⊥) d e v lane.number (copied_in a aim.number lane.number).guard (Read told_reach) p (λ r u. subst (λ (k : Reach). AtLane put k) (some_same told_reach r u) (refl, led_so))
         (λ r u. subst (λ (k : Reach). IsUse x sites put k) (some_same told_reach r u) is_used)
         (λ r u. subst (λ (k : Reach). (aim.number ≤ k.access) × (k.access < aim.number + 1)) (some_same told_reach r u) (own_within aim.number)) (λ r u w. absurd w)
       where
         told_reach : Reach
-        told_reach = reach_told memory aim (Some ((copied_in a aim.number lane.number).bank, (copied_in a aim.number lane.number).place))
+        told_reach = reach_told memory aim (copy_banks scene (form_of access) (copied_in a aim.number lane.number))
+
+        told_same : own_reach memory aim own ≡ told_reach
+        told_same = ap (λ (bs : List (ℕ × ℕ)). reach_told memory aim bs) (sym (banks_are access memory aim false a t is laid))
 
         put : Put
         put = record { operation = record { guard = (copied_in a aim.number lane.number).guard; form = Read told_reach }; path = lane.number }
+
+        led_so : Led put told_reach
+        led_so = subst (λ (k : Reach). Led put k) told_same (reaches.led put refl)
 
         is_used : IsUse x sites put told_reach
         is_used = record {
@@ -179,13 +199,15 @@ module _ (x : Step) (sites : ℕ → Option Site) (scene : Scene) (lane : Lane) 
           within = within;
           few = stands.few;
           leads = leading;
-          banks_are = banks_are access memory aim false a t is laid;
+          placed = λ b q h. reaches.placed b q (subst (λ (bs : List (ℕ × ℕ)). IsListed b q bs) (banks_are access memory aim false a t is laid) h);
           done = guard_done access memory aim false a t is laid leading;
-          reached = λ spot s. reaches ((copied_in a aim.number lane.number).bank, (copied_in a aim.number lane.number).place) spot (bank_is access memory aim false a t is laid) s;
+          reached = λ spot s.
+              subst (λ (bs : List (ℕ × ℕ)). IsListed spot.bank (own.places lane.number) bs) (sym (banks_are access memory aim false a t is laid))
+              (reaches.listed spot (subst (λ (k : Reach). spot_of_reach x.start x.first x.words k ≡ Some spot) (sym told_same) s));
         }
 
     abbrev Alone : Draft → Draft → Type 0
-    Alone d e = PutsAt x sites aim.number 1 (λ path. path ≡ lane.number) (λ n. ⊥) d e
+    Alone d e = PutsAt x sites aim.number 1 AtLane (λ n. ⊥) d e
 
     module _ (d e : Draft) (a : Accesses) (t : Touched) (v : ℕ) (is : touched_in a aim.number ≡ Some t) (laid : IsTouched x own t) (given : given_at_paths a aim.number ≡ lane.number)
         (known : aim.number < length scene.shares.now) (shares : (earlier : ℕ) → slice_get scene.shares.now aim.number ≡ Some (Some earlier) → lane.number < given_at_paths a earlier) where
@@ -196,10 +218,10 @@ module _ (x : Step) (sites : ℕ → Option Site) (scene : Scene) (lane : Lane) 
       copy_leads = leader_is access memory aim false a t is laid
 
       abbrev Found : (share : Option (Option ℕ)) → Type 0
-      Found share = Finds d e memory aim copy (given_by a (source_at share aim.number lane.number copy.leader)) v
+      Found share = Finds scene (form_of access) d e memory aim copy (given_by a (source_at share aim.number lane.number copy.leader)) v
 
-      found_puts : (found : Option ℕ) (n : ℕ) → found ≡ Some n → Finds d e memory aim copy found v → Alone d e
-      found_puts found n e1 h = puts_added x sites aim.number 1 (λ path. path ≡ lane.number) (λ n. ⊥) d e (none_still d e (subst (λ (o : Option ℕ). Finds d e memory aim copy o v) e1 h).0)
+      found_puts : (found : Option ℕ) (n : ℕ) → found ≡ Some n → Finds scene (form_of access) d e memory aim copy found v → Alone d e
+      found_puts found n e1 h = puts_added x sites aim.number 1 AtLane (λ n. ⊥) d e (none_still d e (subst (λ (o : Option ℕ). Finds scene (form_of access) d e memory aim copy o v) e1 h).0)
 
       not_shared : Found (Some None) → Alone d e
       not_shared h = ⊎_elim leading led (cases_eq (own.leader lane.number) lane.number)
@@ -207,7 +229,7 @@ module _ (x : Step) (sites : ℕ → Option Site) (scene : Scene) (lane : Lane) 
           leading : own.leader lane.number ≡ lane.number → Alone d e
           leading same =
               let past : given_in a aim.number copy.leader ≡ None = given_past a aim.number copy.leader (omega (arith, given, copy_leads, same)) in
-              read_pushed d e a t v is laid same (subst (λ (o : Option ℕ). Finds d e memory aim copy o v) past h)
+              read_pushed d e a t v is laid same (subst (λ (o : Option ℕ). Finds scene (form_of access) d e memory aim copy o v) past h)
 
           led : (own.leader lane.number ≡ lane.number → ⊥) → Alone d e
           led other =
@@ -237,7 +259,7 @@ module _ (x : Step) (sites : ℕ → Option Site) (scene : Scene) (lane : Lane) 
       pushed = pushed_extends m.first m.second _ _ _ m.probes
 
       found : Extends m.second new
-      found = found_extends m.second new memory aim (copied_in m.middle aim.number lane.number) (given_by m.middle (source_at (slice_get scene.shares.now aim.number) aim.number lane.number (copied_in m.middle aim.number lane.number).leader)) v m.finds
+      found = found_extends scene (form_of access) m.second new memory aim (copied_in m.middle aim.number lane.number) (given_by m.middle (source_at (slice_get scene.shares.now aim.number) aim.number lane.number (copied_in m.middle aim.number lane.number).leader)) v m.finds
 
       middle_sited : AreSited x sites m.middle
       middle_sited = touch_sited x sites scene lane.around stands.stands memory own old m.first before m.middle aim.number m.touches at (fits_before m.first new x (extends_again m.first m.second new pushed found) f) b h
@@ -255,7 +277,7 @@ module _ (x : Step) (sites : ℕ → Option Site) (scene : Scene) (lane : Lane) 
 
       pub read_puts : PutsHere aim.number 1 (λ n. ⊥) old new before after
       read_puts = record {
-        puts = behind_none x sites aim.number 1 (λ path. path ≡ lane.number) (λ n. ⊥) old m.second new
+        puts = behind_none x sites aim.number 1 AtLane (λ n. ⊥) old m.second new
             (none_again old m.first m.second (touch_none access memory aim false old m.first before m.middle m.touches) (none_pushed m.first m.second _ _ _ m.probes tt))
             (find_puts m.second new m.middle touched.0 v touched.1 (middle_sited.touched aim.number touched.0 (site access memory aim false) touched.1 at) own_given
             (next.known aim.number (omega arith) (omega arith)) shared m.finds);
@@ -308,9 +330,10 @@ module _ (x : Step) (sites : ℕ → Option Site) (scene : Scene) (lane : Lane) 
 
     pub write_puts : PutsHere aim.number 1 (λ n. n ≡ aim.number) old new before after
     write_puts = record {
-      puts = behind_none x sites aim.number 1 (λ path. path ≡ lane.number) (λ n. n ≡ aim.number) old m.second new
+      puts = behind_none x sites aim.number 1 AtLane (λ n. n ≡ aim.number) old m.second new
           (none_again old m.first m.second (touch_none access memory aim true old m.first before after m.touches) (none_pushed m.first m.second _ _ _ m.probes tt))
-          (puts_one x sites aim.number 1 (λ path. path ≡ lane.number) (λ n. n ≡ aim.number) m.second new m.number lane.number (lane_guard lane) (Write told_reach value) m.writes refl
+          (puts_one x sites aim.number 1 AtLane (λ n. n ≡ aim.number) m.second new m.number lane.number (lane_guard lane) (Write told_reach value) m.writes
+          (λ r u. subst (λ (k : Reach). AtLane put k) (some_same told_reach r u) (refl, led_so))
           (λ r u. subst (λ (k : Reach). IsUse x sites put k) (some_same told_reach r u) is_used)
           (λ r u. subst (λ (k : Reach). (aim.number ≤ k.access) × (k.access < aim.number + 1)) (some_same told_reach r u) (own_within aim.number))
           (λ r u w. subst (λ (k : Reach). k.access ≡ aim.number) (some_same told_reach r u) refl));
@@ -318,10 +341,16 @@ module _ (x : Step) (sites : ℕ → Option Site) (scene : Scene) (lane : Lane) 
     }
       where
         told_reach : Reach
-        told_reach = reach_told memory aim (Some ((copied_in after aim.number lane.number).bank, (copied_in after aim.number lane.number).place))
+        told_reach = reach_told memory aim (copy_banks scene (form_of access) (copied_in after aim.number lane.number))
+
+        told_same : own_reach memory aim put_own ≡ told_reach
+        told_same = ap (λ (bs : List (ℕ × ℕ)). reach_told memory aim bs) (sym (banks_are access memory aim true after write_touched.0 write_touched.1 write_laid))
 
         put : Put
         put = record { operation = record { guard = lane_guard lane; form = Write told_reach value }; path = lane.number }
+
+        led_so : Led put told_reach
+        led_so = subst (λ (k : Reach). Led put k) told_same (reaches.led put refl)
 
         is_used : IsUse x sites put told_reach
         is_used = record {
@@ -331,9 +360,11 @@ module _ (x : Step) (sites : ℕ → Option Site) (scene : Scene) (lane : Lane) 
           within = within;
           few = stands.few;
           leads = write_leads;
-          banks_are = banks_are access memory aim true after write_touched.0 write_touched.1 write_laid;
+          placed = λ b q h. reaches.placed b q (subst (λ (bs : List (ℕ × ℕ)). IsListed b q bs) (banks_are access memory aim true after write_touched.0 write_touched.1 write_laid) h);
           done = λ on. record { path = lane.number; within = within; leads = write_leads; on = on };
-          reached = λ spot s. reaches ((copied_in after aim.number lane.number).bank, (copied_in after aim.number lane.number).place) spot (bank_is access memory aim true after write_touched.0 write_touched.1 write_laid) s;
+          reached = λ spot s.
+              subst (λ (bs : List (ℕ × ℕ)). IsListed spot.bank (put_own.places lane.number) bs) (sym (banks_are access memory aim true after write_touched.0 write_touched.1 write_laid))
+              (reaches.listed spot (subst (λ (k : Reach). spot_of_reach x.start x.first x.words k ≡ Some spot) (sym told_same) s));
         }
 
     pub write_given : (k : ℕ) → given_at_paths after k ≡ given_at_paths before k

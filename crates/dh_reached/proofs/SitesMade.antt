@@ -4,22 +4,27 @@ use Rattle.std.specs.Prelude.{Bool, true, false, ◌||◌, [], ◌∷◌, ◌++�
 use Rattle.std.specs.List.{AllByRecursion}
 use Rattle.std.proofs.lemmas.Bool.{cases_lt}
 use Rattle.std.proofs.lemmas.Bool.Decides.{nat_tests}
-use Rattle.dh_tree.specs.PlainTrees.{Action, action, ActionForm, lets, lets_memory, views, assigns, stores, reduces, calls, blocks, decides, repeats, counts, MaybeAction, no_action, one_action, Actions, no_actions, action_then, Groups, no_groups, group_then}
+use Rattle.dh_tree.specs.PlainTrees.{Action, action, ActionForm, lets, lets_memory, views, assigns, stores, reduces, calls, blocks, decides, repeats, counts, MaybeAction, no_action, one_action, Actions, no_actions, action_then, Groups, no_groups, group_then, ViewPlan}
+use Rattle.dh_tree.specs.Seen.{terms}
+use Rattle.dh_tree.specs.ViewOffsets.{offsets_of}
 use Rattle.dh_meaning.specs.AccessNumbers.{accesses_of, other_accesses, part_accesses, plan_accesses, term_accesses}
+use Rattle.dh_meaning.specs.CoreOf.{way_of}
+use Rattle.dh_meaning.specs.Ways.{Hidden, hidden_in}
 use Rattle.dh_meaning.specs.OnePhase.{any_makes, form_makes, groups_make, is_within, makes, other_makes, part_makes}
 use Rattle.dh_meaning.specs.Phases.{Located}
 use Rattle.dh_expressions.specs.declared.scenes.Around.{Around}
 use Rattle.dh_expressions.specs.declared.scenes.Scene.{Scene}
+use Rattle.dh_expressions.specs.Evaluated.{known_in}
 use Rattle.dh_formed.specs.Formed.{Site}
 use Rattle.dh_commands.specs.declared.buildings.Building.{Building}
 use Rattle.dh_commands.specs.declared.choices.Left.{Left}
 use Rattle.dh_commands.specs.MadeCommands.{MadeActionForm, MadeActions, MadeCommand, MadeGroups, MadeOther}
-use Rattle.dh_laid.specs.BlockSites.{MadeEach, action_sites, actions_sites, all_there, block_sites, command_sites, groups_sites, none_there, one_site, other_sites, places_from, term_sites}
+use Rattle.dh_laid.specs.BlockSites.{MadeEach, action_sites, actions_sites, all_there, block_sites, command_sites, groups_sites, none_there, one_site, other_sites, places_from, term_sites, terms_sites, view_sites}
 use Rattle.dh_laid.specs.LaidNumbers.{StoresReach, StoresReachForm, StoresReachGroups, StoresReachOther, StoresReachPart}
 use Rattle.dh_reached.proofs.BlocksPut.{place_told, site_cases}
 use Rattle.dh_reached.proofs.OppositeArms.{place_left, place_right, placed_of}
 use Rattle.dh_reached.proofs.PlacesOf.{actions_long, form_long, places_long, there_long}
-use Rattle.dh_reached.proofs.TermsPut.{sites_long}
+use Rattle.dh_reached.proofs.TermsPut.{all_sites_long, sites_long}
 
 pub within_is : (k n count : ℕ) → n ≤ k → k < n + count → is_within k n count ≡ true
 within_is k n count l u = grind (arith, nat_tests, l, u)
@@ -59,6 +64,12 @@ module _ (scene : Scene) (j : ℕ) (s : Site) where
       by (inl l) = or_first m n (one (place_left f xs ys j s l e))
       by (inr l) = or_second m n (two (subst (λ (k : ℕ). places_from k ys j ≡ Some s) (ap (λ k. f + k) long) (place_right f xs ys j s l e)))
 
+  view_makes : (hs : List Hidden) (form : ViewPlan) (around : Around) (f : ℕ) → places_from f (view_sites scene around hs form) j ≡ Some s → is_within j f (plan_accesses form) ≡ true
+  view_makes [] form around f e = idle_place (plan_accesses form + 0) f j s (is_within j f (plan_accesses form) ≡ true) e
+  view_makes (h ∷ hs) form around f e =
+      own_makes f j (plan_accesses form) (all_there (terms_sites scene around (terms (offsets_of form)))) s
+      (there_long (terms_sites scene around (terms (offsets_of form))) ∙ all_sites_long scene around (terms (offsets_of form))) e
+
   mutual
     pub command_makes : (a : Action) (around : Around) (old new : Building) (first next : ℕ) (m : MadeCommand scene a around old new first next) → StoresReach a → (f : ℕ)
         → places_from f (command_sites scene a around old new first next m) j ≡ Some s → makes j f a ≡ true
@@ -89,7 +100,7 @@ module _ (scene : Scene) (j : ℕ) (s : Site) where
         (λ g. other_makes_it other around m.tests m.after_chosen m.after_other m.behind next m.other_left m.other is.1 (f + term_accesses test + accesses_of chosen) g) h) e
     form_makes_it (blocks body) around old new first next m is f e = groups_make_it body around old new first next m is f e
     form_makes_it (lets_memory name shape shape_places value) around old new first next m is f e = no_place f j s (false ≡ true) e
-    form_makes_it (views name parent form) around old new first next m is f e = idle_place (plan_accesses form + 0) f j s (is_within j f (plan_accesses form) ≡ true) e
+    form_makes_it (views name parent form) around old new first next m is f e = view_makes (hidden_in (way_of (known_in scene) name)) form around f e
     form_makes_it (calls function arguments) around old new first next m is f e = no_place f j s (false ≡ true) e
     form_makes_it (repeats test body) around old new first next m is f e = idle_place (term_accesses test + accesses_of body) f j s (false ≡ true) e
     form_makes_it (counts iterator declared low high factor body combine combine_place) around old new first next m is f e = idle_place (accesses_of body + other_accesses combine) f j s (false ≡ true) e

@@ -1,8 +1,7 @@
 -- A step that does a block keeps the banks: by what its operations use, and their order.
-use Rattle.std.proofs.Common.{◌≡◌, ℕ, zero, suc, ◌^◌, ◌<◌, ◌≤◌, ◌⊎◌, inl, inr, ⊎_elim, Bool, true, false, List, Some, refl, sym, ap, ◌∙◌, subst, arith, length}
-use Rattle.std.specs.Prelude.{[], ◌∷◌, ◌==◌, ◌&&◌, if◌then◌else◌, slice_get, Option}
+use Rattle.std.proofs.Common.{◌≡◌, ℕ, ◌<◌, ◌≤◌, ◌⊎◌, inl, inr, ⊎_elim, List, Some, sym, ap, ◌∙◌, subst, arith}
+use Rattle.std.specs.Prelude.{[], ◌∷◌, slice_get, Option}
 use Rattle.std.proofs.lemmas.Bool.{cases_lt}
-use Rattle.std.proofs.lemmas.Bool.Decides.{nat_tests}
 use Rattle.dh_tree.specs.Elements.{Spot}
 use Rattle.dh_tree.specs.Meets.{Before, In}
 use Rattle.dh_plan.specs.declared.operations.Operation.{Operation}
@@ -11,90 +10,13 @@ use Rattle.dh_plan.specs.Blocks.{StepStart, spot_of_reach}
 use Rattle.dh_plan.specs.PlainPlans.{PlainPlan, operations_in}
 use Rattle.dh_plan.specs.PlanRuns.{start_at}
 use Rattle.dh_plan.specs.SoundPlans.{InOneBank, IsListed, IsOneOf, KeepsBanks, OperationBefore, Reaches, RisesIn, WritesAt, use_in, writes_memory}
-use Rattle.dh_expressions.specs.Copying.{DoneBy, leaders_at}
 use Rattle.dh_expressions.specs.Drafted.{Step, holds}
-use Rattle.dh_expressions.specs.Numbers.{narrowed}
-use Rattle.dh_expressions.proofs.CopiesMade.{leaders_few}
 use Rattle.dh_expressions.proofs.ListPlaces.{some_same}
 use Rattle.dh_formed.specs.Formed.{Site}
 use Rattle.dh_blocks.specs.BlockMade.{step_of}
 use Rattle.dh_reached.specs.Puts.{IsUse, Put, is_write, used}
 use Rattle.dh_reached.specs.StepBanks.{BlockUses, BlocksKeepBanks, NeverBoth, StandInOrder}
 use Rattle.dh_reached.proofs.PutLists.{all_at, goes_at, put_at}
-
--- Places of leaders.
-
-leaders_more : (leader bank : ℕ → ℕ) (own n : ℕ) → leaders_at leader bank own n ≤ leaders_at leader bank own (suc n)
-leaders_more leader bank own n = by ((leader n == n) && (bank n == own)) (leaders_at leader bank own n)
-  where
-    by : (t : Bool) (m : ℕ) → m ≤ (if t then suc m else m)
-    by true m = omega arith
-    by false m = omega arith
-
-leader_counts : (leader bank : ℕ → ℕ) (own n : ℕ) → leader n ≡ n → bank n ≡ own → leaders_at leader bank own (suc n) ≡ suc (leaders_at leader bank own n)
-leader_counts leader bank own n leads reaches = by ((leader n == n) && (bank n == own)) (both (leader n == n) (bank n == own) (test (leader n) n leads) (test (bank n) own reaches))
-  where
-    test : (a b : ℕ) → a ≡ b → (a == b) ≡ true
-    test a b e = grind (arith, nat_tests, e)
-
-    both : (p q : Bool) → p ≡ true → q ≡ true → (p && q) ≡ true
-    both true q e h = h
-    both false q e h = absurd (cc)
-
-    by : (t : Bool) → t ≡ true → (if t then suc (leaders_at leader bank own n) else leaders_at leader bank own n) ≡ suc (leaders_at leader bank own n)
-    by true e = refl
-    by false e = absurd (cc)
-
-pub leaders_rise : (leader bank : ℕ → ℕ) (own m n : ℕ) → m < n → leader m ≡ m → bank m ≡ own → leaders_at leader bank own m < leaders_at leader bank own n
-leaders_rise leader bank own m zero less leads reaches = absurd (omega (arith, less))
-leaders_rise leader bank own m (suc n) less leads reaches = by (cases_lt m n) (λ before. leaders_rise leader bank own m n before leads reaches)
-  where
-    by : (m < n) ⊎ (n ≤ m) → (m < n → leaders_at leader bank own m < leaders_at leader bank own n) → leaders_at leader bank own m < leaders_at leader bank own (suc n)
-    by (inl before) rest = let h = rest before in let k = leaders_more leader bank own n in omega (arith, h, k)
-    by (inr last) rest =
-        let same : m ≡ n = omega (arith, last, less) in
-        subst (λ (k : ℕ). leaders_at leader bank own m < leaders_at leader bank own (suc k)) same
-        (let e = leader_counts leader bank own m leads reaches in omega (arith, e))
-
-narrowed_rise : (m n : ℕ) → m < n → n < 2 ^ 32 → narrowed m < narrowed n
-narrowed_rise m n less few = grind (arith, less, few)
-
--- Uses of one access.
-
--- the facts of a use, where its access stands
-record UsesSite (x : Step) (s : Site) (u : Put) (r : Reach) : Type 0 where
-  within : u.path < length s.standing.guards
-  leads : s.standing.leader u.path ≡ u.path
-  banks_are : r.banks ≡ (s.standing.bank u.path, narrowed (leaders_at s.standing.leader s.standing.bank (s.standing.bank u.path) u.path)) ∷ []
-  done : holds x u.operation.guard → DoneBy x s.standing.leader s.standing.guards (length s.standing.guards) u.path
-  reached : (spot : Spot) → spot_of_reach x.start x.first x.words r ≡ Some spot → spot.bank ≡ s.standing.bank u.path
-
-uses_site : (x : Step) (sites : ℕ → Option Site) (u : Put) (r : Reach) (s : Site) → IsUse x sites u r → sites r.access ≡ Some s → UsesSite x s u r
-uses_site x sites u r s h at = subst (λ (o : Site). UsesSite x o u r) (some_same h.site s (sym h.there ∙ at)) own
-  where
-    own : UsesSite x h.site u r
-    own = record { within = h.within; leads = h.leads; banks_are = h.banks_are; done = h.done; reached = h.reached }
-
--- what is listed of such a use
-listed_is : (x : Step) (s : Site) (u : Put) (r : Reach) (bank place : ℕ) → UsesSite x s u r → IsListed bank place r.banks
-    → (s.standing.bank u.path ≡ bank) × (place ≡ narrowed (leaders_at s.standing.leader s.standing.bank bank u.path))
-listed_is x s u r bank place h listed = by (subst (λ (bs : List (ℕ × ℕ)). IsListed bank place bs) h.banks_are listed)
-  where
-    by : ((s.standing.bank u.path ≡ bank) × (narrowed (leaders_at s.standing.leader s.standing.bank (s.standing.bank u.path) u.path) ≡ place)) ⊎ ⊥
-        → (s.standing.bank u.path ≡ bank) × (place ≡ narrowed (leaders_at s.standing.leader s.standing.bank bank u.path))
-    by (inl p) = (p.0, sym p.1 ∙ ap (λ b. narrowed (leaders_at s.standing.leader s.standing.bank b u.path)) p.0)
-    by (inr none) = absurd none
-
-rising : (x : Step) (s : Site) (a b : Put) (r t : Reach) (bank m n : ℕ) → length s.standing.guards < 2 ^ 32 → UsesSite x s a r → UsesSite x s b t → a.path < b.path → IsListed bank m r.banks → IsListed bank n t.banks → m < n
-rising x s a b r t bank m n few h k less first second =
-    let one = listed_is x s a r bank m h first in
-    let two = listed_is x s b t bank n k second in
-    let more = leaders_rise s.standing.leader s.standing.bank bank a.path b.path less h.leads one.0 in
-    let most = leaders_few s.standing.leader s.standing.bank bank b.path in
-    let within = k.within in
-    let rises = narrowed_rise (leaders_at s.standing.leader s.standing.bank bank a.path) (leaders_at s.standing.leader s.standing.bank bank b.path) more (omega (arith, most, within, few)) in
-    let i = one.1 in let j = two.1 in
-    omega (arith, rises, i, j)
 
 -- The step.
 
@@ -115,7 +37,6 @@ module _ (plan : PlainPlan) (block : ℕ) (registers : List ℕ) (memories : Lis
     at : slice_get u.puts i ≡ Some put
     uses : used put ≡ Some r
     is : IsUse x sites put r
-    facts : UsesSite x is.site put r
     on : holds x put.operation.guard
     leads : spot_of_reach x.start x.first x.words r ≡ Some spot
 
@@ -132,31 +53,29 @@ module _ (plan : PlainPlan) (block : ℕ) (registers : List ℕ) (memories : Lis
             at = p.1.0;
             uses = uses;
             is = is;
-            facts = uses_site x sites p.0 r is.site is is.there;
             on = subst (λ (o : Operation). holds x o.guard) (sym p.1.1) k.on;
             leads = k.leads;
           }
 
   listed : (b i : ℕ) (r : Reach) (spot : Spot) → Reaches plan begun (block ∷ []) b i r spot → (place : ℕ) × IsListed spot.bank place r.banks
-  listed b i r spot h =
-      let f = find b i r spot h in
-      let s = f.is.site in
-      let place = narrowed (leaders_at f.is.site.standing.leader f.is.site.standing.bank (f.is.site.standing.bank f.put.path) f.put.path) in
-      (place, subst (λ (bs : List (ℕ × ℕ)). IsListed spot.bank place bs) (sym f.is.banks_are) (inl (sym (f.is.reached spot f.leads), refl)))
+  listed b i r spot h = let f = find b i r spot h in (f.is.site.standing.places f.put.path, f.is.reached spot f.leads)
 
   -- of two uses of one access the earlier has the smaller place
-  rises_in : (i j : ℕ) (r t : Reach) (y z : Spot) (f : Found i r y) (g : Found j t z) → i < j → r.access ≡ t.access → (bank m n : ℕ) → IsListed bank m r.banks → IsListed bank n t.banks → m < n
-  rises_in i j r t y z f g less same bank m n first second =
-      rising x f.is.site f.put g.put r t bank m n f.is.few f.facts (uses_site x sites g.put t f.is.site g.is (ap sites (sym same) ∙ f.is.there))
-      ((goes_at u.puts i j f.put g.put u.order f.at g.at less r t f.uses g.uses).rises same) first second
+  rises_in : (i j : ℕ) (r t : Reach) (y z : Spot) (f : Found i r y) (g : Found j t z) → i < j → r.access ≡ t.access → y.bank ≡ z.bank → (bank m n : ℕ) → IsListed bank m r.banks → IsListed bank n t.banks → m < n
+  rises_in i j r t y z f g less same one bank m n first second =
+      rising _ _ _ _ (f.is.placed bank m first) (g.is.placed bank n second ∙ ap (λ (s : Site). s.standing.places g.put.path) (some_same g.is.site f.is.site (sym g.is.there ∙ (ap sites (sym same) ∙ f.is.there))))
+      ((goes_at x sites u.puts i j f.put g.put u.order f.at g.at less r t f.uses g.uses).places same y z f.leads g.leads one f.is.site f.is.there)
+    where
+      rising : (a b c d : ℕ) → a ≡ c → b ≡ d → c < d → a < b
+      rising a b c d e h l = omega (arith, e, h, l)
 
   placed : (b i c j place : ℕ) (r t : Reach) (y z : Spot) → Reaches plan begun (block ∷ []) b i r y → Reaches plan begun (block ∷ []) c j t z → r.access ≡ t.access → InOneBank y z
       → IsListed y.bank place r.banks → IsListed y.bank place t.banks → (b ≡ c) × (i ≡ j)
   placed b i c j place r t y z h k same one first second =
       let f = find b i r y h in let g = find c j t z k in (
         only b h.active ∙ sym (only c k.active),
-        ⊎_elim (λ less. absurd (itself place (rises_in i j r t y z f g less same y.bank place place first second)))
-            (λ rest. ⊎_elim (λ more. absurd (itself place (rises_in j i t r z y g f more (sym same) y.bank place place second first))) (λ least. equal i j rest least) (cases_lt j i)) (cases_lt i j),
+        ⊎_elim (λ less. absurd (itself place (rises_in i j r t y z f g less same one.bank y.bank place place first second)))
+            (λ rest. ⊎_elim (λ more. absurd (itself place (rises_in j i t r z y g f more (sym same) (sym one.bank) y.bank place place second first))) (λ least. equal i j rest least) (cases_lt j i)) (cases_lt i j),
       )
     where
       itself : (n : ℕ) → n < n → ⊥
@@ -183,12 +102,12 @@ module _ (plan : PlainPlan) (block : ℕ) (registers : List ℕ) (memories : Lis
     ordered b i c j r t y z h k one first second before =
         let f = find b i r y h in let g = find c j t z k in
         let less = behind b i c j before in
-        by f g less ((goes_at u.puts i j f.put g.put u.order f.at g.at less r t f.uses g.uses).writes (written b i r y h f first) (written c j t z k g second))
+        by f g less ((goes_at x sites u.puts i j f.put g.put u.order f.at g.at less r t f.uses g.uses).writes (written b i r y h f first) (written c j t z k g second))
       where
-        by : (f : Found i r y) (g : Found j t z) → i < j → (r.access < t.access) ⊎ ((r.access ≡ t.access) × (f.put.path < g.put.path))
+        by : (f : Found i r y) (g : Found j t z) → i < j → (r.access < t.access) ⊎ (r.access ≡ t.access)
             → Before plan.meets r.access t.access ⊎ ((r.access ≡ t.access) × RisesIn y.bank r.banks t.banks)
         by f g less (inl lower) = inl (order r.access t.access (known r.access f.is.site f.is.there) (known t.access g.is.site g.is.there) lower)
-        by f g less (inr p) = inr (p.0, λ m n listed_first listed_second. rises_in i j r t y z f g less p.0 y.bank m n listed_first listed_second)
+        by f g less (inr p) = inr (p, λ m n listed_first listed_second. rises_in i j r t y z f g less p one.bank y.bank m n listed_first listed_second)
 
     step_keeps : KeepsBanks plan begun (block ∷ [])
     step_keeps = record {

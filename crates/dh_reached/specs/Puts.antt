@@ -1,16 +1,16 @@
 -- What is put down for a block, in order, each operation for a path: which accesses it reads and writes, where these
--- stand, on which bank and with which place. It is told of one step in which the block is done.
+-- stand, on which banks and with which place. It is told of one step in which the block is done.
 use Rattle.std.specs.Prelude.{◌≡◌, ◌⊎◌, ℕ, ◌+◌, ◌<◌, ◌≤◌, ◌^◌, List, [], ◌∷◌, ◌++◌, length, map, Option, Some}
 use Rattle.std.specs.List.{AllByRecursion}
 use Rattle.dh_tree.specs.Elements.{Spot}
 use Rattle.dh_plan.specs.declared.operations.Operation.{Operation}
 use Rattle.dh_plan.specs.declared.operations.Reach.{Reach}
 use Rattle.dh_plan.specs.Blocks.{spot_of_reach}
-use Rattle.dh_plan.specs.SoundPlans.{use_in, writes_memory}
+use Rattle.dh_plan.specs.SoundPlans.{IsListed, use_in, writes_memory}
 use Rattle.dh_expressions.specs.declared.accesses.Accesses.{Accesses}
 use Rattle.dh_expressions.specs.declared.accesses.Touched.{Touched}
 use Rattle.dh_expressions.specs.declared.drafts.Draft.{Draft}
-use Rattle.dh_expressions.specs.Copying.{AreNone, DoneBy, leaders_at}
+use Rattle.dh_expressions.specs.Copying.{AreNone, DoneBy}
 use Rattle.dh_expressions.specs.Drafted.{Step, holds}
 use Rattle.dh_expressions.specs.Noted.{touched_in}
 use Rattle.dh_expressions.specs.Numbers.{narrowed}
@@ -37,9 +37,9 @@ EachUse P us = AllByRecursion (λ u. (r : Reach) → used u ≡ Some r → P u r
 
 -- Uses.
 
--- A read or a write, in a step: of an access that stands in the block, by a path that leads, on the bank of that path
--- behind the leaders before it. Where its guard holds that of a path does which it leads, and where it is in range it
--- reaches the bank that it lists.
+-- A read or a write, in a step: of an access that stands in the block, by a path that leads, with the place of that path on
+-- each bank that it lists. Where its guard holds that of a path does which it leads, and where it is in range it reaches
+-- one of these banks.
 pub record IsUse (x : Step) (sites : ℕ → Option Site) (u : Put) (r : Reach) : Type 0 where
   pub site : Site
   pub there : sites r.access ≡ Some site
@@ -47,23 +47,29 @@ pub record IsUse (x : Step) (sites : ℕ → Option Site) (u : Put) (r : Reach) 
   pub within : u.path < length site.standing.guards
   pub few : length site.standing.guards < 2 ^ 32
   pub leads : site.standing.leader u.path ≡ u.path
-  pub banks_are : r.banks ≡ (site.standing.bank u.path, narrowed (leaders_at site.standing.leader site.standing.bank (site.standing.bank u.path) u.path)) ∷ []
+  pub placed : (bank place : ℕ) → IsListed bank place r.banks → place ≡ site.standing.places u.path
   pub done : holds x u.operation.guard → DoneBy x site.standing.leader site.standing.guards (length site.standing.guards) u.path
-  pub reached : (spot : Spot) → spot_of_reach x.start x.first x.words r ≡ Some spot → spot.bank ≡ site.standing.bank u.path
+  pub reached : (spot : Spot) → spot_of_reach x.start x.first x.words r ≡ Some spot → IsListed spot.bank (site.standing.places u.path) r.banks
 
 -- Order.
 
+-- where both reach one bank the earlier has the smaller place
+abbrev pub PlacesRise : Step → (sites : ℕ → Option Site) → (a b : Put) → (r t : Reach) → Type 0
+PlacesRise x sites a b r t =
+    (y z : Spot) → spot_of_reach x.start x.first x.words r ≡ Some y → spot_of_reach x.start x.first x.words t ≡ Some z → y.bank ≡ z.bank
+    → (s : Site) → sites r.access ≡ Some s → s.standing.places a.path < s.standing.places b.path
+
 -- of two uses of one access the earlier is for an earlier path; of two writes it is of an earlier access, or that
-pub record GoesBefore (a b : Put) (r t : Reach) : Type 0 where
-  pub rises : r.access ≡ t.access → a.path < b.path
-  pub writes : is_write a → is_write b → (r.access < t.access) ⊎ ((r.access ≡ t.access) × (a.path < b.path))
+pub record GoesBefore (x : Step) (sites : ℕ → Option Site) (a b : Put) (r t : Reach) : Type 0 where
+  pub places : r.access ≡ t.access → PlacesRise x sites a b r t
+  pub writes : is_write a → is_write b → (r.access < t.access) ⊎ (r.access ≡ t.access)
 
-abbrev pub Goes : Put → Put → Type 0
-Goes a b = (r t : Reach) → used a ≡ Some r → used b ≡ Some t → GoesBefore a b r t
+abbrev pub Goes : Step → (sites : ℕ → Option Site) → Put → Put → Type 0
+Goes x sites a b = (r t : Reach) → used a ≡ Some r → used b ≡ Some t → GoesBefore x sites a b r t
 
-abbrev pub AreInOrder : List Put → Type 0
-AreInOrder [] = Unit {0}
-AreInOrder (u ∷ us) = AllByRecursion (Goes u) us × AreInOrder us
+abbrev pub AreInOrder : Step → (sites : ℕ → Option Site) → List Put → Type 0
+AreInOrder x sites [] = Unit {0}
+AreInOrder x sites (u ∷ us) = AllByRecursion (Goes x sites u) us × AreInOrder x sites us
 
 -- Parts of a block.
 
@@ -73,12 +79,12 @@ pub record PutsDown (x : Step) (sites : ℕ → Option Site) (first count : ℕ)
   pub adds : new.operations.items ≡ old.operations.items ++ operations_of puts
   pub uses : EachUse (IsUse x sites) puts
   pub within : EachUse (λ u r. (first ≤ r.access) × (r.access < first + count)) puts
-  pub order : AreInOrder puts
+  pub order : AreInOrder x sites puts
 
--- the same at the paths before one, or at one alone; the accesses that are written are told
-pub record PutsAt (x : Step) (sites : ℕ → Option Site) (first count : ℕ) (IsAt : (path : ℕ) → Type 0) (IsWritten : (access : ℕ) → Type 0) (old new : Draft) : Type 0 where
+-- the same with what more holds of each use, as at which path it is; the accesses that are written are told
+pub record PutsAt (x : Step) (sites : ℕ → Option Site) (first count : ℕ) (IsAt : Put → Reach → Type 0) (IsWritten : (access : ℕ) → Type 0) (old new : Draft) : Type 0 where
   pub down : PutsDown x sites first count old new
-  pub at : EachUse (λ u r. IsAt u.path) down.puts
+  pub at : EachUse IsAt down.puts
   pub written : EachUse (λ u r. is_write u → IsWritten r.access) down.puts
 
 -- Accesses with operations are as they stand, in this step.

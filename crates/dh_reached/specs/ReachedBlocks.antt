@@ -16,7 +16,7 @@ use Rattle.dh_expressions.specs.Noted.{touched_in}
 use Rattle.dh_commands.specs.declared.buildings.Building.{Building}
 use Rattle.dh_commands.specs.LanesRun.{paths_counted}
 use Rattle.dh_commands.specs.MadeCommands.{MadeTests}
-use Rattle.dh_commands.specs.ShownVariables.{factors_of}
+use Rattle.dh_commands.specs.ShownVariables.{ArePlaced, factors_of}
 use Rattle.dh_blocks.specs.BlockMade.{AreRising, IsBare, IsPut, step_of}
 use Rattle.dh_blocks.specs.PathsOfLevels.{AreSpread}
 use Rattle.dh_laid.specs.BlockSites.{MadeEach, block_sites, test_sites}
@@ -33,6 +33,7 @@ pub record StandsSpread (scene : Scene) (around : Around) : Type 0 where
   pub counted : paths_counted around ≡ copies_in (factors_of around.levels.now)
   pub some : 0 < paths_counted around
   pub few : paths_counted around < 2 ^ 32
+  pub placed : ArePlaced scene around
 
 -- operations that read and write nothing
 abbrev pub AreUnused : List Operation → Type 0
@@ -76,5 +77,5 @@ abbrev pub TestReaches : Type 0
 TestReaches =
     (scene : Scene) (around : Around) (plan : PlainPlan) (count block first : ℕ) (t : Term) (old new : Building) (next : ℕ) (tests : List ℕ) (more : List Operation) (reads : ℕ → Bool)
     → TestStands scene around plan count block first t old new next tests more reads
-    → (registers : List ℕ) (memories : List (List ℕ)) → (step_of plan block registers memories).start.table ≡ table_of (program_seen scene.program.now) → TermKeeps (step_of plan block registers memories) scene around.levels.now t
+    → (registers : List ℕ) (memories : List (List ℕ)) → (step_of plan block registers memories).start.table ≡ table_of (program_seen scene.program.now) → TermKeeps (step_of plan block registers memories) scene around.levels.now (λ e. ⊥) t
     → BlockUses plan block (step_of plan block registers memories) (test_sites scene around first t)

@@ -58,7 +58,7 @@ module _ (scene : Scene) (plan : PlainPlan) (count : ℕ) where
     pub has : HasTest (phases_of (program_seen scene.program.now)) tested
     pub test_is : test_of (form_of tested.command) ≡ Some test
     pub keeps : (registers : List ℕ) (memories : List (List ℕ)) → FitKinds plan.registers registers → Fits plan.table memories → InTurns registers rounds
-        → TermKeeps (step_of plan block registers memories) scene around.levels.now test
+        → TermKeeps (step_of plan block registers memories) scene around.levels.now (λ e. ⊥) test
 
   abbrev pub reached_tie : Tie
   reached_tie = record {

@@ -2,7 +2,7 @@
 use Rattle.std.specs.Prelude.{◌≡◌, ℕ, ◌+◌, ◌<◌, ◌≤◌, List, [], ◌∷◌, length, slice_get, Option, Some}
 use Rattle.dh_tree.specs.Indices.{form_of}
 use Rattle.dh_tree.specs.PlainTrees.{Action, action, ActionForm, lets, lets_memory, views, assigns, stores, reduces, calls, blocks, decides, repeats, counts, MaybeAction, no_action, one_action, Actions, no_actions, action_then, Groups, no_groups, group_then}
-use Rattle.dh_meaning.specs.AccessNumbers.{accesses_of, other_accesses, part_accesses, plan_accesses, term_accesses}
+use Rattle.dh_meaning.specs.AccessNumbers.{accesses_of, other_accesses, part_accesses, term_accesses}
 use Rattle.dh_meaning.specs.Phases.{Located}
 use Rattle.dh_expressions.specs.declared.scenes.Scene.{Scene}
 use Rattle.dh_formed.specs.Formed.{Site}
@@ -14,7 +14,7 @@ NoneReads IsRead first count = (e : ℕ) → first ≤ e → e < first + count �
 
 module _ (IsRead : ℕ → Type 0) where
   abbrev mutual
-    -- what writes is no read, nor is what a view or a loop without turns has, of which nothing is put down
+    -- what writes is no read, nor is what a loop without turns has, of which nothing is put down
     pub CommandReads : Action → (first : ℕ) → Type 0
     CommandReads (action id place form) first = ActionReads form first
 
@@ -26,7 +26,7 @@ module _ (IsRead : ℕ → Type 0) where
     ActionReads (decides test chosen other) first = CommandReads chosen (first + term_accesses test) × OtherReads other (first + term_accesses test + accesses_of chosen)
     ActionReads (blocks body) first = GroupsRead body first
     ActionReads (lets_memory name shape shape_places value) first = Unit {0}
-    ActionReads (views name parent form) first = NoneReads IsRead first (plan_accesses form + 0)
+    ActionReads (views name parent form) first = Unit {0}
     ActionReads (calls function arguments) first = Unit {0}
     ActionReads (repeats test body) first = NoneReads IsRead first (term_accesses test + accesses_of body)
     ActionReads (counts iterator declared low high factor body combine combine_place) first = NoneReads IsRead first (0 + (accesses_of body + other_accesses combine))

@@ -16,7 +16,7 @@ pub record BlockUses (plan : PlainPlan) (block : ℕ) (x : Step) (sites : ℕ �
   pub puts : List Put
   pub all : operations_in plan block ≡ operations_of puts
   pub uses : EachUse (IsUse x sites) puts
-  pub order : AreInOrder puts
+  pub order : AreInOrder x sites puts
 
 -- accesses in a tree stand in the order of their numbers
 abbrev pub StandInOrder : Meets → Type 0

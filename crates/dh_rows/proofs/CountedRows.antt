@@ -37,7 +37,7 @@ rows_some d h = of (d.size / d.banks) (whole d.size d.banks h.divides)
     of zero e = let s = h.size in absurd (omega (arith, e, s))
     of (suc n) e = omega arith
 
-banks_least : (d : Dim) → IsDim d → d.banks ≤ d.size
+pub banks_least : (d : Dim) → IsDim d → d.banks ≤ d.size
 banks_least d h =
     let all = whole d.size d.banks h.divides in
     let m : d.banks ≤ d.size / d.banks * d.banks = more (d.size / d.banks) (rows_some d h) in

@@ -11,3 +11,7 @@ pub mod CountedSums
 pub mod CountedDivisions
 pub mod CountedRows
 pub mod CountedTests
+pub mod MovedPut
+pub mod WrappedSums
+pub mod SpannedOffsets
+pub mod DealtIndices

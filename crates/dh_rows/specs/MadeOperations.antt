@@ -1,6 +1,6 @@
 -- What the functions of this crate put down, operation by operation, behind the operations that are there: what
 -- they promise one another. That it means quotients, rows and banks is said in the other files.
-use Rattle.std.specs.Prelude.{◌≡◌, ℕ, zero, suc, ◌-◌, ◌*◌, ◌/◌, ◌%◌, ◌^◌, ◌==◌, min, nat_le, Bool, if◌then◌else◌, List, [], ◌∷◌, ◌++◌, length, Option, Some, None}
+use Rattle.std.specs.Prelude.{◌≡◌, ℕ, zero, suc, ◌+◌, ◌-◌, ◌*◌, ◌/◌, ◌%◌, ◌^◌, ◌==◌, min, nat_le, Bool, true, if◌then◌else◌, List, [], ◌∷◌, ◌++◌, length, Option, Some, None}
 use Rattle.std.specs.Int.{leading_zeros, w64}
 use Rattle.dh_value.specs.declared.kinds.Kind.{Kind}
 use Rattle.dh_value.specs.declared.kinds.Kind.TheVariants as kind
@@ -13,6 +13,7 @@ use Rattle.dh_plan.specs.declared.operations.OperationForm.{OperationForm}
 use Rattle.dh_plan.specs.declared.operations.OperationForm.TheVariants.{Constant, Compute, Convert, Select}
 use Rattle.dh_rows.specs.declared.dividing.Division.{Division}
 use Rattle.dh_rows.specs.declared.dividing.Taking.{Taking}
+use Rattle.dh_rows.specs.declared.spanning.Span.{Span}
 use Rattle.dh_rows.specs.declared.spreading.RowAndBank.{RowAndBank}
 
 -- operations, and the value that is wanted of them
@@ -40,6 +41,10 @@ pub record Spread : Type 0 where
   pub row : Option ℕ
   pub bank : Option ℕ
 
+pub record Spanned : Type 0 where
+  pub operations : List Operation
+  pub span : Option Span
+
 -- the operations are now these, and the value is this one
 
 abbrev pub IsMade : List Operation → (value : ℕ) → Made → Type 0
@@ -56,6 +61,9 @@ IsDivided os d m = (os ≡ m.operations) × ((d.quotient ≡ m.quotient) × (d.r
 
 abbrev pub IsSpread : List Operation → RowAndBank → Spread → Type 0
 IsSpread os s m = (os ≡ m.operations) × ((s.row ≡ m.row) × (s.bank ≡ m.bank))
+
+abbrev pub IsSpanned : List Operation → (span : Option Span) → Spanned → Type 0
+IsSpanned os s m = (os ≡ m.operations) × (s ≡ m.span)
 
 -- Single operations.
 
@@ -225,6 +233,71 @@ abbrev pub tested : List Operation → Kind → (value size : ℕ) → Summed
 tested os kind.Bool value size = summed os None
 tested os (kind.Unsigned width) value size = bounded os width value size
 tested os (kind.Signed width) value size = bounded (converted os value width).operations width (converted os value width).value (min size (2 ^ (width - 1)))
+
+-- Indices behind a view.
+
+-- how many bits a moved index takes: two more than the size of its dimension
+abbrev pub moved_width : (size : ℕ) → ℕ
+moved_width size = 66 - leading_zeros w64 size
+
+abbrev pub moved_sum : (index : ℕ) → Summed → Made
+moved_sum index s = added s.operations s.sum index
+
+abbrev pub moved_index : (factor offset : ℕ) → Made → Made
+moved_index factor offset index = moved_sum index.value (scaled index.operations offset factor)
+
+abbrev pub moved_offset : (width factor index : ℕ) → Made → Made
+moved_offset width factor index offset = moved_index factor offset.value (converted offset.operations index width)
+
+abbrev pub moved : List Operation → (width factor offset index : ℕ) → Made
+moved os width factor offset index = moved_offset width factor index (converted os offset width)
+
+-- cut to the width, so that it is a word of it whatever the indices are
+abbrev pub dealt_cut : (width : ℕ) → Made → Made
+dealt_cut width number = converted number.operations number.value width
+
+abbrev pub dealt_last : (width : ℕ) → Summed → Made
+dealt_last width number = dealt_cut width (or_zero number.operations width number.sum)
+
+abbrev pub dealt_row : (width banks : ℕ) → (remainder : Option ℕ) → Summed → Made
+dealt_row width banks remainder row = dealt_last width (digit_added row.operations row.sum banks remainder)
+
+abbrev pub dealt_divided : (width copies : ℕ) → Dim → (copy : ℕ) → Divided → Made
+dealt_divided width copies part copy d = dealt_row width part.banks d.remainder (digit_added d.operations d.quotient copies (Some copy))
+
+abbrev pub dealt_element : (width copies : ℕ) → Dim → (copy : ℕ) → Made → Made
+dealt_element width copies part copy index = dealt_divided width copies part copy (divided index.operations width index.value part true)
+
+abbrev pub dealt_copy : (width copies : ℕ) → Dim → (index : ℕ) → Made → Made
+dealt_copy width copies part index copy = dealt_element width copies part copy.value (converted copy.operations index width)
+
+abbrev pub dealt : List Operation → (width copies : ℕ) → Dim → (copy index : ℕ) → Made
+dealt os width copies part copy index = dealt_copy width copies part index (converted os copy width)
+
+-- Small offsets.
+
+abbrev pub span_of : Kind → (value size : ℕ) → Span
+span_of k value size = record { kind = k; value = value; size = size }
+
+abbrev pub no_span : List Operation → Spanned
+no_span os = record { operations = os; span = None }
+
+abbrev pub centred_bits : (width bound : ℕ) → Made → Made
+centred_bits width bound bits = computed_with op.Add bits.value (constant_made bits.operations width bound)
+
+abbrev pub centred : List Operation → (width value bound : ℕ) → Made
+centred os width value bound = centred_bits width bound (converted os value width)
+
+abbrev pub span_centred : (width bound : ℕ) → Made → Spanned
+span_centred width bound m = record { operations = m.operations; span = Some (span_of (kind.Unsigned width) m.value ((bound * 2 % 2 ^ 64 + 1) % 2 ^ 64)) }
+
+abbrev pub centred_span : List Operation → (width value bound : ℕ) → Spanned
+centred_span os width value bound = if nat_le (2 ^ (width - 1)) bound then no_span os else span_centred width bound (centred os width value bound)
+
+abbrev pub spanned : List Operation → Kind → (value bound : ℕ) → Spanned
+spanned os kind.Bool value bound = no_span os
+spanned os (kind.Unsigned width) value bound = record { operations = os; span = Some (span_of (kind.Unsigned width) value ((bound + 1) % 2 ^ 64)) }
+spanned os (kind.Signed width) value bound = centred_span os width value bound
 
 -- What each function promises of its result, where the list was the one and is now the other.
 

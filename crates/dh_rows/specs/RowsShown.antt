@@ -1,6 +1,6 @@
 -- What the operations of this crate mean: rows and banks of elements that are within their dimensions, and tests
 -- whether an index is.
-use Rattle.std.specs.Prelude.{◌≡◌, ℕ, ◌<◌, ◌≤◌, ◌^◌, ◌&&◌, Bool, true, List, [], ◌∷◌, length, Option, Some, None, ℤ, pos, int_le, int_lt}
+use Rattle.std.specs.Prelude.{◌≡◌, ℕ, ◌<◌, ◌≤◌, ◌^◌, ◌&&◌, Bool, true, List, [], ◌∷◌, length, Option, Some, None, ℤ, pos, int_le, int_lt, nat_le, unsigned_abs}
 use Rattle.std.specs.List.{AllByRecursion}
 use Rattle.dh_value.specs.declared.kinds.Kind.{Kind}
 use Rattle.dh_value.specs.declared.kinds.Kind.TheVariants as kind
@@ -11,6 +11,7 @@ use Rattle.dh_tree.specs.Elements.{bank_of, row_of}
 use Rattle.dh_tree.specs.Shapes.{IsDim}
 use Rattle.dh_tree.specs.Tables.{elements_of}
 use Rattle.dh_plan.specs.declared.operations.Operation.{Operation}
+use Rattle.dh_rows.specs.declared.spanning.Span.{Span}
 use Rattle.dh_rows.specs.declared.spreading.RowAndBank.{RowAndBank}
 use Rattle.dh_rows.specs.Readings.{Readings, Obeys, IsEarlier, Adds, IsValue, IsValueOrNone}
 
@@ -70,3 +71,25 @@ MakesRow old new width dims indices banked s = HasWidth width dims → IsRowMade
 
 abbrev pub MakesTest : (old new : List Operation) → Kind → (value size : ℕ) → Option ℕ → Type 0
 MakesTest old new k value size test = IsInteger k → IsTestMade k value size old new test
+
+-- Offsets.
+
+-- no further from 0 than a bound
+abbrev pub is_small : ℤ → (bound : ℕ) → Bool
+is_small z bound = nat_le (unsigned_abs z) bound
+
+-- what is tested of an offset is there, of its kind
+abbrev pub SpanStands : (x : Readings) → (clock : ℕ) → List Operation → Option Span → Type 0
+SpanStands x clock os None = Unit {0}
+SpanStands x clock os (Some s) = IsInteger s.kind × IsValue x clock os s.kind s.value
+
+-- it is in range exactly where this holds
+pub record SpanShows (x : Readings) (s : Span) (holds : Bool) : Type 0 where
+  pub sized : IsInteger s.kind
+  pub word : IsWord (x.word s.value)
+  pub kind_is : (x.word s.value).kind ≡ s.kind
+  pub test : is_below_size (value_of (x.word s.value)) s.size ≡ holds
+
+abbrev pub SpanTells : (x : Readings) → Option Span → (holds : Bool) → Type 0
+SpanTells x None holds = holds ≡ true
+SpanTells x (Some s) holds = SpanShows x s holds

@@ -51,7 +51,7 @@ fn push_times(
 }
 
 /// Adds a number with one digit more: so many times the number so far, and the digit.
-fn push_digit(
+pub fn push_digit(
     list: &mut OperationList,
     sum: Option<u64>,
     factor: u64,

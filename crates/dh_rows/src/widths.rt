@@ -1,7 +1,7 @@
 //! How many bits numbers take.
 
 ghost use Rattle.std.specs.Prelude.{◌≡◌, ◌≤◌, ◌/◌, ◌%◌, ◌^◌, ◌==◌, ◌↔◌, IsTrue};
-ghost use Rattle.dh_rows.specs.MadeOperations.{bits_in};
+ghost use Rattle.dh_rows.specs.MadeOperations.{bits_in, moved_width};
 
 /// How many bits a number takes: 0 for 0.
 pub fn bit_length(number: u64) -> u8
@@ -9,6 +9,15 @@ pub fn bit_length(number: u64) -> u8
 {
     let zeros = number.leading_zeros();
     64u8.saturating_sub(zeros as u8)
+}
+
+/// The width of an index that an offset moved in a dimension of this size: two bits more than the size takes. From a
+/// small offset on nothing is then below -size, nor from 3 * size on, so that no number out of range wraps into it.
+pub fn moved_width(size: u64) -> u8
+    ensures { result ≡ moved_width size }
+{
+    let zeros = size.leading_zeros();
+    66u8.saturating_sub(zeros as u8)
 }
 
 /// Whether this bit of a number is set.

@@ -12,13 +12,14 @@ use Rattle.dh_tree.specs.Memories.{same_entity}
 use Rattle.dh_tree.specs.PlainTrees.{Action, action, ActionForm, lets, lets_memory, views, assigns, stores, reduces, calls, blocks, decides, repeats, counts, MaybeAction, no_action, one_action, Actions, no_actions, action_then, Groups, no_groups, group_then}
 use Rattle.dh_tree.specs.Resolved.{resolved_action, resolved_form, resolved_other, resolved_actions, resolved_groups}
 use Rattle.dh_tree.specs.Scopes.{Scope, entity, entity_number, declare, leave, past, at_end, form_at_end, other_at_end, actions_at_end, groups_at_end}
-use Rattle.dh_meaning.specs.Bindings.{let_kind, iterator_kind}
+use Rattle.dh_meaning.specs.Bindings.{Binding, binding_in, let_kind, iterator_kind}
 use Rattle.dh_meaning.specs.CoreOf.{Known}
 use Rattle.dh_sound.proofs.IteratorsNamed.{on_long, declared_on, past_on, goes_on, other_on, part_on, groups_on}
 use Rattle.dh_code.specs.Declarations.{Declaration, factors_inside, declarations, form_declarations, other_declarations, groups_declarations, part_declarations, declaration_in}
+use Rattle.dh_code.specs.Placed.{IsNamedBelow}
 use Rattle.dh_code.specs.Slots.{Placing}
 use Rattle.dh_runnable.proofs.NamesKnown.{IsPlaced}
-use Rattle.dh_runnable.proofs.VariablesPlaced.{AreSame, placing_in, declaration_placed}
+use Rattle.dh_runnable.proofs.VariablesPlaced.{AreSame, IsFoundSame, placing_in, declaration_placed, found_among}
 
 -- What is placed.
 
@@ -63,16 +64,11 @@ abbrev mutual
 abbrev size : Scope → ℕ
 size s = length s.entities
 
--- a declaration has one of so many numbers
-abbrev IsBelow : ℕ → Option ℕ → Type 0
-IsBelow k None = Unit {0}
-IsBelow k (Some n) = n < k
-
-abbrev AllBelow : ℕ → List Declaration → Type 0
+abbrev pub AllBelow : ℕ → List Declaration → Type 0
 AllBelow k [] = Unit {0}
-AllBelow k (d ∷ ds) = IsBelow k d.entity × AllBelow k ds
+AllBelow k (d ∷ ds) = IsNamedBelow k d.entity × AllBelow k ds
 
-below_more : (j k : ℕ) (e : Option ℕ) → j ≤ k → IsBelow j e → IsBelow k e
+pub below_more : (j k : ℕ) (e : Option ℕ) → j ≤ k → IsNamedBelow j e → IsNamedBelow k e
 below_more j k None l h = tt
 below_more j k (Some n) l h = omega (arith, l, h)
 
@@ -91,12 +87,12 @@ declared_size : (s : Scope) (r : Ref) (sort : Sort) → size (declare s r sort) 
 declared_size s r sort = length-append s.entities (entity r sort ∷ [])
 
 -- a declaration takes the next number
-next_below : (s : Scope) (r : Ref) (sort : Sort) (e : Option ℕ) → Some (size s) ≡ e → IsBelow (size (declare s r sort)) e
-next_below s r sort e h = let g = declared_size s r sort in subst (IsBelow (size (declare s r sort))) h (omega (arith, g))
+next_below : (s : Scope) (r : Ref) (sort : Sort) (e : Option ℕ) → Some (size s) ≡ e → IsNamedBelow (size (declare s r sort)) e
+next_below s r sort e h = let g = declared_size s r sort in subst (IsNamedBelow (size (declare s r sort))) h (omega (arith, g))
 
 -- the declarations of a command are numbered by its end
 mutual
-  all_below : (a : Action) (s : Scope) (fs : List ℕ) → resolved_action s a ≡ a → AllBelow (size (at_end s a)) (declarations fs a)
+  pub all_below : (a : Action) (s : Scope) (fs : List ℕ) → resolved_action s a ≡ a → AllBelow (size (at_end s a)) (declarations fs a)
   all_below (action id place form) s fs e = let same : resolved_form s form ≡ form = cc in form_below form s fs same
 
   form_below : (f : ActionForm) (s : Scope) (fs : List ℕ) → resolved_form s f ≡ f → AllBelow (size (form_at_end s f)) (form_declarations fs f)
@@ -153,11 +149,11 @@ mutual
 
 -- The first with a number.
 
-is_absent : (n : ℕ) (e : Option ℕ) → IsBelow n e → same_entity e (Some n) ≡ false
+pub is_absent : (n : ℕ) (e : Option ℕ) → IsNamedBelow n e → same_entity e (Some n) ≡ false
 is_absent n None h = refl
 is_absent n (Some m) h = grind (arith, nat_tests, h)
 
-is_there : (n : ℕ) → same_entity (Some n) (Some n) ≡ true
+pub is_there : (n : ℕ) → same_entity (Some n) (Some n) ≡ true
 is_there n = grind (arith, nat_tests)
 
 first_found : (before : List Declaration) (d : Declaration) (rest : List Declaration) (n : ℕ) → Some n ≡ d.entity → AllBelow n before → declaration_in (before ++ d ∷ rest) n ≡ Some d
@@ -174,15 +170,16 @@ split_second ds before d e after h = split_first ds before d e after h ∙ sym (
 
 -- Commands.
 
-module _ (known : Known) (ds : List Declaration) (entities : ℕ) (same_variables : AreSame ds known.bindings) where
+module _ (known : Known) (ds more : List Declaration) (entities : ℕ) (own others : List Binding) (bound : known.bindings ≡ own ++ others) (same_variables : AreSame ds own) where
   abbrev slots : Placing
-  slots = placing_in ds entities
+  slots = placing_in (ds ++ more) entities
 
   placed_here : (before : List Declaration) (d : Declaration) (rest : List Declaration) (n : ℕ) → Some n ≡ d.entity → AllBelow n before → ds ≡ before ++ d ∷ rest → n < entities
       → IsPlaced known slots d.factors (entity_number d.entity) d.kind_is
   placed_here before d rest n e h is l =
-      subst (λ (o : Option ℕ). IsPlaced known (placing_in ds entities) d.factors (entity_number o) d.kind_is) e
-      (declaration_placed known ds entities n d same_variables (ap (λ l. declaration_in l n) is ∙ first_found before d rest n e h) l)
+      let found = found_among ds more own others n d same_variables (ap (λ l. declaration_in l n) is ∙ first_found before d rest n e h) in
+      subst (λ (o : Option ℕ). IsPlaced known (placing_in (ds ++ more) entities) d.factors (entity_number o) d.kind_is) e
+      (declaration_placed known (ds ++ more) entities n d (subst (λ (bs : List Binding). IsFoundSame (declaration_in (ds ++ more) n) (binding_in bs n)) (sym bound) found.1) found.0 l)
 
   mutual
     pub placed : (a : Action) (s : Scope) (fs : List ℕ) (before after : List Declaration) → resolved_action s a ≡ a

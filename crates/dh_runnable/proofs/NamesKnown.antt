@@ -1,9 +1,8 @@
 -- What is known of each visible name, at a point of the text inside unrolled loops of given factors: a variable or an
 -- iterator has the kind of its declaration, which stands inside the first of these loops; a memory is declared, with a
--- shape that keeps the rules. One more loop round a point leaves all of it as it is, since what was declared inside the
+-- shape that keeps the rules; a view has a way to one. One more loop round a point leaves all of it as it is, since what was declared inside the
 -- first of some loops was so inside the first of more. Behind a declaration its own name is known too.
-use Rattle.std.proofs.Common.{◌≡◌, ℕ, ◌≤◌, nat_lt, inl, inr, Bool, true, false, if◌then◌else◌, List, [], ◌∷◌, ◌++◌, length, take, Option, Some, None, refl, ap, sym, ◌∙◌, subst, arith, length-append}
-use Rattle.std.proofs.lemmas.List.{take-append-le}
+use Rattle.std.proofs.Common.{◌≡◌, ◌⊎◌, ℕ, inl, inr, Bool, true, false, if◌then◌else◌, List, [], ◌∷◌, ◌++◌, length, Option, Some, None, refl, ap, sym, ◌∙◌, subst}
 use Rattle.std.specs.Prelude.{slice_get}
 use Rattle.std.specs.Option.{is_some}
 use Rattle.dh_value.specs.declared.kinds.Kind.{Kind}
@@ -18,6 +17,7 @@ use Rattle.dh_tree.specs.Resolved.{used}
 use Rattle.dh_tree.specs.Scopes.{Binding, binding, entity_of, is_visible, bind, Scope, declare, past, at_end}
 use Rattle.dh_tree.specs.Widths.{IsSized}
 use Rattle.dh_runnable.proofs.TypedParts.{IsMemory}
+use Rattle.dh_runnable.proofs.ViewsKnown.{IsView, inside_more, view_more}
 use Rattle.dh_tree.proofs.EmptyLists.{not_none}
 use Rattle.dh_meaning.specs.Bindings.{binding_in, kind_bound, depth_bound}
 use Rattle.dh_meaning.specs.CoreOf.{Known}
@@ -43,7 +43,7 @@ abbrev pub IsGood : Known → Placing → (loops : List ℕ) → (n : ℕ) → F
 IsGood known p loops n (of_variable None) = ⊥
 IsGood known p loops n (of_variable (Some k)) = IsVariable known p loops n k
 IsGood known p loops n (of_iterator k) = IsVariable known p loops n k
-IsGood known p loops n (of_memory k dims) = IsMemory known.memories n k dims
+IsGood known p loops n (of_memory k dims) = IsMemory known.memories n k dims ⊎ IsView known p loops n k dims
 IsGood known p loops n (of_function parameters) = Unit {0}
 
 -- something that stands is known of an entity
@@ -68,28 +68,6 @@ visible_number (Some n) b e = (n, refl)
 
 -- Inside one more loop.
 
-take_more : (d : ℕ) (loops : List ℕ) (factor : ℕ) → d ≤ length loops → take d (factors_inside loops factor) ≡ take d loops
-take_more d loops factor l = by (nat_lt 1 factor)
-  where
-    by : (b : Bool) → take d (if b then loops ++ factor ∷ [] else loops) ≡ take d loops
-    by true = take-append-le d loops (factor ∷ []) l
-    by false = refl
-
-long_more : (d : ℕ) (loops : List ℕ) (factor : ℕ) → d ≤ length loops → d ≤ length (factors_inside loops factor)
-long_more d loops factor l = by (nat_lt 1 factor)
-  where
-    by : (b : Bool) → d ≤ length (if b then loops ++ factor ∷ [] else loops)
-    by true = let e = length-append loops (factor ∷ []) in omega (arith, l, e)
-    by false = l
-
-inside_more : (p : Placing) (loops : List ℕ) (factor depth n : ℕ) → IsInside p loops depth n → IsInside p (factors_inside loops factor) depth n
-inside_more p loops factor depth n h = record {
-  known = h.known;
-  deep = long_more depth loops factor h.deep;
-  held = h.held;
-  round = h.round ∙ sym (take_more depth loops factor h.deep);
-}
-
 variable_more : (known : Known) (p : Placing) (loops : List ℕ) (factor n : ℕ) (k : Kind) → IsVariable known p loops n k → IsVariable known p (factors_inside loops factor) n k
 variable_more known p loops factor n k h =
     record { sized = h.sized; placed = record { bound = h.placed.bound; inside = inside_more p loops factor (depth_bound (binding_in known.bindings n)) n h.placed.inside } }
@@ -98,7 +76,8 @@ good_more : (known : Known) (p : Placing) (loops : List ℕ) (factor n : ℕ) (f
 good_more known p loops factor n (of_variable None) h = h
 good_more known p loops factor n (of_variable (Some k)) h = variable_more known p loops factor n k h
 good_more known p loops factor n (of_iterator k) h = variable_more known p loops factor n k h
-good_more known p loops factor n (of_memory k dims) h = h
+good_more known p loops factor n (of_memory k dims) (inl g) = inl g
+good_more known p loops factor n (of_memory k dims) (inr v) = inr (view_more known p loops factor n k dims v)
 good_more known p loops factor n (of_function parameters) h = h
 
 pub knows_more : (known : Known) (p : Placing) (loops : List ℕ) (factor : ℕ) (facts : Facts) (bs : List Binding) → Knows known p loops facts bs → Knows known p (factors_inside loops factor) facts bs

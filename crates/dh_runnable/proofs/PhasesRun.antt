@@ -5,6 +5,7 @@ use Rattle.std.proofs.Common.{ℕ, ◌+◌, ◌==◌, ◌&&◌, Bool, true, fals
 use Rattle.std.specs.List.{AllByRecursion}
 use Rattle.dh_base.specs.declared.places.Place.{Place}
 use Rattle.dh_tree.specs.PlainTrees.{Action, action, ActionForm, lets, lets_memory, views, assigns, stores, reduces, calls, blocks, decides, repeats, counts, MaybeAction, no_action, one_action, Actions, no_actions, action_then, Groups, no_groups, group_then}
+use Rattle.dh_tree.specs.ViewOffsets.{moves}
 use Rattle.dh_meaning.specs.AccessNumbers.{term_accesses, accesses_of, part_accesses}
 use Rattle.dh_meaning.specs.Core.{CoreCommands, no_commands}
 use Rattle.dh_meaning.specs.CoreOf.{Known, core_action, core_action_form, core_other, core_groups, core_part, core_commands, core_test, form_of, turning_of, core_phase, core_phases}
@@ -35,7 +36,7 @@ module _ (known : Known) (p : Placing) where
     )
     form_does (blocks body) loops h n rest r = groups_do body loops h n rest r
     form_does (lets_memory name shape shape_places value) loops h n rest r = r
-    form_does (views name parent form) loops h n rest r = absurd h
+    form_does (views name parent form) loops h n rest r = h.1 n rest r
     form_does (calls function arguments) loops h n rest r = r
     form_does (repeats test body) loops h n rest r = r
     form_does (counts iterator declared low high factor body combine combine_place) loops h n rest r = r
@@ -128,6 +129,11 @@ module _ (known : Known) (p : Placing) where
       by true = tt
       by false = ((t, list_runs (factors_inside loops (turning_of known count (form_of loop.command)).factor) (q ∷ qs) h), tt)
 
+  -- a view
+  view_runs : (loops : List ℕ) (moving : Bool) (view : Located) → Does loops view → ListRuns loops (if moving then one_command view else [])
+  view_runs loops true view d = ((d, tt), tt)
+  view_runs loops false view d = tt
+
   -- an `if`
   choice_runs : (loops : List ℕ) (choice : Located) (chosen other : List source.Phase) → Does loops choice → Tests loops choice → ListRuns loops chosen → ListRuns loops other → ListRuns loops (choice_phases choice chosen other)
   choice_runs loops choice chosen other d t h i = by (are_straight chosen && are_straight other)
@@ -158,7 +164,7 @@ module _ (known : Known) (p : Placing) where
         (other_phases_run combine (factors_inside loops factor.value) (in_loop r (loop_of iterator low high factor)) (n + accesses_of body) h.1.1))
     form_phases_run (blocks body) loops r n id place h = groups_phases_run body loops r n h
     form_phases_run (lets_memory name shape shape_places value) loops r n id place h = tt
-    form_phases_run (views name parent form) loops r n id place h = absurd h
+    form_phases_run (views name parent form) loops r n id place h = view_runs loops (moves form) (located r n (action id place (views name parent form))) (h.1 n)
     form_phases_run (calls function arguments) loops r n id place h = tt
 
     other_phases_run : (m : MaybeAction) (loops : List ℕ) (r : Around) (n : ℕ) → OtherRuns known p loops m → ListRuns loops (other_phases r n m)

@@ -1,19 +1,18 @@
 -- A program of which the passes tell enough can be run. Where its body begins, the names that are visible are those of
 -- memories from outside, each found by the number of its declaration, and of functions, of which there are none; no loop
 -- is round the body, and one copy is. From there on the walks over commands tell it.
-use Rattle.std.proofs.Common.{◌≡◌, ℕ, zero, suc, ◌+◌, ◌≤◌, Bool, true, false, if◌then◌else◌, List, [], ◌∷◌, ◌++◌, length, map, Some, None, refl, ap, sym, ◌∙◌, subst, arith}
+use Rattle.std.proofs.Common.{◌≡◌, ℕ, zero, suc, ◌+◌, ◌*◌, ◌≤◌, inl, Bool, true, false, if◌then◌else◌, List, [], ◌∷◌, ◌++◌, length, map, Some, None, refl, ap, sym, ◌∙◌, subst, arith}
 use Rattle.std.proofs.lemmas.List.{append-nil}
 use Rattle.std.specs.Prelude.{slice_get}
 use Rattle.std.specs.List.{AllByRecursion}
 use Rattle.dh_base.specs.declared.limits.Limit.TheVariants as limit
 use Rattle.dh_value.specs.Words.{IsKind}
-use Rattle.dh_tree.specs.declared.trees.counters.Counter.{Counter}
 use Rattle.dh_tree.specs.declared.trees.programs.Sort.TheVariants as sort
 use Rattle.dh_tree.specs.Breaches.{breaches, items_breaches, functions_breaches}
 use Rattle.dh_tree.specs.Counters.{counters_of}
 use Rattle.dh_tree.specs.Elements.{banks_of}
 use Rattle.dh_tree.specs.Excesses.{copies_excess, first_above}
-use Rattle.dh_tree.specs.Forms.{unbuilt_forms, unbuilt_functions, unbuilt_action}
+use Rattle.dh_tree.specs.Forms.{unbuilt_functions, unbuilt_action}
 use Rattle.dh_tree.specs.Indices.{shape_breaches, action_index_breaches, decls_shape_breaches, shape_keeps}
 use Rattle.dh_tree.specs.KindBreaches.{action_kind_breaches, functions_kind_breaches}
 use Rattle.dh_tree.specs.Kinds.{of_memory, Facts, declared_facts, function_fact, first_facts, body_facts, facts_after_functions, typed_functions, typed_action, typed_action_form}
@@ -24,35 +23,47 @@ use Rattle.dh_tree.specs.PlainTrees.{Action, action, Declared, Defined, Program}
 use Rattle.dh_tree.specs.Resolved.{resolved_decls, resolved_action, resolved_form}
 use Rattle.dh_tree.specs.Scopes.{Binding, bind, Scope, entity, after_functions, Item, memory_items, function_items, merged, items_of, after_items, first_scope, body_scope, last_scope}
 use Rattle.dh_tree.specs.TextNumbers.{HasTextNumbers}
+use Rattle.dh_tree.specs.ViewBreaches.{action_view_breaches, kept_views}
+use Rattle.dh_tree.specs.ViewFactors.{factor_breaches_of}
+use Rattle.dh_tree.specs.Views.{viewed_in}
 use Rattle.dh_tree.specs.Widths.{ActionSized}
+use Rattle.dh_tree.proofs.ProgramTables.{program_table}
 use Rattle.dh_tree.proofs.ShapeRules.{shape_without}
 use Rattle.dh_runnable.proofs.ElementsFound.{Sees, sees_later}
 use Rattle.dh_tree.proofs.EmptyLists.{first_none, second_none, not_none}
-use Rattle.dh_meaning.specs.Bindings.{Binding as Bound}
+use Rattle.dh_meaning.specs.Bindings.{bindings_of}
 use Rattle.dh_meaning.specs.CoreOf.{Known, known_of}
-use Rattle.dh_meaning.specs.Ways.{all_bindings_of}
-use Rattle.dh_ways.proofs.NoWays.{no_ways, own_bindings}
+use Rattle.dh_meaning.specs.Ways.{all_entities_of, view_bindings}
+use Rattle.dh_ways.specs.CutStands.{HasFewWays}
+use Rattle.dh_ways.specs.HiddenVariables.{hidden_variables}
+use Rattle.dh_ways.proofs.EntitiesCounted.{action_counted}
+use Rattle.dh_ways.proofs.HiddenApart.{are_counted}
 use Rattle.dh_meaning.specs.Sites.{nothing_around}
 use Rattle.dh_tree.specs.Ready.{IsReady, most_tokens}
 use Rattle.dh_sound.proofs.FactsGrow.{appended, InStep}
 use Rattle.dh_sound.proofs.KindsOfPrograms.{functions_grow, body_in_step, map_long, mapped_at, behind_at, next_number}
 use Rattle.dh_runnable.specs.ActionsRun.{ActionRuns}
-use Rattle.dh_code.specs.Declarations.{declarations, placing_of}
+use Rattle.dh_code.specs.Declarations.{declarations, factored, hidden_declarations, placing_of}
 use Rattle.dh_code.specs.Placed.{most_entities}
 use Rattle.dh_code.specs.Ranks.{copies_in, most_paths}
 use Rattle.dh_runnable.specs.ReadyRuns.{TellsEnough}
 use Rattle.dh_sem.specs.Runnable.{IsRunnable}
+use Rattle.dh_sem.proofs.FirstMade.{few_ways}
 use Rattle.dh_code.specs.Slots.{Placing}
 use Rattle.dh_runnable.proofs.CommandsRun.{form_leads}
 use Rattle.dh_runnable.proofs.DeclarationsFound.{ArePlaced, placed}
 use Rattle.dh_runnable.proofs.MemoriesFound.{Declares, finds, decl_found, decls_seen}
 use Rattle.dh_runnable.proofs.NamesKnown.{IsKnownName, Knows, still_known, bind_known}
 use Rattle.dh_runnable.proofs.PhasesRun.{phases_of_command_can}
-use Rattle.dh_runnable.proofs.TermsSuited.{indexed}
+use Rattle.dh_runnable.proofs.TermsSuited.{indexed, judged}
 use Rattle.dh_runnable.proofs.TurnsCounted.{first_within, second_within}
-use Rattle.dh_runnable.proofs.EntitiesCounted.{action_counted}
 use Rattle.dh_runnable.proofs.VariablesFew.{action_few}
 use Rattle.dh_runnable.proofs.VariablesPlaced.{AreSame, all_same}
+use Rattle.dh_runnable.proofs.ViewsFew.{all_entities_few, hidden_few, rounds_few}
+use Rattle.dh_runnable.proofs.ViewsFound.{IsViewed, views_viewed}
+use Rattle.dh_runnable.proofs.ViewsKnown.{AreGoodWays, Rules}
+use Rattle.dh_runnable.proofs.ViewsLead.{good_ways}
+use Rattle.dh_runnable.proofs.ViewsNamed.{ways_named}
 
 -- Names where the body begins.
 
@@ -126,14 +137,14 @@ body_known q p h =
       fact = of_memory (Some d.shape.kind) (length d.shape.dims);
       is = ap (slice_get (first_facts q)) (none_before i)
           ∙ appended (declared_facts q.decls) (map function_fact q.functions) i _ (mapped_at (λ (d : Declared). of_memory (Some d.shape.kind) (length d.shape.dims)) q.decls i d e);
-      good = record {
+      good = inl (record {
         memory = outside_memory d;
         is = decl_found 0 q.decls (locals q.body) i (0 + i) d numbers e refl;
         kind = refl;
         long = refl;
         sized = sized_at q.decls i d h.widths.decls e;
         keeps = kept_at q.decls i d (first_none (decls_shape_breaches q.decls) _ h.indices) e;
-      };
+      });
     }
 
     functions : (i : ℕ) (f : Defined) → slice_get q.functions i ≡ Some f → IsKnownName (known_of q) p [] (first_facts q) (length q.decls + i)
@@ -175,66 +186,82 @@ pub resolved_body : (q : Program) → TellsEnough q → resolved_action (body_sc
 resolved_body q h = ap (λ (x : Program). x.body) h.entities
 
 -- a body of which each walk tells its own
-body_runs : (known : Known) (counters : List Counter) (p : Placing) (a : Action) (facts : Facts) (s : Scope) → InStep s facts → Knows known p [] facts s.visible
-    → typed_action facts a ≡ a → resolved_action s a ≡ a → breaches s a ≡ [] → action_kind_breaches facts a ≡ [] → action_index_breaches (indexed known counters) a ≡ [] → unbuilt_action a ≡ []
-    → ActionSized a → copies_excess 1 a ≡ None → HasTextNumbers a → ArePlaced known p [] a → Declares known.memories a → ActionRuns known p [] a
-body_runs known counters p (action id place form) facts s l k typed named visible kinds indices forms sized copies numbers places declares =
+body_runs : (known : Known) (rules : Rules) (good : AreGoodWays known rules.views) (p : Placing) (a : Action) (facts : Facts) (s : Scope) → InStep s facts → Knows known p [] facts s.visible
+    → typed_action facts a ≡ a → resolved_action s a ≡ a → breaches s a ≡ [] → action_kind_breaches facts a ≡ [] → action_index_breaches (indexed known rules) a ≡ [] → action_view_breaches (judged known rules) a ≡ [] → unbuilt_action a ≡ []
+    → ActionSized a → copies_excess 1 a ≡ None → HasTextNumbers a → ArePlaced known p [] a → Declares known.memories a → AllByRecursion (λ f. IsViewed known.memories known.ways p f) (factored [] a) → ActionRuns known p [] a
+body_runs known rules good p (action id place form) facts s l k typed named visible kinds indices views forms sized copies numbers places declares viewed =
     let form_typed : typed_action_form facts form ≡ form = cc in
     let form_named : resolved_form s form ≡ form = cc in
-    let told = form_leads known counters p form [] facts s place l k (record {
+    let told = form_leads known rules good p form [] facts s place l k (record {
       typed = form_typed;
       named = form_named;
       visible = visible;
       kinds = kinds;
       indices = indices;
+      views = views;
       forms = forms;
       sized = sized;
       copies = copies;
       numbers = numbers;
       placed = places;
       declares_memories = declares;
+      viewed = viewed;
     }) in
     told.runs
 
--- the entities are no more than the names of a text
-entities_few : (q : Program) → TellsEnough q → length q.entities ≤ most_entities
-entities_few q h =
+-- what the rules on indices and views speak of in a program
+abbrev pub rules_of : Program → Rules
+rules_of q = record { counters = counters_of q; views = viewed_in q; kept = kept_views q }
+
+-- its variables are those of its declarations
+pub body_same : (q : Program) → AreSame (declarations [] q.body) (bindings_of q)
+body_same q = all_same q.body [] 0 refl
+
+pub body_places : (q : Program) → TellsEnough q → ArePlaced (known_of q) (placing_of q) [] q.body
+body_places q h =
+    placed (known_of q) (declarations [] q.body) (hidden_declarations q) (all_entities_of q) (bindings_of q) (view_bindings q) refl (body_same q) q.body (body_scope q) [] [] [] (resolved_body q h)
+    (sym (append-nil (declarations [] q.body))) tt
+    (at_most (length (last_scope q).entities) (length q.entities) (length (hidden_variables q)) (all_entities_of q) (ap (λ (x : Program). length x.entities) h.entities) (are_counted q))
+  where
+    at_most : (m n k all : ℕ) → m ≡ n → all ≡ n + k → m ≤ all
+    at_most m n k all e f = omega (arith, e, f)
+
+-- the entities are no more than the names of a text, with six offsets of each
+entities_few : (q : Program) → TellsEnough q → ActionRuns (known_of q) (placing_of q) [] q.body → all_entities_of q ≤ most_entities
+entities_few q h runs =
     let all = ap (λ (x : Program). length x.entities) h.entities in
     let counted = action_counted (body_scope q) q.body in
-    bounded (length q.entities) (length (last_scope q).entities) (length (body_scope q).entities) (length q.decls) (length q.functions) (declared_in_functions q.functions) (declared_in q.body) all counted (body_size q h) h.declared
+    bounded (length q.entities) (length (last_scope q).entities) (length (body_scope q).entities) (length q.decls) (length q.functions) (declared_in_functions q.functions) (declared_in q.body) (all_entities_of q) all counted (body_size q h) h.declared
+    (all_entities_few (known_of q) (placing_of q) q runs)
   where
-    bounded : (n last first decls functions inside body : ℕ) → last ≡ n → last ≡ first + body → first ≡ decls → (decls + functions) + (inside + body) ≤ most_tokens → n ≤ most_entities
-    bounded n last first decls functions inside body e f g few = omega (arith, e, f, g, few)
+    bounded : (n last first decls functions inside body total : ℕ) → last ≡ n → last ≡ first + body → first ≡ decls → (decls + functions) + (inside + body) ≤ most_tokens → total ≤ n + 6 * body → total ≤ most_entities
+    bounded n last first decls functions inside body total e f g few most = omega (arith, e, f, g, few, most)
 
--- where there are no views, its variables are those of its declarations
-pub body_same : (q : Program) → unbuilt_forms q ≡ [] → AreSame (declarations [] q.body) (all_bindings_of q)
-body_same q e = subst (λ (bs : List Bound). AreSame (declarations [] q.body) bs) (sym (own_bindings q e)) (all_same q.body [] 0 refl)
+pub body_does : (q : Program) → TellsEnough q → ActionRuns (known_of q) (placing_of q) [] q.body
+body_does q h =
+    let named = resolved_body q h in
+    let memories = finds (memories_of q) q.body (body_scope q) [] named tt (body_sees q h) in
+    body_runs (known_of q) (rules_of q) (good_ways q (first_none (factor_breaches_of q) _ h.views) h.table) (placing_of q) q.body (body_facts q) (body_scope q) (body_in_step q) (body_known q (placing_of q) h) (typed_body q h) named
+    (second_none (functions_breaches (length q.decls) (first_scope q) q.functions) _ (second_none (items_breaches [] (items_of q)) _ h.names))
+    (second_none (functions_kind_breaches (first_facts q) q.functions) _ h.suits)
+    (second_none (decls_shape_breaches q.decls) _ h.indices)
+    (second_none (factor_breaches_of q) _ h.views)
+    (second_none (unbuilt_functions q.functions) _ h.built)
+    h.widths.body h.copies h.numbers (body_places q h) memories.found (views_viewed q named (ap (λ (x : Program). length x.entities) h.entities))
 
 -- a program of which the passes tell enough
 pub enough_runs : (q : Program) → TellsEnough q → IsRunnable q
 enough_runs q h =
-    let named = resolved_body q h in
-    let entities = ap (λ (x : Program). length x.entities) h.entities in
-    let places = placed (known_of q) (declarations [] q.body) (length q.entities) (body_same q h.built) q.body (body_scope q) [] [] [] named
-    (sym (append-nil (declarations [] q.body))) tt (at_most (length (last_scope q).entities) (length q.entities) entities) in
-    let memories = finds (memories_of q) q.body (body_scope q) [] named (body_sees q h) in
-    let runs = body_runs (known_of q) (counters_of q) (placing_of q) q.body (body_facts q) (body_scope q) (body_in_step q) (body_known q (placing_of q) h) (typed_body q h) named
-    (second_none (functions_breaches (length q.decls) (first_scope q) q.functions) _ (second_none (items_breaches [] (items_of q)) _ h.names))
-    (second_none (functions_kind_breaches (first_facts q) q.functions) _ h.suits)
-    (second_none (decls_shape_breaches q.decls) _ h.indices)
-    (second_none (unbuilt_functions q.functions) _ h.built)
-    h.widths.body h.copies h.numbers places memories.found in
+    let runs = body_does q h in
     record {
       phases = phases_of_command_can (known_of q) (placing_of q) q.body [] nothing_around 0 runs;
       copies = action_few (known_of q) (placing_of q) q.body [] one_path runs;
-      entities = entities_few q h;
-      ways = no_ways q h.built;
-      bindings = own_bindings q h.built;
+      hidden = hidden_few (known_of q) (placing_of q) q runs;
+      entities = entities_few q h runs;
+      round = rounds_few (known_of q) (placing_of q) q runs;
+      named = ways_named q (resolved_body q h) (ap (λ (x : Program). length x.entities) h.entities);
     }
   where
-    at_most : (m n : ℕ) → m ≡ n → m ≤ n
-    at_most m n e = omega (arith, e)
-
     one_path : copies_in [] ≤ most_paths
     one_path = omega arith
 
@@ -254,5 +281,11 @@ ready_runs q r =
       kinds = r.kinds;
       suits = r.suits;
       indices = r.indices;
+      views = r.views;
+      table = program_table q most_tokens r.of_text r.names r.built r.indices r.limits r.placements;
       copies = first_within (copies_excess 1 q.body) _ ports;
     })
+
+-- so the numbers of its ways have room
+pub ready_few : (q : Program) → IsReady q → HasFewWays q
+ready_few q r = few_ways q (ready_runs q r)

@@ -9,7 +9,6 @@ use Rattle.dh_value.specs.declared.kinds.Kind.TheVariants as kind
 use Rattle.dh_value.specs.declared.operators.Op.{Op}
 use Rattle.dh_value.specs.declared.operators.Op.TheVariants as op
 use Rattle.dh_value.specs.Words.{IsKind}
-use Rattle.dh_tree.specs.declared.trees.counters.Counter.{Counter}
 use Rattle.dh_tree.specs.declared.trees.expressions.Ref.{Ref}
 use Rattle.dh_tree.specs.Breaches.{value_breaches}
 use Rattle.dh_tree.specs.Indices.{maybe_index_breaches}
@@ -19,6 +18,7 @@ use Rattle.dh_tree.specs.PlainTrees.{Term, term, number, truth_value, named, acc
 use Rattle.dh_tree.specs.Resolved.{resolved_term}
 use Rattle.dh_tree.specs.Scopes.{Binding, entity_number}
 use Rattle.dh_tree.specs.TextNumbers.{Reduces}
+use Rattle.dh_tree.specs.ViewBreaches.{maybe_view_breaches}
 use Rattle.dh_tree.specs.Widths.{IsSized, MaybeSized}
 use Rattle.dh_runnable.proofs.TypedParts.{for_numbers_sized, number_kind_sized}
 use Rattle.dh_tree.proofs.EmptyLists.{second_none, not_none}
@@ -31,7 +31,8 @@ use Rattle.dh_code.specs.Suited.{CanDo}
 use Rattle.dh_runnable.proofs.DeclarationsFound.{NamePlaced}
 use Rattle.dh_runnable.proofs.NamesKnown.{IsPlaced, IsVariable, IsGood, Knows, IsNamed, fact_is}
 use Rattle.dh_runnable.proofs.Operands.{IsOperand, bool_sized, applied_suits, operation_inside}
-use Rattle.dh_runnable.proofs.TermsSuited.{IsKnown, kind_found_is, name_inside, term_known}
+use Rattle.dh_runnable.proofs.TermsSuited.{IsKnown, indexed, judged, kind_found_is, name_inside, term_known}
+use Rattle.dh_runnable.proofs.ViewsKnown.{AreGoodWays, Rules}
 
 -- an iterator
 pub iterator_sized : (declared : Option Kind) → IsSized declared → IsKind (iterator_kind declared)
@@ -85,14 +86,15 @@ module _ (known : Known) (p : Placing) (loops : List ℕ) where
   MaybeKnown None = Unit {0}
   MaybeKnown (Some t) = IsKnown known p loops t
 
-  pub maybe_known : (counters : List Counter) (facts : Facts) (bs : List Binding) (declared : Option Kind) (value : Option Term) → Knows known p loops facts bs → IsSized declared
-      → typed_maybe facts declared value ≡ value → option_map (resolved_term bs) value ≡ value → value_breaches bs value ≡ [] → maybe_breaches facts declared value ≡ [] → maybe_index_breaches (record { memories = known.memories; counters = counters }) value ≡ [] → MaybeSized value → MaybeKnown value
-  maybe_known counters facts bs declared None k d e n v b i z = tt
-  maybe_known counters facts bs declared (Some t) k d e n v b i z =
+  pub maybe_known : (rules : Rules) (good : AreGoodWays known rules.views) (facts : Facts) (bs : List Binding) (declared : Option Kind) (value : Option Term) → Knows known p loops facts bs → IsSized declared
+      → typed_maybe facts declared value ≡ value → option_map (resolved_term bs) value ≡ value → value_breaches bs value ≡ [] → maybe_breaches facts declared value ≡ [] → maybe_index_breaches (indexed known rules) value ≡ []
+      → maybe_view_breaches (judged known rules) value ≡ [] → MaybeSized value → MaybeKnown value
+  maybe_known rules good facts bs declared None k d e n v b i w z = tt
+  maybe_known rules good facts bs declared (Some t) k d e n v b i w z =
       let typed : typed_term facts (for_numbers declared) t ≡ t = cc in
       let same : resolved_term bs t ≡ t = cc in
-      term_known known p loops counters facts bs k (for_numbers declared) (for_numbers_sized declared d) t typed
-      (record { named = same; visible = v; kinds = second_none (assigned_breaches declared (found t) (place_of t)) _ b; indices = i; sized = z })
+      term_known known p loops rules good facts bs k (for_numbers declared) (for_numbers_sized declared d) t typed
+      (record { named = same; visible = v; kinds = second_none (assigned_breaches declared (found t) (place_of t)) _ b; indices = i; views = w; sized = z })
 
   -- what a name declares is known by its number
   numbered_placed : (r : Ref) (n : ℕ) (k : Kind) → r.entity ≡ Some n → NamePlaced known p loops r k → IsPlaced known p loops n k

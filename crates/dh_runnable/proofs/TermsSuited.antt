@@ -2,8 +2,10 @@
 -- the kind that was found of it, and names variables that are declared inside the first of the loops round it: variables
 -- have the kinds of their declarations, and memories and banks are there. By recursion over expressions, with what
 -- is known of the names that are visible; for whatever number of its first access.
-use Rattle.std.proofs.Common.{◌≡◌, ℕ, ◌+◌, ◌<◌, ◌&&◌, ◌==◌, Bool, true, false, if◌then◌else◌, List, [], ◌∷◌, length, Option, Some, None, refl, ap, sym, ◌∙◌, subst, arith}
+use Rattle.std.proofs.Common.{◌≡◌, ℕ, suc, ◌+◌, ◌<◌, ◌&&◌, ◌==◌, inl, inr, Bool, true, false, if◌then◌else◌, List, [], ◌∷◌, ◌++◌, length, Option, Some, None, refl, ap, sym, ◌∙◌, subst, arith}
+use Rattle.std.specs.List.{AllByRecursion}
 use Rattle.std.specs.Option.{is_some}
+use Rattle.std.proofs.lemmas.Bool.{eqb-true}
 use Rattle.dh_base.specs.declared.places.Place.{Place}
 use Rattle.dh_value.specs.declared.kinds.Kind.{Kind}
 use Rattle.dh_value.specs.declared.kinds.Kind.TheVariants as kind
@@ -11,7 +13,6 @@ use Rattle.dh_value.specs.declared.operators.Op.{Op}
 use Rattle.dh_value.specs.Words.{IsKind, IsInteger}
 use Rattle.dh_tree.specs.declared.breaches.Breach.{Breach}
 use Rattle.dh_tree.specs.declared.tables.MemEntry.{MemEntry}
-use Rattle.dh_tree.specs.declared.trees.counters.Counter.{Counter}
 use Rattle.dh_tree.specs.declared.trees.expressions.Ref.{Ref}
 use Rattle.dh_tree.specs.Breaches.{unknown, term_breaches, terms_breaches}
 use Rattle.dh_tree.specs.Indices as places
@@ -21,39 +22,49 @@ use Rattle.dh_tree.specs.Kinds.{Fact, of_variable, of_iterator, of_memory, of_fu
 use Rattle.dh_tree.specs.Memories.{Memory, memory_in, number_in}
 use Rattle.dh_tree.specs.PlainTrees.{Term, term, TermForm, number, truth_value, named, accessed, in_bank, applied, converted, Terms, no_terms, term_then}
 use Rattle.dh_tree.specs.Resolved.{used, resolved_term, resolved_terms}
+use Rattle.dh_tree.specs.Seen.{terms}
+use Rattle.dh_tree.specs.ViewBreaches.{KnownViews, dims_through, offsets_view_breaches, physical_broken, term_view_breaches, terms_view_breaches}
+use Rattle.dh_tree.specs.Views.{view_in}
 use Rattle.dh_tree.specs.Scopes.{Binding}
 use Rattle.dh_tree.specs.Widths.{IsSized, AreSized, AreAllSized}
 use Rattle.dh_runnable.proofs.ElementsFound.{IsElement, element_is}
 use Rattle.dh_runnable.proofs.TypedParts.{IsMemory, for_numbers_sized, number_kind_sized, typed_parts}
 use Rattle.dh_tree.proofs.EmptyLists.{first_none, second_none, not_none}
-use Rattle.dh_meaning.specs.AccessNumbers.{term_accesses, terms_accesses}
+use Rattle.dh_meaning.specs.AccessNumbers.{term_accesses}
 use Rattle.dh_meaning.specs.Bindings.{binding_in, depth_bound, kind_or_first, kind_found}
-use Rattle.dh_meaning.specs.Core.{CoreTerm, CoreTerms, Target, by_row, read}
+use Rattle.dh_meaning.specs.Core.{CoreTerm, CoreTerms, Target, by_row, count_terms, read}
 use Rattle.dh_meaning.specs.CoreOf.{Known, entity_number, depth_of, operation_of, core_term, core_form, core_terms, target_to, way_of}
 use Rattle.dh_meaning.specs.Ways.{Way, base_of, way_in, way_unless}
 use Rattle.dh_runnable.specs.ActionsRun.{table_in}
 use Rattle.dh_code.specs.Slots.{Placing}
-use Rattle.dh_code.specs.Suited.{AreSuited, IsInside, IsSuitedTarget, AreInside, AllInside, TargetInside}
+use Rattle.dh_code.specs.Suited.{AreSuited, IsInside, IsSuitedTarget, AreInside, AllInside}
 use Rattle.dh_runnable.proofs.NamesKnown.{IsVariable, IsGood, Knows, name_known, fact_is}
 use Rattle.dh_runnable.proofs.Operands.{IsOperand, bool_sized, applied_suits, operation_inside}
+use Rattle.dh_runnable.proofs.ViewsKnown.{AreGoodWays, IsReached, Rules, memory_reached, view_reached}
 
 -- the memories and loops that the rules on indices speak of
-abbrev pub indexed : Known → List Counter → places.Known
-indexed known counters = record { memories = known.memories; counters = counters }
+abbrev pub indexed : Known → Rules → places.Known
+indexed known rules = record { memories = known.memories; counters = rules.counters }
+
+-- and those that the rules on views speak of
+abbrev pub judged : Known → Rules → KnownViews
+judged known rules = record { names = indexed known rules; views = rules.views; kept = rules.kept }
 
 -- an expression that breaks no rule
-pub record IsReady (known : Known) (counters : List Counter) (facts : Facts) (bs : List Binding) (t : Term) : Type 0 where
+pub record IsReady (known : Known) (rules : Rules) (facts : Facts) (bs : List Binding) (t : Term) : Type 0 where
   pub named : resolved_term bs t ≡ t
   pub visible : term_breaches bs t ≡ []
   pub kinds : term_kind_breaches facts t ≡ []
-  pub indices : term_index_breaches (indexed known counters) t ≡ []
+  pub indices : term_index_breaches (indexed known rules) t ≡ []
+  pub views : term_view_breaches (judged known rules) t ≡ []
   pub sized : AreSized t
 
-pub record AreReady (known : Known) (counters : List Counter) (facts : Facts) (bs : List Binding) (ts : Terms) : Type 0 where
+pub record AreReady (known : Known) (rules : Rules) (facts : Facts) (bs : List Binding) (ts : Terms) : Type 0 where
   pub named : resolved_terms bs ts ≡ ts
   pub visible : terms_breaches bs ts ≡ []
   pub kinds : indices_kind_breaches facts ts ≡ []
-  pub indices : terms_index_breaches (indexed known counters) ts ≡ []
+  pub indices : terms_index_breaches (indexed known rules) ts ≡ []
+  pub views : terms_view_breaches (judged known rules) ts ≡ []
   pub sized : AreAllSized ts
 
 -- an expression has a kind, and is run as an operand of that kind which names variables declared inside these loops
@@ -109,20 +120,63 @@ access_there table memory (Some w) ts h = h.0
 abbrev read_by : Known → (n : ℕ) → Place → Ref → Target → Option Way → CoreTerm
 read_by known n place r target w = read (record { number = n; place = place; memory = entity_number (number_in known.memories (base_of w r.entity)) }) target
 
--- what an access finds: the kind of the memory that its name stands for
-record IsFound (known : Known) (r : Ref) (k : Option Kind) : Type 0 where
+-- what an access by indices finds: the kind of what its name stands for, which is reached by as many
+record IsFound (known : Known) (p : Placing) (loops : List ℕ) (r : Ref) (indices : Terms) (k : Option Kind) : Type 0 where
+  kind : Kind
+  is : k ≡ Some kind
+  sized : IsKind kind
+  dims : ℕ
+  counted : count_of indices ≡ dims
+  reached : IsReached known p loops r kind dims
+
+-- what a physical access finds: the kind of the memory that its name stands for
+record IsStored (known : Known) (r : Ref) (k : Option Kind) : Type 0 where
   kind : Kind
   is : k ≡ Some kind
   sized : IsKind kind
   element : IsElement known.memories r kind
 
-memory_found : (known : Known) (n : ℕ) (r : Ref) (k : Option Kind) (dims : ℕ) → r.entity ≡ Some n → IsMemory known.memories n k dims → IsFound known r k
+memory_found : (known : Known) (n : ℕ) (r : Ref) (k : Option Kind) (dims : ℕ) → r.entity ≡ Some n → IsMemory known.memories n k dims → IsStored known r k
 memory_found known n r k dims e g = record {
   kind = g.memory.shape.kind;
   is = g.kind;
   sized = g.sized;
   element = element_is known.memories r g.memory (ap (memory_in known.memories) e ∙ g.is) g.keeps;
 }
+
+-- what is reached by indices
+access_reached : (known : Known) (p : Placing) (loops : List ℕ) (n : ℕ) (r : Ref) (indices : Terms) (k : Option Kind) (dims : ℕ) → r.entity ≡ Some n → IsGood known p loops n (of_memory k dims) → count_of indices ≡ dims → IsFound known p loops r indices k
+access_reached known p loops n r indices k dims e (inl g) c = record {
+  kind = g.memory.shape.kind;
+  is = g.kind;
+  sized = g.sized;
+  dims = dims;
+  counted = c;
+  reached = memory_reached known p loops r g.memory.shape.kind dims (element_is known.memories r g.memory (ap (memory_in known.memories) e ∙ g.is) g.keeps);
+}
+access_reached known p loops n r indices k dims e (inr v) c = record {
+  kind = v.way.is.shape.kind;
+  is = v.kind;
+  sized = v.sized;
+  dims = dims;
+  counted = c;
+  reached = view_reached known p loops n r k dims e v;
+}
+
+-- no physical access goes through a view
+pub not_viewed : (b : Bool) (x : Breach) → b ≡ true → when b (x ∷ []) ≡ [] → ⊥
+not_viewed true x e f = not_none _ _ f
+not_viewed false x e f = cc
+
+-- a view has one of the ways
+pub way_found : (o : Option Memory) (w : Option Way) (y : Way) → way_unless o w ≡ Some y → w ≡ Some y
+way_found None w y e = e
+way_found (Some m) w y e = absurd cc
+
+-- as many indices as there are in the text
+core_counted : (known : Known) (n : ℕ) (ts : Terms) → count_terms (core_terms known n ts) ≡ count_of ts
+core_counted known n no_terms = refl
+core_counted known n (term_then t rest) = ap suc (core_counted known (n + term_accesses t) rest)
 
 pub kind_found_is : (t : Term) (k : Kind) → found t ≡ Some k → kind_found t ≡ k
 kind_found_is (term place m form) k e = ap kind_or_first e
@@ -206,40 +260,45 @@ module _ (known : Known) (p : Placing) (loops : List ℕ) where
   variable_operand place r k h n = record { sized = h; kind = refl; suits = h }
 
   -- an access, by what is known of its name
-  access_known : (n : ℕ) (r : Ref) (o : Option Fact) (f : Fact) (place : Place) (indices : Terms) → r.entity ≡ Some n → o ≡ Some f → IsGood known p loops n f → access_breaches o place indices ≡ [] → all_found indices ≡ true → all_integer indices ≡ true → IsFound known r (access_found o indices)
+  access_known : (n : ℕ) (r : Ref) (o : Option Fact) (f : Fact) (place : Place) (indices : Terms) → r.entity ≡ Some n → o ≡ Some f → IsGood known p loops n f → access_breaches o place indices ≡ [] → all_found indices ≡ true → all_integer indices ≡ true
+      → IsFound known p loops r indices (access_found o indices)
   access_known n r o f place indices entity at g e a i =
-      subst (λ (x : Option Fact). IsFound known r (access_found x indices)) (sym at) (cases f g (ap (λ x. access_breaches x place indices) (sym at) ∙ e))
+      subst (λ (x : Option Fact). IsFound known p loops r indices (access_found x indices)) (sym at) (cases f g (ap (λ x. access_breaches x place indices) (sym at) ∙ e))
     where
-      cases : (f : Fact) → IsGood known p loops n f → access_breaches (Some f) place indices ≡ [] → IsFound known r (access_found (Some f) indices)
+      cases : (f : Fact) → IsGood known p loops n f → access_breaches (Some f) place indices ≡ [] → IsFound known p loops r indices (access_found (Some f) indices)
       cases (of_variable k) g e = not_none _ _ e
       cases (of_iterator k) g e = not_none _ _ e
       cases (of_function parameters) g e = not_none _ _ e
       cases (of_memory k dims) g e =
-          subst (λ (x : Option Kind). IsFound known r x) (sym (when_both (all_integer indices) (count_of indices == dims) k i (one_count (all_found indices) (count_of indices == dims) place a e)))
-          (memory_found known n r k dims entity g)
+          let counted : (count_of indices == dims) ≡ true = one_count (all_found indices) (count_of indices == dims) place a e in
+          subst (λ (x : Option Kind). IsFound known p loops r indices x) (sym (when_both (all_integer indices) (count_of indices == dims) k i counted))
+          (access_reached known p loops n r indices k dims entity g (eqb-true (count_of indices) dims counted))
 
   -- a physical access, by what is known of its name
-  bank_known : (n : ℕ) (r : Ref) (o : Option Fact) (f : Fact) (place : Place) (row : Option Kind) (j : Kind) → r.entity ≡ Some n → o ≡ Some f → IsGood known p loops n f → bank_breaches o place ≡ [] → row ≡ Some j → is_integer j ≡ true → IsFound known r (bank_found o row)
-  bank_known n r o f place row j entity at g e h i =
-      subst (λ (x : Option Fact). IsFound known r (bank_found x row)) (sym at) (cases f g (ap (λ x. bank_breaches x place) (sym at) ∙ e))
+  bank_known : (rules : Rules) (good : AreGoodWays known rules.views) (n : ℕ) (r : Ref) (o : Option Fact) (f : Fact) (place : Place) (row : Option Kind) (j : Kind) → r.entity ≡ Some n → o ≡ Some f → IsGood known p loops n f → bank_breaches o place ≡ []
+      → physical_broken (view_in rules.views r.entity) r ≡ [] → row ≡ Some j → is_integer j ≡ true → IsStored known r (bank_found o row)
+  bank_known rules good n r o f place row j entity at g e direct h i =
+      subst (λ (x : Option Fact). IsStored known r (bank_found x row)) (sym at) (cases f g (ap (λ x. bank_breaches x place) (sym at) ∙ e))
     where
-      cases : (f : Fact) → IsGood known p loops n f → bank_breaches (Some f) place ≡ [] → IsFound known r (bank_found (Some f) row)
+      same : (k : Option Kind) (dims : ℕ) → bank_found (Some (of_memory k dims)) row ≡ k
+      same k dims = ap (bank_found (Some (of_memory k dims))) h ∙ ap (λ (b : Bool). if b then k else None) i
+
+      cases : (f : Fact) → IsGood known p loops n f → bank_breaches (Some f) place ≡ [] → IsStored known r (bank_found (Some f) row)
       cases (of_variable k) g e = not_none _ _ e
       cases (of_iterator k) g e = not_none _ _ e
       cases (of_function parameters) g e = not_none _ _ e
-      cases (of_memory k dims) g e =
-          let same : bank_found (Some (of_memory k dims)) row ≡ k = ap (bank_found (Some (of_memory k dims))) h ∙ ap (λ (b : Bool). if b then k else None) i in
-          subst (λ (x : Option Kind). IsFound known r x) (sym same) (memory_found known n r k dims entity g)
+      cases (of_memory k dims) (inl g) e = subst (λ (x : Option Kind). IsStored known r x) (sym (same k dims)) (memory_found known n r k dims entity g)
+      cases (of_memory k dims) (inr v) e =
+          absurd
+          (not_viewed (is_some (view_in rules.views r.entity)) _
+          (ap (λ z. is_some (view_in rules.views z)) entity ∙ good.seen (Some n) v.way (way_found (memory_in known.memories (Some n)) (way_in known.ways (Some n)) v.way v.is)) direct)
 
-  -- an element of the memory that a name stands for
-  element_operand : (place : Place) (r : Ref) (k : Kind) (indices : Terms) → IsKind k → IsElement known.memories r k → AreKnown known p loops indices → (n : ℕ) → IsOperand (table_in known) k (core_form known n place k (accessed r indices))
-  element_operand place r k indices s h i n =
-      subst (λ (w : Option Way). IsOperand (table_in known) k (read_by known (n + terms_accesses indices) place r (target_to w (core_terms known n indices)) w)) (sym (memory_way known r h.memory h.there))
-      (record { sized = s; kind = h.kind; suits = (h.within, i.suit n) })
+  -- an element of what a name stands for
+  element_operand : (place : Place) (r : Ref) (indices : Terms) (k : Option Kind) (f : IsFound known p loops r indices k) → AreKnown known p loops indices → (n : ℕ) → IsOperand (table_in known) f.kind (core_form known n place f.kind (accessed r indices))
+  element_operand place r indices k f i n = record { sized = f.sized; kind = f.reached.kind; suits = f.reached.suits (core_terms known n indices) (core_counted known n indices ∙ f.counted) (i.suit n) }
 
-  element_inside : (place : Place) (r : Ref) (k j : Kind) (indices : Terms) → IsElement known.memories r j → AreKnown known p loops indices → (n : ℕ) → AreInside p loops (core_form known n place k (accessed r indices))
-  element_inside place r k j indices h i n =
-      subst (λ (w : Option Way). TargetInside p loops (target_to w (core_terms known n indices))) (sym (memory_way known r h.memory h.there)) (i.inside n)
+  element_inside : (place : Place) (r : Ref) (indices : Terms) (k : Option Kind) (j : Kind) (f : IsFound known p loops r indices k) → AreKnown known p loops indices → (n : ℕ) → AreInside p loops (core_form known n place j (accessed r indices))
+  element_inside place r indices k j f i n = f.reached.inside (core_terms known n indices) (i.inside n)
 
   row_operand : (place : Place) (r : Ref) (k : Kind) (bank : ℕ) (bank_place : Place) (row : Term) → IsKind k → IsElement known.memories r k → physical_breaches (kept_dims (memory_in known.memories r.entity)) bank bank_place row ≡ [] → IsKnown known p loops row → (n : ℕ) → IsOperand (table_in known) k (core_form known n place k (in_bank r bank bank_place row))
   row_operand place r k bank bank_place row s h b i n =
@@ -265,9 +324,9 @@ module _ (known : Known) (p : Placing) (loops : List ℕ) where
       subst (λ (j : Kind). IsOperand (table_in known) (applied_kind o l.kind r.kind) (operation_of o j (kind_found right) (core_term known n left) (core_term known (n + term_accesses left) right))) (sym (kind_found_is left l.kind l.is))
       (subst (λ (j : Kind). IsOperand (table_in known) (applied_kind o l.kind r.kind) (operation_of o l.kind j (core_term known n left) (core_term known (n + term_accesses left) right))) (sym (kind_found_is right r.kind r.is)) suits)
 
-  module _ (counters : List Counter) where
+  module _ (rules : Rules) (good : AreGoodWays known rules.views) where
     mutual
-      pub term_known : (facts : Facts) (bs : List Binding) → Knows known p loops facts bs → (want : Option Kind) → IsSized want → (t : Term) → typed_term facts want t ≡ t → IsReady known counters facts bs t → IsKnown known p loops t
+      pub term_known : (facts : Facts) (bs : List Binding) → Knows known p loops facts bs → (want : Option Kind) → IsSized want → (t : Term) → typed_term facts want t ≡ t → IsReady known rules facts bs t → IsKnown known p loops t
       term_known facts bs k want s (term place m (number negative n)) e h =
           with_kind facts want place m (number negative n) (number_kind want) e
           (number_known m (number_kind want) negative n place (typed_parts facts want place m (number negative n) e).1 h.kinds)
@@ -290,13 +349,14 @@ module _ (known : Known) (p : Placing) (loops : List ℕ) where
             named = named;
             visible = second_none (unknown bs r) _ h.visible;
             kinds = second_none (access_breaches (fact_of facts r) place indices) _ h.kinds;
-            indices = second_none (places.access_breaches counters (kept_dims (memory_in known.memories r.entity)) indices) _ h.indices;
+            indices = second_none (places.access_breaches rules.counters (kept_dims (memory_in known.memories r.entity)) indices) _ h.indices;
+            views = second_none (places.access_breaches rules.counters (dims_through (view_in rules.kept r.entity)) indices) _ h.views;
             sized = h.sized;
           }) in
           let none = first_none (access_breaches (fact_of facts r) place indices) _ h.kinds in
           let element = access_known name.number r (fact_of facts r) name.stands.fact place indices name.entity (fact_is known p loops facts r name) name.stands.good none inner.found inner.integer in
-          with_kind facts want place m (accessed r indices) element.kind e element.is (element_operand place r element.kind indices element.sized element.element inner)
-          (element_inside place r element.kind element.kind indices element.element inner)
+          with_kind facts want place m (accessed r indices) element.kind e element.is (element_operand place r indices (access_found (fact_of facts r) indices) element inner)
+          (element_inside place r indices (access_found (fact_of facts r) indices) element.kind element inner)
       term_known facts bs k want s (term place m (in_bank r bank bank_place row)) e h =
           let parts = typed_parts facts want place m (in_bank r bank bank_place row) e in
           let typed : typed_term facts None row ≡ row = let eq = parts.0 in cc in
@@ -310,10 +370,12 @@ module _ (known : Known) (p : Placing) (loops : List ℕ) where
             visible = second_none (unknown bs r) _ h.visible;
             kinds = second_none (index_breaches (found row) (place_of row)) _ below;
             indices = second_none physical _ h.indices;
+            views = second_none (physical_broken (view_in rules.views r.entity) r) _ h.views;
             sized = h.sized;
           }) in
           let integer = is_index (found row) i.kind (place_of row) i.is (first_none (index_breaches (found row) (place_of row)) _ below) in
-          let element = bank_known name.number r (fact_of facts r) name.stands.fact place (found row) i.kind name.entity (fact_is known p loops facts r name) name.stands.good (first_none (bank_breaches (fact_of facts r) place) _ h.kinds) i.is integer in
+          let element = bank_known rules good name.number r (fact_of facts r) name.stands.fact place (found row) i.kind name.entity (fact_is known p loops facts r name) name.stands.good (first_none (bank_breaches (fact_of facts r) place) _ h.kinds)
+          (first_none (physical_broken (view_in rules.views r.entity) r) _ h.views) i.is integer in
           with_kind facts want place m (in_bank r bank bank_place row) element.kind e element.is
           (row_operand place r element.kind bank bank_place row element.sized element.element (first_none physical _ h.indices) i) i.inside
       term_known facts bs k want s (term place m (applied o left right)) e h =
@@ -329,14 +391,16 @@ module _ (known : Known) (p : Placing) (loops : List ℕ) where
             named = left_named;
             visible = first_none (term_breaches bs left) _ h.visible;
             kinds = first_none (term_kind_breaches facts left) _ below;
-            indices = first_none (term_index_breaches (indexed known counters) left) _ h.indices;
+            indices = first_none (term_index_breaches (indexed known rules) left) _ h.indices;
+            views = first_none (term_view_breaches (judged known rules) left) _ h.views;
             sized = h.sized.0;
           }))
           (λ w z f. term_known facts bs k w z right f (record {
             named = right_named;
             visible = second_none (term_breaches bs left) _ h.visible;
             kinds = second_none (term_kind_breaches facts left) _ below;
-            indices = second_none (term_index_breaches (indexed known counters) left) _ h.indices;
+            indices = second_none (term_index_breaches (indexed known rules) left) _ h.indices;
+            views = second_none (term_view_breaches (judged known rules) left) _ h.views;
             sized = h.sized.1;
           }))
           left_typed right_typed in
@@ -354,12 +418,13 @@ module _ (known : Known) (p : Placing) (loops : List ℕ) where
             visible = h.visible;
             kinds = second_none (cast_breaches place (found inner) to) _ h.kinds;
             indices = h.indices;
+            views = h.views;
             sized = h.sized.1;
           }) in
           let cast = cast_known place (found inner) i.kind to i.is h.sized.0 (first_none (cast_breaches place (found inner) to) _ h.kinds) in
           with_kind facts want place m (converted inner to) to e cast.0 (λ n. record { sized = h.sized.0; kind = refl; suits = (cast.1, (i.operand n).suits) }) i.inside
 
-      pub terms_known : (facts : Facts) (bs : List Binding) → Knows known p loops facts bs → (ts : Terms) → typed_terms facts ts ≡ ts → AreReady known counters facts bs ts → AreKnown known p loops ts
+      pub terms_known : (facts : Facts) (bs : List Binding) → Knows known p loops facts bs → (ts : Terms) → typed_terms facts ts ≡ ts → AreReady known rules facts bs ts → AreKnown known p loops ts
       terms_known facts bs k no_terms e h = record { found = refl; integer = refl; suit = λ n. tt; inside = λ n. tt }
       terms_known facts bs k (term_then t rest) e h =
           let first_typed : typed_term facts None t ≡ t = cc in
@@ -372,7 +437,8 @@ module _ (known : Known) (p : Placing) (loops : List ℕ) where
             named = first_named;
             visible = first_none (term_breaches bs t) _ h.visible;
             kinds = first_none (term_kind_breaches facts t) _ below;
-            indices = first_none (term_index_breaches (indexed known counters) t) _ h.indices;
+            indices = first_none (term_index_breaches (indexed known rules) t) _ h.indices;
+            views = first_none (term_view_breaches (judged known rules) t) _ h.views;
             sized = h.sized.0;
           }))
           (first_none (index_breaches (found t) (place_of t)) _ h.kinds)
@@ -380,6 +446,30 @@ module _ (known : Known) (p : Placing) (loops : List ℕ) where
             named = rest_named;
             visible = second_none (term_breaches bs t) _ h.visible;
             kinds = second_none (term_kind_breaches facts t) _ below;
-            indices = second_none (term_index_breaches (indexed known counters) t) _ h.indices;
+            indices = second_none (term_index_breaches (indexed known rules) t) _ h.indices;
+            views = second_none (term_view_breaches (judged known rules) t) _ h.views;
             sized = h.sized.1;
           }))
+
+    -- offsets of a view
+    pub offsets_known : (facts : Facts) (bs : List Binding) → Knows known p loops facts bs → (ts : List Term) → typed_terms facts (terms ts) ≡ terms ts → resolved_terms bs (terms ts) ≡ terms ts → terms_breaches bs (terms ts) ≡ [] → indices_kind_breaches facts (terms ts) ≡ []
+        → offsets_view_breaches (judged known rules) ts ≡ [] → AreAllSized (terms ts) → AllByRecursion (λ t. IsKnown known p loops t) ts
+    offsets_known facts bs k [] e n v b w z = tt
+    offsets_known facts bs k (t ∷ ts) e n v b w z =
+        let first_typed : typed_term facts None t ≡ t = let eq : term_then (typed_term facts None t) (typed_terms facts (terms ts)) ≡ term_then t (terms ts) = e in cc in
+        let rest_typed : typed_terms facts (terms ts) ≡ terms ts = let eq : term_then (typed_term facts None t) (typed_terms facts (terms ts)) ≡ term_then t (terms ts) = e in cc in
+        let first_named : resolved_term bs t ≡ t = let eq : term_then (resolved_term bs t) (resolved_terms bs (terms ts)) ≡ term_then t (terms ts) = n in cc in
+        let rest_named : resolved_terms bs (terms ts) ≡ terms ts = let eq : term_then (resolved_term bs t) (resolved_terms bs (terms ts)) ≡ term_then t (terms ts) = n in cc in
+        let below = second_none (index_breaches (found t) (place_of t)) _ b in
+        let own = first_none (term_index_breaches (indexed known rules) t ++ term_view_breaches (judged known rules) t) _ w in (
+          term_known facts bs k None tt t first_typed (record {
+            named = first_named;
+            visible = first_none (term_breaches bs t) _ v;
+            kinds = first_none (term_kind_breaches facts t) _ below;
+            indices = first_none (term_index_breaches (indexed known rules) t) _ own;
+            views = second_none (term_index_breaches (indexed known rules) t) _ own;
+            sized = z.0;
+          }),
+          offsets_known facts bs k ts rest_typed rest_named (second_none (term_breaches bs t) _ v) (second_none (term_kind_breaches facts t) _ below)
+              (second_none (term_index_breaches (indexed known rules) t ++ term_view_breaches (judged known rules) t) _ w) z.1,
+        )

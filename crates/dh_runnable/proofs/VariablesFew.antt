@@ -9,7 +9,7 @@ use Rattle.dh_code.specs.Ranks.{copies_in, most_paths}
 use Rattle.dh_code.specs.Slots.{Placing}
 use Rattle.dh_runnable.specs.ActionsRun.{ActionRuns, FormRuns, GroupsRun, OtherRuns, PartRuns}
 
-both_few : (ds es : List Declaration) → AreFew ds → AreFew es → AreFew (ds ++ es)
+pub both_few : (ds es : List Declaration) → AreFew ds → AreFew es → AreFew (ds ++ es)
 both_few [] es h i = i
 both_few (d ∷ ds) es h i = (h.0, both_few ds es h.1 i)
 
@@ -21,7 +21,7 @@ module _ (known : Known) (p : Placing) where
     form_few : (f : ActionForm) (loops : List ℕ) → copies_in loops ≤ most_paths → FormRuns known p loops f → AreFew (form_declarations loops f)
     form_few (lets name declared value) loops few h = (few, tt)
     form_few (lets_memory name shape shape_places value) loops few h = tt
-    form_few (views name parent form) loops few h = absurd h
+    form_few (views name parent form) loops few h = tt
     form_few (assigns target value) loops few h = tt
     form_few (stores target value) loops few h = tt
     form_few (reduces target o value) loops few h = tt

@@ -84,17 +84,21 @@ pub record IsFoundSame (d : Option Declaration) (b : Option Binding) : Type 0 wh
   pub kind : kind_bound b ≡ kind_declared d
   pub depth : depth_bound b ≡ length (factors_of d)
 
-first_same : (t : Bool) (d : Declaration) (b : Binding) (other : Option Declaration) (rest : Option Binding) → IsSame d b → IsFoundSame other rest → IsFoundSame (if t then Some d else other) (if t then Some b else rest)
-first_same true d b other rest h i = record { kind = h.kind; depth = h.depth }
-first_same false d b other rest h i = i
-
-pub found_same : (ds : List Declaration) (bs : List Binding) (n : ℕ) → AreSame ds bs → IsFoundSame (declaration_in ds n) (binding_in bs n)
-found_same [] [] n h = record { kind = refl; depth = refl }
-found_same [] (b ∷ bs) n h = elim h [ ]
-found_same (d ∷ ds) [] n h = elim h [ ]
-found_same (d ∷ ds) (b ∷ bs) n h =
-    subst (λ (e : Option ℕ). IsFoundSame (if same_entity d.entity (Some n) then Some d else declaration_in ds n) (if same_entity e (Some n) then Some b else binding_in bs n)) (sym h.0.entity)
-    (first_same (same_entity d.entity (Some n)) d b (declaration_in ds n) (binding_in bs n) h.0 (found_same ds bs n h.1))
+-- what is found among the first declarations is found among all, and so is its variable
+pub found_among : (ds more : List Declaration) (bs others : List Binding) (n : ℕ) (d : Declaration) → AreSame ds bs → declaration_in ds n ≡ Some d
+    → (declaration_in (ds ++ more) n ≡ Some d) × IsFoundSame (declaration_in (ds ++ more) n) (binding_in (bs ++ others) n)
+found_among [] more [] others n d h e = absurd cc
+found_among [] more (b ∷ bs) others n d h e = elim h [ ]
+found_among (x ∷ ds) more [] others n d h e = elim h [ ]
+found_among (x ∷ ds) more (b ∷ bs) others n d h e =
+    subst (λ (z : Option ℕ). (declaration_in ((x ∷ ds) ++ more) n ≡ Some d)
+    × IsFoundSame (declaration_in ((x ∷ ds) ++ more) n) (if same_entity z (Some n) then Some b else binding_in (bs ++ others) n)) (sym h.0.entity) (by (same_entity x.entity (Some n)) e (λ f. found_among ds more bs others n d h.1 f))
+  where
+    by : (t : Bool) → (if t then Some x else declaration_in ds n) ≡ Some d
+        → (declaration_in ds n ≡ Some d → (declaration_in (ds ++ more) n ≡ Some d) × IsFoundSame (declaration_in (ds ++ more) n) (binding_in (bs ++ others) n))
+        → ((if t then Some x else declaration_in (ds ++ more) n) ≡ Some d) × IsFoundSame (if t then Some x else declaration_in (ds ++ more) n) (if t then Some b else binding_in (bs ++ others) n)
+    by true f rest = (f, record { kind = h.0.kind; depth = h.0.depth })
+    by false f rest = rest f
 
 -- Slots.
 
@@ -118,7 +122,7 @@ depth_held ds count from (suc entities) (suc n) l =
 abbrev pub placing_in : List Declaration → (entities : ℕ) → Placing
 placing_in ds entities = record { held = all_held ds 0 0 entities; factors = λ n. factors_of (declaration_in ds n) }
 
-take_all : (xs : List ℕ) (n : ℕ) → n ≡ length xs → xs ≡ take n xs
+pub take_all : (xs : List ℕ) (n : ℕ) → n ≡ length xs → xs ≡ take n xs
 take_all xs n e = subst (λ (k : ℕ). xs ≡ take k xs) (sym e) (whole xs)
   where
     whole : (xs : List ℕ) → xs ≡ take (length xs) xs
@@ -126,9 +130,8 @@ take_all xs n e = subst (λ (k : ℕ). xs ≡ take k xs) (sym e) (whole xs)
     whole (x ∷ xs) = ap (λ l. x ∷ l) (whole xs)
 
 -- a declaration that is found of an entity places it inside the loops round it
-pub declaration_placed : (known : Known) (ds : List Declaration) (entities n : ℕ) (d : Declaration) → AreSame ds known.bindings → declaration_in ds n ≡ Some d → n < entities → IsPlaced known (placing_in ds entities) d.factors n d.kind_is
-declaration_placed known ds entities n d s e l =
-    let same = found_same ds known.bindings n s in
+pub declaration_placed : (known : Known) (ds : List Declaration) (entities n : ℕ) (d : Declaration) → IsFoundSame (declaration_in ds n) (binding_in known.bindings n) → declaration_in ds n ≡ Some d → n < entities → IsPlaced known (placing_in ds entities) d.factors n d.kind_is
+declaration_placed known ds entities n d same e l =
     let deep : depth_bound (binding_in known.bindings n) ≡ length d.factors = same.depth ∙ ap (λ o. length (factors_of o)) e in
     record {
       bound = same.kind ∙ ap kind_declared e;

@@ -1,17 +1,22 @@
 -- What it is for a command of the source to be one that can be run inside unrolled loops of given factors: its
 -- expressions, stores and assignments can, from whatever number of its first access, and so can the commands inside it,
 -- those of a loop inside its own factor too.
-use Rattle.std.specs.Prelude.{ℕ, List, map}
+use Rattle.std.specs.Prelude.{ℕ, ◌≤◌, List, length, map}
 use Rattle.dh_tree.specs.declared.tables.MemEntry.{MemEntry}
 use Rattle.dh_tree.specs.Memories.{entry_of}
 use Rattle.dh_tree.specs.PlainTrees.{Term, Action, action, ActionForm, lets, lets_memory, views, assigns, stores, reduces, calls, blocks, decides, repeats, counts, MaybeAction, no_action, one_action, Actions, no_actions, action_then, Groups, no_groups, group_then}
+use Rattle.dh_tree.specs.Seen.{terms}
+use Rattle.dh_tree.specs.Shapes.{most_dims}
+use Rattle.dh_tree.specs.ViewOffsets.{offsets_of}
 use Rattle.dh_meaning.specs.Bindings.{kind_found}
-use Rattle.dh_meaning.specs.CoreOf.{Known, core_term, first_value, store_to, assigned, folded_into, turning_of}
+use Rattle.dh_meaning.specs.Core.{CoreCommands}
+use Rattle.dh_meaning.specs.CoreOf.{Known, core_term, core_terms, first_value, store_to, assigned, folded_into, kept_by, turning_of, way_of}
 use Rattle.dh_meaning.specs.Phases.{turn_count}
+use Rattle.dh_meaning.specs.Ways.{hidden_in}
 use Rattle.dh_code.specs.Declarations.{factors_inside}
 use Rattle.dh_sem.specs.Runnable.{CanTurn}
 use Rattle.dh_code.specs.Slots.{Placing}
-use Rattle.dh_code.specs.Suited.{CanTest, CanDo}
+use Rattle.dh_code.specs.Suited.{CanTest, CanDo, CanDoAll}
 
 abbrev pub table_in : Known → List MemEntry
 table_in known = map entry_of known.memories
@@ -27,8 +32,11 @@ abbrev mutual
   pub FormRuns : Known → Placing → (loops : List ℕ) → ActionForm → Type 0
   FormRuns known p loops (lets name declared value) = (n : ℕ) → CanDo (table_in known) p loops (assigned known name (first_value known n declared value))
   FormRuns known p loops (lets_memory name shape shape_places value) = Unit {0}
-  -- (views have no code yet)
-  FormRuns known p loops (views name parent form) = ⊥
+  -- a view has few offsets, and keeps them in front of other commands
+  FormRuns known p loops (views name parent form) =
+      (length (offsets_of form) ≤ most_dims)
+      × ((n : ℕ) (rest : CoreCommands) → CanDoAll (table_in known) p loops rest
+      → CanDoAll (table_in known) p loops (kept_by (hidden_in (way_of known name)) (core_terms known n (terms (offsets_of form))) rest))
   FormRuns known p loops (assigns target value) = (n : ℕ) → CanDo (table_in known) p loops (assigned known target (core_term known n value))
   FormRuns known p loops (stores target value) = (m n : ℕ) → CanDo (table_in known) p loops (store_to known m target (core_term known n value))
   FormRuns known p loops (reduces target o value) = (n : ℕ) → CanDo (table_in known) p loops (folded_into known target o (kind_found value) (core_term known n value))

@@ -1,5 +1,8 @@
 -- Clocks without room, and ways over them. A count or a way past the end of its list is 0.
-use Rattle.std.specs.Prelude.{◌≡◌, ℕ, suc, ◌+◌, ◌<◌, ◌≤◌, ◌==◌, ◌&&◌, max, Bool, IsTrue, if◌then◌else◌, List, length, slice_index, Option, Some, None}
+use Rattle.std.specs.Prelude.{◌≡◌, ℕ, suc, ◌+◌, ◌<◌, ◌≤◌, ◌==◌, ◌&&◌, max, Bool, IsTrue, if◌then◌else◌, List, length, slice_index, Option, Some, None, Result, IfOk}
+use Rattle.dh_base.specs.declared.lists.NoMemory.{NoMemory}
+use Rattle.dh_plan.specs.declared.operations.OperationForm.{OperationForm}
+use Rattle.dh_plan.specs.LegalSchedules.{is_product}
 
 -- the clocks from one on and before another have no room
 abbrev pub AreFull : (limit : ℕ) → (counts : List ℕ) → (start end : ℕ) → Type 0
@@ -42,3 +45,7 @@ pub record Fills (limit : ℕ) (product : Bool) (start clock : ℕ) (before afte
   pub ways_kept : 1 ≤ limit → AreWays limit after ways
   pub both : length ways ≡ length after
   pub long : length after ≤ max (length before) (clock + 1)
+
+-- an operation of this form is placed so, where there is memory for its count
+abbrev pub PlacesForm : (limit : ℕ) → OperationForm → (start : ℕ) → (before after ways : List ℕ) → Result ℕ NoMemory → Type 0
+PlacesForm limit form start before after ways result = IfOk result (λ clock. Fills limit (is_product form) start clock before after ways)

@@ -1,12 +1,11 @@
 -- What is known of a block whose first operations stand at least clocks, and of a block that is done.
 use Rattle.std.specs.Prelude.{◌≡◌, ◌⊎◌, ℕ, ◌+◌, ◌*◌, ◌<◌, ◌≤◌, List, [], length, take, drop, slice_get, slice_index}
-use Rattle.std.specs.List.{AllByRecursion}
 use Rattle.dh_plan.specs.declared.operations.Operation.{Operation}
 use Rattle.dh_plan.specs.declared.operations.PlanBlock.{PlanBlock}
 use Rattle.dh_plan.specs.declared.schedules.Limits.{Limits}
 use Rattle.dh_plan.specs.LegalSchedules.{IsWithin, MayStandAt, AreLeast, products_at, depths_in, IsLegalBlock}
 use Rattle.dh_plan.specs.PlainPlans.{operations_before, block_operations}
-use Rattle.dh_sched.specs.Sorts.{NeedsAreMet, AreShallow}
+use Rattle.dh_sched.specs.Sorts.{NeedsAreMet, KeepsProducts, KeepsChains, AreShallow}
 use Rattle.dh_sched.specs.FullClocks.{AreWays}
 
 -- a clock that leaves the one from which on all is there, if the chain that ends there exceeds the limit
@@ -23,8 +22,8 @@ pub record AreScheduled (limits : Limits) (first : ℕ) (os : List Operation) (c
   pub long : length clocks ≡ length os
   pub least : AreLeast limits first [] [] os clocks
   pub needs : NeedsAreMet first os clocks
-  pub products : (clock : ℕ) → IsWithin limits.multipliers (products_at clock os clocks)
-  pub chains : AllByRecursion (IsWithin limits.chain) (depths_in first os clocks)
+  pub products : KeepsProducts limits.multipliers os clocks
+  pub chains : KeepsChains limits.chain first os clocks
   pub low : (k : ℕ) → slice_index clocks k ≤ 2 * length os
 
 -- the depths are told, where there is a limit

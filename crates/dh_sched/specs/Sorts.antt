@@ -1,11 +1,14 @@
 -- What functions of this crate promise one another.
-use Rattle.std.specs.Prelude.{◌≡◌, ℕ, suc, ◌+◌, ◌<◌, ◌≤◌, ◌^◌, ◌==◌, ◌&&◌, max, Bool, true, false, IsTrue, if◌then◌else◌, List, slice_get, slice_index, Option, Some, None, unwrap_or}
+use Rattle.std.specs.Prelude.{◌≡◌, ◌↔◌, ℕ, suc, ◌+◌, ◌<◌, ◌≤◌, ◌^◌, ◌==◌, ◌&&◌, max, Bool, true, false, IsTrue, if◌then◌else◌, List, map, slice_get, slice_index, Option, Some, None, unwrap_or, Result, IfOk}
+use Rattle.std.specs.List.{AllByRecursion}
 use Rattle.std.specs.BTreeMap.{BTreeMap, get}
 use Rattle.std.specs.Ordering.{nat_cmp}
+use Rattle.dh_base.specs.declared.lists.NoMemory.{NoMemory}
 use Rattle.dh_value.specs.declared.operators.Op.{Op}
 use Rattle.dh_value.specs.declared.operators.Op.TheVariants as op
 use Rattle.dh_plan.specs.declared.operations.Operation.{Operation}
-use Rattle.dh_plan.specs.LegalSchedules.{needed_clock, there_at, is_product}
+use Rattle.dh_plan.specs.declared.schedules.Limits.{Limits}
+use Rattle.dh_plan.specs.LegalSchedules.{needed_clock, there_at, value_clock, greatest_of, is_product, products_at, depths_in, IsWithin, IsLegalBlock}
 
 -- an operator multiplies
 abbrev pub is_times : Op → Bool
@@ -15,6 +18,22 @@ is_times _ = false
 -- each operation of a block stands where all is there that it takes
 abbrev pub NeedsAreMet : (first : ℕ) → List Operation → (clocks : List ℕ) → Type 0
 NeedsAreMet first os clocks = (i : ℕ) (o : Operation) → slice_get os i ≡ Some o → needed_clock first os clocks o ≤ slice_index clocks i
+
+-- the clock from which on all of these values are there
+abbrev pub all_there_at : (first : ℕ) → List Operation → (clocks taken : List ℕ) → ℕ
+all_there_at first os clocks taken = greatest_of (map (value_clock first os clocks) taken)
+
+-- no clock has more multiplications than the limit allows
+abbrev pub KeepsProducts : (limit : ℕ) → List Operation → (clocks : List ℕ) → Type 0
+KeepsProducts limit os clocks = (clock : ℕ) → IsWithin limit (products_at clock os clocks)
+
+-- no more operators follow one another in a clock than the limit allows
+abbrev pub KeepsChains : (limit first : ℕ) → List Operation → (clocks : List ℕ) → Type 0
+KeepsChains limit first os clocks = AllByRecursion (IsWithin limit) (depths_in first os clocks)
+
+-- whether a block of these operations, clocks and length is legal is decided
+abbrev pub DecidesBlock : Limits → (first : ℕ) → List Operation → (clocks : List ℕ) → (block_length : ℕ) → Result Bool NoMemory → Type 0
+DecidesBlock limits first os clocks block_length result = IfOk result (λ legal. IsTrue legal ↔ IsLegalBlock limits first os clocks block_length)
 
 -- clocks that leave room for two more
 abbrev pub AreSmall : (clocks : List ℕ) → Type 0
@@ -44,3 +63,7 @@ CountsProduct o before after clock limit false = IsTrue (is_product o.form) × (
 -- how many are counted at a clock
 abbrev pub count_in : BTreeMap ℕ ℕ → (clock : ℕ) → ℕ
 count_in counts clock = unwrap_or (get nat_cmp counts clock) 0
+
+-- an operation is counted so in a map of counts
+abbrev pub MapCountsProduct : Operation → (before after : BTreeMap ℕ ℕ) → (clock limit : ℕ) → Bool → Type 0
+MapCountsProduct o before after clock limit kept = CountsProduct o (count_in before) (count_in after) clock limit kept

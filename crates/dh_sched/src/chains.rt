@@ -1,11 +1,10 @@
 //! How many operators follow one another within a clock.
 
-ghost use Rattle.std.specs.Prelude.{◌≡◌, ◌↔◌, ◌+◌, ◌≤◌, IsTrue, map, suc, slice_index, length, IfOk};
-ghost use Rattle.std.specs.List.{AllByRecursion};
+ghost use Rattle.std.specs.Prelude.{◌≡◌, ◌↔◌, ◌+◌, IsTrue, map, slice_index, length, IfOk};
 ghost use Rattle.dh_plan.specs.LegalSchedules as definitions;
-ghost use Rattle.dh_plan.specs.LegalSchedules.{greatest_of, IsWithin, depths_in};
+ghost use Rattle.dh_plan.specs.LegalSchedules.{greatest_of};
 ghost use Rattle.dh_plan.specs.Ordered.{operation_takes};
-ghost use Rattle.dh_sched.specs.Sorts.{AreShallow};
+ghost use Rattle.dh_sched.specs.Sorts.{AreShallow, KeepsChains};
 
 use crate::kinds::is_operator;
 use crate::needs::clock_at;
@@ -38,7 +37,8 @@ fn depth_taken(first: u64, clock: u128, clocks: &[u128], depths: &[u64], number:
 
 // The greatest depth of values that an operation at a clock takes.
 fn deepest_taken(first: u64, clock: u128, clocks: &[u128], depths: &[u64], taken: &[u64]) -> u64
-    ensures { result ≡ greatest_of (map (definitions.depth_taken first clock clocks.now depths.now) taken.now) }
+    ensures { result ≡ greatest_of (map (definitions.depth_taken first clock clocks.now depths.now)
+        taken.now) }
 {
     let mut deepest = 0;
     for number in taken {
@@ -77,7 +77,8 @@ pub fn chains_are_kept(
     clocks: &[u128],
 ) -> Result<bool, NoMemory>
     requires { length clocks.now ≡ length operations.now }
-    ensures { IfOk result (λ kept. IsTrue kept ↔ AllByRecursion (IsWithin limit) (depths_in first operations.now clocks.now)) }
+    ensures { IfOk result (λ kept. IsTrue kept
+        ↔ KeepsChains limit first operations.now clocks.now) }
 {
     if limit == 0 {
         return Ok(true);

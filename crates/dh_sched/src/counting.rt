@@ -1,8 +1,7 @@
 //! How many multiplications stand at each clock, whatever the clocks.
 
-ghost use Rattle.std.specs.Prelude.{ℕ, ◌≡◌, ◌↔◌, IsTrue, length, IfOk};
-ghost use Rattle.dh_plan.specs.LegalSchedules.{IsWithin, products_at};
-ghost use Rattle.dh_sched.specs.Sorts.{Counts, CountsProduct, count_in};
+ghost use Rattle.std.specs.Prelude.{◌≡◌, ◌↔◌, IsTrue, length, IfOk};
+ghost use Rattle.dh_sched.specs.Sorts.{Counts, KeepsProducts, MapCountsProduct, count_in};
 
 use crate::kinds::is_product;
 use dh_base::NoMemory;
@@ -12,7 +11,8 @@ use std::collections::BTreeMap;
 
 // Counts one more at a clock, where the limit allows it.
 fn count_one(counts: &mut BTreeMap<u128, u32>, clock: u128, limit: u32) -> Result<bool, NoMemory>
-    ensures { IfOk result (λ kept. Counts (count_in counts.old) (count_in counts.new) clock limit kept) }
+    ensures { IfOk result (λ kept. Counts (count_in counts.old) (count_in counts.new) clock limit
+        kept) }
 {
     let count = match counts.get(&clock) {
         Some(count) => *count,
@@ -32,7 +32,8 @@ fn count_product(
     clock: u128,
     limit: u32,
 ) -> Result<bool, NoMemory>
-    ensures { IfOk result (λ kept. CountsProduct operation.now (count_in counts.old) (count_in counts.new) clock limit kept) }
+    ensures { IfOk result (λ kept. MapCountsProduct operation.now counts.old counts.new clock limit
+        kept) }
 {
     if is_product(&operation.form) {
         count_one(counts, clock, limit)
@@ -49,7 +50,7 @@ pub fn products_are_kept(
     clocks: &[u128],
 ) -> Result<bool, NoMemory>
     requires { length clocks.now ≡ length operations.now }
-    ensures { IfOk result (λ kept. IsTrue kept ↔ ((clock : ℕ) → IsWithin limit (products_at clock operations.now clocks.now))) }
+    ensures { IfOk result (λ kept. IsTrue kept ↔ KeepsProducts limit operations.now clocks.now) }
 {
     if limit == 0 {
         return Ok(true);

@@ -2,9 +2,8 @@
 //! A clock without room has a way to a later one, over clocks without room. A walk along ways halves them as it goes,
 //! so that all walks of a block together take few steps for each multiplication: O(log n), and nearly one as a rule.
 
-ghost use Rattle.std.specs.Prelude.{ℕ, ◌≡◌, ◌+◌, ◌<◌, ◌≤◌, ◌^◌, max, length, slice_index, IfOk, OnOk};
-ghost use Rattle.dh_plan.specs.LegalSchedules as definitions;
-ghost use Rattle.dh_sched.specs.FullClocks.{AreFull, AreWays, HasTried, CountsAt, Fills, FindsRoom};
+ghost use Rattle.std.specs.Prelude.{ℕ, ◌≡◌, ◌+◌, ◌<◌, ◌≤◌, ◌^◌, max, length, slice_index, OnOk};
+ghost use Rattle.dh_sched.specs.FullClocks.{AreWays, HasTried, CountsAt, PlacesForm, FindsRoom};
 
 use crate::kinds::is_product;
 use dh_base::NoMemory;
@@ -67,9 +66,12 @@ fn reach(counts: &mut Vec<u32>, ways: &mut Vec<usize>, clock: usize) -> Result<(
     requires small { clock + 1 < 2 ^ 64 }
     requires both { length ways.old.items ≡ length counts.old.items }
     ensures both { OnOk result (length ways.new.items ≡ length counts.new.items) }
-    ensures long { OnOk result (length counts.new.items ≡ max (length counts.old.items) (clock + 1)) }
-    ensures counts { OnOk result ((at : ℕ) → slice_index counts.new.items at ≡ slice_index counts.old.items at) }
-    ensures ways { OnOk result ((at : ℕ) → slice_index ways.new.items at ≡ slice_index ways.old.items at) }
+    ensures long { OnOk result (length counts.new.items
+        ≡ max (length counts.old.items) (clock + 1)) }
+    ensures counts { OnOk result ((at : ℕ) → slice_index counts.new.items at
+        ≡ slice_index counts.old.items at) }
+    ensures ways { OnOk result ((at : ℕ) → slice_index ways.new.items at
+        ≡ slice_index ways.old.items at) }
 {
     let long = counts.len().max(clock + 1);
     counts.resize(long, 0)?;
@@ -98,7 +100,8 @@ fn fill(
     requires ways { AreWays limit counts.old.items ways.old.items }
     requires room { slice_index counts.old.items clock < limit }
     ensures both { OnOk result (length ways.new.items ≡ length counts.new.items) }
-    ensures long { OnOk result (length counts.new.items ≡ max (length counts.old.items) (clock + 1)) }
+    ensures long { OnOk result (length counts.new.items
+        ≡ max (length counts.old.items) (clock + 1)) }
     ensures counts { OnOk result (CountsAt counts.old.items counts.new.items clock) }
     ensures ways { OnOk result (AreWays limit counts.new.items ways.new.items) }
 {
@@ -121,7 +124,8 @@ pub fn place_from(
     requires long { length counts.old.items + 1 < 2 ^ 64 }
     requires both { length ways.old.items ≡ length counts.old.items }
     requires ways { 1 ≤ limit → AreWays limit counts.old.items ways.old.items }
-    ensures { IfOk result (λ clock. Fills limit (definitions.is_product form.now) start clock counts.old.items counts.new.items ways.new.items) }
+    ensures { PlacesForm limit form.now start counts.old.items counts.new.items ways.new.items
+        result }
 {
     if limit == 0 {
         return Ok(start);

@@ -1,9 +1,9 @@
 //! Whether a schedule is legal, judged block by block.
 
-ghost use Rattle.std.specs.Prelude.{◌≡◌, ◌↔◌, IsTrue, length, IfOk};
-ghost use Rattle.dh_plan.specs.LegalSchedules.{IsLegalBlock};
+ghost use Rattle.std.specs.Prelude.{◌≡◌, length, IfOk};
 ghost use Rattle.dh_plan.specs.Passes.{DecidesLegal};
 ghost use Rattle.dh_plan.specs.SeenPlans.{plan_seen};
+ghost use Rattle.dh_sched.specs.Sorts.{DecidesBlock};
 
 use crate::chains::chains_are_kept;
 use crate::counting::products_are_kept;
@@ -22,7 +22,7 @@ fn is_legal_block(
     block_length: u128,
 ) -> Result<bool, NoMemory>
     requires { length clocks.now ≡ length operations.now }
-    ensures { IfOk result (λ legal. IsTrue legal ↔ IsLegalBlock limits first operations.now clocks.now block_length) }
+    ensures { DecidesBlock limits first operations.now clocks.now block_length result }
 {
     if !is_end(operations, clocks, block_length) {
         return Ok(false);

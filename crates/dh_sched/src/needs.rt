@@ -1,9 +1,9 @@
 //! When what an operation takes is there.
 
-ghost use Rattle.std.specs.Prelude.{◌≡◌, ◌↔◌, ◌+◌, ◌≤◌, IsTrue, map, suc, slice_index, length, IfOk};
+ghost use Rattle.std.specs.Prelude.{◌≡◌, ◌↔◌, ◌+◌, ◌≤◌, IsTrue, suc, slice_index, length, IfOk};
 ghost use Rattle.dh_plan.specs.LegalSchedules as definitions;
-ghost use Rattle.dh_plan.specs.LegalSchedules.{greatest_of, last_clock};
-ghost use Rattle.dh_sched.specs.Sorts.{AreSmall, IsLater, NeedsAreMet};
+ghost use Rattle.dh_plan.specs.LegalSchedules.{last_clock};
+ghost use Rattle.dh_sched.specs.Sorts.{all_there_at, AreSmall, IsLater, NeedsAreMet};
 
 use crate::kinds::{is_read, there_at};
 use crate::taking::note_taken;
@@ -23,7 +23,8 @@ pub fn clock_at(clocks: &[u128], at: usize) -> u128
 
 // Whether a value is there at a clock.
 fn is_there(first: u64, operations: &[Operation], clocks: &[u128], number: u64, own: u128) -> bool
-    ensures { IsTrue result ↔ (definitions.value_clock first operations.now clocks.now number ≤ own) }
+    ensures { IsTrue result
+        ↔ (definitions.value_clock first operations.now clocks.now number ≤ own) }
 {
     let at = number.saturating_sub(first) as usize;
     let clock = clock_at(clocks, at);
@@ -52,7 +53,7 @@ fn are_there(
     taken: &[u64],
     own: u128,
 ) -> bool
-    ensures { IsTrue result ↔ (greatest_of (map (definitions.value_clock first operations.now clocks.now) taken.now) ≤ own) }
+    ensures { IsTrue result ↔ (all_there_at first operations.now clocks.now taken.now ≤ own) }
 {
     for number in taken {
         if !is_there(first, operations, clocks, *number, own) {
@@ -132,7 +133,7 @@ fn value_clock(first: u64, operations: &[Operation], clocks: &[u128], number: u6
 /// The clock from which on all of these values are there.
 pub fn needed_clock(first: u64, operations: &[Operation], clocks: &[u128], taken: &[u64]) -> u128
     requires { AreSmall clocks.now }
-    ensures { result ≡ greatest_of (map (definitions.value_clock first operations.now clocks.now) taken.now) }
+    ensures { result ≡ all_there_at first operations.now clocks.now taken.now }
 {
     let mut needed = 0;
     for number in taken {

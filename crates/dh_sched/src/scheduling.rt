@@ -30,7 +30,9 @@ fn unchained(
     requires small { needed + 1 < 2 ^ 128 }
     requires shallow { AreShallow depths.now }
     requires taken { taken.now ≡ operation_takes operation.now }
-    ensures { Unchains limit (definitions.depth_at first needed clocks.now depths.now operation.now) needed result }
+    ensures { Unchains limit
+        (definitions.depth_at first needed clocks.now depths.now operation.now)
+        needed result }
 {
     if limit == 0 {
         return needed;
@@ -55,11 +57,13 @@ fn note_depth(
 ) -> Result<(), NoMemory>
     requires shallow { AreShallow depths.old.items }
     requires taken { taken.now ≡ operation_takes operation.now }
-    requires within { IsWithin limit (definitions.depth_at first clock clocks.now depths.old.items operation.now) }
+    requires within { IsWithin limit
+        (definitions.depth_at first clock clocks.now depths.old.items operation.now) }
     ensures shallow { OnOk result (AreShallow depths.new.items) }
     ensures unlimited { OnOk result (limit ≡ 0 → depths.new.items ≡ depths.old.items) }
     ensures limited { OnOk result (1 ≤ limit → depths.new.items
-        ≡ depths.old.items ++ definitions.depth_at first clock clocks.now depths.old.items operation.now ∷ []) }
+        ≡ depths.old.items ++
+        definitions.depth_at first clock clocks.now depths.old.items operation.now ∷ []) }
 {
     if limit == 0 {
         return Ok(());
@@ -85,11 +89,14 @@ fn least_clock(
     requires taken { taken.now ≡ operation_takes operation.now }
     requires scheduled { AreScheduled limits first before.now clocks.now }
     requires depths { AreDepths limits.chain first before.now clocks.now depths.now }
-    requires counts { AreCounts limits.multipliers before.now clocks.now counts.old.items ways.old.items }
-    ensures least { IfOk result (λ clock. IsLeast limits first before.now clocks.now operation.now clock) }
+    requires counts { AreCounts limits.multipliers before.now clocks.now counts.old.items
+        ways.old.items }
+    ensures least { IfOk result (λ clock. IsLeast limits first before.now clocks.now operation.now
+        clock) }
     ensures low { IfOk result (λ clock. clock ≤ 2 * length before.now + 2) }
-    ensures counts { IfOk result (λ clock. AreCounts limits.multipliers (before.now ++ operation.now ∷ []) (clocks.now ++ clock ∷ [])
-        counts.new.items ways.new.items) }
+    ensures counts { IfOk result (λ clock. AreCounts limits.multipliers
+        (before.now ++ operation.now ∷ []) (clocks.now ++ clock ∷ []) counts.new.items
+        ways.new.items) }
 {
     let needed = needed_clock(first, before, clocks, taken);
     let start = unchained(

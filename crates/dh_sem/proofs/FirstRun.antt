@@ -21,7 +21,8 @@ use Rattle.dh_code.specs.declared.running.State.{State}
 use Rattle.dh_code.specs.declared.spending.Bank.{Bank}
 use Rattle.dh_code.specs.Banks.{AreFirsts, all_banks}
 use Rattle.dh_code.specs.Spent.{AreUsedBy}
-use Rattle.dh_code.specs.Declarations.{Declaration, all_held, declaration_in, declarations, factors_of, placing_of, slots_counted, slots_of}
+use Rattle.dh_meaning.specs.Ways.{all_entities_of}
+use Rattle.dh_code.specs.Declarations.{Declaration, all_declarations_of, all_held, declaration_in, factors_of, placing_of, slots_counted, slots_of}
 use Rattle.dh_code.specs.Ranks.{copies_in}
 use Rattle.dh_code.specs.Scenes.{AreSmall, IsSoundCode}
 use Rattle.dh_code.specs.Slots.{EndsBefore, Holds, IsPlacing, held_at, slot_of}
@@ -84,10 +85,10 @@ held_first ds count from (suc n) (suc e) within = held_first ds (count + copies_
 
 module _ (p : Program) where
   abbrev ds : List Declaration
-  ds = declarations [] p.body
+  ds = all_declarations_of p
 
   abbrev many : ℕ
-  many = length p.entities
+  many = all_entities_of p
 
   within_many : (e : ℕ) → e < length (placing_of p).held → e < many
   within_many e h = subst (λ (n : ℕ). e < n) (length_held ds 0 0 many) h

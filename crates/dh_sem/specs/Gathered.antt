@@ -7,16 +7,18 @@ use Rattle.dh_tree.specs.declared.tables.MemEntry.{MemEntry}
 use Rattle.dh_tree.specs.declared.trees.commands.Command.{Command}
 use Rattle.dh_tree.specs.declared.trees.expressions.Expr.{Expr}
 use Rattle.dh_tree.specs.declared.trees.expressions.Ref.{Ref}
-use Rattle.dh_tree.specs.PlainTrees.{Action}
+use Rattle.dh_tree.specs.Memories.{table_of}
+use Rattle.dh_tree.specs.PlainTrees.{Action, Program}
 use Rattle.dh_tree.specs.Seen.{action_seen, groups, part_seen}
 use Rattle.dh_tree.specs.Shapes.{IsMemory}
-use Rattle.dh_meaning.specs.CoreOf.{Known, core_phase, core_phases, entity_number}
+use Rattle.dh_meaning.specs.CoreOf.{Known, core_of, core_phase, core_phases, entity_number}
 use Rattle.dh_meaning.specs.Phases as source
 use Rattle.dh_meaning.specs.Phases.{groups_phases, phases, Located, straight, turns, repeated, decided}
 use Rattle.dh_meaning.specs.Sites.{Around, nothing_around}
 use Rattle.dh_code.specs.declared.codes.Flat.{Flat}
 use Rattle.dh_code.specs.declared.flattening.Names.{Names}
 use Rattle.dh_code.specs.Coded.{AreSlotsOf, Extends}
+use Rattle.dh_code.specs.Declarations.{placing_of}
 use Rattle.dh_code.specs.Flattening.{HoldsFlat, IsPlacingOf, known_in, table_in}
 use Rattle.dh_code.specs.Scenes.{IsSoundCode}
 use Rattle.dh_code.specs.Slots.{Placing}
@@ -245,3 +247,8 @@ HoldsAll names old new body first =
     (p : Placing) → IsPlacingOf p names → CanRunList (table_in names) (known_in names) p [] (phases nothing_around 0 (action_seen body)) → AllByRecursion IsMemory (table_in names) → LeadsInto old.lanes.items 0 [] → IsSoundMade (table_in names) old
     → IsSoundMade (table_in names) new
     × (IsEarlier (length new.phases.items) first × ArePhases (table_in names) p (course_made new) [] first (core_phases (known_in names) (source.of_list (phases nothing_around 0 (action_seen body)))))
+
+-- what is made of a program before its first step stands as its phases do
+abbrev pub HoldsProgram : Program → Made → (first : Option ℕ) → Type 0
+HoldsProgram p made first =
+    IsSoundMade (table_of p) made × (IsEarlier (length made.phases.items) first × ArePhases (table_of p) (placing_of p) (course_made made) [] first (core_of p).phases)

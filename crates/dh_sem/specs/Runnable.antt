@@ -1,14 +1,16 @@
 -- Programs that can be run: the phases of the core suit the kinds of their operators, each variable is named where
 -- it is declared, and the paths inside loops and the slots of variables can be numbered.
-use Rattle.std.specs.Prelude.{◌≡◌, ℕ, ◌+◌, ◌*◌, ◌-◌, ◌≤◌, ◌^◌, List, [], length}
+use Rattle.std.specs.Prelude.{ℕ, ◌+◌, ◌*◌, ◌-◌, ◌≤◌, ◌^◌, List, [], length}
+use Rattle.std.specs.List.{AllByRecursion}
 use Rattle.dh_tree.specs.declared.tables.MemEntry.{MemEntry}
 use Rattle.dh_tree.specs.PlainTrees.{Program}
 use Rattle.dh_meaning.specs.Core.{Turning, CorePhase, straightly, turning, looping, choosing, CorePhases, no_core_phases, phase_and}
-use Rattle.dh_meaning.specs.Bindings.{bindings_of}
 use Rattle.dh_meaning.specs.CoreOf.{core_of}
-use Rattle.dh_meaning.specs.Ways.{all_bindings_of, ways_of}
-use Rattle.dh_code.specs.Declarations.{declarations, factors_inside, placing_of}
-use Rattle.dh_code.specs.Placed.{AreFew, most_entities}
+use Rattle.dh_meaning.specs.Ways.{all_entities_of, ways_of}
+use Rattle.dh_ways.specs.CutStands.{IsFewRound}
+use Rattle.dh_ways.specs.Stands.{stands}
+use Rattle.dh_code.specs.Declarations.{declarations, factors_inside, hidden_declarations, placing_of}
+use Rattle.dh_code.specs.Placed.{AreFew, IsNamedBelow, most_entities}
 use Rattle.dh_code.specs.Ranks.{copies_in, most_paths}
 use Rattle.dh_code.specs.Slots.{Placing}
 use Rattle.dh_code.specs.Suited.{CanDoAll, CanTest, IsInside}
@@ -35,7 +37,10 @@ abbrev mutual
 pub record IsRunnable (p : Program) : Type 0 where
   pub phases : CanRunAll (core_of p).table (placing_of p) [] (core_of p).phases
   pub copies : AreFew (declarations [] p.body)
-  pub entities : length p.entities ≤ most_entities
-  -- programs that are run have no views yet
-  pub ways : ways_of p ≡ []
-  pub bindings : all_bindings_of p ≡ bindings_of p
+  -- of the variables that keep offsets, too
+  pub hidden : AreFew (hidden_declarations p)
+  pub entities : all_entities_of p ≤ most_entities
+  -- the loops round views, and their copies, can be numbered
+  pub round : AllByRecursion IsFewRound (stands 0 1 p.body)
+  -- no view has the number of such a variable
+  pub named : AllByRecursion (λ l. IsNamedBelow (length p.entities) l.entity) (ways_of p)

@@ -1,12 +1,17 @@
 //! A run of a typed program, step by step.
 
-ghost use Rattle.std.specs.Prelude.{◌≡◌, ◌+◌, ◌-◌, ◌<◌, ◌≤◌, ◌^◌, [], IfOk, length, replicate};
+ghost use Rattle.std.specs.Prelude.{◌≡◌, ◌+◌, ◌-◌, ◌<◌, ◌≤◌, ◌^◌, [], IfOk, length, map, replicate};
 ghost use Rattle.std.specs.List.{AllByRecursion};
 ghost use Rattle.dh_tree.specs.Memories.{table_of};
 ghost use Rattle.dh_tree.specs.Seen.{program_seen};
 ghost use Rattle.dh_tree.specs.Shapes.{IsProgramTable, IsMemory};
 ghost use Rattle.dh_tree.specs.Tables.{Fits, elements_in, most_elements};
 ghost use Rattle.dh_code.specs.Banks.{AreFirsts, all_banks};
+ghost use Rattle.dh_meaning.specs.Ways.{ways_of};
+ghost use Rattle.dh_ways.specs.Seen.{led_seen};
+ghost use Rattle.dh_code.specs.Declarations.{placing_of};
+ghost use Rattle.dh_sem.specs.Gathered.{HoldsProgram, IsSoundMade};
+ghost use Rattle.dh_sem.specs.Lanes.{AreFirstLanes};
 ghost use Rattle.dh_sem.specs.Runnable.{IsRunnable};
 ghost use Rattle.dh_sem.specs.Runs.{StandsAt, StepsOn, place_outcome};
 ghost use Rattle.dh_sem.specs.Steps.{stop_outcome};
@@ -16,10 +21,10 @@ use crate::lanes::first_lanes;
 use crate::phases::Frame;
 use crate::stepping::{Course, advance, go_on, make_writes};
 use dh_base::{Items, NoMemory, Outcome};
-use dh_code::{Code, Names, Scene, State, Stop, place_all, unused};
+use dh_code::{Code, Held, Names, Scene, State, Stop, place_all, unused};
 use dh_extents::measure;
 use dh_tree::{MemEntry, Memories, Typed};
-use dh_ways::Led;
+use dh_ways::{WayTable, hidden_in, ways_in};
 use std::alloc::Global;
 use std::marker::Model;
 use std::mem;
@@ -141,6 +146,32 @@ fn stopped_at(stop: Stop) -> Option<Outcome>
     }
 }
 
+/// Makes the phases of a program of which these are the ways and the slots.
+fn hold_program(
+    alloc: Global,
+    program: &Typed,
+    ways: &WayTable,
+    places: &[Held],
+    made: &mut Made,
+) -> Result<Option<usize>, NoMemory>
+    requires table { IsProgramTable (table_of (program_seen program.now)) }
+    requires runnable { IsRunnable (program_seen program.now) }
+    requires ways { map led_seen ways.now ≡ ways_of (program_seen program.now) }
+    requires places { places.now ≡ (placing_of (program_seen program.now)).held }
+    requires lanes { AreFirstLanes made.old.lanes.items }
+    requires sound { IsSoundMade (table_of (program_seen program.now)) made.old }
+    ensures { IfOk result (λ first. HoldsProgram (program_seen program.now) made.new first) }
+{
+    let tree = program.tree();
+    let names = Names {
+        alloc,
+        program,
+        ways,
+        places,
+    };
+    hold_all(&names, made, &tree.body)
+}
+
 impl<'a> Interp<'a> {
     /// The program before its first step, with these memories.
     ///
@@ -159,15 +190,10 @@ impl<'a> Interp<'a> {
     {
         let entries = program.memories().as_slice();
         let tree = program.tree();
-        let held = place_all(alloc, &tree.body, tree.entities.len())?;
-        let ways: Items<Led> = Items::new(alloc);
-        let led = ways.as_slice();
-        let names = Names {
-            alloc,
-            program,
-            ways: led,
-            places: held.held.as_slice(),
-        };
+        let ways = ways_in(alloc, program)?;
+        let hidden = hidden_in(alloc, program)?;
+        let kept = hidden.as_slice();
+        let held = place_all(alloc, &tree.body, kept, tree.entities.len())?;
         let mut made = Made {
             code: Code {
                 operations: Items::new(alloc),
@@ -176,7 +202,7 @@ impl<'a> Interp<'a> {
             phases: Vec::new(alloc),
             lanes: first_lanes(alloc)?,
         };
-        let first = hold_all(&names, &mut made, &tree.body)?;
+        let first = hold_program(alloc, program, &ways, held.held.as_slice(), &mut made)?;
         let mut state = State {
             variables: zeros(alloc, held.count as usize)?,
             given: zeros(alloc, made.code.operations.len())?,

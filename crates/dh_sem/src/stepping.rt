@@ -157,7 +157,8 @@ fn descend(
 ) -> Result<Option<usize>, NoMemory>
     requires course { AreLinked course.now.phases.now course.now.lanes.now }
     requires list { IsEarlier (length course.now.phases.now) list }
-    requires frames { AllByRecursion (IsSoundFrame (length course.now.phases.now)) frames.old.items }
+    requires frames { AllByRecursion (IsSoundFrame (length course.now.phases.now))
+        frames.old.items }
     ensures only { OnlyVariables state.old state.new }
     ensures frames { IfOk result
         (λ _. AllByRecursion (IsSoundFrame (length course.now.phases.now)) frames.new.items) }
@@ -225,7 +226,8 @@ fn next_turn(
     requires course { AreLinked course.now.phases.now course.now.lanes.now }
     requires there { at < length course.now.phases.now }
     requires turn { turn < 2 ^ 64 - 1 }
-    requires frames { AllByRecursion (IsSoundFrame (length course.now.phases.now)) frames.old.items }
+    requires frames { AllByRecursion (IsSoundFrame (length course.now.phases.now))
+        frames.old.items }
     ensures only { OnlyVariables state.old state.new }
     ensures frames { IfOk result
         (λ _. AllByRecursion (IsSoundFrame (length course.now.phases.now)) frames.new.items) }
@@ -258,7 +260,8 @@ fn follow(
 ) -> Result<Option<usize>, NoMemory>
     requires course { AreLinked course.now.phases.now course.now.lanes.now }
     requires frame { IsSoundFrame (length course.now.phases.now) frame }
-    requires frames { AllByRecursion (IsSoundFrame (length course.now.phases.now)) frames.old.items }
+    requires frames { AllByRecursion (IsSoundFrame (length course.now.phases.now))
+        frames.old.items }
     ensures only { OnlyVariables state.old state.new }
     ensures frames { IfOk result
         (λ _. AllByRecursion (IsSoundFrame (length course.now.phases.now)) frames.new.items) }
@@ -298,7 +301,8 @@ pub fn go_on(
     holds: bool,
 ) -> Result<Option<usize>, NoMemory>
     requires course { AreLinked course.now.phases.now course.now.lanes.now }
-    requires frames { AllByRecursion (IsSoundFrame (length course.now.phases.now)) frames.old.items }
+    requires frames { AllByRecursion (IsSoundFrame (length course.now.phases.now))
+        frames.old.items }
     ensures only { OnlyVariables state.old state.new }
     ensures frames { IfOk result
         (λ _. AllByRecursion (IsSoundFrame (length course.now.phases.now)) frames.new.items) }
@@ -328,7 +332,8 @@ fn run_next(
     requires scene { IsScene scene.now }
     requires ready { IsReady scene.now state.old }
     requires course { IsSoundCourse (course_seen scene.now course.now) }
-    requires frames { AllByRecursion (IsSoundFrame (length course.now.phases.now)) frames.old.items }
+    requires frames { AllByRecursion (IsSoundFrame (length course.now.phases.now))
+        frames.old.items }
     requires there { at < length course.now.phases.now }
     ensures ready { IsReady scene.now state.new }
     ensures back { KeepsBack state.old state.new }
@@ -356,7 +361,8 @@ pub fn advance(
     requires scene { IsScene scene.now }
     requires rested { IsRested scene.now state.old }
     requires course { IsSoundCourse (course_seen scene.now course.now) }
-    requires frames { AllByRecursion (IsSoundFrame (length course.now.phases.now)) frames.old.items }
+    requires frames { AllByRecursion (IsSoundFrame (length course.now.phases.now))
+        frames.old.items }
     requires there { at < length course.now.phases.now }
     ensures ready { IsReady scene.now state.new }
     ensures back { BackIfStopped result state.old state.new }

@@ -3,8 +3,9 @@ use Rattle.std.specs.Prelude.{◌≡◌, ℕ, Bool, false, List, length, map, Ve
 use Rattle.std.specs.Global.{Global}
 use Rattle.dh_tree.specs.Tables.{Fits}
 use Rattle.dh_net.specs.declared.nets.Net.{Net}
+use Rattle.dh_net.specs.declared.ports.Port.{Port}
 use Rattle.dh_net.specs.Valid.{IsValid}
-use Rattle.dh_net.specs.Clock.{State, Settles, has_clashes, start_of}
+use Rattle.dh_net.specs.Clock.{State, Settles, has_clashes, held_after, memories_after, start_of}
 use Rattle.dh_net.specs.Laws.{FitsNet}
 
 -- a simulator: its net, the state in which it stands, and whether the last clock had a clash
@@ -24,6 +25,14 @@ state_of registers held memories = record { registers = registers; held = held; 
 -- a simulator before its net's first clock, with these memories
 abbrev pub started : Net → List (List ℕ) → Point
 started net memories = record { net = net; state = start_of net memories; clash = false }
+
+-- in a clock with these wires the ports take what they read of the memories into the held data
+abbrev pub ReadsPorts : Net → List Port → (wires : List ℕ) → List (Vec ℕ Global) → (before after : List ℕ) → Type 0
+ReadsPorts net ports wires memories before after = after ≡ held_after net.table wires net.drivers ports (lists_of memories) before
+
+-- in a clock with these wires the ports write into the memories
+abbrev pub WritesPorts : Net → List Port → (wires : List ℕ) → (before after : List (Vec ℕ Global)) → Type 0
+WritesPorts net ports wires before after = lists_of after ≡ memories_after net.table wires net.drivers ports (lists_of before)
 
 -- a clock from where the simulator stands has a clash, or has none
 abbrev pub Clashes : Point → Bool → Type 0

@@ -1,15 +1,16 @@
--- That what a cell names is there: it has its place in the registers, the held data or the wires; and that
--- the operands of an operation are words.
+-- That what a cell names is there: it has its place in the registers, the held data or the wires; which value it
+-- has; and that the operands of an operation are words.
 use Rattle.std.specs.Prelude.{◌≡◌, ℕ, ◌<◌, ◌^◌, true, List, length, slice_get, slice_index, Option, Some, None}
 use Rattle.dh_tree.specs.declared.tables.MemEntry.{MemEntry}
 use Rattle.dh_value.specs.Words.{IsWidth}
 use Rattle.dh_tree.specs.Elements.{banks_of, rows_of}
 use Rattle.dh_net.specs.BankPorts.{port_number}
 use Rattle.dh_extents.specs.Extents.{IsSmallMemory}
-use Rattle.dh_net.specs.Clock.{wire_width}
+use Rattle.dh_net.specs.Clock.{wire_width, form_value}
 use Rattle.dh_net.specs.declared.nets.Cell.{Cell}
 use Rattle.dh_net.specs.declared.nets.CellForm.{CellForm}
 use Rattle.dh_net.specs.declared.nets.Driver.{Driver}
+use Rattle.dh_net.specs.declared.nets.Net.{Net}
 use Rattle.dh_net.specs.declared.ports.Port.{Port}
 use Rattle.dh_net.specs.declared.nets.CellForm.TheVariants.{Const, Reg, Data, Add, Sub, Mul, And, Or, Xor, Shl, ShrU, ShrS, LtU, LtS, Eq, Mux, Zero, Sign, Low}
 
@@ -34,6 +35,14 @@ IsInRooms table registers held wires (Mux c a b) = (c < wires) × ((a < wires) �
 IsInRooms table registers held wires (Zero a) = a < wires
 IsInRooms table registers held wires (Sign a) = a < wires
 IsInRooms table registers held wires (Low a) = a < wires
+
+-- what the cell of a net names is there
+abbrev pub HasRooms : Net → (registers held wires : List ℕ) → Cell → Type 0
+HasRooms net registers held wires c = IsInRooms net.table (length registers) (length held) (length wires) c.form
+
+-- the value of the cell of a net, by the registers, the held data and the wires
+abbrev pub value_in : Net → (registers held wires : List ℕ) → Cell → ℕ
+value_in net registers held wires c = form_value net.table net.cells registers held wires c.width c.form
 
 -- a wire is below 2 to the power of a width
 abbrev pub WireFits : List ℕ → (wire width : ℕ) → Type 0

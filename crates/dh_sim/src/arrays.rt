@@ -60,7 +60,8 @@ pub fn settled_wires(
     requires fit { ArraysFit net.now registers.now held.now }
     requires registers { length registers.now ≡ length net.now.registers }
     requires held { length held.now ≡ length net.now.drivers }
-    ensures { IfOk result (λ v. IsValuation net.now.table net.now.cells registers.now held.now v.items) }
+    ensures { IfOk result (λ v. IsValuation net.now.table net.now.cells registers.now held.now
+        v.items) }
 {
     let mut wires = zeros(alloc, net.cells.len())?;
     settle(net, layout, registers, held, &mut wires);

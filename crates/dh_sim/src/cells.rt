@@ -1,14 +1,14 @@
 //! The values of cells, and the walk that gives each wire its value.
 
-ghost use Rattle.std.specs.Prelude.{◌≡◌, ◌+◌, ◌%◌, ◌^◌, ◌<◌, ◌≤◌, length};
+ghost use Rattle.std.specs.Prelude.{◌≡◌, ◌%◌, ◌^◌, ◌<◌, ◌≤◌, length};
 ghost use Rattle.dh_value.specs.Operations.{Suits};
 ghost use Rattle.dh_value.specs.Words.{IsWidth};
 ghost use Rattle.dh_value.specs.declared.kinds.Kind.TheVariants.{Unsigned};
-ghost use Rattle.dh_net.specs.Clock.{form_value, unsigned_result, shifted, shifted_signed, is_less_signed, sign_extended, IsValuation};
+ghost use Rattle.dh_net.specs.Clock.{unsigned_result, shifted, shifted_signed, is_less_signed, sign_extended, IsValuation};
 ghost use Rattle.dh_value.specs.declared.operators.Op.TheVariants.{Shr};
 ghost use Rattle.dh_net.specs.Valid.{IsValid};
 ghost use Rattle.dh_sim.specs.Layouts.{IsLayout, ArraysFit};
-ghost use Rattle.dh_sim.specs.Rooms.{IsInRooms, AreWords};
+ghost use Rattle.dh_sim.specs.Rooms.{HasRooms, value_in, AreWords};
 
 use crate::layouts::Layout;
 use dh_net::{Cell, CellForm, Net, wire_width};
@@ -111,9 +111,9 @@ fn cell_value(
 ) -> u64
     requires layout { IsLayout net.now.table layout.now }
     requires width { IsWidth cell.width }
-    requires rooms { IsInRooms net.now.table (length registers.now) (length held.now) (length wires.now) cell.form }
+    requires rooms { HasRooms net.now registers.now held.now wires.now cell }
     requires words { AreWords net.now.cells wires.now cell.width cell.form }
-    ensures { result ≡ form_value net.now.table net.now.cells registers.now held.now wires.now cell.width cell.form }
+    ensures { result ≡ value_in net.now registers.now held.now wires.now cell }
 {
     let width = cell.width;
     match cell.form {

@@ -1,11 +1,11 @@
 //! The ports of memories: which driver each serves, what that does to the held data and the memories,
 //! and whether two drivers clash.
 
-ghost use Rattle.std.specs.Prelude.{◌≡◌, ◌<◌, length, map, set, slice_index, slice_set};
+ghost use Rattle.std.specs.Prelude.{◌≡◌, ◌<◌, length, map, slice_index, slice_set};
 ghost use Rattle.dh_net.specs.BankPorts.{ports_of};
-ghost use Rattle.dh_net.specs.Clock.{has_clash, has_clashes, served, memory_at, place_of, row_value, with_row, held_by, written_by, held_after, memories_after};
+ghost use Rattle.dh_net.specs.Clock.{has_clash, has_clashes, served, memory_at, place_of, row_value, with_row, held_by, written_by};
 ghost use Rattle.dh_net.specs.Valid.{IsValid};
-ghost use Rattle.dh_sim.specs.Points.{lists_of};
+ghost use Rattle.dh_sim.specs.Points.{lists_of, ReadsPorts, WritesPorts};
 ghost use Rattle.dh_sim.specs.Rooms.{AreDriversInRooms, IsServedInRooms, IsPlaced};
 
 use dh_extents::place_in_bank;
@@ -151,7 +151,8 @@ fn write_row(
     requires placed { IsPlaced table.now port }
     requires driver { IsServedInRooms (length wires.now) driver }
     requires memories { length memories.old ≡ length table.now }
-    ensures { lists_of memories.new ≡ written_by table.now wires.now port driver (lists_of memories.old) }
+    ensures { lists_of memories.new
+        ≡ written_by table.now wires.now port driver (lists_of memories.old) }
 {
     if let Some(d) = driver {
         if d.write {
@@ -173,7 +174,7 @@ pub fn read_ports(net: &Net, ports: &[Port], wires: &[u64], memories: &[Vec<u64>
     requires wires { length wires.now ≡ length net.now.cells }
     requires memories { length memories.now ≡ length net.now.table }
     requires held { length held.old ≡ length net.now.drivers }
-    ensures { held.new ≡ held_after net.now.table wires.now net.now.drivers ports.now (lists_of memories.now) held.old }
+    ensures { ReadsPorts net.now ports.now wires.now memories.now held.old held.new }
 {
     let table = net.table.as_slice();
     for (i, drivers) in net.drivers.as_slice().iter().enumerate() {
@@ -189,7 +190,7 @@ pub fn write_ports(net: &Net, ports: &[Port], wires: &[u64], memories: &mut [Vec
     requires ports { ports.now ≡ ports_of net.now.table }
     requires wires { length wires.now ≡ length net.now.cells }
     requires memories { length memories.old ≡ length net.now.table }
-    ensures { lists_of memories.new ≡ memories_after net.now.table wires.now net.now.drivers ports.now (lists_of memories.old) }
+    ensures { WritesPorts net.now ports.now wires.now memories.old memories.new }
 {
     let table = net.table.as_slice();
     for (i, drivers) in net.drivers.as_slice().iter().enumerate() {

@@ -37,9 +37,15 @@ impl<'a> Model for Sim<'a> {
 
     ghost Value = { Point };
 
-    ghost view = { λ s. record { net = s.net.now; state = state_of s.registers.items s.held.items s.memories.items; clash = s.clash } };
+    ghost view = { λ s. record {
+      net = s.net.now;
+      state = state_of s.registers.items s.held.items s.memories.items;
+      clash = s.clash;
+    } };
 
-    ghost invariant = { λ s. IsLayout s.net.now.table s.layout × IsSound s.net.now (state_of s.registers.items s.held.items s.memories.items) s.wires.items };
+    ghost invariant = { λ s. IsLayout s.net.now.table s.layout
+        × IsSound s.net.now (state_of s.registers.items s.held.items s.memories.items)
+        s.wires.items };
 }
 
 impl<'a> Sim<'a> {

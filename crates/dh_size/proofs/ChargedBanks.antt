@@ -15,19 +15,22 @@ use Rattle.dh_tree.specs.Counters.{counters_of}
 use Rattle.dh_tree.specs.Elements.{banks_of}
 use Rattle.dh_tree.specs.Memories.{Memory, memories_of, memory_in, number_in, same_entity, table_of, entry_of}
 use Rattle.dh_tree.specs.PlainTrees.{Term, term, Program}
-use Rattle.dh_meaning.specs.Ways.{all_bindings_of, way_to}
+use Rattle.dh_meaning.specs.Ways.{Way, all_bindings_of, base_of, way_to}
+use Rattle.dh_ways.specs.Leading.{next_dims}
+use Rattle.dh_carried.proofs.ChargedBanks.{charged_reaches, reaching_charges}
 use Rattle.dh_tree.specs.Seen.{program_seen}
 use Rattle.dh_meaning.specs.Paths.{Path, copies_in, same_path}
-use Rattle.dh_meets.specs.Charges.{bank_reached, charge, charge_by, charge_of, factors_of, key_of, keys_reaching, paths_of, reaches, reaches_by, reaches_in}
+use Rattle.dh_meets.specs.Charges as charges
+use Rattle.dh_meets.specs.Charges.{bank_named, bank_reached, banks_in, charge, charge_by, charge_of, charge_through, factors_of, key_of, keys_reaching, may_reach, paths_of, reaches, reaches_by, reaches_in}
 use Rattle.dh_meets.specs.Sharing.{shared}
 use Rattle.dh_meets.specs.SourceEvents.{Element, with_indices, in_row, SourceAccess, accesses_in, trace}
 use Rattle.dh_plan.specs.PlanSizes.{access_size, banks_charged, entity_banks_charged, memory_banks}
 use Rattle.dh_ports.specs.Claims.{access_of}
 use Rattle.dh_ports.specs.Wholes.{of_access, touched_by, Touched}
-use Rattle.dh_ports.proofs.ClaimedBanks.{kept_some, some_kept}
-use Rattle.dh_ports.proofs.ClaimFacts.{found}
+use Rattle.dh_ports.proofs.ClaimedBanks.{kept_some, path_there, some_kept, there_path, LeadsAt}
+use Rattle.dh_ports.proofs.ClaimFacts.{found, number_unled}
 use Rattle.dh_ports.specs.Banks.{bank_at_path, path_at}
-use Rattle.dh_size.specs.Sizes.{banks_met, banks_reached, banks_within, count_below, is_reached, marked, size_by}
+use Rattle.dh_size.specs.Sizes.{banks_led, banks_met, banks_reached, banks_through, banks_within, count_below, is_reached, is_reached_through, marked, size_by}
 use Rattle.dh_size.specs.Marks.{AreMarked}
 use Rattle.dh_size.proofs.MarkTurns.{all_reached, marks_counted, paths_counted}
 
@@ -80,7 +83,9 @@ pub entry_reached : (p : Program) (a : SourceAccess) (number : ℕ) (entry : Mem
 entry_reached p a number entry known stands =
     let mine = found (memories_of p) a.entity number known in
     let same : entry_of mine.memory ≡ entry = some_same (entry_of mine.memory) entry (sym mine.entry ∙ stands) in
-    ap (λ o. banks_reached p o a) mine.is ∙ ap (λ (e : MemEntry). count_below (is_reached p e.shape.dims a) (banks_of e.shape.dims)) same
+    ap (λ w. banks_led p w a) (number_unled p a.entity number known)
+    ∙ (ap (λ o. banks_reached p o a) mine.is
+    ∙ ap (λ (e : MemEntry). count_below (is_reached p e.shape.dims a) (banks_of e.shape.dims)) same)
   where
     some_same : (x y : MemEntry) → Some x ≡ Some y → x ≡ y
     some_same x y e = cc
@@ -92,8 +97,8 @@ entry_missing p a number known none = absurd (some_none (entry_of (found (memori
     some_none : (x : MemEntry) → ◌≡◌ {A = Option MemEntry} (Some x) None → ⊥
     some_none x e = cc
 
-pub none_met : (p : Program) (a : SourceAccess) → number_in (memories_of p) a.entity ≡ None → banks_met p a ≡ 0
-none_met p a e = ap (λ o. banks_reached p o a) (no_memory (memories_of p) a.entity e)
+pub none_met : (p : Program) (a : SourceAccess) → number_in (memories_of p) a.entity ≡ None → way_to p a.entity ≡ None → banks_met p a ≡ 0
+none_met p a e u = ap (λ w. banks_led p w a) u ∙ ap (λ o. banks_reached p o a) (no_memory (memories_of p) a.entity e)
 
 -- Charges.
 
@@ -163,20 +168,162 @@ module _ (p : Program) (number : ℕ) (a : SourceAccess) (stands : slice_get (ac
           ap (λ o. banks_charged p memory number (memory_banks o)) g
           ∙ (some_banks memory m e g (banks_of m.shape.dims) shares f ∙ ap (λ o. unless shares (banks_reached p o a)) (sym g))
 
-  pub size_told : (shares : Bool) → shares ≡ is_some (shared p number) → size_by p shares a ≡ access_size p number a
-  size_told shares e = ap (λ n. length (paths_of a) * suc n) (sym (by_entity a.entity shares refl (sym e)))
+  pub direct_banks : (shares : Bool) → shares ≡ is_some (shared p number) → unless shares (banks_reached p (memory_in (memories_of p) a.entity) a) ≡ entity_banks_charged p number a.entity
+  direct_banks shares e = sym (by_entity a.entity shares refl (sym e))
+
+-- Charges through views.
+
+-- nothing where it shares
+abbrev unless_shared : Bool → ℕ → ℕ
+unless_shared shares n = if shares then 0 else n
+
+module _ (p : Program) (number : ℕ) (a : SourceAccess) (stands : slice_get (accesses_in (trace p)) number ≡ Some a) (w : Way) (led : way_to p a.entity ≡ Some w) (at : LeadsAt p w a) where
+  abbrev owner_dims : List Dim
+  owner_dims = at.leads.memory.shape.dims
+
+  named_within : (path : Path) → bank_named p w a path < banks_of (next_dims w.steps owner_dims)
+  named_within path = subst (λ (ds : List Dim). bank_named p w a path < banks_of ds) (sym at.leads.first) (at.inside path)
+
+  below : (m n : ℕ) → m < n → nat_lt m n ≡ true
+  below m n e = grind (arith, nat_tests)
+
+  positive : (n : ℕ) → 1 ≤ n → nat_lt 0 n ≡ true
+  positive n e = grind (arith, nat_tests)
+
+  some_of : (n : ℕ) → nat_lt 0 n ≡ true → 1 ≤ n
+  some_of n e = grind (arith, nat_tests)
+
+  second_true : (b c : Bool) → (b && c) ≡ true → c ≡ true
+  second_true true c e = e
+  second_true false c e = cc
+
+  both_true : (b c : Bool) → b ≡ true → c ≡ true → (b && c) ≡ true
+  both_true true c e f = f
+  both_true false c e f = cc
+
+  -- it charges a bank where some path reaches it
+  charged_through : (bank : ℕ) → bank < banks_of owner_dims → nat_lt 0 (charge_through p w a bank) ≡ is_reached_through p w a bank
+  charged_through bank inside = by (nat_lt 0 (charge_through p w a bank)) (is_reached_through p w a bank) refl refl
+    where
+      reached : is_reached_through p w a bank ≡ true → nat_lt 0 (charge_through p w a bank) ≡ true
+      reached e =
+          let there = path_there (λ path. nat_lt (bank_named p w a path) (banks_of w.is.shape.dims) && may_reach w.steps (bank_named p w a path) bank) (paths_of a) e in
+          positive (charge_through p w a bank) (reaching_charges p w a owner_dims bank at.leads.steps named_within (record { path = there.0; there = there.1.0; reached = second_true (nat_lt (bank_named p w a there.0) (banks_of w.is.shape.dims)) (may_reach w.steps (bank_named p w a there.0) bank) there.1.1 }))
+
+      charged : nat_lt 0 (charge_through p w a bank) ≡ true → is_reached_through p w a bank ≡ true
+      charged e =
+          let r = charged_reaches p w a owner_dims bank at.leads.steps inside (some_of (charge_through p w a bank) e) in
+          there_path (λ path. nat_lt (bank_named p w a path) (banks_of w.is.shape.dims) && may_reach w.steps (bank_named p w a path) bank) (paths_of a) r.path r.there
+          (both_true (nat_lt (bank_named p w a r.path) (banks_of w.is.shape.dims)) (may_reach w.steps (bank_named p w a r.path) bank) (below (bank_named p w a r.path) (banks_of w.is.shape.dims) (at.inside r.path)) r.reached)
+
+      by : (b c : Bool) → nat_lt 0 (charge_through p w a bank) ≡ b → is_reached_through p w a bank ≡ c → b ≡ c
+      by true true e f = refl
+      by false false e f = refl
+      by true false e f = absurd (clash (is_reached_through p w a bank) (charged e) f)
+      by false true e f = absurd (clash (nat_lt 0 (charge_through p w a bank)) (reached f) e)
+
+  module _ (memory : ℕ) (owner : w.memory ≡ Some memory) where
+    is : memory_in (memories_of p) (Some memory) ≡ Some at.leads.memory
+    is = ap (memory_in (memories_of p)) (sym owner) ∙ at.leads.found
+
+    charge_is : (bank : ℕ) → bank < banks_of owner_dims → charge_by p (way_to p a.entity) a memory bank ≡ charge_through p w a bank
+    charge_is bank inside =
+        ap (λ x. charge_by p x a memory bank) led
+        ∙ (ap (λ o. if same_entity o (Some memory) && nat_lt bank (banks_in p memory) then charge_through p w a bank else 0) owner
+        ∙ (ap (λ b. if b && nat_lt bank (banks_in p memory) then charge_through p w a bank else 0) (eq-eqb memory memory refl)
+        ∙ ap (λ b. if b then charge_through p w a bank else 0) (ap (λ o. nat_lt bank (charges.memory_banks o)) is ∙ below bank (banks_of owner_dims) inside)))
+
+    one_through : (bank : ℕ) (shares : Bool) → bank < banks_of owner_dims → is_some (shared p number) ≡ shares → (if nat_lt 0 (charge p memory bank number) then 1 else 0) ≡ unless_shared shares (if is_reached_through p w a bank then 1 else 0)
+    one_through bank shares inside e =
+        ap (λ n. if nat_lt 0 n then 1 else 0)
+        (ap (charge_of p memory bank number) stands
+        ∙ (ap (λ n. if is_some (shared p number) then 0 else n) (charge_is bank inside) ∙ ap (λ b. if b then 0 else charge_through p w a bank) e))
+        ∙ by shares
+      where
+        not_less : nat_lt 0 0 ≡ false
+        not_less = grind (arith, nat_tests)
+
+        by : (b : Bool) → (if nat_lt 0 (if b then 0 else charge_through p w a bank) then 1 else 0) ≡ unless_shared b (if is_reached_through p w a bank then 1 else 0)
+        by true = ap (λ b. if b then 1 else 0) not_less
+        by false = ap (λ b. if b then 1 else 0) (charged_through bank inside)
+
+    some_through : (n : ℕ) (shares : Bool) → n ≤ banks_of owner_dims → is_some (shared p number) ≡ shares → banks_charged p memory number n ≡ unless_shared shares (count_below (is_reached_through p w a) n)
+    some_through zero shares few e = none shares
+      where
+        none : (b : Bool) → 0 ≡ unless_shared b 0
+        none true = refl
+        none false = refl
+    some_through (suc n) shares few e =
+        ap (λ k. k + banks_charged p memory number n) (one_through n shares (less n (banks_of owner_dims) few) e)
+        ∙ (ap (λ k. unless_shared shares (if is_reached_through p w a n then 1 else 0) + k) (some_through n shares (before n (banks_of owner_dims) few) e) ∙ both shares (if is_reached_through p w a n then 1 else 0) (count_below (is_reached_through p w a) n))
+      where
+        less : (n m : ℕ) → suc n ≤ m → n < m
+        less n m e = omega (arith, e)
+
+        before : (n m : ℕ) → suc n ≤ m → n ≤ m
+        before n m e = omega (arith, e)
+
+        both : (b : Bool) (x y : ℕ) → unless_shared b x + unless_shared b y ≡ unless_shared b (x + y)
+        both true x y = nothing
+          where
+            nothing : 0 + 0 ≡ 0
+            nothing = omega arith
+        both false x y = refl
+
+  through_banks : (shares : Bool) → shares ≡ is_some (shared p number) → unless_shared shares (banks_through p w (memory_in (memories_of p) w.memory) a) ≡ entity_banks_charged p number w.memory
+  through_banks shares e = by w.memory refl
+    where
+      own : (n : ℕ) → n ≤ n
+      own n = omega arith
+
+      none : (b : Bool) → unless_shared b 0 ≡ 0
+      none true = refl
+      none false = refl
+
+      nothing : (ms : List Memory) → memory_in ms None ≡ None
+      nothing [] = refl
+      nothing (m ∷ ms) = ap (λ b. if b then Some m else memory_in ms None) (unnamed m.name.entity) ∙ nothing ms
+        where
+          unnamed : (o : Option ℕ) → same_entity o None ≡ false
+          unnamed None = refl
+          unnamed (Some n) = refl
+
+      by : (o : Option ℕ) → w.memory ≡ o → unless_shared shares (banks_through p w (memory_in (memories_of p) w.memory) a) ≡ entity_banks_charged p number w.memory
+      by None f =
+          ap (λ o. unless_shared shares (banks_through p w (memory_in (memories_of p) o) a)) f
+          ∙ (ap (λ o. unless_shared shares (banks_through p w o a)) (nothing (memories_of p)) ∙ (none shares ∙ sym (ap (entity_banks_charged p number) f)))
+      by (Some memory) f =
+          ap (λ o. unless_shared shares (banks_through p w o a)) at.leads.found
+          ∙ (sym (some_through memory f (banks_of owner_dims) shares (own (banks_of owner_dims)) (sym e))
+          ∙ sym (ap (entity_banks_charged p number) f ∙ ap (λ o. banks_charged p memory number (memory_banks o)) (is memory f)))
+
+-- the size of an access is told by the banks that it reaches
+pub size_told : (p : Program) (number : ℕ) (a : SourceAccess) → slice_get (accesses_in (trace p)) number ≡ Some a → ((w : Way) → way_to p a.entity ≡ Some w → LeadsAt p w a) → (shares : Bool) → shares ≡ is_some (shared p number) → size_by p shares a ≡ access_size p number a
+size_told p number a stands leads shares e = ap (λ n. length (paths_of a) * suc n) (by (way_to p a.entity) refl)
+  where
+    by : (o : Option Way) → way_to p a.entity ≡ o → unless_shared shares (banks_led p (way_to p a.entity) a) ≡ entity_banks_charged p number (base_of (way_to p a.entity) a.entity)
+    by None u =
+        ap (λ x. unless_shared shares (banks_led p x a)) u
+        ∙ (direct_banks p number a stands u shares e ∙ ap (λ x. entity_banks_charged p number (base_of x a.entity)) (sym u))
+    by (Some w) u =
+        ap (λ x. unless_shared shares (banks_led p x a)) u
+        ∙ (through_banks p number a stands w u (leads w u) shares e ∙ ap (λ x. entity_banks_charged p number (base_of x a.entity)) (sym u))
 
 -- Accesses as the code knows them.
 
 abbrev pub bare : SourceAccess → SourceAccess
 bare a = record { place = a.place; entity = a.entity; element = a.element; writes = false; site = record { command = 0; arms = []; loops = a.site.loops } }
 
-element_same : (p : Program) (a : SourceAccess) (m : Memory) (path : Path) (e : Element) → bank_reached (counters_of p) m.shape.dims (bare a) path e ≡ bank_reached (counters_of p) m.shape.dims a path e
-element_same p a m path (with_indices indices) = refl
-element_same p a m path (in_row bank row) = refl
+element_same : (p : Program) (a : SourceAccess) (dims : List Dim) (path : Path) (e : Element) → bank_reached (counters_of p) dims (bare a) path e ≡ bank_reached (counters_of p) dims a path e
+element_same p a dims path (with_indices indices) = refl
+element_same p a dims path (in_row bank row) = refl
 
 reached_same : (p : Program) (a : SourceAccess) (m : Memory) (bank : ℕ) → is_reached p m.shape.dims (bare a) bank ≡ is_reached p m.shape.dims a bank
-reached_same p a m bank = ap (λ t. list_any t (paths_of a)) (fun_ext (λ path. ap (λ n. n == bank) (element_same p a m path a.element)))
+reached_same p a m bank = ap (λ t. list_any t (paths_of a)) (fun_ext (λ path. ap (λ n. n == bank) (element_same p a m.shape.dims path a.element)))
+
+through_same : (p : Program) (w : Way) (a : SourceAccess) (bank : ℕ) → is_reached_through p w (bare a) bank ≡ is_reached_through p w a bank
+through_same p w a bank =
+    ap (λ t. list_any t (paths_of a)) (fun_ext (λ path. ap (λ n. nat_lt n (banks_of w.is.shape.dims) && may_reach w.steps n bank) (element_same p a w.is.shape.dims path a.element)))
 
 count_same : (s t : ℕ → Bool) (n : ℕ) → ((k : ℕ) → s k ≡ t k) → count_below s n ≡ count_below t n
 count_same s t zero h = refl
@@ -184,11 +331,19 @@ count_same s t (suc n) h = ap (λ b. (if b then 1 else 0) + count_below s n) (h 
 
 -- an access by its element and the loops round it alone
 pub bare_size : (p : Program) (shares : Bool) (a : SourceAccess) → size_by p shares (bare a) ≡ size_by p shares a
-bare_size p shares a = ap (λ n. length (paths_of a) * suc (if shares then 0 else n)) (by_memory (memory_in (memories_of p) a.entity))
+bare_size p shares a = ap (λ n. length (paths_of a) * suc (if shares then 0 else n)) (by_way (way_to p a.entity))
   where
     by_memory : (o : Option Memory) → banks_reached p o (bare a) ≡ banks_reached p o a
     by_memory None = refl
     by_memory (Some m) = count_same (is_reached p m.shape.dims (bare a)) (is_reached p m.shape.dims a) (banks_of m.shape.dims) (reached_same p a m)
+
+    by_owner : (w : Way) (o : Option Memory) → banks_through p w o (bare a) ≡ banks_through p w o a
+    by_owner w None = refl
+    by_owner w (Some m) = count_same (is_reached_through p w (bare a)) (is_reached_through p w a) (banks_of m.shape.dims) (through_same p w a)
+
+    by_way : (o : Option Way) → banks_led p o (bare a) ≡ banks_led p o a
+    by_way None = by_memory (memory_in (memories_of p) a.entity)
+    by_way (Some w) = by_owner w (memory_in (memories_of p) w.memory)
 
 abbrev as_access : Touched → List Counter → SourceAccess
 as_access x loops = record { place = x.place; entity = x.entity; element = x.element; writes = false; site = record { command = 0; arms = []; loops = loops } }
@@ -239,20 +394,20 @@ one_missing tree a dims copies bank banks copied one is counted past = ap (λ b.
 pub met_done : (p : Program) (a : SourceAccess) (dims : List Dim) (number : ℕ) (entry : MemEntry) (result : ℕ) → number_in (memories_of p) a.entity ≡ Some number → slice_get (table_of p) number ≡ Some entry → dims ≡ entry.shape.dims → result ≡ banks_within p dims a → result ≡ banks_met p a
 met_done p a dims number entry result known stands same so = so ∙ (ap (λ ds. banks_within p ds a) same ∙ sym (entry_reached p a number entry known stands))
 
+pub below_most : (t : ℕ → Bool) (n : ℕ) → count_below t n ≤ n
+below_most t zero = omega arith
+below_most t (suc n) = by (t n) (below_most t n)
+  where
+    by : (b : Bool) → count_below t n ≤ n → (if b then 1 else 0) + count_below t n ≤ suc n
+    by true h = omega (arith, h)
+    by false h = omega (arith, h)
+
 -- no more than the memory has
 pub within_few : (p : Program) (a : SourceAccess) (dims : List Dim) (result : ℕ) → banks_of dims ≤ 64 → result ≡ banks_within p dims a → result ≤ 64
-within_few p a dims result few so = at_most result (banks_within p dims a) (banks_of dims) so (most (is_reached p dims a) (banks_of dims)) few
+within_few p a dims result few so = at_most result (banks_within p dims a) (banks_of dims) so (below_most (is_reached p dims a) (banks_of dims)) few
   where
     at_most : (r n b : ℕ) → r ≡ n → n ≤ b → b ≤ 64 → r ≤ 64
     at_most r n b e f g = omega (arith, e, f, g)
-
-    most : (t : ℕ → Bool) (n : ℕ) → count_below t n ≤ n
-    most t zero = omega arith
-    most t (suc n) = by (t n) (most t n)
-      where
-        by : (b : Bool) → count_below t n ≤ n → (if b then 1 else 0) + count_below t n ≤ suc n
-        by true h = omega (arith, h)
-        by false h = omega (arith, h)
 
 pub shared_size : (p : Program) (a : SourceAccess) (copies : ℕ) (shares : Bool) → copies ≡ copies_in (factors_of a.site.loops) → shares ≡ true → copies ≡ size_by p shares a
 shared_size p a copies shares e f = e ∙ (sym (paths_counted a) ∙ (once (length (paths_of a)) ∙ sym (ap (λ b. length (paths_of a) * suc (if b then 0 else banks_met p a)) f)))

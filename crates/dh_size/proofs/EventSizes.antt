@@ -9,7 +9,7 @@ use Rattle.dh_tree.specs.PlainTrees.{Term, Program}
 use Rattle.dh_tree.specs.Numbers.{IsNumbered}
 use Rattle.dh_meets.specs.Charges.{factors_of}
 use Rattle.dh_meaning.specs.Paths.{copies_in}
-use Rattle.dh_meaning.specs.Ways.{way_to}
+use Rattle.dh_meaning.specs.Ways.{Way, way_to}
 use Rattle.dh_meets.specs.FewCopies.{most_copies, HasFewCopies}
 use Rattle.dh_meets.specs.Sharing.{shared}
 use Rattle.dh_meets.specs.SourceEvents.{SourceAccess, accesses_in, trace}
@@ -26,6 +26,7 @@ use Rattle.dh_ports.specs.Claims.{access_of}
 use Rattle.dh_ports.specs.Copies.{copies_round}
 use Rattle.dh_ports.specs.Layouts.{no_rounds}
 use Rattle.dh_ports.specs.Wholes.{happenings_of, loops_known, of_access, sites_in, touched, touched_by, Touched}
+use Rattle.dh_ports.proofs.ClaimedBanks.{LeadsAt}
 use Rattle.dh_ports.proofs.SitesTold.{tells_loops}
 use Rattle.dh_ports.proofs.SpentTold.{IsWhole, whole_is}
 use Rattle.dh_size.specs.Sizes.{size_by, sizes_from, AreFew}
@@ -49,7 +50,7 @@ some_none x xs e = cc
 -- By incidents.
 
 -- the sizes of accesses, told by incidents that touch them, are those of the accesses
-pub sizes_told : (p : Program) (shares : List (Option ℕ)) → ((k : ℕ) → told shares k ≡ shared p k) → ((entity : Option ℕ) → way_to p entity ≡ None) → (xs : List Incident) (those : List SourceAccess) (n : ℕ) → touched xs ≡ map of_access those
+pub sizes_told : (p : Program) (shares : List (Option ℕ)) → ((k : ℕ) → told shares k ≡ shared p k) → ((k : ℕ) (a : SourceAccess) → slice_get (accesses_in (trace p)) k ≡ Some a → (w : Way) → way_to p a.entity ≡ Some w → LeadsAt p w a) → (xs : List Incident) (those : List SourceAccess) (n : ℕ) → touched xs ≡ map of_access those
     → ((k : ℕ) (s : Site) (a : SourceAccess) → slice_get (sites_in xs) k ≡ Some s → slice_get those k ≡ Some a → loops_known p s.round ≡ a.site.loops)
     → ((k : ℕ) (a : SourceAccess) → slice_get those k ≡ Some a → slice_get (accesses_in (trace p)) (n + k) ≡ Some a)
     → sizes_from p (loops_known p) shares n xs ≡ accesses_size p n those
@@ -59,11 +60,14 @@ sizes_told p shares so u (touches t w s ∷ xs) [] n e l h = absurd (some_none (
 sizes_told p shares so u (touches t w s ∷ xs) (a ∷ those) n e l h =
     ap (λ k. k + sizes_from p (loops_known p) shares (suc n) xs)
     (ap (size_by p (is_some (told shares n))) (same_access (loops_known p s.round) t w a (first_same _ _ _ _ e) (l 0 s a refl refl))
-    ∙ (bare_size p (is_some (told shares n)) a ∙ size_told p n a (ap (λ k. slice_get (accesses_in (trace p)) k) (here n) ∙ h 0 a refl) (u a.entity) (is_some (told shares n)) (ap is_some (so n))))
+    ∙ (bare_size p (is_some (told shares n)) a ∙ size_told p n a (stands_here n a h) (u n a (stands_here n a h)) (is_some (told shares n)) (ap is_some (so n))))
     ∙ ap (λ k. access_size p n a + k) (sizes_told p shares so u xs those (suc n) (rest_same _ _ _ _ e) (λ k z b f g. l (suc k) z b f g) (λ k b f. ap (λ i. slice_get (accesses_in (trace p)) i) (behind n k) ∙ h (suc k) b f))
   where
     here : (n : ℕ) → n ≡ n + 0
     here n = omega arith
+
+    stands_here : (n : ℕ) (a : SourceAccess) → ((k : ℕ) (b : SourceAccess) → slice_get (a ∷ those) k ≡ Some b → slice_get (accesses_in (trace p)) (n + k) ≡ Some b) → slice_get (accesses_in (trace p)) n ≡ Some a
+    stands_here n a h = ap (λ k. slice_get (accesses_in (trace p)) k) (here n) ∙ h 0 a refl
 
     behind : (n k : ℕ) → suc n + k ≡ n + suc k
     behind n k = omega arith
@@ -106,7 +110,7 @@ module _ (p : Program) (first : ℕ) (numbers : IsNumbered first p.body) (rounds
   pub events_few : HasFewCopies p → AreFew (loops_in rounds) (all_seen events)
   events_few few = subst (λ (f : Option ℕ → List Counter). AreFew f (all_seen events)) (sym (noted_loops p rounds noted)) (few_told p (all_seen events) (accesses_in (trace p)) whole.touched_all whole.loops few)
 
-  pub events_sized : (shares : List (Option ℕ)) → ((entity : Option ℕ) → way_to p entity ≡ None) → TellsShares p shares → sizes_from p (loops_in rounds) shares 0 (all_seen events) ≡ accesses_size p 0 (accesses_in (trace p))
+  pub events_sized : (shares : List (Option ℕ)) → ((k : ℕ) (a : SourceAccess) → slice_get (accesses_in (trace p)) k ≡ Some a → (w : Way) → way_to p a.entity ≡ Some w → LeadsAt p w a) → TellsShares p shares → sizes_from p (loops_in rounds) shares 0 (all_seen events) ≡ accesses_size p 0 (accesses_in (trace p))
   events_sized shares u so =
       ap (λ (f : Option ℕ → List Counter). sizes_from p f shares 0 (all_seen events)) (noted_loops p rounds noted)
       ∙ sizes_told p shares so.all u (all_seen events) (accesses_in (trace p)) 0 whole.touched_all whole.loops (λ k a e. ap (λ n. slice_get (accesses_in (trace p)) n) (from_none k) ∙ e)

@@ -5,3 +5,4 @@ pub mod IndexTurns
 pub mod MarkTurns
 pub mod ChargedBanks
 pub mod EventSizes
+pub mod ThroughBanks

@@ -1,3 +1,4 @@
 pub mod Summed
 pub mod Sizes
 pub mod Marks
+pub mod Led

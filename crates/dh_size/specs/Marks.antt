@@ -1,10 +1,11 @@
 -- Which banks are reached, as marks, while paths are gone through.
-use Rattle.std.specs.Prelude.{◌≡◌, ℕ, zero, suc, ◌<◌, ◌==◌, ◌||◌, Bool, false, List, length, get_or}
+use Rattle.std.specs.Prelude.{◌≡◌, ℕ, zero, suc, ◌<◌, ◌==◌, ◌||◌, Bool, false, if◌then◌else◌, List, [], ◌∷◌, length, get_or, slice_index}
 use Rattle.dh_tree.specs.declared.tables.Dim.{Dim}
 use Rattle.dh_tree.specs.declared.trees.programs.Tree.{Tree}
 use Rattle.dh_meets.specs.Charges.{factors_of}
 use Rattle.dh_meets.specs.SourceEvents.{SourceAccess}
 use Rattle.dh_ports.specs.Banks.{bank_at_path, path_at}
+use Rattle.dh_ports.specs.declared.carrying.Carrier.{Carrier}
 
 -- some path below a number reaches a bank
 abbrev pub reached_below : Tree → List Dim → SourceAccess → (number bank : ℕ) → Bool
@@ -15,3 +16,12 @@ reached_below tree dims a (suc number) bank = reached_below tree dims a number b
 pub record AreMarked (tree : Tree) (dims : List Dim) (a : SourceAccess) (banks number : ℕ) (marks : List Bool) : Type 0 where
   pub long : length marks ≡ banks
   pub each : (bank : ℕ) → bank < banks → get_or marks bank false ≡ reached_below tree dims a number bank
+
+-- one of these marks is set
+abbrev pub any_marked : List Bool → Bool
+any_marked [] = false
+any_marked (m ∷ ms) = m || any_marked ms
+
+-- a bank of a memory is reached where these banks of a view are marked
+abbrev pub marked_behind : Carrier → (marks : List Bool) → (behind : ℕ) → Bool
+marked_behind c marks behind = if c.evenly then any_marked marks else get_or marks (slice_index c.sources.items behind) false

@@ -1,5 +1,5 @@
 -- The size of accesses, from what the code knows of each: whether it shares, and the unrolled loops round it.
-use Rattle.std.specs.Prelude.{ℕ, zero, suc, ◌+◌, ◌*◌, ◌≤◌, ◌==◌, Bool, false, if◌then◌else◌, List, [], ◌∷◌, length, Option, Some, None}
+use Rattle.std.specs.Prelude.{ℕ, zero, suc, ◌+◌, ◌*◌, ◌≤◌, ◌==◌, ◌&&◌, nat_lt, Bool, false, if◌then◌else◌, List, [], ◌∷◌, length, Option, Some, None}
 use Rattle.std.specs.List.{list_any}
 use Rattle.std.specs.Option.{is_some}
 use Rattle.dh_tree.specs.declared.tables.Dim.{Dim}
@@ -8,7 +8,8 @@ use Rattle.dh_tree.specs.Counters.{counters_of}
 use Rattle.dh_tree.specs.Elements.{banks_of}
 use Rattle.dh_tree.specs.Memories.{Memory, memories_of, memory_in}
 use Rattle.dh_tree.specs.PlainTrees.{Program}
-use Rattle.dh_meets.specs.Charges.{bank_reached, paths_of}
+use Rattle.dh_meaning.specs.Ways.{Way, way_to}
+use Rattle.dh_meets.specs.Charges.{bank_named, bank_reached, may_reach, paths_of}
 use Rattle.dh_meets.specs.FewCopies.{most_copies}
 use Rattle.dh_meets.specs.SourceEvents.{SourceAccess}
 use Rattle.dh_events.specs.Incidents.{Incident, touches, assigned, arm_begins, arm_ends, begins, next, ends}
@@ -36,8 +37,22 @@ abbrev pub banks_reached : Program → Option Memory → SourceAccess → ℕ
 banks_reached p None a = 0
 banks_reached p (Some m) a = banks_within p m.shape.dims a
 
+-- an access through views reaches this bank behind them at some path
+abbrev pub is_reached_through : Program → Way → SourceAccess → (bank : ℕ) → Bool
+is_reached_through p w a bank = list_any (λ path. nat_lt (bank_named p w a path) (banks_of w.is.shape.dims) && may_reach w.steps (bank_named p w a path) bank) (paths_of a)
+
+-- the banks of the memory behind the views that it reaches
+abbrev pub banks_through : Program → Way → Option Memory → SourceAccess → ℕ
+banks_through p w None a = 0
+banks_through p w (Some m) a = count_below (is_reached_through p w a) (banks_of m.shape.dims)
+
+abbrev pub banks_led : Program → Option Way → SourceAccess → ℕ
+banks_led p None a = banks_reached p (memory_in (memories_of p) a.entity) a
+banks_led p (Some w) a = banks_through p w (memory_in (memories_of p) w.memory) a
+
+-- the banks that it reaches of the memory that its name leads to
 abbrev pub banks_met : Program → SourceAccess → ℕ
-banks_met p a = banks_reached p (memory_in (memories_of p) a.entity) a
+banks_met p a = banks_led p (way_to p a.entity) a
 
 -- how many marks are set
 abbrev pub marked : List Bool → ℕ

@@ -1,23 +1,30 @@
 //! The banks that the copies of an access reach.
 
-ghost use Rattle.std.specs.Prelude.{◌≡◌, ◌≤◌, ◌*◌, ◌+◌, IfOk, false, length, replicate};
+ghost use Rattle.std.specs.Prelude.{◌≡◌, ◌≤◌, ◌*◌, ◌+◌, IfOk, None, false, length, replicate};
 ghost use Rattle.std.specs.List.{AllByRecursion};
 ghost use Rattle.dh_tree.specs.Elements.{banks_of};
-ghost use Rattle.dh_tree.specs.Memories.{memories_of, number_in, table_of};
+ghost use Rattle.dh_tree.specs.Memories.{memories_of, memory_in, number_in, table_of};
 ghost use Rattle.dh_tree.specs.Seen.{form_seen, program_seen};
 ghost use Rattle.dh_tree.specs.Shapes.{most_banks, IsDim, IsProgramTable};
+ghost use Rattle.dh_ways.specs.Leading.{LeadsTo};
+ghost use Rattle.dh_ways.specs.Seen.{way_seen};
 ghost use Rattle.dh_events.specs.Accesses.{entity_in};
 ghost use Rattle.dh_meets.specs.Charges.{factors_of};
 ghost use Rattle.dh_meets.specs.FewCopies.{most_copies};
 ghost use Rattle.dh_ports.specs.Banks.{bank_at_path, path_at};
+ghost use Rattle.dh_ports.specs.Carriers.{IsCarrier};
 ghost use Rattle.dh_ports.specs.Claims.{source_of};
 ghost use Rattle.dh_ports.specs.Copies.{copies_round};
+ghost use Rattle.dh_size.specs.Led.{AreViews};
 ghost use Rattle.dh_size.specs.Marks.{AreMarked};
 ghost use Rattle.dh_size.specs.Sizes as definitions;
 
 use crate::paths::{bank_at, copies_in};
+use crate::through::{Views, count_behind, count_carried};
 use dh_base::NoMemory;
+use dh_ports::Carrier;
 use dh_tree::{Counter, Dim, Expr, ExprForm, Typed};
+use dh_ways::WayRef;
 use std::alloc::Global;
 
 /// The banks of dimensions together.
@@ -175,22 +182,85 @@ fn banks_within(
     Ok(count_marks(marks.as_slice()))
 }
 
-/// The banks of its memory that the copies of an access reach.
-fn banks_met(
+/// The banks of its memory that the copies of an access reach through the views on a way.
+fn banks_through(
     alloc: Global,
     typed: &Typed,
+    loops: &[Counter],
+    copies: u64,
+    way: &WayRef<'_>,
+    carrier: &Carrier,
+    access: &Expr,
+) -> Result<u64, NoMemory>
+    requires table { IsProgramTable (table_of (program_seen typed.now)) }
+    requires copies { copies ≡ copies_round loops.now }
+    requires leads { LeadsTo (memories_of (program_seen typed.now)) (way_seen way.now) }
+    requires carrier { IsCarrier (way_seen way.now) carrier.now }
+    ensures met { IfOk result (λ banks. banks ≡ definitions.banks_through
+        (program_seen typed.now) (way_seen way.now)
+        (memory_in (memories_of (program_seen typed.now)) way.now.memory)
+        (source_of loops.now false access.now)) }
+    ensures few { IfOk result (λ banks. banks ≤ most_banks) }
+{
+    let named = way.view();
+    let dims = named.shape.dims.as_slice();
+    // no marks are made for the many accesses outside every unrolled loop
+    if copies == 1 {
+        let bank = bank_reached(typed, loops, copies, 0, dims, access);
+        let count = count_carried(carrier, bank);
+        return Ok(count);
+    }
+    let marks = reached_banks(alloc, typed, loops, copies, dims, access)?;
+    let count = count_behind(carrier, marks.as_slice());
+    Ok(count)
+}
+
+/// The banks of its memory that the copies of an access of what is no memory reach.
+fn banks_led(
+    alloc: Global,
+    typed: &Typed,
+    views: Views<'_>,
     loops: &[Counter],
     copies: u64,
     access: &Expr,
 ) -> Result<u64, NoMemory>
     requires table { IsProgramTable (table_of (program_seen typed.now)) }
+    requires views { AreViews (program_seen typed.now) views }
+    requires copies { copies ≡ copies_round loops.now }
+    requires other { number_in (memories_of (program_seen typed.now))
+        (entity_in (form_seen access.now.form)) ≡ None }
+    ensures met { IfOk result (λ banks. banks ≡ definitions.banks_met (program_seen typed.now)
+        (source_of loops.now false access.now)) }
+    ensures few { IfOk result (λ banks. banks ≤ most_banks) }
+{
+    let entity = entity_of(access);
+    let Some(place) = views.ways.place_of(entity) else {
+        return Ok(0);
+    };
+    let way = views.ways.at(place);
+    let each = views.carriers;
+    let banks = banks_through(alloc, typed, loops, copies, &way, &each[place], access)?;
+    Ok(banks)
+}
+
+/// The banks that the copies of an access reach of the memory that its name leads to.
+fn banks_met(
+    alloc: Global,
+    typed: &Typed,
+    views: Views<'_>,
+    loops: &[Counter],
+    copies: u64,
+    access: &Expr,
+) -> Result<u64, NoMemory>
+    requires table { IsProgramTable (table_of (program_seen typed.now)) }
+    requires views { AreViews (program_seen typed.now) views }
     requires copies { copies ≡ copies_round loops.now }
     ensures met { IfOk result (λ banks. banks ≡ definitions.banks_met (program_seen typed.now)
         (source_of loops.now false access.now)) }
     ensures few { IfOk result (λ banks. banks ≤ most_banks) }
 {
     let Some(memory) = memory_of(typed, access) else {
-        return Ok(0);
+        return banks_led(alloc, typed, views, loops, copies, access);
     };
     let Some(entry) = typed.memories().as_slice().get(memory) else {
         return Ok(0);
@@ -205,11 +275,13 @@ fn banks_met(
 pub fn access_size(
     alloc: Global,
     typed: &Typed,
+    views: Views<'_>,
     loops: &[Counter],
     access: &Expr,
     shares: bool,
 ) -> Result<u64, NoMemory>
     requires table { IsProgramTable (table_of (program_seen typed.now)) }
+    requires views { AreViews (program_seen typed.now) views }
     requires few { copies_round loops.now ≤ most_copies }
     ensures { IfOk result (λ size. size ≡ definitions.size_by (program_seen typed.now) shares
         (source_of loops.now false access.now)) }
@@ -218,6 +290,6 @@ pub fn access_size(
     if shares {
         return Ok(copies);
     }
-    let banks = banks_met(alloc, typed, loops, copies, access)?;
+    let banks = banks_met(alloc, typed, views, loops, copies, access)?;
     Ok(copies * (banks + 1))
 }

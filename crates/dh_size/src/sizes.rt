@@ -10,16 +10,20 @@ ghost use Rattle.dh_events.specs.Accesses.{loops_in};
 ghost use Rattle.dh_events.specs.Noted.{all_seen};
 ghost use Rattle.dh_lengths.specs.SharedReads.{told};
 ghost use Rattle.dh_plan.specs.PlanSizes.{size_reported};
+ghost use Rattle.dh_size.specs.Led.{AreViews};
 ghost use Rattle.dh_size.specs.Sizes.{sizes_from, AreFew};
 ghost use Rattle.dh_size.specs.Summed.{summed};
 
 use crate::banks::access_size;
 use crate::commands::with_command;
+use crate::through::Views;
 use dh_base::NoMemory;
 use dh_events::{Event, Notes, loops_round, note_body, note_rounds, note_stages};
 use dh_lengths::shared_reads;
+use dh_ports::carriers_of;
 use dh_sound::ready_accesses_are_told;
 use dh_tree::{Counter, Typed, kept_programs_have_tables};
+use dh_ways::ways_in;
 use std::alloc::Global;
 
 /// What is reported of a size stops here.
@@ -40,11 +44,13 @@ fn does_share(shares: &[Option<usize>], number: usize) -> bool
 fn access_sizes(
     alloc: Global,
     typed: &Typed,
+    views: Views<'_>,
     rounds: &[Vec<Counter>],
     shares: &[Option<usize>],
     events: &[Event<'_>],
 ) -> Result<u64, NoMemory>
     requires table { IsProgramTable (table_of (program_seen typed.now)) }
+    requires views { AreViews (program_seen typed.now) views }
     requires few { AreFew (loops_in rounds.now) (all_seen events.now) }
     ensures { IfOk result (λ size. size ≡ summed 0 (sizes_from (program_seen typed.now)
         (loops_in rounds.now) shares.now 0 (all_seen events.now))) }
@@ -56,7 +62,7 @@ fn access_sizes(
             Event::Touch { access, round, .. } => {
                 let loops = loops_round(rounds, round);
                 let shared = does_share(shares, number);
-                let size = access_size(alloc, typed, loops, access, shared)?;
+                let size = access_size(alloc, typed, views, loops, access, shared)?;
                 sum = sum.saturating_add(size);
                 number = number + 1;
             }
@@ -84,6 +90,13 @@ pub fn plan_size(alloc: Global, program: &Typed) -> Result<u64, NoMemory>
     ready_accesses_are_told();
     kept_programs_have_tables();
     let body = &program.tree().body;
+    let ways = ways_in(alloc, program)?;
+    let carriers = carriers_of(alloc, &ways)?;
+    let each = carriers.as_slice();
+    let views = Views {
+        ways: &ways,
+        carriers: each,
+    };
     let shares = shared_reads(alloc, body)?;
     let mut rounds = Vec::new(alloc);
     note_rounds(alloc, &mut rounds, &[], body)?;
@@ -92,6 +105,13 @@ pub fn plan_size(alloc: Global, program: &Typed) -> Result<u64, NoMemory>
     let mut notes = Notes::new(alloc);
     note_body(&mut notes, stages.as_slice(), body)?;
     let events = notes.events.as_slice();
-    let accesses = access_sizes(alloc, program, rounds.as_slice(), shares.as_slice(), events)?;
+    let accesses = access_sizes(
+        alloc,
+        program,
+        views,
+        rounds.as_slice(),
+        shares.as_slice(),
+        events,
+    )?;
     Ok(with_command(accesses, body).min(GREATEST_SIZE))
 }

@@ -1,6 +1,5 @@
 -- A program that breaks no rule on reducers (K17) has them only in blocks that join copies, each with a variable on the
--- right and none for an iterator; so where views and calls are not built, its forms are simple. By one walk over commands
--- for each.
+-- right and none for an iterator; and it makes no call where calls are not built. By one walk over commands for each.
 use Rattle.std.proofs.Common.{◌≡◌, ◌&&◌, ◌||◌, not, Bool, true, false, if◌then◌else◌, ℕ, List, [], ◌∷◌, Option, Some, None, refl}
 use Rattle.std.specs.Prelude.{slice_get}
 use Rattle.dh_base.specs.declared.places.Place.{Place}
@@ -19,7 +18,7 @@ use Rattle.dh_meaning.specs.CoreOf.{entity_number}
 use Rattle.dh_sound.specs.IteratorsKept.{FoldsElsewhere, FormFoldsElsewhere, OtherFoldsElsewhere, GroupsFoldElsewhere, PartFoldsElsewhere}
 use Rattle.dh_sound.specs.Joins.{is_plain_variable, entity_varies, names_variable, varies_outside, is_joined, joined_breaches, joined_part_breaches, joined_groups_breaches, join_form_breaches, join_breaches, fold_breaches, fold_form_breaches, fold_other_breaches, fold_part_breaches, fold_groups_breaches}
 use Rattle.dh_sound.specs.OuterWrites.{is_from_outside}
-use Rattle.dh_sound.specs.SimpleForms.{IsVariable, FormFoldsOnly, GroupsFoldOnly, PartFoldsOnly, JoinsFolds, IsSimple, FormSimple, OtherSimple, GroupsSimple, PartSimple, FoldsInJoins, FormFoldsInJoins, OtherFoldsInJoins, GroupsFoldInJoins, PartFoldsInJoins}
+use Rattle.dh_sound.specs.SimpleForms.{IsVariable, FormFoldsOnly, GroupsFoldOnly, PartFoldsOnly, JoinsFolds, FoldsInJoins, FormFoldsInJoins, OtherFoldsInJoins, GroupsFoldInJoins, PartFoldsInJoins}
 
 when_not : (b : Bool) (x : Breach) → when (not b) (x ∷ []) ≡ [] → b ≡ true
 when_not true x e = refl
@@ -137,50 +136,6 @@ module _ (es : List Entity) where
     part_folds_kept no_actions e = tt
     part_folds_kept (action_then a rest) e = (folds_kept a (first_none (fold_breaches es a) _ e), part_folds_kept rest (second_none (fold_breaches es a) _ e))
 
-  -- Their forms are simple.
-  mutual
-    pub simple_kept : (a : Action) → unbuilt_action a ≡ [] → fold_breaches es a ≡ [] → IsSimple a
-    simple_kept (action id place form) c e = form_simple_kept form place c e
-
-    form_simple_kept : (f : ActionForm) (place : Place) → unbuilt_form place f ≡ [] → fold_form_breaches es f ≡ [] → FormSimple f
-    form_simple_kept (lets name declared value) place c e = tt
-    form_simple_kept (lets_memory name shape shape_places value) place c e = tt
-    form_simple_kept (views name parent form) place c e = not_none _ _ c
-    form_simple_kept (assigns target value) place c e = tt
-    form_simple_kept (stores target value) place c e = tt
-    form_simple_kept (reduces target o value) place c e = not_none _ _ e
-    form_simple_kept (calls function arguments) place c e = not_none _ _ c
-    form_simple_kept (blocks body) place c e = groups_simple_kept body c e
-    form_simple_kept (decides test chosen other) place c e = (
-      simple_kept chosen (first_none (unbuilt_action chosen) _ c) (first_none (fold_breaches es chosen) _ e),
-      other_simple_kept other (second_none (unbuilt_action chosen) _ c) (second_none (fold_breaches es chosen) _ e),
-    )
-    form_simple_kept (repeats test body) place c e = simple_kept body c e
-    form_simple_kept (counts iterator declared low high factor body combine combine_place) place c e = (
-      simple_kept body (first_none (unbuilt_action body) _ c) (first_none (fold_breaches es body) _ e),
-      (join_told (entity_number iterator.entity) combine_place combine (second_none (fold_breaches es body) _ e)).0,
-    )
-
-    other_simple_kept : (m : MaybeAction) → unbuilt_other m ≡ [] → fold_other_breaches es m ≡ [] → OtherSimple m
-    other_simple_kept no_action c e = tt
-    other_simple_kept (one_action a) c e = simple_kept a c e
-
-    groups_simple_kept : (gs : Groups) → unbuilt_groups gs ≡ [] → fold_groups_breaches es gs ≡ [] → GroupsSimple gs
-    groups_simple_kept no_groups c e = tt
-    groups_simple_kept (group_then part rest) c e = (
-      part_simple_kept part false (first_none (unbuilt_part false part) _ c) (first_none (fold_part_breaches es part) _ e),
-      groups_simple_kept rest (second_none (unbuilt_part false part) _ c) (second_none (fold_part_breaches es part) _ e),
-    )
-
-    part_simple_kept : (part : Actions) (stepped : Bool) → unbuilt_part stepped part ≡ [] → fold_part_breaches es part ≡ [] → PartSimple part
-    part_simple_kept no_actions stepped c e = tt
-    part_simple_kept (action_then (action id place form) rest) stepped c e =
-        let after = second_none (unbuilt_form place form) _ c in
-        let again : List Breach = (if stepped && form_holds form then unbuilt place else []) in (
-          form_simple_kept form place (first_none (unbuilt_form place form) _ c) (first_none (fold_form_breaches es form) _ e),
-          part_simple_kept rest (stepped || form_holds form) (second_none again _ after) (second_none (fold_form_breaches es form) _ e),
-        )
-
   -- Their reducers join copies.
   mutual
     pub joins_kept : (a : Action) → unbuilt_action a ≡ [] → fold_breaches es a ≡ [] → FoldsInJoins a
@@ -224,33 +179,3 @@ module _ (es : List Entity) where
           form_joins_kept form place (first_none (unbuilt_form place form) _ c) (first_none (fold_form_breaches es form) _ e),
           part_joins_kept rest (stepped || form_holds form) (second_none again _ after) (second_none (fold_form_breaches es form) _ e),
         )
-
--- simple commands are such
-mutual
-  pub simple_joins : (a : Action) → IsSimple a → FoldsInJoins a
-  simple_joins (action id place form) x = form_simple_joins form x
-
-  form_simple_joins : (f : ActionForm) → FormSimple f → FormFoldsInJoins f
-  form_simple_joins (lets name declared value) x = tt
-  form_simple_joins (lets_memory name shape shape_places value) x = tt
-  form_simple_joins (views name parent form) x = tt
-  form_simple_joins (assigns target value) x = tt
-  form_simple_joins (stores target value) x = tt
-  form_simple_joins (reduces target o value) x = x
-  form_simple_joins (calls function arguments) x = x
-  form_simple_joins (blocks body) x = groups_simple_joins body x
-  form_simple_joins (decides test chosen other) x = (simple_joins chosen x.0, other_simple_joins other x.1)
-  form_simple_joins (repeats test body) x = simple_joins body x
-  form_simple_joins (counts iterator declared low high factor body combine combine_place) x = (simple_joins body x.0, x.1)
-
-  other_simple_joins : (m : MaybeAction) → OtherSimple m → OtherFoldsInJoins m
-  other_simple_joins no_action x = tt
-  other_simple_joins (one_action a) x = simple_joins a x
-
-  groups_simple_joins : (gs : Groups) → GroupsSimple gs → GroupsFoldInJoins gs
-  groups_simple_joins no_groups x = tt
-  groups_simple_joins (group_then part rest) x = (part_simple_joins part x.0, groups_simple_joins rest x.1)
-
-  part_simple_joins : (part : Actions) → PartSimple part → PartFoldsInJoins part
-  part_simple_joins no_actions x = tt
-  part_simple_joins (action_then a rest) x = (simple_joins a x.0, part_simple_joins rest x.1)

@@ -89,8 +89,10 @@ pub mod OffsetsSettled
 pub mod OwnMemories
 pub mod ViewedWays
 pub mod IndicesThrough
+pub mod RowsDirect
 pub mod BanksThrough
 pub mod CopiesThrough
 pub mod ShiftsOnWays
 pub mod KeysCovered
 pub mod ViewsLed
+pub mod KeptPrograms

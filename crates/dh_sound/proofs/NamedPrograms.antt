@@ -1,23 +1,24 @@
 -- The names of a program that is ready: each that it uses as a variable stands for something, since every name has the
 -- entity that it stands for where it stands (the tree is resolved) and is visible there (no rule on names is broken);
 -- a name that is declared has the next number. By one walk over the body, with the names that are visible at each command.
-use Rattle.std.proofs.Common.{◌≡◌, ℕ, if◌then◌else◌, List, [], ◌∷◌, length, Option, Some, None, refl, sym, ◌∙◌, ap, Bool, false, ◌&&◌, ◌||◌, ◌++◌}
+use Rattle.std.proofs.Common.{◌≡◌, ℕ, if◌then◌else◌, List, [], ◌∷◌, length, Option, Some, None, refl, sym, ◌∙◌, ap}
 use Rattle.std.specs.Option.{is_some, option_map}
 use Rattle.dh_tree.specs.declared.breaches.Breach.{Breach}
 use Rattle.dh_tree.specs.declared.trees.expressions.Ref.{Ref}
 use Rattle.dh_base.specs.declared.rules.Rule.TheVariants.{UnknownName}
 use Rattle.dh_tree.specs.declared.trees.programs.Sort.TheVariants.{Iterator}
-use Rattle.dh_tree.specs.Breaches.{unknown, twice, term_breaches, term_form_breaches, terms_breaches, value_breaches, breaches, form_breaches, other_breaches, actions_breaches, groups_breaches, functions_breaches, items_breaches}
+use Rattle.dh_tree.specs.Breaches.{unknown, twice, plan_breaches, term_breaches, term_form_breaches, terms_breaches, value_breaches, breaches, form_breaches, other_breaches, actions_breaches, groups_breaches, functions_breaches, items_breaches}
 use Rattle.dh_tree.specs.LeastBreach.{breach}
 use Rattle.dh_tree.specs.PlainTrees.{Term, term, TermForm, number, truth_value, named, accessed, in_bank, applied, converted, Terms, no_terms, term_then, Action, action, ActionForm, lets, lets_memory, views, assigns, stores, reduces, calls, blocks, decides, repeats, counts, MaybeAction, no_action, one_action, Actions, no_actions, action_then, Groups, no_groups, group_then, Program}
 use Rattle.dh_tree.specs.Ready.{IsReady}
-use Rattle.dh_tree.specs.Resolved.{resolved_term, resolved_term_form, resolved_terms, resolved_action, resolved_form, resolved_other, resolved_actions, resolved_groups}
+use Rattle.dh_tree.specs.Seen.{terms}
+use Rattle.dh_tree.specs.ViewOffsets.{offsets_of}
+use Rattle.dh_tree.specs.Resolved.{resolved_plan, resolved_term, resolved_term_form, resolved_terms, resolved_action, resolved_form, resolved_other, resolved_actions, resolved_groups}
 use Rattle.dh_tree.specs.Scopes.{Binding, entity_of, Scope, declare, leave, past, at_end, actions_at_end, first_scope, body_scope, items_of}
 use Rattle.dh_tree.proofs.EmptyLists.{first_none, second_none}
+use Rattle.dh_sound.proofs.Offsets.{offsets_named, offsets_visible}
 use Rattle.dh_tree.specs.Targets.{IsAccess, HasTargets, FormHasTargets, OtherHasTargets, GroupsHaveTargets, PartHasTargets}
 use Rattle.dh_sound.specs.Straight.{Stands, IsNamedTerm, IsNamedTermForm, AreNamedTerms, MaybeNamed, IsTarget, IsNamedAction, IsNamedForm, IsNamedOther, AreNamedGroups, AreNamedActions}
-use Rattle.dh_base.specs.declared.places.Place.{Place}
-use Rattle.dh_tree.specs.Forms.{form_holds, unbuilt, unbuilt_action, unbuilt_form, unbuilt_functions, unbuilt_groups, unbuilt_other, unbuilt_part}
 
 -- what is visible has a number
 numbered_where : (o : Option ℕ) (b : Breach) → (if is_some o then [] else b ∷ []) ≡ [] → (e : ℕ) × (o ≡ Some e)
@@ -74,81 +75,79 @@ module _ (bs : List Binding) where
   named_target (term place k (converted t to)) a e h = a
 
 mutual
-  pub named_action : (a : Action) (s : Scope) → resolved_action s a ≡ a → breaches s a ≡ [] → HasTargets a → unbuilt_action a ≡ [] → IsNamedAction a
-  named_action (action id place f) s e h t c = let same : resolved_form s f ≡ f = cc in named_command f s place same h t c
+  pub named_action : (a : Action) (s : Scope) → resolved_action s a ≡ a → breaches s a ≡ [] → HasTargets a → IsNamedAction a
+  named_action (action id place f) s e h t = let same : resolved_form s f ≡ f = cc in named_command f s same h t
 
-  named_command : (f : ActionForm) (s : Scope) (place : Place) → resolved_form s f ≡ f → form_breaches s f ≡ [] → FormHasTargets f → unbuilt_form place f ≡ [] → IsNamedForm f
-  named_command (lets name declared value) s at e h t c =
+  named_command : (f : ActionForm) (s : Scope) → resolved_form s f ≡ f → form_breaches s f ≡ [] → FormHasTargets f → IsNamedForm f
+  named_command (lets name declared value) s e h t =
       let own : Some (length s.entities) ≡ name.entity = cc in
       let right : option_map (resolved_term s.visible) value ≡ value = cc in
       (declared_stands s name own, named_value s.visible value right (first_none (value_breaches s.visible value) _ h))
-  named_command (lets_memory name shape shape_places value) s at e h t c = tt
-  named_command (views name parent form) s at e h t c = cc
-  named_command (assigns target value) s at e h t c =
+  named_command (lets_memory name shape shape_places value) s e h t = tt
+  named_command (views name parent form) s e h t =
+      let plan : resolved_plan s.visible form ≡ form = cc in
+      named_terms s.visible (terms (offsets_of form)) (offsets_named s.visible form plan) (offsets_visible s.visible form ∙ first_none (plan_breaches s.visible form) _ (second_none (unknown s.visible parent) _ h))
+  named_command (assigns target value) s e h t =
       let left : entity_of s.visible target.name ≡ target.entity = cc in
       let right : resolved_term s.visible value ≡ value = cc in
       (used_stands s.visible target left (first_none (unknown s.visible target) _ h), named_term s.visible value right (second_none (unknown s.visible target) _ h))
-  named_command (stores target value) s at e h t c =
+  named_command (stores target value) s e h t =
       let left : resolved_term s.visible target ≡ target = cc in
       let right : resolved_term s.visible value ≡ value = cc in
       (named_target s.visible target t left (first_none (term_breaches s.visible target) _ h), named_term s.visible value right (second_none (term_breaches s.visible target) _ h))
-  named_command (reduces target op value) s at e h t c =
+  named_command (reduces target op value) s e h t =
       let left : entity_of s.visible target.name ≡ target.entity = cc in
       let right : resolved_term s.visible value ≡ value = cc in
       (used_stands s.visible target left (first_none (unknown s.visible target) _ h), named_term s.visible value right (second_none (unknown s.visible target) _ h))
-  named_command (calls function arguments) s at e h t c = tt
-  named_command (blocks body) s at e h t c = named_groups body s (let f = e in cc) h t c
-  named_command (decides test chosen other) s at e h t c =
+  named_command (calls function arguments) s e h t = tt
+  named_command (blocks body) s e h t = named_groups body s (let f = e in cc) h t
+  named_command (decides test chosen other) s e h t =
       let inner : Scope = leave s (at_end s chosen) in
       let same : resolved_term s.visible test ≡ test = cc in
       let first : resolved_action s chosen ≡ chosen = cc in
       let second : resolved_other inner other ≡ other = cc in
       let behind = second_none (term_breaches s.visible test) _ h in (
         named_term s.visible test same (first_none (term_breaches s.visible test) _ h),
-        (named_action chosen s first (first_none (breaches s chosen) _ behind) t.0 (first_none (unbuilt_action chosen) (unbuilt_other other) c), named_other other inner second (second_none (breaches s chosen) _ behind) t.1 (second_none (unbuilt_action chosen) (unbuilt_other other) c)),
+        (named_action chosen s first (first_none (breaches s chosen) _ behind) t.0, named_other other inner second (second_none (breaches s chosen) _ behind) t.1),
       )
-  named_command (repeats test body) s at e h t c =
+  named_command (repeats test body) s e h t =
       let same : resolved_term s.visible test ≡ test = cc in
       let inside : resolved_action s body ≡ body = cc in
-      (named_term s.visible test same (first_none (term_breaches s.visible test) _ h), named_action body s inside (second_none (term_breaches s.visible test) _ h) t c)
-  named_command (counts iterator declared low high factor body combine combine_place) s at e h t c =
+      (named_term s.visible test same (first_none (term_breaches s.visible test) _ h), named_action body s inside (second_none (term_breaches s.visible test) _ h) t)
+  named_command (counts iterator declared low high factor body combine combine_place) s e h t =
       let inner : Scope = declare s iterator Iterator in
       let own : Some (length s.entities) ≡ iterator.entity = cc in
       let first : resolved_action inner body ≡ body = cc in
       let second : resolved_other (at_end inner body) combine ≡ combine = cc in
       let behind = second_none (twice s.visible iterator) _ h in (
         declared_stands s iterator own,
-        (named_action body inner first (first_none (breaches inner body) _ behind) t.0 (first_none (unbuilt_action body) (unbuilt_other combine) c), named_other combine (at_end inner body) second (second_none (breaches inner body) _ behind) t.1 (second_none (unbuilt_action body) (unbuilt_other combine) c)),
+        (named_action body inner first (first_none (breaches inner body) _ behind) t.0, named_other combine (at_end inner body) second (second_none (breaches inner body) _ behind) t.1),
       )
 
-  named_other : (m : MaybeAction) (s : Scope) → resolved_other s m ≡ m → other_breaches s m ≡ [] → OtherHasTargets m → unbuilt_other m ≡ [] → IsNamedOther m
-  named_other no_action s e h t c = tt
-  named_other (one_action a) s e h t c = let same : resolved_action s a ≡ a = cc in named_action a s same h t c
+  named_other : (m : MaybeAction) (s : Scope) → resolved_other s m ≡ m → other_breaches s m ≡ [] → OtherHasTargets m → IsNamedOther m
+  named_other no_action s e h t = tt
+  named_other (one_action a) s e h t = let same : resolved_action s a ≡ a = cc in named_action a s same h t
 
-  named_groups : (gs : Groups) (s : Scope) → resolved_groups s gs ≡ gs → groups_breaches s gs ≡ [] → GroupsHaveTargets gs → unbuilt_groups gs ≡ [] → AreNamedGroups gs
-  named_groups no_groups s e h t c = tt
-  named_groups (group_then g rest) s e h t c =
+  named_groups : (gs : Groups) (s : Scope) → resolved_groups s gs ≡ gs → groups_breaches s gs ≡ [] → GroupsHaveTargets gs → AreNamedGroups gs
+  named_groups no_groups s e h t = tt
+  named_groups (group_then g rest) s e h t =
       let after : Scope = actions_at_end s g in
       let first : resolved_actions s g ≡ g = cc in
       let second : resolved_groups after rest ≡ rest = cc in (
-        named_part g s false first (first_none (actions_breaches s g) _ h) t.0 (first_none (unbuilt_part false g) (unbuilt_groups rest) c),
-        named_groups rest after second (second_none (actions_breaches s g) _ h) t.1 (second_none (unbuilt_part false g) (unbuilt_groups rest) c),
+        named_part g s first (first_none (actions_breaches s g) _ h) t.0,
+        named_groups rest after second (second_none (actions_breaches s g) _ h) t.1,
       )
 
-  named_part : (part : Actions) (s : Scope) (stepped : Bool) → resolved_actions s part ≡ part → actions_breaches s part ≡ [] → PartHasTargets part → unbuilt_part stepped part ≡ [] → AreNamedActions part
-  named_part no_actions s stepped e h t c = tt
-  named_part (action_then (action id place form) rest) s stepped e h t c =
-      let a = action id place form in
-      let again : List Breach = (if stepped && form_holds form then unbuilt place else []) in
-      let after_one = second_none (unbuilt_form place form) (again ++ unbuilt_part (stepped || form_holds form) rest) c in
+  named_part : (part : Actions) (s : Scope) → resolved_actions s part ≡ part → actions_breaches s part ≡ [] → PartHasTargets part → AreNamedActions part
+  named_part no_actions s e h t = tt
+  named_part (action_then a rest) s e h t =
       let after : Scope = past s a (at_end s a) in
-      let second : resolved_actions after rest ≡ rest = cc in (
-        named_command form s place (let same : resolved_form s form ≡ form = cc in same) (first_none (form_breaches s form) _ h) t.0 (first_none (unbuilt_form place form) (again ++ unbuilt_part (stepped || form_holds form) rest) c),
-        named_part rest after (stepped || form_holds form) second (second_none (form_breaches s form) _ h) t.1 (second_none again (unbuilt_part (stepped || form_holds form) rest) after_one),
-      )
+      let first : resolved_action s a ≡ a = cc in
+      let second : resolved_actions after rest ≡ rest = cc in
+      (named_action a s first (first_none (breaches s a) _ h) t.0, named_part rest after second (second_none (breaches s a) _ h) t.1)
 
 -- the names of a ready program
 pub ready_named : (p : Program) → IsReady p → IsNamedAction p.body
 ready_named p r =
     named_action p.body (body_scope p) (ap (λ (x : Program). x.body) r.entities)
-    (second_none (functions_breaches (length p.decls) (first_scope p) p.functions) _ (second_none (items_breaches [] (items_of p)) _ r.names)) r.of_text.targets (second_none (unbuilt_functions p.functions) (unbuilt_action p.body) r.built)
+    (second_none (functions_breaches (length p.decls) (first_scope p) p.functions) _ (second_none (items_breaches [] (items_of p)) _ r.names)) r.of_text.targets

@@ -310,7 +310,7 @@ module _ (known : Known) where
     form_scoped (lets_memory name shape shape_places value) s d loops before after e n is h f v = (tt, other_declared loops s name sort.Memory before after is h f v)
     form_scoped (views name parent form) s d loops before after e n is h f v =
         let plan : resolved_plan s.visible form ≡ form = cc in
-        (terms_in loops s.visible v (terms (offsets_of form)) (offsets_named s.visible form plan) n.0, other_declared loops s name sort.View before after is h f v)
+        (terms_in loops s.visible v (terms (offsets_of form)) (offsets_named s.visible form plan) n, other_declared loops s name sort.View before after is h f v)
     form_scoped (assigns target value) s d loops before after e n is h f v =
         let right : resolved_term s.visible value ≡ value = cc in (term_in loops s.visible v value right n.1, v)
     form_scoped (stores target value) s d loops before after e n is h f v =

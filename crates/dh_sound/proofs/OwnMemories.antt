@@ -4,7 +4,7 @@ use Rattle.dh_tree.specs.Memories.{Memory, memory_in, memories_of}
 use Rattle.dh_tree.specs.PlainTrees.{Program}
 use Rattle.dh_meaning.specs.Ways.{base_of, way_to}
 use Rattle.dh_meets.specs.SourceEvents.{SourceAccess}
-use Rattle.dh_ways.proofs.NoWays.{memory_unled}
+use Rattle.dh_ways.proofs.MemoriesUnled.{memory_unled}
 use Rattle.dh_sound.specs.BlockTold.{IsOfMemory}
 
 pub memory_access : (p : Program) (a : SourceAccess) (entity : ℕ) (m : Memory) → a.entity ≡ Some entity → memory_in (memories_of p) (Some entity) ≡ Some m → IsOfMemory p a

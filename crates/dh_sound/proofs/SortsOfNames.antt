@@ -38,7 +38,7 @@ use Rattle.dh_sound.proofs.Pigeons.{Has}
 use Rattle.dh_sound.proofs.Sites.{each_both}
 use Rattle.dh_meaning.specs.Ways.{Way, all_bindings_of, base_of, way_to}
 use Rattle.dh_ways.specs.Leading.{LeadsTo}
-use Rattle.dh_ways.proofs.NoWays.{memory_unled}
+use Rattle.dh_ways.proofs.MemoriesUnled.{memory_unled}
 use Rattle.dh_sound.proofs.ViewsLed.{IsNamed}
 
 -- Memories.

@@ -587,7 +587,7 @@ module _ (p : Program) (b : Begun) (path : Path) (in_block : ℕ → Bool)
         (let c = form_counted r (site_of r m) m (stores target value) nv refl in omega (arith, u, c))) s))
     walk_form r m d x e before v es n (lets_memory name shape shape_places value) rest hb ins h nv a below fresh seen t s = done_nothing r before [] v es rest (walk_none p b known path in_block share v0 touched r before v es s.near s.knows) t
     walk_form r m d x e before v es n (views name parent form) rest hb ins h nv a below fresh seen t s =
-        walk_kept r m d x e before v es n (hidden_in (way_of known name)) (offsets_of form) rest (head_is d x name.entity form hb.0) hb.1 ins nv.0 seen t
+        walk_kept r m d x e before v es n (hidden_in (way_of known name)) (offsets_of form) rest (head_is d x name.entity form hb.0) hb.1 ins nv seen t
         (starts_so r before (source.terms_events (site_of r m) (terms (offsets_of form))) v es n
         (λ k l u. own_inside n (terms_accesses (terms (offsets_of form))) (terms_accesses (terms (offsets_of form)) + 0) a (omega arith) k l
         (let c = terms_counted (site_of r m) (terms (offsets_of form)) in omega (arith, u, c))) s)

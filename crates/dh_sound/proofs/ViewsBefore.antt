@@ -34,7 +34,7 @@ use Rattle.dh_sound.proofs.Offsets.{offsets_named, offsets_visible}
 
 -- Views where they stand, by their numbers.
 
-abbrev AllStand : (low high : ℕ) → List Standing → Type 0
+abbrev pub AllStand : (low high : ℕ) → List Standing → Type 0
 AllStand low high [] = Unit {0}
 AllStand low high (s ∷ ss) = ((n : ℕ) × ((s.name.entity ≡ Some n) × ((low ≤ n) × (n < high)))) × AllStand low high ss
 
@@ -53,7 +53,7 @@ declared_long : (s : Scope) (r : Ref) (k : Sort) → size (declare s r k) ≡ si
 declared_long s r k = length-append s.entities (entity r k ∷ [])
 
 mutual
-  stand_within : (a : Action) (s : Scope) (d : ℕ) → resolved_action s a ≡ a → AllStand (size s) (size (at_end s a)) (standings d a)
+  pub stand_within : (a : Action) (s : Scope) (d : ℕ) → resolved_action s a ≡ a → AllStand (size s) (size (at_end s a)) (standings d a)
   stand_within (action id place form) s d e = let same : resolved_form s form ≡ form = cc in form_stands form s d same
 
   form_stands : (f : ActionForm) (s : Scope) (d : ℕ) → resolved_form s f ≡ f → AllStand (size s) (size (form_at_end s f)) (form_standings d f)
@@ -192,7 +192,7 @@ pub one_below : (x n k : ℕ) (s : Standing) (shape : Option Shape) (o : Option 
 one_below x n k s None o is l = tt
 one_below x n k s (Some shape) o is l = ((n, (is, l)), tt)
 
-led_below : (ms : List Memory) (x : ℕ) (before : List Led) (ss : List Standing) (low k : ℕ) → AllLedBelow k before → AllStand low k ss → AllLedBelow k (led_behind ms x before ss)
+pub led_below : (ms : List Memory) (x : ℕ) (before : List Led) (ss : List Standing) (low k : ℕ) → AllLedBelow k before → AllStand low k ss → AllLedBelow k (led_behind ms x before ss)
 led_below ms x before [] low k a b = a
 led_below ms x before (s ∷ ss) low k a b =
     led_below ms (behind_hidden x s) (before ++ led_after ms x before s) ss low k

@@ -219,6 +219,10 @@ module _ (P : Hidden → Type 0) where
       (unless_hidden P (memory_in ms s.parent.entity) (way_in before s.parent.entity) (way_hidden P before s.parent.entity a))))
       (second_hold (hidden_of first s) (all_hidden (behind_hidden first s) ss) b)
 
+each_one : (P Q : Hidden → Type 0) → ((h : Hidden) → P h → Q h) → (hs : List Hidden) → AllByRecursion P hs → AllByRecursion Q hs
+each_one P Q f [] a = tt
+each_one P Q f (h ∷ hs) a = (f h a.0, each_one P Q f hs a.1)
+
 each_two : (P Q R : Hidden → Type 0) → ((h : Hidden) → P h → Q h → R h) → (hs : List Hidden) → AllByRecursion P hs → AllByRecursion Q hs → AllByRecursion R hs
 each_two P Q R f [] a b = tt
 each_two P Q R f (h ∷ hs) a b = (f h a.0 b.0, each_two P Q R f hs a.1 b.1)
@@ -236,9 +240,8 @@ module _ (p : Program) (r : IsReady p) where
       record { binding = own.binding; found = passed (bindings_of p) (view_bindings p) entity none ∙ own.found; depth = own.depth; plain = own.plain }
 
   -- the binding of a variable behind all names
-  hidden_found : (h : Hidden) → length p.entities ≤ h.entity → FoundIn (map hidden_binding (hidden_variables p)) h → depth_bound (binding_in (all_bindings_of p) h.entity) ≡ h.depth
+  hidden_found : (h : Hidden) → length p.entities ≤ h.entity → FoundIn (map hidden_binding (hidden_variables p)) h → FoundIn (all_bindings_of p) h
   hidden_found h l f =
-      ap depth_bound
       (passed (bindings_of p) (view_bindings p) h.entity (none_bound p.entities h.entity (bindings_of p) (body_sorted p r).bound (past_all is_bound p.entities h.entity l))
       ∙ (passed (map led_binding (ways_of p)) (hidden_bindings (length p.entities) (standings 0 p.body)) h.entity (none_led p.entities h.entity (ways_of p) all_viewed (past_all is_viewed p.entities h.entity l))
       ∙ (ap (λ (bs : List Binding). binding_in bs h.entity) (mapped_all (length p.entities) (standings 0 p.body)) ∙ f)))
@@ -246,16 +249,22 @@ module _ (p : Program) (r : IsReady p) where
   abbrev IsKept : Hidden → Type 0
   IsKept h = depth_bound (binding_in (all_bindings_of p) h.entity) ≡ h.depth
 
-  all_kept : AllByRecursion IsKept (hidden_variables p)
+  all_kept : AllByRecursion (FoundIn (all_bindings_of p)) (hidden_variables p)
   all_kept =
-      each_two (λ h. length p.entities ≤ h.entity) (FoundIn (map hidden_binding (hidden_variables p))) IsKept hidden_found (hidden_variables p)
+      each_two (λ h. length p.entities ≤ h.entity) (FoundIn (map hidden_binding (hidden_variables p))) (FoundIn (all_bindings_of p)) hidden_found (hidden_variables p)
       (from_least (length p.entities) (hidden_variables p) (are_numbered p)) (found_all (length p.entities) (hidden_variables p) (are_numbered p))
 
+  -- what holds of all offsets holds of those on the way of a name
+  pub hidden_hold : (P : Hidden → Type 0) → AllByRecursion P (hidden_variables p) → (entity : Option ℕ) (w : Way) → way_to p entity ≡ Some w → AllByRecursion P w.hidden
+  hidden_hold P a entity w e =
+      subst (λ (o : Option Way). AllByRecursion P (hidden_in o)) e
+      (unless_hidden P (memory_in (memories_of p) entity) (way_in (ways_of p) entity) (way_hidden P (ways_of p) entity (ways_hold P (memories_of p) (length p.entities) [] (standings 0 p.body) tt a)))
+
+  bound : (entity : Option ℕ) (w : Way) → way_to p entity ≡ Some w → AllByRecursion (FoundIn (all_bindings_of p)) w.hidden
+  bound = hidden_hold (FoundIn (all_bindings_of p)) all_kept
+
   kept : (entity : Option ℕ) (w : Way) → way_to p entity ≡ Some w → AllByRecursion IsKept w.hidden
-  kept entity w e =
-      subst (λ (o : Option Way). AllByRecursion IsKept (hidden_in o)) e
-      (unless_hidden IsKept (memory_in (memories_of p) entity) (way_in (ways_of p) entity)
-      (way_hidden IsKept (ways_of p) entity (ways_hold IsKept (memories_of p) (length p.entities) [] (standings 0 p.body) tt all_kept)))
+  kept entity w e = each_one (FoundIn (all_bindings_of p)) IsKept (λ h f. ap depth_bound f) w.hidden (bound entity w e)
 
   pub views_bound : ViewsBound p
-  views_bound = record { named = named; kept = kept }
+  views_bound = record { named = named; kept = kept; bound = bound }

@@ -53,7 +53,7 @@ declared_long : (s : Scope) (r : Ref) (k : Sort) → size (declare s r k) ≡ si
 declared_long s r k = length-append s.entities (entity r k ∷ [])
 
 mutual
-  risen : (a : Action) (s : Scope) (d : ℕ) → resolved_action s a ≡ a → RisingTo (size s) (size (at_end s a)) (standings d a)
+  pub risen : (a : Action) (s : Scope) (d : ℕ) → resolved_action s a ≡ a → RisingTo (size s) (size (at_end s a)) (standings d a)
   risen (action id place form) s d e = let same : resolved_form s form ≡ form = cc in form_risen form s d same
 
   form_risen : (f : ActionForm) (s : Scope) (d : ℕ) → resolved_form s f ≡ f → RisingTo (size s) (size (form_at_end s f)) (form_standings d f)
@@ -109,7 +109,7 @@ mutual
       both_rise (size s) (size after) (size (groups_at_end after rest)) (part_standings d g) (groups_standings d rest) (on_long _ _ (part_on g s)) (on_long _ _ (groups_on rest after)) (part_risen g s d first)
       (groups_risen rest after d second)
 
-all_from : (low high : ℕ) (ss : List Standing) → RisingTo low high ss → AllFrom low ss
+pub all_from : (low high : ℕ) (ss : List Standing) → RisingTo low high ss → AllFrom low ss
 all_from low high [] a = tt
 all_from low high (s ∷ ss) (n, (is, (low_is, (high_is, rest)))) = ((n, (is, low_is)), all_from low high ss (from_lower (suc n) low high ss (omega (arith, low_is)) rest))
 

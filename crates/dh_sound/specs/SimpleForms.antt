@@ -1,6 +1,6 @@
--- Commands without views and calls, whose reducers stand in blocks that join copies alone, with a variable each on the
--- right: the commands of a program whose forms are built, and that breaks no rule on reducers. What is told of such
--- programs alone is to be told of views and calls as they are built.
+-- Commands without calls, whose reducers stand in blocks that join copies alone, with a variable each on the right:
+-- the commands of a program whose forms are built, and that breaks no rule on reducers. What is told of such
+-- programs alone is to be told of calls as they are built.
 use Rattle.std.specs.Prelude.{List, [], ◌∷◌}
 use Rattle.dh_tree.specs.PlainTrees.{Term, term, number, truth_value, named, accessed, in_bank, applied, converted, Action, action, ActionForm, lets, lets_memory, views, assigns, stores, reduces, calls, blocks, decides, repeats, counts, MaybeAction, no_action, one_action, Actions, no_actions, action_then, Groups, no_groups, group_then}
 use Rattle.dh_meaning.specs.Phases.{Located}
@@ -67,35 +67,6 @@ abbrev mutual
 abbrev pub JoinsFolds : MaybeAction → Type 0
 JoinsFolds no_action = Unit {0}
 JoinsFolds (one_action a) = FoldsOnly a
-
-abbrev mutual
-  pub IsSimple : Action → Type 0
-  IsSimple (action id place form) = FormSimple form
-
-  pub FormSimple : ActionForm → Type 0
-  FormSimple (lets name declared value) = Unit {0}
-  FormSimple (lets_memory name shape shape_places value) = Unit {0}
-  FormSimple (views name parent form) = ⊥
-  FormSimple (assigns target value) = Unit {0}
-  FormSimple (stores target value) = Unit {0}
-  FormSimple (reduces target o value) = ⊥
-  FormSimple (calls function arguments) = ⊥
-  FormSimple (blocks body) = GroupsSimple body
-  FormSimple (decides test chosen other) = IsSimple chosen × OtherSimple other
-  FormSimple (repeats test body) = IsSimple body
-  FormSimple (counts iterator declared low high factor body combine combine_place) = IsSimple body × JoinsFolds combine
-
-  pub OtherSimple : MaybeAction → Type 0
-  OtherSimple no_action = Unit {0}
-  OtherSimple (one_action a) = IsSimple a
-
-  pub GroupsSimple : Groups → Type 0
-  GroupsSimple no_groups = Unit {0}
-  GroupsSimple (group_then part rest) = PartSimple part × GroupsSimple rest
-
-  pub PartSimple : Actions → Type 0
-  PartSimple no_actions = Unit {0}
-  PartSimple (action_then a rest) = IsSimple a × PartSimple rest
 
 -- Reducers stand in blocks that join copies alone, and nothing is called.
 abbrev mutual

@@ -1,11 +1,13 @@
 -- What is asked of straight commands so that a walk along the trace can follow them: names that are used as
 -- variables stand for something, and a store's target is an access. All of it holds of a resolved program of a
--- text. (Of views that move, which keep offsets, nothing is told yet.)
-use Rattle.std.specs.Prelude.{◌≡◌, ℕ, [], Option, Some, None}
+-- text.
+use Rattle.std.specs.Prelude.{◌≡◌, ℕ, List, [], ◌∷◌, Option, Some, None}
 use Rattle.dh_tree.specs.declared.trees.expressions.Ref.{Ref}
 use Rattle.dh_tree.specs.PlainTrees.{Term, term, TermForm, number, truth_value, named, accessed, in_bank, applied, converted, Terms, no_terms, term_then, Action, action, ActionForm, lets, lets_memory, views, assigns, stores, reduces, calls, blocks, decides, repeats, counts, MaybeAction, no_action, one_action, Actions, no_actions, action_then, Groups, no_groups, group_then}
 use Rattle.dh_tree.specs.Seen.{terms}
 use Rattle.dh_tree.specs.ViewOffsets.{offsets_of}
+use Rattle.dh_meaning.specs.CoreOf.{Known, way_of}
+use Rattle.dh_meaning.specs.Ways.{Hidden, hidden_in}
 
 -- a name stands for something
 abbrev pub Stands : Ref → Type 0
@@ -49,7 +51,7 @@ abbrev mutual
   pub IsNamedForm : ActionForm → Type 0
   IsNamedForm (lets name declared value) = Stands name × MaybeNamed value
   IsNamedForm (lets_memory name shape shape_places value) = Unit {0}
-  IsNamedForm (views name parent form) = AreNamedTerms (terms (offsets_of form)) × (offsets_of form ≡ [])
+  IsNamedForm (views name parent form) = AreNamedTerms (terms (offsets_of form))
   IsNamedForm (assigns target value) = Stands target × IsNamedTerm value
   IsNamedForm (stores target value) = IsTarget target × IsNamedTerm value
   IsNamedForm (reduces target op value) = Stands target × IsNamedTerm value
@@ -70,3 +72,38 @@ abbrev mutual
   pub AreNamedActions : Actions → Type 0
   AreNamedActions no_actions = Unit {0}
   AreNamedActions (action_then a rest) = IsNamedAction a × AreNamedActions rest
+
+-- these variables keep offsets where there are any
+abbrev pub KeepsAny : List Hidden → List Term → Type 0
+KeepsAny [] os = os ≡ []
+KeepsAny (h ∷ hs) os = Unit {0}
+
+-- And a view whose way keeps nothing has no offsets.
+abbrev mutual
+  pub IsKeptAction : Known → Action → Type 0
+  IsKeptAction known (action id place f) = IsKeptForm known f
+
+  pub IsKeptForm : Known → ActionForm → Type 0
+  IsKeptForm known (lets name declared value) = Stands name × MaybeNamed value
+  IsKeptForm known (lets_memory name shape shape_places value) = Unit {0}
+  IsKeptForm known (views name parent form) = AreNamedTerms (terms (offsets_of form)) × KeepsAny (hidden_in (way_of known name)) (offsets_of form)
+  IsKeptForm known (assigns target value) = Stands target × IsNamedTerm value
+  IsKeptForm known (stores target value) = IsTarget target × IsNamedTerm value
+  IsKeptForm known (reduces target op value) = Stands target × IsNamedTerm value
+  IsKeptForm known (calls function arguments) = Unit {0}
+  IsKeptForm known (blocks body) = AreKeptGroups known body
+  IsKeptForm known (decides test chosen other) = IsNamedTerm test × (IsKeptAction known chosen × IsKeptOther known other)
+  IsKeptForm known (repeats test body) = IsNamedTerm test × IsKeptAction known body
+  IsKeptForm known (counts iterator declared low high factor body combine combine_place) = Stands iterator × (IsKeptAction known body × IsKeptOther known combine)
+
+  pub IsKeptOther : Known → MaybeAction → Type 0
+  IsKeptOther known no_action = Unit {0}
+  IsKeptOther known (one_action a) = IsKeptAction known a
+
+  pub AreKeptGroups : Known → Groups → Type 0
+  AreKeptGroups known no_groups = Unit {0}
+  AreKeptGroups known (group_then part rest) = AreKeptActions known part × AreKeptGroups known rest
+
+  pub AreKeptActions : Known → Actions → Type 0
+  AreKeptActions known no_actions = Unit {0}
+  AreKeptActions known (action_then a rest) = IsKeptAction known a × AreKeptActions known rest

@@ -4,7 +4,7 @@ use Rattle.std.specs.Prelude.{◌≡◌, ℕ, Option, Some, None}
 use Rattle.std.specs.List.{AllByRecursion}
 use Rattle.dh_tree.specs.PlainTrees.{Program}
 use Rattle.dh_meaning.specs.Bindings.{Binding, binding_in, depth_bound}
-use Rattle.dh_meaning.specs.Ways.{Way, all_bindings_of, way_to}
+use Rattle.dh_meaning.specs.Ways.{Way, all_bindings_of, hidden_binding, way_to}
 
 pub record IsBoundTo (p : Program) (entity : ℕ) (w : Way) : Type 0 where
   pub binding : Binding
@@ -15,3 +15,4 @@ pub record IsBoundTo (p : Program) (entity : ℕ) (w : Way) : Type 0 where
 pub record ViewsBound (p : Program) : Type 0 where
   pub named : (entity : ℕ) (w : Way) → way_to p (Some entity) ≡ Some w → IsBoundTo p entity w
   pub kept : (entity : Option ℕ) (w : Way) → way_to p entity ≡ Some w → AllByRecursion (λ h. depth_bound (binding_in (all_bindings_of p) h.entity) ≡ h.depth) w.hidden
+  pub bound : (entity : Option ℕ) (w : Way) → way_to p entity ≡ Some w → AllByRecursion (λ h. binding_in (all_bindings_of p) h.entity ≡ Some (hidden_binding h)) w.hidden

@@ -78,7 +78,8 @@ pub fn accepted_programs_are_never_stuck()
 /// Of a program that breaks no rule on indices and exceeds no limit, each access stands in few copies, and one by a row of
 /// a bank names a bank that its memory has.
 pub fn ready_accesses_are_told()
-    ensures copies { (p : Program) → index_breaches_of p ≡ [] → first_excess p ≡ None → HasFewCopies p }
+    ensures copies { (p : Program) → index_breaches_of p ≡ [] → first_excess p ≡ None
+        → HasFewCopies p }
     ensures banks { (p : Program) → index_breaches_of p ≡ [] → view_breaches_of p ≡ []
         → NamesBanks p }
 {}

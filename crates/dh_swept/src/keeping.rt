@@ -146,7 +146,8 @@ pub fn rename_registers(
     to: &[u64],
     registers: &[Register],
 ) -> Result<Items<Register>, NoMemory>
-    ensures { IfOk result (λ renamed. renamed ≡ map (renamed_register (number_in to.now)) registers.now) }
+    ensures { IfOk result (λ renamed. renamed
+        ≡ map (renamed_register (number_in to.now)) registers.now) }
 {
     let mut renamed = Items::new(alloc);
     for register in registers {
@@ -178,7 +179,8 @@ fn rename_driver(to: &[u64], driver: Driver) -> Driver
 
 /// The drivers of a port.
 fn rename_list(alloc: Global, to: &[u64], drivers: &[Driver]) -> Result<Items<Driver>, NoMemory>
-    ensures { IfOk result (λ renamed. renamed ≡ map (renamed_driver (number_in to.now)) drivers.now) }
+    ensures { IfOk result (λ renamed. renamed
+        ≡ map (renamed_driver (number_in to.now)) drivers.now) }
 {
     let mut renamed = Items::new(alloc);
     for driver in drivers {

@@ -14,7 +14,7 @@ use Rattle.dh_meaning.specs.OnePhase.{any_makes, makes}
 use Rattle.dh_meaning.specs.Phases.{Located}
 use Rattle.dh_plan.specs.Correspondence.{Round}
 use Rattle.dh_plan.specs.PlanPhases.{commands_mention, term_mentions}
-use Rattle.dh_sound.specs.SimpleForms.{IsSimple}
+use Rattle.dh_sound.specs.SimpleForms.{FoldsInJoins}
 use Rattle.dh_sound.proofs.Makes.{makes_within}
 use Rattle.dh_expressions.specs.declared.accesses.Accesses.{Accesses}
 use Rattle.dh_expressions.specs.declared.scenes.Around.{Around}
@@ -147,7 +147,7 @@ module _ (x : Block) (scene : Scene) (around : Around) (rounds : List Round) whe
     command_own : (c : Located) → FitsAlone x scene around rounds c → AssignsOwn scene around c.first c.command
     command_own c f = by f.alone
       where
-        by : IsSimple c.command ⊎ ((entity : ℕ) → f.fits.touched entity ≡ true) → AssignsOwn scene around c.first c.command
+        by : FoldsInJoins c.command ⊎ ((entity : ℕ) → f.fits.touched entity ≡ true) → AssignsOwn scene around c.first c.command
         by (inl simple) =
             assigns_own scene around (table_of (program_seen scene.program.now)) (Names f.fits.touched) own (λ e. ⊥) (λ e n t s never. absurd never) c.first c.command
             (simple_sound scene around.levels.now (table_of (program_seen scene.program.now)) (Names f.fits.touched) (IsSeen scene around.levels.now) c.command simple f.fits.sound)

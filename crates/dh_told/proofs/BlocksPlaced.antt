@@ -5,7 +5,7 @@ use Rattle.dh_tree.specs.Ready.{IsReady}
 use Rattle.dh_tree.specs.Seen.{program_seen}
 use Rattle.dh_meaning.specs.Core.{Turning}
 use Rattle.dh_meaning.specs.CoreOf.{Known, core_commands, core_of, core_test, form_of, known_of, test_of}
-use Rattle.dh_meaning.specs.Effects.{commands, tests}
+use Rattle.dh_meaning.specs.Effects.{Block, commands, tests}
 use Rattle.dh_meaning.specs.Phases.{Located, phases_of}
 use Rattle.dh_plan.specs.Correspondence.{Round}
 use Rattle.dh_sound.specs.AssignsInside.{AssignsInside}
@@ -40,6 +40,10 @@ module _ (scene : Scene) (ready : IsReady (program_seen scene.program.now)) (few
       (f : TestHolds (program_seen scene.program.now) (Simple (program_seen scene.program.now) ready few assigned plain) (Joins (program_seen scene.program.now) ready few assigned plain) (loops_of rounds) (tests (core_test known tested)))
       × (f.of.tested ≡ tested)
 
+-- the parts of a phase that is found once more
+parts_same : (p : Program) (loops : List Turning) (block : Block) (found again : OfStraight p loops block) (located : List Located) → located ≡ found.done ++ found.folds → again ≡ found → located ≡ again.done ++ again.folds
+parts_same p loops block found again located are same = subst (λ (o : OfStraight p loops block). located ≡ o.done ++ o.folds) (sym same) are
+
 pub placed_straights_are_sound : PlacedStraightsAreSound
 placed_straights_are_sound scene around plan rounds located ready place placed =
     let p : Program = program_seen scene.program.now in
@@ -47,7 +51,7 @@ placed_straights_are_sound scene around plan rounds located ready place placed =
     let few = ready_few (program_seen scene.program.now) ready in
     let assigned = ready_assigns (program_seen scene.program.now) ready in
     let plain = ready_plain (program_seen scene.program.now) ready in
-    let same = known_here scene ready in
+    let same = known_here scene place.tells.ways in
     let own : StraightOf (known_of (program_seen scene.program.now)) [] (phases_of (program_seen scene.program.now)) (loops_of rounds) located =
     subst (λ (k : Known). StraightOf k [] (phases_of (program_seen scene.program.now)) (loops_of rounds) located) (sym same) placed in
     let held = straight_of_held (known_of (program_seen scene.program.now)) (Simple (program_seen scene.program.now) ready few assigned plain) (Joins (program_seen scene.program.now) ready few assigned plain) (phases_of (program_seen scene.program.now)) [] (loops_of rounds) located
@@ -60,11 +64,12 @@ placed_straights_are_sound scene around plan rounds located ready place placed =
     let s = straight_sound scene around plan rounds ready place (commands (core_commands (known_in scene) located)) stands f.0 in
     record {
       of = s.0.of;
-      are = f.1 ∙ ap (λ (o : OfStraight (program_seen scene.program.now) (loops_of rounds) (commands (core_commands (known_in scene) located))). o.done ++ o.folds) (sym s.1);
-      simple = s.0.simple;
+      are = parts_same (program_seen scene.program.now) (loops_of rounds) (commands (core_commands (known_in scene) located)) f.0.of s.0.of located f.1 s.1;
+      behind = s.0.behind;
+      joins = s.0.joins;
       typed = s.0.typed;
       sound = s.0.sound;
-      traced = λ tells. straight_traced scene (loops_of rounds) (commands (core_commands (known_in scene) located)) s.0.of s.0.simple tells;
+      traced = λ tells. straight_traced scene (loops_of rounds) (commands (core_commands (known_in scene) located)) s.0.of s.0.views s.0.joins tells (sym same);
     }
 
 pub placed_tests_are_sound : PlacedTestsAreSound
@@ -72,7 +77,7 @@ placed_tests_are_sound scene around plan rounds tested t ready place placed is =
     let few = ready_few (program_seen scene.program.now) ready in
     let assigned = ready_assigns (program_seen scene.program.now) ready in
     let plain = ready_plain (program_seen scene.program.now) ready in
-    let same = known_here scene ready in
+    let same = known_here scene place.tells.ways in
     let here : TestOf (known_of (program_seen scene.program.now)) [] (phases_of (program_seen scene.program.now)) (loops_of rounds) tested =
     subst (λ (k : Known). TestOf k [] (phases_of (program_seen scene.program.now)) (loops_of rounds) tested) (sym same) placed in
     let held = test_of_held (known_of (program_seen scene.program.now)) (Simple (program_seen scene.program.now) ready few assigned plain) (Joins (program_seen scene.program.now) ready few assigned plain) (phases_of (program_seen scene.program.now)) [] (loops_of rounds) tested

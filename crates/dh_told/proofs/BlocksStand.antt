@@ -4,10 +4,9 @@ use Rattle.std.proofs.Common.{◌≡◌, ◌⊎◌, inl, inr, ◌<◌, ◌≤◌
 use Rattle.std.specs.List.{AllByRecursion}
 use Rattle.std.specs.Option.{is_some}
 use Rattle.dh_tree.specs.Indices.{form_of}
-use Rattle.dh_tree.specs.PlainTrees.{Term, Action, action, lets, lets_memory, views, assigns, stores, reduces, calls, blocks, decides, repeats, counts, MaybeAction, no_action, one_action, Actions, no_actions, action_then, Groups, no_groups, group_then}
-use Rattle.dh_tree.specs.Seen.{program_seen, terms}
-use Rattle.dh_meaning.specs.AccessNumbers.{accesses_of, groups_accesses, other_accesses, part_accesses, term_accesses, terms_accesses}
-use Rattle.dh_sound.specs.Straight.{AreNamedActions, AreNamedGroups, IsNamedAction, IsNamedOther}
+use Rattle.dh_tree.specs.PlainTrees.{Action, action, lets, lets_memory, views, assigns, stores, reduces, calls, blocks, decides, repeats, counts, MaybeAction, no_action, one_action, Actions, no_actions, action_then, Groups, no_groups, group_then}
+use Rattle.dh_tree.specs.Seen.{program_seen}
+use Rattle.dh_meaning.specs.AccessNumbers.{accesses_of, groups_accesses, other_accesses, part_accesses, term_accesses}
 use Rattle.dh_meaning.specs.Core.{CoreCommands}
 use Rattle.dh_meaning.specs.OnePhase.{any_makes, groups_make, is_within, makes, other_makes, part_makes}
 use Rattle.dh_meaning.specs.Phases.{Located}
@@ -79,57 +78,53 @@ module _ (IsRead : ℕ → Type 0) where
   rest_of a b e middle high low m = either (or_split a b m) (λ i. absurd (past middle e low (high i))) (λ i. i)
 
   mutual
-    command_reads : (a : Action) (first : ℕ) → ((e : ℕ) → first ≤ e → e < first + accesses_of a → IsRead e → makes e first a ≡ true) → EachWrite WritesNone first a → IsNamedAction a → CommandReads IsRead a first
-    command_reads (action id place (lets name declared value)) first h w named = tt
-    command_reads (action id place (assigns target value)) first h w named = tt
-    command_reads (action id place (stores target value)) first h w named = subst WritesNone (sum first (term_accesses value) (aim_accesses (form_of target))) w
+    command_reads : (a : Action) (first : ℕ) → ((e : ℕ) → first ≤ e → e < first + accesses_of a → IsRead e → makes e first a ≡ true) → EachWrite WritesNone first a → CommandReads IsRead a first
+    command_reads (action id place (lets name declared value)) first h w = tt
+    command_reads (action id place (assigns target value)) first h w = tt
+    command_reads (action id place (stores target value)) first h w = subst WritesNone (sum first (term_accesses value) (aim_accesses (form_of target))) w
       where
         sum : (a b c : ℕ) → a + b + c ≡ a + (b + c)
         sum a b c = omega arith
-    command_reads (action id place (reduces target op value)) first h w named = tt
-    command_reads (action id place (decides test chosen other)) first h w named = (
+    command_reads (action id place (reduces target op value)) first h w = tt
+    command_reads (action id place (decides test chosen other)) first h w = (
       command_reads chosen (first + term_accesses test)
           (λ e low high r. front_of (makes e (first + term_accesses test) chosen) (other_makes e (first + term_accesses test + accesses_of chosen) other) e (first + term_accesses test) (accesses_of chosen)
           (λ i. (other_within e (first + term_accesses test + accesses_of chosen) other i).0) high
           (rest_of (is_within e first (term_accesses test)) (makes e (first + term_accesses test) chosen || other_makes e (first + term_accesses test + accesses_of chosen) other) e (first + term_accesses test) (λ i. (within_is e first (term_accesses test) i).1) low
-          (h e (omega (arith, low)) (omega (arith, high)) r))) w.0 named.1.0,
+          (h e (omega (arith, low)) (omega (arith, high)) r))) w.0,
       other_reads other (first + term_accesses test + accesses_of chosen)
           (λ e low high r. rest_of (makes e (first + term_accesses test) chosen) (other_makes e (first + term_accesses test + accesses_of chosen) other) e (first + term_accesses test + accesses_of chosen)
           (λ i. (makes_within e (first + term_accesses test) chosen i).1) low
           (rest_of (is_within e first (term_accesses test)) (makes e (first + term_accesses test) chosen || other_makes e (first + term_accesses test + accesses_of chosen) other) e (first + term_accesses test) (λ i. (within_is e first (term_accesses test) i).1)
-          (omega (arith, low)) (h e (omega (arith, low)) (omega (arith, high)) r))) w.1 named.1.1,
+          (omega (arith, low)) (h e (omega (arith, low)) (omega (arith, high)) r))) w.1,
     )
-    command_reads (action id place (blocks body)) first h w named = groups_read body first (λ e low high r. h e low (omega (arith, high)) r) w named
-    command_reads (action id place (lets_memory name shape shape_places value)) first h w named = tt
-    command_reads (action id place (views name parent form)) first h w named =
-        λ e low high r. none first e low (subst (λ (ts : List Term). e < first + (terms_accesses (terms ts) + 0)) named.1 high)
-      where
-        none : (a e : ℕ) → a ≤ e → e < a + (0 + 0) → ⊥
-        none a e low high = omega (arith, low, high)
-    command_reads (action id place (calls function arguments)) first h w named = tt
-    command_reads (action id place (repeats test body)) first h w named = λ e low high r. never (h e low high r)
-    command_reads (action id place (counts iterator declared low high factor body combine combine_place)) first h w named = λ e above below r. never (h e above below r)
+    command_reads (action id place (blocks body)) first h w = groups_read body first (λ e low high r. h e low (omega (arith, high)) r) w
+    command_reads (action id place (lets_memory name shape shape_places value)) first h w = tt
+    command_reads (action id place (views name parent form)) first h w = tt
+    command_reads (action id place (calls function arguments)) first h w = tt
+    command_reads (action id place (repeats test body)) first h w = λ e low high r. never (h e low high r)
+    command_reads (action id place (counts iterator declared low high factor body combine combine_place)) first h w = λ e above below r. never (h e above below r)
 
-    other_reads : (other : MaybeAction) (first : ℕ) → ((e : ℕ) → first ≤ e → e < first + other_accesses other → IsRead e → other_makes e first other ≡ true) → EachWriteOther WritesNone first other → IsNamedOther other → OtherReads IsRead other first
-    other_reads no_action first h w named = tt
-    other_reads (one_action a) first h w named = command_reads a first h w named
+    other_reads : (other : MaybeAction) (first : ℕ) → ((e : ℕ) → first ≤ e → e < first + other_accesses other → IsRead e → other_makes e first other ≡ true) → EachWriteOther WritesNone first other → OtherReads IsRead other first
+    other_reads no_action first h w = tt
+    other_reads (one_action a) first h w = command_reads a first h w
 
-    actions_read : (part : Actions) (first : ℕ) → ((e : ℕ) → first ≤ e → e < first + part_accesses part → IsRead e → part_makes e first part ≡ true) → EachWriteActions WritesNone first part → AreNamedActions part → ActionsRead IsRead part first
-    actions_read no_actions first h w named = tt
-    actions_read (action_then a rest) first h w named = (
+    actions_read : (part : Actions) (first : ℕ) → ((e : ℕ) → first ≤ e → e < first + part_accesses part → IsRead e → part_makes e first part ≡ true) → EachWriteActions WritesNone first part → ActionsRead IsRead part first
+    actions_read no_actions first h w = tt
+    actions_read (action_then a rest) first h w = (
       command_reads a first
-          (λ e low high r. front_of (makes e first a) (part_makes e (first + accesses_of a) rest) e first (accesses_of a) (λ i. (part_within e (first + accesses_of a) rest i).0) high (h e low (omega (arith, high)) r)) w.0 named.0,
+          (λ e low high r. front_of (makes e first a) (part_makes e (first + accesses_of a) rest) e first (accesses_of a) (λ i. (part_within e (first + accesses_of a) rest i).0) high (h e low (omega (arith, high)) r)) w.0,
       actions_read rest (first + accesses_of a)
-          (λ e low high r. rest_of (makes e first a) (part_makes e (first + accesses_of a) rest) e (first + accesses_of a) (λ i. (makes_within e first a i).1) low (h e (omega (arith, low)) (omega (arith, high)) r)) w.1 named.1,
+          (λ e low high r. rest_of (makes e first a) (part_makes e (first + accesses_of a) rest) e (first + accesses_of a) (λ i. (makes_within e first a i).1) low (h e (omega (arith, low)) (omega (arith, high)) r)) w.1,
     )
 
-    groups_read : (body : Groups) (first : ℕ) → ((e : ℕ) → first ≤ e → e < first + groups_accesses body → IsRead e → groups_make e first body ≡ true) → EachWriteGroups WritesNone first body → AreNamedGroups body → GroupsRead IsRead body first
-    groups_read no_groups first h w named = tt
-    groups_read (group_then part rest) first h w named = (
+    groups_read : (body : Groups) (first : ℕ) → ((e : ℕ) → first ≤ e → e < first + groups_accesses body → IsRead e → groups_make e first body ≡ true) → EachWriteGroups WritesNone first body → GroupsRead IsRead body first
+    groups_read no_groups first h w = tt
+    groups_read (group_then part rest) first h w = (
       actions_read part first
-          (λ e low high r. front_of (part_makes e first part) (groups_make e (first + part_accesses part) rest) e first (part_accesses part) (λ i. (groups_within e (first + part_accesses part) rest i).0) high (h e low (omega (arith, high)) r)) w.0 named.0,
+          (λ e low high r. front_of (part_makes e first part) (groups_make e (first + part_accesses part) rest) e first (part_accesses part) (λ i. (groups_within e (first + part_accesses part) rest i).0) high (h e low (omega (arith, high)) r)) w.0,
       groups_read rest (first + part_accesses part)
-          (λ e low high r. rest_of (part_makes e first part) (groups_make e (first + part_accesses part) rest) e (first + part_accesses part) (λ i. (part_within e first part i).1) low (h e (omega (arith, low)) (omega (arith, high)) r)) w.1 named.1,
+          (λ e low high r. rest_of (part_makes e first part) (groups_make e (first + part_accesses part) rest) e (first + part_accesses part) (λ i. (part_within e first part i).1) low (h e (omega (arith, low)) (omega (arith, high)) r)) w.1,
     )
 
   -- Commands of a block, whose numbers rise.
@@ -149,17 +144,17 @@ module _ (IsRead : ℕ → Type 0) where
   abbrev NoWrites : List Located → Type 0
   NoWrites cs = AllByRecursion (λ (c : Located). EachWrite WritesNone c.first c.command) cs
 
-  block_reads : (from : ℕ) (cs : List Located) → AreRising from cs → ((e : ℕ) → from ≤ e → IsRead e → any_makes e cs ≡ true) → NoWrites cs → AllByRecursion (λ (c : Located). IsNamedAction c.command) cs → BlockReads IsRead from cs
-  block_reads from [] rising made w named = tt
-  block_reads from (c ∷ cs) rising made w named = (
+  block_reads : (from : ℕ) (cs : List Located) → AreRising from cs → ((e : ℕ) → from ≤ e → IsRead e → any_makes e cs ≡ true) → NoWrites cs → BlockReads IsRead from cs
+  block_reads from [] rising made w = tt
+  block_reads from (c ∷ cs) rising made w = (
     (
       rising.0,
       λ e low high r. either (or_split (makes e c.first c.command) (any_makes e cs) (made e low r)) (λ i. past c.first e (makes_within e c.first c.command i).0 high) (λ i. gap c.first (accesses_of c.command) e (behind e i) high),
     ),
     (
-      command_reads c.command c.first (λ e low high r. front_of (makes e c.first c.command) (any_makes e cs) e c.first (accesses_of c.command) (behind e) high (made e (far from c.first e rising.0 low) r)) w.0 named.0,
+      command_reads c.command c.first (λ e low high r. front_of (makes e c.first c.command) (any_makes e cs) e c.first (accesses_of c.command) (behind e) high (made e (far from c.first e rising.0 low) r)) w.0,
       block_reads (c.first + accesses_of c.command) cs rising.1.1
-          (λ e low r. rest_of (makes e c.first c.command) (any_makes e cs) e (c.first + accesses_of c.command) (λ i. (makes_within e c.first c.command i).1) low (made e (beyond from c.first (accesses_of c.command) e rising.0 low) r)) w.1 named.1,
+          (λ e low r. rest_of (makes e c.first c.command) (any_makes e cs) e (c.first + accesses_of c.command) (λ i. (makes_within e c.first c.command i).1) low (made e (beyond from c.first (accesses_of c.command) e rising.0 low) r)) w.1,
     ),
   )
     where
@@ -226,7 +221,7 @@ module _ (scene : Scene) (count : ℕ) (plan : PlainPlan) (final : Made) (h : Is
     rising = s.made.rising;
     bare = s.made.bare;
     stores = reach;
-    reads_told = block_reads (ReadBy (reads_in scene (λ number. any_makes number s.located))) 0 s.located s.made.rising (λ e low r. (and_split _ _ r).0) (no_writes scene (λ number. any_makes number s.located) s.located reach all) (straight_names scene count plan final h rounds cs block s counting);
+    reads_told = block_reads (ReadBy (reads_in scene (λ number. any_makes number s.located))) 0 s.located s.made.rising (λ e low r. (and_split _ _ r).0) (no_writes scene (λ number. any_makes number s.located) s.located reach all);
     shares = λ number site at. record {
       known = subst (λ (n : ℕ). number < n) (sym (as_many scene h.shares)) (any_below (trace (program_seen scene.program.now)) s.located number all (sym (sited.made number) ∙ ap is_some at));
       earlier = λ e share. shared_read number e (sym (sited.made number) ∙ ap is_some at) (sym (h.shares.all number) ∙ ap share_told share);

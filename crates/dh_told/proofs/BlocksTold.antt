@@ -10,7 +10,7 @@ use Rattle.dh_tree.specs.Seen.{program_seen}
 use Rattle.dh_tree.specs.Shapes.{IsProgramTable}
 use Rattle.dh_tree.proofs.ProgramTables.{program_table}
 use Rattle.dh_meaning.specs.Core.{CoreCommands, CoreTerm}
-use Rattle.dh_meaning.specs.CoreOf.{core_commands, core_of, core_test}
+use Rattle.dh_meaning.specs.CoreOf.{Known, core_commands, core_of, core_test}
 use Rattle.dh_meaning.specs.Effects.{Block, commands, tests}
 use Rattle.dh_meaning.specs.OnePhase.{any_makes, test_makes}
 use Rattle.dh_meaning.specs.Phases.{Located, idle_phases_of, phases_of}
@@ -19,8 +19,8 @@ use Rattle.dh_lengths.specs.SharedReads.{share_told}
 use Rattle.dh_sound.specs.Blocks as runs
 use Rattle.dh_meaning.specs.Sites.{nothing_around}
 use Rattle.dh_sound.specs.PhaseFacts.{HasStraight, HasTest, StandsAmong}
-use Rattle.dh_sound.specs.Straight.{IsNamedAction}
-use Rattle.dh_sound.proofs.NamedPrograms.{ready_named}
+use Rattle.dh_sound.specs.Straight.{IsKeptAction}
+use Rattle.dh_sound.proofs.KeptPrograms.{ready_kept}
 use Rattle.dh_sound.proofs.SamePhase.{straight_has_both, test_has_both}
 use Rattle.dh_sound.proofs.Slices.{straight_either, straight_stands, test_either, test_stands}
 use Rattle.dh_plan.specs.Correspondence.{Round}
@@ -66,6 +66,8 @@ use Rattle.dh_told.proofs.BlocksFormed.{made_straights_are_formed, made_tests_ar
 use Rattle.dh_told.proofs.BlocksPlaced.{placed_straights_are_sound, placed_tests_are_sound}
 use Rattle.dh_told.proofs.CoreHere.{run_here}
 use Rattle.dh_told.proofs.PhasesHeld.{straight_run, straight_there, test_run, test_there}
+use Rattle.dh_typed_blocks.proofs.KnownHere.{known_here}
+use Rattle.dh_told.proofs.NamedDirectly.{ways_here}
 use Rattle.dh_told.specs.PlansTold.{IsOfReady, ReadyPlansAreSound}
 use Rattle.dh_told.proofs.BlocksCut.{adds_then, each_adds, flag_adds, made_cut, tests_add}
 use Rattle.dh_told.proofs.EntitiesKnown.{scenes_tell}
@@ -87,10 +89,10 @@ then_all P (x ∷ xs) ys h = then_all P xs ys h.1
 
 module _ (scene : Scene) (count : ℕ) (plan : PlainPlan) (final : Made) (h : IsOfReady scene count plan final) where
   pub tells : TellsScene scene
-  tells = scenes_tell scene count h.ready h.order
+  tells = scenes_tell scene count h.ready h.order h.ways
 
   pub holds : HoldsVariables scene plan count
-  holds = scenes_hold scene plan count h.ready h.order h.scopes h.table h.kinds
+  holds = scenes_hold scene plan count h.ready h.order h.views h.scopes h.table h.kinds
 
   pub has : HasRegisters plan final
   has = record {
@@ -120,6 +122,9 @@ module _ (scene : Scene) (count : ℕ) (plan : PlainPlan) (final : Made) (h : Is
       counted = top.counted;
       some = subst (λ (n : ℕ). 0 < n) (sym (ap (λ (gs : List (Option ℕ)). length gs) round.guards ∙ length-replicate round.paths None)) round.levels.some;
       kinds = tells.kind;
+      plain = tells.plain;
+      views = h.views;
+      ways = ways_here scene h.ready table (sym (known_here scene h.ways));
       shares = shares;
     }
 
@@ -152,7 +157,7 @@ module _ (scene : Scene) (count : ℕ) (plan : PlainPlan) (final : Made) (h : Is
     straight_sound =
         placed_straights_are_sound scene s.made.around plan rounds s.located h.ready
         (place rounds s.made.around s.made.round s.made.stands_in counting (commands (core_commands (known_in scene) s.located))
-        (run_here scene h.ready (loops_of rounds) (commands (core_commands (known_in scene) s.located))
+        (run_here scene h.ways (loops_of rounds) (commands (core_commands (known_in scene) s.located))
         (straight_run (known_in scene) (phases_of (program_seen scene.program.now)) [] (loops_of rounds) s.located s.placed)))
         s.placed
 
@@ -167,10 +172,12 @@ module _ (scene : Scene) (count : ℕ) (plan : PlainPlan) (final : Made) (h : Is
     pub straight_reach : AllByRecursion (λ (c : Located). StoresReach c.command) s.located
     straight_reach = (ready_scenes_are_told scene h.ready h.scopes).stores (loops_of rounds) s.located s.placed
 
-    pub straight_names : AllByRecursion (λ (c : Located). IsNamedAction c.command) s.located
+    pub straight_names : AllByRecursion (λ (c : Located). IsKeptAction (known_in scene) c.command) s.located
     straight_names =
-        all_named s.located
-        (straight_named (phases_of (program_seen scene.program.now)) s.located (phases_named nothing_around 0 (program_seen scene.program.now).body (ready_named (program_seen scene.program.now) h.ready))
+        all_named (known_in scene) s.located
+        (straight_named (known_in scene) (phases_of (program_seen scene.program.now)) s.located
+        (phases_named (known_in scene) nothing_around 0 (program_seen scene.program.now).body
+        (subst (λ (known : Known). IsKeptAction known (program_seen scene.program.now).body) (known_here scene h.ways) (ready_kept (program_seen scene.program.now) h.ready)))
         (straight_there (known_in scene) (phases_of (program_seen scene.program.now)) [] (loops_of rounds) s.located s.placed))
 
     straight_sited : AreSited scene s.made.around (λ number. any_makes number s.located) (block_sites scene s.made.around s.located s.made.before s.made.between s.made.made)
@@ -210,7 +217,7 @@ module _ (scene : Scene) (count : ℕ) (plan : PlainPlan) (final : Made) (h : Is
     test_sound =
         placed_tests_are_sound scene s.made.around plan rounds s.tested s.term h.ready
         (place rounds s.made.around s.made.round s.made.stands_in counting (tests (core_test (known_in scene) s.tested))
-        (run_here scene h.ready (loops_of rounds) (tests (core_test (known_in scene) s.tested))
+        (run_here scene h.ways (loops_of rounds) (tests (core_test (known_in scene) s.tested))
         (test_run (known_in scene) (phases_of (program_seen scene.program.now)) [] (loops_of rounds) s.tested s.placed)))
         s.placed s.term_is
 

@@ -1,26 +1,32 @@
 -- What a scene holds of each entity is what the program declares of it; counters are those of iterators.
-use Rattle.std.proofs.Common.{◌≡◌, ◌⊎◌, inl, inr, ℕ, zero, suc, ◌+◌, ◌<◌, ◌≤◌, Bool, true, false, if◌then◌else◌, List, [], ◌∷◌, ◌++◌, length, Option, Some, None, refl, ap, sym, ◌∙◌, subst, arith}
+use Rattle.std.proofs.Common.{◌≡◌, ◌⊎◌, inl, inr, ℕ, zero, suc, ◌+◌, ◌<◌, ◌≤◌, Bool, true, false, if◌then◌else◌, List, [], ◌∷◌, ◌++◌, length, map, Option, Some, None, refl, ap, sym, ◌∙◌, subst, arith}
+use Rattle.std.specs.List.{AllByRecursion}
 use Rattle.std.proofs.lemmas.Bool.{cases_lt}
 use Rattle.std.proofs.lemmas.Bool.Decides.{nat_tests}
 use Rattle.dh_tree.specs.declared.trees.counters.Counter.{Counter}
 use Rattle.dh_tree.specs.declared.trees.expressions.Ref.{Ref}
 use Rattle.dh_tree.specs.Counters.{counter_in, counters, counters_of, form_counters, groups_counters, other_counters, part_counters}
 use Rattle.dh_tree.specs.Memories.{same_entity}
-use Rattle.dh_tree.specs.PlainTrees.{Action, action, ActionForm, lets, lets_memory, views, assigns, stores, reduces, calls, blocks, decides, repeats, counts, MaybeAction, no_action, one_action, Actions, no_actions, action_then, Groups, no_groups, group_then, Program}
+use Rattle.dh_tree.specs.PlainTrees.{Term, Action, action, ActionForm, lets, lets_memory, views, assigns, stores, reduces, calls, blocks, decides, repeats, counts, MaybeAction, no_action, one_action, Actions, no_actions, action_then, Groups, no_groups, group_then, Program}
 use Rattle.dh_tree.specs.Resolved.{HasEntities}
 use Rattle.dh_tree.specs.Scopes.{body_scope}
 use Rattle.dh_tree.specs.Seen.{program_seen}
+use Rattle.dh_tree.specs.ViewOffsets.{offsets_of}
 use Rattle.dh_meaning.specs.Bindings.{Binding, binding_in, bindings_of, depth_inside, kind_bound}
 use Rattle.dh_meaning.specs.CoreOf.{entity_number}
+use Rattle.dh_meaning.specs.Ways.{Led, Standing, all_bindings_of, all_entities_of, behind_all, behind_hidden, hidden_binding, hidden_bindings, hidden_from, hidden_of, led_binding, standings, view_bindings, ways_of}
 use Rattle.dh_code.specs.declared.places.Held.{Held}
-use Rattle.dh_code.specs.Declarations.{Declaration, all_held, declaration_in, declarations, factors_of}
+use Rattle.dh_code.specs.Declarations.{Declaration, all_declarations_of, all_held, declaration_in, factors_of, placing_of}
 use Rattle.dh_code.specs.Ranks.{copies_in}
 use Rattle.dh_code.specs.Slots.{held_at, held_nowhere}
-use Rattle.dh_code.proofs.KindsHeld.{kinds_held}
-use Rattle.dh_ways.proofs.NoWays.{own_bindings}
+use Rattle.dh_code.specs.Placed.{IsNamedBelow}
+use Rattle.dh_code.proofs.HiddenPlaced.{kinds_all}
+use Rattle.dh_ways.specs.HiddenVariables.{hidden_variables}
+use Rattle.dh_ways.proofs.HiddenApart.{are_counted}
+use Rattle.dh_runnable.proofs.ProgramsRun.{ready_runs}
 use Rattle.dh_sound.specs.LoopsDeclared.{IsFoundWith}
 use Rattle.dh_sound.specs.SameKeys.{IsNoIterator}
-use Rattle.dh_sound.proofs.DepthsNamed.{AllBelow, Deep, FormDeep, GroupsDeep, OtherDeep, PartDeep, all_below, all_more, deep, is_absent}
+use Rattle.dh_sound.proofs.DepthsNamed.{AllBelow, IsBelow, Deep, FormDeep, GroupsDeep, OtherDeep, PartDeep, all_below, all_more, deep, is_absent}
 use Rattle.dh_told.specs.ScenesKnown.{ReadyScenesTell}
 
 -- Kinds.
@@ -41,15 +47,68 @@ none_bound n e [] l h = refl
 none_bound n e (b ∷ bs) l h =
     ap (λ (t : Bool). if t then Some b else binding_in bs e) (is_absent e b.entity (all_more n e (b ∷ []) l (h.0, tt)).0) ∙ none_bound n e bs l h.1
 
-kind_known : (p : Program) → HasEntities p → (e : ℕ) → (held_at (all_held (declarations [] p.body) 0 0 (length p.entities)) e).kind ≡ kind_bound (binding_in (bindings_of p) e)
-kind_known p h e = by (cases_lt e (length p.entities))
-  where
-    all : AllBelow (length p.entities) (bindings_of p)
-    all = subst (λ (n : ℕ). AllBelow n (bindings_of p)) (ap (λ (x : Program). length x.entities) h) (all_below p.body (body_scope p) 0 (ap (λ (x : Program). x.body) h))
+-- all names have numbers below those of all entities, those of views and of variables that keep offsets among them
+below_both : (n : ℕ) (xs ys : List Binding) → AllBelow n xs → AllBelow n ys → AllBelow n (xs ++ ys)
+below_both n [] ys h k = k
+below_both n (x ∷ xs) ys h k = (h.0, below_both n xs ys h.1 k)
 
-    by : (e < length p.entities) ⊎ (length p.entities ≤ e) → (held_at (all_held (declarations [] p.body) 0 0 (length p.entities)) e).kind ≡ kind_bound (binding_in (bindings_of p) e)
-    by (inl l) = kinds_held p.body (length p.entities) e l
-    by (inr l) = ap (λ (x : Held). x.kind) (held_past (declarations [] p.body) 0 0 (length p.entities) e l) ∙ ap kind_bound (sym (none_bound (length p.entities) e (bindings_of p) l all))
+led_below : (n m : ℕ) (ls : List Led) → n ≤ m → AllByRecursion (λ (l : Led). IsNamedBelow n l.entity) ls → AllBelow m (map led_binding ls)
+led_below n m [] le h = tt
+led_below n m (l ∷ ls) le h = (by l.entity h.0, led_below n m ls le h.1)
+  where
+    by : (o : Option ℕ) → IsNamedBelow n o → IsBelow m o
+    by None k = tt
+    by (Some e) k = omega (arith, le, k)
+
+hidden_below : (first m : ℕ) (ss : List Standing) → behind_all first ss ≤ m → AllBelow m (hidden_bindings first ss)
+hidden_below first m [] le = tt
+hidden_below first m (s ∷ ss) le =
+    below_both m (map hidden_binding (hidden_of first s)) (hidden_bindings (behind_hidden first s) ss)
+    (own first (offsets_of s.form) (least (behind_hidden first s) (behind_all (behind_hidden first s) ss) (grows (behind_hidden first s) ss) le)) (hidden_below (behind_hidden first s) m ss le)
+  where
+    least : (a b : ℕ) → a ≤ b → b ≤ m → a ≤ m
+    least a b l k = omega (arith, l, k)
+
+    grows : (n : ℕ) (rest : List Standing) → n ≤ behind_all n rest
+    grows n [] = omega arith
+    grows n (r ∷ rest) = let later = grows (behind_hidden n r) rest in more n (length (offsets_of r.form)) (behind_all (behind_hidden n r) rest) later
+      where
+        more : (a b c : ℕ) → a + b ≤ c → a ≤ c
+        more a b c l = omega (arith, l)
+
+    own : (n : ℕ) (ts : List Term) → n + length ts ≤ m → AllBelow m (map hidden_binding (hidden_from n s.depth ts))
+    own n [] l = tt
+    own n (t ∷ ts) l = (there n (length ts) l, own (suc n) ts (next n (length ts) l))
+      where
+        there : (a b : ℕ) → a + suc b ≤ m → a < m
+        there a b k = omega (arith, k)
+
+        next : (a b : ℕ) → a + suc b ≤ m → suc a + b ≤ m
+        next a b k = omega (arith, k)
+
+kind_known : (p : Program) → HasEntities p → AllByRecursion (λ (l : Led). IsNamedBelow (length p.entities) l.entity) (ways_of p) → (e : ℕ) → (held_at (placing_of p).held e).kind ≡ kind_bound (binding_in (all_bindings_of p) e)
+kind_known p h named e = by (cases_lt e (all_entities_of p))
+  where
+    more : length p.entities ≤ all_entities_of p
+    more = least (length p.entities) (all_entities_of p) (length (hidden_variables p)) (are_counted p)
+      where
+        least : (a b c : ℕ) → b ≡ a + c → a ≤ b
+        least a b c f = omega (arith, f)
+
+    own : AllBelow (length p.entities) (bindings_of p)
+    own = subst (λ (n : ℕ). AllBelow n (bindings_of p)) (ap (λ (x : Program). length x.entities) h) (all_below p.body (body_scope p) 0 (ap (λ (x : Program). x.body) h))
+
+    same : (n : ℕ) → n ≤ n
+    same n = omega arith
+
+    all : AllBelow (all_entities_of p) (all_bindings_of p)
+    all = below_both (all_entities_of p) (bindings_of p) (view_bindings p) (all_more (length p.entities) (all_entities_of p) (bindings_of p) more own)
+        (below_both (all_entities_of p) (map led_binding (ways_of p)) (hidden_bindings (length p.entities) (standings 0 p.body)) (led_below (length p.entities) (all_entities_of p) (ways_of p) more named)
+        (hidden_below (length p.entities) (all_entities_of p) (standings 0 p.body) (same (all_entities_of p))))
+
+    by : (e < all_entities_of p) ⊎ (all_entities_of p ≤ e) → (held_at (placing_of p).held e).kind ≡ kind_bound (binding_in (all_bindings_of p) e)
+    by (inl l) = kinds_all p named e l
+    by (inr l) = ap (λ (x : Held). x.kind) (held_past (all_declarations_of p) 0 0 (all_entities_of p) e l) ∙ ap kind_bound (sym (none_bound (all_entities_of p) e (all_bindings_of p) l all))
 
 -- Iterators.
 
@@ -126,8 +185,17 @@ body_deep p h = deep (bindings_of p) p.body (body_scope p) 0 [] [] (ap (λ (x : 
     append_none [] = refl
     append_none (b ∷ bs) = ap (λ l. b ∷ l) (append_none bs)
 
+-- the program's own names come first
+found_first : (bs more : List Binding) (e : ℕ) (b : Binding) → binding_in bs e ≡ Some b → binding_in (bs ++ more) e ≡ Some b
+found_first [] more e b h = absurd cc
+found_first (x ∷ bs) more e b h = by (same_entity x.entity (Some e)) h (found_first bs more e b)
+  where
+    by : (t : Bool) → (if t then Some x else binding_in bs e) ≡ Some b → (binding_in bs e ≡ Some b → binding_in (bs ++ more) e ≡ Some b) → (if t then Some x else binding_in (bs ++ more) e) ≡ Some b
+    by true g later = g
+    by false g later = later g
+
 -- what is no iterator has no counter
-no_counter : (p : Program) → HasEntities p → (e : ℕ) → IsNoIterator (binding_in (bindings_of p) e) → counter_in (counters_of p) (Some e) ≡ None
+no_counter : (p : Program) → HasEntities p → (e : ℕ) → IsNoIterator (binding_in (all_bindings_of p) e) → counter_in (counters_of p) (Some e) ≡ None
 no_counter p h e plain = by (counter_in (counters_of p) (Some e)) refl
   where
     differ : (b : Binding) (factor : ℕ) → IsNoIterator (Some b) → b.iterates ≡ Some factor → ⊥
@@ -137,16 +205,15 @@ no_counter p h e plain = by (counter_in (counters_of p) (Some e)) refl
     by None at = at
     by (Some c) at =
         let i = iterates_in (bindings_of p) e c p.body 0 (body_deep p h) at in
-        absurd (differ i.binding i.factor (subst (λ (o : Option Binding). IsNoIterator o) i.bound plain) i.iterates)
+        absurd (differ i.binding i.factor (subst (λ (o : Option Binding). IsNoIterator o) (found_first (bindings_of p) (view_bindings p) e i.binding i.bound) plain) i.iterates)
 
 -- The scene.
 
 pub scenes_tell : ReadyScenesTell
-scenes_tell scene count ready order = record {
+scenes_tell scene count ready order ways = record {
   long = ap (λ (held : List Held). length held) order.held;
   depth = λ e. ap (λ (held : List Held). (held_at held e).depth) order.held;
-  kind = λ e. ap (λ (held : List Held). (held_at held e).kind) order.held ∙ (kind_known (program_seen scene.program.now) ready.entities e
-      ∙ ap (λ (bs : List Binding). kind_bound (binding_in bs e)) (sym (own_bindings (program_seen scene.program.now) ready.built)));
-  plain = λ e none. no_counter (program_seen scene.program.now) ready.entities e
-      (subst (λ (bs : List Binding). IsNoIterator (binding_in bs e)) (own_bindings (program_seen scene.program.now) ready.built) none);
+  kind = λ e. ap (λ (held : List Held). (held_at held e).kind) order.held ∙ kind_known (program_seen scene.program.now) ready.entities (ready_runs (program_seen scene.program.now) ready).named e;
+  plain = λ e none. no_counter (program_seen scene.program.now) ready.entities e none;
+  ways = ways;
 }

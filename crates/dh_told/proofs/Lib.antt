@@ -4,6 +4,7 @@ pub mod RoundsKnown
 pub mod SharesKept
 pub mod BlocksCut
 pub mod CoreHere
+pub mod NamedDirectly
 pub mod BlocksTold
 pub mod PlansFormed
 pub mod BlocksBegin
@@ -16,6 +17,7 @@ pub mod PlansLast
 pub mod SharesWithin
 pub mod BlocksStand
 pub mod CopiesOfPhases
+pub mod WaysKept
 pub mod IndicesTold
 pub mod LevelsOfRounds
 pub mod MadeBanks

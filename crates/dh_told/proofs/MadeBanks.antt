@@ -1,5 +1,6 @@
 -- A plan that was made of a ready program is put down in its scene, block by block; so its steps keep the banks.
-use Rattle.std.proofs.Common.{◌≡◌, ℕ, List, Some, subst, arith}
+use Rattle.std.proofs.Common.{◌≡◌, ℕ, List, Some, sym, subst, arith}
+use Rattle.std.specs.List.{AllByRecursion}
 use Rattle.std.specs.Prelude.{Bool, true, false, [], ◌∷◌, ◌++◌, slice_index, length}
 use Rattle.dh_tree.specs.PlainTrees.{Action, Term, action, assigns, blocks, calls, counts, decides, lets, lets_memory, reduces, repeats, stores, views}
 use Rattle.dh_tree.specs.Seen.{program_seen}
@@ -32,13 +33,14 @@ use Rattle.dh_gathering.specs.MadeBlocks.{IsStraightBlock, IsTestBlock}
 use Rattle.dh_gathering.specs.PlacedPhases.{loops_round}
 use Rattle.dh_phased.proofs.LoopsCounted.{loops_are_own}
 use Rattle.dh_phased.proofs.NodesTied.{nodes_tied}
-use Rattle.dh_typed_blocks.specs.SoundBlocks.{IsPlaceTold, loops_of}
+use Rattle.dh_typed_blocks.specs.SoundBlocks.{IsBehindViews, IsPlaceTold, loops_of}
+use Rattle.dh_typed_blocks.proofs.KnownHere.{known_here}
 use Rattle.dh_used.specs.SourceSites.{AllStand}
 use Rattle.dh_told.proofs.CoreHere.{run_here}
 use Rattle.dh_told.proofs.PhasesHeld.{straight_run, test_run}
 use Rattle.dh_told.specs.PlansTold.{IsOfReady}
-use Rattle.dh_told.proofs.BlocksTold.{both_all, first_all, place, straight_all, straight_sound, test_sound, test_stand, then_all}
-use Rattle.dh_told.proofs.VariablesKept.{long}
+use Rattle.dh_told.proofs.BlocksTold.{both_all, first_all, holds, place, straight_all, straight_sound, table, test_sound, test_stand, then_all}
+use Rattle.dh_told.proofs.VariablesKept.{holds_own}
 use Rattle.dh_reached.specs.IndicesKept.{CommandsKeep, CommandKeeps, TermKeeps}
 use Rattle.dh_reached.specs.ReachedBlocks.{StraightStands}
 use Rattle.dh_reached.specs.ReachedPlans.{ReachedBlock, ReachedTest, reached_tie}
@@ -53,6 +55,7 @@ use Rattle.dh_told.proofs.IndicesTold.{AccessOk, command_keeps, command_ok, term
 use Rattle.dh_told.proofs.NamesTurn.{names_turn}
 use Rattle.dh_told.proofs.SpreadPaths.{sets_unused, stands_spread}
 use Rattle.dh_told.proofs.TestsStand.{test_has, test_stands_so}
+use Rattle.dh_told.proofs.WaysKept.{all_free, none_free, seen_so}
 
 -- the events of a test are among those of its command
 record TestOk (scene : Scene) (t : Term) : Type 0 where
@@ -82,17 +85,18 @@ module _ (scene : Scene) (count : ℕ) (plan : PlainPlan) (final : Made) (h : Is
     told_here : IsPlaceTold scene s.made.around plan rounds
     told_here =
         place scene count plan final h rounds s.made.around s.made.round s.made.stands_in counting (commands (core_commands (known_in scene) s.located))
-        (run_here scene h.ready (loops_of rounds) (commands (core_commands (known_in scene) s.located))
+        (run_here scene h.ways (loops_of rounds) (commands (core_commands (known_in scene) s.located))
         (straight_run (known_in scene) (phases_of (program_seen scene.program.now)) [] (loops_of rounds) s.located s.placed))
 
     module _ (registers : List ℕ) (memories : List (List ℕ)) (turns : InTurns registers rounds) where
-      each_keeps : (touched : ℕ → Bool) (ls : List Located) → AreSoundBy touched scene s.made.around plan rounds ls → AllStand scene ls → CommandsKeep (step_of plan block registers memories) scene s.made.around.levels.now ls
-      each_keeps touched [] sound stands = tt
-      each_keeps touched (c ∷ ls) sound stands = (
+      each_keeps : (touched : ℕ → Bool) (ls : List Located) → AreSoundBy touched scene s.made.around plan rounds ls → AllStand scene ls → AllByRecursion (IsBehindViews (program_seen scene.program.now)) ls → CommandsKeep (step_of plan block registers memories) scene s.made.around.levels.now ls
+      each_keeps touched [] sound stands behind = tt
+      each_keeps touched (c ∷ ls) sound stands behind = (
         command_keeps (step_of plan block registers memories) scene s.made.around.levels.now plan.table (λ r k. IsNamedHere scene s.made.around.levels.now plan.registers rounds touched r k)
-            (names_turn scene plan block registers memories rounds s.made.around.levels.now s.made.round.paths told_here.tells told_here.told s.made.round.levels.within (loops_have_copies (program_seen scene.program.now) h.ready.indices) turns touched) h.table
-            (IsSeen scene s.made.around.levels.now) c.command c.around sound.0 (command_ok scene h.ready c stands.0),
-        each_keeps touched ls sound.1 stands.1,
+            (names_turn scene plan block registers memories rounds s.made.around.levels.now s.made.round.paths told_here.tells told_here.told s.made.round.levels.within (loops_have_copies (program_seen scene.program.now) h.ready.indices) turns touched)
+            (seen_so scene s.made.around.levels.now plan.registers rounds touched) h.table h.ready (table scene count plan final h) (sym (known_here scene h.ways)) h.views
+            (IsSeen scene s.made.around.levels.now) (λ e seen. seen) c.command c.around behind.0.0 behind.0.1.0 behind.0.1.1.1 sound.0 (command_ok scene h.ready (table scene count plan final h) (sym (known_here scene h.ways)) c stands.0),
+        each_keeps touched ls sound.1 stands.1 behind.1,
       )
 
     reached_block : ReachedBlock scene plan count rounds block
@@ -104,7 +108,7 @@ module _ (scene : Scene) (count : ℕ) (plan : PlainPlan) (final : Made) (h : Is
         × StraightStands scene s.made.around plan count block ls s.made.before s.made.between m (sets_made s.made.between.values.log.items s.made.between.values.current.items) (reads_in scene (λ n. any_makes n s.located))) k.are (
           s.made.made,
           straight_stands scene count plan final h rounds cs block s counting
-              (stands_spread scene rounds s.made.around s.made.round s.made.stands_in (straight_stands_few (known_in scene) (program_seen scene.program.now) h.ready.limits (loops_round rounds) s.located s.placed))
+              (stands_spread scene count plan (holds scene count plan final h) rounds s.made.around s.made.round s.made.stands_in (straight_stands_few (known_in scene) (program_seen scene.program.now) h.ready.limits (loops_round rounds) s.located s.placed))
               (sets_unused s.made.between.values.log.items s.made.between.values.current.items),
         ) in
         let all : AllStand scene (k.of.done ++ k.of.folds) = subst (λ (ls : List Located). AllStand scene ls) k.are (straight_all scene count plan final h rounds cs block s counting) in
@@ -121,8 +125,8 @@ module _ (scene : Scene) (count : ℕ) (plan : PlainPlan) (final : Made) (h : Is
           along = straight_along scene count plan final h rounds cs block s counting;
           keeps = λ registers memories fit held turns.
               both_all (λ (c : Located). CommandKeeps (step_of plan block registers memories) scene s.made.around.levels.now c.command) k.of.done k.of.folds
-              (each_keeps registers memories turns _ k.of.done k.sound.first (first_all (λ (c : Located). StandsAmong 0 (trace (program_seen scene.program.now)) c) k.of.done k.of.folds all))
-              (each_keeps registers memories turns _ k.of.folds k.sound.then_folds (then_all (λ (c : Located). StandsAmong 0 (trace (program_seen scene.program.now)) c) k.of.done k.of.folds all));
+              (each_keeps registers memories turns _ k.of.done k.sound.first (first_all (λ (c : Located). StandsAmong 0 (trace (program_seen scene.program.now)) c) k.of.done k.of.folds all) (first_all (IsBehindViews (program_seen scene.program.now)) k.of.done k.of.folds k.behind))
+              (each_keeps registers memories turns _ k.of.folds k.sound.then_folds (then_all (λ (c : Located). StandsAmong 0 (trace (program_seen scene.program.now)) c) k.of.done k.of.folds all) (then_all (IsBehindViews (program_seen scene.program.now)) k.of.done k.of.folds k.behind));
         }
 
   -- Tests.
@@ -131,15 +135,16 @@ module _ (scene : Scene) (count : ℕ) (plan : PlainPlan) (final : Made) (h : Is
     test_told : IsPlaceTold scene s.made.around plan rounds
     test_told =
         place scene count plan final h rounds s.made.around s.made.round s.made.stands_in counting (tests (core_test (known_in scene) s.tested))
-        (run_here scene h.ready (loops_of rounds) (tests (core_test (known_in scene) s.tested))
+        (run_here scene h.ways (loops_of rounds) (tests (core_test (known_in scene) s.tested))
         (test_run (known_in scene) (phases_of (program_seen scene.program.now)) [] (loops_of rounds) s.tested s.placed))
 
-    test_keeps : (registers : List ℕ) (memories : List (List ℕ)) → InTurns registers rounds → TermKeeps (step_of plan block registers memories) scene s.made.around.levels.now s.term
+    test_keeps : (registers : List ℕ) (memories : List (List ℕ)) → InTurns registers rounds → TermKeeps (step_of plan block registers memories) scene s.made.around.levels.now (λ e. ⊥) s.term
     test_keeps registers memories turns =
-        let ok = test_ok scene s.tested.command s.tested.around s.term s.term_is (command_ok scene h.ready s.tested (test_stand scene count plan final h rounds test flag block s counting)) in
+        let ok = test_ok scene s.tested.command s.tested.around s.term s.term_is (command_ok scene h.ready (table scene count plan final h) (sym (known_here scene h.ways)) s.tested (test_stand scene count plan final h rounds test flag block s counting)) in
         term_keeps (step_of plan block registers memories) scene s.made.around.levels.now plan.table (λ r k. IsNamedHere scene s.made.around.levels.now plan.registers rounds (λ entity. false) r k)
-        (names_turn scene plan block registers memories rounds s.made.around.levels.now s.made.round.paths test_told.tells test_told.told s.made.round.levels.within (loops_have_copies (program_seen scene.program.now) h.ready.indices) turns (λ entity. false)) h.table
-        ok.site s.term (test_sound scene count plan final h rounds test flag block s counting).sound.sound ok.ok
+        (names_turn scene plan block registers memories rounds s.made.around.levels.now s.made.round.paths test_told.tells test_told.told s.made.round.levels.within (loops_have_copies (program_seen scene.program.now) h.ready.indices) turns (λ entity. false))
+        (seen_so scene s.made.around.levels.now plan.registers rounds (λ entity. false)) h.table h.ready (table scene count plan final h) (sym (known_here scene h.ways)) h.views
+        (λ e. ⊥) ok.site s.term (test_sound scene count plan final h rounds test flag block s counting).sound.sound (all_free scene (λ e. ⊥) (none_free scene) s.term) ok.ok
 
     reached_test : ReachedTest scene plan count rounds block
     reached_test = record {
@@ -165,5 +170,5 @@ made_keep_banks scene count plan final h =
       meets = h.meets.as_program;
       there = λ number less. h.meets.range.there number (omega arith) (omega (arith, less));
       nodes = nodes_tied scene final (reached_tie scene plan count) (λ rounds cs block all m. reached_block scene count plan final h.of rounds cs block m all)
-          (λ rounds test flag block all m. reached_test scene count plan final h.of rounds test flag block m all) (λ rounds loop counter all counts other is. tt) [] (core_of (program_seen scene.program.now)).phases plan.body tt (loops_are_own scene h.of.ready.entities (long scene count h.of.order)).inside h.nodes;
+          (λ rounds test flag block all m. reached_test scene count plan final h.of rounds test flag block m all) (λ rounds loop counter all counts other is. tt) [] (core_of (program_seen scene.program.now)).phases plan.body tt (loops_are_own scene h.of.ready.entities (holds_own scene count h.of.order)).inside h.nodes;
     })

@@ -123,11 +123,11 @@ module _ (scene : Scene) (final : Made) (plan : PlainPlan) (is : IsMadeOf scene 
     found : HasStraight (phases_of p ++ idle_phases_of p) ls
     found = straight_either (phases_of p) (idle_phases_of p) ls (inl has)
 
-    named : AllHold named_facts tt ls
-    named = straight_named (phases_of p) ls (body_named scene final plan is) has
+    named : AllHold (named_facts (known_in scene)) tt ls
+    named = straight_named (known_in scene) (phases_of p) ls (body_named scene final plan is) has
 
     going : AreAlong 0 ls
-    going = along 0 ls b.made.rising named
+    going = along (known_in scene) 0 ls b.made.rising named
 
     reach : AllByRecursion (λ (c : Located). StoresReach c.command) ls
     reach = along_reach 0 ls going
@@ -136,7 +136,7 @@ module _ (scene : Scene) (final : Made) (plan : PlainPlan) (is : IsMadeOf scene 
     stand = each_of (λ (c : Located). StandsAmong 0 (trace p) c) ls (λ c g. straight_stands p ls c found g)
 
     sited : AreSited scene b.made.around made_here sites
-    sited = blocks_are_sited scene b.made.around ls b.made.before b.made.between b.made.made (all_named ls named) stand
+    sited = blocks_are_sited scene b.made.around ls b.made.before b.made.between b.made.made (all_named (known_in scene) ls named) stand
 
     below : (k : ℕ) → any_makes k ls ≡ true → k < length (accesses_in (trace p))
     below k e = any_below (trace p) ls k stand e
@@ -154,8 +154,8 @@ module _ (scene : Scene) (final : Made) (plan : PlainPlan) (is : IsMadeOf scene 
     untouched : HaveNoOperations sites b.made.before.accesses
     untouched = record {
       none = b.made.counts;
-      there = λ number s at. (bare_made b.made.before.accesses ls number b.made.bare (blocks_placed scene b.made.around ls b.made.before b.made.between b.made.made (all_named ls named) number s at)).0;
-      bare = λ number s at. (bare_made b.made.before.accesses ls number b.made.bare (blocks_placed scene b.made.around ls b.made.before b.made.between b.made.made (all_named ls named) number s at)).1;
+      there = λ number s at. (bare_made b.made.before.accesses ls number b.made.bare (blocks_placed scene b.made.around ls b.made.before b.made.between b.made.made (all_named (known_in scene) ls named) number s at)).0;
+      bare = λ number s at. (bare_made b.made.before.accesses ls number b.made.bare (blocks_placed scene b.made.around ls b.made.before b.made.between b.made.made (all_named (known_in scene) ls named) number s at)).1;
     }
 
     straight_charges : OperationsCharge p (operations_in plan block)
@@ -164,7 +164,7 @@ module _ (scene : Scene) (final : Made) (plan : PlainPlan) (is : IsMadeOf scene 
         (at_paths rounds b.made.around b.made.round b.made.stands_in) going (writes_alone scene is.tells ls reach stand)
         (shares_inside scene is.tells made_here sites sited.made below (λ j k one made. straight_has_both p ls j k found made one))
         untouched (has_shares scene is.tells)
-        (sites_at scene b.made.around (top rounds b.made.around b.made.round b.made.stands_in).counted made_here sites sited below loops memories)
+        (sites_at scene b.made.around (top rounds b.made.around b.made.round b.made.stands_in).counted plan.views is.views is.ways is.rows made_here sites sited below loops memories)
         (operations_are final plan.blocks is.blocks block b.made.before b.made.after b.made.stands)
         (record { more = settings b.made.sets.sets; adds = b.made.sets.operations; unused = sets_unused b.made.sets.sets })
 
@@ -209,7 +209,7 @@ module _ (scene : Scene) (final : Made) (plan : PlainPlan) (is : IsMadeOf scene 
         (at_paths rounds b.made.around b.made.round b.made.stands_in) b.made.few
         (shares_inside scene is.tells tested_here own_sites test_sited.made test_low (λ j k one made. test_has_both p b.tested j k test_found made one))
         test_untouched (has_shares scene is.tells)
-        (sites_at scene b.made.around (top rounds b.made.around b.made.round b.made.stands_in).counted tested_here own_sites test_sited test_low test_loops memories)
+        (sites_at scene b.made.around (top rounds b.made.around b.made.round b.made.stands_in).counted plan.views is.views is.ways is.rows tested_here own_sites test_sited test_low test_loops memories)
         (operations_are final plan.blocks is.blocks block b.made.before b.made.after b.made.stands)
         (flag_unused (is_read_term b.term) b.made.between.draft b.made.after.draft b.made.value flag b.made.adds)
 

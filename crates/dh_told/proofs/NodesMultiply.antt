@@ -19,7 +19,7 @@ use Rattle.dh_expressions.specs.declared.scenes.Scene.{Scene}
 use Rattle.dh_expressions.specs.Evaluated.{known_in}
 use Rattle.dh_expressions.specs.Shown.{is_read_term}
 use Rattle.dh_commands.specs.LanesRun.{paths_counted}
-use Rattle.dh_sound.specs.Straight.{IsNamedAction}
+use Rattle.dh_sound.specs.Straight.{IsKeptAction}
 use Rattle.dh_laid.specs.LaidProducts.{AddsProducts, products_in}
 use Rattle.dh_laid.specs.LaidQuiet.{StandsIn}
 use Rattle.dh_laid.proofs.ProductsOfCore.{terms_multiply}
@@ -90,7 +90,7 @@ module _ (scene : Scene) (final : Made) (plan : PlainPlan) (is : IsMadeOf scene 
   straight_multiplies rounds cs block b =
       subst (λ (os : List Operation). block_products os ≤ commands_products cs * length (paths_of_rounds rounds)) (sym own)
       (subst (λ (n : ℕ). block_products (drop (length b.made.before.draft.operations.items) b.made.after.draft.operations.items) ≤ n) same
-      (added_within b.made.before.draft b.made.between.draft b.made.after.draft (each_products b.located * paths_counted b.made.around)
+      (added_within b.made.before.draft b.made.between.draft b.made.after.draft (each_products (known_in scene) b.located * paths_counted b.made.around)
       (each_multiply scene b.made.around b.located b.made.before b.made.between b.made.stands_in b.made.made)
       (record { more = settings b.made.sets.sets; adds = b.made.sets.operations; few = least (block_products (settings b.made.sets.sets)) (sets_products b.made.sets.sets) })))
     where
@@ -100,10 +100,10 @@ module _ (scene : Scene) (final : Made) (plan : PlainPlan) (is : IsMadeOf scene 
       own : operations_in plan block ≡ drop (length b.made.before.draft.operations.items) b.made.after.draft.operations.items
       own = operations_are final plan.blocks is.blocks block b.made.before b.made.after b.made.stands
 
-      named : AllByRecursion (λ (c : Located). IsNamedAction c.command) b.located
-      named = all_named b.located (straight_named (phases_of p) b.located (body_named scene final plan is) (straight_there (known_in scene) [] (phases_of p) (loops_round rounds) b.located b.placed))
+      named : AllByRecursion (λ (c : Located). IsKeptAction (known_in scene) c.command) b.located
+      named = all_named (known_in scene) b.located (straight_named (known_in scene) (phases_of p) b.located (body_named scene final plan is) (straight_there (known_in scene) [] (phases_of p) (loops_round rounds) b.located b.placed))
 
-      same : each_products b.located * paths_counted b.made.around ≡ commands_products cs * length (paths_of_rounds rounds)
+      same : each_products (known_in scene) b.located * paths_counted b.made.around ≡ commands_products cs * length (paths_of_rounds rounds)
       same =
           ap (λ (n : ℕ). n * paths_counted b.made.around) (sym (ap commands_products b.are ∙ each_reaching (known_in scene) b.located named))
           ∙ ap (λ (n : ℕ). commands_products cs * n) (paths_long rounds b.made.around b.made.round b.made.stands_in)

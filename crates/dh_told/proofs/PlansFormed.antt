@@ -14,22 +14,21 @@ use Rattle.dh_tree.specs.Meets.{In}
 use Rattle.dh_tree.specs.Memories.{memories_of, number_in}
 use Rattle.dh_tree.specs.Seen.{program_seen}
 use Rattle.dh_tree.specs.Shapes.{IsProgramTable}
-use Rattle.dh_tree.specs.ViewShapes.{IsViewMap}
 use Rattle.dh_meaning.specs.Core.{CoreCommands, CorePhase, CoreTerm, straightly, turning, looping, choosing, CorePhases, no_core_phases, phase_and, Turning}
 use Rattle.dh_meaning.specs.CoreOf.{core_of, entity_number}
 use Rattle.dh_meaning.specs.Effects.{commands, tests}
 use Rattle.dh_meaning.specs.Paths.{Path}
 use Rattle.dh_meaning.specs.Sites.{nothing_around}
+use Rattle.dh_meaning.specs.Ways.{all_entities_of, base_of, way_to}
 use Rattle.dh_meets.specs.SourceEvents.{SourceAccess, accesses_in, trace}
 use Rattle.dh_sound.specs.ToldEvents.{access_at}
 use Rattle.dh_sound.proofs.EventCounts.{events_counted}
-use Rattle.dh_sound.proofs.NamedPrograms.{ready_named}
-use Rattle.dh_code.specs.Declarations.{declarations}
+use Rattle.dh_sound.proofs.KeptPrograms.{ready_kept}
+use Rattle.dh_code.specs.Declarations.{all_declarations_of}
 use Rattle.dh_code.specs.Slots.{held_at}
 use Rattle.dh_plan.specs.declared.operations.Operation.{Operation}
 use Rattle.dh_plan.specs.declared.operations.OperationForm.TheVariants.{Set}
 use Rattle.dh_plan.specs.declared.operations.Reach.{Reach}
-use Rattle.dh_tree.specs.declared.viewing.ViewMap.{ViewMap}
 use Rattle.dh_plan.specs.Correspondence.{Round}
 use Rattle.dh_plan.specs.PlainPlans.{Node, block_node, turns_node, loop_node, choice_node, threads_node, Nodes, no_nodes, node_then, PlainPlan, block_operations, operations_in}
 use Rattle.dh_plan.specs.PlanKinds.{IsFormedBlock, Names}
@@ -45,6 +44,7 @@ use Rattle.dh_gathering.specs.MadeBlocks.{IsFlagOf, IsStraightBlock, IsTestBlock
 use Rattle.dh_gathering.specs.Registers.{IsRegisterKind, first_among}
 use Rattle.dh_gathering.proofs.CountersWide.{counters_are, countings_are}
 use Rattle.dh_gathering.proofs.KindsOfRegisters.{first_at, first_before}
+use Rattle.dh_typed_blocks.proofs.KnownHere.{known_here}
 use Rattle.dh_phased.specs.ProgramLoops.{HasOwnLoops}
 use Rattle.dh_phased.proofs.LoopsCounted.{loops_are_own}
 use Rattle.dh_phased.proofs.NodesTied.{counting_more}
@@ -57,13 +57,14 @@ use Rattle.dh_told.specs.FormedPlans.{IsWholePlan, ReadyPlansAreFormed}
 use Rattle.dh_told.specs.PlansTold.{IsOfReady}
 use Rattle.dh_told.specs.ScenesKnown.{AreHeldInOrder, HaveTheirKinds}
 use Rattle.dh_told.proofs.BlocksTold.{both_all, holds, plans_told, straight_formed, table, test_formed}
-use Rattle.dh_told.proofs.VariablesKept.{kind_there, long}
+use Rattle.dh_told.proofs.NamedDirectly.{ready_rows}
+use Rattle.dh_told.proofs.VariablesKept.{holds_own, kind_there}
 
 -- The counter of a loop.
 
 module _ (scene : Scene) (count : ℕ) (registers : List Kind) (order : AreHeldInOrder scene count) (kinds : HaveTheirKinds scene count registers) where
   counter_low : (loop : Turning) → IsCounting scene (placing_in scene) loop → counter_in scene loop < first_among scene.held.now count (suc loop.iterator)
-  counter_low loop c = first_before (declarations [] (program_seen scene.program.now).body) (length (program_seen scene.program.now).entities) scene.held.now count loop.iterator order.held order.count_is c.there c.copies
+  counter_low loop c = first_before (all_declarations_of (program_seen scene.program.now)) (all_entities_of (program_seen scene.program.now)) scene.held.now count loop.iterator order.held order.count_is c.there c.copies
 
   has_counter : (loop : Turning) → IsCounting scene (placing_in scene) loop → HasCounter scene registers loop
   has_counter loop c =
@@ -230,7 +231,7 @@ module _ (scene : Scene) (count : ℕ) (plan : PlainPlan) (final : Made) (h : Is
 
 module _ (scene : Scene) (count : ℕ) (plan : PlainPlan) (final : Made) (h : IsWholePlan scene count plan final) (known : AreOfSource (program_seen scene.program.now) plan) where
   own : HasOwnLoops scene
-  own = loops_are_own scene h.of.ready.entities (long scene count h.of.order)
+  own = loops_are_own scene h.of.ready.entities (holds_own scene count h.of.order)
 
   told : AreTold scene count plan final h.of plan.body
   told =
@@ -291,13 +292,13 @@ module _ (scene : Scene) (count : ℕ) (plan : PlainPlan) (final : Made) (h : Is
       let s = known b i r one in
       let u = known c j t two in
       s.memory_is
-      ∙ (ap (λ (a : SourceAccess). narrowed (entity_number (number_in (memories_of (program_seen scene.program.now)) a.entity))) (same_access s.access u.access (sym s.there ∙ (ap (λ (n : ℕ). access_at (program_seen scene.program.now) n) same ∙ u.there)))
+      ∙ (ap (λ (a : SourceAccess). narrowed (entity_number (number_in (memories_of (program_seen scene.program.now)) (base_of (way_to (program_seen scene.program.now) a.entity) a.entity)))) (same_access s.access u.access (sym s.there ∙ (ap (λ (n : ℕ). access_at (program_seen scene.program.now) n) same ∙ u.there)))
       ∙ sym u.memory_is)
 
   plan_formed : IsFormed plan
   plan_formed = record {
     table = subst (λ (tb : List MemEntry). IsProgramTable tb) (sym h.of.table) (table scene count plan final h.of);
-    views = subst (λ (vs : List ViewMap). AllByRecursion IsViewMap vs) (sym h.views) tt;
+    views = h.maps;
     blocks = block_formed;
     nodes = map_all (λ (block : ℕ). block < length final.starts.items) (λ (block : ℕ). Names plan.blocks block) (blocks_of plan.body) block_named h.named.blocks;
     distinct = h.meets.range.distinct;
@@ -316,5 +317,13 @@ pub plans_formed : ReadyPlansAreFormed
 plans_formed scene count plan final h =
     plan_formed scene count plan final h
     (made_plans_reach scene final plan
-    (record { named = ready_named (program_seen scene.program.now) h.of.ready; tells = h.of.shares; blocks = h.of.made.blocks; nodes = h.nodes })
+    (record {
+      named = ready_kept (program_seen scene.program.now) h.of.ready;
+      tells = h.of.shares;
+      ways = sym (known_here scene h.of.ways);
+      views = h.of.views;
+      rows = ready_rows (program_seen scene.program.now) h.of.ready;
+      blocks = h.of.made.blocks;
+      nodes = h.nodes;
+    })
     h.once)

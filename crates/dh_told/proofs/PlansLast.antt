@@ -1,5 +1,5 @@
 -- The blocks of a ready program's plan stand as what is told of their lengths asks.
-use Rattle.std.proofs.Common.{◌≡◌, inl, inr, ℕ, Bool, true, false, List, [], ◌∷◌, ◌++◌, refl, sym, subst}
+use Rattle.std.proofs.Common.{inl, inr, ℕ, Bool, true, false, List, [], ◌∷◌, refl, sym, subst}
 use Rattle.std.specs.Prelude.{Option}
 use Rattle.std.specs.List.{AllByRecursion}
 use Rattle.dh_tree.specs.declared.tables.MemEntry.{MemEntry}
@@ -9,7 +9,7 @@ use Rattle.dh_meaning.specs.Core.{CoreCommands, CoreTerm}
 use Rattle.dh_meaning.specs.CoreOf.{core_of}
 use Rattle.dh_meaning.specs.Phases.{Located}
 use Rattle.dh_meets.specs.Sharing.{shared}
-use Rattle.dh_sound.specs.SimpleForms.{IsSimple}
+use Rattle.dh_sound.specs.SimpleForms.{FoldsInJoins}
 use Rattle.dh_plan.specs.Correspondence.{Round}
 use Rattle.dh_plan.specs.PlainPlans.{PlainPlan}
 use Rattle.dh_expressions.specs.declared.scenes.Scene.{Scene}
@@ -30,10 +30,9 @@ use Rattle.dh_phased.specs.ProgramLoops.{HasOwnLoops}
 use Rattle.dh_phased.proofs.LoopsCounted.{loops_are_own}
 use Rattle.dh_told.specs.MeasuredBlocks.{FitsAlone, StandsStraight, StandsTest}
 use Rattle.dh_told.proofs.PlansMeasured.{made_plans_are_long}
-use Rattle.dh_told.specs.FormedPlans.{IsWholePlan}
 use Rattle.dh_told.specs.PlansTold.{IsOfReady}
 use Rattle.dh_told.proofs.BlocksTold.{both_all, first_all, has, sound_here, stands_so, straight_all, straight_cut, straight_found, straight_names, straight_shares, straight_sound, test_cut, test_found, test_known, test_shares, test_sound, test_stand, then_all}
-use Rattle.dh_told.proofs.VariablesKept.{long}
+use Rattle.dh_told.proofs.VariablesKept.{holds_own}
 use Rattle.dh_told.specs.LastingPlans.{ReadyPlansAreMeasured, ReadyPlansHaveLengths}
 use Rattle.dh_told.proofs.SharesWithin.{straight_within, test_within}
 
@@ -48,7 +47,7 @@ module _ (scene : Scene) (count : ℕ) (plan : PlainPlan) (final : Made) (h : Is
     abbrev Fits : Located → Type 0
     Fits c = FitsAlone (block_of plan block sites) scene s.made.around rounds c
 
-    simple_fit : (touched : ℕ → Bool) (ls : List Located) → AreSoundBy touched scene s.made.around plan rounds ls → AllByRecursion IsTypedHere ls → AllByRecursion (λ (c : Located). IsSimple c.command) ls → AllByRecursion Fits ls
+    simple_fit : (touched : ℕ → Bool) (ls : List Located) → AreSoundBy touched scene s.made.around plan rounds ls → AllByRecursion IsTypedHere ls → AllByRecursion (λ (c : Located). FoldsInJoins c.command) ls → AllByRecursion Fits ls
     simple_fit touched [] sound typed simple = tt
     simple_fit touched (c ∷ ls) sound typed simple = (
       record { fits = sound_here scene count plan final h rounds s.made.around s.made.round s.made.stands_in counting sites block touched c sound.0 typed.0; alone = inl simple.0 },
@@ -73,7 +72,7 @@ module _ (scene : Scene) (count : ℕ) (plan : PlainPlan) (final : Made) (h : Is
     all_alone =
         let k = straight_sound scene count plan final h rounds cs block s counting in
         subst (λ (ls : List Located). AllByRecursion Fits ls) (sym k.are)
-        (both_all Fits k.of.done k.of.folds (simple_fit _ k.of.done k.sound.first (first_all IsTypedHere k.of.done k.of.folds k.typed) k.simple) (folds_fit k.of.folds k.sound.then_folds (then_all IsTypedHere k.of.done k.of.folds k.typed)))
+        (both_all Fits k.of.done k.of.folds (simple_fit _ k.of.done k.sound.first (first_all IsTypedHere k.of.done k.of.folds k.typed) k.joins) (folds_fit k.of.folds k.sound.then_folds (then_all IsTypedHere k.of.done k.of.folds k.typed)))
 
     straight_measured : StandsStraight scene plan count final rounds s.located block (shared (program_seen scene.program.now)) s.made
     straight_measured = record {
@@ -110,5 +109,5 @@ plans_measured scene count plan final h = record {
 
 pub plans_last : ReadyPlansHaveLengths
 plans_last scene count plan final h =
-    let own : HasOwnLoops scene = loops_are_own scene h.of.ready.entities (long scene count h.of.order) in
+    let own : HasOwnLoops scene = loops_are_own scene h.of.ready.entities (holds_own scene count h.of.order) in
     made_plans_are_long scene plan count final (core_of (program_seen scene.program.now)).phases plan.body (plans_measured scene count plan final h.of) own.inside h.nodes

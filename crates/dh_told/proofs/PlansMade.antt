@@ -1,6 +1,6 @@
 -- The plan that is made of a program's phases is a plan of the program: the facts of its blocks and nodes, each from the
 -- law of a crate below, put together.
-use Rattle.std.proofs.Common.{◌≡◌, ℕ, zero, suc, ◌+◌, ◌<◌, ◌≤◌, List, [], length, refl, ap, sym, ◌∙◌, subst, arith, ◌^◌}
+use Rattle.std.proofs.Common.{◌≡◌, ℕ, ◌<◌, ◌≤◌, List, [], length, sym, ◌∙◌, subst, arith, ◌^◌}
 use Rattle.std.specs.List.{AllByRecursion}
 use Rattle.dh_tree.specs.PlainTrees.{Program}
 use Rattle.dh_tree.specs.Seen.{program_seen}
@@ -11,7 +11,8 @@ use Rattle.dh_base.specs.declared.places.Place.{Place}
 use Rattle.dh_meaning.specs.AccessNumbers.{accesses_of}
 use Rattle.dh_meaning.specs.Core.{CorePhases}
 use Rattle.dh_meaning.specs.CoreOf.{core_of}
-use Rattle.dh_sound.proofs.NamedPrograms.{ready_named}
+use Rattle.dh_meaning.specs.Ways.{all_entities_of}
+use Rattle.dh_sound.proofs.KeptPrograms.{ready_kept}
 use Rattle.dh_plan.specs.declared.operations.PlanBlock.{PlanBlock}
 use Rattle.dh_plan.specs.DoneProgram.{IsPlanOf, ChargesWithin, UsesByKeys, ProbesByPaths, RunsAs}
 use Rattle.dh_plan.specs.Passes.{IsToCompile}
@@ -34,12 +35,12 @@ use Rattle.dh_gathering.specs.MadeBlocks.{made_tie}
 use Rattle.dh_gathering.specs.NamedOnce.{listed}
 use Rattle.dh_gathering.specs.ProgramMade.{IsPhased}
 use Rattle.dh_gathering.specs.Registers.{HasKind}
+use Rattle.dh_typed_blocks.proofs.KnownHere.{known_here}
 use Rattle.dh_typed_blocks.proofs.MemoriesFew.{ready_few}
 use Rattle.dh_charged.specs.MetAccesses.{PlanMeets}
 use Rattle.dh_charged.proofs.MeetsInRange.{plans_meet}
 use Rattle.dh_charged.proofs.MemoriesHad.{ready_have_memories}
-use Rattle.dh_code.specs.Declarations.{Declaration, all_held, declaration_in, declarations, factors_of}
-use Rattle.dh_code.specs.Ranks.{copies_in}
+use Rattle.dh_code.specs.Declarations.{all_declarations_of}
 use Rattle.dh_phased.specs.DonePhases.{HasMade}
 use Rattle.dh_phased.specs.ProgramLoops.{HasOwnLoops}
 use Rattle.dh_phased.proofs.LoopsCounted.{loops_are_own}
@@ -56,16 +57,12 @@ use Rattle.dh_told.specs.PlansTold.{IsOfReady}
 use Rattle.dh_told.specs.ScenesKnown.{AreHeldInOrder, HaveTheirKinds}
 use Rattle.dh_told.proofs.BlocksTold.{plans_told}
 use Rattle.dh_told.proofs.CoreHere.{core_here}
+use Rattle.dh_told.proofs.NamedDirectly.{ready_rows}
 use Rattle.dh_told.proofs.PlansFormed.{plans_formed}
 use Rattle.dh_told.proofs.PlansLast.{plans_last}
 use Rattle.dh_told.proofs.MadeBanks.{made_keep_banks}
-use Rattle.dh_told.proofs.VariablesKept.{scenes_hold}
+use Rattle.dh_told.proofs.VariablesKept.{holds_own, scenes_hold}
 use Rattle.dh_told.specs.MadePlans.{IsMadePlan, IsSceneMade}
-
--- the registers of entities are as many lists as there are entities
-as_many : (ds : List Declaration) (count from n : ℕ) → length (all_held ds count from n) ≡ n
-as_many ds count from zero = refl
-as_many ds count from (suc n) = ap suc (as_many ds (count + copies_in (factors_of (declaration_in ds from))) (suc from) n)
 
 -- Accesses and entities are few.
 
@@ -76,7 +73,7 @@ module _ (scene : Scene) where
   pub few_accesses : IsToCompile own → accesses_of own.body < 2 ^ 32
   few_accesses asked = let small = asked.small in let within = accesses_within own in omega (arith, small, within)
 
-  pub few_entities : IsToCompile own → length own.entities ≤ 2 ^ 32
+  pub few_entities : IsToCompile own → all_entities_of own ≤ 2 ^ 32
   few_entities asked = let few = (ready_runs own asked.ready).entities in omega (arith, few)
 
 module _ (scene : Scene) (count : ℕ) (phased : Phased) (plan : PlainPlan) (asked : IsToCompile (program_seen scene.program.now)) (made : IsSceneMade scene count)
@@ -88,12 +85,12 @@ module _ (scene : Scene) (count : ℕ) (phased : Phased) (plan : PlainPlan) (ask
   in_order = record { held = made.held; count_is = made.count_is }
 
   pub held : HoldsVariables scene plan count
-  held = scenes_hold scene plan count asked.ready in_order made.scopes put.table
+  held = scenes_hold scene plan count asked.ready in_order put.views made.scopes put.table
       (λ entity register there from below. subst (λ (ks : List Kind). HasKind p scene.held.now ks entity register) (sym put.registers) (of.kinds entity register there from below))
 
   pub nodes : AreNodesOf (made_tie scene of.final) [] (core_of p).phases plan.body
   nodes = subst (λ (ns : Nodes). AreNodesOf (made_tie scene of.final) [] (core_of p).phases ns) (sym put.body)
-      (subst (λ (qs : CorePhases). AreNodesOf (made_tie scene of.final) [] qs (nodes_seen phased.nodes.items)) (core_here scene asked.ready) of.nodes)
+      (subst (λ (qs : CorePhases). AreNodesOf (made_tie scene of.final) [] qs (nodes_seen phased.nodes.items)) (core_here scene made.ways) of.nodes)
 
   pub blocks : AreBlocksOf of.final.building.draft.operations.items of.final.starts.items plan.blocks
   blocks = subst (λ (bs : List PlanBlock). AreBlocksOf of.final.building.draft.operations.items of.final.starts.items bs) (sym put.blocks) of.blocks
@@ -103,10 +100,18 @@ module _ (scene : Scene) (count : ℕ) (phased : Phased) (plan : PlainPlan) (ask
       (λ block there. of.once block (subst (λ (bs : List PlanBlock). block < length bs) put.blocks there))
 
   pub own_loops : HasOwnLoops scene
-  own_loops = loops_are_own scene asked.ready.entities (ap length made.held ∙ as_many (declarations [] p.body) 0 0 (length p.entities))
+  own_loops = loops_are_own scene asked.ready.entities (holds_own scene count in_order)
 
   pub is_made : IsMadeOf scene of.final plan
-  is_made = record { named = ready_named p asked.ready; tells = made.shares; blocks = blocks; nodes = nodes }
+  is_made = record {
+    named = ready_kept p asked.ready;
+    tells = made.shares;
+    ways = sym (known_here scene made.ways);
+    views = put.views;
+    rows = ready_rows p asked.ready;
+    blocks = blocks;
+    nodes = nodes;
+  }
 
   pub met : PlanMeets p plan
   met = plans_meet p put.tree plan (few_accesses scene asked) put.met put.meets
@@ -134,12 +139,12 @@ module _ (scene : Scene) (count : ℕ) (phased : Phased) (plan : PlainPlan) (ask
 
   -- the blocks, as what is told of the program makes them
   of_ready : IsOfReady scene count plan of.final
-  of_ready = record { ready = asked.ready; order = in_order; scopes = made.scopes; shares = made.shares; table = put.table; made = has_made; kinds = kinds }
+  of_ready = record { ready = asked.ready; order = in_order; ways = made.ways; views = put.views; scopes = made.scopes; shares = made.shares; table = put.table; made = has_made; kinds = kinds }
 
   whole : IsWholePlan scene count plan of.final
   whole = record {
     of = of_ready;
-    views = put.views;
+    maps = put.maps;
     nodes = nodes;
     named = subst (λ (ns : Nodes). HasNodes of.final ns) (sym put.body) of.named;
     once = once;
@@ -172,5 +177,5 @@ module _ (scene : Scene) (count : ℕ) (phased : Phased) (plan : PlainPlan) (ask
   }
 
   pub sized : AllByRecursion IsKind plan.registers
-  sized = subst (λ (ks : List Kind). AllByRecursion IsKind ks) (sym put.registers) (registers_are_sized scene count p.body phased asked.ready in_order
-      (places_successive (declarations [] p.body) (length p.entities) scene.held.now count (few_entities scene asked) made.held made.count_is) of)
+  sized = subst (λ (ks : List Kind). AllByRecursion IsKind ks) (sym put.registers) (registers_are_sized scene count p.body phased asked.ready in_order made.ways
+      (places_successive (all_declarations_of p) (all_entities_of p) scene.held.now count (few_entities scene asked) made.held made.count_is) of)

@@ -8,18 +8,13 @@ use Rattle.dh_value.specs.declared.kinds.Kind.TheVariants as kind
 use Rattle.dh_value.specs.Words.{IsKind}
 use Rattle.dh_tree.specs.declared.trees.counters.Counter.{Counter}
 use Rattle.dh_tree.specs.Counters.{counter_in, counters_of}
-use Rattle.dh_tree.specs.PlainTrees.{Action}
-use Rattle.dh_tree.specs.Ready.{IsReady}
 use Rattle.dh_tree.specs.Seen.{program_seen}
 use Rattle.dh_code.specs.declared.places.Held.{Held}
-use Rattle.dh_code.specs.Declarations.{Declaration, all_held, declaration_in, declarations, factors_of}
+use Rattle.dh_meaning.specs.Ways.{all_entities_of}
+use Rattle.dh_code.specs.Declarations.{Declaration, all_declarations_of, all_held, declaration_in, factors_of}
 use Rattle.dh_code.specs.Ranks.{copies_in}
 use Rattle.dh_code.specs.Slots.{held_at}
-use Rattle.dh_expressions.specs.declared.scenes.Scene.{Scene}
-use Rattle.dh_gathering.specs.declared.making.Phased.{Phased}
-use Rattle.dh_gathering.specs.ProgramMade.{IsPhased}
 use Rattle.dh_gathering.specs.Registers.{AreSuccessive, HasKind, IsRegisterKind, first_among}
-use Rattle.dh_told.specs.ScenesKnown.{AreHeldInOrder}
 use Rattle.dh_told.specs.SizedRegisters.{RegistersAreSized}
 use Rattle.dh_told.proofs.VariablesSized.{variables_are_sized}
 
@@ -63,17 +58,17 @@ bool_sized : IsKind kind.Bool
 bool_sized = (omega arith, omega arith)
 
 pub registers_are_sized : RegistersAreSized
-registers_are_sized scene count body phased ready order successive made = all_at IsKind phased.registers (λ i k at. by i k at (cases_lt i count))
+registers_are_sized scene count body phased ready order ways successive made = all_at IsKind phased.registers (λ i k at. by i k at (cases_lt i count))
   where
-    long : length scene.held.now ≡ length (program_seen scene.program.now).entities
-    long = ap (λ (l : List Held). length l) order.held ∙ held_long (declarations [] (program_seen scene.program.now).body) 0 0 (length (program_seen scene.program.now).entities)
+    long : length scene.held.now ≡ all_entities_of (program_seen scene.program.now)
+    long = ap (λ (l : List Held). length l) order.held ∙ held_long (all_declarations_of (program_seen scene.program.now)) 0 0 (all_entities_of (program_seen scene.program.now))
 
     kind_or : Kind → Option Kind → Kind
     kind_or j None = j
     kind_or j (Some x) = x
 
     by_counter : (e : ℕ) (j : Kind) → e < length scene.held.now → (o : Option Counter) → counter_in (counters_of (program_seen scene.program.now)) (Some e) ≡ o → IsRegisterKind o (held_at scene.held.now e).kind j → IsKind j
-    by_counter e j within None none is = subst IsKind (sym is) (variables_are_sized scene count ready order e (subst (λ (n : ℕ). e < n) long within) none)
+    by_counter e j within None none is = subst IsKind (sym is) (variables_are_sized scene count ready order ways e (subst (λ (n : ℕ). e < n) long within) none)
     by_counter e j within (Some c) some (w, (is, width)) = subst IsKind (sym is) width.sized
 
     variable : (i : ℕ) (k : Kind) → slice_get phased.registers i ≡ Some k → (e : ℕ) → IsOwnedBy scene.held.now count i e → IsKind k

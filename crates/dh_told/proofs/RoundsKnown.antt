@@ -11,8 +11,9 @@ use Rattle.dh_tree.specs.Seen.{program_seen}
 use Rattle.dh_meaning.specs.Core.{CorePhase, straightly, turning, looping, choosing, CorePhases, no_core_phases, phase_and, Turning}
 use Rattle.dh_meaning.specs.CoreOf.{core_of}
 use Rattle.dh_meaning.specs.Effects.{Block}
+use Rattle.dh_meaning.specs.Ways.{all_entities_of}
 use Rattle.dh_code.specs.declared.places.Held.{Held}
-use Rattle.dh_code.specs.Declarations.{declarations, factors_inside, placing_of}
+use Rattle.dh_code.specs.Declarations.{all_declarations_of, factors_inside, placing_of}
 use Rattle.dh_code.specs.Slots.{Placing, held_at}
 use Rattle.dh_sem.specs.Runnable.{CanRun, CanRunAll, IsRunnable}
 use Rattle.dh_sound.specs.Blocks.{StandsIn, StandsInPhase, factors}
@@ -89,7 +90,7 @@ module _ (scene : Scene) (count : ℕ) (plan : PlainPlan) (order : AreHeldInOrde
   counter_kind loop c =
       let first = first_at scene.held.now count loop.iterator c.there in
       let k = kinds loop.iterator (counter_in scene loop) c.there (low first)
-      (first_before (declarations [] (program_seen scene.program.now).body) (length (program_seen scene.program.now).entities) scene.held.now count loop.iterator order.held order.count_is c.there c.copies) in
+      (first_before (all_declarations_of (program_seen scene.program.now)) (all_entities_of (program_seen scene.program.now)) scene.held.now count loop.iterator order.held order.count_is c.there c.copies) in
       let is = subst (λ (o : Option Counter). IsRegisterKind o (held_at scene.held.now loop.iterator).kind k.0) c.counted k.1.1 in
       (is.0, kind_there plan.registers (counter_in scene loop) k.0 k.1.0 ∙ is.1.0)
     where

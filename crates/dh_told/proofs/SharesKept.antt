@@ -69,7 +69,7 @@ module _ (scene : Scene) (tells : TellsShares (program_seen scene.program.now) s
   memory_same : (s t : Site) (a b : SourceAccess) → IsSiteOf scene around.levels.now (length around.guards.now) s a → IsSiteOf scene around.levels.now (length around.guards.now) t b → a.entity ≡ b.entity → s.memory ≡ t.memory
   memory_same s t a b h k e =
       ap (λ (x : Site). x.memory) h.is
-      ∙ (ap (λ (o : Option ℕ). entity_number (number_in (known_in scene).memories (base_of (way_at (known_in scene).memories [] o) o))) (h.entity_is ∙ (e ∙ sym k.entity_is)) ∙ sym (ap (λ (x : Site). x.memory) k.is))
+      ∙ (ap (λ (o : Option ℕ). entity_number (number_in (known_in scene).memories (base_of (way_at (known_in scene).memories (known_in scene).ways o) o))) (h.entity_is ∙ (e ∙ sym k.entity_is)) ∙ sym (ap (λ (x : Site). x.memory) k.is))
 
   -- the read of a number that another shares, and that it is of the same memory
   shared_same : (k j : ℕ) (b : SourceAccess) → slice_get (accesses_in (trace (program_seen scene.program.now))) k ≡ Some b → shared (program_seen scene.program.now) k ≡ Some j

@@ -1,27 +1,30 @@
 -- An access that a block makes shares an earlier read of the block, if any: what is shared is a read, and is made by the
 -- commands of the block too.
-use Rattle.std.proofs.Common.{◌≡◌, ◌⊎◌, inl, inr, ◌<◌, ◌≤◌, ◌+◌, ◌&&◌, ◌||◌, nat_le, nat_lt, ℕ, zero, suc, Bool, true, false, List, [], ◌∷◌, ◌++◌, length, Option, Some, None, refl, ap, sym, ◌∙◌, subst, arith}
+use Rattle.std.proofs.Common.{◌≡◌, ◌⊎◌, inl, inr, ◌<◌, ◌≤◌, ◌+◌, ◌&&◌, ◌||◌, nat_le, nat_lt, ℕ, suc, Bool, true, false, List, [], ◌∷◌, ◌++◌, length, Option, Some, None, refl, ap, sym, ◌∙◌, subst, arith}
 use Rattle.std.specs.Prelude.{slice_get}
 use Rattle.std.specs.List.{AllByRecursion}
 use Rattle.std.proofs.lemmas.Bool.{cases_lt}
 use Rattle.std.proofs.lemmas.Bool.Decides.{nat_tests}
 use Rattle.dh_tree.specs.Indices.{form_of}
 use Rattle.dh_tree.specs.PlainTrees as plain
-use Rattle.dh_tree.specs.PlainTrees.{Program, Term, Action, action, ActionForm, lets, lets_memory, views, assigns, stores, reduces, calls, blocks, decides, repeats, counts, MaybeAction, no_action, one_action, Actions, no_actions, action_then, Groups, no_groups, group_then}
+use Rattle.dh_tree.specs.PlainTrees.{Program, Term, Action, action, ActionForm, lets, lets_memory, views, assigns, stores, reduces, calls, blocks, decides, repeats, counts, MaybeAction, no_action, one_action, Actions, no_actions, action_then, Groups, no_groups, group_then, ViewPlan}
 use Rattle.dh_tree.specs.Seen.{program_seen, terms}
-use Rattle.dh_meaning.specs.AccessNumbers.{accesses_of, part_accesses, term_accesses, terms_accesses}
+use Rattle.dh_tree.specs.ViewOffsets.{offsets_of}
+use Rattle.dh_meaning.specs.AccessNumbers.{accesses_of, part_accesses, plan_accesses, term_accesses, terms_accesses}
 use Rattle.dh_meaning.specs.CoreOf as core
 use Rattle.dh_meaning.specs.OnePhase.{any_makes, form_tests, groups_make, is_within, makes, other_makes, part_makes, test_makes, tests_make}
 use Rattle.dh_meaning.specs.Phases.{Located, idle_phases_of, phases_of}
 use Rattle.dh_meaning.specs.Sites.{nothing_around}
+use Rattle.dh_meaning.specs.Ways.{Hidden, hidden_in}
 use Rattle.dh_meets.specs.Sharing.{shared}
 use Rattle.dh_meets.specs.SourceEvents.{accesses_in, trace}
 use Rattle.dh_lengths.specs.SharedReads.{TellsShares}
 use Rattle.dh_sound.specs.PhaseFacts.{HasStraight, HasTest, StandsAmong}
-use Rattle.dh_sound.specs.Straight.{AreNamedActions, AreNamedGroups, IsNamedAction, IsNamedOther}
+use Rattle.dh_sound.specs.Straight.{AreKeptActions, AreKeptGroups, IsKeptAction, IsKeptOther, KeepsAny}
 use Rattle.dh_sound.proofs.EventCounts.{events_counted}
 use Rattle.dh_sound.proofs.SamePhase.{straight_has_both, test_has_both}
 use Rattle.dh_expressions.specs.declared.scenes.Scene.{Scene}
+use Rattle.dh_expressions.specs.Evaluated.{known_in}
 use Rattle.dh_laid.specs.Laid.{aim_accesses}
 use Rattle.dh_laid.specs.LaidNumbers.{IsAccessForm}
 use Rattle.dh_laid.specs.LaidUses.{EachWrite, EachWriteActions, EachWriteGroups, EachWriteOther, IsUnshared, WritesAlone}
@@ -30,7 +33,7 @@ use Rattle.dh_used.proofs.NamedStores.{all_reach, target_reaches}
 use Rattle.dh_used.proofs.SharedReads.{shared_before, shared_there}
 use Rattle.dh_used.proofs.SharesOfProgram.{any_below, test_below, writes_alone}
 use Rattle.dh_paced.specs.BlockLengths.{ShareWithin}
-use Rattle.dh_paced.specs.Paced.{IsIn, IsReadGroups, IsReadIn, IsReadOfEach, IsReadOther, IsReadPart}
+use Rattle.dh_paced.specs.Paced.{IsIn, IsReadGroups, IsReadIn, IsReadOfEach, IsReadOfView, IsReadOther, IsReadPart}
 
 -- Numbers.
 
@@ -102,7 +105,7 @@ test_in : (tested : Located) (t : Term) → core.test_of (core.form_of tested.co
 test_in tested t is k m = within k tested.first (term_accesses t) (sym (test_is tested.command t tested.first k is) ∙ m)
 
 -- What is made is read, where it is no write.
-module _ (P : ℕ → Type 0) (k : ℕ) (free : P k → ⊥) where
+module _ (known : core.Known) (P : ℕ → Type 0) (k : ℕ) (free : P k → ⊥) where
   -- all but the last of these
   not_last : (first reads : ℕ) → P (first + reads) → IsIn first (suc reads) k → IsIn first reads k
   not_last first reads p (low, high) = by (cases_lt k (first + reads))
@@ -125,8 +128,13 @@ module _ (P : ℕ → Type 0) (k : ℕ) (free : P k → ⊥) where
   stored first t (plain.term place kind (plain.applied op left right)) is p i = absurd is
   stored first t (plain.term place kind (plain.converted inner to)) is p i = absurd is
 
+  -- a view's offsets are read, where a variable keeps one on its way; where none does there are none
+  view_made : (hs : List Hidden) (form : ViewPlan) (first : ℕ) → KeepsAny hs (offsets_of form) → is_within k first (plan_accesses form) ≡ true → IsReadOfView hs first form k
+  view_made [] form first is m = none_within first k (within k first 0 (subst (λ (ts : List Term). is_within k first (terms_accesses (terms ts)) ≡ true) is m))
+  view_made (h ∷ hs) form first is m = within k first (plan_accesses form) m
+
   mutual
-    read_made : (a : Action) (first : ℕ) → IsNamedAction a → EachWrite P first a → makes k first a ≡ true → IsReadIn first a k
+    read_made : (a : Action) (first : ℕ) → IsKeptAction known a → EachWrite P first a → makes k first a ≡ true → IsReadIn known first a k
     read_made (action id place (lets name declared (Some value))) first is w m = within k first (term_accesses value) m
     read_made (action id place (lets name declared None)) first is w m = absurd (none_within first k (within k first 0 m))
     read_made (action id place (assigns target value)) first is w m = within k first (term_accesses value) m
@@ -138,30 +146,29 @@ module _ (P : ℕ → Type 0) (k : ℕ) (free : P k → ⊥) where
         (λ i. read_made chosen (first + term_accesses test) is.1.0 w.0 i) (λ i. read_other other (first + term_accesses test + accesses_of chosen) is.1.1 w.1 i)
     read_made (action id place (blocks body)) first is w m = read_groups body first is w m
     read_made (action id place (lets_memory name shape shape_places value)) first is w m = absurd (never m)
-    read_made (action id place (views name parent form)) first is w m =
-        absurd (none_within first k (within k first 0 (subst (λ (ts : List Term). is_within k first (terms_accesses (terms ts)) ≡ true) is.1 m)))
+    read_made (action id place (views name parent form)) first is w m = view_made (hidden_in (core.way_of known name)) form first is.1 m
     read_made (action id place (calls function arguments)) first is w m = absurd (never m)
     read_made (action id place (repeats test body)) first is w m = absurd (never m)
     read_made (action id place (counts iterator declared low high factor body combine combine_place)) first is w m = absurd (never m)
 
-    read_other : (other : MaybeAction) (first : ℕ) → IsNamedOther other → EachWriteOther P first other → other_makes k first other ≡ true → IsReadOther first other k
+    read_other : (other : MaybeAction) (first : ℕ) → IsKeptOther known other → EachWriteOther P first other → other_makes k first other ≡ true → IsReadOther known first other k
     read_other no_action first is w m = absurd (never m)
     read_other (one_action a) first is w m = read_made a first is w m
 
-    read_part : (part : Actions) (first : ℕ) → AreNamedActions part → EachWriteActions P first part → part_makes k first part ≡ true → IsReadPart first part k
+    read_part : (part : Actions) (first : ℕ) → AreKeptActions known part → EachWriteActions P first part → part_makes k first part ≡ true → IsReadPart known first part k
     read_part no_actions first is w m = absurd (never m)
     read_part (action_then a rest) first is w m =
         two (or_split (makes k first a) (part_makes k (first + accesses_of a) rest) m) (λ i. read_made a first is.0 w.0 i) (λ i. read_part rest (first + accesses_of a) is.1 w.1 i)
 
-    read_groups : (body : Groups) (first : ℕ) → AreNamedGroups body → EachWriteGroups P first body → groups_make k first body ≡ true → IsReadGroups first body k
+    read_groups : (body : Groups) (first : ℕ) → AreKeptGroups known body → EachWriteGroups P first body → groups_make k first body ≡ true → IsReadGroups known first body k
     read_groups no_groups first is w m = absurd (never m)
     read_groups (group_then part rest) first is w m =
         two (or_split (part_makes k first part) (groups_make k (first + part_accesses part) rest) m) (λ i. read_part part first is.0 w.0 i) (λ i. read_groups rest (first + part_accesses part) is.1 w.1 i)
 
-read_of : (scene : Scene) (k : ℕ) → (IsUnshared scene k → ⊥) → (cs : List Located) → AllByRecursion (λ (c : Located). IsNamedAction c.command) cs → WritesAlone scene cs → any_makes k cs ≡ true → IsReadOfEach cs k
+read_of : (scene : Scene) (k : ℕ) → (IsUnshared scene k → ⊥) → (cs : List Located) → AllByRecursion (λ (c : Located). IsKeptAction (known_in scene) c.command) cs → WritesAlone scene cs → any_makes k cs ≡ true → IsReadOfEach (known_in scene) cs k
 read_of scene k free [] is w m = absurd (never m)
 read_of scene k free (c ∷ cs) is w m =
-    two (or_split (makes k c.first c.command) (any_makes k cs) m) (λ i. read_made (λ number. IsUnshared scene number) k free c.command c.first is.0 w.0 i) (λ i. read_of scene k free cs is.1 w.1 i)
+    two (or_split (makes k c.first c.command) (any_makes k cs) m) (λ i. read_made (known_in scene) (λ number. IsUnshared scene number) k free c.command c.first is.0 w.0 i) (λ i. read_of scene k free cs is.1 w.1 i)
 
 -- Blocks.
 
@@ -176,14 +183,14 @@ module _ (scene : Scene) (tells : TellsShares (program_seen scene.program.now) s
   not_unshared : (number read : ℕ) → slice_get scene.shares.now number ≡ Some (Some read) → IsUnshared scene read → ⊥
   not_unshared number read e u = u.other number e
 
-  pub straight_within : (cs : List Located) → AllByRecursion (λ (c : Located). IsNamedAction c.command) cs → AllStand scene cs → HasStraight (phases_of (program_seen scene.program.now) ++ idle_phases_of (program_seen scene.program.now)) cs
-      → ShareWithin scene (shared (program_seen scene.program.now)) (λ number. any_makes number cs ≡ true) (IsReadOfEach cs)
+  pub straight_within : (cs : List Located) → AllByRecursion (λ (c : Located). IsKeptAction (known_in scene) c.command) cs → AllStand scene cs → HasStraight (phases_of (program_seen scene.program.now) ++ idle_phases_of (program_seen scene.program.now)) cs
+      → ShareWithin scene (shared (program_seen scene.program.now)) (λ number. any_makes number cs ≡ true) (IsReadOfEach (known_in scene) cs)
   straight_within cs named stand found = record {
     told = λ number made. told_here number (any_below (trace (program_seen scene.program.now)) cs number stand made);
     earlier = λ number read made e.
         let at = told_here number (any_below (trace (program_seen scene.program.now)) cs number stand made) ∙ ap (λ (o : Option ℕ). Some o) e in (
           shared_before (program_seen scene.program.now) read number e,
-          read_of scene read (not_unshared number read at) cs named (writes_alone scene tells cs (all_reach cs named) stand)
+          read_of scene read (not_unshared number read at) cs named (writes_alone scene tells cs (all_reach (known_in scene) cs named) stand)
               (straight_has_both (program_seen scene.program.now) cs read number found made (shared_there (program_seen scene.program.now) read number e).phase),
         );
   }

@@ -6,26 +6,30 @@ use Rattle.std.proofs.lemmas.List.{length-replicate}
 use Rattle.dh_meaning.specs.Paths.{copies_in}
 use Rattle.dh_sound.specs.Blocks.{factors}
 use Rattle.dh_plan.specs.Correspondence.{Round}
+use Rattle.dh_plan.specs.PlainPlans.{PlainPlan}
 use Rattle.dh_expressions.specs.declared.scenes.Around.{Around}
 use Rattle.dh_expressions.specs.declared.scenes.Scene.{Scene}
 use Rattle.dh_commands.specs.declared.assignments.Change.{Change}
 use Rattle.dh_commands.specs.Undone.{given_at}
 use Rattle.dh_laid.specs.LaidQuiet.{StandsIn}
 use Rattle.dh_blocks.specs.BlockMade.{IsTop, set_made, sets_made}
+use Rattle.dh_blocks.specs.SlotsOfScene.{HoldsVariables}
 use Rattle.dh_blocks.specs.TestMade.{flag_made}
+use Rattle.dh_blocks.proofs.VariablesPlaced.{are_placed}
 use Rattle.dh_gathering.specs.MadeBlocks.{IsRoundBlock}
 use Rattle.dh_gathering.specs.PlacedPhases.{loops_round}
 use Rattle.dh_phased.proofs.RoundsTop.{rounds_are_top}
 use Rattle.dh_reached.specs.ReachedBlocks.{AreUnused, StandsSpread}
 use Rattle.dh_told.proofs.CopiesOfPhases.{FewRound}
 
-pub stands_spread : (scene : Scene) (rounds : List Round) (around : Around) → IsRoundBlock rounds around → StandsIn scene around → FewRound (loops_round rounds) → StandsSpread scene around
-stands_spread scene rounds around round stands few = record {
+pub stands_spread : (scene : Scene) (count : ℕ) (plan : PlainPlan) → HoldsVariables scene plan count → (rounds : List Round) (around : Around) → IsRoundBlock rounds around → StandsIn scene around → FewRound (loops_round rounds) → StandsSpread scene around
+stands_spread scene count plan holds rounds around round stands few = record {
   stands = stands;
   spread = top.spread;
   counted = top.counted;
   some = subst (λ (n : ℕ). 0 < n) (sym (ap (λ (gs : List (Option ℕ)). length gs) round.guards ∙ length-replicate round.paths None)) round.levels.some;
   few = subst (λ (n : ℕ). n < 2 ^ 32) (sym (top.counted ∙ ap (λ (fs : List ℕ). copies_in fs) top.factors_are)) (small (copies_in (factors (loops_round rounds))) few);
+  placed = are_placed scene around count holds.placing holds.small top.spread top.counted;
 }
   where
     top : IsTop rounds around

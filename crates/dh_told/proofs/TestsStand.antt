@@ -27,7 +27,7 @@ use Rattle.dh_used.proofs.SharesOfProgram.{test_below}
 use Rattle.dh_used.proofs.SitesOfSource.{tests_are_sited}
 use Rattle.dh_told.proofs.PhasesHeld.{test_there}
 use Rattle.dh_told.specs.PlansTold.{IsOfReady}
-use Rattle.dh_told.proofs.BlocksTold.{test_formed, test_found, test_stand}
+use Rattle.dh_told.proofs.BlocksTold.{holds, test_formed, test_found, test_stand}
 use Rattle.dh_reached.specs.ReachedBlocks.{TestStands}
 use Rattle.dh_told.specs.ReadsOfBlocks.{is_read_of, reads_in}
 use Rattle.dh_told.proofs.CopiesOfPhases.{test_stands_few}
@@ -59,7 +59,7 @@ module _ (scene : Scene) (count : ℕ) (plan : PlainPlan) (final : Made) (h : Is
   test_stands_so = record {
     put = (test_is_made scene plan count final h.made rounds s.tested.first s.term flag block s.made (test_formed scene count plan final h rounds test flag block s counting).ordered).put;
     unused = flag_unused (is_read_term s.term) flag (slice_index s.made.tests 0) (length s.made.between.draft.operations.items);
-    stands = stands_spread scene rounds s.made.around s.made.round s.made.stands_in (test_stands_few (known_in scene) (program_seen scene.program.now) h.ready.limits (loops_round rounds) s.tested s.placed);
+    stands = stands_spread scene count plan (holds scene count plan final h) rounds s.made.around s.made.round s.made.stands_in (test_stands_few (known_in scene) (program_seen scene.program.now) h.ready.limits (loops_round rounds) s.tested s.placed);
     made = s.made.made;
     few = s.made.few;
     bare = s.made.bare;

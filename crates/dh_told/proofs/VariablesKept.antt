@@ -1,5 +1,5 @@
 -- Each variable has its registers in the plan, of its kind, and no other has these.
-use Rattle.std.proofs.Common.{◌≡◌, ◌⊎◌, inl, inr, ℕ, zero, suc, ◌+◌, ◌*◌, ◌<◌, ◌≤◌, ◌^◌, Bool, true, false, if◌then◌else◌, List, [], ◌∷◌, length, Option, Some, refl, ap, sym, ◌∙◌, subst, arith}
+use Rattle.std.proofs.Common.{◌≡◌, ◌⊎◌, inl, inr, ℕ, zero, suc, ◌+◌, ◌*◌, ◌<◌, ◌≤◌, ◌^◌, Bool, true, false, if◌then◌else◌, List, [], ◌∷◌, ◌++◌, length, Option, Some, refl, ap, sym, ◌∙◌, subst, arith}
 use Rattle.std.specs.Prelude.{slice_get}
 use Rattle.std.proofs.lemmas.Bool.{cases_lt}
 use Rattle.std.proofs.lemmas.Option.{slice_get_within}
@@ -10,7 +10,10 @@ use Rattle.dh_tree.specs.PlainTrees.{Program}
 use Rattle.dh_tree.specs.Seen.{program_seen}
 use Rattle.dh_meaning.specs.Paths.{Path}
 use Rattle.dh_code.specs.declared.places.Held.{Held}
-use Rattle.dh_code.specs.Declarations.{Declaration, all_held, declaration_in, declarations, factors_of, placing_of, slots_counted, slots_of}
+use Rattle.dh_meaning.specs.Ways.{all_entities_of}
+use Rattle.dh_ways.specs.HiddenVariables.{hidden_variables}
+use Rattle.dh_ways.proofs.HiddenApart.{are_counted}
+use Rattle.dh_code.specs.Declarations.{Declaration, all_declarations_of, all_held, declaration_in, declarations, factors_of, hidden_declarations, placing_of, slots_counted, slots_of}
 use Rattle.dh_code.specs.Placed.{AreFew}
 use Rattle.dh_code.specs.Ranks.{IsPath, copies_in, rank_of}
 use Rattle.dh_code.specs.Slots.{IsPlacing, held_at, slot_of}
@@ -104,12 +107,16 @@ few_counted ds count from (suc n) h =
     sum : (copies all : ℕ) → copies ≤ 256 → all ≤ count + copies + n * 256 → all ≤ count + suc n * 256
     sum copies all own later = omega (arith, own, later)
 
+few_both : (ds es : List Declaration) → AreFew ds → AreFew es → AreFew (ds ++ es)
+few_both [] es h k = k
+few_both (d ∷ ds) es h k = (h.0, few_both ds es h.1 k)
+
 counted_small : (p : Program) → IsRunnable p → slots_of p < 2 ^ 64
 counted_small p r =
-    let all = few_counted (declarations [] p.body) 0 0 (length p.entities) r.copies in
-    small (length p.entities) (slots_of p) all r.entities
+    let all = few_counted (all_declarations_of p) 0 0 (all_entities_of p) (few_both (declarations [] p.body) (hidden_declarations p) r.copies r.hidden) in
+    small (all_entities_of p) (slots_of p) all r.entities
   where
-    small : (n all : ℕ) → all ≤ 0 + n * 256 → n ≤ 2 ^ 21 → all < 2 ^ 64
+    small : (n all : ℕ) → all ≤ 0 + n * 256 → n ≤ 2 ^ 23 → all < 2 ^ 64
     small n all h few = omega (arith, h, few)
 
 -- Kinds.
@@ -124,16 +131,23 @@ module _ (scene : Scene) (count : ℕ) (order : AreHeldInOrder scene count) wher
   p = program_seen scene.program.now
 
   abbrev ds : List Declaration
-  ds = declarations [] (program_seen scene.program.now).body
+  ds = all_declarations_of (program_seen scene.program.now)
 
   abbrev many : ℕ
-  many = length (program_seen scene.program.now).entities
+  many = all_entities_of (program_seen scene.program.now)
 
   first_is : (e : ℕ) → first_among scene.held.now count e ≡ first_among (all_held ds 0 0 many) (slots_counted ds 0 0 many) e
   first_is e = ap (λ (held : List Held). first_among held count e) order.held ∙ ap (λ k. first_among (all_held ds 0 0 many) k e) order.count_is
 
   pub long : length scene.held.now ≡ many
   long = ap (λ (held : List Held). length held) order.held ∙ length_held ds 0 0 many
+
+  -- those of the program's own entities are among them
+  pub holds_own : length (program_seen scene.program.now).entities ≤ length scene.held.now
+  holds_own = least (length scene.held.now) many (length (program_seen scene.program.now).entities) (length (hidden_variables (program_seen scene.program.now))) long (are_counted (program_seen scene.program.now))
+    where
+      least : (a b c d : ℕ) → a ≡ b → b ≡ c + d → c ≤ a
+      least a b c d e f = omega (arith, e, f)
 
   -- the registers of variables are among those that are there
   is_there : (registers : List Kind) → HaveTheirKinds scene count registers → (r : ℕ) → r < count → r < length registers
@@ -178,8 +192,9 @@ below_all zero m h = omega arith
 below_all (suc n) m h = h n (omega arith)
 
 pub scenes_hold : ReadyScenesHold
-scenes_hold scene plan count ready order scopes table kinds = record {
+scenes_hold scene plan count ready order views scopes table kinds = record {
   table = table;
+  views = λ r w way. (views r w way).views_are;
   scopes = scopes;
   placing = placed scene count order;
   small = subst (λ (n : ℕ). n < 2 ^ 64) (sym order.count_is) (counted_small (program_seen scene.program.now) (ready_runs (program_seen scene.program.now) ready));

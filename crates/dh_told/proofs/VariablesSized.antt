@@ -1,10 +1,11 @@
 -- Each variable of a ready program is of a kind that there is; what is declared is one, or the iterator of a loop.
-use Rattle.std.proofs.Common.{◌≡◌, ◌⊎◌, inl, inr, ℕ, zero, suc, ◌+◌, ◌<◌, ◌==◌, Bool, true, false, if◌then◌else◌, List, [], ◌∷◌, ◌++◌, length, Option, Some, None, refl, ap, sym, ◌∙◌, subst, arith}
+use Rattle.std.proofs.Common.{◌≡◌, ◌⊎◌, inl, inr, ℕ, zero, suc, ◌+◌, ◌<◌, ◌==◌, Bool, true, false, if◌then◌else◌, List, [], ◌∷◌, ◌++◌, length, map, Option, Some, None, refl, ap, sym, ◌∙◌, subst, arith}
 use Rattle.std.specs.Prelude.{slice_get}
 use Rattle.std.specs.List.{AllByRecursion}
 use Rattle.std.proofs.lemmas.Bool.Decides.{nat_tests}
+use Rattle.dh_value.specs.declared.kinds.Kind.{Kind}
 use Rattle.dh_value.specs.declared.kinds.Kind.TheVariants as kind
-use Rattle.dh_value.specs.Words.{IsKind}
+use Rattle.dh_value.specs.Words.{IsInteger, IsKind}
 use Rattle.dh_tree.specs.declared.trees.counters.Counter.{Counter}
 use Rattle.dh_tree.specs.Counters.{counter_in, counters, counters_of, form_counters, groups_counters, other_counters, part_counters}
 use Rattle.dh_tree.specs.Memories.{same_entity}
@@ -16,15 +17,19 @@ use Rattle.dh_meaning.specs.Core.{Turning}
 use Rattle.dh_meaning.specs.CoreOf.{Known, entity_number, known_of, turning_of}
 use Rattle.dh_meaning.specs.Phases.{turn_count}
 use Rattle.dh_code.specs.declared.places.Held.{Held}
-use Rattle.dh_code.specs.Declarations.{Declaration, all_held, declaration_in, declarations, factors_inside, factors_of, form_declarations, groups_declarations, kind_declared, other_declarations, part_declarations, placing_of}
+use Rattle.dh_meaning.specs.Ways.{Standing, all_entities_of, ways_of}
+use Rattle.dh_ways.specs.Seen.{led_seen}
+use Rattle.dh_code.specs.Declarations.{Declaration, all_declarations_of, all_held, declaration_in, declarations, factored, factors_inside, factors_of, form_declarations, hidden_declarations, groups_declarations, kind_declared, other_declarations, part_declarations, placing_of}
 use Rattle.dh_code.specs.Ranks.{copies_in}
 use Rattle.dh_code.specs.Slots.{Placing, held_at}
+use Rattle.dh_code.proofs.HiddenPlaced.{standings_so}
 use Rattle.dh_sound.proofs.SortsOfPrograms.{assigns_inside}
 use Rattle.dh_expressions.specs.declared.scenes.Scene.{Scene}
 use Rattle.dh_expressions.specs.Evaluated.{counter_of}
 use Rattle.dh_typed_blocks.proofs.Fitting.{Fits, FoldFits, FormFits, GroupsFit, OtherFits, PartFits}
 use Rattle.dh_typed_blocks.proofs.IteratorsSorted.{ready_plain}
 use Rattle.dh_typed_blocks.proofs.MemoriesFew.{ready_few}
+use Rattle.dh_typed_blocks.proofs.OffsetsWhole.{AllWhole, factored_whole, whole_standings}
 use Rattle.dh_typed_blocks.proofs.PhasesHolding.{FormOnlyFolds, GroupsOnlyFold, OnlyFolds, OtherOnlyFolds, PartOnlyFolds}
 use Rattle.dh_typed_blocks.proofs.ProgramsFit.{ready_fits}
 use Rattle.dh_gathering.specs.MadeBlocks.{IsAmong}
@@ -169,6 +174,33 @@ module _ (known : Known) (p : Placing) (all : List Counter) where
       by true same g rest = own (same_is x.entity e same) h.0
       by false same g rest = rest g
 
+-- what is declared first, or else behind
+among_two : (ds es : List Declaration) (e : ℕ) (d : Declaration) → declaration_in (ds ++ es) e ≡ Some d → (declaration_in ds e ≡ Some d) ⊎ (declaration_in es e ≡ Some d)
+among_two [] es e d at = inr at
+among_two (x ∷ ds) es e d at = by (same_entity x.entity (Some e)) at (among_two ds es e d)
+  where
+    by : (b : Bool) → (if b then Some x else declaration_in (ds ++ es) e) ≡ Some d → (declaration_in (ds ++ es) e ≡ Some d → (declaration_in ds e ≡ Some d) ⊎ (declaration_in es e ≡ Some d))
+        → ((if b then Some x else declaration_in ds e) ≡ Some d) ⊎ (declaration_in es e ≡ Some d)
+    by true g rest = inl g
+    by false g rest = rest g
+
+integer_kind : (k : Kind) → IsInteger k → IsKind k
+integer_kind kind.Bool h = elim h [ ]
+integer_kind (kind.Unsigned w) h = h
+integer_kind (kind.Signed w) h = h
+
+-- the variables that keep offsets have kinds of their own
+whole_in : (ds : List Declaration) (e : ℕ) (d : Declaration) → AllByRecursion (λ (x : Declaration). IsInteger x.kind_is) ds → declaration_in ds e ≡ Some d → IsKind d.kind_is
+whole_in [] e d h at = absurd cc
+whole_in (x ∷ ds) e d h at = by (same_entity x.entity (Some e)) at (whole_in ds e d h.1)
+  where
+    one : (y : Declaration) → Some x ≡ Some y → x ≡ y
+    one y g = cc
+
+    by : (b : Bool) → (if b then Some x else declaration_in ds e) ≡ Some d → (declaration_in ds e ≡ Some d → IsKind d.kind_is) → IsKind d.kind_is
+    by true g rest = subst (λ (y : Declaration). IsKind y.kind_is) (one d g) (integer_kind x.kind_is h.0)
+    by false g rest = rest g
+
 -- what is held of an entity
 held_kind : (ds : List Declaration) (count from n e : ℕ) → e < n → (held_at (all_held ds count from n) e).kind ≡ kind_declared (declaration_in ds (from + e))
 held_kind ds count from zero e l = absurd (never l)
@@ -191,8 +223,9 @@ held_kind ds count from (suc n) (suc e) l =
 bool_sized : IsKind kind.Bool
 bool_sized = (omega arith, omega arith)
 
-pub variables_are_sized : (scene : Scene) (count : ℕ) → IsReady (program_seen scene.program.now) → AreHeldInOrder scene count → (e : ℕ) → e < length (program_seen scene.program.now).entities → counter_of scene e ≡ None → IsKind (held_at scene.held.now e).kind
-variables_are_sized scene count ready order e within none = by (declaration_in (declarations [] q.body) e) refl
+pub variables_are_sized : (scene : Scene) (count : ℕ) → IsReady (program_seen scene.program.now) → AreHeldInOrder scene count → map led_seen scene.ways.now ≡ ways_of (program_seen scene.program.now)
+    → (e : ℕ) → e < all_entities_of (program_seen scene.program.now) → counter_of scene e ≡ None → IsKind (held_at scene.held.now e).kind
+variables_are_sized scene count ready order ways e within none = by (declaration_in (all_declarations_of q) e) refl
   where
     q : Program
     q = program_seen scene.program.now
@@ -203,9 +236,23 @@ variables_are_sized scene count ready order e within none = by (declaration_in (
     all : AllByRecursion (IsSizedOrLoop (known_of q) (placing_of q) (counters_of q)) (declarations [] q.body)
     all = action_sized (known_of q) (placing_of q) (counters_of q) q.body [] [] fits (among_self (counters_of q))
 
-    by : (o : Option Declaration) → declaration_in (declarations [] q.body) e ≡ o → IsKind (held_at scene.held.now e).kind
-    by (Some d) at = subst IsKind (sym ((scenes_tell scene count ready order).kind e)) (sized_in (known_of q) (placing_of q) (counters_of q) (declarations [] q.body) e d all none at)
-    by None at = subst IsKind (sym (ap (λ (l : List Held). (held_at l e).kind) order.held ∙ (held_kind (declarations [] q.body) 0 0 (length q.entities) e within ∙ ap kind_declared (ap (λ (m : ℕ). declaration_in (declarations [] q.body) m) (front e) ∙ at)))) bool_sized
+    whole : AllByRecursion (λ (d : Declaration). IsInteger d.kind_is) (hidden_declarations q)
+    whole =
+        factored_whole (length q.entities) (factored [] q.body)
+        (subst (λ (ss : List Standing). AllWhole ss) (sym (standings_so q)) (whole_standings (known_of q) (placing_of q) q.body 0 [] fits))
+
+    front : (m : ℕ) → 0 + m ≡ m
+    front m = omega arith
+
+    held_is : (o : Option Declaration) → declaration_in (all_declarations_of q) e ≡ o → (held_at scene.held.now e).kind ≡ kind_declared o
+    held_is o at =
+        ap (λ (l : List Held). (held_at l e).kind) order.held
+        ∙ (held_kind (all_declarations_of q) 0 0 (all_entities_of q) e within ∙ ap kind_declared (ap (λ (m : ℕ). declaration_in (all_declarations_of q) m) (front e) ∙ at))
+
+    by : (o : Option Declaration) → declaration_in (all_declarations_of q) e ≡ o → IsKind (held_at scene.held.now e).kind
+    by (Some d) at = which (among_two (declarations [] q.body) (hidden_declarations q) e d at)
       where
-        front : (m : ℕ) → 0 + m ≡ m
-        front m = omega arith
+        which : (declaration_in (declarations [] q.body) e ≡ Some d) ⊎ (declaration_in (hidden_declarations q) e ≡ Some d) → IsKind (held_at scene.held.now e).kind
+        which (inl g) = subst IsKind (sym ((scenes_tell scene count ready order ways).kind e)) (sized_in (known_of q) (placing_of q) (counters_of q) (declarations [] q.body) e d all none g)
+        which (inr g) = subst IsKind (sym (held_is (Some d) at)) (whole_in (hidden_declarations q) e d whole g)
+    by None at = subst IsKind (sym (held_is None at)) bool_sized

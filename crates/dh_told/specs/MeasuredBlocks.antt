@@ -21,7 +21,7 @@ use Rattle.dh_expressions.specs.Evaluated.{known_in}
 use Rattle.dh_expressions.specs.Shown.{kind_written}
 use Rattle.dh_formed.specs.Formed.{Block}
 use Rattle.dh_formed.specs.WholeBlocks.{IsCut, block_of}
-use Rattle.dh_sound.specs.SimpleForms.{IsSimple}
+use Rattle.dh_sound.specs.SimpleForms.{FoldsInJoins}
 use Rattle.dh_blocks.specs.SoundTerms.{IsSound}
 use Rattle.dh_laid.specs.BlockSites.{block_sites, test_sites}
 use Rattle.dh_paced.specs.BlockLengths.{ShareWithin}
@@ -37,7 +37,7 @@ use Rattle.dh_told.specs.MadeFormed.{HasRegisters}
 -- what it assigns to.
 pub record FitsAlone (x : Block) (scene : Scene) (around : Around) (rounds : List Round) (c : Located) : Type 0 where
   pub fits : FitsBlock x scene around rounds c
-  pub alone : IsSimple c.command ⊎ ((entity : ℕ) → fits.touched entity ≡ true)
+  pub alone : FoldsInJoins c.command ⊎ ((entity : ℕ) → fits.touched entity ≡ true)
 
 -- where the block of straight commands stands
 pub record StandsStraight (scene : Scene) (plan : PlainPlan) (count : ℕ) (final : Made) (rounds : List Round) (ls : List Located) (block : ℕ) (shared : ℕ → Option ℕ) (m : MadeStraight scene final rounds ls block) : Type 0 where
@@ -48,7 +48,7 @@ pub record StandsStraight (scene : Scene) (plan : PlainPlan) (count : ℕ) (fina
   pub stands : StandsSo (block_of plan block (block_sites scene m.around ls m.before m.between m.made)) scene count m.around
   pub fits : AllByRecursion (FitsAlone (block_of plan block (block_sites scene m.around ls m.before m.between m.made)) scene m.around rounds) ls
   -- (a loop without turns in an arm makes none of its accesses)
-  pub shares : ShareWithin scene shared (λ number. any_makes number ls ≡ true) (IsReadOfEach ls)
+  pub shares : ShareWithin scene shared (λ number. any_makes number ls ≡ true) (IsReadOfEach (known_in scene) ls)
 
 abbrev pub MadeStraightsAreLong : Type 0
 MadeStraightsAreLong =

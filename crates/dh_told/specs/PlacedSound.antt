@@ -12,14 +12,14 @@ use Rattle.dh_meaning.specs.Phases.{Located, phases_of}
 use Rattle.dh_plan.specs.Correspondence.{Round}
 use Rattle.dh_plan.specs.PlainPlans.{PlainPlan}
 use Rattle.dh_sound.specs.BlocksOfPhases.{OfStraight, OfTest}
-use Rattle.dh_sound.specs.SimpleForms.{IsSimple}
+use Rattle.dh_sound.specs.SimpleForms.{FoldsInJoins}
 use Rattle.dh_expressions.specs.declared.scenes.Around.{Around}
 use Rattle.dh_expressions.specs.declared.scenes.Scene.{Scene}
 use Rattle.dh_expressions.specs.Evaluated.{known_in}
 use Rattle.dh_blocks.specs.BlockMade.{AreSoundHere}
 use Rattle.dh_blocks.specs.BlockTraced.{IsTraced, TellsShares}
 use Rattle.dh_blocks.specs.TestMade.{IsSoundTest, IsTestTraced}
-use Rattle.dh_typed_blocks.specs.SoundBlocks.{IsPlaceTold, loops_of}
+use Rattle.dh_typed_blocks.specs.SoundBlocks.{IsBehindViews, IsPlaceTold, loops_of}
 use Rattle.dh_typed_blocks.specs.TypedTerms.{ActionTyped, IsTyped}
 use Rattle.dh_gathering.specs.PhasesInLoops.{StraightOf, TestOf}
 
@@ -27,7 +27,8 @@ use Rattle.dh_gathering.specs.PhasesInLoops.{StraightOf, TestOf}
 pub record SoundStraight (scene : Scene) (around : Around) (plan : PlainPlan) (rounds : List Round) (located : List Located) : Type 0 where
   pub of : OfStraight (program_seen scene.program.now) (loops_of rounds) (commands (core_commands (known_in scene) located))
   pub are : located ≡ of.done ++ of.folds
-  pub simple : AllByRecursion (λ (c : Located). IsSimple c.command) of.done
+  pub behind : AllByRecursion (IsBehindViews (program_seen scene.program.now)) (of.done ++ of.folds)
+  pub joins : AllByRecursion (λ (c : Located). FoldsInJoins c.command) of.done
   pub typed : AllByRecursion (λ (c : Located). ActionTyped (known_in scene) (table_of (program_seen scene.program.now)) c.command) (of.done ++ of.folds)
   pub sound : AreSoundHere scene around plan rounds of.done of.folds
   -- where the scene tells which read shares which

@@ -1,6 +1,6 @@
 -- Which forms of a program are not built yet, by the rule `Unsupported` (K3), each at its place: functions and
--- calls, and views; and of one unordered list every part behind another that holds a `---`, a `for` or a
--- `while`, where it holds one too.
+-- calls; and of one unordered list every part behind another that holds a `---`, a `for` or a `while`, where
+-- it holds one too.
 use Rattle.std.specs.Prelude.{◌&&◌, ◌||◌, Bool, false, true, List, [], ◌∷◌, ◌++◌, if◌then◌else◌}
 use Rattle.dh_base.specs.declared.places.Place.{Place}
 use Rattle.dh_base.specs.declared.rules.Rule.TheVariants.{Unsupported}
@@ -60,6 +60,7 @@ abbrev mutual
   pub unbuilt_form : Place → ActionForm → List Breach
   unbuilt_form place (lets name declared value) = []
   unbuilt_form place (lets_memory name shape shape_places value) = []
+  unbuilt_form place (views name parent form) = []
   unbuilt_form place (assigns target value) = []
   unbuilt_form place (stores target value) = []
   unbuilt_form place (reduces target o value) = []
@@ -67,7 +68,6 @@ abbrev mutual
   unbuilt_form place (repeats test body) = unbuilt_action body
   unbuilt_form place (counts iterator declared low high factor body combine combine_place) = unbuilt_action body ++ unbuilt_other combine
   unbuilt_form place (blocks body) = unbuilt_groups body
-  unbuilt_form place (views name parent form) = unbuilt place
   unbuilt_form place (calls function arguments) = unbuilt place
 
   pub unbuilt_other : MaybeAction → List Breach

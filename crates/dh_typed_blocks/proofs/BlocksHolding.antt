@@ -2,6 +2,7 @@
 -- reducers of which something else holds, or the test of such a command; for whatever holds of the body, and of the
 -- commands inside a command of which it holds. What is found stands along the trace, as all laws on blocks ask.
 use Rattle.std.proofs.Common.{◌≡◌, ◌⊎◌, inl, inr, ℕ, Option, List, [], ◌∷◌, ◌++◌, refl, ◌∙◌, ap, subst}
+use Rattle.std.specs.List.{AllByRecursion}
 use Rattle.dh_base.specs.declared.places.Place.{Place}
 use Rattle.dh_value.specs.declared.kinds.Kind.{Kind}
 use Rattle.dh_tree.specs.declared.trees.expressions.Ref.{Ref}
@@ -12,22 +13,32 @@ use Rattle.dh_meaning.specs.CoreOf.{form_of, known_of, core_commands, core_of, c
 use Rattle.dh_meaning.specs.Effects.{Block, commands, tests}
 use Rattle.dh_meaning.specs.Paths.{paths_in}
 use Rattle.dh_meaning.specs.Phases.{Located, turn_count, phases_of}
-use Rattle.dh_meaning.specs.Sites.{nothing_around}
+use Rattle.dh_meaning.specs.Sites.{Around, nothing_around}
 use Rattle.dh_meets.specs.Charges.{factors_of}
-use Rattle.dh_meets.specs.SourceEvents.{trace}
+use Rattle.dh_meets.specs.SourceEvents.{SourceEvent, trace}
 use Rattle.dh_sound.specs.Blocks.{factors, StandsIn}
 use Rattle.dh_sound.specs.BlocksOfPhases.{OfStraight, OfTest}
 use Rattle.dh_sound.specs.LoopsMatch.{unrolled, EachMatches}
 use Rattle.dh_sound.specs.PhaseFacts.{HasStraight, HasTest}
 use Rattle.dh_sound.specs.SimpleForms.{AreFolds, IsFold, IsFoldForm}
-use Rattle.dh_sound.specs.Trails.{Follows}
-use Rattle.dh_sound.proofs.BlocksOfPhases.{straight_along, tested_along, own_around, phases_follow}
-use Rattle.dh_sound.proofs.Folds.{follows_less}
-use Rattle.dh_sound.proofs.LoopsMatch.{match_factors, same_loops, EachInside, ListInside, action_inside}
+use Rattle.dh_sound.specs.Trails.{StandsBehind, of_located}
+use Rattle.dh_sound.specs.ViewTrails.{FollowsViews, StandsViews}
+use Rattle.dh_sound.proofs.BlocksOfPhases.{straight_by, tested_along, own_around}
+use Rattle.dh_sound.proofs.Folds.{less_by}
+use Rattle.dh_sound.proofs.LoopsMatch.{match_factors, loops_by, EachInside, ListInside, action_inside}
 use Rattle.dh_sound.proofs.NamedPrograms.{ready_named}
-use Rattle.dh_sound.proofs.Trails.{Tops}
+use Rattle.dh_sound.proofs.Trails.{Tops, TopsBy, follows_plain, phases_stand, tops_so}
 use Rattle.dh_sound.proofs.ViewsBefore.{stands_behind}
+use Rattle.dh_typed_blocks.specs.SoundBlocks.{IsBehindViews}
 use Rattle.dh_typed_blocks.proofs.PhasesHolding.{EachGroup, OfOther, OtherOnlyFolds, EachOf, EachFold, IsReducer, IsSplit, ListSplit, inside, Holding, body_holds, body_splits}
+
+-- each stands behind its views
+each_behind : (p : Program) (r : Around) (before part : List SourceEvent) (cs : List Located) → FollowsViews p r before part cs → AllByRecursion (IsBehindViews p) cs
+each_behind p r before part [] h = tt
+each_behind p r before part (c ∷ cs) h = (
+  (h.1.1.1.0.depth, (h.1.1.1.0.first, (h.1.1.1.0.seen.own, h.1.1.1.0.behind))),
+  each_behind p r ((before ++ h.0) ++ of_located c) h.1.0 cs h.1.1.1.1,
+)
 
 as_fold : (a : Action) → IsFoldForm (form_of a) → IsFold a
 as_fold (action id place form) h = h
@@ -36,6 +47,8 @@ module _ (p : Program) (P : List Turning → Action → Type 0) (F : List Turnin
   -- straight commands of which it holds
   pub record StraightHolds (loops : List Turning) (block : Block) : Type 0 where
     pub of : OfStraight p loops block
+    pub views : FollowsViews p of.round [] (trace p) of.done
+    pub behind : AllByRecursion (IsBehindViews p) (of.done ++ of.folds)
     pub holds : EachOf P loops of.done
     pub quiet : EachFold F loops of.folds
 
@@ -58,15 +71,21 @@ module _ (p : Program) (P : List Turning → Action → Type 0) (F : List Turnin
         → P (inside (known_of p) P F d (turn_count low.value high.value factor.value) (counts iterator declared low high factor body combine combine_place)) body
         × OtherOnlyFolds F (inside (known_of p) P F d (turn_count low.value high.value factor.value) (counts iterator declared low high factor body combine combine_place)) combine)
         (holds : P [] p.body) where
+      behind_views : TopsBy (λ round es c. StandsViews p round es c) nothing_around [] (trace p) (phases_of p)
+      behind_views = phases_stand p ready.of_text.first ready.of_text.numbered (ready_named p ready) (stands_behind p ready)
+
       tops : Tops nothing_around [] (trace p) (phases_of p)
-      tops = phases_follow p ready.of_text.first ready.of_text.numbered (ready_named p ready) (stands_behind p ready)
+      tops = tops_so (λ round es c. StandsViews p round es c) (λ round es c. StandsBehind round es c) (λ round es c s. s.stands) nothing_around [] (trace p) (phases_of p) behind_views
 
       -- straight commands that stand in these loops, split so
       pub straight_of : (loops : List Turning) (block : Block) (cs : List Located) → block ≡ commands (core_commands (known_of p) cs) → HasStraight (phases_of p) cs → EachInside (known_of p) (unrolled loops) cs
           → (split : IsSplit (known_of p) P F loops cs) → (f : StraightHolds loops block) × (cs ≡ f.of.done ++ f.of.folds)
       straight_of loops block cs is has matched split =
-          let w = same_loops (known_of p) [] (trace p) (unrolled loops) cs (straight_along [] (trace p) nothing_around (phases_of p) cs tops has) matched in
-          let same : factors loops ≡ factors_of w.0.loops = match_factors (known_of p) loops w.0.loops w.1.1 in (
+          let w = loops_by (known_of p) (λ round es c. StandsViews p round es c) (λ round es c x. x.stands.around) [] (trace p) (unrolled loops) cs
+          (straight_by (λ round es c. StandsViews p round es c) [] (trace p) nothing_around (phases_of p) cs behind_views has) matched in
+          let same : factors loops ≡ factors_of w.0.loops = match_factors (known_of p) loops w.0.loops w.1.1 in
+          let views : FollowsViews p w.0 [] (trace p) split.done =
+          less_by (λ round es c. StandsViews p round es c) w.0 [] (trace p) split.done split.folds (subst (λ (x : List Located). FollowsViews p w.0 [] (trace p) x) split.is w.1.0) in (
             record {
               of = record {
                 done = split.done;
@@ -75,10 +94,12 @@ module _ (p : Program) (P : List Turning → Action → Type 0) (F : List Turnin
                 is = is ∙ ap (λ (x : List Located). commands (core_commands (known_of p) x)) split.is;
                 has = subst (λ (x : List Located). HasStraight (phases_of p) x) split.is has;
                 round = w.0;
-                follows = follows_less w.0 [] (trace p) split.done split.folds (subst (λ (x : List Located). Follows w.0 [] (trace p) x) split.is w.1.0);
+                follows = follows_plain p w.0 [] (trace p) split.done views;
                 inside = same;
                 paths = ap paths_in same;
               };
+              views = views;
+              behind = subst (λ (x : List Located). AllByRecursion (IsBehindViews p) x) split.is (each_behind p w.0 [] (trace p) cs w.1.0);
               holds = split.holds;
               quiet = split.quiet;
             },

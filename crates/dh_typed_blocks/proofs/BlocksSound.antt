@@ -20,7 +20,7 @@ use Rattle.dh_sound.specs.AssignsInside.{AssignsInside}
 use Rattle.dh_sound.proofs.SortsOfPrograms.{assigns_inside}
 use Rattle.dh_sound.specs.Blocks.{factors, StandsIn}
 use Rattle.dh_sound.specs.LoopsMatch.{AreSpared}
-use Rattle.dh_sound.specs.SimpleForms.{IsSimple}
+use Rattle.dh_sound.specs.SimpleForms.{FoldsInJoins}
 use Rattle.dh_sound.specs.Standing.{Spares}
 use Rattle.dh_sound.proofs.AssignsInside.{commands_deep, touched_deep}
 use Rattle.dh_sound.proofs.Folds.{first_assigned}
@@ -58,7 +58,7 @@ spares_less known cs ds [] h = tt
 spares_less known cs ds (loop ∷ loops) h = (first_assigned known loop.iterator cs ds h.0, spares_less known cs ds loops h.1)
 
 module _ (known : Known) (p : Placing) (ts : List Turning) where
-  all_simple : (cs : List Located) → EachOf (SimpleFits known p) ts cs → AllByRecursion (λ (c : Located). IsSimple c.command) cs
+  all_simple : (cs : List Located) → EachOf (SimpleFits known p) ts cs → AllByRecursion (λ (c : Located). FoldsInJoins c.command) cs
   all_simple [] h = tt
   all_simple (c ∷ cs) h = (h.0.0, all_simple cs h.1)
 
@@ -91,7 +91,9 @@ module _ (scene : Scene) (around : Around) (plan : PlainPlan) (rounds : List Rou
     straight_sound f = (
       record {
         of = f.of;
-        simple = all_simple (known_of p) places (loops_of rounds) f.of.done f.holds;
+        views = f.views;
+        behind = f.behind;
+        joins = all_simple (known_of p) places (loops_of rounds) f.of.done f.holds;
         typed = all_typed (known_in scene) places (loops_of rounds) f.of.done f.of.folds holds quiet;
         sound = record {
           first = subst (λ (table : List MemEntry). AllByRecursion (λ (c : Located). SoundAction scene around.levels.now table (IsNamedHere scene around.levels.now plan.registers rounds touched) (IsSeen scene around.levels.now) c.command) f.of.done)
@@ -104,7 +106,7 @@ module _ (scene : Scene) (around : Around) (plan : PlainPlan) (rounds : List Rou
     )
       where
         same : known_of p ≡ known_in scene
-        same = known_here scene ready
+        same = known_here scene place.tells.ways
 
         holds : EachOf (SimpleFits (known_in scene) places) (loops_of rounds) f.of.done
         holds = subst (λ (k : Known). EachOf (SimpleFits k places) (loops_of rounds) f.of.done) same f.holds
@@ -145,7 +147,7 @@ module _ (scene : Scene) (around : Around) (plan : PlainPlan) (rounds : List Rou
     )
       where
         holds : Fits (known_in scene) places (loops_of rounds) f.of.tested.command
-        holds = subst (λ (k : Known). Fits k places (loops_of rounds) f.of.tested.command) (known_here scene ready) f.holds.1
+        holds = subst (λ (k : Known). Fits k places (loops_of rounds) f.of.tested.command) (known_here scene place.tells.ways) f.holds.1
 
         names : (r : Ref) (k : Kind) → IsNamedIn (known_in scene) places (loops_of rounds) r k → IsNamedHere scene around.levels.now plan.registers rounds (λ entity. false) r k
         names = named_here scene around.levels.now rounds place.tells place.top.factors_are plan.registers place.told (λ entity. false) (spared_test (loops_of rounds)) (λ entity t. absurd cc)

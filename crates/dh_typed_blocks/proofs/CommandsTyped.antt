@@ -1,24 +1,35 @@
 -- What fits is typed, and so are reducers that join copies.
-use Rattle.std.proofs.Common.{List, [], ◌∷◌, ◌++◌, Some, None}
+use Rattle.std.proofs.Common.{ℕ, suc, List, [], ◌∷◌, ◌++◌, Some, None}
 use Rattle.std.specs.List.{AllByRecursion}
-use Rattle.dh_tree.specs.PlainTrees.{Action, action, lets, lets_memory, views, assigns, stores, reduces, calls, blocks, decides, repeats, counts, MaybeAction, no_action, one_action, Actions, no_actions, action_then, Groups, no_groups, group_then}
+use Rattle.dh_tree.specs.PlainTrees.{Term, Action, action, lets, lets_memory, views, assigns, stores, reduces, calls, blocks, decides, repeats, counts, MaybeAction, no_action, one_action, Actions, no_actions, action_then, Groups, no_groups, group_then}
+use Rattle.dh_tree.specs.ViewOffsets.{offsets_of}
 use Rattle.dh_meaning.specs.Core.{Turning}
-use Rattle.dh_meaning.specs.CoreOf.{Known, form_of}
+use Rattle.dh_meaning.specs.CoreOf.{Known, form_of, way_of}
 use Rattle.dh_meaning.specs.Phases.{Located}
+use Rattle.dh_meaning.specs.Ways.{Hidden, hidden_in}
 use Rattle.dh_runnable.specs.ActionsRun.{table_in}
 use Rattle.dh_code.specs.Slots.{Placing}
-use Rattle.dh_typed_blocks.specs.TypedTerms.{ActionTyped, OtherTyped, GroupsTyped, PartTyped}
-use Rattle.dh_typed_blocks.proofs.Fitting.{FoldFits, Fits, OtherFits, GroupsFit, PartFits}
+use Rattle.dh_typed_blocks.specs.TypedTerms.{ActionTyped, KeepsSized, KeptSized, OtherTyped, GroupsTyped, PartTyped}
+use Rattle.dh_typed_blocks.proofs.Fitting.{FoldFits, Fits, KeepsFits, KeptFits, OtherFits, GroupsFit, PartFits}
 use Rattle.dh_typed_blocks.proofs.FittingParts.{SimpleFits, JoinFits}
 use Rattle.dh_typed_blocks.proofs.PhasesHolding.{EachOf, EachFold, IsReducer}
 
 module _ (known : Known) (p : Placing) where
+  kept_sized : (ts : List Turning) (depth first : ℕ) (os : List Term) → KeptFits known p ts depth first os → KeptSized known first os
+  kept_sized ts depth first [] h = tt
+  kept_sized ts depth first (o ∷ os) h = (h.0.0.sized, kept_sized ts depth (suc first) os h.1)
+
+  view_sized : (ts : List Turning) (hs : List Hidden) (os : List Term) → KeepsFits known p ts hs os → KeepsSized known hs os
+  view_sized ts hs [] h = tt
+  view_sized ts [] (o ∷ os) h = tt
+  view_sized ts (x ∷ hs) (o ∷ os) h = kept_sized ts x.depth x.entity (o ∷ os) h
+
   mutual
     pub fits_typed : (a : Action) (ts : List Turning) → Fits known p ts a → ActionTyped known (table_in known) a
     fits_typed (action id place (lets name declared None)) ts h = (tt, h.0.sized)
     fits_typed (action id place (lets name declared (Some t))) ts h = (h.0.1, h.1.0.sized)
     fits_typed (action id place (lets_memory name shape shape_places value)) ts h = tt
-    fits_typed (action id place (views name parent form)) ts h = tt
+    fits_typed (action id place (views name parent form)) ts h = (h.0.1, view_sized ts (hidden_in (way_of known name)) (offsets_of form) h.1)
     fits_typed (action id place (assigns target value)) ts h = (h.0.1, h.1.0.sized)
     fits_typed (action id place (stores target value)) ts h = (h.0.0.1, h.0.1.1)
     fits_typed (action id place (reduces target o value)) ts h = elim h [ ]

@@ -1,16 +1,19 @@
 -- What is told of the commands of a ready program by the loops in which they stand, and of the names in them: all that
 -- blocks of straight commands are asked, said of the source. Reducers stand in blocks that join copies alone.
-use Rattle.std.proofs.Common.{◌≡◌, ℕ, ◌≤◌, List, [], ◌∷◌, ◌++◌, length, Option, Some, None}
+use Rattle.std.proofs.Common.{◌≡◌, ℕ, ◌≤◌, suc, List, [], ◌∷◌, ◌++◌, length, Option, Some, None}
 use Rattle.dh_value.specs.declared.kinds.Kind.{Kind}
 use Rattle.dh_value.specs.declared.kinds.Kind.TheVariants.{Bool}
 use Rattle.dh_value.specs.Words.{IsInteger, IsKind}
 use Rattle.dh_tree.specs.declared.trees.expressions.Ref.{Ref}
 use Rattle.dh_tree.specs.WiderKinds.{wider}
 use Rattle.dh_tree.specs.PlainTrees.{Term, Action, action, ActionForm, lets, lets_memory, views, assigns, stores, reduces, calls, blocks, decides, repeats, counts, MaybeAction, no_action, one_action, Actions, no_actions, action_then, Groups, no_groups, group_then}
+use Rattle.dh_tree.specs.Seen.{terms}
+use Rattle.dh_tree.specs.ViewOffsets.{offsets_of}
 use Rattle.dh_meaning.specs.Bindings.{binding_in, kind_or_first, kind_bound}
 use Rattle.dh_meaning.specs.Core.{Turning}
-use Rattle.dh_meaning.specs.CoreOf.{Known, depth_of, entity_number, kind_of, turning_of}
+use Rattle.dh_meaning.specs.CoreOf.{Known, depth_of, entity_number, kind_of, turning_of, way_of}
 use Rattle.dh_meaning.specs.Phases.{turn_count}
+use Rattle.dh_meaning.specs.Ways.{Hidden, hidden_in}
 use Rattle.dh_sound.specs.Blocks.{factors}
 use Rattle.dh_sound.specs.NamesInScope.{InScope}
 use Rattle.dh_sound.specs.SameKeys.{IsIteratorOf}
@@ -18,12 +21,16 @@ use Rattle.dh_runnable.specs.ActionsRun.{table_in}
 use Rattle.dh_code.specs.Slots.{Placing}
 use Rattle.dh_code.specs.Suited.{IsInside}
 use Rattle.dh_expressions.specs.Shown.{kind_written}
-use Rattle.dh_blocks.specs.SoundTerms.{IsSound, IsSoundTarget}
+use Rattle.dh_blocks.specs.SoundTerms.{AreSound, IsSound, IsSoundTarget}
 use Rattle.dh_tree.specs.TextNumbers.{Reduces}
 use Rattle.dh_blocks.specs.SoundCommands.{CanHold, kind_aimed}
 use Rattle.dh_typed_blocks.specs.PlainPrograms.{IsPlainTarget, IsWholeTerm}
-use Rattle.dh_typed_blocks.specs.TypedTerms.{IsTyped}
+use Rattle.dh_typed_blocks.specs.TypedTerms.{AreTyped, IsTyped}
 use Rattle.dh_typed_blocks.proofs.PhasesHolding.{OtherOnlyFolds}
+
+-- a variable that keeps an offset, as a name
+abbrev pub kept_at : (entity : ℕ) → Ref
+kept_at entity = record { name = []; place = record { line = 0; column = 0 }; entity = Some entity }
 
 module _ (known : Known) where
   -- the iterators of these loops are of integer kinds
@@ -66,6 +73,21 @@ module _ (known : Known) (p : Placing) where
       (TermFits loops t × (IsSoundTarget known (table_in known) (IsNamedIn loops) target × IsTyped known (table_in known) target))
       × CanHold (kind_aimed known (table_in known) target) t
 
+  -- offsets are numbers, and are kept in variables that follow one another from a first one on, inside as many loops: each has
+  -- the kind of its offset
+  abbrev pub KeptFits : List Turning → (depth first : ℕ) → List Term → Type 0
+  KeptFits loops depth first [] = Unit {0}
+  KeptFits loops depth first (t ∷ ts) =
+      (IsTargetIn loops (length (factors loops)) (kept_at first) × ((depth ≡ depth_of known (kept_at first)) × (kind_of known (kept_at first) ≡ kind_written t))) × KeptFits loops depth (suc first) ts
+
+  abbrev pub KeepsFits : List Turning → List Hidden → List Term → Type 0
+  KeepsFits loops hs [] = Unit {0}
+  KeepsFits loops [] (t ∷ ts) = ⊥
+  KeepsFits loops (h ∷ hs) (t ∷ ts) = KeptFits loops h.depth h.entity (t ∷ ts)
+
+  abbrev pub OffsetsFit : List Turning → List Term → Type 0
+  OffsetsFit loops ts = AreSound known (table_in known) (IsNamedIn loops) (terms ts) × AreTyped known (table_in known) (terms ts)
+
   abbrev pub FoldFits : List Turning → ActionForm → Type 0
   FoldFits loops (reduces r o t) =
       (TermFits loops t × IsTargetIn loops 0 r) × ((Reduces o × IsWholeTerm known (length (factors loops)) t) × IsInteger (wider (kind_of known r) (kind_written t)))
@@ -87,7 +109,7 @@ module _ (known : Known) (p : Placing) where
     pub FormFits : List Turning → ActionForm → Type 0
     FormFits loops (lets name declared value) = LetFits loops name declared value
     FormFits loops (lets_memory name shape shape_places value) = Unit {0}
-    FormFits loops (views name parent form) = Unit {0}
+    FormFits loops (views name parent form) = OffsetsFit loops (offsets_of form) × KeepsFits loops (hidden_in (way_of known name)) (offsets_of form)
     FormFits loops (assigns target value) = AssignFits loops target value
     FormFits loops (stores target value) = StoreFits loops target value
     FormFits loops (reduces target o value) = ⊥

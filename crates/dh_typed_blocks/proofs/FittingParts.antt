@@ -3,27 +3,27 @@ use Rattle.std.proofs.Common.{List}
 use Rattle.dh_tree.specs.PlainTrees.{Action, action, ActionForm, lets, lets_memory, views, assigns, stores, reduces, calls, blocks, decides, repeats, counts, MaybeAction, no_action, one_action, Actions, no_actions, action_then, Groups, no_groups, group_then}
 use Rattle.dh_meaning.specs.Core.{Turning}
 use Rattle.dh_meaning.specs.CoreOf.{Known}
-use Rattle.dh_sound.specs.SimpleForms.{IsFoldForm, FoldsOnly, GroupsFoldOnly, PartFoldsOnly, JoinsFolds, IsSimple, OtherSimple, GroupsSimple, PartSimple}
+use Rattle.dh_sound.specs.SimpleForms.{IsFoldForm, FoldsOnly, GroupsFoldOnly, PartFoldsOnly, JoinsFolds, FoldsInJoins, OtherFoldsInJoins, GroupsFoldInJoins, PartFoldsInJoins}
 use Rattle.dh_code.specs.Slots.{Placing}
 use Rattle.dh_typed_blocks.proofs.Fitting.{FoldFits, Fits, OtherFits, GroupsFit, PartFits}
 use Rattle.dh_typed_blocks.proofs.PhasesHolding.{EachPart, EachGroup, OfOther, OnlyFolds, GroupsOnlyFold, PartOnlyFolds, OtherOnlyFolds, IsReducer}
 
 module _ (known : Known) (p : Placing) where
   abbrev pub SimpleFits : List Turning → Action → Type 0
-  SimpleFits loops a = IsSimple a × Fits known p loops a
+  SimpleFits loops a = FoldsInJoins a × Fits known p loops a
 
   abbrev pub JoinFits : List Turning → ActionForm → Type 0
   JoinFits loops form = IsFoldForm form × FoldFits known p loops form
 
-  pub part_parts : (d : List Turning) (part : Actions) → PartSimple part → PartFits known p d part → EachPart SimpleFits d part
+  pub part_parts : (d : List Turning) (part : Actions) → PartFoldsInJoins part → PartFits known p d part → EachPart SimpleFits d part
   part_parts d no_actions h g = tt
   part_parts d (action_then a rest) h g = ((h.0, g.0), part_parts d rest h.1 g.1)
 
-  pub groups_parts : (d : List Turning) (gs : Groups) → GroupsSimple gs → GroupsFit known p d gs → EachGroup SimpleFits d gs
+  pub groups_parts : (d : List Turning) (gs : Groups) → GroupsFoldInJoins gs → GroupsFit known p d gs → EachGroup SimpleFits d gs
   groups_parts d no_groups h g = tt
   groups_parts d (group_then part rest) h g = (part_parts d part h.0 g.0, groups_parts d rest h.1 g.1)
 
-  pub other_parts : (d : List Turning) (m : MaybeAction) → OtherSimple m → OtherFits known p d m → OfOther SimpleFits d m
+  pub other_parts : (d : List Turning) (m : MaybeAction) → OtherFoldsInJoins m → OtherFits known p d m → OfOther SimpleFits d m
   other_parts d no_action h g = tt
   other_parts d (one_action a) h g = (h, g)
 

@@ -1,6 +1,6 @@
 -- In a ready program no command assigns to an iterator: each binding that iterates has an entity that is an iterator, and the
 -- rules on places let no command assign to such an entity. By two walks over the body, with the entities so far.
-use Rattle.std.proofs.Common.{◌≡◌, ◌⊎◌, inl, inr, ℕ, ◌&&◌, ◌||◌, not, Bool, true, false, if◌then◌else◌, List, [], ◌∷◌, ◌++◌, length, Option, Some, None, refl, ap, sym, ◌∙◌, subst, arith}
+use Rattle.std.proofs.Common.{◌≡◌, ◌⊎◌, inl, inr, ℕ, ◌&&◌, ◌||◌, not, Bool, true, false, if◌then◌else◌, List, [], ◌∷◌, ◌++◌, length, map, Option, Some, None, refl, ap, sym, ◌∙◌, subst, arith}
 use Rattle.std.specs.Prelude.{slice_get}
 use Rattle.std.proofs.lemmas.Bool.Decides.{nat_tests}
 use Rattle.std.proofs.lemmas.List.{append-nil, append_assoc}
@@ -20,9 +20,9 @@ use Rattle.dh_tree.specs.Resolved.{resolved_action, resolved_form, resolved_othe
 use Rattle.dh_tree.specs.TextNumbers.{HasTextNumbers, FormHasTextNumbers, OtherHasTextNumbers, GroupsHaveTextNumbers, PartHasTextNumbers}
 use Rattle.dh_tree.specs.Scopes.{Scope, entity, declare, leave, past, at_end, form_at_end, other_at_end, actions_at_end, groups_at_end, body_scope, last_scope}
 use Rattle.dh_tree.proofs.EmptyLists.{first_none, second_none, not_none}
-use Rattle.dh_meaning.specs.Bindings.{Binding, bindings, form_bindings, other_bindings, groups_bindings, part_bindings, binding_in, depth_inside}
+use Rattle.dh_meaning.specs.Bindings.{Binding, bindings, bindings_of, form_bindings, other_bindings, groups_bindings, part_bindings, binding_in, depth_inside}
 use Rattle.dh_meaning.specs.CoreOf.{Known, known_of, entity_number}
-use Rattle.dh_ways.proofs.NoWays.{own_bindings}
+use Rattle.dh_meaning.specs.Ways.{Hidden, Led, Standing, behind_hidden, hidden_binding, hidden_bindings, hidden_of, led_binding, standings, view_bindings, ways_of}
 use Rattle.dh_sound.specs.SameKeys.{IsNoIterator}
 use Rattle.dh_sound.specs.Straight.{Stands, IsNamedAction, IsNamedForm, IsNamedOther, AreNamedGroups, AreNamedActions}
 use Rattle.dh_typed_blocks.specs.PlainPrograms.{IsPlainTarget, AssignsPlain, FormPlain, OtherPlain, GroupsPlain, PartPlain}
@@ -217,12 +217,27 @@ module _ (es : List Entity) where
             groups_plain rest after c second (second_none (actions_placement_breaches es c g) _ b) n.1 w.1 on,
           )
 
+-- views and the variables that keep their offsets iterate over nothing
+module _ (es : List Entity) where
+  led_sorted : (ls : List Led) → AllSorted es (map led_binding ls)
+  led_sorted [] = tt
+  led_sorted (l ∷ ls) = (inl refl, led_sorted ls)
+
+  hidden_sorted : (hs : List Hidden) → AllSorted es (map hidden_binding hs)
+  hidden_sorted [] = tt
+  hidden_sorted (h ∷ hs) = (inl refl, hidden_sorted hs)
+
+  kept_sorted : (first : ℕ) (ss : List Standing) → AllSorted es (hidden_bindings first ss)
+  kept_sorted first [] = tt
+  kept_sorted first (s ∷ ss) = sorted_both es (map hidden_binding (hidden_of first s)) (hidden_bindings (behind_hidden first s) ss) (hidden_sorted (hidden_of first s)) (kept_sorted (behind_hidden first s) ss)
+
 -- the bindings of a ready program
 pub ready_sorted : (p : Program) → IsReady p → AllSorted p.entities (known_of p).bindings
 ready_sorted p r =
     let same : resolved_action (body_scope p) p.body ≡ p.body = ap (λ (x : Program). x.body) r.entities in
-    subst (λ (bs : List Binding). AllSorted p.entities bs) (sym (own_bindings p r.built))
+    sorted_both p.entities (bindings_of p) (view_bindings p)
     (sorted p.entities p.body (body_scope p) 0 same (record { more = []; is = sym (ap (λ (x : Program). x.entities) r.entities) ∙ sym (append-nil (last_scope p).entities) }))
+    (sorted_both p.entities (map led_binding (ways_of p)) (hidden_bindings (length p.entities) (standings 0 p.body)) (led_sorted p.entities (ways_of p)) (kept_sorted p.entities (length p.entities) (standings 0 p.body)))
 
 -- a ready program
 pub ready_plain : (p : Program) → IsReady p → AssignsPlain (known_of p) p.body

@@ -21,3 +21,4 @@ pub mod CommandsTyped
 pub mod KnownHere
 pub mod BlocksSound
 pub mod MemoriesFew
+pub mod OffsetsWhole

@@ -1,19 +1,28 @@
 -- The memories of a ready program and their banks have numbers of 32 bits: there are no more memories than names of a text,
 -- and no more banks than the limit.
-use Rattle.std.proofs.Common.{◌≡◌, ℕ, zero, suc, ◌+◌, ◌≤◌, ◌^◌, List, [], ◌∷◌, ◌++◌, length, map, None, refl, ap, arith, length-append}
+use Rattle.std.proofs.Common.{◌≡◌, ℕ, zero, suc, ◌+◌, ◌≤◌, ◌^◌, nat_lt, true, List, [], ◌∷◌, ◌++◌, length, map, Option, Some, None, refl, ap, sym, ◌∙◌, arith, length-append}
+use Rattle.std.specs.List.{AllByRecursion}
 use Rattle.std.specs.Prelude.{slice_get}
+use Rattle.std.proofs.lemmas.Bool.Decides.{nat_tests}
 use Rattle.dh_base.specs.declared.limits.Limit.TheVariants as limit
+use Rattle.dh_tree.specs.declared.trees.expressions.Ref.{Ref}
 use Rattle.dh_tree.specs.Elements.{banks_of, dims_at, entry_dims}
 use Rattle.dh_tree.specs.Excesses.{first_above, excess_at}
 use Rattle.dh_tree.specs.Memories.{Memory, entry_of, memories_of, outside_memory, locals, form_locals, other_locals, groups_locals, part_locals}
 use Rattle.dh_tree.specs.NameCounts.{declared_in, declared_in_form, declared_in_other, declared_in_actions, declared_in_groups, declared_in_functions}
 use Rattle.dh_tree.specs.PlainTrees.{Action, action, ActionForm, lets, lets_memory, views, assigns, stores, reduces, calls, blocks, decides, repeats, counts, MaybeAction, no_action, one_action, Actions, no_actions, action_then, Groups, no_groups, group_then, Program}
 use Rattle.dh_tree.specs.Ready.{IsReady, most_tokens}
+use Rattle.dh_meaning.specs.Bindings.{binding_in}
 use Rattle.dh_meaning.specs.CoreOf.{known_of}
+use Rattle.dh_meaning.specs.Ways.{Hidden, Way, all_bindings_of, hidden_binding, way_to}
+use Rattle.dh_ways.proofs.HiddenApart.{way_within}
+use Rattle.dh_meets.specs.Charges.{binding_depends, entity_depends, variable_depends}
+use Rattle.dh_sound.specs.ViewsBound.{IsBoundTo}
+use Rattle.dh_sound.proofs.ViewsBound.{views_bound}
 use Rattle.dh_runnable.specs.ActionsRun.{table_in}
 use Rattle.dh_runnable.proofs.TurnsCounted.{first_within, second_within, within_limit}
 use Rattle.dh_blocks.proofs.MemoriesUnbound.{memories_unbound}
-use Rattle.dh_typed_blocks.specs.PlainPrograms.{AreFew}
+use Rattle.dh_typed_blocks.specs.PlainPrograms.{AreFew, IsKeptFor}
 
 -- Memories are names.
 
@@ -71,6 +80,35 @@ banks_few (m ∷ ms) (suc i) e = banks_few ms i (second_within (excess_at limit.
 low_enough : (n : ℕ) → n ≤ 64 → n ≤ 2 ^ 32
 low_enough n h = omega (arith, h)
 
+-- Views.
+
+level_below : (level depth deepest : ℕ) → depth ≤ deepest → nat_lt level depth ≡ true → nat_lt level deepest ≡ true
+level_below level depth deepest l e = grind (arith, nat_tests, l, e)
+
+-- what keeps the offsets on the way of a name are variables, on whose loops it depends
+kept_named : (p : Program) → IsReady p → (name : Ref) (n : ℕ) (w : Way) → name.entity ≡ Some n → way_to p (Some n) ≡ Some w → AllByRecursion (IsKeptFor (known_of p) name) w.hidden
+kept_named p ready name n w e is = each w.hidden ((views_bound p ready).bound (Some n) w is) (way_within p (Some n) w is).deep
+  where
+    own : IsBoundTo p n w
+    own = (views_bound p ready).named n w is
+
+    depends : (level : ℕ) → entity_depends (all_bindings_of p) level name.entity ≡ nat_lt level w.deepest
+    depends level =
+        ap (λ (o : Option ℕ). entity_depends (all_bindings_of p) level o) e
+        ∙ (ap (binding_depends level) own.found
+        ∙ (ap (λ (o : Option ℕ). variable_depends own.binding.depth level o) own.plain
+        ∙ ap (λ (d : ℕ). variable_depends d level None) own.depth))
+
+    one : (h : Hidden) → binding_in (all_bindings_of p) h.entity ≡ Some (hidden_binding h) → h.depth ≤ w.deepest → IsKeptFor (known_of p) name h
+    one h found deep = record {
+      found = found;
+      less = λ level f. depends level ∙ level_below level h.depth w.deepest deep (sym (ap (binding_depends level) found) ∙ f);
+    }
+
+    each : (hs : List Hidden) → AllByRecursion (λ h. binding_in (all_bindings_of p) h.entity ≡ Some (hidden_binding h)) hs → AllByRecursion (λ h. h.depth ≤ w.deepest) hs → AllByRecursion (IsKeptFor (known_of p) name) hs
+    each [] f d = tt
+    each (h ∷ hs) f d = (one h f.0 d.0, each hs f.1 d.1)
+
 -- of a ready program
 pub ready_few : (p : Program) → IsReady p → AreFew (known_of p)
 ready_few p r = record {
@@ -78,6 +116,7 @@ ready_few p r = record {
       (mapped_long entry_of (memories_of p)) (length-append (map outside_memory p.decls) (locals p.body)) (mapped_long outside_memory p.decls) (locals_few p.body) r.of_text.names;
   banks = λ memory. low_enough (banks_of (dims_at (table_in (known_of p)) memory)) (banks_few (memories_of p) memory (first_within (first_above limit.Banks (λ (m : Memory). banks_of m.shape.dims) (memories_of p)) _ (second_within (first_above limit.Dimensions (λ (m : Memory). length m.shape.dims) (memories_of p)) _ r.limits)));
   unbound = memories_unbound p r;
+  kept = λ name n w e is. kept_named p r name n w e (ap (way_to p) (sym e) ∙ is);
 }
   where
     count : (n all outside decls inside body functions parameters : ℕ) → n ≡ all → all ≡ outside + inside → outside ≡ decls → inside ≤ body → (decls + functions) + (parameters + body) ≤ most_tokens → n ≤ 2 ^ 32

@@ -5,7 +5,8 @@ use Rattle.dh_tree.specs.Elements.{banks_of}
 use Rattle.dh_tree.specs.Excesses.{copies_excess, first_above}
 use Rattle.dh_tree.specs.Memories.{Memory, memories_of}
 use Rattle.dh_tree.specs.PlainTrees.{Program}
-use Rattle.dh_tree.specs.Ready.{IsReady}
+use Rattle.dh_tree.specs.Ready.{IsReady, most_tokens}
+use Rattle.dh_tree.proofs.ProgramTables.{program_table}
 use Rattle.dh_runnable.specs.ReadyRuns.{TellsEnough}
 use Rattle.dh_runnable.proofs.TurnsCounted.{first_within, second_within}
 
@@ -24,5 +25,7 @@ enough q r =
       kinds = r.kinds;
       suits = r.suits;
       indices = r.indices;
+      views = r.views;
+      table = program_table q most_tokens r.of_text r.names r.built r.indices r.limits r.placements;
       copies = first_within (copies_excess 1 q.body) _ ports;
     }

@@ -1,7 +1,7 @@
 -- What a reducer puts together in a block that joins copies is a variable that is declared inside all the unrolled loops
 -- round the copies, as it is numbered behind the iterator of their loop. By two walks over the body, beside those of
 -- dh_sound, which tell what each visible name stands for.
-use Rattle.std.proofs.Common.{◌≡◌, ℕ, ◌≤◌, ◌&&◌, not, nat_lt, Bool, true, false, if◌then◌else◌, List, [], ◌∷◌, ◌++◌, length, map, Option, Some, None, refl, ap, sym, ◌∙◌, subst, arith, length-append}
+use Rattle.std.proofs.Common.{◌≡◌, inl, inr, ℕ, ◌≤◌, ◌&&◌, not, nat_lt, Bool, true, false, if◌then◌else◌, List, [], ◌∷◌, ◌++◌, length, map, Option, Some, None, refl, ap, sym, ◌∙◌, subst, arith, length-append}
 use Rattle.std.proofs.lemmas.Bool.Decides.{nat_tests}
 use Rattle.std.specs.Prelude.{slice_get}
 use Rattle.dh_base.specs.declared.places.Place.{Place}
@@ -405,7 +405,8 @@ module _ (p : Program) (ready : IsReady p) (all : AllSorted p.entities (known_of
 begins_sorted : (q : Program) (facts : Facts) (n : ℕ) (f : Fact) → slice_get facts n ≡ Some f → IsGood (known_of q) (placing_of q) [] n f → IsSorted q facts 0 0 n
 begins_sorted q facts n (of_variable k) at g = variable_is k at (λ l. omega arith)
 begins_sorted q facts n (of_iterator k) at g = iterator_is k at (λ l. omega arith)
-begins_sorted q facts n (of_memory k dims) at g = memory_is k dims at (g.memory, g.is)
+begins_sorted q facts n (of_memory k dims) at (inl g) = memory_is k dims at (g.memory, g.is)
+begins_sorted q facts n (of_memory k dims) at (inr v) = view_is k dims at (v.way, v.is)
 begins_sorted q facts n (of_function ks) at g = function_is ks at
 
 body_sorted : (q : Program) → IsReady q → AreSorted q (body_facts q) 0 0 (body_scope q).visible

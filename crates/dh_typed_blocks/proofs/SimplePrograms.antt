@@ -5,15 +5,15 @@ use Rattle.dh_tree.specs.PlainTrees.{Program}
 use Rattle.dh_tree.specs.Ready.{IsReady}
 use Rattle.dh_tree.proofs.EmptyLists.{second_none}
 use Rattle.dh_sound.specs.BlocksOfPhases.{OfTest}
-use Rattle.dh_sound.specs.SimpleForms.{IsSimple}
-use Rattle.dh_sound.proofs.JoinsKept.{simple_kept}
+use Rattle.dh_sound.specs.SimpleForms.{FoldsInJoins}
+use Rattle.dh_sound.proofs.JoinsKept.{joins_kept}
 use Rattle.dh_sound.proofs.PlacementsSplit.{folds_none}
 use Rattle.dh_typed_blocks.specs.SimpleBlocks.{StraightSimple, BlocksAreSimple}
 use Rattle.dh_typed_blocks.proofs.BlocksHolding.{StraightHolds, TestHolds, block_holds}
 use Rattle.dh_typed_blocks.proofs.SimpleParts.{Simple, Joins, groups_simple, other_simple, joins_folds, is_fold, all_simple}
 
-pub body_simple : (p : Program) → IsReady p → IsSimple p.body
-body_simple p ready = simple_kept p.entities p.body (second_none (unbuilt_functions p.functions) _ ready.built) (folds_none p ready.placements)
+pub body_simple : (p : Program) → IsReady p → FoldsInJoins p.body
+body_simple p ready = joins_kept p.entities p.body (second_none (unbuilt_functions p.functions) _ ready.built) (folds_none p ready.placements)
 
 pub blocks_simple : (p : Program) → IsReady p → BlocksAreSimple p
 blocks_simple p ready loops block s =
@@ -25,5 +25,5 @@ blocks_simple p ready loops block s =
     (body_simple p ready) loops block s)
   where
     by : StraightHolds p Simple Joins loops block ⊎ TestHolds p Simple Joins loops block → StraightSimple p loops block ⊎ OfTest p loops block
-    by (inl h) = inl (record { of = h.of; simple = all_simple loops h.of.done h.holds })
+    by (inl h) = inl (record { of = h.of; joins = all_simple loops h.of.done h.holds })
     by (inr h) = inr h.of

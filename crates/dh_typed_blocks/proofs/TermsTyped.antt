@@ -1,7 +1,7 @@
 -- An expression of a typed program that breaks no rule on names, kinds or indices is typed as blocks ask: its operands suit
 -- their operators, and its indices are numbers, as many as the memory has dimensions. By recursion beside that of
 -- dh_runnable.
-use Rattle.std.proofs.Common.{◌≡◌, ℕ, ◌==◌, true, List, [], length, map, Option, Some, None, ap, sym, ◌∙◌, subst, arith}
+use Rattle.std.proofs.Common.{◌≡◌, inl, inr, ℕ, ◌==◌, true, List, [], length, map, Option, Some, None, ap, sym, ◌∙◌, subst, arith}
 use Rattle.std.proofs.lemmas.Bool.Decides.{nat_tests}
 use Rattle.std.specs.Prelude.{slice_get}
 use Rattle.dh_base.specs.declared.places.Place.{Place}
@@ -10,7 +10,6 @@ use Rattle.dh_value.specs.declared.kinds.Kind.TheVariants as kind
 use Rattle.dh_value.specs.declared.operators.Op.{Op}
 use Rattle.dh_value.specs.Words.{IsInteger, IsKind}
 use Rattle.dh_tree.specs.declared.breaches.Breach.{Breach}
-use Rattle.dh_tree.specs.declared.trees.counters.Counter.{Counter}
 use Rattle.dh_tree.specs.declared.trees.expressions.Ref.{Ref}
 use Rattle.dh_tree.specs.Breaches.{unknown, term_breaches}
 use Rattle.dh_tree.specs.Elements.{dims_at, entry_dims}
@@ -23,16 +22,19 @@ use Rattle.dh_tree.specs.Memories.{Memory, entry_of, memory_in, number_in}
 use Rattle.dh_tree.specs.PlainTrees.{Term, term, number, truth_value, named, accessed, in_bank, applied, converted, Terms, no_terms, term_then}
 use Rattle.dh_tree.specs.Resolved.{used, resolved_term, resolved_terms}
 use Rattle.dh_tree.specs.Scopes.{Binding}
+use Rattle.dh_tree.specs.ViewBreaches.{dims_through, physical_broken, term_view_breaches}
+use Rattle.dh_tree.specs.Views.{view_in}
 use Rattle.dh_tree.specs.Widths.{IsSized}
 use Rattle.dh_tree.proofs.EmptyLists.{first_none, second_none, not_none}
 use Rattle.dh_meaning.specs.Bindings.{kind_or_first}
-use Rattle.dh_meaning.specs.CoreOf.{Known, core_terms, memory_of, way_of}
-use Rattle.dh_meaning.specs.Ways.{Way, base_of}
+use Rattle.dh_meaning.specs.CoreOf.{Known, core_terms, dims_by, dims_named, memory_of, way_of}
+use Rattle.dh_meaning.specs.Ways.{Way, base_of, way_at}
 use Rattle.dh_runnable.specs.ActionsRun.{table_in}
 use Rattle.dh_runnable.proofs.ElementsFound.{number_found}
 use Rattle.dh_runnable.proofs.NamesKnown.{IsGood, Knows, name_known, fact_is}
-use Rattle.dh_runnable.proofs.TermsSuited.{access_there, indexed, is_index, memory_way, one_count, IsReady, AreReady, IsKnown, term_known, terms_known}
+use Rattle.dh_runnable.proofs.TermsSuited.{access_there, indexed, is_index, judged, memory_way, one_count, IsReady, AreReady, IsKnown, term_known, terms_known}
 use Rattle.dh_runnable.proofs.TypedParts.{for_numbers_sized, typed_parts}
+use Rattle.dh_runnable.proofs.ViewsKnown.{AreGoodWays, Rules}
 use Rattle.dh_code.specs.Slots.{Placing}
 use Rattle.dh_expressions.specs.Shown.{kind_written}
 use Rattle.dh_typed_blocks.specs.TypedTerms.{AreOperands, IsTyped, AreTyped}
@@ -64,43 +66,48 @@ operands_written o left right j k whole e f is sj sk none =
 
 module _ (known : Known) (p : Placing) (loops : List ℕ) where
   -- an index that breaks no rule is a number
-  index_integer : (t : Term) → IsKnown known p loops t → index_breaches (found t) (place_of t) ≡ [] → IsInteger (kind_written t)
+  pub index_integer : (t : Term) → IsKnown known p loops t → index_breaches (found t) (place_of t) ≡ [] → IsInteger (kind_written t)
   index_integer t k h = subst IsInteger (sym (written_is t k.kind k.is)) (integer_of k.kind (k.operand 0).sized (is_index (found t) k.kind (place_of t) k.is h))
 
   -- as many indices as dimensions
   indices_counted : (n : ℕ) (r : Ref) (o : Option Fact) (f : Fact) (place : Place) (ts : Terms) → r.entity ≡ Some n → o ≡ Some f → IsGood known p loops n f → access_breaches o place ts ≡ [] → all_found ts ≡ true
-      → count_of ts ≡ length (dims_at (table_in known) (memory_of known r))
+      → count_of ts ≡ length (dims_named known (table_in known) r)
   indices_counted n r o f place ts entity at g e a = cases f g (ap (λ x. access_breaches x place ts) (sym at) ∙ e)
     where
-      cases : (f : Fact) → IsGood known p loops n f → access_breaches (Some f) place ts ≡ [] → count_of ts ≡ length (dims_at (table_in known) (memory_of known r))
+      cases : (f : Fact) → IsGood known p loops n f → access_breaches (Some f) place ts ≡ [] → count_of ts ≡ length (dims_named known (table_in known) r)
       cases (of_variable k) g e = not_none _ _ e
       cases (of_iterator k) g e = not_none _ _ e
       cases (of_function parameters) g e = not_none _ _ e
-      cases (of_memory k dims) g e =
+      cases (of_memory k dims) (inr v) e =
           same_count (count_of ts) dims (one_count (all_found ts) (count_of ts == dims) place a e)
-          ∙ (g.long ∙ ap length (sym (dims_found known r g.memory (ap (memory_in known.memories) entity ∙ g.is))))
+          ∙ (v.long ∙ sym (ap (λ (w : Option Way). length (dims_by (dims_at (table_in known) (memory_of known r)) w)) (ap (way_at known.memories known.ways) entity ∙ v.is)))
+      cases (of_memory k dims) (inl g) e =
+          same_count (count_of ts) dims (one_count (all_found ts) (count_of ts == dims) place a e)
+          ∙ (g.long ∙ (ap length (sym (dims_found known r g.memory (ap (memory_in known.memories) entity ∙ g.is)))
+          ∙ sym (ap (λ (w : Option Way). length (dims_by (dims_at (table_in known) (memory_of known r)) w)) (memory_way known r g.memory (ap (memory_in known.memories) entity ∙ g.is)))))
 
-  module _ (counters : List Counter) where
+  module _ (rules : Rules) (good : AreGoodWays known rules.views) where
     mutual
-      pub term_typed : (facts : Facts) (bs : List Binding) → Knows known p loops facts bs → (want : Option Kind) → IsSized want → (t : Term) → typed_term facts want t ≡ t → IsReady known counters facts bs t → IsTyped known (table_in known) t
+      pub term_typed : (facts : Facts) (bs : List Binding) → Knows known p loops facts bs → (want : Option Kind) → IsSized want → (t : Term) → typed_term facts want t ≡ t → IsReady known rules facts bs t → IsTyped known (table_in known) t
       term_typed facts bs k want s (term place m (number negative n)) e h = tt
       term_typed facts bs k want s (term place m (truth_value value)) e h = tt
       term_typed facts bs k want s (term place m (named r)) e h = tt
       term_typed facts bs k want s (term place m (accessed r indices)) e h =
-          let whole = term_known known p loops counters facts bs k want s (term place m (accessed r indices)) e h in
+          let whole = term_known known p loops rules good facts bs k want s (term place m (accessed r indices)) e h in
           let parts = typed_parts facts want place m (accessed r indices) e in
           let typed : typed_terms facts indices ≡ indices = let eq = parts.0 in cc in
           let same : used bs r ≡ r = let eq = h.named in cc in
           let named : resolved_terms bs indices ≡ indices = let eq = h.named in cc in
           let name = name_known known p loops facts bs r k same (first_none (unknown bs r) _ h.visible) in
-          let ready : AreReady known counters facts bs indices = record {
+          let ready : AreReady known rules facts bs indices = record {
             named = named;
             visible = second_none (unknown bs r) _ h.visible;
             kinds = second_none (access_breaches (fact_of facts r) place indices) _ h.kinds;
-            indices = second_none (places.access_breaches counters (kept_dims (memory_in known.memories r.entity)) indices) _ h.indices;
+            indices = second_none (places.access_breaches rules.counters (kept_dims (memory_in known.memories r.entity)) indices) _ h.indices;
+            views = second_none (places.access_breaches rules.counters (dims_through (view_in rules.kept r.entity)) indices) _ h.views;
             sized = h.sized;
           } in
-          let inner = terms_known known p loops counters facts bs k indices typed ready in (
+          let inner = terms_known known p loops rules good facts bs k indices typed ready in (
             terms_typed facts bs k indices typed ready,
             record {
               there = access_there (table_in known) (memory_of known r) (way_of known r) (core_terms known 0 indices) (whole.operand 0).suits;
@@ -109,20 +116,21 @@ module _ (known : Known) (p : Placing) (loops : List ℕ) where
             },
           )
       term_typed facts bs k want s (term place m (in_bank r bank bank_place row)) e h =
-          let whole = term_known known p loops counters facts bs k want s (term place m (in_bank r bank bank_place row)) e h in
+          let whole = term_known known p loops rules good facts bs k want s (term place m (in_bank r bank bank_place row)) e h in
           let parts = typed_parts facts want place m (in_bank r bank bank_place row) e in
           let typed : typed_term facts None row ≡ row = let eq = parts.0 in cc in
           let named : resolved_term bs row ≡ row = let eq = h.named in cc in
           let below = second_none (bank_breaches (fact_of facts r) place) _ h.kinds in
           let physical : List Breach = physical_breaches (kept_dims (memory_in known.memories r.entity)) bank bank_place row in
-          let ready : IsReady known counters facts bs row = record {
+          let ready : IsReady known rules facts bs row = record {
             named = named;
             visible = second_none (unknown bs r) _ h.visible;
             kinds = second_none (index_breaches (found row) (place_of row)) _ below;
             indices = second_none physical _ h.indices;
+            views = second_none (physical_broken (view_in rules.views r.entity) r) _ h.views;
             sized = h.sized;
           } in
-          let inner = term_known known p loops counters facts bs k None tt row typed ready in (
+          let inner = term_known known p loops rules good facts bs k None tt row typed ready in (
             (term_typed facts bs k None tt row typed ready, index_integer row inner (first_none (index_breaches (found row) (place_of row)) _ below)),
             (whole.operand 0).suits.0,
           )
@@ -134,23 +142,25 @@ module _ (known : Known) (p : Placing) (loops : List ℕ) where
           let right_named : resolved_term bs right ≡ right = let eq = h.named in cc in
           let breaches : List Breach = applied_breaches o (place_of left) (place_of right) (found left) (found right) in
           let below = second_none breaches _ h.kinds in
-          let left_ready : IsReady known counters facts bs left = record {
+          let left_ready : IsReady known rules facts bs left = record {
             named = left_named;
             visible = first_none (term_breaches bs left) _ h.visible;
             kinds = first_none (term_kind_breaches facts left) _ below;
-            indices = first_none (term_index_breaches (indexed known counters) left) _ h.indices;
+            indices = first_none (term_index_breaches (indexed known rules) left) _ h.indices;
+            views = first_none (term_view_breaches (judged known rules) left) _ h.views;
             sized = h.sized.0;
           } in
-          let right_ready : IsReady known counters facts bs right = record {
+          let right_ready : IsReady known rules facts bs right = record {
             named = right_named;
             visible = second_none (term_breaches bs left) _ h.visible;
             kinds = second_none (term_kind_breaches facts left) _ below;
-            indices = second_none (term_index_breaches (indexed known counters) left) _ h.indices;
+            indices = second_none (term_index_breaches (indexed known rules) left) _ h.indices;
+            views = second_none (term_view_breaches (judged known rules) left) _ h.views;
             sized = h.sized.1;
           } in
           let both = operands_right known p loops (IsTyped known (table_in known)) facts o want left right (is_bare left) (is_bare right) s
-          (λ w z f. (term_known known p loops counters facts bs k w z left f left_ready, term_typed facts bs k w z left f left_ready))
-          (λ w z f. (term_known known p loops counters facts bs k w z right f right_ready, term_typed facts bs k w z right f right_ready))
+          (λ w z f. (term_known known p loops rules good facts bs k w z left f left_ready, term_typed facts bs k w z left f left_ready))
+          (λ w z f. (term_known known p loops rules good facts bs k w z right f right_ready, term_typed facts bs k w z right f right_ready))
           left_typed right_typed in
           let l : IsKnown known p loops left = both.0.0 in
           let r : IsKnown known p loops right = both.1.0 in
@@ -167,10 +177,11 @@ module _ (known : Known) (p : Placing) (loops : List ℕ) where
             visible = h.visible;
             kinds = second_none (cast_breaches place (found inner) to) _ h.kinds;
             indices = h.indices;
+            views = h.views;
             sized = h.sized.1;
           })
 
-      pub terms_typed : (facts : Facts) (bs : List Binding) → Knows known p loops facts bs → (ts : Terms) → typed_terms facts ts ≡ ts → AreReady known counters facts bs ts → AreTyped known (table_in known) ts
+      pub terms_typed : (facts : Facts) (bs : List Binding) → Knows known p loops facts bs → (ts : Terms) → typed_terms facts ts ≡ ts → AreReady known rules facts bs ts → AreTyped known (table_in known) ts
       terms_typed facts bs k no_terms e h = tt
       terms_typed facts bs k (term_then t rest) e h =
           let first_typed : typed_term facts None t ≡ t = cc in
@@ -178,22 +189,24 @@ module _ (known : Known) (p : Placing) (loops : List ℕ) where
           let first_named : resolved_term bs t ≡ t = let eq = h.named in cc in
           let rest_named : resolved_terms bs rest ≡ rest = let eq = h.named in cc in
           let below = second_none (index_breaches (found t) (place_of t)) _ h.kinds in
-          let ready : IsReady known counters facts bs t = record {
+          let ready : IsReady known rules facts bs t = record {
             named = first_named;
             visible = first_none (term_breaches bs t) _ h.visible;
             kinds = first_none (term_kind_breaches facts t) _ below;
-            indices = first_none (term_index_breaches (indexed known counters) t) _ h.indices;
+            indices = first_none (term_index_breaches (indexed known rules) t) _ h.indices;
+            views = first_none (term_view_breaches (judged known rules) t) _ h.views;
             sized = h.sized.0;
           } in (
             (
               term_typed facts bs k None tt t first_typed ready,
-              index_integer t (term_known known p loops counters facts bs k None tt t first_typed ready) (first_none (index_breaches (found t) (place_of t)) _ h.kinds),
+              index_integer t (term_known known p loops rules good facts bs k None tt t first_typed ready) (first_none (index_breaches (found t) (place_of t)) _ h.kinds),
             ),
             terms_typed facts bs k rest rest_typed (record {
               named = rest_named;
               visible = second_none (term_breaches bs t) _ h.visible;
               kinds = second_none (term_kind_breaches facts t) _ below;
-              indices = second_none (term_index_breaches (indexed known counters) t) _ h.indices;
+              indices = second_none (term_index_breaches (indexed known rules) t) _ h.indices;
+              views = second_none (term_view_breaches (judged known rules) t) _ h.views;
               sized = h.sized.1;
             }),
           )

@@ -1,21 +1,30 @@
 -- What holds of a program beside the rules on names, kinds and shapes so that its blocks are sound: its memories are few, no
 -- command assigns to an iterator, and its reducers are those of a text.
-use Rattle.std.specs.Prelude.{◌≡◌, ℕ, ◌≤◌, ◌^◌, length, Some, None}
+use Rattle.std.specs.Prelude.{◌≡◌, ℕ, ◌≤◌, ◌^◌, true, length, Some, None}
+use Rattle.std.specs.List.{AllByRecursion}
 use Rattle.dh_tree.specs.declared.trees.expressions.Ref.{Ref}
 use Rattle.dh_tree.specs.Elements.{banks_of, dims_at}
 use Rattle.dh_tree.specs.Memories.{Memory, memory_in}
 use Rattle.dh_tree.specs.PlainTrees.{Term, term, number, truth_value, named, accessed, in_bank, applied, converted, Action, action, ActionForm, lets, lets_memory, views, assigns, stores, reduces, calls, blocks, decides, repeats, counts, MaybeAction, no_action, one_action, Actions, no_actions, action_then, Groups, no_groups, group_then}
 use Rattle.dh_meaning.specs.Bindings.{binding_in}
-use Rattle.dh_meaning.specs.CoreOf.{Known, depth_of, entity_number}
+use Rattle.dh_meaning.specs.CoreOf.{Known, depth_of, entity_number, way_of}
+use Rattle.dh_meaning.specs.Ways.{Hidden, Way, hidden_binding}
+use Rattle.dh_meets.specs.Charges.{entity_depends}
 use Rattle.dh_runnable.specs.ActionsRun.{table_in}
 use Rattle.dh_sound.specs.SameKeys.{IsNoIterator}
 use Rattle.dh_tree.specs.TextNumbers.{Reduces}
 
--- memories and their banks have numbers of 32 bits, and no memory is a variable
+-- what keeps an offset on the way of a name is a variable, on whose loops the name depends
+pub record IsKeptFor (known : Known) (r : Ref) (h : Hidden) : Type 0 where
+  pub found : binding_in known.bindings h.entity ≡ Some (hidden_binding h)
+  pub less : (level : ℕ) → entity_depends known.bindings level (Some h.entity) ≡ true → entity_depends known.bindings level r.entity ≡ true
+
+-- memories and their banks have numbers of 32 bits, no memory is a variable, and what keeps offsets are variables
 pub record AreFew (known : Known) : Type 0 where
   pub memories : length (table_in known) ≤ 2 ^ 32
   pub banks : (memory : ℕ) → banks_of (dims_at (table_in known) memory) ≤ 2 ^ 32
   pub unbound : (n : ℕ) (m : Memory) → memory_in known.memories (Some n) ≡ Some m → binding_in known.bindings n ≡ None
+  pub kept : (r : Ref) (n : ℕ) (w : Way) → r.entity ≡ Some n → way_of known r ≡ Some w → AllByRecursion (IsKeptFor known r) w.hidden
 
 -- A command assigns to no iterator, and a reducer is one of those that a text has.
 module _ (known : Known) where

@@ -7,21 +7,25 @@ use Rattle.dh_tree.specs.declared.trees.counters.Counter.{Counter}
 use Rattle.dh_tree.specs.Seen.{program_seen}
 use Rattle.dh_meaning.specs.Bindings.{binding_in, kind_bound}
 use Rattle.dh_meaning.specs.Phases.{turn_count}
+use Rattle.dh_meaning.specs.Ways.{ways_of}
 use Rattle.dh_plan.specs.Blocks.{kind_at}
 use Rattle.dh_plan.specs.Correspondence.{Round}
 use Rattle.dh_sound.specs.Blocks.{factors}
 use Rattle.dh_sound.specs.SameKeys.{IsNoIterator}
+use Rattle.dh_ways.specs.Seen.{led_seen}
 use Rattle.dh_code.specs.Declarations.{placing_of}
 use Rattle.dh_code.specs.Slots.{held_at}
 use Rattle.dh_expressions.specs.declared.scenes.Scene.{Scene}
 use Rattle.dh_expressions.specs.Evaluated.{counter_of, known_in}
 
--- the scene holds each variable with its kind and its depth, and counters of iterators alone
+-- the scene holds each variable with its kind and its depth, those that keep offsets among them, counters of iterators
+-- alone, and the ways of the program's views
 pub record TellsScene (scene : Scene) : Type 0 where
   pub long : length scene.held.now ≡ length (placing_of (program_seen scene.program.now)).held
   pub depth : (entity : ℕ) → (held_at scene.held.now entity).depth ≡ (held_at (placing_of (program_seen scene.program.now)).held entity).depth
   pub kind : (entity : ℕ) → (held_at scene.held.now entity).kind ≡ kind_bound (binding_in (known_in scene).bindings entity)
   pub plain : (entity : ℕ) → IsNoIterator (binding_in (known_in scene).bindings entity) → counter_of scene entity ≡ None
+  pub ways : map led_seen scene.ways.now ≡ ways_of (program_seen scene.program.now)
 
 -- a loop round a block, the last of so many
 pub record IsRoundTold (scene : Scene) (kinds : List Kind) (rounds : List Round) (index : ℕ) (round : Round) : Type 0 where

@@ -1,19 +1,20 @@
 -- Commands that are sound and typed suit what was put down for them, where the sites of the block tell where their
 -- accesses stand: by recursion on the command and on what was put down.
-use Rattle.std.proofs.Common.{◌≡◌, ℕ, ◌+◌, ◌<◌, ◌^◌, Bool as Truth, true, false, List, ◌++◌, length, Option, Some, None, ap, sym, ◌∙◌, subst, arith}
+use Rattle.std.proofs.Common.{◌≡◌, ℕ, ◌+◌, ◌<◌, ◌^◌, Bool as Truth, true, false, suc, List, [], ◌∷◌, ◌++◌, length, Option, Some, None, ap, sym, ◌∙◌, subst, arith}
 use Rattle.dh_value.specs.declared.kinds.Kind.{Kind}
 use Rattle.dh_value.specs.Words.{IsKind}
 use Rattle.dh_tree.specs.declared.tables.MemEntry.{MemEntry}
 use Rattle.dh_tree.specs.declared.trees.expressions.Ref.{Ref}
-use Rattle.dh_tree.specs.Elements.{dims_at}
 use Rattle.dh_tree.specs.Indices.{form_of}
 use Rattle.dh_tree.specs.Memories.{table_of}
-use Rattle.dh_tree.specs.PlainTrees.{Term, term, number, truth_value, named, accessed, in_bank, applied, converted, Action, action, lets, lets_memory, views, assigns, stores, reduces, calls, blocks, decides, repeats, counts, MaybeAction, no_action, one_action, Actions, no_actions, action_then, Groups, no_groups, group_then}
-use Rattle.dh_tree.specs.Seen.{program_seen}
+use Rattle.dh_tree.specs.PlainTrees.{Term, term, number, truth_value, named, accessed, in_bank, applied, converted, Action, action, lets, lets_memory, views, assigns, stores, reduces, calls, blocks, decides, repeats, counts, MaybeAction, no_action, one_action, Actions, no_actions, action_then, Groups, no_groups, group_then, ViewPlan}
+use Rattle.dh_tree.specs.Seen.{program_seen, terms}
+use Rattle.dh_tree.specs.ViewOffsets.{offsets_of}
 use Rattle.dh_meaning.specs.AccessNumbers.{accesses_of, groups_accesses, other_accesses, part_accesses, term_accesses, terms_accesses}
-use Rattle.dh_meaning.specs.CoreOf.{Known, entity_number, kind_of, memory_of}
+use Rattle.dh_meaning.specs.CoreOf.{Known, entity_number, kind_of, memory_of, way_of}
 use Rattle.dh_meaning.specs.Effects.{kind_in}
 use Rattle.dh_meaning.specs.Paths.{copies_in}
+use Rattle.dh_meaning.specs.Ways.{Hidden, hidden_in}
 use Rattle.dh_plan.specs.Correspondence.{Round}
 use Rattle.dh_code.specs.Slots.{held_at}
 use Rattle.dh_code.proofs.ValuesOfTerms.{sized_at}
@@ -22,7 +23,7 @@ use Rattle.dh_expressions.specs.declared.scenes.Around.{Around}
 use Rattle.dh_expressions.specs.declared.scenes.Scene.{Scene}
 use Rattle.dh_expressions.specs.Evaluated.{known_in}
 use Rattle.dh_expressions.specs.Shown.{kind_written}
-use Rattle.dh_formed.specs.Formed.{Block, Site, TermSuits}
+use Rattle.dh_formed.specs.Formed.{AreNumbers, Block, Site, TermSuits, TermsSuit}
 use Rattle.dh_commands.specs.declared.buildings.Building.{Building}
 use Rattle.dh_commands.specs.declared.choices.Left.{Left}
 use Rattle.dh_commands.specs.LanesRun.{lane_of, paths_counted}
@@ -30,22 +31,22 @@ use Rattle.dh_commands.specs.MadeCommands.{MadeActions, MadeCommand, MadeGroups,
 use Rattle.dh_commands.specs.ShownVariables.{IsSeen, factors_of}
 use Rattle.dh_blocks.specs.NamedVariables.{IsNamedHere}
 use Rattle.dh_blocks.specs.PathsOfLevels.{AreSpread}
-use Rattle.dh_blocks.specs.SoundCommands.{CanHold, SoundAction, SoundGroups, SoundOther, SoundPart, kind_aimed}
+use Rattle.dh_blocks.specs.SoundCommands.{CanHold, CanKeep, CanKeepFrom, SoundAction, SoundGroups, SoundOther, SoundPart, kind_aimed}
 use Rattle.dh_blocks.specs.SoundTerms.{IsSound, IsSoundTarget}
-use Rattle.dh_laid.specs.BlockSites.{HasPlaces, HasSites, actions_sites, all_there, command_sites, groups_sites, other_sites, target_sites, term_sites, terms_sites, write_site}
-use Rattle.dh_laid.specs.Laid.{AimingSuits, StoringSuits}
-use Rattle.dh_laid.specs.LaidCommands.{ActionsSuit, CommandSuits, GroupsSuit, OtherSuits, StoreSuits}
+use Rattle.dh_laid.specs.BlockSites.{HasPlaces, HasSites, actions_sites, all_there, command_sites, groups_sites, other_sites, target_sites, term_sites, terms_sites, view_sites, write_site}
+use Rattle.dh_laid.specs.Laid.{AimingSuits, KeptFits, StoringSuits}
+use Rattle.dh_laid.specs.LaidCommands.{ActionsSuit, CommandSuits, GroupsSuit, KeepingSuits, OtherSuits, StoreSuits}
 use Rattle.dh_laid.specs.LaidNumbers.{IsAccessForm, StoresReach, StoresReachGroups, StoresReachOther, StoresReachPart}
 use Rattle.dh_laid.proofs.CommandsNumbered.{actions_reached, command_reached, tests_number}
 use Rattle.dh_laid.proofs.SitesLaid.{actions_sites_long, command_sites_long, sites_behind, sites_front, sites_last, term_sites_long, terms_sites_long, test_places_long}
 use Rattle.dh_laid.proofs.ValuesLogged.{arm_long, tests_same}
-use Rattle.dh_typed_blocks.specs.TypedTerms.{ActionTyped, GroupsTyped, IsTyped, OtherTyped, PartTyped}
+use Rattle.dh_typed_blocks.specs.TypedTerms.{ActionTyped, AreTyped, GroupsTyped, KeepsSized, KeptSized, IsTyped, OtherTyped, PartTyped}
 use Rattle.dh_typed_laid.specs.SuitingBlocks.{StandsSo}
-use Rattle.dh_typed_laid.proofs.MemoriesSuit.{bank_below, dims_there}
 use Rattle.dh_typed_laid.proofs.NamesSuit.{fits_register, register_there}
 use Rattle.dh_typed_laid.proofs.PlacesOfSites.{places_behind, places_front, places_there}
 use Rattle.dh_typed_laid.proofs.ReducersSuit.{held_suits, reducer_suits}
-use Rattle.dh_typed_laid.proofs.TermsSuit.{access_suits, many_indices, numbers, term_suits, terms_suit}
+use Rattle.dh_typed_laid.proofs.TermsSuit.{access_suits, banks_named, banks_of_row, many_indices, numbers, term_suits, terms_suit}
+use Rattle.dh_typed_laid.proofs.WaysSuit.{way_suits}
 
 -- What is sound stores into accesses.
 
@@ -114,6 +115,9 @@ module _ (x : Block) (scene : Scene) (count : ℕ) (rounds : List Round) (touche
     counted = long ∙ (h.counted ∙ ap (λ (ls : List Level). copies_in (factors_of ls)) (sym levels));
     some = subst (λ (n : ℕ). 0 < n) (sym long) h.some;
     kinds = h.kinds;
+    plain = h.plain;
+    views = h.views;
+    ways = h.ways;
     shares = h.shares;
   }
 
@@ -134,11 +138,11 @@ module _ (x : Block) (scene : Scene) (count : ℕ) (rounds : List Round) (touche
         let memory : ℕ = memory_of (known_in scene) r in
         let at = sites_last x.sites first (first + terms_accesses ts) (terms_sites scene around ts) (write_site scene around (memory_of (known_in scene) r) place (accessed r ts)) (behind first (length (terms_sites scene around ts)) (terms_accesses ts) (terms_sites_long scene around ts)) h in (
           (
-            (terms_suit x scene count around rounds touched stands ts first s.0 y.0 (sites_front x.sites first (terms_sites scene around ts) _ h) n l, numbers known table ts y.0),
-            many_indices x scene count around rounds touched stands memory ts y.1.many,
+            (terms_suit x scene count around rounds touched stands ts first s.0.0 y.0 (sites_front x.sites first (terms_sites scene around ts) _ h) n l, numbers known table ts y.0),
+            (many_indices x scene count around rounds touched stands r ts y.1.many, way_suits x scene count around rounds touched stands r s.0.1 n l),
           ),
           record {
-            access = access_suits x scene count around rounds touched stands n memory (first + terms_accesses ts) place (accessed r ts) true at s.1 y.1.there (bank_below (dims_at table memory) _ (dims_there table memory stands.table.entries));
+            access = access_suits x scene count around rounds touched stands n memory (first + terms_accesses ts) place (accessed r ts) true at s.1 y.1.there (banks_named x scene count around rounds touched stands r ts place true n);
             holds = held_suits t (kind_in table memory) (sized_at table memory stands.table.entries y.1.there) c;
             same = same_kind_in memory;
           },
@@ -148,7 +152,7 @@ module _ (x : Block) (scene : Scene) (count : ℕ) (rounds : List Round) (touche
         let at = sites_last x.sites first (first + term_accesses row) (term_sites scene around row) (write_site scene around (memory_of (known_in scene) r) place (in_bank r bank bank_place row)) (behind first (length (term_sites scene around row)) (term_accesses row) (term_sites_long scene around row)) h in (
           (term_suits x scene count around rounds touched stands row first s.0 y.0.0 (sites_front x.sites first (term_sites scene around row) _ h) n l, y.0.1),
           record {
-            access = access_suits x scene count around rounds touched stands n memory (first + term_accesses row) place (in_bank r bank bank_place row) true at s.1.0 y.1.0 y.1.1;
+            access = access_suits x scene count around rounds touched stands n memory (first + term_accesses row) place (in_bank r bank bank_place row) true at s.1.0 y.1.0 (banks_of_row x scene count around rounds touched stands r bank bank_place row place true n y.1.1);
             holds = held_suits t (kind_in table memory) (sized_at table memory stands.table.entries y.1.0) c;
             same = same_kind_in memory;
           },
@@ -170,6 +174,25 @@ module _ (x : Block) (scene : Scene) (count : ℕ) (rounds : List Round) (touche
     -- a value that is assigned
     value_suits : (t : Term) (first : ℕ) → IsSound known table Name t → IsTyped known table t → HasPlaces x.sites first (all_there (term_sites scene around t)) → (n : ℕ) → n < paths_counted around → TermSuits x scene (lane_of around n) first t
     value_suits t first s y h n l = term_suits x scene count around rounds touched stands t first s y (places_there x.sites first (term_sites scene around t) h) n l
+
+    -- offsets of a view, and the variables that keep them
+    kept_fits : (depth first : ℕ) (os : List Term) → CanKeepFrom scene around.levels.now table Name depth first os → KeptSized known first os → (n : ℕ) → n < paths_counted around → KeptFits x scene (lane_of around n) first os
+    kept_fits depth first [] s y n l = tt
+    kept_fits depth first (o ∷ os) s y n l = (
+      (held_suits o (held_at scene.held.now first).kind (subst IsKind (sym (stands.kinds first)) y.0) s.0.1.1, fits_register x scene count around stands first n s.0.0.seen l),
+      kept_fits depth (suc first) os s.1 y.1 n l,
+    )
+
+    offsets_suit : (v : Hidden) (hs : List Hidden) (os : List Term) (first : ℕ) → CanKeep scene around.levels.now table Name (v ∷ hs) os → AreTyped known table (terms os) × KeepsSized known (v ∷ hs) os → HasSites x.sites first (terms_sites scene around (terms os))
+        → (n : ℕ) → n < paths_counted around → (TermsSuit x scene (lane_of around n) first (terms os) × AreNumbers (terms os)) × KeptFits x scene (lane_of around n) v.entity os
+    offsets_suit v hs [] first s y h n l = ((tt, tt), tt)
+    offsets_suit v hs (o ∷ os) first s y h n l =
+        ((terms_suit x scene count around rounds touched stands (terms (o ∷ os)) first s.0 y.0 h n l, numbers known table (terms (o ∷ os)) y.0), kept_fits v.depth v.entity (o ∷ os) s.1 y.1 n l)
+
+    view_suits : (hs : List Hidden) (form : ViewPlan) (first : ℕ) → CanKeep scene around.levels.now table Name hs (offsets_of form) → AreTyped known table (terms (offsets_of form)) × KeepsSized known hs (offsets_of form)
+        → HasPlaces x.sites first (view_sites scene around hs form) → KeepingSuits x scene around first hs (offsets_of form)
+    view_suits [] form first s y h = tt
+    view_suits (v ∷ hs) form first s y h = λ n l. offsets_suit v hs (offsets_of form) first s y (places_there x.sites first (terms_sites scene around (terms (offsets_of form))) h) n l
 
     sized_here : (r : Ref) → IsKind (kind_of known r) → IsKind (held_at scene.held.now (entity_number r.entity)).kind
     sized_here r h = subst IsKind (sym (stands.kinds (entity_number r.entity))) h
@@ -219,7 +242,7 @@ module _ (x : Block) (scene : Scene) (count : ℕ) (rounds : List Round) (touche
         )
     command_suits (action id place (blocks body)) around old new first next m Folds seen stands s y few h = groups_suit body around old new first next m Folds seen stands s y (omega (arith, few)) h
     command_suits (action id place (lets_memory name shape shape_places value)) around old new first next m Folds seen stands s y few h = tt
-    command_suits (action id place (views name parent form)) around old new first next m Folds seen stands s y few h = tt
+    command_suits (action id place (views name parent form)) around old new first next m Folds seen stands s y few h = view_suits around stands (hidden_in (way_of known name)) form first s y h
     command_suits (action id place (calls function arguments)) around old new first next m Folds seen stands s y few h = tt
     command_suits (action id place (repeats test body)) around old new first next m Folds seen stands s y few h = tt
     command_suits (action id place (counts iterator declared low high factor body combine combine_place)) around old new first next m Folds seen stands s y few h = tt

@@ -2,6 +2,8 @@ pub mod PlacesOfSites
 pub mod NamesSuit
 pub mod MemoriesSuit
 pub mod ReducersSuit
+pub mod BanksListed
+pub mod WaysSuit
 pub mod TermsSuit
 pub mod CommandsSuit
 pub mod EachFormed

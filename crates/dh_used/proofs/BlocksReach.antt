@@ -8,23 +8,24 @@ use Rattle.dh_tree.specs.Memories.{memories_of, number_in}
 use Rattle.dh_tree.specs.PlainTrees.{Program, Term}
 use Rattle.dh_tree.specs.Seen.{program_seen}
 use Rattle.dh_meaning.specs.AccessNumbers.{term_accesses}
-use Rattle.dh_meaning.specs.CoreOf.{entity_number, form_of, test_of}
+use Rattle.dh_meaning.specs.CoreOf.{Known, entity_number, form_of, memory_of, test_of}
 use Rattle.dh_meaning.specs.OnePhase.{any_makes, test_makes}
 use Rattle.dh_meaning.specs.Phases.{Located, idle_phases_of, phases_of}
+use Rattle.dh_meaning.specs.Ways.{base_of, way_to}
 use Rattle.dh_meets.specs.SourceEvents.{accesses_in, trace}
 use Rattle.dh_plan.specs.declared.operations.Operation.{Operation}
 use Rattle.dh_plan.specs.declared.operations.Reach.{Reach}
 use Rattle.dh_plan.specs.PlainPlans.{PlainPlan, operations_in}
 use Rattle.dh_plan.specs.SoundPlans.{access_in}
 use Rattle.dh_sound.specs.PhaseFacts.{HasStraight, HasTest, StandsAmong}
-use Rattle.dh_sound.specs.Straight.{IsNamedAction}
-use Rattle.dh_code.proofs.CommandsFlattened.{own_base}
+use Rattle.dh_sound.specs.Straight.{IsKeptAction}
 use Rattle.dh_sound.proofs.SamePhase.{straight_has_both, test_has_both}
 use Rattle.dh_sound.proofs.Slices.{straight_either, straight_stands, test_either, test_stands}
 use Rattle.dh_lengths.specs.SharedReads.{TellsShares}
 use Rattle.dh_expressions.specs.declared.drafts.Draft.{Draft}
 use Rattle.dh_expressions.specs.declared.scenes.Around.{Around}
 use Rattle.dh_expressions.specs.declared.scenes.Scene.{Scene}
+use Rattle.dh_expressions.specs.Evaluated.{known_in}
 use Rattle.dh_expressions.specs.Numbers.{narrowed}
 use Rattle.dh_expressions.proofs.ListPlaces.{there}
 use Rattle.dh_formed.specs.Formed.{Site}
@@ -32,6 +33,7 @@ use Rattle.dh_formed.proofs.ElementsFormed.{all_append}
 use Rattle.dh_commands.specs.declared.buildings.Building.{Building}
 use Rattle.dh_commands.specs.LanesRun.{paths_counted}
 use Rattle.dh_commands.specs.MadeCommands.{MadeTests}
+use Rattle.dh_blocks.specs.BlockTraced.{TellsWays}
 use Rattle.dh_laid.specs.BlockSites.{MadeEach, block_sites, test_sites}
 use Rattle.dh_laid.specs.LaidNumbers.{StoresReach}
 use Rattle.dh_laid.specs.LaidUses.{AddsLedUses, AreAlong, AreSitesReaches, HaveNoOperations, IsSitesReach}
@@ -44,7 +46,7 @@ use Rattle.dh_used.proofs.BlocksByKeys.{each_of, paths_lead, some_paths}
 use Rattle.dh_used.proofs.SharesOfProgram.{any_below, shares_inside, test_below, writes_alone}
 use Rattle.dh_used.proofs.SitesOfSource.{blocks_are_sited, tests_are_sited}
 
-module _ (scene : Scene) (around : Around) (makes : ℕ → Truth) (sites : ℕ → Option Site) (sited : AreSited scene around makes sites) (below : (k : ℕ) → makes k ≡ true → k < length (accesses_in (trace (program_seen scene.program.now)))) where
+module _ (scene : Scene) (around : Around) (makes : ℕ → Truth) (sites : ℕ → Option Site) (sited : AreSited scene around makes sites) (below : (k : ℕ) → makes k ≡ true → k < length (accesses_in (trace (program_seen scene.program.now)))) (ways : TellsWays scene) where
   abbrev p : Program
   p = program_seen scene.program.now
 
@@ -59,7 +61,7 @@ module _ (scene : Scene) (around : Around) (makes : ℕ → Truth) (sites : ℕ 
         memory_is =
             q.memory_is
             ∙ (ap (λ (s : Site). narrowed s.memory) site.is
-            ∙ ap (λ (e : Option ℕ). narrowed (entity_number (number_in (memories_of p) e))) (own_base (memories_of p) site.ref.entity ∙ site.entity_is));
+            ∙ (ap (λ (known : Known). narrowed (memory_of known site.ref)) ways ∙ ap (λ (e : Option ℕ). narrowed (entity_number (number_in (memories_of p) (base_of (way_to p e) e)))) site.entity_is));
       }
 
   each_of_site : (os : List Operation) → AreSitesReaches sites os → ReachSource p os
@@ -86,10 +88,10 @@ module _ (scene : Scene) (around : Around) (makes : ℕ → Truth) (sites : ℕ 
           ∙ drop-append_seam old.operations.items (led.more ++ ends.more))
 
 pub straights_reach : (scene : Scene) (plan : PlainPlan) (block : ℕ) (around : Around) (cs : List Located) (old new : Building) (end : Draft) (m : MadeEach scene around cs old new)
-    → IsInLoops scene around (λ number. any_makes number cs) → AreAlong 0 cs → AllByRecursion (λ (c : Located). IsNamedAction c.command) cs → HasStraight (phases_of (program_seen scene.program.now)) cs → TellsShares (program_seen scene.program.now) scene.shares.now
+    → IsInLoops scene around (λ number. any_makes number cs) → AreAlong 0 cs → AllByRecursion (λ (c : Located). IsKeptAction (known_in scene) c.command) cs → HasStraight (phases_of (program_seen scene.program.now)) cs → TellsShares (program_seen scene.program.now) scene.shares.now → TellsWays scene
     → HaveNoOperations (block_sites scene around cs old new m) old.accesses → IsOwn plan block old.draft end → EndsQuietly new.draft end → ReachSource (program_seen scene.program.now) (operations_in plan block)
-straights_reach scene plan block around cs old new end m here along named has tells bare own ends =
-    own_reach scene around (λ number. any_makes number cs) (block_sites scene around cs old new m) sited (λ k e. any_below (trace (program_seen scene.program.now)) cs k stand e) plan block old.draft new.draft end _
+straights_reach scene plan block around cs old new end m here along named has tells ways bare own ends =
+    own_reach scene around (λ number. any_makes number cs) (block_sites scene around cs old new m) sited (λ k e. any_below (trace (program_seen scene.program.now)) cs k stand e) ways plan block old.draft new.draft end _
     (blocks_lead scene around cs old new m here.stands (paths_lead scene around (λ number. any_makes number cs) here) (some_paths scene around (λ number. any_makes number cs) here) along (writes_alone scene tells cs reach stand)
     (shares_inside scene tells (λ number. any_makes number cs) (block_sites scene around cs old new m) sited.made (λ k e. any_below (trace (program_seen scene.program.now)) cs k stand e) (λ j k one made. straight_has_both (program_seen scene.program.now) cs j k found made one)) bare)
     own ends
@@ -108,10 +110,10 @@ straights_reach scene plan block around cs old new end m here along named has te
 
 pub tests_reach : (scene : Scene) (plan : PlainPlan) (block : ℕ) (around : Around) (tested : Located) (t : Term) (old new : Building) (end : Draft) (next : ℕ) (tests : List ℕ)
     → MadeTests scene around tested.first t (paths_counted around) old new next tests → test_of (form_of tested.command) ≡ Some t
-    → IsInLoops scene around (λ number. test_makes number tested) → tested.first + term_accesses t < 2 ^ 32 → HasTest (phases_of (program_seen scene.program.now)) tested → TellsShares (program_seen scene.program.now) scene.shares.now
+    → IsInLoops scene around (λ number. test_makes number tested) → tested.first + term_accesses t < 2 ^ 32 → HasTest (phases_of (program_seen scene.program.now)) tested → TellsShares (program_seen scene.program.now) scene.shares.now → TellsWays scene
     → HaveNoOperations (test_sites scene around tested.first t) old.accesses → IsOwn plan block old.draft end → EndsQuietly new.draft end → ReachSource (program_seen scene.program.now) (operations_in plan block)
-tests_reach scene plan block around tested t old new end next tests m is here few has tells bare own ends =
-    own_reach scene around (λ number. test_makes number tested) (test_sites scene around tested.first t) sited (λ k e. test_below (trace (program_seen scene.program.now)) tested k stand e) plan block old.draft new.draft end _
+tests_reach scene plan block around tested t old new end next tests m is here few has tells ways bare own ends =
+    own_reach scene around (λ number. test_makes number tested) (test_sites scene around tested.first t) sited (λ k e. test_below (trace (program_seen scene.program.now)) tested k stand e) ways plan block old.draft new.draft end _
     (tests_lead scene around tested.first t old new next tests m here.stands few
     (shares_inside scene tells (λ number. test_makes number tested) (test_sites scene around tested.first t) sited.made (λ k e. test_below (trace (program_seen scene.program.now)) tested k stand e)
     (λ j k one made. test_has_both (program_seen scene.program.now) tested j k found made one)) bare)

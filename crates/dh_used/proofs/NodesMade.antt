@@ -6,7 +6,7 @@ use Rattle.dh_tree.specs.PlainTrees.{Program}
 use Rattle.dh_tree.specs.Seen.{program_seen}
 use Rattle.dh_meaning.specs.AccessNumbers.{accesses_of, term_accesses}
 use Rattle.dh_meaning.specs.Core.{CoreCommands, CoreTerm, Turning, CorePhase, straightly, turning, looping, choosing, CorePhases, no_core_phases, phase_and}
-use Rattle.dh_meaning.specs.CoreOf.{Known, core_of, form_of, turning_of}
+use Rattle.dh_meaning.specs.CoreOf.{Known, core_of, form_of, known_of, turning_of}
 use Rattle.dh_meaning.specs.OnePhase.{any_makes, makes, test_makes}
 use Rattle.dh_meaning.specs.Phases.{Located, Phase, straight, turns, repeated, decided, Phases, no_phases, phase, idle_phases_of, phases_of}
 use Rattle.dh_meaning.specs.Sites.{nothing_around}
@@ -22,9 +22,11 @@ use Rattle.dh_plan.specs.PlanPhases.{AreNodesOf, IsNodeOf, Tie}
 use Rattle.dh_plan.specs.SoundPlans.{access_in}
 use Rattle.dh_sound.specs.LoopsMatch.{EachMatches, unrolled}
 use Rattle.dh_sound.specs.PhaseFacts.{HasStraight, HasStraightIn, HasTest, HasTestIn, HaveStraight, HaveTest}
+use Rattle.dh_sound.specs.Straight.{IsKeptAction}
 use Rattle.dh_sound.specs.ToldEvents.{access_at}
 use Rattle.dh_sound.proofs.LocatedSites.{straight_loops, test_stands_there}
 use Rattle.dh_sound.proofs.LoopsMatch.{AreInside, EachInside, IsInside, ListInside, action_inside, match_factors, unrolled_both}
+use Rattle.dh_sound.proofs.KeptPrograms.{kept_named}
 use Rattle.dh_sound.proofs.Makes.{makes_within}
 use Rattle.dh_sound.proofs.PhasesHold.{AllHold, ListHolds, PhaseHolds, PhasesHold}
 use Rattle.dh_sound.proofs.Pigeons.{Has}
@@ -145,27 +147,28 @@ module _ (known : Known) where
 
 -- Named commands.
 
-mutual
-  straight_named_in : (q : Phase) (cs : List Located) → PhaseHolds named_facts tt q → HasStraightIn q cs → AllHold named_facts tt cs
-  straight_named_in (straight ds) cs h e = subst (λ (l : List Located). AllHold named_facts tt l) e h
-  straight_named_in (turns loop count body) cs h e = straights_named body cs h.1 e
-  straight_named_in (repeated loop body) cs h e = straights_named body cs h e
-  straight_named_in (decided choice chosen other) cs h (inl e) = straights_named chosen cs h.0 e
-  straight_named_in (decided choice chosen other) cs h (inr e) = straights_named other cs h.1 e
+module _ (known : Known) where
+  mutual
+    straight_named_in : (q : Phase) (cs : List Located) → PhaseHolds (named_facts known) tt q → HasStraightIn q cs → AllHold (named_facts known) tt cs
+    straight_named_in (straight ds) cs h e = subst (λ (l : List Located). AllHold (named_facts known) tt l) e h
+    straight_named_in (turns loop count body) cs h e = straights_named body cs h.1 e
+    straight_named_in (repeated loop body) cs h e = straights_named body cs h e
+    straight_named_in (decided choice chosen other) cs h (inl e) = straights_named chosen cs h.0 e
+    straight_named_in (decided choice chosen other) cs h (inr e) = straights_named other cs h.1 e
 
-  straights_named : (qs : Phases) (cs : List Located) → PhasesHold named_facts tt qs → HaveStraight qs cs → AllHold named_facts tt cs
-  straights_named no_phases cs h e = absurd e
-  straights_named (phase q qs) cs h (inl e) = straight_named_in q cs h.0 e
-  straights_named (phase q qs) cs h (inr e) = straights_named qs cs h.1 e
+    straights_named : (qs : Phases) (cs : List Located) → PhasesHold (named_facts known) tt qs → HaveStraight qs cs → AllHold (named_facts known) tt cs
+    straights_named no_phases cs h e = absurd e
+    straights_named (phase q qs) cs h (inl e) = straight_named_in q cs h.0 e
+    straights_named (phase q qs) cs h (inr e) = straights_named qs cs h.1 e
 
-pub straight_named : (qs : List Phase) (cs : List Located) → ListHolds named_facts tt qs → HasStraight qs cs → AllHold named_facts tt cs
-straight_named [] cs h e = absurd e
-straight_named (q ∷ qs) cs h (inl e) = straight_named_in q cs h.0 e
-straight_named (q ∷ qs) cs h (inr e) = straight_named qs cs h.1 e
+  pub straight_named : (qs : List Phase) (cs : List Located) → ListHolds (named_facts known) tt qs → HasStraight qs cs → AllHold (named_facts known) tt cs
+  straight_named [] cs h e = absurd e
+  straight_named (q ∷ qs) cs h (inl e) = straight_named_in q cs h.0 e
+  straight_named (q ∷ qs) cs h (inr e) = straight_named qs cs h.1 e
 
-pub along : (from : ℕ) (cs : List Located) → AreRising from cs → AllHold named_facts tt cs → AreAlong from cs
-along from [] r h = tt
-along from (c ∷ cs) r h = (record { behind = r.0; few = r.1.0; reaches = named_reaches c.command h.0 }, along (c.first + accesses_of c.command) cs r.1.1 h.1)
+  pub along : (from : ℕ) (cs : List Located) → AreRising from cs → AllHold (named_facts known) tt cs → AreAlong from cs
+  along from [] r h = tt
+  along from (c ∷ cs) r h = (record { behind = r.0; few = r.1.0; reaches = named_reaches known c.command h.0 }, along (c.first + accesses_of c.command) cs r.1.1 h.1)
 
 -- Accesses that have no operations yet.
 
@@ -232,11 +235,11 @@ module _ (scene : Scene) (final : Made) (plan : PlainPlan) (is : IsMadeOf scene 
   abbrev p : Program
   p = program_seen scene.program.now
 
-  pub body_named : ListHolds named_facts tt (phases_of p)
-  body_named = phases_named nothing_around 0 p.body is.named
+  pub body_named : ListHolds (named_facts (known_in scene)) tt (phases_of p)
+  body_named = phases_named (known_in scene) nothing_around 0 p.body (subst (λ (known : Known). IsKeptAction known p.body) (sym is.ways) is.named)
 
   pub body_inside : ListInside (known_in scene) [] (phases_of p)
-  body_inside = action_inside (known_in scene) nothing_around [] 0 p.body is.named tt
+  body_inside = action_inside (known_in scene) nothing_around [] 0 p.body (kept_named (known_of p) p.body is.named) tt
 
   module _ (rounds : List Round) (around : Around) (round : IsRoundBlock rounds around) (stands : StandsIn scene around) where
     top : IsTop rounds around
@@ -255,8 +258,8 @@ module _ (scene : Scene) (final : Made) (plan : PlainPlan) (is : IsMadeOf scene 
     pub straight_has : HasStraight (phases_of (program_seen scene.program.now)) b.located
     straight_has = straight_there (known_in scene) [] (phases_of (program_seen scene.program.now)) (loops_round rounds) b.located b.placed
 
-    pub straight_held : AllHold named_facts tt b.located
-    straight_held = straight_named (phases_of (program_seen scene.program.now)) b.located body_named straight_has
+    pub straight_held : AllHold (named_facts (known_in scene)) tt b.located
+    straight_held = straight_named (known_in scene) (phases_of (program_seen scene.program.now)) b.located body_named straight_has
 
     straight_matches : EachInside (known_in scene) (unrolled (loops_round rounds)) b.located
     straight_matches = straight_inside (known_in scene) [] (phases_of (program_seen scene.program.now)) (loops_round rounds) b.located body_inside b.placed
@@ -272,13 +275,13 @@ module _ (scene : Scene) (final : Made) (plan : PlainPlan) (is : IsMadeOf scene 
     straight_stands = in_loops rounds b.made.around b.made.round b.made.stands_in (λ number. any_makes number b.located) straight_loops_match
 
     pub straight_along : AreAlong 0 b.located
-    straight_along = along 0 b.located b.made.rising straight_held
+    straight_along = along (known_in scene) 0 b.located b.made.rising straight_held
 
     pub straight_bare : HaveNoOperations (block_sites scene b.made.around b.located b.made.before b.made.between b.made.made) b.made.before.accesses
     straight_bare = record {
       none = b.made.counts;
-      there = λ number s at. (bare_made b.made.before.accesses b.located number b.made.bare (blocks_placed scene b.made.around b.located b.made.before b.made.between b.made.made (all_named b.located straight_held) number s at)).0;
-      bare = λ number s at. (bare_made b.made.before.accesses b.located number b.made.bare (blocks_placed scene b.made.around b.located b.made.before b.made.between b.made.made (all_named b.located straight_held) number s at)).1;
+      there = λ number s at. (bare_made b.made.before.accesses b.located number b.made.bare (blocks_placed scene b.made.around b.located b.made.before b.made.between b.made.made (all_named (known_in scene) b.located straight_held) number s at)).0;
+      bare = λ number s at. (bare_made b.made.before.accesses b.located number b.made.bare (blocks_placed scene b.made.around b.located b.made.before b.made.between b.made.made (all_named (known_in scene) b.located straight_held) number s at)).1;
     }
 
     pub straight_own : IsOwn plan block b.made.before.draft b.made.after.draft
@@ -292,9 +295,9 @@ module _ (scene : Scene) (final : Made) (plan : PlainPlan) (is : IsMadeOf scene 
       known = known_in scene;
       located = b.located;
       are = b.are;
-      named = all_named b.located straight_held;
+      named = all_named (known_in scene) b.located straight_held;
       uses =
-          straights_use_as_made scene plan block b.made.around b.located b.made.before b.made.between b.made.after.draft b.made.made straight_stands straight_along (all_named b.located straight_held) straight_has is.tells straight_bare straight_own straight_quiet;
+          straights_use_as_made scene plan block b.made.around b.located b.made.before b.made.between b.made.after.draft b.made.made straight_stands straight_along (all_named (known_in scene) b.located straight_held) straight_has is.tells straight_bare straight_own straight_quiet;
     }
 
   -- and of a test

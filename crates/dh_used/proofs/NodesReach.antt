@@ -14,6 +14,7 @@ use Rattle.dh_plan.specs.PlainPlans.{Node, block_node, turns_node, loop_node, ch
 use Rattle.dh_plan.specs.PlanPhases.{AreNodesOf, IsNodeOf, Tie}
 use Rattle.dh_plan.specs.SoundPlans.{access_in, blocks_of, node_blocks}
 use Rattle.dh_expressions.specs.declared.scenes.Scene.{Scene}
+use Rattle.dh_expressions.specs.Evaluated.{known_in}
 use Rattle.dh_expressions.proofs.ListPlaces.{place_within}
 use Rattle.dh_formed.proofs.ElementsFormed.{all_append}
 use Rattle.dh_gathering.specs.MadeBlocks.{IsStraightBlock, IsTestBlock, made_tie}
@@ -81,12 +82,12 @@ made_plans_reach scene final plan is once block i r h =
     straight : (rounds : List Round) (cs : CoreCommands) (number : ℕ) → IsStraightBlock scene final rounds cs number → ReachesSource scene plan number
     straight rounds cs number b =
         straights_reach scene plan number b.made.around b.located b.made.before b.made.between b.made.after.draft b.made.made (straight_stands scene final plan is rounds cs number b)
-        (straight_along scene final plan is rounds cs number b) (all_named b.located (straight_held scene final plan is rounds cs number b)) (straight_has scene final plan is rounds cs number b) is.tells (straight_bare scene final plan is rounds cs number b) (straight_own scene final plan is rounds cs number b) (straight_quiet scene final plan is rounds cs number b)
+        (straight_along scene final plan is rounds cs number b) (all_named (known_in scene) b.located (straight_held scene final plan is rounds cs number b)) (straight_has scene final plan is rounds cs number b) is.tells is.ways (straight_bare scene final plan is rounds cs number b) (straight_own scene final plan is rounds cs number b) (straight_quiet scene final plan is rounds cs number b)
 
     test : (rounds : List Round) (t : CoreTerm) (flag number : ℕ) → IsTestBlock scene final rounds t flag number → ReachesSource scene plan number
     test rounds t flag number b =
         tests_reach scene plan number b.made.around b.tested b.term b.made.before b.made.between b.made.after.draft b.made.next b.made.tests b.made.made b.term_is (test_stands_in scene final plan is rounds t flag number b)
-        b.made.few (test_has scene final plan is rounds t flag number b) is.tells (test_bare scene final plan is rounds t flag number b) (test_own scene final plan is rounds t flag number b) (test_quiet scene final plan is rounds t flag number b)
+        b.made.few (test_has scene final plan is rounds t flag number b) is.tells is.ways (test_bare scene final plan is rounds t flag number b) (test_own scene final plan is rounds t flag number b) (test_quiet scene final plan is rounds t flag number b)
 
     within : block < length plan.blocks
     within = by (slice_get plan.blocks block) refl h.there

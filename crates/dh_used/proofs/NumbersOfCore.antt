@@ -1,5 +1,5 @@
 -- The accesses that commands make are told by their core: by the numbers of its reads and stores.
-use Rattle.std.proofs.Common.{◌≡◌, ◌+◌, ◌==◌, ◌||◌, ℕ, suc, List, Some, None, ap, sym, ◌∙◌, arith, refl, subst}
+use Rattle.std.proofs.Common.{◌≡◌, ◌+◌, ◌==◌, ◌||◌, ℕ, suc, List, Some, None, ap, sym, ◌∙◌, arith, refl}
 use Rattle.std.specs.Prelude.{Bool as Truth, Option, true, false, [], ◌∷◌}
 use Rattle.std.specs.List.{AllByRecursion}
 use Rattle.std.proofs.lemmas.Bool.Decides.{nat_tests}
@@ -10,7 +10,8 @@ use Rattle.dh_value.specs.declared.operators.Op.TheVariants as op
 use Rattle.dh_tree.specs.WiderKinds.{wider}
 use Rattle.dh_tree.specs.PlainTrees as plain
 use Rattle.dh_tree.specs.Seen.{terms}
-use Rattle.dh_tree.specs.PlainTrees.{Action, action, ActionForm, lets, lets_memory, views, assigns, stores, reduces, calls, blocks, decides, repeats, counts, MaybeAction, no_action, one_action, Actions, no_actions, action_then, Groups, no_groups, group_then}
+use Rattle.dh_tree.specs.ViewOffsets.{offsets_of}
+use Rattle.dh_tree.specs.PlainTrees.{Action, action, lets, lets_memory, views, assigns, stores, reduces, calls, blocks, decides, repeats, counts, MaybeAction, no_action, one_action, Actions, no_actions, action_then, Groups, no_groups, group_then}
 use Rattle.dh_meaning.specs.AccessNumbers.{accesses_of, part_accesses, term_accesses, terms_accesses}
 use Rattle.dh_meaning.specs.Bindings.{kind_found}
 use Rattle.dh_meaning.specs.Core.{CoreTerm, literal, truth_literal, variable, read, binary, convert, Target, by_indices, by_row, by_views, CoreTerms, no_terms, term_and, CoreCommand, store, assign, choose, keep, CoreCommands, no_commands, command_and}
@@ -18,7 +19,7 @@ use Rattle.dh_meaning.specs.CoreOf.{Known, core_action, core_commands, core_grou
 use Rattle.dh_meaning.specs.OnePhase.{any_makes, groups_make, is_within, makes, other_makes, part_makes, test_makes}
 use Rattle.dh_meaning.specs.Phases.{Located}
 use Rattle.dh_meaning.specs.Ways.{Hidden, Way, hidden_in}
-use Rattle.dh_sound.specs.Straight.{AreNamedActions, AreNamedGroups, IsNamedAction, IsNamedOther, IsTarget}
+use Rattle.dh_sound.specs.Straight.{AreKeptActions, AreKeptGroups, IsKeptAction, IsKeptOther, IsTarget, KeepsAny}
 
 module _ (k : ℕ) where
   abbrev mutual
@@ -153,8 +154,19 @@ module _ (k : ℕ) where
 
     -- Commands, in front of others.
 
+    never : (o : plain.Term) (os : List plain.Term) → o ∷ os ≡ [] → ⊥
+    never o os e = cc
+
+    -- the offsets of a view, of which there are none where no variable keeps one
+    view_within : (hs : List Hidden) (n : ℕ) (os : List plain.Term) (rest : CoreCommands) → KeepsAny hs os
+        → commands_hold (kept_by hs (core_terms known n (terms os)) rest) ≡ (is_within k n (terms_accesses (terms os)) || commands_hold rest)
+    view_within [] n [] rest is = ap (λ b. b || commands_hold rest) (within_none n)
+    view_within [] n (o ∷ os) rest is = absurd (never o os is)
+    view_within (h ∷ hs) n [] rest is = ap (λ b. b || commands_hold rest) (within_none n)
+    view_within (h ∷ hs) n (o ∷ os) rest is = ap (λ b. b || commands_hold rest) (terms_within n (terms (o ∷ os)))
+
     mutual
-      action_within : (n : ℕ) (a : Action) (rest : CoreCommands) → IsNamedAction a → commands_hold (core_action known n a rest) ≡ (makes k n a || commands_hold rest)
+      action_within : (n : ℕ) (a : Action) (rest : CoreCommands) → IsKeptAction known a → commands_hold (core_action known n a rest) ≡ (makes k n a || commands_hold rest)
       action_within n (action id place (lets name declared (Some value))) rest is = ap (λ b. b || commands_hold rest) (term_within n value)
       action_within n (action id place (lets name declared None)) rest is = ap (λ b. b || commands_hold rest) (within_none n)
       action_within n (action id place (assigns target value)) rest is = ap (λ b. b || commands_hold rest) (term_within n value)
@@ -168,31 +180,29 @@ module _ (k : ℕ) where
           ∙ ap (λ b. is_within k n (term_accesses test) || (makes k (n + term_accesses test) chosen || b)) (other_within (n + term_accesses test + accesses_of chosen) other is.1.1)))
       action_within n (action id place (blocks body)) rest is = groups_within n body rest is
       action_within n (action id place (lets_memory name shape shape_places value)) rest is = refl
-      action_within n (action id place (views name parent form)) rest is =
-          subst (λ (ts : List plain.Term). commands_hold (kept_by (hidden_in (way_of known name)) (core_terms known n (terms ts)) rest) ≡ (is_within k n (terms_accesses (terms ts)) || commands_hold rest))
-          (sym is.1) (ap (λ b. b || commands_hold rest) (within_none n))
+      action_within n (action id place (views name parent form)) rest is = view_within (hidden_in (way_of known name)) n (offsets_of form) rest is.1
       action_within n (action id place (calls function arguments)) rest is = refl
       action_within n (action id place (repeats test body)) rest is = refl
       action_within n (action id place (counts iterator declared low high factor body combine combine_place)) rest is = refl
 
-      other_within : (n : ℕ) (other : MaybeAction) → IsNamedOther other → commands_hold (core_other known n other) ≡ other_makes k n other
+      other_within : (n : ℕ) (other : MaybeAction) → IsKeptOther known other → commands_hold (core_other known n other) ≡ other_makes k n other
       other_within n no_action is = refl
       other_within n (one_action a) is = action_within n a no_commands is ∙ sym (or_none (makes k n a))
 
-      part_within : (n : ℕ) (part : Actions) (rest : CoreCommands) → AreNamedActions part → commands_hold (core_part known n part rest) ≡ (part_makes k n part || commands_hold rest)
+      part_within : (n : ℕ) (part : Actions) (rest : CoreCommands) → AreKeptActions known part → commands_hold (core_part known n part rest) ≡ (part_makes k n part || commands_hold rest)
       part_within n no_actions rest is = refl
       part_within n (action_then a behind) rest is =
           action_within n a (core_part known (n + accesses_of a) behind rest) is.0
           ∙ (ap (λ b. makes k n a || b) (part_within (n + accesses_of a) behind rest is.1) ∙ grouped (makes k n a) (part_makes k (n + accesses_of a) behind) (commands_hold rest))
 
-      groups_within : (n : ℕ) (body : Groups) (rest : CoreCommands) → AreNamedGroups body → commands_hold (core_groups known n body rest) ≡ (groups_make k n body || commands_hold rest)
+      groups_within : (n : ℕ) (body : Groups) (rest : CoreCommands) → AreKeptGroups known body → commands_hold (core_groups known n body rest) ≡ (groups_make k n body || commands_hold rest)
       groups_within n no_groups rest is = refl
       groups_within n (group_then part behind) rest is =
           part_within n part (core_groups known (n + part_accesses part) behind rest) is.0
           ∙ (ap (λ b. part_makes k n part || b) (groups_within (n + part_accesses part) behind rest is.1) ∙ grouped (part_makes k n part) (groups_make k (n + part_accesses part) behind) (commands_hold rest))
 
     -- located commands make it where their core holds it
-    pub commands_tell : (cs : List Located) → AllByRecursion (λ (c : Located). IsNamedAction c.command) cs → commands_hold (core_commands known cs) ≡ any_makes k cs
+    pub commands_tell : (cs : List Located) → AllByRecursion (λ (c : Located). IsKeptAction known c.command) cs → commands_hold (core_commands known cs) ≡ any_makes k cs
     commands_tell [] is = refl
     commands_tell (c ∷ cs) is = action_within c.first c.command (core_commands known cs) is.0 ∙ ap (λ b. makes k c.first c.command || b) (commands_tell cs is.1)
 

@@ -5,8 +5,7 @@ use Rattle.std.specs.List.{AllByRecursion, list_any}
 use Rattle.std.proofs.lemmas.Bool.{cases_eq, cases_lt}
 use Rattle.std.proofs.lemmas.Bool.Decides.{nat_tests}
 use Rattle.std.proofs.Math.Nat.{add-mul}
-use Rattle.dh_tree.specs.PlainTrees as plain
-use Rattle.dh_tree.specs.PlainTrees.{shrinks, splits, suffixes, shifts, Program, Term, Action, action, ActionForm, lets, lets_memory, views, assigns, stores, reduces, calls, blocks, decides, repeats, counts, MaybeAction, no_action, one_action, Actions, no_actions, action_then, Groups, no_groups, group_then}
+use Rattle.dh_tree.specs.PlainTrees.{shrinks, splits, suffixes, shifts, Program, Action, action, lets, lets_memory, views, assigns, stores, reduces, calls, blocks, decides, repeats, counts, MaybeAction, no_action, one_action, Actions, no_actions, action_then, Groups, no_groups, group_then}
 use Rattle.dh_meaning.specs.AccessNumbers.{accesses_of, part_accesses, term_accesses}
 use Rattle.dh_meaning.specs.CoreOf.{Known, core_commands, core_phase, core_phases, core_test, known_of}
 use Rattle.dh_meaning.specs.OnePhase.{any_makes, hold_both, holds_both, test_makes}
@@ -22,7 +21,7 @@ use Rattle.dh_plan.specs.DoneProgram.{is_made, operations_using, probes_among, p
 use Rattle.dh_plan.specs.PlainPlans.{Node, block_node, turns_node, loop_node, choice_node, threads_node, Nodes, no_nodes, node_then, PlainPlan, block_operations, operations_in}
 use Rattle.dh_plan.specs.PlanPhases.{AreNodesOf, IsNodeOf}
 use Rattle.dh_plan.specs.SoundPlans.{blocks_of, node_blocks}
-use Rattle.dh_sound.specs.Straight.{AreNamedActions, AreNamedGroups, IsNamedAction, IsNamedOther}
+use Rattle.dh_sound.specs.Straight.{AreKeptActions, AreKeptGroups, IsKeptAction, IsKeptOther}
 use Rattle.dh_sound.specs.ToldEvents.{access_at}
 use Rattle.dh_sound.proofs.PhasesHold.{AllHold, Facts, ListHolds, PartsHold, PhaseHolds, PhasesHold, both_hold, choice_hold, folded_hold, joined_hold, of_list_hold, turn_hold}
 use Rattle.dh_sound.proofs.SamePhase.{bit_true, either, made_any, two}
@@ -33,47 +32,48 @@ use Rattle.dh_used.proofs.NumbersOfCore.{commands_hold, commands_tell, term_hold
 
 -- The commands of all phases are named.
 
-abbrev pub named_facts : Facts
-named_facts = record { round = Unit {0}; does = λ r a. IsNamedAction a; turns_so = λ r form. Unit {0}; inside = λ r form. tt }
+module _ (known : Known) where
+  abbrev pub named_facts : Facts
+  named_facts = record { round = Unit {0}; does = λ r a. IsKeptAction known a; turns_so = λ r form. Unit {0}; inside = λ r form. tt }
 
-mutual
-  pub phases_named : (r : source.Around) (n : ℕ) (a : Action) → IsNamedAction a → ListHolds named_facts tt (phases r n a)
-  phases_named r n (action id place (lets name declared value)) h = ((h, tt), tt)
-  phases_named r n (action id place (assigns target value)) h = ((h, tt), tt)
-  phases_named r n (action id place (stores target value)) h = ((h, tt), tt)
-  phases_named r n (action id place (reduces target o value)) h = ((h, tt), tt)
-  phases_named r n (action id place (decides test chosen other)) h =
-      choice_hold named_facts tt _ (phases (in_arm r id true) (n + term_accesses test) chosen) (other_phases (in_arm r id false) (n + term_accesses test + accesses_of chosen) other) h
-      (phases_named (in_arm r id true) (n + term_accesses test) chosen h.1.0) (other_named (in_arm r id false) (n + term_accesses test + accesses_of chosen) other h.1.1)
-  phases_named r n (action id place (repeats test body)) h = (of_list_hold named_facts tt (phases r (n + term_accesses test) body) (phases_named r (n + term_accesses test) body h.1), tt)
-  phases_named r n (action id place (counts iterator declared low high factor body combine combine_place)) h =
-      turn_hold named_facts tt _ _ _ tt
-      (folded_hold named_facts tt (phases (in_loop r (loop_of iterator low high factor)) n body) (other_phases (in_loop r (loop_of iterator low high factor)) (n + accesses_of body) combine)
-      (phases_named (in_loop r (loop_of iterator low high factor)) n body h.1.0) (other_named (in_loop r (loop_of iterator low high factor)) (n + accesses_of body) combine h.1.1))
-  phases_named r n (action id place (blocks body)) h = groups_named r n body h
-  phases_named r n (action id place (lets_memory name shape shape_places value)) h = tt
-  phases_named r n (action id place (views name parent (shrinks by by_place))) h = tt
-  phases_named r n (action id place (views name parent (splits by by_place))) h = tt
-  phases_named r n (action id place (views name parent (suffixes by by_place))) h = ((h, tt), tt)
-  phases_named r n (action id place (views name parent (shifts by))) h = ((h, tt), tt)
-  phases_named r n (action id place (calls function arguments)) h = tt
+  mutual
+    pub phases_named : (r : source.Around) (n : ℕ) (a : Action) → IsKeptAction known a → ListHolds named_facts tt (phases r n a)
+    phases_named r n (action id place (lets name declared value)) h = ((h, tt), tt)
+    phases_named r n (action id place (assigns target value)) h = ((h, tt), tt)
+    phases_named r n (action id place (stores target value)) h = ((h, tt), tt)
+    phases_named r n (action id place (reduces target o value)) h = ((h, tt), tt)
+    phases_named r n (action id place (decides test chosen other)) h =
+        choice_hold named_facts tt _ (phases (in_arm r id true) (n + term_accesses test) chosen) (other_phases (in_arm r id false) (n + term_accesses test + accesses_of chosen) other) h
+        (phases_named (in_arm r id true) (n + term_accesses test) chosen h.1.0) (other_named (in_arm r id false) (n + term_accesses test + accesses_of chosen) other h.1.1)
+    phases_named r n (action id place (repeats test body)) h = (of_list_hold named_facts tt (phases r (n + term_accesses test) body) (phases_named r (n + term_accesses test) body h.1), tt)
+    phases_named r n (action id place (counts iterator declared low high factor body combine combine_place)) h =
+        turn_hold named_facts tt _ _ _ tt
+        (folded_hold named_facts tt (phases (in_loop r (loop_of iterator low high factor)) n body) (other_phases (in_loop r (loop_of iterator low high factor)) (n + accesses_of body) combine)
+        (phases_named (in_loop r (loop_of iterator low high factor)) n body h.1.0) (other_named (in_loop r (loop_of iterator low high factor)) (n + accesses_of body) combine h.1.1))
+    phases_named r n (action id place (blocks body)) h = groups_named r n body h
+    phases_named r n (action id place (lets_memory name shape shape_places value)) h = tt
+    phases_named r n (action id place (views name parent (shrinks by by_place))) h = tt
+    phases_named r n (action id place (views name parent (splits by by_place))) h = tt
+    phases_named r n (action id place (views name parent (suffixes by by_place))) h = ((h, tt), tt)
+    phases_named r n (action id place (views name parent (shifts by))) h = ((h, tt), tt)
+    phases_named r n (action id place (calls function arguments)) h = tt
 
-  other_named : (r : source.Around) (n : ℕ) (other : MaybeAction) → IsNamedOther other → ListHolds named_facts tt (other_phases r n other)
-  other_named r n no_action h = tt
-  other_named r n (one_action a) h = phases_named r n a h
+    other_named : (r : source.Around) (n : ℕ) (other : MaybeAction) → IsKeptOther known other → ListHolds named_facts tt (other_phases r n other)
+    other_named r n no_action h = tt
+    other_named r n (one_action a) h = phases_named r n a h
 
-  groups_named : (r : source.Around) (n : ℕ) (body : Groups) → AreNamedGroups body → ListHolds named_facts tt (groups_phases r n body)
-  groups_named r n no_groups h = tt
-  groups_named r n (group_then part rest) h =
-      both_hold named_facts tt _ (groups_phases r (n + part_accesses part) rest) (joined_hold named_facts tt [] (parts_phases r n part) tt (parts_named r n part h.0)) (groups_named r (n + part_accesses part) rest h.1)
+    groups_named : (r : source.Around) (n : ℕ) (body : Groups) → AreKeptGroups known body → ListHolds named_facts tt (groups_phases r n body)
+    groups_named r n no_groups h = tt
+    groups_named r n (group_then part rest) h =
+        both_hold named_facts tt _ (groups_phases r (n + part_accesses part) rest) (joined_hold named_facts tt [] (parts_phases r n part) tt (parts_named r n part h.0)) (groups_named r (n + part_accesses part) rest h.1)
 
-  parts_named : (r : source.Around) (n : ℕ) (part : Actions) → AreNamedActions part → PartsHold named_facts tt (parts_phases r n part)
-  parts_named r n no_actions h = tt
-  parts_named r n (action_then a rest) h = (phases_named r n a h.0, parts_named r (n + accesses_of a) rest h.1)
+    parts_named : (r : source.Around) (n : ℕ) (part : Actions) → AreKeptActions known part → PartsHold named_facts tt (parts_phases r n part)
+    parts_named r n no_actions h = tt
+    parts_named r n (action_then a rest) h = (phases_named r n a h.0, parts_named r (n + accesses_of a) rest h.1)
 
-pub all_named : (cs : List Located) → AllHold named_facts tt cs → AllByRecursion (λ (c : Located). IsNamedAction c.command) cs
-all_named [] h = tt
-all_named (c ∷ cs) h = (h.0, all_named cs h.1)
+  pub all_named : (cs : List Located) → AllHold named_facts tt cs → AllByRecursion (λ (c : Located). IsKeptAction known c.command) cs
+  all_named [] h = tt
+  all_named (c ∷ cs) h = (h.0, all_named cs h.1)
 
 -- How many phases make an access.
 
@@ -173,7 +173,7 @@ module _ (p : Program) (plan : PlainPlan) (k : ℕ) (a : SourceAccess) (at : acc
   weighed true = omega arith
   weighed false = omega arith
 
-  straight_sum : (cs : List Located) (block : ℕ) → AllByRecursion (λ (c : Located). IsNamedAction c.command) cs → UsesStraight p plan (core_commands known cs) block → sum_over f (block ∷ []) ≡ bit (any_makes k cs) * weight
+  straight_sum : (cs : List Located) (block : ℕ) → AllByRecursion (λ (c : Located). IsKeptAction known c.command) cs → UsesStraight p plan (core_commands known cs) block → sum_over f (block ∷ []) ≡ bit (any_makes k cs) * weight
   straight_sum cs block named u =
       alone (f block)
       ∙ (pick block (λ number. any_makes number u.located) u.uses
@@ -192,7 +192,7 @@ module _ (p : Program) (plan : PlainPlan) (k : ℕ) (a : SourceAccess) (at : acc
   two_sums f_sum g_sum x y e g = let m = add-mul x y weight in omega (arith, e, g, m)
 
   mutual
-    nodes_sum : (rounds : List Round) (ps : Phases) (ns : Nodes) → PhasesHold named_facts tt ps → AreNodesOf (used_tie p plan) rounds (core_phases known ps) ns → sum_over f (blocks_of ns) ≡ held_of k ps * weight
+    nodes_sum : (rounds : List Round) (ps : Phases) (ns : Nodes) → PhasesHold (named_facts known) tt ps → AreNodesOf (used_tie p plan) rounds (core_phases known ps) ns → sum_over f (blocks_of ns) ≡ held_of k ps * weight
     nodes_sum rounds no_phases no_nodes named h = omega arith
     nodes_sum rounds no_phases (node_then n ns) named h = absurd h
     nodes_sum rounds (phase q ps) no_nodes named h = absurd h
@@ -200,8 +200,8 @@ module _ (p : Program) (plan : PlainPlan) (k : ℕ) (a : SourceAccess) (at : acc
         sum_both f (node_blocks n) (blocks_of ns)
         ∙ two_sums (sum_over f (node_blocks n)) (sum_over f (blocks_of ns)) (held_in k q) (held_of k ps) (node_sum rounds q n named.0 h.0) (nodes_sum rounds ps ns named.1 h.1)
 
-    node_sum : (rounds : List Round) (q : Phase) (n : Node) → PhaseHolds named_facts tt q → IsNodeOf (used_tie p plan) rounds (core_phase known q) n → sum_over f (node_blocks n) ≡ held_in k q * weight
-    node_sum rounds (straight cs) (block_node block) named h = straight_sum cs block (all_named cs named) h
+    node_sum : (rounds : List Round) (q : Phase) (n : Node) → PhaseHolds (named_facts known) tt q → IsNodeOf (used_tie p plan) rounds (core_phase known q) n → sum_over f (node_blocks n) ≡ held_in k q * weight
+    node_sum rounds (straight cs) (block_node block) named h = straight_sum cs block (all_named known cs named) h
     node_sum rounds (straight cs) (turns_node counter count body) named h = absurd h
     node_sum rounds (straight cs) (loop_node block flag body) named h = absurd h
     node_sum rounds (straight cs) (choice_node block flag one other) named h = absurd h
@@ -338,8 +338,8 @@ plans_use p plan named nodes once = (
   λ number a at made. probes number a at made,
 )
   where
-    phases_hold : PhasesHold named_facts tt (of_list (phases_of p))
-    phases_hold = of_list_hold named_facts tt (phases_of p) (phases_named nothing_around 0 p.body named)
+    phases_hold : PhasesHold (named_facts (known_of p)) tt (of_list (phases_of p))
+    phases_hold = of_list_hold (named_facts (known_of p)) tt (phases_of p) (phases_named (known_of p) nothing_around 0 p.body named)
 
     weight_one : (n w : ℕ) → n ≡ 1 → n * w ≡ w
     weight_one n w e = ap (λ m. m * w) e ∙ one w

@@ -6,24 +6,26 @@ use Rattle.std.specs.List.{AllByRecursion}
 use Rattle.std.specs.Option.{is_some}
 use Rattle.std.proofs.lemmas.Bool.{cases_lt}
 use Rattle.std.proofs.lemmas.Bool.Decides.{nat_tests}
-use Rattle.std.proofs.lemmas.List.{append-nil, length-append, map-append}
+use Rattle.std.proofs.lemmas.List.{append-nil, length-append, length-map, map-append}
 use Rattle.dh_base.specs.declared.places.Place.{Place}
 use Rattle.dh_tree.specs.declared.trees.expressions.Ref.{Ref}
 use Rattle.dh_tree.specs.Indices as indices
 use Rattle.dh_tree.specs.PlainTrees as plain
-use Rattle.dh_tree.specs.PlainTrees.{Program, Term, Action, action, ActionForm, lets, lets_memory, views, assigns, stores, reduces, calls, blocks, decides, repeats, counts, MaybeAction, no_action, one_action, Actions, no_actions, action_then, Groups, no_groups, group_then}
+use Rattle.dh_tree.specs.PlainTrees.{Term, Action, action, lets, lets_memory, views, assigns, stores, reduces, calls, blocks, decides, repeats, counts, MaybeAction, no_action, one_action, Actions, no_actions, action_then, Groups, no_groups, group_then, ViewPlan}
 use Rattle.dh_tree.specs.Seen.{program_seen, terms}
+use Rattle.dh_tree.specs.ViewOffsets.{offsets_of}
 use Rattle.dh_meaning.specs.AccessNumbers.{accesses_of, other_accesses, part_accesses, plan_accesses, term_accesses, terms_accesses}
-use Rattle.dh_meaning.specs.CoreOf.{form_of, memory_of, test_of}
+use Rattle.dh_meaning.specs.CoreOf.{form_of, memory_of, test_of, way_of}
 use Rattle.dh_meaning.specs.OnePhase.{any_makes, groups_make, is_within, makes, other_makes, part_makes, test_makes, tests_make}
 use Rattle.dh_meaning.specs.Phases.{Located}
+use Rattle.dh_meaning.specs.Ways.{Hidden, hidden_in}
 use Rattle.dh_meaning.specs.Sites as source
 use Rattle.dh_meaning.specs.Sites.{in_arm}
-use Rattle.dh_meets.specs.SourceEvents.{Element, SourceAccess, SourceEvent, accesses, assigned, accesses_in, command_events, events, groups_events, maybe_events, one_access, other_events, part_events, site_of, term_events, terms_events, trace, write_events}
+use Rattle.dh_meets.specs.SourceEvents.{SourceAccess, SourceEvent, assigned, accesses_in, command_events, events, groups_events, one_access, other_events, part_events, site_of, term_events, terms_events, trace, write_events}
 use Rattle.dh_meets.specs.SourceEvents as events
 use Rattle.dh_events.specs.Accesses.{element_in, entity_in}
 use Rattle.dh_sound.specs.PhaseFacts.{StandsAmong}
-use Rattle.dh_sound.specs.Straight.{AreNamedActions, AreNamedGroups, IsNamedAction, IsNamedOther}
+use Rattle.dh_sound.specs.Straight.{AreKeptActions, AreKeptGroups, IsKeptAction, IsKeptOther, KeepsAny}
 use Rattle.dh_sound.specs.ToldEvents.{access_at}
 use Rattle.dh_sound.proofs.EventCounts.{accesses_joined, command_counted, events_counted, term_counted}
 use Rattle.dh_expressions.specs.declared.paths.Level.{Level}
@@ -35,10 +37,10 @@ use Rattle.dh_commands.specs.declared.buildings.Building.{Building}
 use Rattle.dh_commands.specs.declared.choices.Left.{Left}
 use Rattle.dh_commands.specs.LanesRun.{paths_counted}
 use Rattle.dh_commands.specs.MadeCommands.{Commanding, MadeActions, MadeArm, MadeCommand, MadeGroups, MadeOther}
-use Rattle.dh_laid.specs.BlockSites.{MadeEach, actions_sites, all_there, block_sites, command_sites, groups_sites, none_there, one_site, other_sites, places_from, read_site, site_or, target_sites, term_sites, terms_sites, test_sites, write_site}
+use Rattle.dh_laid.specs.BlockSites.{MadeEach, actions_sites, all_there, block_sites, command_sites, groups_sites, none_there, one_site, other_sites, places_from, read_site, site_or, target_sites, term_sites, terms_sites, test_sites, view_sites, write_site}
 use Rattle.dh_laid.specs.LaidNumbers.{IsAccessForm, StoresReach, StoresReachGroups, StoresReachOther, StoresReachPart}
 use Rattle.dh_laid.proofs.BlocksUsed.{test_places}
-use Rattle.dh_laid.proofs.SitesLaid.{actions_sites_long, command_sites_long, places_low, places_past, store_places_long, test_places_long}
+use Rattle.dh_laid.proofs.SitesLaid.{actions_sites_long, command_sites_long, places_low, places_past, store_places_long, terms_sites_long, test_places_long}
 use Rattle.dh_laid.proofs.ValuesLogged.{arm_long, tests_same}
 use Rattle.dh_used.specs.SourceSites.{AllStand, AreSitesOf, BlocksAreSited, IsSiteOf, TestsAreSited}
 use Rattle.dh_used.proofs.NamedStores.{all_reach, named_reaches, part_reaches, target_reaches}
@@ -72,19 +74,19 @@ module _ (scene : Scene) (levels : List Level) (paths : ℕ) where
   none_sited (suc n) (a ∷ ls) e = (tt, none_sited n ls (omega (arith, e)))
 
   module _ (around : Around) (levels_are : around.levels.now ≡ levels) (long : paths_counted around ≡ paths) (site : events.Site) where
-    read_sited : (place : Place) (r : Ref) (form : plain.TermForm) → entity_in form ≡ r.entity → SitesAre (all_there (read_site scene around (memory_of (known_in scene) r) place form ∷ [])) (accesses_in (one_access place r.entity (element_in form) false site))
-    read_sited place r form named = (record { around = around; levels_are = levels_are; long = long; ref = r; entity_is = refl; form = form; named_is = named; element_is = refl; is = refl }, tt)
+    read_sited : (place : Place) (r : Ref) (form : plain.TermForm) → IsAccessForm form → entity_in form ≡ r.entity → SitesAre (all_there (read_site scene around (memory_of (known_in scene) r) place form ∷ [])) (accesses_in (one_access place r.entity (element_in form) false site))
+    read_sited place r form access named = (record { around = around; levels_are = levels_are; long = long; ref = r; entity_is = refl; form = form; access = access; named_is = named; element_is = refl; is = refl }, tt)
 
-    write_sited : (place : Place) (r : Ref) (form : plain.TermForm) → entity_in form ≡ r.entity → SitesAre (all_there (write_site scene around (memory_of (known_in scene) r) place form ∷ [])) (accesses_in (one_access place r.entity (element_in form) true site))
-    write_sited place r form named = (record { around = around; levels_are = levels_are; long = long; ref = r; entity_is = refl; form = form; named_is = named; element_is = refl; is = refl }, tt)
+    write_sited : (place : Place) (r : Ref) (form : plain.TermForm) → IsAccessForm form → entity_in form ≡ r.entity → SitesAre (all_there (write_site scene around (memory_of (known_in scene) r) place form ∷ [])) (accesses_in (one_access place r.entity (element_in form) true site))
+    write_sited place r form access named = (record { around = around; levels_are = levels_are; long = long; ref = r; entity_is = refl; form = form; access = access; named_is = named; element_is = refl; is = refl }, tt)
 
     mutual
       term_sited : (t : Term) → SitesAre (all_there (term_sites scene around t)) (accesses_in (term_events site t))
       term_sited (plain.term place k (plain.number negative z)) = tt
       term_sited (plain.term place k (plain.truth_value b)) = tt
       term_sited (plain.term place k (plain.named r)) = tt
-      term_sited (plain.term place k (plain.accessed r ts)) = sites_joined (terms_sites scene around ts) _ (terms_events site ts) _ (terms_sited ts) (read_sited place r (plain.accessed r ts) refl)
-      term_sited (plain.term place k (plain.in_bank r bank at row)) = sites_joined (term_sites scene around row) _ (term_events site row) _ (term_sited row) (read_sited place r (plain.in_bank r bank at row) refl)
+      term_sited (plain.term place k (plain.accessed r ts)) = sites_joined (terms_sites scene around ts) _ (terms_events site ts) _ (terms_sited ts) (read_sited place r (plain.accessed r ts) tt refl)
+      term_sited (plain.term place k (plain.in_bank r bank at row)) = sites_joined (term_sites scene around row) _ (term_events site row) _ (term_sited row) (read_sited place r (plain.in_bank r bank at row) tt refl)
       term_sited (plain.term place k (plain.applied op left right)) =
           sites_joined (term_sites scene around left) (term_sites scene around right) (term_events site left) (term_events site right) (term_sited left) (term_sited right)
       term_sited (plain.term place k (plain.converted inner to)) = term_sited inner
@@ -94,8 +96,8 @@ module _ (scene : Scene) (levels : List Level) (paths : ℕ) where
       terms_sited (plain.term_then t ts) = sites_joined (term_sites scene around t) (terms_sites scene around ts) (term_events site t) (terms_events site ts) (term_sited t) (terms_sited ts)
 
     target_sited : (t : Term) → IsAccessForm (indices.form_of t) → SitesAre (all_there (target_sites scene around t)) (accesses_in (write_events site t))
-    target_sited (plain.term place k (plain.accessed r ts)) is = sites_joined (terms_sites scene around ts) _ (terms_events site ts) _ (terms_sited ts) (write_sited place r (plain.accessed r ts) refl)
-    target_sited (plain.term place k (plain.in_bank r bank at row)) is = sites_joined (term_sites scene around row) _ (term_events site row) _ (term_sited row) (write_sited place r (plain.in_bank r bank at row) refl)
+    target_sited (plain.term place k (plain.accessed r ts)) is = sites_joined (terms_sites scene around ts) _ (terms_events site ts) _ (terms_sited ts) (write_sited place r (plain.accessed r ts) tt refl)
+    target_sited (plain.term place k (plain.in_bank r bank at row)) is = sites_joined (term_sites scene around row) _ (term_events site row) _ (term_sited row) (write_sited place r (plain.in_bank r bank at row) tt refl)
     target_sited (plain.term place k (plain.number negative z)) is = absurd is
     target_sited (plain.term place k (plain.truth_value b)) is = absurd is
     target_sited (plain.term place k (plain.named r)) is = absurd is
@@ -109,6 +111,12 @@ module _ (scene : Scene) (levels : List Level) (paths : ℕ) where
 
   arm_paths : (Inner : Commanding) (around : Around) (holds : Truth) (tests : List ℕ) (old new : Building) (first next : ℕ) (lefts : List Left) (m : MadeArm Inner around holds tests old new first next lefts) → length tests ≡ paths → paths_counted m.arm ≡ paths
   arm_paths Inner around holds tests old new first next lefts m many = arm_long holds around.guards.now tests (length tests) old.draft m.guarded m.arm.guards.now m.guards ∙ many
+
+  -- the offsets of a view
+  view_sited : (hidden : List Hidden) (form : ViewPlan) (r : source.Around) (id : ℕ) (name parent : Ref) (around : Around) → around.levels.now ≡ levels → paths_counted around ≡ paths
+      → SitesAre (view_sites scene around hidden form) (accesses_in (command_events r (site_of r id) (views name parent form)))
+  view_sited [] form r id name parent around inside long = none_sited (plan_accesses form + 0) (accesses_in (command_events r (site_of r id) (views name parent form))) (command_counted r id (views name parent form))
+  view_sited (h ∷ hs) form r id name parent around inside long = terms_sited around inside long (site_of r id) (terms (offsets_of form))
 
   mutual
     command_sited : (a : Action) (r : source.Around) (around : Around) (old new : Building) (first next : ℕ) (m : MadeCommand scene a around old new first next) → around.levels.now ≡ levels → paths_counted around ≡ paths → StoresReach a
@@ -135,7 +143,7 @@ module _ (scene : Scene) (levels : List Level) (paths : ℕ) where
     command_sited (action id place (blocks body)) r around old new first next m inside long is = groups_sited body r around old new first next m inside long is
     command_sited (action id place (lets_memory name shape shape_places value)) r around old new first next m inside long is = tt
     command_sited (action id place (views name parent form)) r around old new first next m inside long is =
-        none_sited (plan_accesses form + 0) (accesses_in (command_events r (site_of r id) (views name parent form))) (command_counted r id (views name parent form))
+        view_sited (hidden_in (way_of (known_in scene) name)) form r id name parent around inside long
     command_sited (action id place (calls function arguments)) r around old new first next m inside long is = tt
     command_sited (action id place (repeats test body)) r around old new first next m inside long is =
         none_sited (term_accesses test + accesses_of body) (accesses_in (command_events r (site_of r id) (repeats test body))) (command_counted r id (repeats test body))
@@ -274,8 +282,12 @@ next_is : (first : ℕ) (ss : List (Option Site)) (count : ℕ) → length ss �
 next_is first ss count long = ap (λ n. first + n) (sym long)
 
 module _ (scene : Scene) (k : ℕ) where
+  view_placed : (hidden : List Hidden) (form : ViewPlan) (n : ℕ) (around : Around) → KeepsAny hidden (offsets_of form) → is_some (places_from n (view_sites scene around hidden form) k) ≡ is_within k n (plan_accesses form)
+  view_placed [] form n around none = placed_none n (plan_accesses form + 0) k ∙ subst (λ (ts : List Term). false ≡ is_within k n (terms_accesses (terms ts))) (sym none) (none_within k n)
+  view_placed (h ∷ hs) form n around none = placed_all n (terms_sites scene around (terms (offsets_of form))) (plan_accesses form) k (length-map (terms_sites scene around (terms (offsets_of form))) (λ (s : Site). Some s) ∙ terms_sites_long scene around (terms (offsets_of form)))
+
   mutual
-    command_placed : (a : Action) (n : ℕ) (around : Around) (old new : Building) (first next : ℕ) (m : MadeCommand scene a around old new first next) → IsNamedAction a
+    command_placed : (a : Action) (n : ℕ) (around : Around) (old new : Building) (first next : ℕ) (m : MadeCommand scene a around old new first next) → IsKeptAction (known_in scene) a
         → is_some (places_from n (command_sites scene a around old new first next m) k) ≡ makes k n a
     command_placed (action id place (lets name declared (Some value))) n around old new first next m is = placed_all n (term_sites scene around value) (term_accesses value) k (test_places_long scene around value)
     command_placed (action id place (lets name declared None)) n around old new first next m is = placed_all n [] 0 k refl
@@ -288,7 +300,7 @@ module _ (scene : Scene) (k : ℕ) where
         ∙ (ap (λ (b : Truth). b || is_some (places_from (n + term_accesses test) (chosen_sites ++ last_sites) k)) (placed_all n (term_sites scene around test) (term_accesses test) k (test_places_long scene around test))
         ∙ ap (λ (b : Truth). is_within k n (term_accesses test) || b)
         (placed_both (n + term_accesses test) (n + term_accesses test + accesses_of chosen) chosen_sites last_sites k
-        (next_is (n + term_accesses test) chosen_sites (accesses_of chosen) (command_sites_long scene chosen m.chosen.arm m.chosen.begin m.chosen.inside m.own m.behind m.chosen.command (named_reaches chosen is.1.0)))
+        (next_is (n + term_accesses test) chosen_sites (accesses_of chosen) (command_sites_long scene chosen m.chosen.arm m.chosen.begin m.chosen.inside m.own m.behind m.chosen.command (named_reaches (known_in scene) chosen is.1.0)))
         ∙ (ap (λ (b : Truth). b || is_some (places_from (n + term_accesses test + accesses_of chosen) last_sites k)) (command_placed chosen (n + term_accesses test) m.chosen.arm m.chosen.begin m.chosen.inside m.own m.behind m.chosen.command is.1.0)
         ∙ ap (λ (b : Truth). makes k (n + term_accesses test) chosen || b) (other_placed other (n + term_accesses test + accesses_of chosen) around m.tests m.after_chosen m.after_other m.behind next m.other_left m.other is.1.1))))
       where
@@ -300,31 +312,31 @@ module _ (scene : Scene) (k : ℕ) where
     command_placed (action id place (blocks body)) n around old new first next m is = groups_placed body n around old new first next m is
     command_placed (action id place (lets_memory name shape shape_places value)) n around old new first next m is = placed_none n 0 k
     command_placed (action id place (views name parent form)) n around old new first next m is =
-        placed_none n (plan_accesses form + 0) k ∙ subst (λ (ts : List Term). false ≡ is_within k n (terms_accesses (terms ts))) (sym is.1) (none_within k n)
+        view_placed (hidden_in (way_of (known_in scene) name)) form n around is.1
     command_placed (action id place (calls function arguments)) n around old new first next m is = placed_none n 0 k
     command_placed (action id place (repeats test body)) n around old new first next m is = placed_none n (term_accesses test + accesses_of body) k
     command_placed (action id place (counts iterator declared low high factor body combine combine_place)) n around old new first next m is = placed_none n (accesses_of body + other_accesses combine) k
 
-    other_placed : (other : MaybeAction) (n : ℕ) (around : Around) (tests : List ℕ) (old new : Building) (first next : ℕ) (lefts : List Left) (m : MadeOther scene other around tests old new first next lefts) → IsNamedOther other
+    other_placed : (other : MaybeAction) (n : ℕ) (around : Around) (tests : List ℕ) (old new : Building) (first next : ℕ) (lefts : List Left) (m : MadeOther scene other around tests old new first next lefts) → IsKeptOther (known_in scene) other
         → is_some (places_from n (other_sites scene other around tests old new first next lefts m) k) ≡ other_makes k n other
     other_placed no_action n around tests old new first next lefts m is = placed_none n 0 k
     other_placed (one_action a) n around tests old new first next lefts m is = command_placed a n m.arm m.begin m.inside first next m.command is
 
-    actions_placed : (part : Actions) (n : ℕ) (around : Around) (old new : Building) (first next : ℕ) (m : MadeActions scene part around old new first next) → AreNamedActions part
+    actions_placed : (part : Actions) (n : ℕ) (around : Around) (old new : Building) (first next : ℕ) (m : MadeActions scene part around old new first next) → AreKeptActions (known_in scene) part
         → is_some (places_from n (actions_sites scene part around old new first next m) k) ≡ part_makes k n part
     actions_placed no_actions n around old new first next m is = placed_none n 0 k
     actions_placed (action_then a rest) n around old new first next m is =
         placed_both n (n + accesses_of a) (command_sites scene a around old m.middle first m.own m.one) (actions_sites scene rest around m.middle new m.own next m.rest) k
-        (next_is n (command_sites scene a around old m.middle first m.own m.one) (accesses_of a) (command_sites_long scene a around old m.middle first m.own m.one (named_reaches a is.0)))
+        (next_is n (command_sites scene a around old m.middle first m.own m.one) (accesses_of a) (command_sites_long scene a around old m.middle first m.own m.one (named_reaches (known_in scene) a is.0)))
         ∙ (ap (λ (b : Truth). b || is_some (places_from (n + accesses_of a) (actions_sites scene rest around m.middle new m.own next m.rest) k)) (command_placed a n around old m.middle first m.own m.one is.0)
         ∙ ap (λ (b : Truth). makes k n a || b) (actions_placed rest (n + accesses_of a) around m.middle new m.own next m.rest is.1))
 
-    groups_placed : (body : Groups) (n : ℕ) (around : Around) (old new : Building) (first next : ℕ) (m : MadeGroups scene body around old new first next) → AreNamedGroups body
+    groups_placed : (body : Groups) (n : ℕ) (around : Around) (old new : Building) (first next : ℕ) (m : MadeGroups scene body around old new first next) → AreKeptGroups (known_in scene) body
         → is_some (places_from n (groups_sites scene body around old new first next m) k) ≡ groups_make k n body
     groups_placed no_groups n around old new first next m is = placed_none n 0 k
     groups_placed (group_then part rest) n around old new first next m is =
         placed_both n (n + part_accesses part) (actions_sites scene part around old m.middle first m.own m.one) (groups_sites scene rest around m.middle new m.own next m.rest) k
-        (next_is n (actions_sites scene part around old m.middle first m.own m.one) (part_accesses part) (actions_sites_long scene part around old m.middle first m.own m.one (part_reaches part is.0)))
+        (next_is n (actions_sites scene part around old m.middle first m.own m.one) (part_accesses part) (actions_sites_long scene part around old m.middle first m.own m.one (part_reaches (known_in scene) part is.0)))
         ∙ (ap (λ (b : Truth). b || is_some (places_from (n + part_accesses part) (groups_sites scene rest around m.middle new m.own next m.rest) k)) (actions_placed part n around old m.middle first m.own m.one is.0)
         ∙ ap (λ (b : Truth). part_makes k n part || b) (groups_placed rest (n + part_accesses part) around m.middle new m.own next m.rest is.1))
 
@@ -334,7 +346,7 @@ some_or : (s t : Option Site) → is_some (site_or s t) ≡ (is_some s || is_som
 some_or None t = refl
 some_or (Some s) t = refl
 
-block_placed : (scene : Scene) (around : Around) (k : ℕ) (cs : List Located) (old new : Building) (m : MadeEach scene around cs old new) → AllByRecursion (λ (c : Located). IsNamedAction c.command) cs → is_some (block_sites scene around cs old new m k) ≡ any_makes k cs
+block_placed : (scene : Scene) (around : Around) (k : ℕ) (cs : List Located) (old new : Building) (m : MadeEach scene around cs old new) → AllByRecursion (λ (c : Located). IsKeptAction (known_in scene) c.command) cs → is_some (block_sites scene around cs old new m k) ≡ any_makes k cs
 block_placed scene around k [] old new m is = refl
 block_placed scene around k (c ∷ cs) old new (mid, (next, (m, rest))) is =
     some_or (places_from c.first (command_sites scene c.command around old mid c.first next m) k) (block_sites scene around cs mid new rest k)
@@ -415,7 +427,7 @@ module _ (scene : Scene) (around : Around) where
 pub blocks_are_sited : BlocksAreSited
 blocks_are_sited scene around cs old new m is stand = record {
   made = λ number. block_placed scene around number cs old new m is;
-  told = λ number s a e at. block_told scene around cs old new m (all_reach cs is) stand number s a e at;
+  told = λ number s a e at. block_told scene around cs old new m (all_reach (known_in scene) cs is) stand number s a e at;
 }
 
 -- Tests.
@@ -502,7 +514,7 @@ tests_are_sited scene around tested t has stand = record {
 
 -- What has a site is made.
 
-pub blocks_placed : (scene : Scene) (around : Around) (cs : List Located) (old new : Building) (m : MadeEach scene around cs old new) → AllByRecursion (λ (c : Located). IsNamedAction c.command) cs → (number : ℕ) (s : Site) → block_sites scene around cs old new m number ≡ Some s → any_makes number cs ≡ true
+pub blocks_placed : (scene : Scene) (around : Around) (cs : List Located) (old new : Building) (m : MadeEach scene around cs old new) → AllByRecursion (λ (c : Located). IsKeptAction (known_in scene) c.command) cs → (number : ℕ) (s : Site) → block_sites scene around cs old new m number ≡ Some s → any_makes number cs ≡ true
 blocks_placed scene around cs old new m h number s at = sym (block_placed scene around number cs old new m h) ∙ ap is_some at
 
 pub test_placed_all : (scene : Scene) (around : Around) (first : ℕ) (t : Term) (number : ℕ) (s : Site) → test_sites scene around first t number ≡ Some s → (first ≤ number) × (number < first + term_accesses t)

@@ -5,6 +5,7 @@ use Rattle.dh_tree.specs.Memories.{memories_of, number_in}
 use Rattle.dh_tree.specs.PlainTrees.{Program}
 use Rattle.dh_tree.specs.Seen.{program_seen}
 use Rattle.dh_meaning.specs.CoreOf.{entity_number}
+use Rattle.dh_meaning.specs.Ways.{base_of, way_to}
 use Rattle.dh_meets.specs.SourceEvents.{SourceAccess}
 use Rattle.dh_plan.specs.declared.operations.Operation.{Operation}
 use Rattle.dh_plan.specs.declared.operations.Reach.{Reach}
@@ -21,7 +22,7 @@ use Rattle.dh_used.specs.UsedPlans.{OneNodeEach}
 pub record IsOfSource (p : Program) (r : Reach) : Type 0 where
   pub access : SourceAccess
   pub there : access_at p r.access ≡ Some access
-  pub memory_is : r.memory ≡ narrowed (entity_number (number_in (memories_of p) access.entity))
+  pub memory_is : r.memory ≡ narrowed (entity_number (number_in (memories_of p) (base_of (way_to p access.entity) access.entity)))
 
 -- each of these operations that reads, writes or probes reaches so
 abbrev pub ReachSource : Program → List Operation → Type 0

@@ -4,15 +4,16 @@ use Rattle.std.specs.Prelude.{◌≡◌, ℕ, Bool, List, [], ◌∷◌, Option,
 use Rattle.std.specs.List.{AllByRecursion}
 use Rattle.std.specs.Option.{is_some}
 use Rattle.dh_tree.specs.declared.trees.expressions.Ref.{Ref}
-use Rattle.dh_tree.specs.PlainTrees.{Term, TermForm}
+use Rattle.dh_tree.specs.PlainTrees.{Program, Term, TermForm}
 use Rattle.dh_tree.specs.Seen.{program_seen}
 use Rattle.dh_meaning.specs.CoreOf.{form_of, memory_of, test_of}
 use Rattle.dh_meaning.specs.OnePhase.{any_makes, test_makes}
 use Rattle.dh_meaning.specs.Phases.{Located}
-use Rattle.dh_meets.specs.SourceEvents.{SourceAccess, trace}
+use Rattle.dh_meaning.specs.Ways.{way_to}
+use Rattle.dh_meets.specs.SourceEvents.{SourceAccess, in_row, trace}
 use Rattle.dh_events.specs.Accesses.{element_in, entity_in}
 use Rattle.dh_sound.specs.PhaseFacts.{StandsAmong}
-use Rattle.dh_sound.specs.Straight.{IsNamedAction}
+use Rattle.dh_sound.specs.Straight.{IsKeptAction}
 use Rattle.dh_sound.specs.ToldEvents.{access_at}
 use Rattle.dh_expressions.specs.declared.paths.Level.{Level}
 use Rattle.dh_expressions.specs.declared.scenes.Around.{Around}
@@ -23,6 +24,7 @@ use Rattle.dh_formed.specs.Formed.{Site}
 use Rattle.dh_commands.specs.declared.buildings.Building.{Building}
 use Rattle.dh_commands.specs.LanesRun.{paths_counted}
 use Rattle.dh_laid.specs.BlockSites.{MadeEach, block_sites, test_sites}
+use Rattle.dh_laid.specs.LaidNumbers.{IsAccessForm}
 
 -- a site is that of an access of the source, inside these loops, at so many paths
 pub record IsSiteOf (scene : Scene) (levels : List Level) (paths : ℕ) (s : Site) (a : SourceAccess) : Type 0 where
@@ -32,6 +34,7 @@ pub record IsSiteOf (scene : Scene) (levels : List Level) (paths : ℕ) (s : Sit
   pub ref : Ref
   pub entity_is : ref.entity ≡ a.entity
   pub form : TermForm
+  pub access : IsAccessForm form
   pub named_is : entity_in form ≡ a.entity
   pub element_is : element_in form ≡ a.element
   pub is : s ≡ record { memory = memory_of (known_in scene) ref; standing = standing_at scene around (memory_of (known_in scene) ref) a.place form a.writes }
@@ -47,6 +50,10 @@ AreSitesOf scene levels paths [] (a ∷ ls) = ⊥
 AreSitesOf scene levels paths (s ∷ ss) [] = ⊥
 AreSitesOf scene levels paths (s ∷ ss) (a ∷ ls) = IsSiteOrNone scene levels paths s a × AreSitesOf scene levels paths ss ls
 
+-- an access of a row names its memory directly
+abbrev pub RowsAreDirect : Program → Type 0
+RowsAreDirect p = (number : ℕ) (a : SourceAccess) → access_at p number ≡ Some a → (bank : ℕ) (row : Term) → a.element ≡ in_row bank row → way_to p a.entity ≡ None
+
 -- The sites of a block's accesses, by their numbers: those of numbers that something makes.
 pub record AreSited (scene : Scene) (around : Around) (makes : ℕ → Bool) (sites : ℕ → Option Site) : Type 0 where
   pub made : (number : ℕ) → is_some (sites number) ≡ makes number
@@ -58,7 +65,7 @@ AllStand scene cs = AllByRecursion (λ (c : Located). StandsAmong 0 (trace (prog
 
 abbrev pub BlocksAreSited : Type 0
 BlocksAreSited =
-    (scene : Scene) (around : Around) (cs : List Located) (old new : Building) (m : MadeEach scene around cs old new) → AllByRecursion (λ (c : Located). IsNamedAction c.command) cs → AllStand scene cs
+    (scene : Scene) (around : Around) (cs : List Located) (old new : Building) (m : MadeEach scene around cs old new) → AllByRecursion (λ (c : Located). IsKeptAction (known_in scene) c.command) cs → AllStand scene cs
     → AreSited scene around (λ number. any_makes number cs) (block_sites scene around cs old new m)
 
 -- and those of a test

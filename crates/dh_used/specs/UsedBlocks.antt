@@ -17,12 +17,13 @@ use Rattle.dh_plan.specs.DoneProgram.{operations_using, probes_among, uses_wante
 use Rattle.dh_plan.specs.PlainPlans.{PlainPlan, operations_in}
 use Rattle.dh_plan.specs.SoundPlans.{access_in}
 use Rattle.dh_sound.specs.PhaseFacts.{HasStraight, HasTest}
-use Rattle.dh_sound.specs.Straight.{IsNamedAction}
+use Rattle.dh_sound.specs.Straight.{IsKeptAction}
 use Rattle.dh_sound.specs.ToldEvents.{access_at}
 use Rattle.dh_lengths.specs.SharedReads.{TellsShares}
 use Rattle.dh_expressions.specs.declared.drafts.Draft.{Draft}
 use Rattle.dh_expressions.specs.declared.scenes.Around.{Around}
 use Rattle.dh_expressions.specs.declared.scenes.Scene.{Scene}
+use Rattle.dh_expressions.specs.Evaluated.{known_in}
 use Rattle.dh_commands.specs.declared.buildings.Building.{Building}
 use Rattle.dh_commands.specs.LanesRun.{paths_counted}
 use Rattle.dh_commands.specs.MadeCommands.{MadeTests}
@@ -60,7 +61,7 @@ IsOwn plan block old end = operations_in plan block ≡ drop (length old.operati
 abbrev pub StraightsUseAsMade : Type 0
 StraightsUseAsMade =
     (scene : Scene) (plan : PlainPlan) (block : ℕ) (around : Around) (cs : List Located) (old new : Building) (end : Draft) (m : MadeEach scene around cs old new)
-    → IsInLoops scene around (λ number. any_makes number cs) → AreAlong 0 cs → AllByRecursion (λ (c : Located). IsNamedAction c.command) cs → HasStraight (phases_of (program_seen scene.program.now)) cs → TellsShares (program_seen scene.program.now) scene.shares.now
+    → IsInLoops scene around (λ number. any_makes number cs) → AreAlong 0 cs → AllByRecursion (λ (c : Located). IsKeptAction (known_in scene) c.command) cs → HasStraight (phases_of (program_seen scene.program.now)) cs → TellsShares (program_seen scene.program.now) scene.shares.now
     → HaveNoOperations (block_sites scene around cs old new m) old.accesses → IsOwn plan block old.draft end → EndsQuietly new.draft end
     → UsesAsMade (program_seen scene.program.now) plan block (λ number. any_makes number cs)
 

@@ -4,14 +4,14 @@ use Rattle.std.specs.Prelude.{◌≡◌, ℕ, ◌<◌, List, [], length}
 use Rattle.std.specs.List.{AllByRecursion}
 use Rattle.dh_tree.specs.PlainTrees.{Program}
 use Rattle.dh_meaning.specs.Core.{CoreCommands, CoreTerm}
-use Rattle.dh_meaning.specs.CoreOf.{Known, core_commands, core_of, core_test}
+use Rattle.dh_meaning.specs.CoreOf.{Known, core_commands, core_of, core_test, known_of}
 use Rattle.dh_meaning.specs.OnePhase.{any_makes, test_makes}
 use Rattle.dh_meaning.specs.Phases.{Located}
 use Rattle.dh_plan.specs.DoneProgram.{ProbesByPaths, UsesByKeys}
 use Rattle.dh_plan.specs.PlainPlans.{PlainPlan}
 use Rattle.dh_plan.specs.PlanPhases.{AreNodesOf, Tie}
 use Rattle.dh_plan.specs.SoundPlans.{blocks_of}
-use Rattle.dh_sound.specs.Straight.{IsNamedAction}
+use Rattle.dh_sound.specs.Straight.{IsKeptAction}
 pub use Rattle.dh_gathering.specs.NamedOnce.{listed}
 use Rattle.dh_used.specs.UsedBlocks.{UsesAsMade}
 
@@ -21,7 +21,7 @@ pub record UsesStraight (p : Program) (plan : PlainPlan) (cs : CoreCommands) (bl
   pub known : Known
   pub located : List Located
   pub are : cs ≡ core_commands known located
-  pub named : AllByRecursion (λ (c : Located). IsNamedAction c.command) located
+  pub named : AllByRecursion (λ (c : Located). IsKeptAction known c.command) located
   pub uses : UsesAsMade p plan block (λ number. any_makes number located)
 
 pub record UsesTest (p : Program) (plan : PlainPlan) (test : CoreTerm) (block : ℕ) : Type 0 where
@@ -43,5 +43,5 @@ OneNodeEach plan = (block : ℕ) → block < length plan.blocks → listed block
 
 abbrev pub PlansUse : Type 0
 PlansUse =
-    (p : Program) (plan : PlainPlan) → IsNamedAction p.body → AreNodesOf (used_tie p plan) [] (core_of p).phases plan.body → OneNodeEach plan
+    (p : Program) (plan : PlainPlan) → IsKeptAction (known_of p) p.body → AreNodesOf (used_tie p plan) [] (core_of p).phases plan.body → OneNodeEach plan
     → UsesByKeys p plan × ProbesByPaths p plan

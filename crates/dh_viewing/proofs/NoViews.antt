@@ -1,56 +1,15 @@
 -- A program without views breaks no rule on them.
-use Rattle.std.proofs.Common.{◌≡◌, ◌&&◌, ◌||◌, Bool, false, if◌then◌else◌, List, [], ◌++◌, Option, Some, None, refl, ap, ◌∙◌}
-use Rattle.dh_base.specs.declared.places.Place.{Place}
-use Rattle.dh_tree.specs.declared.breaches.Breach.{Breach}
-use Rattle.dh_tree.specs.Forms.{form_holds, unbuilt, unbuilt_action, unbuilt_form, unbuilt_forms, unbuilt_functions, unbuilt_groups, unbuilt_other, unbuilt_part}
+use Rattle.std.proofs.Common.{◌≡◌, List, [], ◌++◌, Option, Some, None, refl, ap, ◌∙◌}
 use Rattle.dh_tree.specs.Indices.{Known, known_of}
 use Rattle.dh_tree.specs.Memories.{memories_of}
 use Rattle.dh_tree.specs.PlainTrees.{Term, term, TermForm, number, truth_value, named, accessed, in_bank, applied, converted, Terms, no_terms, term_then, Action, action, ActionForm, lets, lets_memory, views, assigns, stores, reduces, calls, blocks, decides, repeats, counts, MaybeAction, no_action, one_action, Actions, no_actions, action_then, Groups, no_groups, group_then, Program}
 use Rattle.dh_tree.specs.ViewBreaches.{KnownViews, known_views, kept_behind, term_view_breaches, form_view_breaches, terms_view_breaches, maybe_view_breaches, action_view_breaches, action_form_view_breaches, other_view_breaches, groups_view_breaches, part_view_breaches, view_breaches_of}
 use Rattle.dh_tree.specs.ViewFactors.{factor_breaches_of, viewings_breaches}
-use Rattle.dh_tree.specs.Views.{Viewing, form_viewings, groups_viewings, other_viewings, part_viewings, viewed_behind, viewings, views_of}
+use Rattle.dh_tree.specs.Views.{form_viewings, groups_viewings, other_viewings, part_viewings, viewed_behind, viewings, views_of}
 use Rattle.dh_viewing.proofs.KeptViews.{first_none, second_none}
 
 both_none : {A : Type 0} (xs ys : List A) → xs ≡ [] → ys ≡ [] → xs ++ ys ≡ []
 both_none xs ys e f = ap (λ l. l ++ ys) e ∙ f
-
--- No view.
-
-mutual
-  viewings_none : (a : Action) → unbuilt_action a ≡ [] → viewings a ≡ []
-  viewings_none (action id place form) e = form_none place form e
-
-  form_none : (place : Place) (f : ActionForm) → unbuilt_form place f ≡ [] → form_viewings f ≡ []
-  form_none place (views name parent form) e = cc
-  form_none place (lets name declared value) e = refl
-  form_none place (lets_memory name shape shape_places value) e = refl
-  form_none place (assigns target value) e = refl
-  form_none place (stores target value) e = refl
-  form_none place (reduces target op value) e = refl
-  form_none place (calls function arguments) e = refl
-  form_none place (blocks body) e = groups_none body e
-  form_none place (decides test chosen other) e =
-      both_none (viewings chosen) (other_viewings other) (viewings_none chosen (first_none (unbuilt_action chosen) (unbuilt_other other) e)) (other_none other (second_none (unbuilt_action chosen) (unbuilt_other other) e))
-  form_none place (repeats test body) e = viewings_none body e
-  form_none place (counts iterator declared low high factor body combine combine_place) e =
-      both_none (viewings body) (other_viewings combine) (viewings_none body (first_none (unbuilt_action body) (unbuilt_other combine) e)) (other_none combine (second_none (unbuilt_action body) (unbuilt_other combine) e))
-
-  other_none : (m : MaybeAction) → unbuilt_other m ≡ [] → other_viewings m ≡ []
-  other_none no_action e = refl
-  other_none (one_action a) e = viewings_none a e
-
-  groups_none : (gs : Groups) → unbuilt_groups gs ≡ [] → groups_viewings gs ≡ []
-  groups_none no_groups e = refl
-  groups_none (group_then part rest) e =
-      both_none (part_viewings part) (groups_viewings rest) (part_none part false (first_none (unbuilt_part false part) (unbuilt_groups rest) e)) (groups_none rest (second_none (unbuilt_part false part) (unbuilt_groups rest) e))
-
-  part_none : (part : Actions) (stepped : Bool) → unbuilt_part stepped part ≡ [] → part_viewings part ≡ []
-  part_none no_actions stepped e = refl
-  part_none (action_then (action id place form) rest) stepped e =
-      let again : List Breach = (if stepped && form_holds form then unbuilt place else []) in
-      let left : List Breach = unbuilt_part (stepped || form_holds form) rest in
-      both_none (form_viewings form) (part_viewings rest) (form_none place form (first_none (unbuilt_form place form) (again ++ left) e))
-      (part_none rest (stepped || form_holds form) (second_none again left (second_none (unbuilt_form place form) (again ++ left) e)))
 
 -- No access through one.
 
@@ -118,13 +77,7 @@ module _ (names : Known) where
 
 -- Programs.
 
-pub no_views : (p : Program) → unbuilt_forms p ≡ [] → views_of p ≡ []
-no_views p e = viewings_none p.body (second_none (unbuilt_functions p.functions) (unbuilt_action p.body) e)
-
 pub without_views : (p : Program) → views_of p ≡ [] → view_breaches_of p ≡ []
 without_views p e =
     both_none (factor_breaches_of p) (action_view_breaches (known_views p) p.body) (ap (λ vs. viewings_breaches (memories_of p) [] vs) e)
     (ap (λ vs. action_view_breaches (record { names = known_of p; views = viewed_behind (memories_of p) [] vs; kept = kept_behind (memories_of p) [] vs }) p.body) e ∙ action_keeps (known_of p) p.body e)
-
-pub no_view_breaches : (p : Program) → unbuilt_forms p ≡ [] → view_breaches_of p ≡ []
-no_view_breaches p e = without_views p (no_views p e)

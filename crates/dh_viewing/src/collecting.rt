@@ -178,7 +178,11 @@ fn sort(form: &ViewForm) -> ViewSort
 }
 
 /// A view of what has this shape.
-pub(crate) fn map_to(alloc: Global, form: &ViewForm, parent: &Shape) -> Result<ViewMap, NoMemory>
+///
+/// # Errors
+///
+/// `NoMemory`, the one error; no clause tells when.
+pub fn map_to(alloc: Global, form: &ViewForm, parent: &Shape) -> Result<ViewMap, NoMemory>
     ensures { IfOk result (λ m. m ≡ map_of (plan_seen form.now) parent.now) }
 {
     let own = Shape {
@@ -205,7 +209,7 @@ fn shape_at(entries: &[MemEntry], number: usize) -> Option<&Shape>
 }
 
 /// The shape of the memory that an entity is, if it is one.
-pub(crate) fn shape_of_memory(typed: &Typed, entity: Option<u32>) -> Option<&Shape>
+pub fn shape_of_memory(typed: &Typed, entity: Option<u32>) -> Option<&Shape>
     ensures { option_map (λ s. s.now) result
         ≡ memory_shape (memory_in (memories_of (program_seen typed.now)) entity) }
 {

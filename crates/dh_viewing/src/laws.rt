@@ -2,15 +2,14 @@
 
 ghost use Rattle.std.specs.Prelude.{◌≡◌, ◌≤◌, ◌-◌, ◌/◌, [], ℕ, ℤ, true, pos, ◌+ℤ◌, ◌*ℤ◌, unsigned_abs};
 ghost use Rattle.std.specs.List.{AllByRecursion};
-ghost use Rattle.dh_tree.specs.Forms.{unbuilt_forms};
 ghost use Rattle.dh_tree.specs.Memories.{table_of};
 ghost use Rattle.dh_tree.specs.PlainTrees.{Program};
 ghost use Rattle.dh_tree.specs.Shapes.{IsProgramTable};
-ghost use Rattle.dh_tree.specs.ViewBreaches.{kept_views, view_breaches_of};
+ghost use Rattle.dh_tree.specs.ViewBreaches.{kept_views};
 ghost use Rattle.dh_tree.specs.ViewElements.{is_index};
 ghost use Rattle.dh_tree.specs.ViewFactors.{factor_breaches_of};
 ghost use Rattle.dh_tree.specs.ViewShapes.{IsViewMap};
-ghost use Rattle.dh_tree.specs.Views.{viewed_in, views_of};
+ghost use Rattle.dh_tree.specs.Views.{viewed_in};
 
 /// Where no factor and no bracket of a program's views breaks the rule on them, and its memories keep the
 /// rules and limits, so does each view: it has the shape of its sort.
@@ -25,14 +24,6 @@ pub fn kept_views_have_shapes()
 pub fn kept_views_are_all()
     ensures { (p : Program) → factor_breaches_of p ≡ [] → IsProgramTable (table_of p)
         → kept_views p ≡ viewed_in p }
-{}
-
-/// A program all whose forms are built has no view while views are not built, and so it breaks no rule on
-/// them.
-#[tactic(auto, using(crate::proofs::NoViews::no_views, crate::proofs::NoViews::no_view_breaches))]
-pub fn programs_without_views_keep_their_rules()
-    ensures views { (p : Program) → unbuilt_forms p ≡ [] → views_of p ≡ [] }
-    ensures breaches { (p : Program) → unbuilt_forms p ≡ [] → view_breaches_of p ≡ [] }
 {}
 
 /// An offset with which an index of a view is in range is small: a test of the offset by itself, against a

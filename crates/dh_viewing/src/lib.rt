@@ -16,15 +16,12 @@ mod offsets;
 mod placing;
 
 pub use bank_sets::{BankSet, banks_of};
-pub use collecting::{view_map, views_in};
+pub use collecting::{map_to, shape_of_memory, view_map, views_in};
 pub use elements::through;
 pub use factors::{keep_view_factors, view_factors};
 pub use judging::{JudgedViews, judge_views};
 pub use keeping::{divides, shape_keeps};
-pub use laws::{
-    kept_views_are_all, kept_views_have_shapes, offsets_in_range_are_small,
-    programs_without_views_keep_their_rules,
-};
-pub use numbers::Index;
+pub use laws::{kept_views_are_all, kept_views_have_shapes, offsets_in_range_are_small};
+pub use numbers::{Index, MAX_DIMS, listed, no_numbers, with_number};
 pub use offsets::moves;
-pub use placing::ViewTable;
+pub use placing::{ViewTable, make_room, place_at};

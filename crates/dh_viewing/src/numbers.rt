@@ -4,7 +4,7 @@ ghost use Rattle.std.specs.Prelude.{◌≡◌, ◌<◌, ◌≤◌, ◌+◌, [], 
 ghost use Rattle.dh_viewing.specs.Numbers.{numbers_in};
 
 /// The most dimensions of a memory.
-pub(crate) const MAX_DIMS: usize = 6;
+pub const MAX_DIMS: usize = 6;
 
 /// Whole numbers, one for each dimension of a memory or a view: the indices of an element, or offsets.
 #[derive(Clone, Copy, Debug)]
@@ -16,7 +16,7 @@ pub struct Index {
 }
 
 /// No number.
-pub(crate) fn no_numbers() -> Index
+pub fn no_numbers() -> Index
     ensures numbers { numbers_in result ≡ [] }
     ensures long { result.len ≡ 0 }
 {
@@ -27,7 +27,7 @@ pub(crate) fn no_numbers() -> Index
 }
 
 /// These numbers with one more behind them.
-pub(crate) fn with_number(numbers: Index, number: i128) -> Index
+pub fn with_number(numbers: Index, number: i128) -> Index
     requires { numbers.len < 6 }
     ensures numbers { numbers_in result ≡ numbers_in numbers ++ number ∷ [] }
     ensures long { result.len ≡ numbers.len + 1 }
@@ -41,7 +41,7 @@ pub(crate) fn with_number(numbers: Index, number: i128) -> Index
 }
 
 /// They as a list.
-pub(crate) fn listed(numbers: &Index) -> &[i128]
+pub fn listed(numbers: &Index) -> &[i128]
     requires { numbers.now.len ≤ 6 }
     ensures { result.now ≡ numbers_in numbers.now }
 {

@@ -10,7 +10,11 @@ use std::alloc::Global;
 use std::marker::Model;
 
 /// Makes room for an entity, of which nothing is told yet.
-fn make_room(places: &mut Vec<Option<usize>>, entity: usize) -> Result<(), NoMemory>
+///
+/// # Errors
+///
+/// `NoMemory`, the one error; no clause tells when.
+pub fn make_room(places: &mut Vec<Option<usize>>, entity: usize) -> Result<(), NoMemory>
     requires { entity < 4294967296 }
     ensures long { OnOk result (entity < length places.new.items) }
     ensures same { TellTheSame places.old.items places.new.items }
@@ -71,7 +75,7 @@ fn add(
 }
 
 /// The place that is told of an entity.
-fn place_at(places: &[Option<usize>], entity: Option<u32>) -> Option<usize>
+pub fn place_at(places: &[Option<usize>], entity: Option<u32>) -> Option<usize>
     ensures { result ≡ placed_at places.now entity }
 {
     let Some(entity) = entity else {

@@ -9,12 +9,12 @@ use Rattle.dh_tree.specs.Memories.{Memory, memories_of, memory_in, same_entity}
 use Rattle.dh_tree.specs.PlainTrees.{Term, ViewPlan, shrinks, splits, suffixes, shifts, Program}
 use Rattle.dh_tree.specs.ViewOffsets.{offsets_of, moves, is_shift}
 use Rattle.dh_tree.specs.Views.{map_of}
-use Rattle.dh_meaning.specs.Ways.{Hidden, Led, Standing, Way, all_entities_of, behind_all, behind_hidden, depth_where, hidden_from, hidden_in, hidden_of, led_after, led_behind, led_of, shape_named, standings, way_at, way_behind, way_in, way_to, way_unless, ways_of}
+use Rattle.dh_meaning.specs.Ways.{Hidden, Led, Standing, Way, all_entities_of, behind_all, behind_hidden, depth_where, hidden_from, hidden_of, led_after, led_behind, led_of, shape_named, standings, way_at, way_behind, way_in, way_to, way_unless, ways_of}
 use Rattle.dh_ways.specs.HiddenVariables.{IsWayWithin, all_hidden, hidden_variables, numbers_from}
 
 -- Numbers.
 
-from_long : (first depth : ℕ) (ts : List Term) → length (hidden_from first depth ts) ≡ length ts
+pub from_long : (first depth : ℕ) (ts : List Term) → length (hidden_from first depth ts) ≡ length ts
 from_long first depth [] = refl
 from_long first depth (t ∷ ts) = ap suc (from_long (suc first) depth ts)
 

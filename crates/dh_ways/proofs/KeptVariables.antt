@@ -1,5 +1,5 @@
 -- A command that keeps values sets no other variables than its own, which follow one another from a first one on.
-use Rattle.std.proofs.Common.{◌≡◌, ℕ, suc, ◌+◌, ◌==◌, ◌&&◌, nat_le, nat_lt, Bool, true, false, if◌then◌else◌, List, [], ◌∷◌, length, take, refl, sym, ap, ◌∙◌, subst, arith, ℤ}
+use Rattle.std.proofs.Common.{◌≡◌, ℕ, suc, ◌+◌, ◌==◌, ◌&&◌, nat_le, nat_lt, false, if◌then◌else◌, List, [], ◌∷◌, length, take, refl, sym, ap, ◌∙◌, subst, arith, ℤ}
 use Rattle.std.proofs.lemmas.Bool.Decides.{nat_tests}
 use Rattle.dh_meaning.specs.Core.{CoreTerms, no_terms, term_and, count_terms, keep}
 use Rattle.dh_meaning.specs.Effects.{Begun, Effect, Variables, kept_at, set_from, set_variable, values_of}

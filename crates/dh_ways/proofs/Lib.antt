@@ -1,6 +1,13 @@
 pub mod WaysLead
-pub mod NoWays
+pub mod MemoriesUnled
 pub mod TargetsOnWays
 pub mod HiddenApart
 pub mod KeptVariables
-pub mod WaysFound
+pub mod StandsFound
+pub mod StandsCut
+pub mod RoundsFew
+pub mod EntitiesCounted
+pub mod WaysMade
+pub mod LinksTold
+pub mod PlacedWays
+pub mod WaysKept

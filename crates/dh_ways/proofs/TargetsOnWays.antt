@@ -1,11 +1,11 @@
 -- A target on a way has its indices first, and behind them the offsets that the way keeps, which make no access.
-use Rattle.std.proofs.Common.{◌≡◌, ℕ, List, [], ◌∷◌, ◌++◌, take, drop, Option, Some, None, refl, ap, ◌∙◌, ℤ}
+use Rattle.std.proofs.Common.{◌≡◌, List, [], ◌∷◌, ◌++◌, take, drop, Option, Some, None, refl, ap, ◌∙◌}
 use Rattle.std.specs.List.{AllByRecursion}
 use Rattle.dh_value.specs.Words as words
 use Rattle.dh_value.specs.Words.{word_of}
 use Rattle.dh_meaning.specs.Core.{Reach, CoreTerms, no_terms, term_and, count_terms}
 use Rattle.dh_meaning.specs.CoreOf.{kept_terms, terms_both, target_to}
-use Rattle.dh_meaning.specs.Effects.{Begun, Variables, Event, value_of, values_of, spot_by_views, spot_reached, term_events, terms_events, target_events}
+use Rattle.dh_meaning.specs.Effects.{Begun, Variables, value_of, values_of, spot_by_views, spot_reached, term_events, terms_events, target_events}
 use Rattle.dh_meaning.specs.Paths.{Path}
 use Rattle.dh_meaning.specs.Ways.{Hidden, Way}
 use Rattle.dh_ways.specs.SpotsThrough.{spot_to, offsets_at}

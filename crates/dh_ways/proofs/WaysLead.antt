@@ -17,14 +17,14 @@ use Rattle.dh_ways.specs.Leading.{LeadsTo, viewed_of_led}
 
 -- Views where they stand are those of the program, in one order.
 
-abbrev forget : Standing → Viewing
+abbrev pub forget : Standing → Viewing
 forget s = record { name = s.name; parent = s.parent; form = s.form }
 
 both_are : (xs ys : List Standing) (us vs : List Viewing) → map forget xs ≡ us → map forget ys ≡ vs → map forget (xs ++ ys) ≡ us ++ vs
 both_are xs ys us vs e f = map-append forget xs ys ∙ (ap (λ l. l ++ map forget ys) e ∙ ap (λ l. us ++ l) f)
 
 mutual
-  standings_are : (d : ℕ) (a : Action) → map forget (standings d a) ≡ viewings a
+  pub standings_are : (d : ℕ) (a : Action) → map forget (standings d a) ≡ viewings a
   standings_are d (action id place form) = form_are d form
 
   form_are : (d : ℕ) (f : ActionForm) → map forget (form_standings d f) ≡ form_viewings f
@@ -70,7 +70,7 @@ named_same (Some m) w = refl
 named_same None (Some w) = refl
 named_same None None = refl
 
-shape_same : (ms : List Memory) (ls : List Led) (e : Option ℕ) → shape_named (memory_in ms e) (way_in ls e) ≡ shape_in ms (map viewed_of_led ls) e
+pub shape_same : (ms : List Memory) (ls : List Led) (e : Option ℕ) → shape_named (memory_in ms e) (way_in ls e) ≡ shape_in ms (map viewed_of_led ls) e
 shape_same ms ls e = named_same (memory_in ms e) (way_in ls e) ∙ ap (λ o. shape_of (memory_in ms e) o) (sym (looked ls e))
 
 -- Ways are of views.
@@ -80,7 +80,7 @@ one_seen first s None w = refl
 one_seen first s (Some shape) None = refl
 one_seen first s (Some shape) (Some w) = refl
 
-next_seen : (ms : List Memory) (first : ℕ) (ls : List Led) (s : Standing)
+pub next_seen : (ms : List Memory) (first : ℕ) (ls : List Led) (s : Standing)
     → map viewed_of_led (ls ++ led_after ms first ls s) ≡ map viewed_of_led ls ++ viewed_of (forget s) (shape_in ms (map viewed_of_led ls) s.parent.entity)
 next_seen ms first ls s =
     map-append viewed_of_led ls (led_after ms first ls s)

@@ -1,11 +1,11 @@
 -- Views on a way that follow one another: each has the shape of its sort, and its parent's dimensions are those of the
 -- next one, the last one's those of the memory.
-use Rattle.std.specs.Prelude.{◌≡◌, List, [], ◌∷◌, Some}
+use Rattle.std.specs.Prelude.{◌≡◌, ℕ, ◌+◌, List, [], ◌∷◌, length, map, Some}
 use Rattle.dh_tree.specs.declared.tables.Dim.{Dim}
 use Rattle.dh_tree.specs.declared.viewing.Viewed.{Viewed}
 use Rattle.dh_tree.specs.Memories.{Memory, memory_in}
 use Rattle.dh_tree.specs.ViewShapes.{IsViewMap}
-use Rattle.dh_meaning.specs.Ways.{Led, Step, Way}
+use Rattle.dh_meaning.specs.Ways.{Led, Step, Way, step_of}
 
 -- the dimensions of what is named, by views or the memory itself
 abbrev pub next_dims : List Step → (memory : List Dim) → List Dim
@@ -23,6 +23,16 @@ pub record LeadsTo (ms : List Memory) (w : Way) : Type 0 where
   pub own : IsViewMap w.is
   pub steps : StepsLead w.steps memory.shape.dims
   pub first : next_dims w.steps memory.shape.dims ≡ w.is.shape.dims
+
+-- how many offsets views take
+abbrev pub offsets_on : List Step → ℕ
+offsets_on [] = 0
+offsets_on (s ∷ ss) = s.offsets + offsets_on ss
+
+-- a way keeps as many offsets as its views take, each of which is a step that takes its own
+pub record KeepsOffsets (w : Way) : Type 0 where
+  pub many : length w.hidden ≡ offsets_on w.steps
+  pub each : map step_of (map (λ s. s.is) w.steps) ≡ w.steps
 
 -- the view of a way
 abbrev pub viewed_of_led : Led → Viewed

@@ -1,4 +1,10 @@
 pub mod Leading
+pub mod Kept
+pub mod Seen
 pub mod SpotsThrough
 pub mod HiddenVariables
-pub mod Seen
+pub mod Stands
+pub mod CutStands
+pub mod Linked
+pub mod Traced
+pub mod Placed

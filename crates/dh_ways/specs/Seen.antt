@@ -1,10 +1,9 @@
 -- What contracts see of ways that code keeps.
-use Rattle.std.specs.Prelude.{List, ◌∷◌, map}
+use Rattle.std.specs.Prelude.{◌∷◌, map}
 use Rattle.dh_meaning.specs.Ways as definitions
 use Rattle.dh_meaning.specs.Ways.{step_of}
 use Rattle.dh_ways.specs.declared.ways.Hidden.{Hidden}
-use Rattle.dh_ways.specs.declared.ways.Led.{Led}
-use Rattle.dh_ways.specs.declared.ways.Way.{Way}
+use Rattle.dh_ways.specs.Kept.{Led, Way}
 
 abbrev pub hidden_seen : Hidden → definitions.Hidden
 hidden_seen h = record { entity = h.entity; kind = h.kind; depth = h.depth }

@@ -10,8 +10,8 @@ loop-block-init c = laid_first (plan_seen c.args.plan.now) c.new-list.result c.n
 pub loop-block-preserved : goal.loop-block-preserved
 loop-block-preserved c =
     laid_turn (plan_seen c.args.plan.now) c.as_slice-block-items.result.now c.loop-block.block-index c.block-item.result c.loop-block.list c.push_block.new.list c.loop-block.starts.items c.push.new.self.items
-    c.len.result c.loop-block.first c.any_takes_probe.result c.as_slice.result.now c.as_slice-operations.result.now c.as_slice-in-loop-block.result.now c.as_slice-block-items.ensures c.loop-block-test.true
-    c.block-item.is c.loop-block.invariant c.as_slice.ensures c.as_slice-operations.ensures c.as_slice-in-loop-block.ensures c.any_takes_probe.ensures c.len.ensures c.in_ok-push.ensures.items (search rules)
+    c.len.result c.loop-block.first c.any_takes_probe.result c.as_slice.result.now c.as_slice-in-loop-block.result.now c.as_slice-operations.result.now c.as_slice-in-loop-block-2.result.now c.as_slice-block-items.ensures c.loop-block-test.true
+    c.block-item.is c.loop-block.invariant c.as_slice.ensures c.as_slice-in-loop-block.ensures c.as_slice-operations.ensures c.as_slice-in-loop-block-2.ensures c.any_takes_probe.ensures c.len.ensures c.in_ok-push.ensures.items (search rules)
     c.in_ok-push_block.ensures
 
 pub returns : goal.returns

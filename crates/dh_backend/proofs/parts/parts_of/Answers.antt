@@ -2,8 +2,8 @@ use Rattle.dh_plan.specs.SeenPlans.{plan_seen}
 use Rattle.dh_backend.proofs.PartsPlay.{may_bind, are_parts}
 use Rattle.dh_backend.proofs.parts.parts_of.Goals as goal
 
-pub addresses-requires-clause-sound : goal.addresses-requires-clause-sound
-addresses-requires-clause-sound c = c.requires.is_plan.sound
+pub addresses-requires : goal.addresses-requires
+addresses-requires c = c.requires.is_plan.sound
 
 pub pass-requires : goal.pass-requires
 pass-requires c = may_bind (plan_seen c.args.plan.now) (plan_seen c.in_ok-plan.plan) c.requires c.in_ok-plan.ensures

@@ -1,5 +1,5 @@
 use Rattle.std.proofs.Common.{◌≡◌, ◌+◌, ◌||◌}
-use Rattle.dh_check.proofs.StepsHeld.{all_hold}
+use Rattle.dh_check.proofs.KeptForms.{all_hold}
 use Rattle.dh_check.proofs.KeptForms.{so_far, part_left, parts_left}
 use Rattle.dh_check.proofs.forms.+unbuilt.Given as goal
 

@@ -13,4 +13,4 @@ returns-then-is_memory c =
 pub returns-else-is_memory : goal.returns-else-is_memory
 returns-else-is_memory c =
     let known = known_in c.args.names.now in
-    c.way_among.ensures ∙ unless_none (memory_in known.memories c.args.of.now.entity) (way_in known.ways c.args.of.now.entity) (sym c.is_memory.ensures ∙ c.if-is_memory.false)
+    c.get.ensures ∙ unless_none (memory_in known.memories c.args.of.now.entity) (way_in known.ways c.args.of.now.entity) (sym c.is_memory.ensures ∙ c.if-is_memory.false)

@@ -2,21 +2,22 @@ use Rattle.std.proofs.Common.{◌≡◌, ℕ, Some, None, List, length, refl, ap
 use Rattle.std.specs.Prelude.{Option, option_map}
 use Rattle.std.proofs.lemmas.Result.{IfOk-weaker}
 use Rattle.dh_tree.specs.declared.trees.expressions.Expr.{Expr}
-use Rattle.dh_tree.specs.PlainTrees.{lets, assigns, stores, reduces, blocks, decides}
+use Rattle.dh_tree.specs.PlainTrees.{lets, views, assigns, stores, reduces, blocks, decides}
 use Rattle.dh_tree.specs.Seen.{action_form_seen, action_seen, all_parts_seen, maybe_block_seen, plan_seen, term_seen}
 use Rattle.dh_tree.proofs.SeenActions.{assign_is, block_is, call_is, for_is, if_is, let_is, let_memory_is, reduce_is, store_is, view_is, while_is}
-use Rattle.dh_meaning.specs.Core.{no_commands}
+use Rattle.dh_meaning.specs.CoreOf.{way_of}
+use Rattle.dh_meaning.specs.Ways.{hidden_in}
+use Rattle.dh_expressions.specs.Evaluated.{known_in}
 use Rattle.dh_commands.specs.declared.choices.Left.{Left}
 use Rattle.dh_commands.specs.Undone.{EndsArm}
 use Rattle.dh_commands.specs.Setting.{TestsAll}
 use Rattle.dh_commands.specs.Parted.{DoesGroups, JoinsAll, Leads}
 use Rattle.dh_commands.proofs.ChoiceDone.{choice_done}
 use Rattle.dh_commands.proofs.CommandsDone.{assign_done, block_done, clear_done, let_done, reduce_done, store_done}
-use Rattle.dh_commands.proofs.PartsDone.{arm_done, as_seen, counted_done, idle_done, leads_all, leads_command, leads_part}
+use Rattle.dh_commands.proofs.PartsDone.{arm_done, as_seen, counted_done, idle_done, leads_all, leads_command, leads_part, viewed_done}
 use Rattle.dh_commands.specs.LanesRun.{paths_counted}
 use Rattle.dh_commands.specs.MadeCommands.{MadeArmGuards, MadeGroups, MakesFrom, MadeJoined, MadeTests}
-use Rattle.dh_commands.proofs.CoreRuns.{view_rest}
-use Rattle.dh_commands.proofs.CommandsMade.{at_part, idle_next, made_seen, makes_all, makes_command, makes_part}
+use Rattle.dh_commands.proofs.CommandsMade.{at_part, idle_next, made_seen, makes_all, makes_command, makes_part, view_made}
 use Rattle.dh_commands.proofs.commands.+commands.Goals as goal
 
 pub push_arm-returns-clause-means : goal.push_arm-returns-clause-means
@@ -93,8 +94,10 @@ push_command-returns-in-LetMemory-clause-means t c =
 
 pub push_command-returns-in-View-clause-means : goal.push_command-returns-in-View-clause-means
 push_command-returns-in-View-clause-means t c =
-    counted_done c.args.scene.now c.args.around c.args.command.now _ c.args.first c.behind_command-in-View.result c.args.building.now (ap action_form_seen c.in-View.is ∙ view_is c.in-View.name c.in-View.parent c.in-View.form)
-    c.behind_command-in-View.ensures tt (λ n. view_rest c.args.scene.now n c.in-View.name c.in-View.parent (plan_seen c.in-View.form) no_commands)
+    IfOk-weaker c.keep_view.result _ _
+    (λ next d. viewed_done c.args.scene.now c.args.around c.args.command.now c.in-View.name c.in-View.parent (plan_seen c.in-View.form) c.args.first c.behind_command-idle.result next c.args.building.now c.keep_view.new.building
+    (ap action_form_seen c.in-View.is ∙ view_is c.in-View.name c.in-View.parent c.in-View.form) c.behind_command-idle.ensures d)
+    c.keep_view.ensures.means
 
 pub push_command-returns-in-Call-clause-means : goal.push_command-returns-in-Call-clause-means
 push_command-returns-in-Call-clause-means t c =
@@ -242,7 +245,11 @@ push_command-returns-in-LetMemory-clause-made t c = made_seen c.args.scene.now c
 pub push_command-returns-in-View-clause-made : goal.push_command-returns-in-View-clause-made
 push_command-returns-in-View-clause-made t c =
     let view_seen = ap action_form_seen c.in-View.is ∙ view_is c.in-View.name c.in-View.parent c.in-View.form in
-    made_seen c.args.scene.now c.args.around c.args.command.now _ c.args.first _ c.args.building.now c.args.building.now view_seen (record { still = refl; next_is = idle_next c.args.command.now _ c.args.first c.behind_command-in-View.result view_seen c.behind_command-in-View.ensures })
+    IfOk-weaker c.keep_view.result _ _
+    (λ next m. made_seen c.args.scene.now c.args.around c.args.command.now (views c.in-View.name c.in-View.parent (plan_seen c.in-View.form)) c.args.first next c.args.building.now c.keep_view.new.building view_seen
+    (view_made c.args.scene.now c.args.around (plan_seen c.in-View.form) c.args.first c.behind_command-idle.result next c.args.building.now c.keep_view.new.building (idle_next c.args.command.now _ c.args.first c.behind_command-idle.result view_seen c.behind_command-idle.ensures)
+    (hidden_in (way_of (known_in c.args.scene.now) c.in-View.name)) m))
+    c.keep_view.ensures.made
 
 pub push_command-returns-in-Call-clause-made : goal.push_command-returns-in-Call-clause-made
 push_command-returns-in-Call-clause-made t c = made_seen c.args.scene.now c.args.around c.args.command.now _ c.args.first _ c.args.building.now c.args.building.now (ap action_form_seen c.in-Call.is ∙ call_is c.in-Call.function c.in-Call.arguments) (record { still = refl; next_is = refl })

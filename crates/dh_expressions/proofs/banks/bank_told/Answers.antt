@@ -4,16 +4,18 @@ use Rattle.dh_tree.specs.Elements.{dims_at}
 use Rattle.dh_tree.specs.Memories.{table_of}
 use Rattle.dh_tree.specs.Seen.{form_seen, program_seen, term_seen}
 use Rattle.dh_tree.proofs.SeenTerms.{access_is, binary_is, cast_is, number_is, physical_is, truth_is, variable_is}
+use Rattle.dh_meaning.specs.CoreOf.{dims_by, way_of}
+use Rattle.dh_expressions.specs.Named.{known_in}
 use Rattle.dh_expressions.specs.ReachedBanks.{TellsSpans}
 use Rattle.dh_expressions.proofs.BankSpans.{bank_itself, bank_listed}
 use Rattle.dh_expressions.proofs.banks.bank_told.Goals as goal
 
-pub returns-in_ok-spans_in-in-Access : goal.returns-in_ok-spans_in-in-Access
-returns-in_ok-spans_in-in-Access c =
-    bank_listed c.args.scene.now c.args.levels.now c.args.memory (form_seen c.args.access.now.form) c.in-Access.of (map term_seen c.in-Access.indices.items) c.in_ok-spans_in-in-Access.field-0.items
+pub returns-in_ok-spans-in-Access : goal.returns-in_ok-spans-in-Access
+returns-in_ok-spans-in-Access c =
+    bank_listed c.args.scene.now c.args.levels.now c.args.memory (form_seen c.args.access.now.form) c.in-Access.of (map term_seen c.in-Access.indices.items) c.in_ok-spans-in-Access.spans.items
     (ap form_seen c.in-Access.is ∙ access_is c.in-Access.of c.in-Access.indices)
-    (subst (λ (es : List Expr). TellsSpans c.args.scene.now c.args.levels.now (dims_at (table_of (program_seen c.args.scene.now.program.now)) c.args.memory) (map term_seen es) c.in_ok-spans_in-in-Access.field-0.items) c.as_slice.ensures.value
-    c.in_ok-spans_in-in-Access.ensures)
+    (subst (λ (es : List Expr). TellsSpans c.args.scene.now c.args.levels.now (dims_by (dims_at (table_of (program_seen c.args.scene.now.program.now)) c.args.memory) (way_of (known_in c.args.scene.now) c.in-Access.of)) (map term_seen es) c.in_ok-spans-in-Access.spans.items) c.as_slice.ensures.value
+    c.in_ok-spans-in-Access.ensures)
 
 pub returns-in-Physical : goal.returns-in-Physical
 returns-in-Physical c =

@@ -1,5 +1,5 @@
-use Rattle.std.proofs.Common.{ℕ, None, subst, length}
-use Rattle.std.specs.Prelude.{Option, slice_get}
+use Rattle.std.proofs.Common.{ℕ, subst, length}
+use Rattle.std.specs.Prelude.{[], Option, slice_get}
 use Rattle.dh_tree.specs.Seen.{form_seen}
 use Rattle.dh_plan.specs.declared.operations.OperationForm.TheVariants.{Probe}
 use Rattle.dh_expressions.specs.declared.copies.AccessAt.{AccessAt}
@@ -22,9 +22,9 @@ returns-clause-made c = record {
   second = c.push_probe.new.draft;
   middle = c.touch.new.accesses;
   touches = c.in_ok-touch.ensures;
-  probes = subst (λ (f : ℕ). Pushes c.touch.new.draft c.push_probe.new.draft (length c.touch.new.draft.operations.items) (lane_guard c.args.lane.now) (Probe (reach_told c.args.memory c.args.aim.now None) f)) c.fault_of-fault.ensures c.in_ok-push_probe.ensures;
+  probes = subst (λ (f : ℕ). Pushes c.touch.new.draft c.push_probe.new.draft (length c.touch.new.draft.operations.items) (lane_guard c.args.lane.now) (Probe (reach_told c.args.memory c.args.aim.now []) f)) c.fault_of-fault.ensures c.in_ok-push_probe.ensures;
   finds =
-      subst (λ (a : AccessAt). Finds c.push_probe.new.draft c.find_or_read.new.draft c.args.memory c.args.aim.now a (given_by c.touch.new.accesses (source_at (slice_get c.args.scene.now.shares.now c.args.aim.now.number) c.args.aim.now.number c.args.lane.now.number a.leader)) c.in_ok-value.value) c.copy_of-copy.ensures
-      (subst (λ (o : Option ℕ). Finds c.push_probe.new.draft c.find_or_read.new.draft c.args.memory c.args.aim.now c.copy_of-copy.result o c.in_ok-value.value) c.made_before-found.ensures c.in_ok-value.ensures);
+      subst (λ (a : AccessAt). Finds c.args.scene.now (form_seen c.args.access.now.form) c.push_probe.new.draft c.find_or_read.new.draft c.args.memory c.args.aim.now a (given_by c.touch.new.accesses (source_at (slice_get c.args.scene.now.shares.now c.args.aim.now.number) c.args.aim.now.number c.args.lane.now.number a.leader)) c.in_ok-value.value) c.copy_of-copy.ensures
+      (subst (λ (o : Option ℕ). Finds c.args.scene.now (form_seen c.args.access.now.form) c.push_probe.new.draft c.find_or_read.new.draft c.args.memory c.args.aim.now c.copy_of-copy.result o c.in_ok-value.value) c.made_before-found.ensures c.in_ok-value.ensures);
   notes = c.in_ok-give.ensures;
 }

@@ -46,12 +46,12 @@ push_term-returns-in_ok-value-in-Cast-clause-means t c =
     (cast_done c.args.scene.now c.args.lane.now c.args.current.now c.args.draft.now c.push_term-in-Cast.new.draft c.push_converted.new.draft c.args.accesses.now c.push_term-in-Cast.new.accesses c.args.first c.args.value.now.place c.args.value.now.kind
     (term_seen c.deref-inner.result.now) c.in-Cast.to c.in_ok-a-in-Cast.a c.in_ok-value-in-Cast.value c.in_ok-a-in-Cast.ensures.means c.in_ok-value-in-Cast.ensures.means)
 
-pub push_term-returns-in_ok-aim-in-Access-clause-means : goal.push_term-returns-in_ok-aim-in-Access-clause-means
-push_term-returns-in_ok-aim-in-Access-clause-means t c =
-    IfOk-weaker c.push_element.result _ _ (λ r h. access_formed c.args.scene.now c.args.lane.now c.args.current.now c.args.draft.now c.push_indices.new.draft c.push_element.new.draft c.args.accesses.now c.push_indices.new.accesses c.push_element.new.accesses c.args.first
-    c.args.value.now c.in-Access.of (terms (map term_seen c.as_slice-indices.result.now)) c.in_ok-aim-in-Access.aim r
+pub push_term-returns-in_ok-push_way-in-Access-clause-means : goal.push_term-returns-in_ok-push_way-in-Access-clause-means
+push_term-returns-in_ok-push_way-in-Access-clause-means t c =
+    IfOk-weaker c.push_element.result _ _ (λ r h. access_formed c.args.scene.now c.args.lane.now c.args.current.now c.args.draft.now c.push_indices.new.draft c.push_way.new.draft c.push_element.new.draft c.args.accesses.now c.push_indices.new.accesses c.push_element.new.accesses c.args.first
+    c.args.value.now c.in-Access.of (terms (map term_seen c.as_slice-indices.result.now)) c.in_ok-aim-in-Access.aim c.push_way.new.aim r
     (ap form_seen c.in-Access.is ∙ (access_is c.in-Access.of c.in-Access.indices ∙ ap (λ l. accessed c.in-Access.of (terms (map term_seen l))) (sym c.as_slice-indices.ensures.value)))
-    c.in_ok-aim-in-Access.ensures.means h) c.push_element.ensures.means
+    c.in_ok-aim-in-Access.ensures.means c.in_ok-push_way-in-Access.ensures.means h) c.push_element.ensures.means
 
 pub push_term-returns-in_ok-aim-in-Physical-clause-means : goal.push_term-returns-in_ok-aim-in-Physical-clause-means
 push_term-returns-in_ok-aim-in-Physical-clause-means t c =
@@ -91,6 +91,7 @@ push_indices-loop-index-preserved t c = rw (add-one c.loop-index.index-index) (r
 pub push_indices-returns-clause-means : goal.push_indices-returns-clause-means
 push_indices-returns-clause-means t c = record {
   row = refl;
+  steps = c.no_steps-steps.ensures;
   indices =
       leads_last c.args.scene.now c.args.lane.now c.args.current.now c.args.draft.now c.loop-index.draft c.args.accesses.now c.loop-index.accesses c.args.first c.args.indices.now c.loop-index.index-index c.loop-index.values c.loop-index.number
       (drop_past c.args.indices.now c.loop-index.index-index c.loop-index-test.false) c.loop-index.invariant.means;
@@ -99,6 +100,7 @@ push_indices-returns-clause-means t c = record {
 pub push_indices-returns-clause-made : goal.push_indices-returns-clause-made
 push_indices-returns-clause-made t c = record {
   row = refl;
+  steps = c.no_steps-steps.ensures;
   indices =
       makes_last c.args.scene.now c.args.lane.now c.args.current.now c.args.draft.now c.loop-index.draft c.args.accesses.now c.loop-index.accesses c.args.first c.args.indices.now c.loop-index.index-index c.loop-index.values c.loop-index.number
       (drop_past c.args.indices.now c.loop-index.index-index c.loop-index-test.false) c.loop-index.invariant.made;
@@ -160,12 +162,12 @@ push_term-returns-in_ok-value-in-Binary-clause-made t c =
       operation = c.in_ok-value-in-Binary.ensures.made;
     })
 
-pub push_term-returns-in_ok-aim-in-Access-clause-made : goal.push_term-returns-in_ok-aim-in-Access-clause-made
-push_term-returns-in_ok-aim-in-Access-clause-made t c =
-    IfOk-weaker c.push_element.result _ _ (λ r h. made_access c.args.scene.now c.args.lane.now c.args.current.now c.args.draft.now c.push_indices.new.draft c.push_element.new.draft c.args.accesses.now c.push_indices.new.accesses c.push_element.new.accesses c.args.first
-    c.args.value.now c.in-Access.of (terms (map term_seen c.as_slice-indices.result.now)) c.in_ok-aim-in-Access.aim r
+pub push_term-returns-in_ok-push_way-in-Access-clause-made : goal.push_term-returns-in_ok-push_way-in-Access-clause-made
+push_term-returns-in_ok-push_way-in-Access-clause-made t c =
+    IfOk-weaker c.push_element.result _ _ (λ r h. made_access c.args.scene.now c.args.lane.now c.args.current.now c.args.draft.now c.push_indices.new.draft c.push_way.new.draft c.push_element.new.draft c.args.accesses.now c.push_indices.new.accesses c.push_element.new.accesses c.args.first
+    c.args.value.now c.in-Access.of (terms (map term_seen c.as_slice-indices.result.now)) c.in_ok-aim-in-Access.aim c.push_way.new.aim r
     (ap form_seen c.in-Access.is ∙ (access_is c.in-Access.of c.in-Access.indices ∙ ap (λ l. accessed c.in-Access.of (terms (map term_seen l))) (sym c.as_slice-indices.ensures.value)))
-    c.in_ok-aim-in-Access.ensures.made h) c.push_element.ensures.made
+    c.in_ok-aim-in-Access.ensures.made c.in_ok-push_way-in-Access.ensures.made h) c.push_element.ensures.made
 
 pub push_term-returns-in_ok-aim-in-Physical-clause-made : goal.push_term-returns-in_ok-aim-in-Physical-clause-made
 push_term-returns-in_ok-aim-in-Physical-clause-made t c =

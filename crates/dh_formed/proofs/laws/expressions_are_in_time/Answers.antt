@@ -1,5 +1,5 @@
 use Rattle.dh_formed.proofs.ReadsTimed.{written_noted, written_within}
-use Rattle.dh_formed.proofs.TermsTimed.{all_timed, timed}
+use Rattle.dh_formed.proofs.TermsTimed.{all_timed, through_timed, timed}
 use Rattle.dh_formed.proofs.laws.expressions_are_in_time.Goals as goal
 
 pub returns-clause-writes : goal.returns-clause-writes
@@ -15,3 +15,7 @@ returns-clause-terms c clocks scene lane current shared outer t old new before a
 pub returns-clause-indices : goal.returns-clause-indices
 returns-clause-indices c clocks scene lane current shared outer ts old new before after n aim m few l s w vars reads =
     all_timed clocks scene lane current shared outer ts old new before after n aim.number aim.indices m.indices few l s w vars reads
+
+pub returns-clause-through : goal.returns-clause-through
+returns-clause-through c clocks scene lane current shared outer r ts old new before after n aim m few l s w vars reads =
+    through_timed clocks scene lane current shared outer r ts old new before after n aim m few l s w vars reads

@@ -1,17 +1,16 @@
-use Rattle.std.proofs.Common.{◌++◌, ◌+◌, List, length, ap, sym, ◌∙◌, subst}
+use Rattle.std.proofs.Common.{◌++◌, List, length, ap, sym, ◌∙◌, subst}
 use Rattle.std.specs.Prelude.{Vec}
 use Rattle.std.specs.Global.{Global}
 use Rattle.std.specs.List.{AllByRecursion}
 use Rattle.dh_tree.specs.Seen.{program_seen}
-use Rattle.dh_ports.specs.declared.copies.Seen.{Seen}
+use Rattle.dh_ports.specs.declared.counting.Seen.{Seen}
 use Rattle.dh_ports.specs.declared.moves.Move.{Move}
 use Rattle.dh_events.specs.Accesses.{loops_in}
 use Rattle.dh_ports.specs.Claims.{moves_from}
-use Rattle.dh_ports.specs.Copies.{IsUnseen}
+use Rattle.dh_ports.specs.Copies.{IsPast}
 use Rattle.dh_events.specs.Noted.{all_seen}
 use Rattle.dh_ports.specs.Scanned.{IsMoveOf}
-use Rattle.dh_events.specs.Tables.{numbered}
-use Rattle.dh_ports.proofs.MoveTurns.{copies_at, touch_turn, begin_turn, next_turn, end_turn, other_turn, moves_done, seen_later}
+use Rattle.dh_ports.proofs.MoveTurns.{copies_at, touch_turn, begin_turn, next_turn, end_turn, other_turn, moves_done}
 use Rattle.dh_ports.proofs.moves.all_moves.Goals.{in-Touch+in_ok-claim-in-Touch, in-Begins+in_ok-push-in-Begins, in-Next+in_ok-push-in-Next, in-Ends+in_ok-push-in-Ends, in-Assigned}
 use Rattle.dh_ports.proofs.moves.all_moves.Goals as goal
 
@@ -26,8 +25,8 @@ claim-requires c = record {
   table = c.requires.table;
   layout = c.requires.layout;
   copies = copies_at c.args.layout.now.rounds.items c.args.events.now c.loop-event.event _ c.requires.copies c.loop-event-test.true c.in-Touch.access c.in-Touch.writes c.in-Touch.phase c.in-Touch.round c.in-Touch.element c.in-Touch.newest c.in-Touch.is;
-  moment = c.loop-event.invariant.1.0;
-  unled = c.requires.unled;
+  leads = c.requires.leads;
+  past = c.loop-event.invariant.1.0;
 }
 
 pub loop-event-preserved : goal.loop-event-preserved
@@ -35,24 +34,23 @@ loop-event-preserved c =
     let p = program_seen c.args.typed.now in
     let rounds = c.args.layout.now.rounds.items in
     let events = c.args.events.now in
-    let later = seen_later (numbered c.loop-event.seen.moments.items) (c.loop-event.event + 1) c.loop-event.invariant.1.0 in
     elim c.match-events-event.branch [
       | in-Touch+in_ok-claim-in-Touch w ↦
           let t = touch_turn p rounds events c.loop-event.event _ c.loop-event.moves.items c.match-events-event.moves.items _ c.loop-event-test.true c.loop-event.invariant.0 c.loop-event.invariant.1.1 w.in-Touch.access w.in-Touch.writes w.in-Touch.phase w.in-Touch.round w.in-Touch.element w.in-Touch.newest w.in-Touch.is
           (ap (λ (v : Vec Move Global). v.items) w.moves-is ∙ w.in_ok-claim-in-Touch.ensures.claims) in
-          (t.0, (subst (λ (s : Seen). IsUnseen s (c.loop-event.event + 1 + 1)) (sym w.seen-is) w.in_ok-claim-in-Touch.ensures.unseen, t.1))
+          (t.0, (subst (λ (s : Seen). IsPast s) (sym w.seen-is) w.in_ok-claim-in-Touch.ensures.past, t.1))
       | in-Begins+in_ok-push-in-Begins w ↦
           let t = begin_turn p rounds events c.loop-event.event _ c.loop-event.moves.items c.match-events-event.moves.items _ c.loop-event-test.true c.loop-event.invariant.0 c.loop-event.invariant.1.1 w.in-Begins.is (ap (λ (v : Vec Move Global). v.items) w.moves-is ∙ w.in_ok-push-in-Begins.ensures.items) in
-          (t.0, (subst (λ (s : Seen). IsUnseen s (c.loop-event.event + 1 + 1)) (sym w.seen-is) later, t.1))
+          (t.0, (subst (λ (s : Seen). IsPast s) (sym w.seen-is) c.loop-event.invariant.1.0, t.1))
       | in-Next+in_ok-push-in-Next w ↦
           let t = next_turn p rounds events c.loop-event.event _ c.loop-event.moves.items c.match-events-event.moves.items _ c.loop-event-test.true c.loop-event.invariant.0 c.loop-event.invariant.1.1 w.in-Next.is (ap (λ (v : Vec Move Global). v.items) w.moves-is ∙ w.in_ok-push-in-Next.ensures.items) in
-          (t.0, (subst (λ (s : Seen). IsUnseen s (c.loop-event.event + 1 + 1)) (sym w.seen-is) later, t.1))
+          (t.0, (subst (λ (s : Seen). IsPast s) (sym w.seen-is) c.loop-event.invariant.1.0, t.1))
       | in-Ends+in_ok-push-in-Ends w ↦
           let t = end_turn p rounds events c.loop-event.event _ c.loop-event.moves.items c.match-events-event.moves.items _ c.loop-event-test.true c.loop-event.invariant.0 c.loop-event.invariant.1.1 w.in-Ends.is (ap (λ (v : Vec Move Global). v.items) w.moves-is ∙ w.in_ok-push-in-Ends.ensures.items) in
-          (t.0, (subst (λ (s : Seen). IsUnseen s (c.loop-event.event + 1 + 1)) (sym w.seen-is) later, t.1))
+          (t.0, (subst (λ (s : Seen). IsPast s) (sym w.seen-is) c.loop-event.invariant.1.0, t.1))
       | in-Assigned w ↦
           let t = other_turn p rounds events c.loop-event.event _ c.loop-event.moves.items c.match-events-event.moves.items _ c.loop-event-test.true c.loop-event.invariant.0 c.loop-event.invariant.1.1 w.in-Assigned.is (ap (λ (v : Vec Move Global). v.items) w.moves-is) in
-          (t.0, (subst (λ (s : Seen). IsUnseen s (c.loop-event.event + 1 + 1)) (sym w.seen-is) later, t.1))
+          (t.0, (subst (λ (s : Seen). IsPast s) (sym w.seen-is) c.loop-event.invariant.1.0, t.1))
     ]
 
 pub returns : goal.returns

@@ -1,126 +1,24 @@
-use Rattle.std.proofs.Common.{rules, ◌≡◌, ℕ, List, ◌++◌, ◌+◌, ◌-◌, ◌<◌, ◌≤◌, length, get_or, ap, sym, ◌∙◌, subst, arith}
-use Rattle.std.proofs.lemmas.Result.{on_ok_weaker}
-use Rattle.dh_tree.specs.declared.trees.counters.Counter.{Counter}
-use Rattle.dh_tree.specs.Memories.{table_of}
+use Rattle.std.proofs.Common.{ap, sym, ◌∙◌}
+use Rattle.dh_tree.specs.Memories.{memories_of, number_in}
 use Rattle.dh_tree.specs.Seen.{program_seen}
-use Rattle.dh_meaning.specs.Ways.{all_bindings_of}
-use Rattle.dh_events.specs.Accesses.{loops_in}
-use Rattle.dh_ports.specs.Claims.{counts_to, source_of}
-use Rattle.dh_ports.specs.Copies.{copies_round}
-use Rattle.dh_events.specs.Tables.{numbered}
-use Rattle.dh_meets.specs.FewCopies.{most_copies}
-use Rattle.dh_ports.proofs.ClaimTurns.{none_claimed, past_claimed, one_claimed, all_claimed, entry_at, none_at, shape_at, base_at, base_there, slots_few, counted_few, no_loop, some_loop, scopes_at, kept_scopes}
-use Rattle.dh_ports.proofs.MoveTurns.{seen_later, nothing_added}
 use Rattle.dh_ports.proofs.moves.claim.Goals as goal
 
-pub returns-in_default : goal.returns-in_default
-returns-in_default c = record {
-  claims = nothing_added c.args.moves.now.items _ (none_claimed c.args.typed.now (c.args.moment - 1) (loops_in c.args.layout.now.rounds.items c.args.round) c.args.writes c.args.access.now (c.requires.unled _) c.memory_of.result c.memory_of.ensures c.in_default.is);
-  unseen = seen_later (numbered c.args.seen.now.moments.items) c.args.moment c.requires.moment;
+pub claim_led-requires : goal.claim_led-requires
+claim_led-requires c = record {
+  table = c.requires.table;
+  layout = c.requires.layout;
+  leads = c.requires.leads;
+  copies = c.requires.copies;
+  entity = c.entity_of-entity.ensures;
+  other = sym c.number_of.ensures ∙ c.in_default.is;
+  past = c.requires.past;
 }
 
-pub returns-in_default-get : goal.returns-in_default-get
-returns-in_default-get c =
-    let past : length c.as_slice.result.now ≤ c.in-Some.memory = search rules in
-    record {
-      claims = nothing_added c.args.moves.now.items _ (past_claimed c.args.typed.now (c.args.moment - 1) (loops_in c.args.layout.now.rounds.items c.args.round) c.args.writes c.args.access.now (c.requires.unled _) c.memory_of.result c.in-Some.memory c.memory_of.ensures c.in-Some.is
-          (none_at (table_of (program_seen c.args.typed.now)) c.as_slice.result.now c.in-Some.memory (c.as_slice.ensures ∙ c.memories.ensures) past));
-      unseen = seen_later (numbered c.args.seen.now.moments.items) c.args.moment c.requires.moment;
-    }
-
-pub overflow_sub-event : goal.overflow_sub-event
-overflow_sub-event c = let some = c.requires.moment 0 in omega (arith, some)
-
-pub bank_count-banks-requires : goal.bank_count-banks-requires
-bank_count-banks-requires c =
-    let within : c.in-Some.memory < length c.as_slice.result.now = search rules in
-    let is : c.in-Some-get.entry.now ≡ get_or c.as_slice.result.now c.in-Some.memory c.in-Some-get.entry.now = search rules in
-    let shape = shape_at (table_of (program_seen c.args.typed.now)) c.as_slice.result.now c.in-Some.memory c.in-Some-get.entry.now c.as_slice-dims.result.now (c.as_slice.ensures ∙ c.memories.ensures) c.requires.table within is c.as_slice-dims.ensures in
-    record { dims = shape.dims; few = shape.few }
-
-pub index-base-requires : goal.index-base-requires
-index-base-requires c =
-    let within : c.in-Some.memory < length c.as_slice.result.now = search rules in
-    subst (λ (n : ℕ). c.in-Some.memory < n) (sym c.args.layout.now.bases.ok.0)
-    (base_there (table_of (program_seen c.args.typed.now)) c.args.layout.now.bases.items c.in-Some.memory c.requires.layout.bases (subst (λ (l : List _). c.in-Some.memory < length l) (c.as_slice.ensures ∙ c.memories.ensures) within))
-
-pub bank_reached-requires : goal.bank_reached-requires
-bank_reached-requires c =
-    let within : c.in-Some.memory < length c.as_slice.result.now = search rules in
-    let is : c.in-Some-get.entry.now ≡ get_or c.as_slice.result.now c.in-Some.memory c.in-Some-get.entry.now = search rules in
-    let shape = shape_at (table_of (program_seen c.args.typed.now)) c.as_slice.result.now c.in-Some.memory c.in-Some-get.entry.now c.as_slice-dims.result.now (c.as_slice.ensures ∙ c.memories.ensures) c.requires.table within is c.as_slice-dims.ensures in
-    record { dims = shape.dims; few = shape.few }
-
-pub claim_one-requires : goal.claim_one-requires
-claim_one-requires c =
-    let p = program_seen c.args.typed.now in
-    let within : c.in-Some.memory < length c.as_slice.result.now = search rules in
-    let is : c.in-Some-get.entry.now ≡ get_or c.as_slice.result.now c.in-Some.memory c.in-Some-get.entry.now = search rules in
-    let same = c.as_slice.ensures ∙ c.memories.ensures in
-    record {
-      few = slots_few (table_of p) c.in-Some.memory c.in-Some-get.entry.now (entry_at (table_of p) c.as_slice.result.now c.in-Some.memory c.in-Some-get.entry.now same within is) c.requires.table c.index-base.result.now c.bank_count-banks.result c.as_slice-dims.result.now c.as_slice-dims.ensures
-          (base_at (table_of p) c.as_slice.result.now c.args.layout.now.bases.items c.in-Some.memory c.index-base.result.now same c.requires.layout.bases within c.index-base.ensures) c.bank_count-banks.ensures;
-    }
-
-pub returns-then-is_empty : goal.returns-then-is_empty
-returns-then-is_empty c =
-    let p = program_seen c.args.typed.now in
-    let within : c.in-Some.memory < length c.as_slice.result.now = search rules in
-    let is : c.in-Some-get.entry.now ≡ get_or c.as_slice.result.now c.in-Some.memory c.in-Some-get.entry.now = search rules in
-    let same = c.as_slice.ensures ∙ c.memories.ensures in
-    let loops_are = c.loops_round-loops.ensures ∙ ap (λ rounds. loops_in rounds c.args.round) c.as_slice-2.ensures.value in
-    let claims = one_claimed c.args.typed.now (c.args.moment - 1) (loops_in c.args.layout.now.rounds.items c.args.round) c.args.writes c.args.access.now (c.requires.unled _) c.memory_of.result c.in-Some.memory c.memory_of.ensures c.in-Some.is
-    c.in-Some-get.entry.now (entry_at (table_of p) c.as_slice.result.now c.in-Some.memory c.in-Some-get.entry.now same within is) c.as_slice-dims.result.now c.as_slice-dims.ensures c.index-base.result.now c.bank_count-banks.result
-    (base_at (table_of p) c.as_slice.result.now c.args.layout.now.bases.items c.in-Some.memory c.index-base.result.now same c.requires.layout.bases within c.index-base.ensures) c.bank_count-banks.ensures
-    (sym loops_are ∙ no_loop c.loops_round-loops.result.now c.is_empty.result c.is_empty.ensures c.if-is_empty.true) c.bank_reached.result c.bank_reached.ensures in
-    record {
-      claims = on_ok_weaker c.claim_one.result (λ so. so ∙ ap (λ l. c.args.moves.now.items ++ l) (sym claims)) c.claim_one.ensures;
-      unseen = on_ok_weaker c.claim_one.result (λ so. seen_later (numbered c.args.seen.now.moments.items) c.args.moment c.requires.moment) c.claim_one.ensures;
-    }
-
-pub keys_reaching-requires : goal.keys_reaching-requires
-keys_reaching-requires c =
-    let p = program_seen c.args.typed.now in
-    let within : c.in-Some.memory < length c.as_slice.result.now = search rules in
-    let is : c.in-Some-get.entry.now ≡ get_or c.as_slice.result.now c.in-Some.memory c.in-Some-get.entry.now = search rules in
-    let same = c.as_slice.ensures ∙ c.memories.ensures in
-    let shape = shape_at (table_of p) c.as_slice.result.now c.in-Some.memory c.in-Some-get.entry.now c.as_slice-dims.result.now same c.requires.table within is c.as_slice-dims.ensures in
-    let loops_are = c.loops_round-loops.ensures ∙ ap (λ rounds. loops_in rounds c.args.round) c.as_slice-2.ensures.value in
-    record {
-      dims = shape.dims;
-      few = shape.few;
-      banks = c.bank_count-banks.ensures;
-      copies = subst (λ (ls : List Counter). copies_round ls ≤ most_copies) (sym loops_are) c.requires.copies;
-      scopes = kept_scopes (all_bindings_of p) c.args.layout.now.scopes.items c.as_slice-scopes.result.now c.as_slice-scopes.ensures.value
-          (scopes_at p c.args.layout.now c.requires.layout c.args.round (λ none. some_loop c.loops_round-loops.result.now c.is_empty.result c.is_empty.ensures c.if-is_empty.false (loops_are ∙ none)));
-      moment = c.requires.moment;
-      unled = c.requires.unled;
-    }
-
-pub claim_all-requires : goal.claim_all-requires
-claim_all-requires c =
-    let p = program_seen c.args.typed.now in
-    let within : c.in-Some.memory < length c.as_slice.result.now = search rules in
-    let is : c.in-Some-get.entry.now ≡ get_or c.as_slice.result.now c.in-Some.memory c.in-Some-get.entry.now = search rules in
-    let same = c.as_slice.ensures ∙ c.memories.ensures in
-    record {
-      few = counted_few p c.as_slice-dims.result.now (source_of c.loops_round-loops.result.now c.args.writes c.args.access.now) c.bank_count-banks.result c.index-base.result.now c.as_slice-3.result.now (c.as_slice-3.ensures.value ∙ c.in_ok-counts.ensures.counts)
-          (slots_few (table_of p) c.in-Some.memory c.in-Some-get.entry.now (entry_at (table_of p) c.as_slice.result.now c.in-Some.memory c.in-Some-get.entry.now same within is) c.requires.table c.index-base.result.now c.bank_count-banks.result c.as_slice-dims.result.now c.as_slice-dims.ensures
-          (base_at (table_of p) c.as_slice.result.now c.args.layout.now.bases.items c.in-Some.memory c.index-base.result.now same c.requires.layout.bases within c.index-base.ensures) c.bank_count-banks.ensures);
-    }
-
-pub returns : goal.returns
-returns c =
-    let p = program_seen c.args.typed.now in
-    let within : c.in-Some.memory < length c.as_slice.result.now = search rules in
-    let is : c.in-Some-get.entry.now ≡ get_or c.as_slice.result.now c.in-Some.memory c.in-Some-get.entry.now = search rules in
-    let same = c.as_slice.ensures ∙ c.memories.ensures in
-    let loops_are = c.loops_round-loops.ensures ∙ ap (λ rounds. loops_in rounds c.args.round) c.as_slice-2.ensures.value in
-    let claims = all_claimed c.args.typed.now (c.args.moment - 1) (loops_in c.args.layout.now.rounds.items c.args.round) c.args.writes c.args.access.now (c.requires.unled _) c.memory_of.result c.in-Some.memory c.memory_of.ensures c.in-Some.is
-    c.in-Some-get.entry.now (entry_at (table_of p) c.as_slice.result.now c.in-Some.memory c.in-Some-get.entry.now same within is) c.as_slice-dims.result.now c.as_slice-dims.ensures c.index-base.result.now c.bank_count-banks.result
-    (base_at (table_of p) c.as_slice.result.now c.args.layout.now.bases.items c.in-Some.memory c.index-base.result.now same c.requires.layout.bases within c.index-base.ensures) c.bank_count-banks.ensures
-    c.as_slice-3.result.now (c.as_slice-3.ensures.value ∙ (c.in_ok-counts.ensures.counts ∙ ap (λ (ls : List Counter). counts_to p c.as_slice-dims.result.now (source_of ls c.args.writes c.args.access.now) c.bank_count-banks.result) loops_are)) in
-    record {
-      claims = on_ok_weaker c.claim_all.result (λ so. so ∙ ap (λ l. c.args.moves.now.items ++ l) (sym claims)) c.claim_all.ensures;
-      unseen = on_ok_weaker c.claim_all.result (λ so. c.in_ok-counts.ensures.unseen) c.claim_all.ensures;
-    }
+pub claim_memory-requires : goal.claim_memory-requires
+claim_memory-requires c = record {
+  table = c.requires.table;
+  layout = c.requires.layout;
+  copies = c.requires.copies;
+  named = ap (number_in (memories_of (program_seen c.args.typed.now))) (sym c.entity_of-entity.ensures) ∙ (sym c.number_of.ensures ∙ c.in-Some.is);
+  past = c.requires.past;
+}

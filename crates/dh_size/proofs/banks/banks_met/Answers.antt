@@ -3,11 +3,11 @@ use Rattle.dh_tree.specs.Memories.{table_of}
 use Rattle.dh_tree.specs.Seen.{program_seen}
 use Rattle.dh_ports.specs.Claims.{source_of}
 use Rattle.dh_ports.proofs.ClaimTurns.{entry_at, none_at, shape_at}
-use Rattle.dh_size.proofs.ChargedBanks.{entry_missing, met_done, none_met, within_few}
+use Rattle.dh_size.proofs.ChargedBanks.{entry_missing, met_done, within_few}
 use Rattle.dh_size.proofs.banks.banks_met.Goals as goal
 
-pub returns-in_default-clause-met : goal.returns-in_default-clause-met
-returns-in_default-clause-met c = sym (none_met (program_seen c.args.typed.now) (source_of c.args.loops.now false c.args.access.now) (sym c.memory_of.ensures ∙ c.in_default.is))
+pub banks_led-requires : goal.banks_led-requires
+banks_led-requires c = record { table = c.requires.table; views = c.requires.views; copies = c.requires.copies; other = sym c.memory_of.ensures ∙ c.in_default.is }
 
 pub returns-in_default-get-clause-met : goal.returns-in_default-get-clause-met
 returns-in_default-get-clause-met c =

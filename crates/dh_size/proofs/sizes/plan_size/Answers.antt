@@ -1,15 +1,20 @@
 use Rattle.std.proofs.Common.{List, ap, sym, ◌∙◌, subst}
 use Rattle.std.specs.Prelude.{Option}
+use Rattle.dh_tree.specs.Memories.{memories_of}
 use Rattle.dh_tree.specs.Seen.{action_seen, program_seen}
+use Rattle.dh_meaning.specs.Ways.{ways_of}
 use Rattle.dh_tree.specs.declared.trees.programs.Tree.{Tree}
 use Rattle.dh_tree.specs.PlainTrees.{Program}
 use Rattle.dh_events.specs.Accesses.{loops_in}
 use Rattle.dh_events.specs.Noted.{all_seen}
 use Rattle.dh_events.specs.Rounds.{rounds_of}
 use Rattle.dh_lengths.specs.SharedReads.{TellsShares}
+use Rattle.dh_runnable.proofs.ProgramsRun.{ready_few}
+use Rattle.dh_ports.specs.declared.carrying.Carrier.{Carrier}
+use Rattle.dh_ports.specs.Carriers.{AreEach}
 use Rattle.dh_ports.proofs.FirstTold.{events_seen}
-use Rattle.dh_ports.proofs.LayoutFacts.{rounds_noted}
-use Rattle.dh_ways.proofs.NoWays.{no_way_to}
+use Rattle.dh_ports.proofs.LayoutFacts.{follow_all, rounds_noted}
+use Rattle.dh_ports.proofs.SpentTold.{leads_at, ways_follow}
 use Rattle.dh_size.specs.Sizes.{sizes_from}
 use Rattle.dh_size.specs.Summed.{summed, unit_size}
 use Rattle.dh_size.proofs.EventSizes.{events_few, events_sized, size_done}
@@ -19,6 +24,23 @@ pub access_sizes-requires-clause-table : goal.access_sizes-requires-clause-table
 access_sizes-requires-clause-table c =
     let h = c.requires.ready in
     c.kept_programs_have_tables.ensures (program_seen c.args.program.now) 1048577 h.of_text h.names h.built h.indices h.limits h.placements
+
+pub ways_in-requires : goal.ways_in-requires
+ways_in-requires c = record { few = ready_few (program_seen c.args.program.now) c.requires.ready }
+
+pub carriers_of-requires : goal.carriers_of-requires
+carriers_of-requires c =
+    let h = c.requires.ready in
+    let p = program_seen c.args.program.now in
+    let table = c.kept_programs_have_tables.ensures p 1048577 h.of_text h.names h.built h.indices h.limits h.placements in
+    follow_all (memories_of p) c.in_ok-ways.ways (ways_of p) c.in_ok-ways.ensures (ways_follow p h.views table)
+
+pub access_sizes-requires-clause-views : goal.access_sizes-requires-clause-views
+access_sizes-requires-clause-views c =
+    let h = c.requires.ready in
+    let p = program_seen c.args.program.now in
+    let table = c.kept_programs_have_tables.ensures p 1048577 h.of_text h.names h.built h.indices h.limits h.placements in
+    record { ways = c.in_ok-ways.ensures; carriers = subst (λ (cs : List Carrier). AreEach c.in_ok-ways.ways cs) (sym c.as_slice-each.ensures.value) c.in_ok-carriers.ensures; leads = ways_follow p h.views table }
 
 pub access_sizes-requires-clause-few : goal.access_sizes-requires-clause-few
 access_sizes-requires-clause-few c =
@@ -39,7 +61,8 @@ returns c =
     let noted = ap rounds_of c.as_slice-2.ensures.value ∙ rounds_noted p (action_seen c.tree.result.now.body) (ap (λ (t : Tree). action_seen t.body) c.tree.ensures.tree) c.new-rounds.result c.note_rounds.new.rounds c.new-rounds.ensures.items c.in_ok-note_rounds.ensures in
     let seen = events_seen p (program_seen c.tree.result.now) same c.new-stages.result.items c.note_stages.new.stages.items c.as_slice.result.now c.new-notes.result.events.items c.note_body.new.notes.events.items c.as_slice-events.result.now
     c.new-stages.ensures.items c.in_ok-note_stages.ensures.noted c.as_slice.ensures.value c.new-notes.ensures.empty c.in_ok-note_body.ensures.adds c.as_slice-events.ensures.value in
+    let table = c.kept_programs_have_tables.ensures p 1048577 h.of_text h.names h.built h.indices h.limits h.placements in
     let shares : TellsShares p c.as_slice-3.result.now = subst (λ (ss : List (Option _)). TellsShares p ss) (sym c.as_slice-3.ensures.value) (c.in_ok-shares.ensures p h.of_text.first body h.of_text.numbered) in
     size_done p (sizes_from p (loops_in c.as_slice-2.result.now) c.as_slice-3.result.now 0 (all_seen c.as_slice-events.result.now)) c.in_ok-accesses.accesses c.with_command.result c.min.result c.in_ok-accesses.ensures
-    (events_sized p h.of_text.first h.of_text.numbered c.as_slice-2.result.now noted c.as_slice-events.result.now seen c.as_slice-3.result.now (no_way_to p h.built) shares)
+    (events_sized p h.of_text.first h.of_text.numbered c.as_slice-2.result.now noted c.as_slice-events.result.now seen c.as_slice-3.result.now (λ k a e w u. leads_at p h.views table k a e w u) shares)
     (c.with_command.ensures ∙ ap (λ a. summed c.in_ok-accesses.accesses (unit_size a)) (sym body)) c.min.ensures

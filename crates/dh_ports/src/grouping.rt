@@ -1,0 +1,144 @@
+//! With how many keys the copies of an access through views charge each bank of the memory: group by group of copies
+//! for which the offsets of shifts are equal.
+
+ghost use Rattle.std.specs.Prelude.{◌≡◌, ◌<◌, ◌≤◌, ◌+◌, ◌*◌, ℕ, length, slice_index, IfOk, OnOk};
+ghost use Rattle.std.specs.List.{AllByRecursion};
+ghost use Rattle.dh_tree.specs.Elements.{banks_of};
+ghost use Rattle.dh_tree.specs.Seen.{program_seen};
+ghost use Rattle.dh_tree.specs.Shapes.{most_banks, IsDim};
+ghost use Rattle.dh_viewing.specs.Carried.{largest};
+ghost use Rattle.dh_meaning.specs.Ways.{all_bindings_of};
+ghost use Rattle.dh_meets.specs.Charges.{charge_through};
+ghost use Rattle.dh_meets.specs.FewCopies.{most_copies};
+ghost use Rattle.dh_ways.specs.Seen.{way_seen};
+ghost use Rattle.dh_events.specs.Scopes.{AreScopes};
+ghost use Rattle.dh_ports.specs.Banks.{each_below};
+ghost use Rattle.dh_ports.specs.Carriers.{carried_to, AddsCarried, AreGroupSums, Carries};
+ghost use Rattle.dh_ports.specs.Claims.{source_of};
+ghost use Rattle.dh_ports.specs.Copies.{copies_round, AreCounts, IsPast, TellsPaths};
+
+use crate::carrying::{Carrier, carried_at};
+use crate::copies::{Copied, Reach, reach_in, stride_of};
+use crate::counting::{Seen, clear, count_paths, no_counts};
+use dh_base::NoMemory;
+use dh_events::Scope;
+use dh_tree::Typed;
+use dh_ways::WayRef;
+use std::alloc::Global;
+
+/// The largest of these counts.
+fn largest_of(counts: &[usize]) -> usize
+    ensures { result ≡ largest (slice_index counts.now) (length counts.now) }
+{
+    let mut most: usize = 0;
+    for i in 0..counts.len() {
+        most = most.max(counts[i]);
+    }
+    most
+}
+
+/// Counts anew at each of so many banks with how many keys so many paths reach it, from that of a number on.
+fn count_group(
+    seen: &mut Seen,
+    counts: &mut Vec<usize>,
+    banks: u64,
+    reach: &Reach,
+    from: u64,
+    many: u64,
+) -> Result<(), NoMemory>
+    requires tells { TellsPaths reach.now }
+    requires range { from + many ≤ most_copies }
+    requires few { banks ≤ most_banks }
+    requires long { length counts.old.items ≡ banks }
+    requires past { IsPast seen.old }
+    ensures counts { OnOk result (AreCounts reach.now from many banks counts.new.items) }
+    ensures past { OnOk result (IsPast seen.new) }
+{
+    clear(counts.as_mut_slice());
+    seen.begin();
+    count_paths(seen, counts, banks, reach, from, many)
+}
+
+/// Adds to the sum of each bank of a memory what is carried there of counts.
+fn add_carried(sums: &mut [usize], counts: &[usize], carrier: &Carrier)
+    requires long { length sums.old ≡ length carrier.now.sources.items }
+    requires banks { length counts.now ≡ carrier.now.banks }
+    requires within { (bank : ℕ) → bank < length carrier.now.sources.items
+        → slice_index carrier.now.sources.items bank < carrier.now.banks }
+    requires few { (bank : ℕ) → bank < length sums.old → slice_index sums.old bank
+        + carried_to carrier.now (slice_index counts.now) bank ≤ most_copies }
+    ensures { AddsCarried carrier.now (slice_index counts.now) sums.old sums.new }
+{
+    let most = largest_of(counts);
+    for bank in 0..sums.len() {
+        let more = carried_at(carrier, counts, most, bank);
+        let sum = sums[bank] + more;
+        sums[bank] = sum;
+    }
+}
+
+/// For each bank of a memory the sum of what so many groups of so many paths carry there.
+fn carried_sums(
+    alloc: Global,
+    seen: &mut Seen,
+    reach: &Reach,
+    carrier: &Carrier,
+    stride: u64,
+    groups: u64,
+) -> Result<Vec<usize>, NoMemory>
+    requires tells { TellsPaths reach.now }
+    requires range { groups * stride ≤ most_copies }
+    requires few { carrier.now.banks ≤ most_banks }
+    requires within { (bank : ℕ) → bank < length carrier.now.sources.items
+        → slice_index carrier.now.sources.items bank < carrier.now.banks }
+    requires past { IsPast seen.old }
+    ensures sums { IfOk result (λ sums. AreGroupSums reach.now carrier.now
+        stride groups sums.items) }
+    ensures past { OnOk result (IsPast seen.new) }
+{
+    let banks = carrier.banks;
+    let mut counts = no_counts(alloc, banks)?;
+    let mut sums = no_counts(alloc, carrier.sources.len() as u64)?;
+    for group in 0..groups {
+        let from = group * stride;
+        count_group(seen, &mut counts, banks, reach, from, stride)?;
+        add_carried(sums.as_mut_slice(), counts.as_slice(), carrier);
+    }
+    Ok(sums)
+}
+
+/// For each of the banks of a memory how much the copies of an access through the views on a way charge it.
+pub fn keys_through(
+    alloc: Global,
+    typed: &Typed,
+    scopes: &[Option<Scope>],
+    seen: &mut Seen,
+    way: &WayRef<'_>,
+    carrier: &Carrier,
+    copied: Copied<'_>,
+) -> Result<Vec<usize>, NoMemory>
+    requires dims { AllByRecursion IsDim copied.dims.now }
+    requires few { banks_of copied.dims.now ≤ most_banks }
+    requires named { copied.dims.now ≡ way.now.view.shape.dims }
+    requires copies { copies_round copied.loops.now ≤ most_copies }
+    requires scopes { AreScopes (all_bindings_of (program_seen typed.now)) scopes.now }
+    requires carries { Carries (way_seen way.now) carrier.now }
+    requires past { IsPast seen.old }
+    ensures counts { IfOk result (λ sums. sums.items ≡ each_below
+        (charge_through (program_seen typed.now) (way_seen way.now)
+        (source_of copied.entry.loops.now copied.entry.writes copied.entry.access.now))
+        (length carrier.now.sources.items)) }
+    ensures past { OnOk result (IsPast seen.new) }
+{
+    let reach = reach_in(alloc, typed, scopes, copied)?;
+    let count = reach.paths.count;
+    if count == 0 {
+        let none = no_counts(alloc, carrier.sources.len() as u64)?;
+        return Ok(none);
+    }
+    let deep = way.shifts();
+    let stride = stride_of(reach.paths.levels.as_slice(), deep, count);
+    let groups = count / stride;
+    let sums = carried_sums(alloc, seen, &reach, carrier, stride, groups)?;
+    Ok(sums)
+}
