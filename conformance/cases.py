@@ -24,6 +24,10 @@ def content(value):
     if 'path' in value:
         with open(os.path.join(TOP, value['path']), 'rb') as file:
             return file.read()
+    if 'numbered' in value:
+        piece, count = value['numbered']
+        pieces = (piece.replace('{this}', str(n)).replace('{next}', str(n + 1)) for n in range(count))
+        return (value.get('prefix', '') + ''.join(pieces) + value.get('suffix', '')).encode()
     unit, count = value['repeat']
     return (value.get('prefix', '') + unit * count + value.get('suffix', '')).encode()
 

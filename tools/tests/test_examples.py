@@ -19,6 +19,11 @@ CHANGES = [
     ('two_ports_wanted', 'table[0] := 3;', 'table[0] := 3 ---', 3),
     ('two_ports_wanted', 'ubit<32>[2]', 'ubit<32>{2}[2]', 'refused K20 ReadAfterWrite 4:26'),
     ('block_beside_a_store', '+ 1 }', '+ 1 } ---', 4),
+    ('stencil_through_suffix', 'let left = window[i];', 'let left = a[4 * turn + i];', 'refused K11 DynamicBank 10:22'),
+    ('stencil_through_suffix', 'let left = window[i];\n        ---\n', 'let left = window[i];\n', 'refused K19 PortsSpent 11:22'),
+    ('stencil_through_shift', 'let left = window[i];\n        ---\n', 'let left = window[i];\n', 'refused K19 PortsSpent 12:22'),
+    ('matrix_product_through_views', 'product[4 * i + j]', 'c[4 * i + j]', 'refused K11 DynamicBank 22:11'),
+    ('matrix_product_through_views', '[by 2 * j];\n', '[by 2 * j];\n        ---\n', 80),
 ]
 
 
@@ -74,7 +79,11 @@ class Examples(unittest.TestCase):
         results = {'first': {'A': [7], 'B': [8]}}
         results.update((name, {'product': [120]}) for name, what, *_ in rows() if 'dot_product' in name and '**' not in what)
         results.update((name, {'counts': [1, 2, 2, 3, 1, 3, 1, 3]}) for name, *_ in rows() if name.startswith('histogram'))
-        self.assertEqual(9, len(results))
+        results.update((name, {'b': [2, 2, 2, 5, 6, 4, 4, 4]}) for name, *_ in rows() if name.startswith('stencil'))
+        rows_of_c = [[32, 19, 41, 21], [76, 59, 105, 53], [120, 99, 169, 85], [164, 139, 233, 117]]
+        products = [name for name, *_ in rows() if name.startswith('matrix_product')]
+        results.update((name, {'c': sum(rows_of_c, []) if 'views' in name else rows_of_c}) for name in products)
+        self.assertEqual(17, len(results))
         for name, memories in results.items():
             found = json.loads(simulated(name)[1])['memories']
             self.assertEqual(memories, {each: found[each]['data'] for each in memories}, name)
