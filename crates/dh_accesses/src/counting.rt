@@ -86,9 +86,10 @@ pub fn behind_command(first: u32, command: &Command) -> u32
         CommandForm::Let { value, .. } => behind_value(first, value),
         CommandForm::Assign { value, .. } => behind_term(first, value),
         CommandForm::Reduce { value, .. } => behind_term(first, value),
-        CommandForm::Store { target, value } => {
-            let next = behind_term(first, value);
-            behind_term(next, target)
+        CommandForm::Store { sides } => {
+            let sides = sides.as_ref();
+            let next = behind_term(first, &sides.value);
+            behind_term(next, &sides.target)
         }
         CommandForm::If { test, then, other } => {
             let tests = behind_term(first, test);

@@ -114,12 +114,12 @@ fn meet(alloc: Global, unrolled: bool, first: u32, command: &Command) -> Result<
             })
         }
         CommandForm::For {
-            factor,
+            header,
             body,
             combine,
-            ..
         } => {
-            let inside = unrolled | (*factor > 1);
+            let header = header.as_ref();
+            let inside = unrolled | (header.factor > 1);
             let body = meet(alloc, inside, first, body)?;
             let joins = meet_other(alloc, inside, body.next, combine)?;
             let meets = both(alloc, body.meets, joins.meets)?;

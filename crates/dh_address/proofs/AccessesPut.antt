@@ -22,11 +22,11 @@ use Rattle.dh_rows.proofs.Growing.{grows_self, grows_on, value_later, maybe_late
 use Rattle.dh_address.specs.declared.literals.LiteralPlace.{LiteralPlace}
 use Rattle.dh_address.specs.declared.operands.Operand.{Operand}
 use Rattle.dh_address.specs.LiteralPlaces.{literal_places}
-use Rattle.dh_address.specs.Pieces.{Around, new_number, new_or_none, known_kind, all_taken, values_of, aimed, is_banked, aim_width, waited, IsAimed}
+use Rattle.dh_address.specs.Pieces.{Around, new_number, new_or_none, known_kind, all_taken, values_of, aimed, is_banked, aim_width, select_width, waited, IsAimed}
 use Rattle.dh_address.specs.WaysMade.{operand_of}
 use Rattle.dh_address.proofs.TestedRanges.{IsThere, all_there, begun_later}
 use Rattle.dh_address.proofs.AimedRows.{HasSelect, PlaceFits, index_aim_put, waited_put, IsInputOrNone}
-use Rattle.dh_address.proofs.LiteralMeans.{dims_formed, elements_below, width_suffices, literal_place_is}
+use Rattle.dh_address.proofs.LiteralMeans.{dims_formed, elements_below, width_suffices, bank_fits, select_suffices, literal_place_is}
 
 pub all_join : {A : Type 0} (P : A → Type 0) (xs ys : List A) → AllByRecursion P xs → AllByRecursion P ys → AllByRecursion P (xs ++ ys)
 all_join P [] ys h k = k
@@ -156,13 +156,13 @@ module _ (x : Readings) (clock : ℕ) (a : Around) where
 
   module _ (p : PlainPlan) (tables : a.table ≡ p.table) (formed : IsProgramTable p.table) (r : Reach) (suits : ReachSuits p a.first a.kinds r) where
     place_fits : (is : List Operand) (place : Option LiteralPlace) → literal_places (dims_at a.table r.memory) is 0 0 ≡ place → length is ≡ length (dims_at a.table r.memory)
-        → PlaceFits x clock (aim_width (dims_at a.table r.memory)) place
+        → PlaceFits x clock (aim_width (dims_at a.table r.memory)) (select_width (dims_at a.table r.memory)) place
     place_fits is None e long = tt
     place_fits is (Some place) e long =
         let of_a = subst (λ (t : _). IsProgramTable t) (sym tables) formed in
         let l = literal_place_is (dims_at a.table r.memory) is place (dims_formed a.table r.memory of_a.entries) (elements_below a.table r.memory of_a) long e in
         let w = (width_suffices a.table r.memory of_a).most in
-        (less place.row _ _ l.row_small w, less place.bank _ _ l.bank_small w)
+        (less place.row _ _ l.row_small w, bank_fits (select_width (dims_at a.table r.memory)) (dims_at a.table r.memory) place.bank (select_suffices a.table r.memory of_a) l.bank_within)
       where
         less : (n m b : ℕ) → n < m → m < b → n < b
         less n m b l k = omega (arith, l, k)
@@ -178,8 +178,9 @@ module _ (x : Readings) (clock : ℕ) (a : Around) where
         let mid = (waited old (new_or_none a r.select)).operations in
         let g = w.adds.grows in
         let wide = width_suffices a.table r.memory (subst (λ (tb : _). IsProgramTable tb) (sym tables) formed) in
-        let aim = index_aim_put x clock (literal_places (dims_at a.table r.memory) is 0 0) (aim_width (dims_at a.table r.memory)) (dims_at a.table r.memory)
-        (values_of is) (is_banked r) mid last h.row h.select h.aim wide (place_fits is _ refl long) (begun_later x old mid g begun) (there_inputs mid is (all_there x clock old mid g is there))
+        let few = select_suffices a.table r.memory (subst (λ (tb : _). IsProgramTable tb) (sym tables) formed) in
+        let aim = index_aim_put x clock (literal_places (dims_at a.table r.memory) is 0 0) (aim_width (dims_at a.table r.memory)) (select_width (dims_at a.table r.memory)) (dims_at a.table r.memory)
+        (values_of is) (is_banked r) mid last h.row h.select h.aim wide few.sized (place_fits is _ refl long) (begun_later x old mid g begun) (there_inputs mid is (all_there x clock old mid g is there))
         in
         record {
           adds = adds_on x clock old mid last w.adds aim.adds;
@@ -193,7 +194,7 @@ module _ (x : Readings) (clock : ℕ) (a : Around) where
               (maybe_number last 1 (waited old (new_or_none a r.select)).sum (omega arith, omega arith)
               (maybe_later x clock mid last (kind.Unsigned 1) (waited old (new_or_none a r.select)).sum aim.adds.grows w.stands));
           row_there = number_there last (kind.Unsigned (aim_width (dims_at a.table r.memory))) h.row wide.sized aim.row_stands;
-          select_there = maybe_count last (aim_width (dims_at a.table r.memory)) h.select aim.select_stands;
+          select_there = maybe_count last (select_width (dims_at a.table r.memory)) h.select aim.select_stands;
           picks = picked r h.select aim.has;
         }
     aims_put (Some row) e picks is old last t h begun long there taken =

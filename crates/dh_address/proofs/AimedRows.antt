@@ -5,7 +5,8 @@ use Rattle.std.specs.List.{AllByRecursion}
 use Rattle.std.proofs.lemmas.Nat.{pow_pos}
 use Rattle.dh_value.specs.declared.kinds.Kind.{Kind}
 use Rattle.dh_value.specs.declared.kinds.Kind.TheVariants as kind
-use Rattle.dh_value.specs.Words.{IsWidth, IsWord, with_bits}
+use Rattle.dh_value.specs.declared.words.Word.{Word}
+use Rattle.dh_value.specs.Words.{IsWidth, IsWord, value_of, with_bits, word_of}
 use Rattle.dh_tree.specs.declared.tables.Dim.{Dim}
 use Rattle.dh_tree.specs.Elements.{bank_of, row_of}
 use Rattle.dh_plan.specs.declared.operations.Operation.{Operation}
@@ -14,8 +15,9 @@ use Rattle.dh_rows.specs.Readings.{Readings, Obeys, IsEarlier, Grows, Adds, IsVa
 use Rattle.dh_rows.specs.RowsShown.{Shows, ShowsOrZero, IsInput, AreWithin, HasWidth, IsRowMade}
 use Rattle.dh_rows.specs.MadeOperations.{Made, constant_made, or_zero}
 use Rattle.dh_rows.proofs.Growing.{grows_self, grows_on, plain_grows, pushed_grows, obeys_before, pushed_word, value_later, maybe_later, adds_self, adds_on, pushed_adds, pushed_value}
+use Rattle.dh_rows.proofs.CountWords.{number_word}
 use Rattle.dh_address.specs.declared.literals.LiteralPlace.{LiteralPlace}
-use Rattle.dh_address.specs.Pieces.{IsAim, IsAimBut, waited}
+use Rattle.dh_address.specs.Pieces.{IsAim, IsAimBut, narrowed, waited}
 use Rattle.dh_address.proofs.TestedRanges.{PutsMaybe, begun_later}
 
 -- a select is there if the bank is wanted
@@ -30,10 +32,10 @@ module _ (x : Readings) (clock : ℕ) where
     pub stands : IsValue x clock m.operations k m.value
 
   -- plain operations, a row, and a bank where it is wanted
-  pub record PutsAim (old new : List Operation) (k : Kind) (banked : Bool) (row : ℕ) (select : Option ℕ) : Type 0 where
+  pub record PutsAim (old new : List Operation) (k j : Kind) (banked : Bool) (row : ℕ) (select : Option ℕ) : Type 0 where
     pub adds : Adds x clock old new
     pub row_stands : IsValue x clock new k row
-    pub select_stands : IsValueOrNone x clock new k select
+    pub select_stands : IsValueOrNone x clock new j select
     pub has : HasSelect banked select
 
   constant_put : (old : List Operation) (width n : ℕ) → x.first ≤ length old → IsWord (with_bits (kind.Unsigned width) n) → PutsMade old (constant_made old width n) (kind.Unsigned width)
@@ -50,16 +52,27 @@ module _ (x : Readings) (clock : ℕ) where
   or_zero_put old width None sized begun h = constant_put old width 0 begun (zero_word width sized)
   or_zero_put old width (Some value) sized begun h = record { adds = adds_self x clock old; stands = h }
 
-  aim_put : (old : List Operation) (k : Kind) (banked : Bool) (row bank : Made) (new : List Operation) (number : ℕ) (select : Option ℕ)
-      → PutsMade old row k → PutsMade row.operations bank k → IsAim banked row bank new number select → PutsAim old new k banked number select
-  aim_put old k false row bank new number select r b h =
-      subst (λ (os : List Operation). PutsAim old os k false number select) (sym h.0)
-      (subst (λ (n : ℕ). PutsAim old row.operations k false n select) (sym h.1.0)
-      (subst (λ (s : Option ℕ). PutsAim old row.operations k false row.value s) (sym h.1.1) (record { adds = r.adds; row_stands = r.stands; select_stands = tt; has = refl })))
-  aim_put old k true row bank new number select r b h =
-      subst (λ (os : List Operation). PutsAim old os k true number select) (sym h.0)
-      (subst (λ (n : ℕ). PutsAim old bank.operations k true n select) (sym h.1.0)
-      (subst (λ (s : Option ℕ). PutsAim old bank.operations k true row.value s) (sym h.1.1)
+  -- cut to the width of selects
+  narrowed_put : (old : List Operation) (bank : Made) (k : Kind) (narrow : ℕ) → IsWidth narrow → x.first ≤ length old → PutsMade old bank k → PutsMade old (narrowed narrow bank) (kind.Unsigned narrow)
+  narrowed_put old bank k narrow sized begun h =
+      let behind = begun_later x old bank.operations h.adds.grows begun in
+      let takes : (Obeys x bank.operations → AllByRecursion (λ v. IsEarlier x clock (length bank.operations) v) (bank.value ∷ [])) = λ o. ((h.stands o).earlier, tt) in
+      record {
+        adds = adds_on x clock old bank.operations (narrowed narrow bank).operations h.adds
+            (pushed_adds x clock bank.operations (Convert bank.value (kind.Unsigned narrow)) refl behind takes (λ o. sized));
+        stands = pushed_value x clock bank.operations (Convert bank.value (kind.Unsigned narrow)) refl behind takes (λ o. sized) (kind.Unsigned narrow) (λ o. refl);
+      }
+
+  aim_put : (old : List Operation) (k j : Kind) (banked : Bool) (row bank : Made) (new : List Operation) (number : ℕ) (select : Option ℕ)
+      → PutsMade old row k → PutsMade row.operations bank j → IsAim banked row bank new number select → PutsAim old new k j banked number select
+  aim_put old k j false row bank new number select r b h =
+      subst (λ (os : List Operation). PutsAim old os k j false number select) (sym h.0)
+      (subst (λ (n : ℕ). PutsAim old row.operations k j false n select) (sym h.1.0)
+      (subst (λ (s : Option ℕ). PutsAim old row.operations k j false row.value s) (sym h.1.1) (record { adds = r.adds; row_stands = r.stands; select_stands = tt; has = refl })))
+  aim_put old k j true row bank new number select r b h =
+      subst (λ (os : List Operation). PutsAim old os k j true number select) (sym h.0)
+      (subst (λ (n : ℕ). PutsAim old bank.operations k j true n select) (sym h.1.0)
+      (subst (λ (s : Option ℕ). PutsAim old bank.operations k j true row.value s) (sym h.1.1)
       (record {
         adds = adds_on x clock old row.operations bank.operations r.adds b.adds;
         row_stands = value_later x clock row.operations bank.operations k row.value b.adds.grows r.stands;
@@ -67,28 +80,31 @@ module _ (x : Readings) (clock : ℕ) where
         has = (bank.value, refl);
       })))
 
-  -- a constant place whose numbers fit the width
-  abbrev pub PlaceFits : (width : ℕ) → Option LiteralPlace → Type 0
-  PlaceFits width None = Unit {0}
-  PlaceFits width (Some place) = (place.row < 2 ^ width) × (place.bank < 2 ^ width)
+  -- a constant place whose numbers fit their widths
+  abbrev pub PlaceFits : (width narrow : ℕ) → Option LiteralPlace → Type 0
+  PlaceFits width narrow None = Unit {0}
+  PlaceFits width narrow (Some place) = (place.row < 2 ^ width) × (place.bank < 2 ^ narrow)
 
-  pub index_aim_put : (place : Option LiteralPlace) (width : ℕ) (dims : List Dim) (indices : List ℕ) (banked : Bool) (old new : List Operation) (row : ℕ) (select : Option ℕ)
-      → IsAimBut place width dims indices banked old new row select → HasWidth width dims → PlaceFits width place → x.first ≤ length old → AllByRecursion (λ i. IsInput x clock old i) indices
-      → PutsAim old new (kind.Unsigned width) banked row select
-  index_aim_put (Some place) width dims indices banked old new row select h wide fits begun inputs =
+  pub index_aim_put : (place : Option LiteralPlace) (width narrow : ℕ) (dims : List Dim) (indices : List ℕ) (banked : Bool) (old new : List Operation) (row : ℕ) (select : Option ℕ)
+      → IsAimBut place width narrow dims indices banked old new row select → HasWidth width dims → IsWidth narrow → PlaceFits width narrow place → x.first ≤ length old
+      → AllByRecursion (λ i. IsInput x clock old i) indices → PutsAim old new (kind.Unsigned width) (kind.Unsigned narrow) banked row select
+  index_aim_put (Some place) width narrow dims indices banked old new row select h wide few fits begun inputs =
       let row_made = constant_made old width place.row in
-      aim_put old (kind.Unsigned width) banked row_made (constant_made row_made.operations width place.bank) new row select
+      aim_put old (kind.Unsigned width) (kind.Unsigned narrow) banked row_made (constant_made row_made.operations narrow place.bank) new row select
       (constant_put old width place.row begun (record { sized = wide.sized; fits = fits.0 }))
-      (constant_put row_made.operations width place.bank (begun_later x old row_made.operations (pushed_grows old None _) begun) (record { sized = wide.sized; fits = fits.1 })) h
-  index_aim_put None width dims indices banked old new row select h wide fits begun inputs =
+      (constant_put row_made.operations narrow place.bank (begun_later x old row_made.operations (pushed_grows old None _) begun) (record { sized = few; fits = fits.1 })) h
+  index_aim_put None width narrow dims indices banked old new row select h wide few fits begun inputs =
       let m : IsRowMade width dims indices banked old h.spread h.values.row h.values.bank = h.made wide in
       let row_made = or_zero h.spread width h.values.row in
       let at_spread = begun_later x old h.spread (plain_grows old h.spread h.grows) begun in
       let r = or_zero_put h.spread width h.values.row wide.sized at_spread (m.row_stands x clock begun inputs) in
       let grown = grows_on old h.spread row_made.operations (plain_grows old h.spread h.grows) r.adds.grows in
-      let b = or_zero_put row_made.operations width h.values.bank wide.sized (begun_later x old row_made.operations grown begun)
+      let at_row = begun_later x old row_made.operations grown begun in
+      let b = or_zero_put row_made.operations width h.values.bank wide.sized at_row
       (maybe_later x clock h.spread row_made.operations (kind.Unsigned width) h.values.bank r.adds.grows (m.bank_stands x clock begun inputs)) in
-      let aim = aim_put h.spread (kind.Unsigned width) banked row_made (or_zero row_made.operations width h.values.bank) new row select r b h.aim in
+      let bank = or_zero row_made.operations width h.values.bank in
+      let c = narrowed_put row_made.operations bank (kind.Unsigned width) narrow few at_row b in
+      let aim = aim_put h.spread (kind.Unsigned width) (kind.Unsigned narrow) banked row_made (narrowed narrow bank) new row select r c h.aim in
       record {
         adds = adds_on x clock old h.spread new (m.adds x clock begun inputs) aim.adds;
         row_stands = aim.row_stands;
@@ -114,11 +130,11 @@ module _ (x : Readings) (clock : ℕ) where
 
 -- What they show.
 
-module _ (x : Readings) (width : ℕ) where
+module _ (x : Readings) (width narrow : ℕ) where
   -- a select, where there is one, shows the bank
   abbrev pub ShowsSelect : Option ℕ → (bank : ℕ) → Type 0
   ShowsSelect None bank = Unit {0}
-  ShowsSelect (Some v) bank = Shows x width v bank
+  ShowsSelect (Some v) bank = Shows x narrow v bank
 
   pub record ShowsAim (row : ℕ) (select : Option ℕ) (row_number bank : ℕ) : Type 0 where
     pub row_shown : Shows x width row row_number
@@ -130,12 +146,19 @@ module _ (x : Readings) (width : ℕ) where
       pushed_word x old (Constant (with_bits (kind.Unsigned width) 0)) refl begun obeys ∙ ap (λ (m : ℕ). with_bits (kind.Unsigned width) m) (sym h)
   or_zero_shows old (Some value) n begun obeys h = h
 
-  constant_shows : (old : List Operation) (n : ℕ) → x.first ≤ length old → Obeys x (constant_made old width n).operations → Shows x width (constant_made old width n).value n
-  constant_shows old n begun obeys = pushed_word x old (Constant (with_bits (kind.Unsigned width) n)) refl begun obeys
+  constant_shows : (old : List Operation) (w n : ℕ) → x.first ≤ length old → Obeys x (constant_made old w n).operations → Shows x w (constant_made old w n).value n
+  constant_shows old w n begun obeys = pushed_word x old (Constant (with_bits (kind.Unsigned w) n)) refl begun obeys
+
+  -- a bank that fits is the same as a select
+  narrowed_shows : (bank : Made) (n : ℕ) → x.first ≤ length bank.operations → n < 2 ^ narrow → Obeys x (narrowed narrow bank).operations → Shows x width bank.value n
+      → Shows x narrow (narrowed narrow bank).value n
+  narrowed_shows bank n begun fits obeys h =
+      pushed_word x bank.operations (Convert bank.value (kind.Unsigned narrow)) refl begun obeys
+      ∙ (ap (λ (w : Word). word_of (kind.Unsigned narrow) (value_of w)) h ∙ number_word narrow n fits)
 
   aim_shows : (banked : Bool) (row bank : Made) (new : List Operation) (number : ℕ) (select : Option ℕ) (row_number bank_number : ℕ)
       → Grows row.operations bank.operations → IsAim banked row bank new number select → Obeys x new
-      → (Obeys x row.operations → Shows x width row.value row_number) → (banked ≡ true → Obeys x bank.operations → Shows x width bank.value bank_number)
+      → (Obeys x row.operations → Shows x width row.value row_number) → (banked ≡ true → Obeys x bank.operations → Shows x narrow bank.value bank_number)
       → ShowsAim number select row_number bank_number
   aim_shows false row bank new number select row_number bank_number grown h obeys r b =
       subst (λ (n : ℕ). ShowsAim n select row_number bank_number) (sym h.1.0)
@@ -162,25 +185,31 @@ module _ (x : Readings) (width : ℕ) where
   aim_grows true row bank new number select g h = subst (λ (os : List Operation). Grows row.operations os) (sym h.0) g
 
   pub index_aim_shows : (place : Option LiteralPlace) (dims : List Dim) (indices : List ℕ) (banked : Bool) (old new : List Operation) (row : ℕ) (select : Option ℕ) (numbers : List ℕ)
-      → IsAimBut place width dims indices banked old new row select → HasWidth width dims → PlaceIs place (row_of dims numbers) (bank_of dims numbers) → x.first ≤ length old → Obeys x new
-      → AreWithin x dims indices numbers → ShowsAim row select (row_of dims numbers) (bank_of dims numbers)
-  index_aim_shows (Some place) dims indices banked old new row select numbers h wide is begun obeys within =
+      → IsAimBut place width narrow dims indices banked old new row select → HasWidth width dims → bank_of dims numbers < 2 ^ narrow → PlaceIs place (row_of dims numbers) (bank_of dims numbers)
+      → x.first ≤ length old → Obeys x new → AreWithin x dims indices numbers → ShowsAim row select (row_of dims numbers) (bank_of dims numbers)
+  index_aim_shows (Some place) dims indices banked old new row select numbers h wide fits is begun obeys within =
       let row_made = constant_made old width place.row in
       let grown = pushed_grows old None (Constant (with_bits (kind.Unsigned width) place.row)) in
-      aim_shows banked row_made (constant_made row_made.operations width place.bank) new row select (row_of dims numbers) (bank_of dims numbers)
+      aim_shows banked row_made (constant_made row_made.operations narrow place.bank) new row select (row_of dims numbers) (bank_of dims numbers)
       (pushed_grows row_made.operations None _) h obeys
-      (λ o. subst (λ (n : ℕ). Shows x width (length old) n) is.0 (constant_shows old place.row begun o))
-      (λ b o. subst (λ (n : ℕ). Shows x width (length row_made.operations) n) is.1 (constant_shows row_made.operations place.bank (begun_later x old row_made.operations grown begun) o))
-  index_aim_shows None dims indices banked old new row select numbers h wide is begun obeys within =
+      (λ o. subst (λ (n : ℕ). Shows x width (length old) n) is.0 (constant_shows old width place.row begun o))
+      (λ b o. subst (λ (n : ℕ). Shows x narrow (length row_made.operations) n) is.1 (constant_shows row_made.operations narrow place.bank (begun_later x old row_made.operations grown begun) o))
+  index_aim_shows None dims indices banked old new row select numbers h wide fits is begun obeys within =
       let m : IsRowMade width dims indices banked old h.spread h.values.row h.values.bank = h.made wide in
       let row_made = or_zero h.spread width h.values.row in
       let row_grows = or_zero_grows h.spread h.values.row in
-      let bank_grows = or_zero_grows row_made.operations h.values.bank in
+      let bank = or_zero row_made.operations width h.values.bank in
+      let cut_grows = pushed_grows bank.operations None (Convert bank.value (kind.Unsigned narrow)) in
+      let to_bank = or_zero_grows row_made.operations h.values.bank in
+      let bank_grows = grows_on row_made.operations bank.operations (narrowed narrow bank).operations to_bank cut_grows in
       let at_spread = begun_later x old h.spread (plain_grows old h.spread h.grows) begun in
       let spread_obeys : Obeys x h.spread =
       obeys_before x h.spread row_made.operations row_grows (obeys_before x row_made.operations new
-      (aim_grows banked row_made (or_zero row_made.operations width h.values.bank) new row select bank_grows h.aim) obeys)
+      (aim_grows banked row_made (narrowed narrow bank) new row select bank_grows h.aim) obeys)
       in
-      aim_shows banked row_made (or_zero row_made.operations width h.values.bank) new row select (row_of dims numbers) (bank_of dims numbers) bank_grows h.aim obeys
+      let at_row = begun_later x h.spread row_made.operations row_grows at_spread in
+      aim_shows banked row_made (narrowed narrow bank) new row select (row_of dims numbers) (bank_of dims numbers) bank_grows h.aim obeys
       (λ o. or_zero_shows h.spread h.values.row (row_of dims numbers) at_spread o (m.row_shown x numbers begun spread_obeys within))
-      (λ b o. or_zero_shows row_made.operations h.values.bank (bank_of dims numbers) (begun_later x h.spread row_made.operations row_grows at_spread) o (m.bank_shown x numbers begun spread_obeys within b))
+      (λ b o. narrowed_shows bank (bank_of dims numbers) (begun_later x row_made.operations bank.operations to_bank at_row) fits o
+      (or_zero_shows row_made.operations h.values.bank (bank_of dims numbers) at_row (obeys_before x bank.operations (narrowed narrow bank).operations cut_grows o)
+      (m.bank_shown x numbers begun spread_obeys within b)))

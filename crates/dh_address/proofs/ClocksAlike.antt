@@ -288,7 +288,7 @@ module _ (p : PlainPlan) (maps : HasMaps p) (tables : IsProgramTable p.table) (b
           let w = waited here (new_or_none a r.select) in
           let b = subst (λ (u : Reach). AllByRecursion P (reach_takes u)) h.reach below in
           let first_part = all_left P (all_taken a r ++ one_or_none w.sum) _ b in
-          let to_last = but_aim_grows (literal_places (dims_at p.table r.memory) is 0 0) _ _ _ (is_banked r) w.operations last h.row h.select h.aim in
+          let to_last = but_aim_grows (literal_places (dims_at p.table r.memory) is 0 0) _ _ _ _ (is_banked r) w.operations last h.row h.select h.aim in
           all_back bound (all_left P (all_taken a r) _ first_part)
           (waited_back bound here r.select begun (grows_on w.operations last all to_last grows) (all_left Timed (one_or_none r.select) (one_or_none r.row) rest_timed) (all_right P (all_taken a r) _ first_part))
           (subst (λ (o : Option ℕ). AllByRecursion (λ v. old_clock v ≤ bound) (one_or_none o)) (sym e) tt)

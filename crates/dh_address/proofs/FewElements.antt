@@ -5,7 +5,7 @@ use Rattle.std.proofs.Math.Seq.{drop-cons}
 use Rattle.std.proofs.lemmas.Nat.{mul-mod_first}
 use Rattle.dh_tree.specs.declared.tables.Dim.{Dim}
 use Rattle.dh_tree.specs.declared.tables.MemEntry.{MemEntry}
-use Rattle.dh_tree.specs.Elements.{dims_at, rows_of}
+use Rattle.dh_tree.specs.Elements.{banks_of, dims_at, rows_of}
 use Rattle.dh_tree.specs.Shapes.{IsProgramTable}
 use Rattle.dh_tree.specs.Tables.{elements_of}
 use Rattle.dh_address.proofs.LiteralMeans.{dims_formed, elements_below, rows_few}
@@ -38,6 +38,14 @@ module _ (dims : List Dim) (i count : ℕ) where
     where
       here : rows_of (drop i dims) ≡ ((slice_index_or dims i no_dim).size / (slice_index_or dims i no_dim).banks) * rows_of (drop (i + 1) dims)
       here = ap rows_of (drop-cons dims i no_dim within ∙ ap (λ n. slice_index_or dims i no_dim ∷ drop n dims) (sym (add-one i)))
+
+  pub banks_turn : (whole : ℕ) → i < length dims → count * banks_of (drop i dims) % 2 ^ 64 ≡ whole
+      → count * (slice_index_or dims i no_dim).banks % 2 ^ 64 * banks_of (drop (i + 1) dims) % 2 ^ 64 ≡ whole
+  banks_turn whole within so =
+      product_turn count _ (slice_index_or dims i no_dim).banks (banks_of (drop (i + 1) dims)) whole refl (ap (λ n. count * n % 2 ^ 64) (sym here) ∙ so)
+    where
+      here : banks_of (drop i dims) ≡ (slice_index_or dims i no_dim).banks * banks_of (drop (i + 1) dims)
+      here = ap banks_of (drop-cons dims i no_dim within ∙ ap (λ n. slice_index_or dims i no_dim ∷ drop n dims) (sym (add-one i)))
 
   pub elements_turn : (whole : ℕ) → i < length dims → count * elements_of (drop i dims) % 2 ^ 64 ≡ whole
       → count * (slice_index_or dims i no_dim).size % 2 ^ 64 * elements_of (drop (i + 1) dims) % 2 ^ 64 ≡ whole

@@ -1,7 +1,7 @@
 -- What constants of a block mean: a literal below a size is what its value shows, and the place that is made of literals is
 -- row and bank of their element. And what the sizes of a program's memories say of widths.
 use Rattle.std.proofs.Common.{◌≡◌, ℕ, zero, suc, ◌+◌, ◌-◌, ◌*◌, ◌/◌, ◌%◌, ◌^◌, ◌<◌, ◌≤◌, ◌&&◌, nat_le, nat_lt, Some, None, List, Bool, true, false, length, refl, sym, ap, subst, ◌∙◌, arith, pos, ◌-ℤ◌}
-use Rattle.std.specs.Prelude.{[], ◌∷◌, Option, slice_get, if◌then◌else◌, max}
+use Rattle.std.specs.Prelude.{[], ◌∷◌, Option, slice_get, if◌then◌else◌, max, ℤ}
 use Rattle.std.specs.List.{AllByRecursion}
 use Rattle.std.proofs.lemmas.Bool.Decides.{nat_tests}
 use Rattle.std.proofs.Math.Nat.{mod-lt, mod-eq_of_lt, mod-add-mod, one-le-mul, mul-le-mul, div-le_self}
@@ -9,7 +9,7 @@ use Rattle.std.proofs.lemmas.Nat.{pow_pos, mul-mod_first}
 use Rattle.dh_value.specs.declared.kinds.Kind.{Kind}
 use Rattle.dh_value.specs.declared.kinds.Kind.TheVariants as kind
 use Rattle.dh_value.specs.declared.words.Word.{Word}
-use Rattle.dh_value.specs.Words.{value_of, value_in}
+use Rattle.dh_value.specs.Words.{IsWidth, signed, value_of, value_in}
 use Rattle.dh_tree.specs.declared.tables.Dim.{Dim}
 use Rattle.dh_tree.specs.declared.tables.MemEntry.{MemEntry}
 use Rattle.dh_tree.specs.Elements.{banks_of, rows_of, bank_of, row_of, is_within, dims_at}
@@ -24,8 +24,8 @@ use Rattle.dh_rows.specs.MadeOperations.{bits_in}
 use Rattle.dh_rows.proofs.BitsOfNumbers.{bits_above, bits_most}
 use Rattle.dh_address.specs.declared.literals.LiteralPlace.{LiteralPlace}
 use Rattle.dh_address.specs.declared.operands.Operand.{Operand}
-use Rattle.dh_address.specs.LiteralPlaces.{natural_in, literal_form, literal_guarded, literal_in, literal_at, below_size, and_then, literal_places}
-use Rattle.dh_address.specs.Pieces.{aim_width}
+use Rattle.dh_address.specs.LiteralPlaces.{natural_in, natural_if, whole_in, whole_if, whole_at, constant_form, constant_guarded, constant_in, literal_at, below_size, and_then, literal_places}
+use Rattle.dh_address.specs.Pieces.{aim_width, select_width}
 
 -- Literals.
 
@@ -43,29 +43,61 @@ natural_means (kind.Signed w) bits n e = of (nat_lt bits (2 ^ (w - 1))) e
     of true e = let same : bits ≡ n = cc in ap pos same
     of false e = absurd (cc)
 
-form_means : (os : List Operation) (place n : ℕ) (f : OperationForm) → slice_get os place ≡ Some (record { guard = None; form = f }) → literal_form f ≡ Some n → IsConstantOf os place n
-form_means os place n (Constant word) there e = record { word = word; there = there; value = natural_means word.kind word.bits n e }
-form_means os place n (Old register) there e = absurd (cc)
-form_means os place n (Compute op left right) there e = absurd (cc)
-form_means os place n (Convert inner to) there e = absurd (cc)
-form_means os place n (Select test a b) there e = absurd (cc)
-form_means os place n (Check ok fault) there e = absurd (cc)
-form_means os place n (Probe r fault) there e = absurd (cc)
-form_means os place n (Read r) there e = absurd (cc)
-form_means os place n (Write r value) there e = absurd (cc)
-form_means os place n (Set register value) there e = absurd (cc)
+constant_form_is : (f : OperationForm) (w : Word) → constant_form f ≡ Some w → f ≡ Constant w
+constant_form_is (Constant word) w e = let same : word ≡ w = cc in ap Constant same
+constant_form_is (Old register) w e = absurd (cc)
+constant_form_is (Compute op left right) w e = absurd (cc)
+constant_form_is (Convert inner to) w e = absurd (cc)
+constant_form_is (Select test a b) w e = absurd (cc)
+constant_form_is (Check ok fault) w e = absurd (cc)
+constant_form_is (Probe r fault) w e = absurd (cc)
+constant_form_is (Read r) w e = absurd (cc)
+constant_form_is (Write r value) w e = absurd (cc)
+constant_form_is (Set register value) w e = absurd (cc)
 
-guarded_means : (os : List Operation) (place n : ℕ) (guard : Option ℕ) (f : OperationForm) → slice_get os place ≡ Some (record { guard = guard; form = f }) → literal_guarded guard f ≡ Some n
-    → IsConstantOf os place n
-guarded_means os place n None f there e = form_means os place n f there e
-guarded_means os place n (Some g) f there e = absurd (cc)
+abbrev operation_of : (guard : Option ℕ) → OperationForm → Operation
+operation_of guard f = record { guard = guard; form = f }
+
+constant_guarded_is : (guard : Option ℕ) (f : OperationForm) (w : Word) → constant_guarded guard f ≡ Some w → operation_of guard f ≡ operation_of None (Constant w)
+constant_guarded_is None f w e = ap (λ (g : OperationForm). operation_of None g) (constant_form_is f w e)
+constant_guarded_is (Some g) f w e = absurd (cc)
+
+constant_is : (o : Option Operation) (w : Word) → constant_in o ≡ Some w → o ≡ Some (record { guard = None; form = Constant w })
+constant_is None w e = absurd (cc)
+constant_is (Some o) w e = ap (λ (p : Operation). Some p) (constant_guarded_is o.guard o.form w e)
 
 pub literal_means : (os : List Operation) (place n : ℕ) → literal_at os place ≡ Some n → IsConstantOf os place n
-literal_means os place n e = of (slice_get os place) refl e
+literal_means os place n e = of (constant_in (slice_get os place)) refl e
   where
-    of : (o : Option Operation) → slice_get os place ≡ o → literal_in o ≡ Some n → IsConstantOf os place n
-    of None there e = absurd (cc)
-    of (Some o) there e = guarded_means os place n o.guard o.form there e
+    of : (c : Option Word) → constant_in (slice_get os place) ≡ c → natural_if c ≡ Some n → IsConstantOf os place n
+    of None at e = absurd (cc)
+    of (Some w) at e = record { word = w; there = constant_is (slice_get os place) w at; value = natural_means w.kind w.bits n e }
+
+-- The same of whatever sign.
+
+pub record IsWholeOf (os : List Operation) (place : ℕ) (z : ℤ) : Type 0 where
+  pub word : Word
+  pub there : slice_get os place ≡ Some (record { guard = None; form = Constant word })
+  pub value : value_of word ≡ z
+
+one_whole : (a b : ℤ) → Some a ≡ Some b → a ≡ b
+one_whole a b e = cc
+
+wholes_mean : (k : Kind) (bits : ℕ) (z : ℤ) → whole_in k bits ≡ Some z → value_in k bits ≡ z
+wholes_mean kind.Bool bits z e = absurd (cc)
+wholes_mean (kind.Unsigned w) bits z e = one_whole (pos bits) z e
+wholes_mean (kind.Signed w) bits z e = of (nat_le w 64) (signed w bits) e
+  where
+    of : (t : Bool) (y : ℤ) → (if t then Some y else None) ≡ Some z → y ≡ z
+    of true y e = one_whole y z e
+    of false y e = absurd (cc)
+
+pub whole_means : (os : List Operation) (place : ℕ) (z : ℤ) → whole_at os place ≡ Some z → IsWholeOf os place z
+whole_means os place z e = of (constant_in (slice_get os place)) refl e
+  where
+    of : (c : Option Word) → constant_in (slice_get os place) ≡ c → whole_if c ≡ Some z → IsWholeOf os place z
+    of None at e = absurd (cc)
+    of (Some w) at e = record { word = w; there = constant_is (slice_get os place) w at; value = wholes_mean w.kind w.bits z e }
 
 -- a literal below a size
 pub below_means : (o : Option ℕ) (size n : ℕ) → below_size o size ≡ Some n → (o ≡ Some n) × (n < size)
@@ -226,7 +258,7 @@ bits_some n some small = of (bits_in n) refl (bits_above n small)
     of zero e l = absurd (omega (arith, some, l))
     of (suc b) e l = omega arith
 
--- the width of rows and banks suffices
+-- the width of rows suffices
 pub width_suffices : (table : List MemEntry) (memory : ℕ) → IsProgramTable table → HasWidth (aim_width (dims_at table memory)) (dims_at table memory)
 width_suffices table memory h =
     let dims = dims_at table memory in
@@ -238,6 +270,55 @@ width_suffices table memory h =
       most = bits_above (elements_of dims) small;
     }
 
+-- the width is enough for the banks of these dimensions
+pub record HasSelectWidth (narrow : ℕ) (dims : List Dim) : Type 0 where
+  pub sized : IsWidth narrow
+  pub most : banks_of dims ≤ 2 ^ narrow
+
+-- so a bank stays what it is where it is cut to it
+pub bank_fits : (narrow : ℕ) (dims : List Dim) (bank : ℕ) → HasSelectWidth narrow dims → bank < banks_of dims → bank < 2 ^ narrow
+bank_fits narrow dims bank h l = less bank (banks_of dims) (2 ^ narrow) l h.most
+  where
+    less : (n m b : ℕ) → n < m → m ≤ b → n < b
+    less n m b l k = omega (arith, l, k)
+
+-- the greatest bank, or 1
+greatest_above : (n : ℕ) → n < 2 ^ 64 → n ≤ max (n % 2 ^ 64 - 1) 1 + 1
+greatest_above n small = subst (λ (m : ℕ). n ≤ max (m - 1) 1 + 1) (sym (mod-eq_of_lt small)) (above n)
+  where
+    above : (n : ℕ) → n ≤ max (n - 1) 1 + 1
+    above n = omega arith
+
+greatest_small : (n : ℕ) → n < 2 ^ 64 → max (n % 2 ^ 64 - 1) 1 < 2 ^ 64
+greatest_small n small = subst (λ (m : ℕ). max (m - 1) 1 < 2 ^ 64) (sym (mod-eq_of_lt small)) (below n small)
+  where
+    below : (n : ℕ) → n < 2 ^ 64 → max (n - 1) 1 < 2 ^ 64
+    below n small = omega (arith, small)
+
+greatest_some : (n : ℕ) → 1 ≤ max n 1
+greatest_some n = omega arith
+
+-- the width of selects suffices
+pub select_suffices : (table : List MemEntry) (memory : ℕ) → IsProgramTable table → HasSelectWidth (select_width (dims_at table memory)) (dims_at table memory)
+select_suffices table memory h = of (banks_of (dims_at table memory)) (less _ _ _ (banks_few (dims_at table memory) (dims_formed table memory h.entries)) (elements_below table memory h)) refl
+  where
+    less : (n m b : ℕ) → n ≤ m → m < b → n < b
+    less n m b l k = omega (arith, l, k)
+
+    reached : (n top bound : ℕ) → n ≤ top + 1 → top < bound → n ≤ bound
+    reached n top bound l m = omega (arith, l, m)
+
+    of : (banks : ℕ) → banks < 2 ^ 64 → banks ≡ banks_of (dims_at table memory) → HasSelectWidth (select_width (dims_at table memory)) (dims_at table memory)
+    of banks small same =
+        let top = max (banks % 2 ^ 64 - 1) 1 in
+        let fits = greatest_small banks small in
+        let sized : IsWidth (bits_in top) = (bits_some top (greatest_some (banks % 2 ^ 64 - 1)) fits, bits_most top) in
+        let most : banks ≤ 2 ^ bits_in top = reached banks top (2 ^ bits_in top) (greatest_above banks small) (bits_above top fits) in
+        record {
+          sized = subst (λ (n : ℕ). IsWidth (bits_in (max (n % 2 ^ 64 - 1) 1))) same sized;
+          most = subst (λ (n : ℕ). n ≤ 2 ^ bits_in (max (n % 2 ^ 64 - 1) 1)) same most;
+        }
+
 -- A place that is made of literals is row and bank of their element.
 
 pub record IsLiteralPlace (dims : List Dim) (indices : List Operand) (place : LiteralPlace) : Type 0 where
@@ -246,7 +327,7 @@ pub record IsLiteralPlace (dims : List Dim) (indices : List Operand) (place : Li
   pub row_is : place.row ≡ row_of dims numbers
   pub bank_is : place.bank ≡ bank_of dims numbers
   pub row_small : place.row < elements_of dims
-  pub bank_small : place.bank < elements_of dims
+  pub bank_within : place.bank < banks_of dims
 
 pub literal_place_is : (dims : List Dim) (indices : List Operand) (place : LiteralPlace) → AllByRecursion IsDim dims → elements_of dims < 2 ^ 64
     → length indices ≡ length dims → literal_places dims indices 0 0 ≡ Some place → IsLiteralPlace dims indices place
@@ -267,7 +348,7 @@ literal_place_is dims indices place formed small long e =
       row_is = row_is;
       bank_is = bank_is;
       row_small = subst (λ (n : ℕ). n < elements_of dims) (sym row_is) row_few;
-      bank_small = subst (λ (n : ℕ). n < elements_of dims) (sym bank_is) bank_few;
+      bank_within = subst (λ (n : ℕ). n < banks_of dims) (sym bank_is) bank;
     }
   where
     none : (k n : ℕ) → 0 * k + n ≡ n

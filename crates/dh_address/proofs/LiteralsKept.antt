@@ -25,7 +25,7 @@ use Rattle.dh_rows.specs.MadeOperations.{constant_made}
 use Rattle.dh_rows.proofs.Growing.{grown_length, grows_on, grows_self, kept_there}
 use Rattle.dh_address.proofs.WaySizes.{HasMaps}
 use Rattle.dh_address.specs.declared.literals.LiteralPlace.{LiteralPlace}
-use Rattle.dh_address.specs.Pieces.{Around, IsAim, IsAimBut, IsAimed, IsAimedByIndices, aim_width, is_banked, new_number, new_or_none, values_of, waited}
+use Rattle.dh_address.specs.Pieces.{Around, IsAim, IsAimBut, IsAimed, IsAimedByIndices, aim_width, is_banked, new_number, new_or_none, select_width, values_of, waited}
 use Rattle.dh_address.specs.declared.operands.Operand.{Operand}
 use Rattle.dh_address.specs.WaysMade.{ranges_by, reach_passed}
 use Rattle.dh_address.specs.Images.{IsImage, around_block, operations_until}
@@ -142,17 +142,17 @@ module _ (p q : PlainPlan) (h : IsImage p q) (formed : (block : ℕ) → IsForme
     there = kept_there new whole grows (length old) _ (kept_there _ new put (length old) _ (at_last old _));
   })
 
-  aim_constants : (banked : Bool) (width row bank : ℕ) (old new : List Operation) (n : ℕ) (select : Option ℕ) → Grows base old → Grows new whole
-      → IsAim banked (constant_made old width row) (constant_made (constant_made old width row).operations width bank) new n select → IsConstantAt q c n × IsConstantOr q c select
-  aim_constants false width row bank old new n select begun grows e = (
+  aim_constants : (banked : Bool) (width narrow row bank : ℕ) (old new : List Operation) (n : ℕ) (select : Option ℕ) → Grows base old → Grows new whole
+      → IsAim banked (constant_made old width row) (constant_made (constant_made old width row).operations narrow bank) new n select → IsConstantAt q c n × IsConstantOr q c select
+  aim_constants false width narrow row bank old new n select begun grows e = (
     subst (IsConstantAt q c) (sym e.1.0) (made_constant old new width row begun (record { more = []; appended = e.0 ∙ sym (append-nil (constant_made old width row).operations) }) grows),
     subst (IsConstantOr q c) (sym e.1.1) tt,
   )
-  aim_constants true width row bank old new n select begun grows e = (
+  aim_constants true width narrow row bank old new n select begun grows e = (
     subst (IsConstantAt q c) (sym e.1.0) (made_constant old new width row begun (record { more = _; appended = e.0 }) grows),
     subst (IsConstantOr q c) (sym e.1.1)
-        (made_constant (constant_made old width row).operations new width bank (grows_on base old _ begun (record { more = _; appended = refl }))
-        (record { more = []; appended = e.0 ∙ sym (append-nil (constant_made (constant_made old width row).operations width bank).operations) }) grows),
+        (made_constant (constant_made old width row).operations new narrow bank (grows_on base old _ begun (record { more = _; appended = refl }))
+        (record { more = []; appended = e.0 ∙ sym (append-nil (constant_made (constant_made old width row).operations narrow bank).operations) }) grows),
   )
 
   -- A read or write of the new block.
@@ -219,9 +219,9 @@ module _ (p q : PlainPlan) (h : IsImage p q) (formed : (block : ℕ) → IsForme
           = subst (λ (os : List Operand). AreAllLiteral (ranges_by dims os)) (sym put.made.passes.1.1) (subst (λ (t : List MemEntry). AreAllLiteral (ranges_by (dims_at t r.memory) (reach_passed a r u.before).indices)) (sym u.table_is) ranges)
           in
           let found = places_found dims put.made.indices 0 0 at_own in
-          let aim = subst (λ (o : Option LiteralPlace). IsAimBut o (aim_width dims) dims (values_of put.made.indices) (is_banked r)
+          let aim = subst (λ (o : Option LiteralPlace). IsAimBut o (aim_width dims) (select_width dims) dims (values_of put.made.indices) (is_banked r)
           (waited put.made.guarded (new_or_none a r.select)).operations put.last aims.row aims.select) found.1 aims.aim in
-          let two = aim_constants (is_banked r) (aim_width dims) found.0.row found.0.bank (waited put.made.guarded (new_or_none a r.select)).operations put.last aims.row aims.select
+          let two = aim_constants (is_banked r) (aim_width dims) (select_width dims) found.0.row found.0.bank (waited put.made.guarded (new_or_none a r.select)).operations put.last aims.row aims.select
           (grows_on base put.made.guarded _ begun_guarded (waited_grows put.made.guarded (new_or_none a r.select))) behind_last aim in
           (or_as t.row (Some aims.row) (ap (λ (v : Reach). v.row) aims.reach) two.0, or_as t.select aims.select (ap (λ (v : Reach). v.select) aims.reach) two.1)
 

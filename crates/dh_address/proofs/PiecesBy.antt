@@ -17,7 +17,7 @@ use Rattle.dh_address.specs.declared.literals.LiteralPlace.{LiteralPlace}
 use Rattle.dh_address.specs.declared.operands.Operand.{Operand}
 use Rattle.dh_address.specs.declared.operands.Ranged.{Ranged}
 use Rattle.dh_address.specs.LiteralPlaces.{below_size, literal_places}
-use Rattle.dh_address.specs.Pieces.{Around, IsTestBut, IsTested, both_made, IsGuarded, check_made, AreChecked, false_behind, false_behind_all, false_word, false_made, new_takes, IsProbeValue, IsProbed, IsAim, is_banked, IsAimBut, waited, IsAimed, IsAccessMade, new_or_none}
+use Rattle.dh_address.specs.Pieces.{Around, IsTestBut, IsTested, both_made, IsGuarded, check_made, AreChecked, false_behind, false_behind_all, false_word, false_made, new_takes, IsProbeValue, IsProbed, IsAim, is_banked, narrowed, IsAimBut, waited, IsAimed, IsAccessMade, new_or_none}
 use Rattle.dh_address.specs.WaysMade.{IsWay, reach_passed}
 use Rattle.dh_address.proofs.WaysPlain.{passed_plain}
 
@@ -140,15 +140,17 @@ module _ (P : Operation → Type 0) (plain : (o : Operation) → is_plain o.form
   zero_by os width None = by_pushed os None _ refl
   zero_by os width (Some v) = by_self os
 
-  but_aim_by : (place : Option LiteralPlace) (width : ℕ) (dims : List Dim) (indices : List ℕ) (banked : Bool) (old new : List Operation) (row : ℕ) (select : Option ℕ)
-      → IsAimBut place width dims indices banked old new row select → GrowsBy P old new
-  but_aim_by None width dims indices banked old new row select h =
+  but_aim_by : (place : Option LiteralPlace) (width narrow : ℕ) (dims : List Dim) (indices : List ℕ) (banked : Bool) (old new : List Operation) (row : ℕ) (select : Option ℕ)
+      → IsAimBut place width narrow dims indices banked old new row select → GrowsBy P old new
+  but_aim_by None width narrow dims indices banked old new row select h =
       let first = or_zero h.spread width h.values.row in
-      aim_by banked old new first (or_zero first.operations width h.values.bank) row select
-      (by_on old h.spread first.operations (by_plain old h.spread h.grows) (zero_by h.spread width h.values.row)) (zero_by first.operations width h.values.bank) h.aim
-  but_aim_by (Some place) width dims indices banked old new row select h =
+      let bank = or_zero first.operations width h.values.bank in
+      aim_by banked old new first (narrowed narrow bank) row select
+      (by_on old h.spread first.operations (by_plain old h.spread h.grows) (zero_by h.spread width h.values.row))
+      (by_on first.operations bank.operations (narrowed narrow bank).operations (zero_by first.operations width h.values.bank) (by_pushed bank.operations None _ refl)) h.aim
+  but_aim_by (Some place) width narrow dims indices banked old new row select h =
       let first = constant_made old width place.row in
-      aim_by banked old new first (constant_made first.operations width place.bank) row select (by_pushed old None _ refl) (by_pushed first.operations None _ refl) h
+      aim_by banked old new first (constant_made first.operations narrow place.bank) row select (by_pushed old None _ refl) (by_pushed first.operations None _ refl) h
 
   pub waited_by : (os : List Operation) (select : Option ℕ) → GrowsBy P os (waited os select).operations
   waited_by os None = by_self os
@@ -161,7 +163,7 @@ module _ (P : Operation → Type 0) (plain : (o : Operation) → is_plain o.form
     aimed_by : (r : Reach) (row : Option ℕ) (is : List Operand) (old new : List Operation) (t : Reach) → IsAimed a r row is old new t → GrowsBy P old new
     aimed_by r None is old new t h =
         by_on old (waited old (new_or_none a r.select)).operations new (waited_by old (new_or_none a r.select))
-        (but_aim_by (literal_places _ is 0 0) _ _ _ (is_banked r) _ new h.row h.select h.aim)
+        (but_aim_by (literal_places _ is 0 0) _ _ _ _ (is_banked r) _ new h.row h.select h.aim)
     aimed_by r (Some row) is old new t h = by_same old new h.0
 
     pub access_by : (guard : Option ℕ) (r : Reach) (old last : List Operation) (on : Option ℕ) (t : Reach) → IsAccessMade a guard r old last on t → GrowsBy P old last

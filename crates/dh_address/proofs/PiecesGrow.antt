@@ -16,7 +16,7 @@ use Rattle.dh_address.specs.declared.literals.LiteralPlace.{LiteralPlace}
 use Rattle.dh_address.specs.declared.operands.Operand.{Operand}
 use Rattle.dh_address.specs.declared.operands.Ranged.{Ranged}
 use Rattle.dh_address.specs.LiteralPlaces.{below_size, literal_places}
-use Rattle.dh_address.specs.Pieces.{Around, IsTestBut, IsTested, both_made, IsGuarded, check_made, AreChecked, false_behind, false_behind_all, false_word, false_made, new_takes, IsProbeValue, IsProbed, IsAim, is_banked, IsAimBut, waited, IsAimed, IsAccessMade, IsFormMade, IsPiece, new_or_none}
+use Rattle.dh_address.specs.Pieces.{Around, IsTestBut, IsTested, both_made, IsGuarded, check_made, AreChecked, false_behind, false_behind_all, false_word, false_made, new_takes, IsProbeValue, IsProbed, IsAim, is_banked, narrowed, IsAimBut, waited, IsAimed, IsAccessMade, IsFormMade, IsPiece, new_or_none}
 use Rattle.dh_address.specs.Images.{and_known, ArePieces}
 use Rattle.dh_address.proofs.WaysPlain.{passed_grows}
 
@@ -88,15 +88,17 @@ zero_grows : (os : List Operation) (width : ℕ) (v : Option ℕ) → Grows os (
 zero_grows os width None = pushed_grows os None _
 zero_grows os width (Some v) = grows_self os
 
-pub but_aim_grows : (place : Option LiteralPlace) (width : ℕ) (dims : List Dim) (indices : List ℕ) (banked : Bool) (old new : List Operation) (row : ℕ) (select : Option ℕ)
-    → IsAimBut place width dims indices banked old new row select → Grows old new
-but_aim_grows None width dims indices banked old new row select h =
+pub but_aim_grows : (place : Option LiteralPlace) (width narrow : ℕ) (dims : List Dim) (indices : List ℕ) (banked : Bool) (old new : List Operation) (row : ℕ) (select : Option ℕ)
+    → IsAimBut place width narrow dims indices banked old new row select → Grows old new
+but_aim_grows None width narrow dims indices banked old new row select h =
     let first = or_zero h.spread width h.values.row in
-    aim_grows banked old new first (or_zero first.operations width h.values.bank) row select
-    (grows_on old h.spread first.operations (plain_grows old h.spread h.grows) (zero_grows h.spread width h.values.row)) (zero_grows first.operations width h.values.bank) h.aim
-but_aim_grows (Some place) width dims indices banked old new row select h =
+    let bank = or_zero first.operations width h.values.bank in
+    aim_grows banked old new first (narrowed narrow bank) row select
+    (grows_on old h.spread first.operations (plain_grows old h.spread h.grows) (zero_grows h.spread width h.values.row))
+    (grows_on first.operations bank.operations (narrowed narrow bank).operations (zero_grows first.operations width h.values.bank) (pushed_grows bank.operations None _)) h.aim
+but_aim_grows (Some place) width narrow dims indices banked old new row select h =
     let first = constant_made old width place.row in
-    aim_grows banked old new first (constant_made first.operations width place.bank) row select (pushed_grows old None _) (pushed_grows first.operations None _) h
+    aim_grows banked old new first (constant_made first.operations narrow place.bank) row select (pushed_grows old None _) (pushed_grows first.operations None _) h
 
 pub waited_grows : (os : List Operation) (select : Option ℕ) → Grows os (waited os select).operations
 waited_grows os None = grows_self os
@@ -106,7 +108,7 @@ module _ (a : Around) where
   pub aimed_grows : (r : Reach) (row : Option ℕ) (is : List Operand) (old new : List Operation) (t : Reach) → IsAimed a r row is old new t → Grows old new
   aimed_grows r None is old new t h =
       grows_on old (waited old (new_or_none a r.select)).operations new (waited_grows old (new_or_none a r.select))
-      (but_aim_grows (literal_places _ is 0 0) _ _ _ (is_banked r) _ new h.row h.select h.aim)
+      (but_aim_grows (literal_places _ is 0 0) _ _ _ _ (is_banked r) _ new h.row h.select h.aim)
   aimed_grows r (Some row) is old new t h = grows_same old new h.0
 
   pub access_grows : (guard : Option ℕ) (r : Reach) (old last : List Operation) (on : Option ℕ) (t : Reach) → IsAccessMade a guard r old last on t → Grows old last

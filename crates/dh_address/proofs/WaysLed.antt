@@ -58,7 +58,7 @@ passed_with offsets ss = map (λ (s : ReachStep). record { view = s.view; offset
 abbrev pub AreFactors : List ℕ → Type 0
 AreFactors ks = AllByRecursion (λ k. 1 ≤ k) ks
 
-suffix_factors : (vs ps : List Dim) (ks : List ℕ) → AreDimsOf Suffix vs ps ks → AreFactors ks
+pub suffix_factors : (vs ps : List Dim) (ks : List ℕ) → AreDimsOf Suffix vs ps ks → AreFactors ks
 suffix_factors [] [] [] h = tt
 suffix_factors [] [] (k ∷ ks) h = absurd h
 suffix_factors [] (p ∷ ps) ks h = absurd h
@@ -66,7 +66,7 @@ suffix_factors (v ∷ vs) [] ks h = absurd h
 suffix_factors (v ∷ vs) (p ∷ ps) [] h = tt
 suffix_factors (v ∷ vs) (p ∷ ps) (k ∷ ks) h = (h.0.1.0, suffix_factors vs ps ks h.1)
 
-suffix_same : (vs ps : List Dim) (ks : List ℕ) → AreDimsOf Suffix vs ps ks → vs ≡ ps
+pub suffix_same : (vs ps : List Dim) (ks : List ℕ) → AreDimsOf Suffix vs ps ks → vs ≡ ps
 suffix_same [] [] [] h = refl
 suffix_same [] [] (k ∷ ks) h = absurd h
 suffix_same [] (p ∷ ps) ks h = absurd h
@@ -74,11 +74,11 @@ suffix_same (v ∷ vs) [] ks h = absurd h
 suffix_same (v ∷ vs) (p ∷ ps) [] h = absurd h
 suffix_same (v ∷ vs) (p ∷ ps) (k ∷ ks) h = let one = h.0.0 in let more = suffix_same vs ps ks h.1 in cc
 
-ones_factors : (ds : List Dim) → AreFactors (ones ds)
+pub ones_factors : (ds : List Dim) → AreFactors (ones ds)
 ones_factors [] = tt
 ones_factors (d ∷ ds) = (omega arith, ones_factors ds)
 
-ones_sums : (ds : List Dim) (es is : List ℤ) → length es ≡ length ds → sums (multiples (ones ds) es) is ≡ sums es is
+pub ones_sums : (ds : List Dim) (es is : List ℤ) → length es ≡ length ds → sums (multiples (ones ds) es) is ≡ sums es is
 ones_sums [] [] is l = refl
 ones_sums [] (e ∷ es) is l = absurd (omega (arith, l))
 ones_sums (d ∷ ds) [] is l = absurd (omega (arith, l))

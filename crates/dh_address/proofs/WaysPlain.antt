@@ -1,5 +1,5 @@
 -- What is put down of a way is plain, and comes behind what is there.
-use Rattle.std.proofs.Common.{ℕ, ◌-◌, ◌/◌, List, refl, sym, subst}
+use Rattle.std.proofs.Common.{ℕ, ◌-◌, ◌/◌, Bool, true, false, List, refl, sym, subst}
 use Rattle.std.specs.Prelude.{min, Option, Some, None, [], ◌∷◌, ◌++◌, slice_get, map}
 use Rattle.dh_value.specs.declared.kinds.Kind.TheVariants as kind
 use Rattle.dh_value.specs.Words.{with_bits}
@@ -18,7 +18,7 @@ use Rattle.dh_rows.proofs.MovedPut.{moved_plain, dealt_plain, spanned_plain}
 use Rattle.dh_address.specs.declared.operands.Operand.{Operand}
 use Rattle.dh_address.specs.declared.operands.Ranged.{Ranged}
 use Rattle.dh_address.specs.Arounds.{Around}
-use Rattle.dh_address.specs.WaysMade.{Way, way, IsWay, operand_of, ranges_by, bounded_by, offset_bounded, made_or, moved_literal, moved_operand, moved_one, moved_all, ones, dealt_literal, dealt_operand, dealt_from, view_dealt, passed_by, passed_if, step_passed, steps_passed, way_begun, passed_to, reach_passed}
+use Rattle.dh_address.specs.WaysMade.{Way, way, IsWay, operand_of, ranges_by, is_near, bounded_unless, offset_bounded, made_or, moved_literal, moved_operand, moved_one, moved_all, ones, dealt_literal, dealt_operand, dealt_from, view_dealt, passed_by, passed_if, step_passed, steps_passed, way_begun, passed_to, reach_passed}
 
 -- what holds of a way holds of what it was seen as
 pub way_as : (P : List Operation → List Ranged → List Operand → Type 0) (os : List Operation) (ranges : List Ranged) (indices : List Operand) (w : Way)
@@ -27,20 +27,20 @@ way_as P os ranges indices w e h =
     subst (λ (l : List Operation). P l ranges indices) (sym e.0)
     (subst (λ (rs : List Ranged). P w.operations rs indices) (sym e.1.0) (subst (λ (is : List Operand). P w.operations w.ranges is) (sym e.1.1) h))
 
-bounded_plain : (l : Option ℕ) (os : List Operation) (e : Operand) (bound : ℕ) → GrowsPlain os (bounded_by l os e bound).operations
-bounded_plain None os e bound = spanned_plain os e.kind e.value bound
-bounded_plain (Some n) os e bound = plain_self os
+bounded_plain : (near : Bool) (os : List Operation) (e : Operand) (bound : ℕ) → GrowsPlain os (bounded_unless near os e bound).operations
+bounded_plain false os e bound = spanned_plain os e.kind e.value bound
+bounded_plain true os e bound = plain_self os
 
 pub made_or_plain : (l : Option ℕ) (os : List Operation) (width : ℕ) (m : Made) → GrowsPlain os m.operations → GrowsPlain os (made_or os l width m).operations
 made_or_plain None os width m g = g
 made_or_plain (Some n) os width m g = plain_pushed os (Constant (with_bits (kind.Unsigned width) n)) refl
 
 pub offset_plain : (os : List Operation) (e : Operand) (bound : ℕ) → GrowsPlain os (offset_bounded os e bound).operations
-offset_plain os e bound = bounded_plain e.literal os e bound
+offset_plain os e bound = bounded_plain (is_near e.whole bound) os e bound
 
 pub moved_operand_plain : (os : List Operation) (size factor : ℕ) (e i : Operand) → GrowsPlain os (moved_operand os size factor e i).operations
 moved_operand_plain os size factor e i =
-    made_or_plain (moved_literal e.literal i.literal factor size) os (moved_width size) (moved os (moved_width size) (min factor size) e.value i.value)
+    made_or_plain (moved_literal e.whole i.literal factor size) os (moved_width size) (moved os (moved_width size) (min factor size) e.value i.value)
     (moved_plain os (moved_width size) (min factor size) e.value i.value)
 
 pub moved_one_plain : (size factor : ℕ) (e i : Operand) (w : Way) → GrowsPlain w.operations (moved_one size factor e i w).operations

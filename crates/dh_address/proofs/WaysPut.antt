@@ -1,7 +1,7 @@
 -- What is put down of a way is plain operations of values that are there, of kinds that suit them; and what is to be in
 -- range, and the indices behind the views, are there too, each of its kind.
-use Rattle.std.proofs.Common.{◌≡◌, ℕ, ◌+◌, ◌-◌, ◌*◌, ◌/◌, ◌%◌, ◌^◌, ◌<◌, ◌≤◌, List, length, map, refl, sym, ap, subst, ◌∙◌, arith, pow_mono}
-use Rattle.std.specs.Prelude.{min, Option, Some, None, [], ◌∷◌, ◌++◌, slice_get}
+use Rattle.std.proofs.Common.{◌≡◌, ℕ, ◌+◌, ◌-◌, ◌*◌, ◌/◌, ◌%◌, ◌^◌, ◌<◌, ◌≤◌, Bool, true, false, List, length, map, pos, int_lt, refl, sym, ap, subst, ◌∙◌, arith, pow_mono}
+use Rattle.std.specs.Prelude.{min, ℤ, Option, Some, None, [], ◌∷◌, ◌++◌, slice_get}
 use Rattle.std.specs.List.{AllByRecursion}
 use Rattle.std.proofs.Math.Nat.{mod-eq_of_lt, le-mul_of_pos_right, mul_comm}
 use Rattle.dh_value.specs.declared.kinds.Kind.TheVariants as kind
@@ -34,7 +34,7 @@ use Rattle.dh_address.specs.declared.operands.Operand.{Operand}
 use Rattle.dh_address.specs.declared.operands.Ranged.{Ranged}
 use Rattle.dh_address.specs.LiteralPlaces.{below_size}
 use Rattle.dh_address.specs.Arounds.{Around}
-use Rattle.dh_address.specs.WaysMade.{Way, way, IsWay, Bounded, operand_of, ranges_by, span_range, bounded_by, offset_bounded, Placed, placed_as, made_or, moved_literal, moved_operand, moved_one, moved_all, maybe_range, ones, dealt_known, dealt_literal, dealt_operand, split_made, dealt_way, passed_by, passed_if, step_passed, steps_passed, with_ranges, way_begun, passed_to, reach_passed}
+use Rattle.dh_address.specs.WaysMade.{Way, way, IsWay, Bounded, operand_of, ranges_by, span_range, is_near, bounded_unless, offset_bounded, Placed, placed_as, made_or, index_moved, steps_by, moved_literal, moved_operand, moved_one, moved_all, maybe_range, ones, dealt_known, dealt_literal, dealt_operand, split_made, dealt_way, passed_by, passed_if, step_passed, steps_passed, with_ranges, way_begun, passed_to, reach_passed}
 use Rattle.dh_address.proofs.AccessesPut.{IsInputOf, IsNumberKnown, input_later, operand_there, operands_there, all_join}
 use Rattle.dh_address.proofs.LiteralMeans.{below_means}
 use Rattle.dh_address.proofs.TestedRanges.{IsThere, IsTestable, there_later, all_there, testable_later, begun_later}
@@ -95,11 +95,11 @@ dealt_means copy index copies part n e = of (below_size copy copies) (below_size
         let two = below_means index part.size b g in
         record { first = a; second = b; copy_is = one.0; index_is = two.0; copy_below = one.1; index_below = two.1; number = cc }
 
-pub moved_below : (offset index : Option ℕ) (factor size n : ℕ) → moved_literal offset index factor size ≡ Some n → n < size
+pub moved_below : (offset : Option ℤ) (index : Option ℕ) (factor size n : ℕ) → moved_literal offset index factor size ≡ Some n → n < size
 moved_below None index factor size n e = absurd (cc)
 moved_below (Some a) None factor size n e = absurd (cc)
 moved_below (Some a) (Some i) factor size n e =
-    let b = below_means (Some ((a * factor % 2 ^ 64 + i) % 2 ^ 64)) size n e in b.1
+    let b = below_means (index_moved (int_lt a (pos 0)) (steps_by a factor) i) size n e in b.1
 
 module _ (x : Readings) (clock : ℕ) where
   -- plain operations, what is to be in range, and indices
@@ -121,14 +121,14 @@ module _ (x : Readings) (clock : ℕ) where
   span_there os None h = tt
   span_there os (Some s) h = (record { sized = h.0; stands = h.1 }, tt)
 
-  bounded_put : (l : Option ℕ) (os : List Operation) (e : Operand) (bound : ℕ) → x.first ≤ length os → IsThere x clock os e → PutsBounded os (bounded_by l os e bound)
-  bounded_put None os e bound begun t =
+  bounded_put : (near : Bool) (os : List Operation) (e : Operand) (bound : ℕ) → x.first ≤ length os → IsThere x clock os e → PutsBounded os (bounded_unless near os e bound)
+  bounded_put false os e bound begun t =
       let m = makes_spanned x clock e.kind os begun e.value bound t.sized t.stands in
       record { adds = m.adds; range = span_there (spanned os e.kind e.value bound).operations (spanned os e.kind e.value bound).span m.span }
-  bounded_put (Some n) os e bound begun t = record { adds = adds_self x clock os; range = (record { sized = t.sized; stands = t.stands }, tt) }
+  bounded_put true os e bound begun t = record { adds = adds_self x clock os; range = tt }
 
   pub offset_put : (os : List Operation) (e : Operand) (bound : ℕ) → x.first ≤ length os → IsThere x clock os e → PutsBounded os (offset_bounded os e bound)
-  offset_put os e bound begun t = bounded_put e.literal os e bound begun t
+  offset_put os e bound begun t = bounded_put (is_near e.whole bound) os e bound begun t
 
   -- Indices.
 
@@ -145,8 +145,8 @@ module _ (x : Readings) (clock : ℕ) where
   pub moved_put : (os : List Operation) (size factor : ℕ) (e i : Operand) → x.first ≤ length os → size < 2 ^ 60 → IsThere x clock os e → IsThere x clock os i → PutsPlaced os (moved_operand os size factor e i)
   moved_put os size factor e i begun few g h =
       let w = width_moves size few in
-      placed_put (moved_literal e.literal i.literal factor size) os (moved_width size) (moved os (moved_width size) (min factor size) e.value i.value) begun w.0
-      (λ n l. (let b = moved_below e.literal i.literal factor size n l in let m = w.1 in omega (arith, b, m)))
+      placed_put (moved_literal e.whole i.literal factor size) os (moved_width size) (moved os (moved_width size) (min factor size) e.value i.value) begun w.0
+      (λ n l. (let b = moved_below e.whole i.literal factor size n l in let m = w.1 in omega (arith, b, m)))
       (makes_moved x clock (moved_width size) w.0 os begun (min factor size) e.value i.value (λ o. (g.stands o).earlier) (λ o. (h.stands o).earlier))
 
   pub dealt_put : (os : List Operation) (size copies : ℕ) (part : Dim) (a b : Operand) → x.first ≤ length os → size < 2 ^ 60 → IsFew part → IsDealtTo copies part size → IsThere x clock os a → IsThere x clock os b

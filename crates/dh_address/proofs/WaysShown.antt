@@ -1,14 +1,14 @@
 -- What the values of a way show: each is a word of its kind; and where all that was to be in range so far is, each index
 -- stands for the whole number that the plan's views lead to: it is in range exactly where that is, and then is that.
-use Rattle.std.proofs.Common.{◌≡◌, ℕ, suc, ◌+◌, ◌-◌, ◌*◌, ◌/◌, ◌%◌, ◌^◌, ◌<◌, ◌≤◌, inl, inr, ◌&&◌, nat_le, nat_lt, Bool, true, false, List, length, pos, negsuc, unsigned_abs, refl, sym, ap, subst, ◌∙◌, arith, pow_mono}
-use Rattle.std.specs.Prelude.{min, Option, Some, None, [], ◌∷◌, ◌++◌, ℤ, ◌+ℤ◌, ◌*ℤ◌}
+use Rattle.std.proofs.Common.{◌≡◌, ℕ, suc, ◌+◌, ◌-◌, ◌*◌, ◌/◌, ◌%◌, ◌^◌, ◌<◌, ◌≤◌, inl, inr, ◌&&◌, nat_le, nat_lt, Bool, true, false, List, length, pos, negsuc, neg_ℤ, int_lt, unsigned_abs, refl, sym, ap, subst, ◌∙◌, arith, pow_mono}
+use Rattle.std.specs.Prelude.{min, if◌then◌else◌, Option, Some, None, [], ◌∷◌, ◌++◌, ℤ, ◌+ℤ◌, ◌*ℤ◌}
 use Rattle.std.specs.List.{AllByRecursion}
 use Rattle.std.proofs.lemmas.Bool.{cases_lt}
 use Rattle.std.proofs.lemmas.Bool.Decides.{nat_tests}
 use Rattle.std.proofs.lemmas.Int.{ints}
 use Rattle.std.proofs.lemmas.Nat.{pow_pos}
 use Rattle.std.proofs.Math.IntN.{pos-*ℤ-pos, pos-*ℤ-negsuc}
-use Rattle.std.proofs.Math.Nat.{mod-eq_of_lt, div-le_self, div-eq_of_lt, div-mul-le_self, mul-le-mul_right, mul-div_cancel, mul_comm}
+use Rattle.std.proofs.Math.Nat.{mod-eq_of_lt, div-le_self, div-eq_of_lt, div-mul-le_self, le-mul_of_pos_right, mul-le-mul_right, mul-div_cancel, mul_comm}
 use Rattle.dh_value.specs.declared.kinds.Kind.TheVariants as kind
 use Rattle.dh_value.specs.declared.words.Word.{Word}
 use Rattle.dh_value.specs.Words.{IsInteger, IsWidth, IsWord, residue, value_of, with_bits, word_of}
@@ -31,7 +31,7 @@ use Rattle.dh_rows.proofs.DealtIndices.{dealt_small, dealt_shows, dealt_cuts}
 use Rattle.dh_address.specs.declared.operands.Operand.{Operand}
 use Rattle.dh_address.specs.declared.operands.Ranged.{Ranged}
 use Rattle.dh_address.specs.LiteralPlaces.{below_size}
-use Rattle.dh_address.specs.WaysMade.{Way, Placed, span_range, bounded_by, offset_bounded, placed_as, made_or, moved_literal, moved_operand, moved_one, maybe_range, dealt_literal, dealt_operand, ranges_by}
+use Rattle.dh_address.specs.WaysMade.{Way, Placed, span_range, is_near, bounded_unless, offset_bounded, placed_as, made_or, index_moved, word_steps, steps_by, moved_literal, moved_operand, moved_one, maybe_range, dealt_literal, dealt_operand, ranges_by}
 use Rattle.dh_address.proofs.AccessesLead.{in_range}
 use Rattle.dh_address.proofs.LiteralMeans.{below_means, natural_range}
 use Rattle.dh_address.proofs.TestedRanges.{IsShown, all_in, and_true, begun_later}
@@ -71,24 +71,79 @@ min_times k size e some small = elim (cases_lt size k) [
     nothing (negsuc n) h = absurd (let z = none (suc n) h in omega (arith, z))
 
 -- the constants of an offset and an index, and what they give
-pub record AreMoved (offset index : Option ℕ) (factor size n : ℕ) : Type 0 where
-  pub first : ℕ
+pub record AreMoved (offset : Option ℤ) (index : Option ℕ) (factor size n : ℕ) : Type 0 where
+  pub first : ℤ
   pub second : ℕ
   pub offset_is : offset ≡ Some first
   pub index_is : index ≡ Some second
-  pub number : (first * factor % 2 ^ 64 + second) % 2 ^ 64 ≡ n
+  pub number : index_moved (int_lt first (pos 0)) (steps_by first factor) second ≡ Some n
 
-moved_means : (offset index : Option ℕ) (factor size n : ℕ) → moved_literal offset index factor size ≡ Some n → AreMoved offset index factor size n
+moved_means : (offset : Option ℤ) (index : Option ℕ) (factor size n : ℕ) → moved_literal offset index factor size ≡ Some n → AreMoved offset index factor size n
 moved_means None index factor size n e = absurd (cc)
 moved_means (Some a) None factor size n e = absurd (cc)
 moved_means (Some a) (Some i) factor size n e =
-    let b = below_means (Some ((a * factor % 2 ^ 64 + i) % 2 ^ 64)) size n e in
-    record { first = a; second = i; offset_is = refl; index_is = refl; number = same b.0 }
-  where
-    same : Some ((a * factor % 2 ^ 64 + i) % 2 ^ 64) ≡ Some n → (a * factor % 2 ^ 64 + i) % 2 ^ 64 ≡ n
-    same e = cc
+    let b = below_means (index_moved (int_lt a (pos 0)) (steps_by a factor) i) size n e in
+    record { first = a; second = i; offset_is = refl; index_is = refl; number = b.0 }
 
-small_product : (a k size : ℕ) → 1 ≤ size → 1 ≤ k → nat_le a ((size - 1) / k) ≡ true → a * k < size
+-- where nothing wraps, a constant times the factor, and an index, is the number that both give
+
+pub product_is : (a k size : ℕ) → size < 2 ^ 60 → 1 ≤ k → a * k < size → word_steps a * k % 2 ^ 64 ≡ a * k
+product_is a k size few more l =
+    ap (λ (b : Bool). (if b then a else 0) * k % 2 ^ 64) (less a (2 ^ 64) (under a (a * k) size (le-mul_of_pos_right a more) l few)) ∙ mod-eq_of_lt (whole (a * k) size l few)
+  where
+    less : (a b : ℕ) → a < b → nat_lt a b ≡ true
+    less a b l = grind (arith, nat_tests)
+
+    under : (a n size : ℕ) → a ≤ n → n < size → size < 2 ^ 60 → a < 2 ^ 64
+    under a n size l m few = omega (arith, l, m, few)
+
+    whole : (n size : ℕ) → n < size → size < 2 ^ 60 → n < 2 ^ 64
+    whole n size l few = omega (arith, l, few)
+
+moved_on : (by i n : ℕ) → index_moved false by i ≡ Some n → (by + i) % 2 ^ 64 ≡ n
+moved_on by i n e = same ((by + i) % 2 ^ 64) e
+  where
+    same : (m : ℕ) → Some m ≡ Some n → m ≡ n
+    same m e = cc
+
+moved_back : (by i n : ℕ) → index_moved true by i ≡ Some n → (by ≤ i) × (i - by ≡ n)
+moved_back by i n e = of (nat_le by i) refl e
+  where
+    at_most : (a b : ℕ) → nat_le a b ≡ true → a ≤ b
+    at_most a b l = grind (arith, nat_tests)
+
+    same : (m : ℕ) → Some m ≡ Some n → m ≡ n
+    same m e = cc
+
+    of : (t : Bool) → nat_le by i ≡ t → (if t then Some (i - by) else None) ≡ Some n → (by ≤ i) × (i - by ≡ n)
+    of true l e = (at_most by i l, same (i - by) e)
+    of false l e = absurd (cc)
+
+pub never_below : (a : ℕ) → nat_lt a 0 ≡ false
+never_below a = grind (arith, nat_tests)
+
+pub sum_small : (b i size : ℕ) → b < size → i < size → size < 2 ^ 60 → b + i < 2 ^ 64
+sum_small b i size l m few = omega (arith, l, m, few)
+
+pub sum_on : (y : ℤ) (w v b : ℕ) → y ≡ pos w → w ≡ v → y +ℤ pos b ≡ pos (v + b)
+sum_on y w v b p t = omega (arith, ints, p, t)
+
+pub sum_back : (y : ℤ) (w v b : ℕ) → y ≡ neg_ℤ (pos w) → w ≡ v → v ≤ b → y +ℤ pos b ≡ pos (b - v)
+sum_back y w v b p t l = omega (arith, ints, p, t, l)
+
+moved_number : (e : ℤ) (k i n size : ℕ) → size < 2 ^ 60 → 1 ≤ k → unsigned_abs e * k < size → i < size
+    → index_moved (int_lt e (pos 0)) (steps_by e k) i ≡ Some n → (pos k *ℤ e) +ℤ pos i ≡ pos n
+moved_number (pos a) k i n size few more l m e =
+    let s = moved_on (steps_by (pos a) k) i n (subst (λ (b : Bool). index_moved b (steps_by (pos a) k) i ≡ Some n) (never_below a) e) in
+    sum_on (pos k *ℤ pos a) (k * a) (a * k) i (pos-*ℤ-pos k a) (mul_comm k a)
+    ∙ ap pos (sym (mod-eq_of_lt (sum_small (a * k) i size l m few)) ∙ (ap (λ b. (b + i) % 2 ^ 64) (sym (product_is a k size few more l)) ∙ s))
+moved_number (negsuc a) k i n size few more l m e =
+    let s = moved_back (steps_by (negsuc a) k) i n e in
+    let by = product_is (suc a) k size few more l in
+    sum_back (pos k *ℤ negsuc a) (k * suc a) (suc a * k) i (pos-*ℤ-negsuc k a) (mul_comm k (suc a)) (subst (λ b. b ≤ i) by s.0)
+    ∙ ap pos (ap (λ b. i - b) (sym by) ∙ s.1)
+
+pub small_product : (a k size : ℕ) → 1 ≤ size → 1 ≤ k → nat_le a ((size - 1) / k) ≡ true → a * k < size
 small_product a k size some more e =
     let l = at_most a ((size - 1) / k) e in
     let most = div-mul-le_self (size - 1) k in
@@ -119,6 +174,7 @@ module _ (x : Readings) where
     pub word : IsWord (x.word o.value)
     pub kind_is : (x.word o.value).kind ≡ o.kind
     pub literal : (n : ℕ) → o.literal ≡ Some n → value_of (x.word o.value) ≡ pos n
+    pub whole : (z : ℤ) → o.whole ≡ Some z → value_of (x.word o.value) ≡ z
 
   abbrev pub AreSeen : List Operand → Type 0
   AreSeen os = AllByRecursion IsSeen os
@@ -183,24 +239,29 @@ module _ (x : Readings) where
   ranges_seen (d ∷ ds) [] h = tt
   ranges_seen (d ∷ ds) (o ∷ os) h = (h.0, ranges_seen ds os h.1)
 
+  no_whole : (y : ℤ) → None ≡ Some y → ⊥
+  no_whole y e = cc
+
   -- a word cut to a width, and a constant, are words
-  cut_seen : (l : Option ℕ) (width v : ℕ) (z : ℤ) → IsWidth width → l ≡ None → x.word v ≡ word_of (kind.Unsigned width) z → IsSeen (record { literal = l; kind = kind.Unsigned width; value = v })
+  cut_seen : (l : Option ℕ) (width v : ℕ) (z : ℤ) → IsWidth width → l ≡ None → x.word v ≡ word_of (kind.Unsigned width) z → IsSeen (record { literal = l; whole = None; kind = kind.Unsigned width; value = v })
   cut_seen l width v z sized none is = record {
     sized = sized;
     word = subst (λ (w : Word). IsWord w) (sym is) (record { sized = sized; fits = residue-lt (2 ^ width) z (pow_pos width) });
     kind_is = ap (λ (w : Word). w.kind) is;
     literal = λ n e. absurd (never n (sym none ∙ e));
+    whole = λ y e. absurd (no_whole y e);
   }
     where
       never : (n : ℕ) → None ≡ Some n → ⊥
       never n e = cc
 
-  constant_seen : (width v n : ℕ) → IsWidth width → n < 2 ^ width → x.word v ≡ with_bits (kind.Unsigned width) n → IsSeen (record { literal = Some n; kind = kind.Unsigned width; value = v })
+  constant_seen : (width v n : ℕ) → IsWidth width → n < 2 ^ width → x.word v ≡ with_bits (kind.Unsigned width) n → IsSeen (record { literal = Some n; whole = None; kind = kind.Unsigned width; value = v })
   constant_seen width v n sized small is = record {
     sized = sized;
     word = subst (λ (w : Word). IsWord w) (sym is) (record { sized = sized; fits = small });
     kind_is = ap (λ (w : Word). w.kind) is;
     literal = λ m e. ap value_of is ∙ ap pos (same m e);
+    whole = λ y e. absurd (no_whole y e);
   }
     where
       same : (m : ℕ) → Some n ≡ Some m → n ≡ m
@@ -215,29 +276,22 @@ module _ (x : Readings) where
   span_shows : (s : Option Span) (holds : Bool) → SpanTells x s holds → ShowsRange (maybe_range (span_range s)) holds
   span_shows None holds h = record { seen = tt; test = sym h }
   span_shows (Some s) holds h = record {
-    seen = (record { sized = h.sized; word = h.word; kind_is = h.kind_is; literal = λ n e. absurd (never n e) }, tt);
+    seen = (record { sized = h.sized; word = h.word; kind_is = h.kind_is; literal = λ n e. absurd (never n e); whole = λ y e. absurd (no_whole y e) }, tt);
     test = and_true (is_below_size (value_of (x.word s.value)) s.size) ∙ h.test;
   }
     where
       never : (n : ℕ) → None ≡ Some n → ⊥
       never n e = cc
 
-  bounded_shows : (l : Option ℕ) (os : List Operation) (e : Operand) (bound : ℕ) → e.literal ≡ l → x.first ≤ length os → bound < 2 ^ 60 → IsSeen e → Obeys x (bounded_by l os e bound).operations
-      → ShowsRange (maybe_range (bounded_by l os e bound).range) (is_small (value_of (x.word e.value)) bound)
-  bounded_shows None os e bound is begun few h obeys =
+  bounded_shows : (near : Bool) (os : List Operation) (e : Operand) (bound : ℕ) → is_near e.whole bound ≡ near → x.first ≤ length os → bound < 2 ^ 60 → IsSeen e
+      → Obeys x (bounded_unless near os e bound).operations → ShowsRange (maybe_range (bounded_unless near os e bound).range) (is_small (value_of (x.word e.value)) bound)
+  bounded_shows false os e bound is begun few h obeys =
       span_shows (spanned os e.kind e.value bound).span (is_small (value_of (x.word e.value)) bound) (spanned_tells x e.kind os begun e.value bound h.sized few h.word h.kind_is obeys)
-  bounded_shows (Some n) os e bound is begun few h obeys = record {
-    seen = (h, tt);
-    test = and_true (is_below_size (value_of (x.word e.value)) ((bound + 1) % 2 ^ 64))
-        ∙ (ap (λ m. is_below_size (value_of (x.word e.value)) m) (mod-eq_of_lt (next bound few))
-        ∙ (ap (λ z. is_below_size z (bound + 1)) (h.literal n is) ∙ (natural_range n (bound + 1) ∙ (one_more n bound ∙ ap (λ z. is_small z bound) (sym (h.literal n is))))));
-  }
+  bounded_shows true os e bound is begun few h obeys = record { seen = tt; test = sym (small e.whole refl is) }
     where
-      next : (b : ℕ) → b < 2 ^ 60 → b + 1 < 2 ^ 64
-      next b l = omega (arith, l)
-
-      one_more : (n b : ℕ) → nat_lt n (b + 1) ≡ nat_le n b
-      one_more n b = grind (arith, nat_tests)
+      small : (o : Option ℤ) → e.whole ≡ o → is_near o bound ≡ true → is_small (value_of (x.word e.value)) bound ≡ true
+      small None at n = true_or_false (sym n)
+      small (Some z) at n = ap (λ y. is_small y bound) (h.whole z at) ∙ n
 
   -- A moved index.
 
@@ -255,7 +309,7 @@ module _ (x : Readings) where
 
     by_words : (v : ℕ) → x.word v ≡ word_of (kind.Unsigned (moved_width size)) ((pos (min factor size) *ℤ value_of (x.word e.value)) +ℤ value_of (x.word i.value))
         → StandsFor size i iz → is_index size iz ≡ true → is_small ez ((size - 1) / factor) ≡ true
-        → StandsFor size (record { literal = None; kind = kind.Unsigned (moved_width size); value = v }) ((pos factor *ℤ ez) +ℤ iz)
+        → StandsFor size (record { literal = None; whole = None; kind = kind.Unsigned (moved_width size); value = v }) ((pos factor *ℤ ez) +ℤ iz)
     by_words v is h inside small =
         let n = in_range iz size inside in
         let z : (pos (min factor size) *ℤ value_of (x.word e.value)) +ℤ value_of (x.word i.value) ≡ (pos (min factor size) *ℤ ez) +ℤ pos (unsigned_abs iz)
@@ -273,42 +327,37 @@ module _ (x : Readings) where
           exact = λ w. shown ∙ (t.exact (ap (λ y. is_index size y) same ∙ w) ∙ same);
         }
 
-    by_constants : (n v : ℕ) → AreMoved e.literal i.literal factor size n → value_of (x.word v) ≡ pos n → StandsFor size i iz → is_index size iz ≡ true → is_small ez ((size - 1) / factor) ≡ true
-        → StandsFor size (record { literal = Some n; kind = kind.Unsigned (moved_width size); value = v }) ((pos factor *ℤ ez) +ℤ iz)
+    by_constants : (n v : ℕ) → AreMoved e.whole i.literal factor size n → value_of (x.word v) ≡ pos n → StandsFor size i iz → is_index size iz ≡ true → is_small ez ((size - 1) / factor) ≡ true
+        → StandsFor size (record { literal = Some n; whole = None; kind = kind.Unsigned (moved_width size); value = v }) ((pos factor *ℤ ez) +ℤ iz)
     by_constants n v m is h inside small =
-        let ez_is : ez ≡ pos m.first = sym e_is ∙ e_seen.literal m.first m.offset_is in
+        let ez_is : ez ≡ m.first = sym e_is ∙ e_seen.whole m.first m.offset_is in
         let iz_is : iz ≡ pos m.second = sym (h.exact inside) ∙ i_seen.literal m.second m.index_is in
         let below = (in_range iz size inside).below in
         let second : m.second < size = subst (λ k. k < size) (ap unsigned_abs iz_is) below in
-        let first : m.first * factor < size = small_product m.first factor size some more (subst (λ z. is_small z ((size - 1) / factor) ≡ true) ez_is small) in
-        let number : m.first * factor + m.second ≡ n = sym (no_wrap (m.first * factor) m.second first second) ∙ m.number in
+        let near : is_small m.first ((size - 1) / factor) ≡ true = subst (λ z. is_small z ((size - 1) / factor) ≡ true) ez_is small in
+        let first : unsigned_abs m.first * factor < size = small_product (unsigned_abs m.first) factor size some more near in
         let z : (pos factor *ℤ ez) +ℤ iz ≡ pos n =
-        ap (λ y. (pos factor *ℤ y) +ℤ iz) ez_is ∙ (ap (λ y. (pos factor *ℤ pos m.first) +ℤ y) iz_is ∙ (sum m.first m.second ∙ ap pos number))
+        ap (λ y. (pos factor *ℤ y) +ℤ iz) ez_is
+        ∙ (ap (λ y. (pos factor *ℤ m.first) +ℤ y) iz_is ∙ moved_number m.first factor m.second n size few more first second m.number)
         in
-        stands_as size (record { literal = Some n; kind = kind.Unsigned (moved_width size); value = v }) n ((pos factor *ℤ ez) +ℤ iz) is z
-      where
-        no_wrap : (a b : ℕ) → a < size → b < size → (a % 2 ^ 64 + b) % 2 ^ 64 ≡ a + b
-        no_wrap a b l m = ap (λ k. (k + b) % 2 ^ 64) (mod-eq_of_lt (omega (arith, l, few))) ∙ mod-eq_of_lt (omega (arith, l, m, few))
+        stands_as size (record { literal = Some n; whole = None; kind = kind.Unsigned (moved_width size); value = v }) n ((pos factor *ℤ ez) +ℤ iz) is z
 
-        sum : (a b : ℕ) → (pos factor *ℤ pos a) +ℤ pos b ≡ pos (a * factor + b)
-        sum a b = let p = pos-*ℤ-pos factor a in let t = mul_comm factor a in omega (arith, ints, p, t)
-
-    moved_as_shown : (l : Option ℕ) → moved_literal e.literal i.literal factor size ≡ l → Obeys x (made_or os l (moved_width size) (moved os (moved_width size) (min factor size) e.value i.value)).operations
+    moved_as_shown : (l : Option ℕ) → moved_literal e.whole i.literal factor size ≡ l → Obeys x (made_or os l (moved_width size) (moved os (moved_width size) (min factor size) e.value i.value)).operations
         → ShowsMoved size factor (placed_as l (moved_width size) (made_or os l (moved_width size) (moved os (moved_width size) (min factor size) e.value i.value))) ez iz i
     moved_as_shown None is obeys =
         let w = moved_shows x (moved_width size) os begun (min factor size) e.value i.value (omega (arith, few)) obeys in
         record { seen = cut_seen None (moved_width size) _ _ wide.0 refl w; stands = λ h inside small. by_words _ w h inside small }
     moved_as_shown (Some n) is obeys =
         let w = pushed_word x os (Constant (with_bits (kind.Unsigned (moved_width size)) n)) refl begun obeys in
-        let below = moved_below e.literal i.literal factor size n is in
+        let below = moved_below e.whole i.literal factor size n is in
         let m = wide.1 in
         record {
           seen = constant_seen (moved_width size) (length os) n wide.0 (omega (arith, below, m)) w;
-          stands = λ h inside small. by_constants n (length os) (moved_means e.literal i.literal factor size n is) (ap value_of w) h inside small;
+          stands = λ h inside small. by_constants n (length os) (moved_means e.whole i.literal factor size n is) (ap value_of w) h inside small;
         }
 
     pub moved_operand_shown : Obeys x (moved_operand os size factor e i).operations → ShowsMoved size factor (moved_operand os size factor e i) ez iz i
-    moved_operand_shown obeys = moved_as_shown (moved_literal e.literal i.literal factor size) refl obeys
+    moved_operand_shown obeys = moved_as_shown (moved_literal e.whole i.literal factor size) refl obeys
 
   -- One dimension of a view that moves.
 
@@ -325,7 +374,7 @@ module _ (x : Readings) where
       let later = moved_operand_plain b.operations size factor e i in
       let at_b = begun_later x w.operations b.operations (plain_grows _ _ grown) begun in
       let most = div-le_self (size - 1) factor in
-      let range = bounded_shows e.literal w.operations e bound refl begun (omega (arith, most, few)) e_seen (obeys_plain x b.operations _ later obeys) in
+      let range = bounded_shows (is_near e.whole bound) w.operations e bound refl begun (omega (arith, most, few)) e_seen (obeys_plain x b.operations _ later obeys) in
       record {
         range = subst (λ z. ShowsRange (maybe_range b.range) (is_small z bound)) e_is range;
         index = moved_operand_shown b.operations at_b size factor few some more e i ez iz e_seen i_seen e_is obeys;
@@ -377,7 +426,7 @@ module _ (x : Readings) where
         record { seen = cut_seen None (moved_width p.size) _ cut.0 width_fits.0 refl cut.1; stands = stands }
       where
         stands : StandsFor v.size a az → StandsFor w.size b bz → is_index v.size az ≡ true → is_index w.size bz ≡ true
-            → StandsFor p.size (record { literal = None; kind = kind.Unsigned (moved_width p.size); value = (dealt os (moved_width p.size) v.size w a.value b.value).value })
+            → StandsFor p.size (record { literal = None; whole = None; kind = kind.Unsigned (moved_width p.size); value = (dealt os (moved_width p.size) v.size w a.value b.value).value })
             (pos (dealt_index p.banks (p.banks / k) (unsigned_abs az) (unsigned_abs bz)))
         stands g h e f =
             let na = in_range az v.size e in

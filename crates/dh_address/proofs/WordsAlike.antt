@@ -1,7 +1,7 @@
 -- The values of a block and of what it becomes: in a step in which each access that is made and in range reaches a bank of
 -- its list, each value of the old block is that of its new number in the new block.
 use Rattle.std.proofs.Common.{◌≡◌, ℕ, suc, ◌+◌, ◌-◌, ◌%◌, ◌^◌, ◌≤◌, ◌&&◌, Some, None, List, Bool, true, false, length, map, refl, sym, ap, subst, ◌∙◌, arith, pos, unsigned_abs}
-use Rattle.std.specs.Prelude.{[], ◌∷◌, ◌++◌, Option, if◌then◌else◌, ℤ}
+use Rattle.std.specs.Prelude.{[], ◌∷◌, ◌++◌, Option, if◌then◌else◌, slice_get, ℤ}
 use Rattle.std.specs.List.{AllByRecursion}
 use Rattle.std.specs.Option.{is_some}
 use Rattle.std.proofs.Math.Nat.{mod-eq_of_lt}
@@ -12,6 +12,7 @@ use Rattle.dh_value.specs.Words.{IsInteger, IsWord, value_of}
 use Rattle.dh_tree.specs.declared.tables.Dim.{Dim}
 use Rattle.dh_tree.specs.Elements.{Spot, bank_of, row_of, rows_of, spot_of, dims_at}
 use Rattle.dh_tree.specs.Shapes.{IsProgramTable}
+use Rattle.dh_tree.proofs.BankElements.{bank_below}
 use Rattle.dh_meaning.specs.Effects.{is_inside, is_row, spot_by_row}
 use Rattle.dh_plan.specs.declared.operations.Operation.{Operation}
 use Rattle.dh_plan.specs.declared.operations.OperationForm.TheVariants.{Constant}
@@ -35,15 +36,15 @@ use Rattle.dh_address.proofs.WaySizes.{HasMaps}
 use Rattle.dh_address.specs.declared.literals.LiteralPlace.{LiteralPlace}
 use Rattle.dh_address.specs.declared.operands.Operand.{Operand}
 use Rattle.dh_address.specs.declared.operands.Ranged.{Ranged}
-use Rattle.dh_address.specs.LiteralPlaces.{literal_at, literal_places}
-use Rattle.dh_address.specs.Pieces.{Around, new_number, new_or_none, known_kind, all_taken, values_of, aimed, aim_width, waited, is_banked, IsAim, IsAimBut, IsAimed, IsAccessMade}
+use Rattle.dh_address.specs.LiteralPlaces.{literal_at, whole_at, literal_places}
+use Rattle.dh_address.specs.Pieces.{Around, new_number, new_or_none, known_kind, all_taken, values_of, aimed, aim_width, select_width, waited, is_banked, IsAim, IsAimBut, IsAimed, IsAccessMade}
 use Rattle.dh_address.specs.WaysMade.{Way, IsWay, operand_of, ranges_by, steps_passed, way_begun, passed_to, reach_passed}
 use Rattle.dh_address.proofs.AccessesLead.{truth_word, word_in_kind, both_true, in_range, abs_of, inside_within, place_leads, only_bank, holds_on}
 use Rattle.dh_address.proofs.AccessesPut.{HasMany, picked}
 use Rattle.dh_address.proofs.AimedRows.{ShowsAim, ShowsSelect, PlaceIs, index_aim_shows, HasSelect}
 use Rattle.dh_address.proofs.BlockEquations.{word_solved}
 use Rattle.dh_address.proofs.ImageReadings.{block_readings}
-use Rattle.dh_address.proofs.LiteralMeans.{AreLiterals, below_means, literal_means, dims_formed, elements_below, width_suffices, literal_place_is}
+use Rattle.dh_address.proofs.LiteralMeans.{AreLiterals, below_means, literal_means, whole_means, dims_formed, elements_below, width_suffices, bank_fits, select_suffices, literal_place_is}
 use Rattle.dh_address.proofs.PieceForms.{image_of, around}
 use Rattle.dh_address.proofs.PiecesGrow.{guarded_grows, aimed_grows, waited_grows}
 use Rattle.dh_address.proofs.TestedRanges.{all_in, IsShown, guards_hold, begun_later, and_true}
@@ -99,15 +100,20 @@ module _ (p : PlainPlan) (maps : HasMaps p) (tables : IsProgramTable p.table) (b
 
   -- Ranges.
 
-  -- a literal is what the value shows
-  literal_value : (v n : ℕ) → literal_at a.operations (v - a.first) ≡ Some n → old_first ≤ v → value_of (word_at old_first ws v) ≡ pos n
-  literal_value v n e begun =
-      let c = literal_means a.operations (v - a.first) n e in
-      let solved = word_solved s (in_memories s old_first) old_first (memories_look_back s old_first) (operations_in p block) (v - old_first) (record { guard = None; form = Constant c.word }) c.there tt in
-      ap value_of (ap (λ (m : ℕ). word_at old_first ws m) (sym (place old_first v begun)) ∙ solved) ∙ c.value
+  -- a constant is what the value shows
+  constant_shown : (v : ℕ) (w : Word) → slice_get (operations_in p block) (v - old_first) ≡ Some (record { guard = None; form = Constant w }) → old_first ≤ v → word_at old_first ws v ≡ w
+  constant_shown v w there begun =
+      ap (λ (m : ℕ). word_at old_first ws m) (sym (place old_first v begun))
+      ∙ word_solved s (in_memories s old_first) old_first (memories_look_back s old_first) (operations_in p block) (v - old_first) (record { guard = None; form = Constant w }) there tt
     where
       place : (f v : ℕ) → f ≤ v → f + (v - f) ≡ v
       place f v l = omega (arith, l)
+
+  literal_value : (v n : ℕ) → literal_at a.operations (v - a.first) ≡ Some n → old_first ≤ v → value_of (word_at old_first ws v) ≡ pos n
+  literal_value v n e begun = let c = literal_means a.operations (v - a.first) n e in ap value_of (constant_shown v c.word c.there begun) ∙ c.value
+
+  whole_value : (v : ℕ) (z : ℤ) → whole_at a.operations (v - a.first) ≡ Some z → old_first ≤ v → value_of (word_at old_first ws v) ≡ z
+  whole_value v z e begun = let c = whole_means a.operations (v - a.first) z e in ap value_of (constant_shown v c.word c.there begun) ∙ c.value
 
   -- what is known of an index, an offset or a row
   pub record IsGoodNumber (v : ℕ) : Type 0 where
@@ -123,6 +129,7 @@ module _ (p : PlainPlan) (maps : HasMaps p) (tables : IsProgramTable p.table) (b
         word = subst (λ (w : Word). IsWord w) (sym h.good.same) word;
         kind_is = ap (λ (w : Word). w.kind) h.good.same ∙ h.good.in_kind.same;
         literal = λ n e. ap value_of h.good.same ∙ literal_value v n e h.begun;
+        whole = λ z e. ap value_of h.good.same ∙ whole_value v z e h.begun;
       }
 
   all_seen : (us : List ℕ) → AllByRecursion IsGoodNumber us → AreSeen x (map (operand_of a) us)
@@ -269,7 +276,7 @@ module _ (p : PlainPlan) (maps : HasMaps p) (tables : IsProgramTable p.table) (b
 
   place_is : (r : Reach) (is : List Operand) (zs : List ℤ) (place : Option LiteralPlace) → literal_places (dims_at p.table r.memory) is 0 0 ≡ place → length is ≡ length (dims_at p.table r.memory)
       → AreSeen x is → AreFor x (dims_at p.table r.memory) is zs → is_inside (dims_at p.table r.memory) zs ≡ true
-      → PlaceIs x (aim_width (dims_at p.table r.memory)) place (row_of (dims_at p.table r.memory) (abs_of zs)) (bank_of (dims_at p.table r.memory) (abs_of zs))
+      → PlaceIs x (aim_width (dims_at p.table r.memory)) (select_width (dims_at p.table r.memory)) place (row_of (dims_at p.table r.memory) (abs_of zs)) (bank_of (dims_at p.table r.memory) (abs_of zs))
   place_is r is zs None e long h f i = tt
   place_is r is zs (Some place) e long h f i =
       let dims = dims_at p.table r.memory in
@@ -283,10 +290,10 @@ module _ (p : PlainPlan) (maps : HasMaps p) (tables : IsProgramTable p.table) (b
   IsPickedBank r (Some v) = Unit {0}
 
   -- the bank that is picked
-  bank_shown : (width : ℕ) (r : Reach) (select : Option ℕ) (bank : ℕ) → ShowsSelect x width select bank → IsPickedBank r select → ((place : ℕ) × IsListed bank place r.banks)
+  bank_shown : (width narrow : ℕ) (r : Reach) (select : Option ℕ) (bank : ℕ) → ShowsSelect x width narrow select bank → IsPickedBank r select → ((place : ℕ) × IsListed bank place r.banks)
       → bank_picked first vs r.banks select ≡ bank
-  bank_shown width r None bank h picked (place, listed) = only_bank bank r.banks picked place listed
-  bank_shown width r (Some v) bank h picked listed = ap (λ (w : Word). w.bits) h
+  bank_shown width narrow r None bank h picked (place, listed) = only_bank bank r.banks picked place listed
+  bank_shown width narrow r (Some v) bank h picked listed = ap (λ (w : Word). w.bits) h
 
   -- Where the access of a row leads, which an access became.
   pub record LeadsAlike (r : Reach) (u : Reach) : Type 0 where
@@ -294,12 +301,12 @@ module _ (p : PlainPlan) (maps : HasMaps p) (tables : IsProgramTable p.table) (b
     pub leads : (spot : Spot) → spot_of_reach s old_first ws r ≡ Some spot → ((place : ℕ) × IsListed spot.bank place r.banks) → spot_of_reach t first vs u ≡ Some spot
 
   indices_lead : (r : Reach) (taken : List ℕ) (row : ℕ) (select : Option ℕ) (is : List Operand) (spot : Spot) (l : IsLedTo r is spot)
-      → ShowsAim x (aim_width (dims_at p.table r.memory)) row select (row_of (dims_at p.table r.memory) (abs_of l.numbers)) (bank_of (dims_at p.table r.memory) (abs_of l.numbers))
+      → ShowsAim x (aim_width (dims_at p.table r.memory)) (select_width (dims_at p.table r.memory)) row select (row_of (dims_at p.table r.memory) (abs_of l.numbers)) (bank_of (dims_at p.table r.memory) (abs_of l.numbers))
       → IsPickedBank r select → ((place : ℕ) × IsListed spot.bank place r.banks) → spot_of_reach t first vs (aimed r taken row select) ≡ Some spot
   indices_lead r taken row select is spot l shows picked listed =
       let dims = dims_at p.table r.memory in
       let ns = abs_of l.numbers in
-      let bank = bank_shown (aim_width dims) r select (bank_of dims ns) shows.bank_shown picked (subst (λ (sp : Spot). (place : ℕ) × IsListed sp.bank place r.banks) (sym l.spot_is) listed) in
+      let bank = bank_shown (aim_width dims) (select_width dims) r select (bank_of dims ns) shows.bank_shown picked (subst (λ (sp : Spot). (place : ℕ) × IsListed sp.bank place r.banks) (sym l.spot_is) listed) in
       let row_is : value_of (word_at first vs row) ≡ pos (row_of dims ns) = ap value_of shows.row_shown in
       ap (λ (b : ℕ). spot_by_row p.table r.memory b (value_of (word_at first vs row))) bank
       ∙ (ap (λ (z : ℤ). spot_by_row p.table r.memory (bank_of dims ns) z) row_is
@@ -325,10 +332,10 @@ module _ (p : PlainPlan) (maps : HasMaps p) (tables : IsProgramTable p.table) (b
   aim_has false row bank new number select h = h.1.1
   aim_has true row bank new number select h = (bank.value, h.1.1)
 
-  but_has : (place : Option LiteralPlace) (width : ℕ) (dims : List Dim) (indices : List ℕ) (banked : Bool) (old new : List Operation) (row : ℕ) (select : Option ℕ)
-      → IsAimBut place width dims indices banked old new row select → HasSelect banked select
-  but_has None width dims indices banked old new row select h = aim_has banked _ _ new row select h.aim
-  but_has (Some place) width dims indices banked old new row select h = aim_has banked (constant_made old width place.row) _ new row select h
+  but_has : (place : Option LiteralPlace) (width narrow : ℕ) (dims : List Dim) (indices : List ℕ) (banked : Bool) (old new : List Operation) (row : ℕ) (select : Option ℕ)
+      → IsAimBut place width narrow dims indices banked old new row select → HasSelect banked select
+  but_has None width narrow dims indices banked old new row select h = aim_has banked _ _ new row select h.aim
+  but_has (Some place) width narrow dims indices banked old new row select h = aim_has banked (constant_made old width place.row) _ new row select h
 
   module _ (r : Reach) (m : IsMeant r) where
     aimed_leads : (row : Option ℕ) → r.row ≡ row → (is : List Operand) (old last : List Operation) (u : Reach) → IsAimed a r row is old last u → first ≤ length old → Obeys x last → HasMany p.table r row is → AreSeen x is
@@ -338,15 +345,18 @@ module _ (p : PlainPlan) (maps : HasMaps p) (tables : IsProgramTable p.table) (b
         let mid = (waited old (new_or_none a r.select)).operations in
         let taken = all_taken a r ++ one_or_none (waited old (new_or_none a r.select)).sum in
         let at_mid = begun_later x old mid (waited_grows old (new_or_none a r.select)) begun in
-        let picks = picked x 0 a r h.select (but_has (literal_places dims is 0 0) _ _ _ (is_banked r) mid last h.row h.select h.aim) in
+        let picks = picked x 0 a r h.select (but_has (literal_places dims is 0 0) _ _ _ _ (is_banked r) mid last h.row h.select h.aim) in
         subst (λ (w : Reach). LeadsAlike r w) (sym h.reach)
         (record {
           memory = refl;
           leads = λ spot leads listed.
               (let l = lead refl spot leads in
               indices_lead r taken h.row h.select is spot l
-              (index_aim_shows x (aim_width dims) (literal_places dims is 0 0) dims (values_of is) (is_banked r) mid last h.row h.select (abs_of l.numbers) h.aim
-              (width_suffices p.table r.memory tables) (place_is r is l.numbers (literal_places dims is 0 0) refl long seen_indices l.stand l.inside) at_mid obeys (all_within dims is l.numbers l.stand l.inside))
+              (index_aim_shows x (aim_width dims) (select_width dims) (literal_places dims is 0 0) dims (values_of is) (is_banked r) mid last h.row h.select (abs_of l.numbers) h.aim
+              (width_suffices p.table r.memory tables)
+              (bank_fits (select_width dims) dims (bank_of dims (abs_of l.numbers)) (select_suffices p.table r.memory tables)
+              (bank_below dims (abs_of l.numbers) (dims_formed p.table r.memory tables.entries) (inside_within dims l.numbers l.inside)))
+              (place_is r is l.numbers (literal_places dims is 0 0) refl long seen_indices l.stand l.inside) at_mid obeys (all_within dims is l.numbers l.stand l.inside))
               picks listed);
         })
     aimed_leads (Some row) e is old last u h begun obeys long seen_indices lead =

@@ -1,9 +1,10 @@
--- Indices that are constants of a block: their numbers, and the row and bank of the element that they name, as
--- numbers of 64 bits.
-use Rattle.std.specs.Prelude.{ℕ, ◌+◌, ◌-◌, ◌*◌, ◌/◌, ◌%◌, ◌^◌, nat_lt, if◌then◌else◌, List, ◌∷◌, slice_get, Option, Some, None}
+-- Indices and offsets that are constants of a block: their numbers, and the row and bank of the element that indices
+-- name, as numbers of 64 bits.
+use Rattle.std.specs.Prelude.{ℕ, ◌+◌, ◌-◌, ◌*◌, ◌/◌, ◌%◌, ◌^◌, nat_le, nat_lt, if◌then◌else◌, List, ◌∷◌, slice_get, Option, Some, None, ℤ, pos}
 use Rattle.dh_value.specs.declared.kinds.Kind.{Kind}
 use Rattle.dh_value.specs.declared.kinds.Kind.TheVariants as kind
 use Rattle.dh_value.specs.declared.words.Word.{Word}
+use Rattle.dh_value.specs.Words.{signed}
 use Rattle.dh_tree.specs.declared.tables.Dim.{Dim}
 use Rattle.dh_plan.specs.declared.operations.Operation.{Operation}
 use Rattle.dh_plan.specs.declared.operations.OperationForm.{OperationForm}
@@ -20,21 +21,44 @@ natural_in (kind.Signed w) bits = if nat_lt bits (2 ^ (w - 1)) then Some bits el
 abbrev pub natural : Word → Option ℕ
 natural w = natural_in w.kind w.bits
 
-abbrev pub literal_form : OperationForm → Option ℕ
-literal_form (Constant word) = natural word
-literal_form _ = None
+-- a word's value, of whatever sign
+abbrev pub whole_in : Kind → (bits : ℕ) → Option ℤ
+whole_in kind.Bool bits = None
+whole_in (kind.Unsigned w) bits = Some (pos bits)
+whole_in (kind.Signed w) bits = if nat_le w 64 then Some (signed w bits) else None
 
--- a guard would make it one of two numbers
-abbrev pub literal_guarded : (guard : Option ℕ) → OperationForm → Option ℕ
-literal_guarded None form = literal_form form
-literal_guarded (Some g) form = None
+abbrev pub whole : Word → Option ℤ
+whole w = whole_in w.kind w.bits
+
+abbrev pub constant_form : OperationForm → Option Word
+constant_form (Constant word) = Some word
+constant_form _ = None
+
+-- a guard would make it one of two words
+abbrev pub constant_guarded : (guard : Option ℕ) → OperationForm → Option Word
+constant_guarded None form = constant_form form
+constant_guarded (Some g) form = None
+
+abbrev pub constant_in : Option Operation → Option Word
+constant_in None = None
+constant_in (Some o) = constant_guarded o.guard o.form
+
+abbrev pub natural_if : Option Word → Option ℕ
+natural_if None = None
+natural_if (Some word) = natural word
+
+abbrev pub whole_if : Option Word → Option ℤ
+whole_if None = None
+whole_if (Some word) = whole word
 
 abbrev pub literal_in : Option Operation → Option ℕ
-literal_in None = None
-literal_in (Some o) = literal_guarded o.guard o.form
+literal_in o = natural_if (constant_in o)
 
 abbrev pub literal_at : List Operation → (place : ℕ) → Option ℕ
 literal_at os place = literal_in (slice_get os place)
+
+abbrev pub whole_at : List Operation → (place : ℕ) → Option ℤ
+whole_at os place = whole_if (constant_in (slice_get os place))
 
 abbrev pub below_size : Option ℕ → (size : ℕ) → Option ℕ
 below_size None size = None

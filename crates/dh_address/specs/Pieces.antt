@@ -2,7 +2,7 @@
 -- number of the value that stands for its own. Each access becomes one of a row of a bank, under a guard that holds
 -- only where it is in range, also at each view on its way; each probe becomes the checks of these ranges. All else
 -- stays, at the new numbers.
-use Rattle.std.specs.Prelude.{◌≡◌, ℕ, ◌-◌, ◌==◌, not, Bool, true, false, List, [], ◌∷◌, ◌++◌, length, map, slice_get, Option, Some, None}
+use Rattle.std.specs.Prelude.{◌≡◌, ℕ, ◌-◌, ◌%◌, ◌^◌, ◌==◌, max, not, Bool, true, false, List, [], ◌∷◌, ◌++◌, length, map, slice_get, Option, Some, None}
 use Rattle.std.specs.List.{list_any}
 use Rattle.dh_value.specs.declared.kinds.Kind.{Kind}
 use Rattle.dh_value.specs.declared.kinds.Kind.TheVariants as kind
@@ -10,7 +10,7 @@ use Rattle.dh_value.specs.declared.operators.Op.TheVariants as op
 use Rattle.dh_value.specs.declared.words.Word.{Word}
 use Rattle.dh_value.specs.Words.{with_bits}
 use Rattle.dh_tree.specs.declared.tables.Dim.{Dim}
-use Rattle.dh_tree.specs.Elements.{dims_at}
+use Rattle.dh_tree.specs.Elements.{dims_at, banks_of}
 use Rattle.dh_tree.specs.Tables.{elements_of}
 use Rattle.dh_plan.specs.declared.operations.Operation.{Operation}
 use Rattle.dh_plan.specs.declared.operations.OperationForm.{OperationForm}
@@ -139,23 +139,31 @@ IsAim true row bank new number select = (new ≡ bank.operations) × ((number �
 abbrev pub is_banked : Reach → Bool
 is_banked r = not (length r.banks == 1)
 
--- the width of rows and banks
+-- the width of rows
 abbrev pub aim_width : List Dim → ℕ
 aim_width dims = bits_in (elements_of dims)
 
+-- the width of selects: what the greatest bank takes, and one bit at least. So wide are the tests which bank is picked.
+abbrev pub select_width : List Dim → ℕ
+select_width dims = bits_in (max (banks_of dims % 2 ^ 64 - 1) 1)
+
+-- a bank as a select
+abbrev pub narrowed : (narrow : ℕ) → Made → Made
+narrowed narrow bank = converted bank.operations bank.value narrow
+
 -- row and bank of indices that are no constants
-pub record IsSpreadOut (width : ℕ) (dims : List Dim) (indices : List ℕ) (banked : Bool) (old new : List Operation) (row : ℕ) (select : Option ℕ) : Type 0 where
+pub record IsSpreadOut (width narrow : ℕ) (dims : List Dim) (indices : List ℕ) (banked : Bool) (old new : List Operation) (row : ℕ) (select : Option ℕ) : Type 0 where
   pub spread : List Operation
   pub values : RowAndBank
   pub grows : GrowsPlain old spread
   pub made : MakesRow old spread width dims indices banked values
-  pub aim : IsAim banked (or_zero spread width values.row) (or_zero (or_zero spread width values.row).operations width values.bank) new row select
+  pub aim : IsAim banked (or_zero spread width values.row) (narrowed narrow (or_zero (or_zero spread width values.row).operations width values.bank)) new row select
 
 -- of constants they are constants
-abbrev pub IsAimBut : (place : Option LiteralPlace) → (width : ℕ) → List Dim → (indices : List ℕ) → (banked : Bool) → (old new : List Operation) → (row : ℕ) → (select : Option ℕ) → Type 0
-IsAimBut None width dims indices banked old new row select = IsSpreadOut width dims indices banked old new row select
-IsAimBut (Some place) width dims indices banked old new row select =
-    IsAim banked (constant_made old width place.row) (constant_made (constant_made old width place.row).operations width place.bank) new row select
+abbrev pub IsAimBut : (place : Option LiteralPlace) → (width narrow : ℕ) → List Dim → (indices : List ℕ) → (banked : Bool) → (old new : List Operation) → (row : ℕ) → (select : Option ℕ) → Type 0
+IsAimBut None width narrow dims indices banked old new row select = IsSpreadOut width narrow dims indices banked old new row select
+IsAimBut (Some place) width narrow dims indices banked old new row select =
+    IsAim banked (constant_made old width place.row) (constant_made (constant_made old width place.row).operations narrow place.bank) new row select
 
 -- the values of operands
 abbrev pub values_of : List Operand → List ℕ
@@ -163,7 +171,7 @@ values_of is = map (λ o. o.value) is
 
 -- row and bank of these indices
 abbrev pub IsIndexAim : List Dim → List Operand → (banked : Bool) → (old new : List Operation) → (row : ℕ) → (select : Option ℕ) → Type 0
-IsIndexAim dims is banked old new row select = IsAimBut (literal_places dims is 0 0) (aim_width dims) dims (values_of is) banked old new row select
+IsIndexAim dims is banked old new row select = IsAimBut (literal_places dims is 0 0) (aim_width dims) (select_width dims) dims (values_of is) banked old new row select
 
 -- beside indices a select means nothing, but is waited for: as a number of one bit
 abbrev pub waited : List Operation → (select : Option ℕ) → Summed

@@ -1,7 +1,7 @@
 -- What is put down of an access before its tests: at each view on its way the indices of the parent, and what is to be in
 -- range so that they are right. Indices and offsets may be of any integer kind; behind a view an index is a word of two
 -- bits more than the size of its dimension takes. Of constants alone it is a constant.
-use Rattle.std.specs.Prelude.{◌≡◌, ℕ, ◌+◌, ◌-◌, ◌*◌, ◌/◌, ◌%◌, ◌^◌, min, List, [], ◌∷◌, ◌++◌, map, slice_get, Option, Some, None}
+use Rattle.std.specs.Prelude.{◌≡◌, ℕ, ◌+◌, ◌-◌, ◌*◌, ◌/◌, ◌%◌, ◌^◌, nat_le, nat_lt, min, Bool, false, if◌then◌else◌, List, [], ◌∷◌, ◌++◌, map, slice_get, Option, Some, None, ℤ, pos, int_lt, unsigned_abs}
 use Rattle.dh_value.specs.declared.kinds.Kind.{Kind}
 use Rattle.dh_value.specs.declared.kinds.Kind.TheVariants as kind
 use Rattle.dh_tree.specs.declared.tables.Dim.{Dim}
@@ -17,16 +17,16 @@ use Rattle.dh_rows.specs.MadeOperations.{Made, Spanned, constant_made, moved, de
 use Rattle.dh_address.specs.declared.operands.Operand.{Operand}
 use Rattle.dh_address.specs.declared.operands.Ranged.{Ranged}
 use Rattle.dh_address.specs.Arounds.{Around, new_number, known_kind}
-use Rattle.dh_address.specs.LiteralPlaces.{literal_at, below_size}
+use Rattle.dh_address.specs.LiteralPlaces.{literal_at, whole_at, below_size}
 
 -- Values by which an access names its element.
 
 abbrev pub operand : (literal : Option ℕ) → Kind → (value : ℕ) → Operand
-operand literal k value = record { literal = literal; kind = k; value = value }
+operand literal k value = record { literal = literal; whole = None; kind = k; value = value }
 
 -- a value of the old plan
 abbrev pub operand_of : Around → (value : ℕ) → Operand
-operand_of a v = operand (literal_at a.operations (v - a.first)) (known_kind a v) (new_number a v)
+operand_of a v = record { literal = literal_at a.operations (v - a.first); whole = whole_at a.operations (v - a.first); kind = known_kind a v; value = new_number a v }
 
 abbrev pub ranged : Operand → (size : ℕ) → Ranged
 ranged o size = record { operand = o; size = size }
@@ -52,13 +52,17 @@ span_range (Some s) = Some (ranged (operand None s.kind s.value) s.size)
 abbrev pub bounded_span : Spanned → Bounded
 bounded_span m = record { operations = m.operations; range = span_range m.span }
 
--- a constant from 0 on is small where it is at most the bound
-abbrev pub bounded_by : (literal : Option ℕ) → List Operation → Operand → (bound : ℕ) → Bounded
-bounded_by None os e bound = bounded_span (spanned os e.kind e.value bound)
-bounded_by (Some n) os e bound = record { operations = os; range = Some (ranged e ((bound + 1) % 2 ^ 64)) }
+-- a constant is no further from 0 than a bound
+abbrev pub is_near : Option ℤ → (bound : ℕ) → Bool
+is_near None bound = false
+is_near (Some z) bound = nat_le (unsigned_abs z) bound
+
+-- of such a constant nothing is to be tested
+abbrev pub bounded_unless : (near : Bool) → List Operation → Operand → (bound : ℕ) → Bounded
+bounded_unless near os e bound = if near then record { operations = os; range = None } else bounded_span (spanned os e.kind e.value bound)
 
 abbrev pub offset_bounded : List Operation → Operand → (bound : ℕ) → Bounded
-offset_bounded os e bound = bounded_by e.literal os e bound
+offset_bounded os e bound = bounded_unless (is_near e.whole bound) os e bound
 
 -- Indices behind a view.
 
@@ -76,9 +80,20 @@ abbrev pub made_or : List Operation → (literal : Option ℕ) → (width : ℕ)
 made_or os None width m = m
 made_or os (Some n) width m = constant_made os width n
 
+-- an index that moved by so much, back or on; none is below 0
+abbrev pub index_moved : (back : Bool) → (by index : ℕ) → Option ℕ
+index_moved back by index = if back then (if nat_le by index then Some (index - by) else None) else Some ((by + index) % 2 ^ 64)
+
+-- how many steps an offset moves an index, in a word of 64 bits
+abbrev pub word_steps : ℕ → ℕ
+word_steps n = if nat_lt n (2 ^ 64) then n else 0
+
+abbrev pub steps_by : (offset : ℤ) → (factor : ℕ) → ℕ
+steps_by e factor = word_steps (unsigned_abs e) * factor % 2 ^ 64
+
 -- a constant that is moved so far that it is in range
-abbrev pub moved_literal : (offset index : Option ℕ) → (factor size : ℕ) → Option ℕ
-moved_literal (Some e) (Some i) factor size = below_size (Some ((e * factor % 2 ^ 64 + i) % 2 ^ 64)) size
+abbrev pub moved_literal : (offset : Option ℤ) → (index : Option ℕ) → (factor size : ℕ) → Option ℕ
+moved_literal (Some e) (Some i) factor size = below_size (index_moved (int_lt e (pos 0)) (steps_by e factor) i) size
 moved_literal _ _ factor size = None
 
 abbrev pub moved_made : List Operation → (literal : Option ℕ) → (width factor offset index : ℕ) → Made
@@ -89,7 +104,7 @@ moved_as literal os width factor offset index = placed_as literal width (moved_m
 
 -- a small offset is 0 where the factor is beyond the size: then any multiple will do
 abbrev pub moved_operand : List Operation → (size factor : ℕ) → (offset index : Operand) → Placed
-moved_operand os size factor offset index = moved_as (moved_literal offset.literal index.literal factor size) os (moved_width size) (min factor size) offset.value index.value
+moved_operand os size factor offset index = moved_as (moved_literal offset.whole index.literal factor size) os (moved_width size) (min factor size) offset.value index.value
 
 -- the constant of a copy and a place in it, where both are in range
 abbrev pub dealt_known : (copy index : Option ℕ) → (copies : ℕ) → Dim → Option ℕ

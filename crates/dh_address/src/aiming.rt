@@ -4,13 +4,13 @@ ghost use Rattle.std.specs.Prelude.{◌≡◌, IfOk, length};
 ghost use Rattle.std.specs.List.{AllByRecursion};
 ghost use Rattle.dh_tree.specs.Elements.{dims_at};
 ghost use Rattle.dh_tree.specs.Shapes.{IsDim, IsProgramTable};
-ghost use Rattle.dh_rows.specs.MadeOperations.{IsSummed, constant_made};
-ghost use Rattle.dh_address.specs.Pieces.{IsAim, IsAimed, IsAimedByIndices, IsIndexAim, IsSpreadOut, aimed, all_taken, is_banked, new_number, new_or_none, waited};
+ghost use Rattle.dh_rows.specs.MadeOperations.{IsMade, IsSummed, constant_made, or_zero};
+ghost use Rattle.dh_address.specs.Pieces.{IsAim, IsAimed, IsAimedByIndices, IsIndexAim, IsSpreadOut, aimed, all_taken, is_banked, narrowed, new_number, new_or_none, select_width, waited};
 ghost use Rattle.dh_address.specs.SeenAround.{around_seen};
 
 use crate::literals::{LiteralPlace, constant_place};
 use crate::operands::{Operand, values_of};
-use crate::ranging::{OldBlock, dims_in, element_total};
+use crate::ranging::{OldBlock, bank_total, dims_in, element_total};
 use crate::renumbering::Renumbering;
 use dh_base::{Items, NoMemory};
 use dh_plan::Reach;
@@ -26,43 +26,67 @@ pub struct Aim {
     pub select: Option<u64>,
 }
 
+/// How many bits a select takes.
+fn select_width(dims: &[Dim]) -> u8
+    ensures { result ≡ select_width dims.now }
+{
+    let greatest = bank_total(dims).saturating_sub(1).max(1);
+    bit_length(greatest)
+}
+
 /// Adds a row, and its bank where that is wanted, of an element that is known.
 fn push_place(
     list: &mut OperationList,
     width: u8,
+    narrow: u8,
     place: LiteralPlace,
     banked: bool,
 ) -> Result<Aim, NoMemory>
     ensures { IfOk result (λ a. IsAim banked (constant_made list.old width place.row)
-        (constant_made (constant_made list.old width place.row).operations width place.bank)
+        (constant_made (constant_made list.old width place.row).operations narrow place.bank)
         list.new a.row a.select) }
 {
     let row = push_constant(list, width, place.row)?;
     if !banked {
         return Ok(Aim { row, select: None });
     }
-    let select = Some(push_constant(list, width, place.bank)?);
+    let select = Some(push_constant(list, narrow, place.bank)?);
     Ok(Aim { row, select })
+}
+
+/// Adds a bank as a select. Each test which bank is picked is then of few bits.
+fn push_select(
+    list: &mut OperationList,
+    width: u8,
+    narrow: u8,
+    bank: Option<u64>,
+) -> Result<u64, NoMemory>
+    ensures { IfOk result (λ n. IsMade list.new n
+        (narrowed narrow (or_zero list.old width bank))) }
+{
+    let bank = push_or_zero(list, width, bank)?;
+    push_convert(list, bank, narrow)
 }
 
 /// Adds the row of the element of these indices, and its bank where that is wanted.
 fn push_spread(
     list: &mut OperationList,
     width: u8,
+    narrow: u8,
     dims: &[Dim],
     indices: &[u64],
     banked: bool,
 ) -> Result<Aim, NoMemory>
     requires { AllByRecursion IsDim dims.now }
-    ensures { IfOk result (λ a. IsSpreadOut width dims.now indices.now banked list.old list.new
-        a.row a.select) }
+    ensures { IfOk result (λ a. IsSpreadOut width narrow dims.now indices.now banked
+        list.old list.new a.row a.select) }
 {
     let values = spread(list, width, dims, indices, banked)?;
     let row = push_or_zero(list, width, values.row)?;
     if !banked {
         return Ok(Aim { row, select: None });
     }
-    let select = Some(push_or_zero(list, width, values.bank)?);
+    let select = Some(push_select(list, width, narrow, values.bank)?);
     Ok(Aim { row, select })
 }
 
@@ -79,12 +103,13 @@ fn aim_by_indices(
 {
     let dims = dims_in(old.table, reach.memory);
     let width = bit_length(element_total(dims));
+    let narrow = select_width(dims);
     let banked = reach.banks.len() != 1;
     match constant_place(dims, indices) {
-        Some(place) => push_place(list, width, place, banked),
+        Some(place) => push_place(list, width, narrow, place, banked),
         None => {
             let values = values_of(old.alloc, indices)?;
-            push_spread(list, width, dims, values.as_slice(), banked)
+            push_spread(list, width, narrow, dims, values.as_slice(), banked)
         }
     }
 }

@@ -71,6 +71,7 @@ fn deal_as(
     let value = push_dealt_or(list, literal, width, copies, part, copy, index)?;
     Ok(Operand {
         literal,
+        whole: None,
         kind: Kind::Unsigned(width),
         value,
     })

@@ -1,7 +1,8 @@
 //! Constants of the plan, and the element that constants name.
 
-ghost use Rattle.std.specs.Prelude.{◌≡◌, ◌-◌, ◌^◌, None, nat_lt};
-ghost use Rattle.dh_address.specs.LiteralPlaces.{below_size, natural, literal_at, literal_places};
+ghost use Rattle.std.specs.Prelude.{◌≡◌, ◌≤◌, ◌-◌, ◌^◌, None, nat_lt, slice_get};
+ghost use Rattle.dh_value.specs.Words.{signed};
+ghost use Rattle.dh_address.specs.LiteralPlaces.{below_size, constant_in, literal_at, literal_places, natural, whole, whole_at};
 
 use crate::numbers::{quotient, remainder};
 use crate::operands::Operand;
@@ -42,18 +43,68 @@ fn natural_of(word: Word) -> Option<u64>
     }
 }
 
-/// The value of a constant without a guard at this place of a block, if it is one from 0 on.
-pub fn constant_at(operations: &[Operation], place: usize) -> Option<u64>
-    ensures { result ≡ literal_at operations.now place }
+/// The value of bits in two's complement.
+fn signed_of(bits: u64, width: u8) -> i128
+    requires { width ≤ 64 }
+    ensures { result ≡ signed width bits }
+{
+    let number = i128::from(bits);
+    if has_bits(bits, width.saturating_sub(1)) {
+        number
+    } else {
+        number - (1 << width)
+    }
+}
+
+/// A word's value, of whatever sign, if it is a number.
+fn whole_of(word: Word) -> Option<i128>
+    ensures { result ≡ whole word }
+{
+    match word.kind {
+        Kind::Bool => None,
+        Kind::Unsigned(_) => Some(i128::from(word.bits)),
+        Kind::Signed(width) => {
+            if width <= 64 {
+                Some(signed_of(word.bits, width))
+            } else {
+                None
+            }
+        }
+    }
+}
+
+/// The word of a constant without a guard at this place of a block.
+fn constant_in(operations: &[Operation], place: usize) -> Option<Word>
+    ensures { result ≡ constant_in (slice_get operations.now place) }
 {
     match operations.get(place) {
         Some(operation) => match operation.guard {
             Some(_) => None,
             None => match &operation.form {
-                OperationForm::Constant { word } => natural_of(*word),
+                OperationForm::Constant { word } => Some(*word),
                 _ => None,
             },
         },
+        None => None,
+    }
+}
+
+/// The value of a constant without a guard at this place of a block, if it is one from 0 on.
+pub fn constant_at(operations: &[Operation], place: usize) -> Option<u64>
+    ensures { result ≡ literal_at operations.now place }
+{
+    match constant_in(operations, place) {
+        Some(word) => natural_of(word),
+        None => None,
+    }
+}
+
+/// The value of a constant without a guard at this place of a block, of whatever sign.
+pub fn whole_at(operations: &[Operation], place: usize) -> Option<i128>
+    ensures { result ≡ whole_at operations.now place }
+{
+    match constant_in(operations, place) {
+        Some(word) => whole_of(word),
         None => None,
     }
 }

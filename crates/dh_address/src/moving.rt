@@ -2,7 +2,7 @@
 
 ghost use Rattle.std.specs.Prelude.{◌≡◌, ◌++◌, ◌-◌, IfOk, OnOk};
 ghost use Rattle.dh_rows.specs.MadeOperations.{IsMade};
-ghost use Rattle.dh_address.specs.WaysMade.{IsBounded, IsPlaced, IsWay, maybe_range, moved_all, moved_as, moved_literal, moved_made, moved_one, moved_operand, offset_bounded, ones, way};
+ghost use Rattle.dh_address.specs.WaysMade.{IsBounded, IsPlaced, IsWay, index_moved, is_near, maybe_range, moved_all, moved_as, moved_literal, moved_made, moved_one, moved_operand, offset_bounded, ones, steps_by, way};
 
 use crate::literals::known_below;
 use crate::numbers::quotient;
@@ -13,7 +13,20 @@ use dh_tree::Dim;
 use dh_value::Kind;
 use std::alloc::Global;
 
-/// Adds what is to be in range where an offset is no further from 0 than a bound; None where each is.
+/// Above every number of 64 bits.
+const WORD_BOUND: u128 = 1 << 64;
+
+/// Whether it is known that an offset is no further from 0 than a bound.
+fn is_near(offset: Option<i128>, bound: u64) -> bool
+    ensures { result ≡ is_near offset bound }
+{
+    match offset {
+        None => false,
+        Some(offset) => offset.unsigned_abs() <= u128::from(bound),
+    }
+}
+
+/// Adds what is to be in range where an offset is no further from 0 than a bound; None where it always is.
 fn push_bounded(
     list: &mut OperationList,
     offset: Operand,
@@ -22,37 +35,57 @@ fn push_bounded(
     ensures { IfOk result (λ range. IsBounded list.new range
         (offset_bounded list.old offset bound)) }
 {
-    match offset.literal {
-        Some(_) => Ok(Some(Ranged {
-            operand: offset,
-            size: bound.wrapping_add(1),
-        })),
-        None => match push_span(list, offset.kind, offset.value, bound)? {
-            None => Ok(None),
-            Some(span) => {
-                let operand = Operand {
-                    literal: None,
-                    kind: span.kind,
-                    value: span.value,
-                };
-                Ok(Some(Ranged {
-                    operand,
-                    size: span.size,
-                }))
-            }
-        },
+    if is_near(offset.whole, bound) {
+        return Ok(None);
+    }
+    match push_span(list, offset.kind, offset.value, bound)? {
+        None => Ok(None),
+        Some(span) => {
+            let operand = Operand {
+                literal: None,
+                whole: None,
+                kind: span.kind,
+                value: span.value,
+            };
+            Ok(Some(Ranged {
+                operand,
+                size: span.size,
+            }))
+        }
     }
 }
 
+/// An index that moved by so much, back or on, if it is not below 0. Numbers wrap.
+fn index_moved(back: bool, by: u64, index: u64) -> Option<u64>
+    ensures { result ≡ index_moved back by index }
+{
+    if !back {
+        return Some(by.wrapping_add(index));
+    }
+    if by <= index { Some(index - by) } else { None }
+}
+
+/// By how much an offset moves an index. Numbers wrap.
+fn steps_by(offset: i128, factor: u64) -> u64
+    ensures { result ≡ steps_by offset factor }
+{
+    let size = offset.unsigned_abs();
+    let steps = if size < WORD_BOUND { size as u64 } else { 0 };
+    steps.wrapping_mul(factor)
+}
+
 /// The index that constants give, where it is in range.
-fn moved_literal(offset: Option<u64>, index: Option<u64>, factor: u64, size: u64) -> Option<u64>
+fn moved_literal(offset: Option<i128>, index: Option<u64>, factor: u64, size: u64) -> Option<u64>
     ensures { result ≡ moved_literal offset index factor size }
 {
     match offset {
         None => None,
         Some(offset) => match index {
             None => None,
-            Some(index) => known_below(Some(offset.wrapping_mul(factor).wrapping_add(index)), size),
+            Some(index) => {
+                let moved = index_moved(offset < 0, steps_by(offset, factor), index);
+                known_below(moved, size)
+            }
         },
     }
 }
@@ -90,6 +123,7 @@ fn move_as(
     let value = push_moved_or(list, literal, width, factor, offset, index)?;
     Ok(Operand {
         literal,
+        whole: None,
         kind: Kind::Unsigned(width),
         value,
     })
@@ -106,7 +140,7 @@ fn move_operand(
     ensures { IfOk result (λ o. IsPlaced list.new o
         (moved_operand list.old size factor offset index)) }
 {
-    let literal = moved_literal(offset.literal, index.literal, factor, size);
+    let literal = moved_literal(offset.whole, index.literal, factor, size);
     move_as(
         list,
         literal,

@@ -5,7 +5,7 @@ ghost use Rattle.dh_address.specs.Pieces.{values_of};
 ghost use Rattle.dh_address.specs.SeenAround.{around_seen};
 ghost use Rattle.dh_address.specs.WaysMade.{operand_of, ranges_by};
 
-use crate::literals::constant_at;
+use crate::literals::{constant_at, whole_at};
 use crate::ranging::OldBlock;
 use crate::renumbering::{Renumbering, place_from};
 use dh_base::{Items, NoMemory};
@@ -18,6 +18,8 @@ use std::alloc::Global;
 pub struct Operand {
     /// Its number, if it is a constant from 0 on.
     pub literal: Option<u64>,
+    /// Its value, of whatever sign, if it is a constant of the old block.
+    pub whole: Option<i128>,
     /// Its kind.
     pub kind: Kind,
     /// The value, by the number of its operation.
@@ -37,8 +39,10 @@ pub struct Ranged {
 pub fn operand_of(old: &OldBlock<'_>, known: &Renumbering, value: u64) -> Operand
     ensures { result ≡ operand_of (around_seen old.now known.now) value }
 {
+    let place = place_from(known.first, value);
     Operand {
-        literal: constant_at(old.operations, place_from(known.first, value)),
+        literal: constant_at(old.operations, place),
+        whole: whole_at(old.operations, place),
         kind: known.kind(value),
         value: known.number(value),
     }

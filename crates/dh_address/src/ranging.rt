@@ -1,7 +1,7 @@
 //! Tests whether accesses are in range: as a guard, or as checks.
 
 ghost use Rattle.std.specs.Prelude.{◌≡◌, ◌%◌, ◌^◌, IfOk, OnOk};
-ghost use Rattle.dh_tree.specs.Elements.{dims_at, rows_of};
+ghost use Rattle.dh_tree.specs.Elements.{banks_of, dims_at, rows_of};
 ghost use Rattle.dh_tree.specs.Tables.{elements_of};
 ghost use Rattle.dh_rows.specs.MadeOperations.{IsSummed};
 ghost use Rattle.dh_address.specs.Pieces.{AreChecked, IsGuarded, IsTested, both_made, check_made};
@@ -60,6 +60,17 @@ pub fn element_total(dims: &[Dim]) -> u64
     let mut count = 1u64;
     for dim in dims {
         count = count.wrapping_mul(dim.size);
+    }
+    count
+}
+
+/// The banks of a memory. Numbers wrap.
+pub fn bank_total(dims: &[Dim]) -> u64
+    ensures { result ≡ banks_of dims.now % 2 ^ 64 }
+{
+    let mut count = 1u64;
+    for dim in dims {
+        count = count.wrapping_mul(dim.banks);
     }
     count
 }

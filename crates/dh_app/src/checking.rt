@@ -10,6 +10,7 @@ use crate::replies::{Reply, reply_with};
 use crate::sources::read_program;
 use dh_base::{Files, Status};
 use std::alloc::Global;
+use std::mem::forget;
 
 /// Says whether the program of a file breaks a rule or exceeds a limit, and which and where.
 pub fn check_file<F: Files>(alloc: Global, file: &str, files: &mut F) -> Reply
@@ -18,7 +19,11 @@ pub fn check_file<F: Files>(alloc: Global, file: &str, files: &mut F) -> Reply
         ChecksFile old new file.now (reply_seen result)) }
 {
     match read_program(alloc, file, files) {
-        Ok(_) => ok_reply(alloc),
+        Ok(program) => {
+            // The process ends with the reply: to free each part of a tree before that takes its time.
+            forget(program);
+            ok_reply(alloc)
+        }
         Err(reply) => reply,
     }
 }

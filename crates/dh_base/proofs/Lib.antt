@@ -1,3 +1,4 @@
 pub mod ListItems
 pub mod InPlace
+pub mod InArms
 pub mod StoreCalls

@@ -1,6 +1,6 @@
 //! A list that contracts see as a list: two of them are equal where their items are.
 
-ghost use Rattle.std.specs.Prelude.{◌≡◌, [], ◌∷◌, ◌++◌, is_ok, length, if◌then◌else◌, ◌==◌};
+ghost use Rattle.std.specs.Prelude.{◌≡◌, [], ◌∷◌, ◌++◌, is_ok, length, if◌then◌else◌, ◌==◌, IfOk};
 
 use std::alloc::{AllocError, AllocFailed, Global};
 use std::marker::Model;
@@ -44,6 +44,18 @@ impl<T> Items<T> {
         Items {
             inner: Vec::new(alloc),
         }
+    }
+
+    /// The empty list, with room for so many items.
+    ///
+    /// # Errors
+    ///
+    /// `NoMemory`, the one error; no clause tells when.
+    pub fn with_room(alloc: Global, count: usize) -> Result<Items<T>, NoMemory>
+        ensures { IfOk result (λ list. list ≡ []) }
+    {
+        let inner = Vec::with_capacity(alloc, count)?;
+        Ok(Items { inner })
     }
 
     /// The list of a vector's items. Takes no memory.

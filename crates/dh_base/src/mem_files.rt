@@ -25,7 +25,13 @@ impl Model for MemFiles {
 
     ghost Value = { FileStore };
 
-    ghost view = { λ f. record { entries = map stored f.entries.items; failing = f.failing.items; calls = f.calls; faults = f.faults; taken = f.taken } };
+    ghost view = { λ f. record {
+      entries = map stored f.entries.items;
+      failing = f.failing.items;
+      calls = f.calls;
+      faults = f.faults;
+      taken = f.taken;
+    } };
 }
 
 impl MemFiles {

@@ -25,7 +25,14 @@ impl Model for MemSink {
 
     ghost Value = { SinkStore };
 
-    ghost view = { λ s. record { bytes = s.bytes.items; failing = s.failing.items; part = s.part; calls = s.calls; faults = s.faults; refusals = s.refusals } };
+    ghost view = { λ s. record {
+      bytes = s.bytes.items;
+      failing = s.failing.items;
+      part = s.part;
+      calls = s.calls;
+      faults = s.faults;
+      refusals = s.refusals;
+    } };
 }
 
 impl MemSink {

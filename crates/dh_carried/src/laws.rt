@@ -51,7 +51,8 @@ pub fn ways_reach_what_they_may()
 /// memory than the access charges there: group by group by what is carried, and all groups by their sum.
 #[tactic(auto, using(crate::proofs::GroupedKeys::groups_cover))]
 pub fn groups_cover_what_is_reached()
-    ensures { (p : Program) (w : Way) (a : SourceAccess) (cs : List MadeCopy) → AreCopiesOf p w a cs → (bank : ℕ)
+    ensures { (p : Program) (w : Way) (a : SourceAccess) (cs : List MadeCopy)
+        → AreCopiesOf p w a cs → (bank : ℕ)
         → keys_at (copies_of cs) (length (views_on w)) bank ≤ charge_through p w a bank }
 {}
 
@@ -59,9 +60,12 @@ pub fn groups_cover_what_is_reached()
 /// named view that is there.
 #[tactic(auto, using(crate::proofs::ChargedBanks::charged_reaches, crate::proofs::ChargedBanks::reaching_charges))]
 pub fn charged_banks_are_those_reached()
-    ensures charged { (p : Program) (w : Way) (a : SourceAccess) (dims : List Dim) (bank : ℕ) → StepsLead w.steps dims
+    ensures charged { (p : Program) (w : Way) (a : SourceAccess) (dims : List Dim) (bank : ℕ)
+        → StepsLead w.steps dims
         → bank < banks_of dims → 1 ≤ charge_through p w a bank → MayReachAt p w a bank }
-    ensures reached { (p : Program) (w : Way) (a : SourceAccess) (dims : List Dim) (bank : ℕ) → StepsLead w.steps dims
-        → ((path : Path) → bank_named p w a path < banks_of (next_dims w.steps dims)) → MayReachAt p w a bank
+    ensures reached { (p : Program) (w : Way) (a : SourceAccess) (dims : List Dim) (bank : ℕ)
+        → StepsLead w.steps dims
+        → ((path : Path) → bank_named p w a path < banks_of (next_dims w.steps dims))
+        → MayReachAt p w a bank
         → 1 ≤ charge_through p w a bank }
 {}

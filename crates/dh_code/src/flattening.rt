@@ -608,8 +608,8 @@ pub fn flatten_command(
 {
     match &command.form {
         CommandForm::Let {
-            name,
             declared,
+            name,
             value,
         } => {
             let value = first_value(names, code, *declared, value)?;
@@ -619,8 +619,11 @@ pub fn flatten_command(
             let value = flat(names, code, value)?;
             add_assign(names, code, target, value, next)
         }
-        CommandForm::Store { target, value } => add_store(names, code, target, value, next),
-        CommandForm::Reduce { target, op, value } => {
+        CommandForm::Store { sides } => {
+            let sides = sides.as_ref();
+            add_store(names, code, &sides.target, &sides.value, next)
+        }
+        CommandForm::Reduce { op, target, value } => {
             add_reduce(names, code, target, *op, value, next)
         }
         CommandForm::If { test, then, other } => {

@@ -5,7 +5,7 @@ ghost use Rattle.std.specs.List.{AllByRecursion};
 ghost use Rattle.dh_tree.specs.Seen.{action_seen, term_seen};
 ghost use Rattle.dh_meaning.specs.Bindings as bindings;
 ghost use Rattle.dh_meaning.specs.CoreOf.{entity_number};
-ghost use Rattle.dh_code.specs.Placed.{AreFew, AreFewHidden, AreFound, AreLaid, ArePlaces, Declares, DeclaresOther, DeclaresParts, IsRound, KeepsFound, copies_held, has_few, held_of, hidden_as, most_entities};
+ghost use Rattle.dh_code.specs.Placed.{AreFew, AreFewHidden, AreLaid, ArePlaces, Declares, DeclaresOther, DeclaresParts, IsRound, KeepsFound, copies_held, has_few, held_of, hidden_as, most_entities};
 ghost use Rattle.dh_code.specs.Declarations.{declarations, factors_inside};
 ghost use Rattle.dh_code.specs.Ranks.{copies_in, most_paths};
 ghost use Rattle.dh_code.specs.Slots.{held_at};
@@ -99,8 +99,8 @@ fn declare(
 {
     match &command.form {
         CommandForm::Let {
-            name,
             declared,
+            name,
             value,
         } => Ok(list.push(Declared {
             entity: name.entity,
@@ -115,17 +115,15 @@ fn declare(
         }
         CommandForm::While { body, .. } => declare(list, depth, copies, body),
         CommandForm::For {
-            iterator,
-            declared,
-            factor,
+            header,
             body,
             combine,
-            ..
         } => {
-            let (depth, copies) = inside(depth, copies, *factor);
+            let header = header.as_ref();
+            let (depth, copies) = inside(depth, copies, header.factor);
             list.push(Declared {
-                entity: iterator.entity,
-                kind: iterator_kind(*declared),
+                entity: header.iterator.entity,
+                kind: iterator_kind(header.declared),
                 depth,
                 copies,
             })?;

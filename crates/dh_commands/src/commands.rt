@@ -68,20 +68,24 @@ pub fn push_command(
         building.old building.new first next) }
 {
     match &command.form {
-        CommandForm::Let { name, value, .. } => match value {
-            Some(value) => assign_all(scene, around, building, first, name, value),
-            None => {
-                clear_all(scene, around, building, name)?;
-                Ok(first)
+        CommandForm::Let { name, value, .. } => {
+            let value = value.as_ref();
+            match value {
+                Some(value) => assign_all(scene, around, building, first, name, value),
+                None => {
+                    clear_all(scene, around, building, name)?;
+                    Ok(first)
+                }
             }
-        },
+        }
         CommandForm::Assign { target, value } => {
             assign_all(scene, around, building, first, target, value)
         }
-        CommandForm::Store { target, value } => {
-            store_all(scene, around, building, first, target, value)
+        CommandForm::Store { sides } => {
+            let sides = sides.as_ref();
+            store_all(scene, around, building, first, &sides.target, &sides.value)
         }
-        CommandForm::Reduce { target, op, value } => {
+        CommandForm::Reduce { op, target, value } => {
             reduce_all(scene, around, building, first, target, *op, value)
         }
         CommandForm::If { test, then, other } => {

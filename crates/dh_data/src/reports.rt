@@ -74,7 +74,8 @@ fn counted_run(
     steps: u64,
 ) -> Result<Value, AllocError>
     ensures { IfOk result (λ v. view v
-        ≡ object (clocks_first (Some clocks) (of_run (view memories) (string_bytes outcome) steps))) }
+        ≡ object (clocks_first (Some clocks)
+        (of_run (view memories) (string_bytes outcome) steps))) }
 {
     json!(in alloc; {
         "clocks": clocks,

@@ -1,5 +1,5 @@
 -- Keys without repeats have one place each.
-use Rattle.std.proofs.Common.{◌≡◌, ℕ, zero, suc, ◌+◌, ◌==◌, ◌&&◌, Bool, true, false, if◌then◌else◌, List, [], ◌∷◌, ◌++◌, refl, ap, sym, ◌∙◌, subst, arith}
+use Rattle.std.proofs.Common.{◌≡◌, ℕ, zero, suc, ◌+◌, ◌==◌, ◌&&◌, Bool, true, false, if◌then◌else◌, List, [], ◌∷◌, ◌++◌, refl, ap, sym, ◌∙◌, subst, arith, ◌⊎◌, inl, inr}
 use Rattle.std.specs.Prelude.{Option, Some, None, slice_get}
 use Rattle.std.specs.List.{AllByRecursion, IsDistinct, position, position_from}
 use Rattle.std.proofs.lemmas.Bool.{eqb-true, eq-eqb}
@@ -103,3 +103,18 @@ module _ (eq : Key → Key → Bool) (own : (k : Key) → eq k k ≡ true) (same
 
   pub finds : (ks : List Key) (k : Key) (r : Option ℕ) → r ≡ position (eq k) ks → Finds ks k r
   finds ks k r e = subst (λ (o : Option ℕ). Finds ks k o) (sym (e ∙ position_from-zero (eq k) ks)) (found ks k (position_from (eq k) 0 ks) (found_from 0 ks k))
+
+-- and what stands in the longer list is of the list, or the one more
+only_more : {X : Type 0} (b : Bool) (xs : List X) (y : X) (n : ℕ) (x : X) → slice_get (if b then xs else xs ++ y ∷ []) n ≡ Some x → (slice_get xs n ≡ Some x) ⊎ (x ≡ y)
+only_more true xs y n x e = inl e
+only_more false [] y zero x e = inr (sym (some_same y x e))
+only_more false [] y (suc n) x e = absurd (none x e)
+  where
+    none : {X : Type 0} (x : X) → ◌≡◌ {A = Option X} None (Some x) → ⊥
+    none x e = cc
+only_more false (z ∷ xs) y zero x e = inl e
+only_more false (z ∷ xs) y (suc n) x e = only_more false xs y n x e
+
+pub only_there : {X : Type 0} (b : Bool) (xs old new : List X) (y : X) → xs ≡ old → new ≡ (if b then xs else xs ++ y ∷ []) → (n : ℕ) (x : X) → slice_get new n ≡ Some x → (slice_get old n ≡ Some x) ⊎ (x ≡ y)
+only_there b xs old new y same more n x at =
+    elim (only_more b xs y n x (sym (ap (λ l. slice_get l n) more) ∙ at)) [ inl e ↦ inl (sym (ap (λ l. slice_get l n) same) ∙ e) | inr e ↦ inr e ]

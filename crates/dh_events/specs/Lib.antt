@@ -6,5 +6,7 @@ pub mod Noted
 pub mod Structures
 pub mod Elements
 pub mod Classes
+pub mod Digests
+pub mod AlikeDigests
 pub mod Rounds
 pub mod Scopes

@@ -1,10 +1,11 @@
 -- What the code notes of what happens.
-use Rattle.std.specs.Prelude.{◌≡◌, ℕ, ◌++◌, ◌∷◌, [], Bool, if◌then◌else◌, List, map, Option, Some, None, option_map, Vec}
+use Rattle.std.specs.Prelude.{◌≡◌, ℕ, ◌++◌, ◌∷◌, [], Bool, true, false, if◌then◌else◌, List, map, Option, Some, None, option_map, Vec}
 use Rattle.std.specs.Global.{Global, Box}
 use Rattle.dh_tree.specs.declared.trees.commands.Command.{Command}
 use Rattle.dh_tree.specs.declared.trees.expressions.Expr.{Expr}
 use Rattle.dh_tree.specs.declared.trees.expressions.Ref.{Ref}
 use Rattle.dh_tree.specs.declared.trees.commands.ViewForm.{ViewForm}
+use Rattle.dh_tree.specs.PlainTrees.{TermForm, number, truth_value, named, accessed, in_bank, applied, converted, blocks}
 use Rattle.dh_tree.specs.Seen.{term_seen, terms, factor_seen, plan_seen, action_seen, part_seen, groups, maybe_seen}
 use Rattle.dh_tree.specs.ViewOffsets.{moves, offsets_of}
 use Rattle.dh_events.specs.declared.events.Event.{Event}
@@ -13,7 +14,7 @@ use Rattle.dh_events.specs.declared.events.Notes.{Notes}
 use Rattle.dh_events.specs.declared.events.Site.{Site}
 use Rattle.dh_events.specs.declared.noting.Around.{Around}
 use Rattle.dh_events.specs.declared.noting.Open.{Open}
-use Rattle.dh_events.specs.Incidents.{Incident, touches, assigned, arm_begins, arm_ends, begins, next, ends, site_at, term_incidents, terms_incidents, maybe_incidents, target_incidents, incidents, open_after, other_incidents, combine_incidents, open_combine, groups_incidents, groups_open, closed, open_at}
+use Rattle.dh_events.specs.Incidents.{Incident, touches, assigned, arm_begins, arm_ends, begins, next, ends, site_at, term_incidents, terms_incidents, maybe_incidents, target_incidents, incidents, command_incidents, open_after, form_open, other_incidents, combine_incidents, open_combine, groups_incidents, groups_open, closed, open_at}
 use Rattle.dh_events.specs.Tables.{numbered}
 
 abbrev pub event_seen : Event → Incident
@@ -35,6 +36,16 @@ noted notes = all_seen notes.events.items
 -- what is noted is that before, and behind it these incidents
 abbrev pub Adds : (old new : Notes) → List Incident → Type 0
 Adds old new more = noted new ≡ noted old ++ more
+
+-- whether it is a number, a truth or a name alone
+abbrev pub reads_none : TermForm → Bool
+reads_none (number negative n) = true
+reads_none (truth_value value) = true
+reads_none (named r) = true
+reads_none (accessed r indices) = false
+reads_none (in_bank r bank bank_place row) = false
+reads_none (applied op left right) = false
+reads_none (converted inner to) = false
 
 -- what an expression, expressions and one that may lack read, and what a store does to its target
 abbrev pub read_by : Site → Expr → List Incident
@@ -87,6 +98,13 @@ other_done_by around behind block = other_incidents (stages_known around) around
 abbrev pub combine_done_by : Around → (behind : Open) → Option (Box Command) → List Incident
 combine_done_by around behind block =
     combine_incidents (stages_known around) around.round (open_combine (stages_known around) behind (maybe_seen (option_map (λ b. action_seen b.value) block))) (maybe_seen (option_map (λ b. action_seen b.value) block))
+
+-- what happens in a block of these parts, by its number, and which phases are open after it
+abbrev pub block_done_by : Around → Open → (id : ℕ) → List (Vec Command Global) → List Incident
+block_done_by around behind id parts = command_incidents (stages_known around) around.round behind id (blocks (groups (map part_seen parts)))
+
+abbrev pub block_opened_by : Around → Open → (id : ℕ) → List (Vec Command Global) → Open
+block_opened_by around behind id parts = form_open (stages_known around) behind id (blocks (groups (map part_seen parts)))
 
 -- what happens in the parts of a block, and which phases are open after them
 abbrev pub parts_done_by : Around → (stepped parted : Bool) → Open → List (Vec Command Global) → List Incident

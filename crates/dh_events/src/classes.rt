@@ -2,14 +2,17 @@
 
 ghost use Rattle.std.specs.Prelude.{◌≡◌, [], IfOk, length};
 ghost use Rattle.dh_events.specs.Classes.{AreDistinct, Finds, Numbers};
+ghost use Rattle.dh_events.specs.Digests as digests;
 
+use crate::digests::joined;
 use dh_base::NoMemory;
 use indexmap::IndexSet;
 use std::alloc::Global;
+use std::hash::{Hash, Hasher};
 use std::marker::Model;
 
 /// What accesses of one class have in common.
-#[derive(Clone, Copy, PartialEq, Eq, Hash)]
+#[derive(Clone, Copy, PartialEq, Eq)]
 pub struct Key {
     /// Their Straight phase.
     pub phase: u32,
@@ -20,6 +23,30 @@ pub struct Key {
     /// The moment behind the last assignment to a variable in their indices; 0 where banks are
     /// told.
     pub newest: usize,
+}
+
+// The number by which a key is sought.
+fn key_digest(key: Key) -> usize
+    ensures { result ≡ digests.of_key key }
+{
+    let place = joined(key.phase as usize, key.entity as usize);
+    joined(joined(place, key.element), key.newest)
+}
+
+// A write of one word in place of four.
+impl Hash for Key {
+    ghost use Rattle.std.specs.Hash as fed;
+    ghost use Rattle.std.proofs.Common.{ap};
+    ghost use Rattle.dh_events.specs.Digests.{of_key};
+    ghost use Rattle.dh_events.specs.AlikeDigests.{alike_keys};
+
+    ghost hash_input = { λ k. fed.usize (of_key k) };
+
+    ghost respects_eq = { λ x y h. ap fed.usize (alike_keys x y h) };
+
+    fn hash<H: Hasher>(&self, state: &mut H) {
+        state.write_usize(key_digest(*self));
+    }
 }
 
 /// Keys, each with the number of its place.

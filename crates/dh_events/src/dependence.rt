@@ -170,13 +170,12 @@ fn note_scopes(
         }
         CommandForm::While { body, .. } => note_scopes(scopes, depth, body),
         CommandForm::For {
-            iterator,
-            factor,
+            header,
             body,
             combine,
-            ..
         } => {
-            let inside = declare_iterator(scopes, depth, iterator, *factor)?;
+            let header = header.as_ref();
+            let inside = declare_iterator(scopes, depth, &header.iterator, header.factor)?;
             note_scopes(scopes, inside, body)?;
             note_other(scopes, inside, combine)
         }

@@ -1,6 +1,6 @@
 //! What happens in a program in order of evaluation, and where it is noted.
 
-ghost use Rattle.std.specs.Prelude.{◌≡◌, true, false, [], ◌∷◌, OnOk};
+ghost use Rattle.std.specs.Prelude.{◌≡◌, true, false, [], ◌∷◌, IfOk, OnOk};
 ghost use Rattle.dh_tree.specs.Seen.{term_seen};
 ghost use Rattle.dh_events.specs.Elements.{IsElementOf, IsNoted, IsStep, IsTouch, StaysNoted, StaysRead};
 ghost use Rattle.dh_events.specs.Incidents.{assigned, touches};
@@ -70,16 +70,21 @@ pub struct Notes<'a> {
 }
 
 impl<'a> Notes<'a> {
-    /// Nothing is noted.
-    pub fn new(alloc: Global) -> Notes<'a>
-        ensures empty { result.events.items ≡ [] }
-        ensures noted { IsNoted result }
+    /// Nothing is noted, with room for what mostly happens in so many commands: two events each.
+    ///
+    /// # Errors
+    ///
+    /// `NoMemory` where an allocation was refused.
+    pub fn for_commands(alloc: Global, commands: usize) -> Result<Notes<'a>, NoMemory>
+        ensures empty { IfOk result (λ notes. notes.events.items ≡ []) }
+        ensures noted { IfOk result (λ notes. IsNoted notes) }
     {
-        Notes {
-            events: Vec::new(alloc),
+        let events = Vec::with_capacity(alloc, commands.saturating_mul(2))?;
+        Ok(Notes {
+            events,
             structures: Structures::new(alloc),
             clocks: Vec::new(alloc),
-        }
+        })
     }
 
     /// Notes one more event.

@@ -10,6 +10,7 @@
 
 mod classes;
 mod dependence;
+mod digests;
 mod events;
 mod known;
 mod noting;

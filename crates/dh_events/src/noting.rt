@@ -1,11 +1,11 @@
 //! The walk that notes what happens in a program.
 
 ghost use Rattle.std.specs.Prelude.{◌≡◌, map, option_map, IfOk, OnOk};
-ghost use Rattle.dh_tree.specs.Seen.{action_seen, groups, maybe_seen, part_seen, term_seen, terms};
+ghost use Rattle.dh_tree.specs.Seen.{action_seen, form_seen, groups, maybe_seen, part_seen, term_seen, terms};
 ghost use Rattle.dh_events.specs.Elements.{AreKnown, IsKnown, IsStep, StaysNoted, StaysRead};
 ghost use Rattle.dh_events.specs.Incidents as incidents;
 ghost use Rattle.dh_events.specs.Incidents.{is_stepped, phase_of as phase_of_open, released, when_parted};
-ghost use Rattle.dh_events.specs.Noted.{all_read_by, assigned_by, body_done_by, combine_done_by, done_by, event_seen, let_by, maybe_read_by, offsets_read_by, opened_by, other_done_by, parts_done_by, parts_opened_by, read_by, stages_known, stored_by, suffixes_read_by, view_opened_by, written_by, Adds};
+ghost use Rattle.dh_events.specs.Noted.{all_read_by, assigned_by, block_done_by, block_opened_by, body_done_by, combine_done_by, done_by, event_seen, let_by, maybe_read_by, offsets_read_by, opened_by, other_done_by, parts_done_by, parts_opened_by, read_by, reads_none, stages_known, stored_by, suffixes_read_by, view_opened_by, written_by, Adds};
 ghost use Rattle.dh_events.specs.Tables.{numbered};
 
 use crate::events::{Event, Notes, Site};
@@ -104,11 +104,37 @@ fn note_reads<'a>(notes: &mut Notes<'a>, site: Site, expr: &'a Expr) -> Result<(
             notes.read(site, expr, element)
         }
         ExprForm::Binary { left, right, .. } => {
-            note_reads(notes, site, left)?;
-            note_reads(notes, site, right)
+            note_value(notes, site, left)?;
+            note_value(notes, site, right)
         }
-        ExprForm::Cast { inner, .. } => note_reads(notes, site, inner),
+        ExprForm::Cast { inner, .. } => note_value(notes, site, inner),
     }
+}
+
+/// Whether it is a number, a truth or a name alone, which reads nothing.
+#[tactic(auto, using(dh_tree::proofs::SeenTerms::terms_are))]
+fn reads_nothing(form: &ExprForm) -> bool
+    ensures { result ≡ reads_none (form_seen form.now) }
+{
+    match form {
+        ExprForm::Number { .. } | ExprForm::Truth { .. } | ExprForm::Variable { .. } => true,
+        ExprForm::Access { .. }
+        | ExprForm::Physical { .. }
+        | ExprForm::Binary { .. }
+        | ExprForm::Cast { .. } => false,
+    }
+}
+
+/// As `note_reads`, for what mostly reads nothing.
+#[cycle(outer)]
+fn note_value<'a>(notes: &mut Notes<'a>, site: Site, expr: &'a Expr) -> Result<(), NoMemory>
+    ensures adds { OnOk result (Adds notes.old notes.new (read_by site expr.now)) }
+    ensures noted { OnOk result (StaysRead notes.old notes.new) }
+{
+    if reads_nothing(&expr.form) {
+        return Ok(());
+    }
+    note_reads(notes, site, expr)
 }
 
 /// Notes what the indices of a write or the offsets of a view read. No number is wanted of their
@@ -122,7 +148,7 @@ fn note_all_reads<'a>(
     ensures noted { OnOk result (StaysRead notes.old notes.new) }
 {
     for index in indices {
-        note_reads(notes, site, index)?;
+        note_value(notes, site, index)?;
     }
     Ok(())
 }
@@ -160,7 +186,7 @@ fn note_maybe<'a>(
     ensures noted { OnOk result (StaysRead notes.old notes.new) }
 {
     match value {
-        Some(value) => note_reads(notes, site, value),
+        Some(value) => note_value(notes, site, value),
         None => Ok(()),
     }
 }
@@ -191,7 +217,7 @@ fn note_assign<'a>(
     ensures adds { OnOk result (Adds notes.old notes.new (assigned_by site target.now value.now)) }
     ensures noted { OnOk result (StaysNoted notes.old notes.new) }
 {
-    note_reads(notes, site, value)?;
+    note_value(notes, site, value)?;
     notes.assign(target.entity)
 }
 
@@ -206,7 +232,7 @@ fn note_store<'a>(
     ensures adds { OnOk result (Adds notes.old notes.new (stored_by site target.now value.now)) }
     ensures noted { OnOk result (StaysRead notes.old notes.new) }
 {
-    note_reads(notes, site, value)?;
+    note_value(notes, site, value)?;
     note_write(notes, site, target)
 }
 
@@ -220,7 +246,7 @@ fn note_suffixes<'a>(
     ensures noted { OnOk result (StaysRead notes.old notes.new) }
 {
     for pair in by {
-        note_reads(notes, site, &pair.1)?;
+        note_value(notes, site, &pair.1)?;
     }
     Ok(())
 }
@@ -391,8 +417,9 @@ fn note_command<'a>(
             note_assign(notes, site, target, value)?;
             Ok(open_at(Some(site.phase)))
         }
-        CommandForm::Store { target, value } => {
-            note_store(notes, site, target, value)?;
+        CommandForm::Store { sides } => {
+            let sides = sides.as_ref();
+            note_store(notes, site, &sides.target, &sides.value)?;
             Ok(open_at(Some(site.phase)))
         }
         CommandForm::If { test, then, other } => {
@@ -403,7 +430,7 @@ fn note_command<'a>(
             let parted = are_arms_parted(round, other);
             note_parted(notes, parted, Event::Begins)?;
             notes.note(Event::ArmBegins)?;
-            note_command(notes, around, inside, then)?;
+            note_inside(notes, around, inside, then)?;
             notes.note(Event::ArmEnds)?;
             note_parted(notes, parted, Event::Next)?;
             note_other(notes, around, inside, other)?;
@@ -414,23 +441,22 @@ fn note_command<'a>(
             notes.note(Event::Begins)?;
             note_reads(notes, Site { phase: id, round }, test)?;
             notes.note(Event::Next)?;
-            note_command(notes, around, closed(), body)?;
+            note_inside(notes, around, closed(), body)?;
             notes.note(Event::Ends)?;
             Ok(closed())
         }
         CommandForm::For {
-            iterator,
-            factor,
+            header,
             body,
             combine,
-            ..
         } => {
-            notes.assign(iterator.entity)?;
+            let header = header.as_ref();
+            notes.assign(header.iterator.entity)?;
             let inside = Around {
                 stages: around.stages,
-                round: round_inside(round, id, *factor),
+                round: round_inside(round, id, header.factor),
             };
-            let turn = note_command(notes, inside, closed(), body)?;
+            let turn = note_inside(notes, inside, closed(), body)?;
             note_combine(notes, inside, turn, combine)?;
             if around.is_stepped(id) {
                 Ok(closed())
@@ -438,15 +464,7 @@ fn note_command<'a>(
                 Ok(behind)
             }
         }
-        CommandForm::Block { body } => {
-            let stepped = around.is_stepped(id);
-            let parted = are_parts(body.as_slice());
-            note_parted(notes, parted, Event::Begins)?;
-            let inside = into(stepped, behind);
-            let last = note_parts(notes, around, inside, stepped, parted, body.as_slice())?;
-            note_parted(notes, parted, Event::Ends)?;
-            Ok(into(stepped, last))
-        }
+        CommandForm::Block { body } => note_block(notes, around, behind, id, body.as_slice()),
         CommandForm::View { form, .. } => {
             note_offsets(notes, site, form)?;
             Ok(behind_view(behind, site.phase, form))
@@ -470,7 +488,7 @@ fn note_other<'a>(
     match other {
         Some(block) => {
             notes.note(Event::ArmBegins)?;
-            note_command(notes, around, behind, block)?;
+            note_inside(notes, around, behind, block)?;
             notes.note(Event::ArmEnds)
         }
         None => Ok(()),
@@ -497,10 +515,66 @@ fn note_combine<'a>(
             } else {
                 open_at(body.last)
             };
-            note_command(notes, around, behind, block)?;
+            note_inside(notes, around, behind, block)?;
             Ok(())
         }
         None => Ok(()),
+    }
+}
+
+/// Notes what happens in a block of these parts, by its number.
+#[cycle(noting)]
+#[tactic(auto, using(dh_tree::proofs::Collecting::found_none, dh_tree::proofs::Collecting::found_both))]
+fn note_block<'a>(
+    notes: &mut Notes<'a>,
+    around: Around<'_>,
+    behind: Open,
+    id: u32,
+    body: &'a [Vec<Command>],
+) -> Result<Open, NoMemory>
+    ensures adds { OnOk result
+        (Adds notes.old notes.new (block_done_by around.entry behind id body.now)) }
+    ensures after { IfOk result (λ after. after
+        ≡ block_opened_by around.entry behind id body.now) }
+    ensures noted { OnOk result (StaysNoted notes.old notes.new) }
+{
+    let stepped = around.is_stepped(id);
+    let parted = are_parts(body);
+    note_parted(notes, parted, Event::Begins)?;
+    let inside = into(stepped, behind);
+    let last = note_parts(notes, around, inside, stepped, parted, body)?;
+    note_parted(notes, parted, Event::Ends)?;
+    Ok(into(stepped, last))
+}
+
+/// As `note_command`; blocks inside one another take less of the stack.
+#[cycle(noting)]
+#[tactic(auto, using(dh_tree::proofs::SeenActions::actions_are))]
+fn note_inside<'a>(
+    notes: &mut Notes<'a>,
+    around: Around<'_>,
+    behind: Open,
+    command: &'a Command,
+) -> Result<Open, NoMemory>
+    ensures adds { OnOk result
+        (Adds notes.old notes.new (done_by around.entry behind command.now)) }
+    ensures after { IfOk result (λ after. after ≡ opened_by around.entry behind command.now) }
+    ensures noted { OnOk result (StaysNoted notes.old notes.new) }
+{
+    match &command.form {
+        CommandForm::Block { body } => {
+            note_block(notes, around, behind, command.id, body.as_slice())
+        }
+        CommandForm::Let { .. }
+        | CommandForm::LetMemory { .. }
+        | CommandForm::View { .. }
+        | CommandForm::Assign { .. }
+        | CommandForm::Store { .. }
+        | CommandForm::Reduce { .. }
+        | CommandForm::Call { .. }
+        | CommandForm::If { .. }
+        | CommandForm::While { .. }
+        | CommandForm::For { .. } => note_command(notes, around, behind, command),
     }
 }
 
@@ -524,7 +598,7 @@ fn note_parts<'a>(
     for part in parts {
         behind = into(stepped, behind);
         for command in part {
-            behind = note_command(notes, around, behind, command)?;
+            behind = note_inside(notes, around, behind, command)?;
         }
         note_parted(notes, parted, Event::Next)?;
     }

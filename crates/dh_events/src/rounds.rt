@@ -66,20 +66,17 @@ pub fn note_rounds(
         }
         CommandForm::While { body, .. } => note_rounds(alloc, rounds, outer, body),
         CommandForm::For {
-            iterator,
-            low,
-            high,
-            factor,
+            header,
             body,
             combine,
-            ..
         } => {
-            if *factor > 1 {
+            let header = header.as_ref();
+            if header.factor > 1 {
                 let counter = Counter {
-                    entity: iterator.entity,
-                    low: *low,
-                    high: *high,
-                    factor: *factor,
+                    entity: header.iterator.entity,
+                    low: header.low,
+                    high: header.high,
+                    factor: header.factor,
                 };
                 let loops = inside(alloc, outer, counter)?;
                 note_rounds(alloc, rounds, loops.as_slice(), body)?;

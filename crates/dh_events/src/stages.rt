@@ -86,16 +86,15 @@ fn note_inside(stages: &mut Vec<usize>, form: &CommandForm) -> Result<usize, NoM
             Ok(2)
         }
         CommandForm::For {
-            low,
-            high,
-            factor,
+            header,
             body,
             combine,
-            ..
         } => {
+            let header = header.as_ref();
             let inner = note_stages(stages, body)?;
             let joins = note_other(stages, combine)?;
-            Ok(loop_stages(turn_count(*low, *high, *factor), inner, joins))
+            let turns = turn_count(header.low, header.high, header.factor);
+            Ok(loop_stages(turns, inner, joins))
         }
         CommandForm::View { form, .. } => Ok(view_stages(form)),
         CommandForm::LetMemory { .. } | CommandForm::Call { .. } => Ok(0),

@@ -3,17 +3,20 @@
 
 ghost use Rattle.std.specs.Prelude.{◌≡◌, [], IfOk};
 ghost use Rattle.dh_meets.specs.Sharing.{number_of_op};
+ghost use Rattle.dh_events.specs.Digests as digests;
 ghost use Rattle.dh_events.specs.Structures as definitions;
 ghost use Rattle.dh_events.specs.Structures.{AreDistinct, Numbers};
 
+use crate::digests::joined;
 use dh_base::NoMemory;
 use dh_value::{Kind, Op};
 use indexmap::IndexSet;
 use std::alloc::Global;
+use std::hash::{Hash, Hasher};
 use std::marker::Model;
 
 /// A kind, or none.
-#[derive(Clone, Copy, PartialEq, Eq, Hash)]
+#[derive(Clone, Copy, PartialEq, Eq)]
 pub enum Sort {
     /// None was found.
     Unknown,
@@ -26,7 +29,7 @@ pub enum Sort {
 }
 
 /// What an expression is, by the numbers of the structures inside it.
-#[derive(Clone, Copy, PartialEq, Eq, Hash)]
+#[derive(Clone, Copy, PartialEq, Eq)]
 pub enum Form {
     /// A number.
     Number {
@@ -87,12 +90,49 @@ pub enum Form {
 }
 
 /// A structure.
-#[derive(Clone, Copy, PartialEq, Eq, Hash)]
+#[derive(Clone, Copy, PartialEq, Eq)]
 pub struct Structure {
     /// The kind of its values; unknown for what is no expression.
     pub sort: Sort,
     /// What it is.
     pub form: Form,
+}
+
+// The number by which a form is sought.
+fn form_digest(form: Form) -> usize
+    ensures { result ≡ digests.of_form form }
+{
+    match form {
+        Form::Number { value, .. } => joined(value as usize, 1),
+        Form::Truth { .. } => 2,
+        Form::Variable { entity } => joined(entity as usize, 3),
+        Form::Read { entity, element } => joined(joined(entity as usize, element), 4),
+        Form::Operation { op, left, right } => joined(joined(joined(left, right), op as usize), 5),
+        Form::Cast { inner, .. } => joined(inner, 6),
+        Form::NoIndex => 7,
+        Form::Index { before: None, last } => joined(last, 8),
+        Form::Index {
+            before: Some(before),
+            last,
+        } => joined(joined(before, last), 9),
+        Form::Row { bank, row } => joined(joined(bank as usize, row), 10),
+    }
+}
+
+// A write of one word, where the parts of a form would take up to five.
+impl Hash for Structure {
+    ghost use Rattle.std.specs.Hash as fed;
+    ghost use Rattle.std.proofs.Common.{ap};
+    ghost use Rattle.dh_events.specs.Digests.{of_structure};
+    ghost use Rattle.dh_events.specs.AlikeDigests.{alike_structures};
+
+    ghost hash_input = { λ s. fed.usize (of_structure s) };
+
+    ghost respects_eq = { λ x y h. ap fed.usize (alike_structures x y h) };
+
+    fn hash<H: Hasher>(&self, state: &mut H) {
+        state.write_usize(form_digest(self.form));
+    }
 }
 
 /// Structures, each with the number of its place.

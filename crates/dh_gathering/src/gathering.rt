@@ -92,6 +92,7 @@ fn gather<'a>(
         CommandForm::Store { .. } => alone(alloc, first, command),
         CommandForm::Reduce { .. } => alone(alloc, first, command),
         CommandForm::If { test, then, other } => {
+            let test = test.as_ref();
             let next = behind_term(first, test);
             let (chosen, next) = gather(scene, made, paths, next, then)?;
             let (other, next) = gather_other(scene, made, paths, next, other)?;
@@ -99,30 +100,28 @@ fn gather<'a>(
             Ok((forms, next))
         }
         CommandForm::While { test, body } => {
+            let test = test.as_ref();
             let next = behind_term(first, test);
             let (body, next) = gather(scene, made, paths, next, body)?;
             let forms = repeat(scene, made, paths, first, test, body)?;
             Ok((forms, next))
         }
         CommandForm::For {
-            iterator,
-            low,
-            high,
-            factor,
+            header,
             body,
             combine,
-            ..
         } => {
-            let count = turn_count(*low, *high, *factor);
+            let header = header.as_ref();
+            let count = turn_count(header.low, header.high, header.factor);
             if count == 0 {
                 return Ok((Vec::new(alloc), behind_command(first, command)));
             }
-            let entity = entity_of(iterator);
-            let within = inside(alloc, paths, Some(entity), *factor)?;
+            let entity = entity_of(&header.iterator);
+            let within = inside(alloc, paths, Some(entity), header.factor)?;
             let (body, next) = gather(scene, made, &within, first, body)?;
             let (folds, next) = gather_other(scene, made, &within, next, combine)?;
             let turn = fold(alloc, body, folds)?;
-            let forms = turns(scene, made, &within, iterator, count, turn)?;
+            let forms = turns(scene, made, &within, &header.iterator, count, turn)?;
             Ok((forms, next))
         }
         CommandForm::Block { body } => gather_parts(scene, made, paths, first, body.as_slice()),

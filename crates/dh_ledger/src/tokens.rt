@@ -23,7 +23,12 @@ impl Model for Token {
 
     ghost Value = { Granted };
 
-    ghost view = { λ t. record { memory = t.memory; bank = t.bank; first = t.first; count = t.count } };
+    ghost view = { λ t. record {
+      memory = t.memory;
+      bank = t.bank;
+      first = t.first;
+      count = t.count;
+    } };
 }
 
 impl Token {

@@ -48,7 +48,10 @@ pub fn level_command(
             let level = level_term(held, ways, outer, value)?;
             held.assign(target.entity, level)
         }
-        CommandForm::Store { target, value } => level_store(held, ways, outer, target, value),
+        CommandForm::Store { sides } => {
+            let sides = sides.as_ref();
+            level_store(held, ways, outer, &sides.target, &sides.value)
+        }
         CommandForm::Reduce { target, value, .. } => level_reduce(held, ways, outer, target, value),
         CommandForm::If { test, then, other } => {
             let level = level_term(held, ways, outer, test)?;

@@ -173,7 +173,7 @@ pub fn shared_reads(alloc: Global, body: &Command) -> Result<Vec<Option<usize>>,
 {
     let mut stages = Vec::new(alloc);
     note_stages(&mut stages, body)?;
-    let mut notes = Notes::new(alloc);
+    let mut notes = Notes::for_commands(alloc, stages.len())?;
     note_body(&mut notes, stages.as_slice(), body)?;
     find_shares(alloc, notes.events.as_slice())
 }

@@ -1,7 +1,7 @@
 //! Accesses whose levels nothing asks for: each has level 0.
 
 ghost use Rattle.std.specs.Prelude.{map, option_map, OnOk};
-ghost use Rattle.dh_tree.specs.Seen.{action_seen, groups, maybe_seen, part_seen, plan_seen, term_seen, terms};
+ghost use Rattle.dh_tree.specs.Seen.{action_seen, maybe_seen, plan_seen, term_seen, terms};
 ghost use Rattle.dh_meaning.specs.AccessNumbers.{accesses_of, other_accesses, plan_accesses, term_accesses, terms_accesses};
 ghost use Rattle.dh_lengths.specs.HeldLevels.{suffixes_accesses, AddsZeros};
 
@@ -83,16 +83,20 @@ pub fn skip_command(reads: &mut Vec<usize>, command: &Command) -> Result<(), NoM
     ensures { OnOk result (AddsZeros reads.old reads.new (accesses_of (action_seen command.now))) }
 {
     match &command.form {
-        CommandForm::Let { value, .. } => match value {
-            Some(value) => skip_term(reads, value),
-            None => Ok(()),
-        },
+        CommandForm::Let { value, .. } => {
+            let value = value.as_ref();
+            match value {
+                Some(value) => skip_term(reads, value),
+                None => Ok(()),
+            }
+        }
         CommandForm::Assign { value, .. } | CommandForm::Reduce { value, .. } => {
             skip_term(reads, value)
         }
-        CommandForm::Store { target, value } => {
-            skip_term(reads, value)?;
-            skip_term(reads, target)
+        CommandForm::Store { sides } => {
+            let sides = sides.as_ref();
+            skip_term(reads, &sides.value)?;
+            skip_term(reads, &sides.target)
         }
         CommandForm::If { test, then, other } => {
             skip_term(reads, test)?;

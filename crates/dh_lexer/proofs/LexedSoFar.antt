@@ -79,12 +79,11 @@ length_at text at x n within e =
 
 -- there is room for the numbers of the next place
 pub place_room : (text : List ℕ) (tokens : List Token) (place : Place) (at n : ℕ) → length text ≤ 1048576 → at + n ≤ length text → LexedSoFar text tokens place at
-    → (place.line + length (take n (drop at text)) < 2 ^ 32) × (place.column + length (take n (drop at text)) < 2 ^ 32)
+    → (place.line + n < 2 ^ 32) × (place.column + n < 2 ^ 32)
 place_room text tokens place at n small long lexed =
     let near = place_near (place_at 1 1) (take at text) in
     let first : length (take at text) ≡ at = length-take-le at text lexed.within in
-    let next : length (take n (drop at text)) ≡ n = length-take-le n (drop at text) (omega (arith, length-drop at text, long)) in
-    rw lexed.stands_at (omega (arith, near.line, first, next, small, long), omega (arith, near.column, first, next, small, long))
+    rw lexed.stands_at (omega (arith, near.line, first, small, long), omega (arith, near.column, first, small, long))
 
 piece_bytes : (x : Front) (w : List ℕ) → bytes (piece x w) ≡ w
 piece_bytes front.Gap w = refl

@@ -12,3 +12,8 @@ pub mod LexedSoFar
 pub mod MostSeen
 pub mod TokensReady
 pub mod NamesTaken
+pub mod FoundKept
+pub mod LinesPassed
+pub mod Slashes
+pub mod FreeWords
+pub mod Decimals

@@ -1,11 +1,13 @@
 -- What a text begins with, as far as a test of bytes holds: a prefix whose bytes pass is followed
 -- by nothing more that passes, and a list of passing bytes before one that fails is that prefix.
 -- Each by recursion on the text, by the test of its first byte.
-use Rattle.std.proofs.Common.{◌≡◌, ℕ, ◌<◌, ◌≤◌, Bool, true, false, Decides, List, [], ◌∷◌, ◌++◌, length, get_or, take, drop, refl, arith, IsAscii, inl, inr, one-add}
+use Rattle.std.proofs.Common.{◌≡◌, ℕ, ◌+◌, ◌<◌, ◌≤◌, Bool, true, false, Decides, List, [], ◌∷◌, ◌++◌, length, get_or, take, drop, refl, ap, ◌∙◌, arith, IsAscii, inl, inr, one-add}
 use Rattle.std.specs.List.{AllByRecursion, prefix_len}
 use Rattle.std.proofs.lemmas.Bool.{cases_Bool, false_from_ne_true}
 use Rattle.std.proofs.lemmas.Bool.Decides.{nat_tests, not_from_Decides}
+use Rattle.std.proofs.lemmas.List.{get_or_default}
 use Rattle.std.proofs.lemmas.Str.Ascii.{IsAscii-nil, IsAscii-cons}
+use Rattle.dh_base.proofs.ListItems.{at_item}
 use Rattle.dh_tree.specs.Names.{IsNameByte}
 use Rattle.dh_lexer.specs.Pieces.{IsSpace, BeginsWithout, InLine}
 use Rattle.dh_lexer.specs.FrontPiece.{is_space, is_name_byte, is_in_line, run_len, line_len}
@@ -86,3 +88,13 @@ run_some (b ∷ bs) front = rw (front, one-add) (omega arith, omega arith)
 -- the run in front, by its bytes and by what they are
 pub run_ready : (l : List ℕ) (n : ℕ) → n ≡ run_len l → is_name_byte (get_or l 0 0) ≡ true → (0 < length (take n l)) × AllByRecursion IsNameByte (take n l)
 run_ready l n e front = rw e ((run_some l front).0, run_all l)
+
+-- a name byte, and the run behind it
+run_cons : (b : ℕ) (bs : List ℕ) → is_name_byte b ≡ true → run_len (b ∷ bs) ≡ 1 + run_len bs
+run_cons b bs front = rw front (omega arith)
+
+pub run_behind : (l : List ℕ) (at : ℕ) → at < length l → is_name_byte (get_or l at 0) ≡ true → (at + 1) + run_len (drop (at + 1) l) ≡ at + run_len (drop at l)
+run_behind l at early front =
+    let rest : drop at l ≡ get_or l at 0 ∷ drop (at + 1) l = at_item l at (get_or l at 0) early (get_or_default l at 0 (get_or l at 0) early) in
+    let long : run_len (drop at l) ≡ 1 + run_len (drop (at + 1) l) = ap run_len rest ∙ run_cons (get_or l at 0) (drop (at + 1) l) front in
+    omega (arith, long)

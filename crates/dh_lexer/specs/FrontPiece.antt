@@ -134,11 +134,6 @@ abbrev pub IsNamedToken : Option (TokenKind × ℕ) → Type 0
 IsNamedToken (Some t) = IsNamed (Some t.0)
 IsNamedToken None = ⊥
 
--- a text begins with a name
-abbrev pub IsNamedFront : Option (Front × ℕ) → Type 0
-IsNamedFront (Some (front.Token k, length)) = IsNamed (Some k)
-IsNamedFront _ = ⊥
-
 -- what is found is answered, and memory is wanting only where what is found takes some
 abbrev pub AnswersFound : {A E : Type 0} → (A → Type 0) → A → Result A E → Type 0
 AnswersFound TakesMemory found result = MatchResult result (λ o. o ≡ found) (λ _. TakesMemory found)

@@ -1,5 +1,5 @@
 -- The tokens of a text with their places, and where a text is refused.
-use Rattle.std.specs.Prelude.{◌≡◌, ℕ, ◌+◌, ◌^◌, ◌<◌, ◌≤◌, ◌==◌, if◌then◌else◌, List, [], ◌∷◌, ◌++◌, length, Bool, Result, Ok, Err, Vec}
+use Rattle.std.specs.Prelude.{◌≡◌, ℕ, ◌+◌, ◌^◌, ◌<◌, ◌≤◌, ◌==◌, if◌then◌else◌, List, [], ◌∷◌, ◌++◌, length, drop, Bool, Option, Some, None, Result, Ok, Err, MatchResult, Vec}
 use Rattle.std.specs.declared.alloc.Global.{Global}
 use Rattle.dh_base.specs.declared.faults.PassFault.{PassFault}
 use Rattle.dh_base.specs.declared.faults.PassFault.TheVariants as fault
@@ -11,6 +11,7 @@ use Rattle.dh_lexer.specs.declared.fronts.Front.TheVariants as front
 use Rattle.dh_lexer.specs.declared.tokens.Token.{Token}
 use Rattle.dh_lexer.specs.declared.tokens.TokenKind.{TokenKind}
 use Rattle.dh_lexer.specs.declared.tokens.TokenKind.TheVariants as kind
+use Rattle.dh_lexer.specs.FrontPiece.{front_of}
 use Rattle.dh_lexer.specs.Pieces.{Piece, gap, token, bytes, Stands, Cuts}
 
 -- a place
@@ -42,6 +43,29 @@ kept (front.Token k) place = placed k place ∷ []
 -- tokens, and behind them what is kept of a piece that begins at a place, if it is stored
 abbrev pub with_kept : Bool → List Token → Front → Place → List Token
 with_kept stored tokens front place = if stored then tokens ++ kept front place else tokens
+
+-- how long a piece is that was found; 0 where none was
+abbrev pub length_found : Option (Front × ℕ) → ℕ
+length_found None = 0
+length_found (Some p) = p.1
+
+-- so many bytes from here on are the piece that stands here
+abbrev pub TakesFront : List ℕ → (at taken : ℕ) → Type 0
+TakesFront text at taken = (taken ≡ length_found (front_of (drop at text))) × ((0 < taken) × (at + taken ≤ length text))
+
+-- tokens, and behind them what is kept of a piece that was found at a place
+abbrev pub with_found : List Token → Option (Front × ℕ) → Place → List Token
+with_found tokens None place = tokens
+with_found tokens (Some p) place = tokens ++ kept p.0 place
+
+-- a piece was found of which a token is kept
+abbrev pub IsKept : Option (Front × ℕ) → Place → Type 0
+IsKept None place = ⊥
+IsKept (Some p) place = kept p.0 place ≡ [] → ⊥
+
+-- what is found is kept and its length answered, and memory is wanting only where a token is kept
+abbrev pub TakesFound : {E : Type 0} → Option (Front × ℕ) → Place → (old new : List Token) → Result ℕ E → Type 0
+TakesFound found place old new result = MatchResult result (λ n. (n ≡ length_found found) × (new ≡ with_found old found place)) (λ _. IsKept found place)
 
 -- a place has room in a machine's words for so many bytes more
 abbrev pub PlaceFits : Place → ℕ → Type 0

@@ -1,6 +1,6 @@
 //! The quantities of a list of tokens that limits bound.
 
-ghost use Rattle.std.specs.Prelude.{◌≡◌, ◌+◌, ◌<◌, ◌≤◌, ◌^◌, ◌&&◌, false, if◌then◌else◌};
+ghost use Rattle.std.specs.Prelude.{◌≡◌, ◌+◌, ◌<◌, ◌≤◌, ◌^◌, ◌&&◌, false, if◌then◌else◌, max};
 ghost use Rattle.dh_lexer.specs.Counted as counted;
 ghost use Rattle.dh_lexer.specs.Counted.{most_open, most_operators, else_ifs_after};
 
@@ -21,10 +21,12 @@ pub fn counts(tokens: &[Token]) -> Counts
     let mut after_else = false;
     let mut else_ifs = 0;
     for token in tokens {
-        depth = open_after(depth, &token.kind);
-        brackets = depth.max(brackets);
-        seen = operators_after(seen, &token.kind);
-        operators = seen.max(operators);
+        let (opened, most_opened) = open_after(depth, brackets, &token.kind);
+        depth = opened;
+        brackets = most_opened;
+        let (passed, most_passed) = operators_after(seen, operators, &token.kind);
+        seen = passed;
+        operators = most_passed;
         else_ifs += else_if(after_else, &token.kind);
         after_else = is_else(&token.kind);
     }
@@ -35,31 +37,35 @@ pub fn counts(tokens: &[Token]) -> Counts
     }
 }
 
-/// How many brackets are open after a token.
-fn open_after(depth: u64, kind: &TokenKind) -> u64
-    requires { depth + 1 < 2 ^ 64 }
-    ensures { result ≡ counted.open_after depth kind.now }
+/// How many brackets are open after a token, and the most at one point so far.
+fn open_after(depth: u64, most: u64, kind: &TokenKind) -> (u64, u64)
+    requires { (depth + 1 < 2 ^ 64) × (depth ≤ most) }
+    ensures open { result.0 ≡ counted.open_after depth kind.now }
+    ensures most { result.1 ≡ max (counted.open_after depth kind.now) most }
 {
     match kind {
-        TokenKind::OpenParen | TokenKind::OpenBracket | TokenKind::OpenBrace => depth + 1,
-        TokenKind::CloseParen | TokenKind::CloseBracket | TokenKind::CloseBrace => {
-            depth.saturating_sub(1)
+        TokenKind::OpenParen | TokenKind::OpenBracket | TokenKind::OpenBrace => {
+            (depth + 1, most.max(depth + 1))
         }
-        _ => depth,
+        TokenKind::CloseParen | TokenKind::CloseBracket | TokenKind::CloseBrace => {
+            (depth.saturating_sub(1), most)
+        }
+        _ => (depth, most),
     }
 }
 
-/// How many operators there are since the last separator, after a token.
-fn operators_after(seen: u64, kind: &TokenKind) -> u64
-    requires { seen + 1 < 2 ^ 64 }
-    ensures { result ≡ counted.operators_after seen kind.now }
+/// How many operators there are since the last separator, after a token, and the most so far.
+fn operators_after(seen: u64, most: u64, kind: &TokenKind) -> (u64, u64)
+    requires { (seen + 1 < 2 ^ 64) × (seen ≤ most) }
+    ensures seen { result.0 ≡ counted.operators_after seen kind.now }
+    ensures most { result.1 ≡ max (counted.operators_after seen kind.now) most }
 {
     if is_separator(kind) {
-        0
+        (0, most)
     } else if is_operator(kind) {
-        seen + 1
+        (seen + 1, most.max(seen + 1))
     } else {
-        seen
+        (seen, most)
     }
 }
 

@@ -1,7 +1,6 @@
 //! Numbers, decimal and hexadecimal.
 
-ghost use Rattle.std.specs.Prelude.{◌≡◌, ◌<◌, ◌≤◌, ◌≢◌, length, slice_index, IsTrue, IsAscii};
-ghost use Rattle.std.specs.Char.{is_ascii_digit};
+ghost use Rattle.std.specs.Prelude.{◌≡◌, ◌<◌, ◌≤◌, length};
 ghost use Rattle.std.specs.List.{AllByRecursion};
 ghost use Rattle.dh_tree.specs.Names.{IsNameByte};
 ghost use Rattle.dh_lexer.specs.FrontPiece.{digits_number, number_of};
@@ -20,7 +19,7 @@ pub(crate) fn number(bytes: &[u8]) -> Option<u64>
     if bytes[0] == b'0' && bytes.len() != 1 {
         return None;
     }
-    digits(bytes, 10)
+    decimal(bytes)
 }
 
 /// The number that these letters, digits and `_` write as digits, below 2^64.
@@ -33,4 +32,23 @@ fn digits(bytes: &[u8], radix: u32) -> Option<u64>
         return None;
     };
     u64::from_str_radix(text, radix).ok()
+}
+
+/// The number that these letters, digits and `_` write as decimal digits, below 2^64. Most are small, and
+/// small ones are read here.
+fn decimal(bytes: &[u8]) -> Option<u64>
+    requires { (0 < length bytes.now) × AllByRecursion IsNameByte bytes.now }
+    ensures { result ≡ digits_number 10 bytes.now }
+{
+    let mut number: u64 = 0;
+    for i in 0..bytes.len() {
+        if !bytes[i].is_ascii_digit() {
+            return None;
+        }
+        if number > 1_000_000_000 {
+            return digits(bytes, 10);
+        }
+        number = number * 10 + (bytes[i] - b'0') as u64;
+    }
+    Some(number)
 }

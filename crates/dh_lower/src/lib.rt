@@ -1,4 +1,4 @@
-//! The net of a plan, ahead of its code: what its wires, ports and registers stand for, clock by clock.
+//! The net of a plan: what its wires, ports and registers stand for, clock by clock.
 //! Takes a plan, its graph, schedule and binding, and is to give a net that plays the plan. So far it has what such a
 //! net is (`IsNetOf`) and that it plays the plan (`net_plays` of proofs/NetSimulates), by laws of one clock: wires show
 //! the values of blocks as these are there, ports serve their users one at a time and keep what was read, writes come

@@ -10,14 +10,19 @@ use Rattle.dh_tree.specs.declared.trees.expressions.Ref.{Ref}
 use Rattle.dh_tree.specs.declared.trees.programs.ShapePlaces.{ShapePlaces}
 use Rattle.dh_tree.specs.declared.trees.programs.Sort.TheVariants.{Variable, Iterator, Memory, View}
 use Rattle.dh_tree.specs.PlainTrees.{Term, ViewPlan, Placed, Unrolled, Action, action, ActionForm, lets, lets_memory, views, assigns, stores, reduces, calls, blocks, decides, repeats, counts, MaybeAction, Groups}
+use Rattle.dh_tree.specs.declared.trees.expressions.Expr.{Expr}
+use Rattle.dh_tree.specs.declared.trees.programs.Sort.{Sort}
 use Rattle.dh_tree.specs.declared.trees.commands.Command.{Command}
-use Rattle.dh_tree.specs.Seen.{action_seen}
+use Rattle.dh_tree.specs.declared.trees.commands.LoopHeader.{LoopHeader}
+use Rattle.dh_tree.specs.declared.trees.commands.Sides.{Sides}
+use Rattle.dh_tree.specs.declared.trees.commands.ViewForm.{ViewForm}
+use Rattle.dh_tree.specs.Seen.{term_seen, plan_seen, sides_seen, action_seen, low_seen, high_seen, unroll_seen, counts_seen}
 use Rattle.dh_tree.specs.LeastBreach.{least_of}
 use Rattle.dh_tree.specs.Scopes.{Binding, Scope, declare, leave, past, at_end, form_at_end, other_at_end}
 use Rattle.dh_tree.specs.Breaches.{unknown, twice, term_breaches, list_breaches, value_breaches, plan_breaches, breaches, form_breaches, other_breaches}
 use Rattle.dh_tree.specs.Resolved.{used, declares, resolved_term, resolved_plan, resolved_action, resolved_other}
 use Rattle.dh_tree.specs.NameCounts.{declared_in, declared_in_form, declared_in_other, declared_in_groups}
-use Rattle.dh_names.specs.Walks.{State, walked, cut, Room, Resolves, ResolvesForm, ResolvesOther, ResolvesInner, ResolvesNext, ResolvesGroups, is_blocks}
+use Rattle.dh_names.specs.Walks.{State, walked, cut, Room, with_iterator, Resolves, ResolvesForm, ResolvesOther, ResolvesInner, ResolvesNext, ResolvesGroups, is_blocks}
 use Rattle.dh_tree.proofs.Leasts.{least_append}
 use Rattle.dh_names.proofs.Extended.{Further, further, other_further, declare_further, onward, counted, declare_counted}
 
@@ -181,6 +186,16 @@ counts_done s0 s1 s2 s3 s4 own i i' k low high factor a a' o o' place start numb
       state = cut_to ∙ cut_is s0 s3 (twice s0.scope.visible i ++ (breaches d a ++ other_breaches (at_end d a) o)) (other_at_end (at_end d a) o) own all start more;
     }
 
+-- the same where the header of the loop is one record of the code
+pub loops_done : (s0 s1 s2 s3 s4 : State) (own : ℕ) (h h' : LoopHeader) (a a' : Action) (o o' : MaybeAction)
+    → length s0.outer + own ≡ length s0.scope.visible
+    → (Room s0 1 → h' ≡ with_iterator h (declares s0.scope h.iterator)) → (Room s0 1 → s1 ≡ walked s0 (twice s0.scope.visible h.iterator) (declare s0.scope h.iterator Iterator))
+    → (Room s1 (declared_in a) → Resolves s1 s2 a a') → (Room s2 (declared_in_other o) → ResolvesOther s2 s3 o o') → s4 ≡ cut s3 own
+    → Room s0 (1 + (declared_in a + declared_in_other o)) → ResolvesForm s0 s4 (counts_seen h a o) (counts_seen h' a' o')
+loops_done s0 s1 s2 s3 s4 own h h' a a' o o' start number declared command optional cut_to room =
+    subst (λ (x : LoopHeader). ResolvesForm s0 s4 (counts_seen h a o) (counts_seen x a' o')) (sym (number (first_room (length s0.scope.entities) 1 (declared_in a + declared_in_other o) room)))
+    (counts_done s0 s1 s2 s3 s4 own h.iterator (declares s0.scope h.iterator) h.declared (low_seen h) (high_seen h) (unroll_seen h) a a' o o' h.combine_place start (λ r. refl) declared command optional cut_to room)
+
 pub inner_done : (s0 s1 s2 : State) (own : ℕ) (a a' : Action) → length s0.outer + own ≡ length s0.scope.visible → (Room s0 (declared_in a) → Resolves s0 s1 a a') → s2 ≡ cut s1 own
     → Room s0 (declared_in a) → ResolvesInner s0 s2 a a'
 inner_done s0 s1 s2 own a a' start command cut_to room =
@@ -229,7 +244,46 @@ next_other s s' id place f b is done = record {
 abbrev pub with_visible : State → List Binding → State
 with_visible s l = record { outer = s.outer; scope = record { visible = l; entities = s.scope.entities }; least = s.least }
 
--- a command that is behind a box
+-- What was done to what is behind a box: an expression, one that may lack, a name that is used or declared, the
+-- form of a view, the header of a loop, a command.
+pub expression_at : (s0 s1 : State) (x y w : Expr) → x ≡ y → term_seen w ≡ resolved_term s0.scope.visible (term_seen x) → s1 ≡ walked s0 (term_breaches s0.scope.visible (term_seen x)) s0.scope
+    → (term_seen w ≡ resolved_term s0.scope.visible (term_seen y)) × (s1 ≡ walked s0 (term_breaches s0.scope.visible (term_seen y)) s0.scope)
+expression_at s0 s1 x y w is tree state =
+    (tree ∙ ap (λ (e : Expr). resolved_term s0.scope.visible (term_seen e)) is, state ∙ ap (λ (e : Expr). walked s0 (term_breaches s0.scope.visible (term_seen e)) s0.scope) is)
+
+pub value_at : (s0 s1 : State) (x y w : Option Expr) → x ≡ y
+    → option_map term_seen w ≡ option_map (resolved_term s0.scope.visible) (option_map term_seen x) → s1 ≡ walked s0 (value_breaches s0.scope.visible (option_map term_seen x)) s0.scope
+    → (option_map term_seen w ≡ option_map (resolved_term s0.scope.visible) (option_map term_seen y)) × (s1 ≡ walked s0 (value_breaches s0.scope.visible (option_map term_seen y)) s0.scope)
+value_at s0 s1 x y w is tree state = (
+  tree ∙ ap (λ (v : Option Expr). option_map (resolved_term s0.scope.visible) (option_map term_seen v)) is,
+  state ∙ ap (λ (v : Option Expr). walked s0 (value_breaches s0.scope.visible (option_map term_seen v)) s0.scope) is,
+)
+
+pub used_at : (s0 s1 : State) (x y w : Ref) → x ≡ y → w ≡ used s0.scope.visible x → s1 ≡ walked s0 (unknown s0.scope.visible x) s0.scope
+    → (w ≡ used s0.scope.visible y) × (s1 ≡ walked s0 (unknown s0.scope.visible y) s0.scope)
+used_at s0 s1 x y w is tree state = (tree ∙ ap (λ (r : Ref). used s0.scope.visible r) is, state ∙ ap (λ (r : Ref). walked s0 (unknown s0.scope.visible r) s0.scope) is)
+
+pub declared_at : (s0 s1 : State) (sort : Sort) (x y w : Ref) → x ≡ y → (Room s0 1 → w ≡ declares s0.scope x) → (Room s0 1 → s1 ≡ walked s0 (twice s0.scope.visible x) (declare s0.scope x sort))
+    → (Room s0 1 → w ≡ declares s0.scope y) × (Room s0 1 → s1 ≡ walked s0 (twice s0.scope.visible y) (declare s0.scope y sort))
+declared_at s0 s1 sort x y w is tree state =
+    ((λ room. tree room ∙ ap (λ (r : Ref). declares s0.scope r) is), (λ room. state room ∙ ap (λ (r : Ref). walked s0 (twice s0.scope.visible r) (declare s0.scope r sort)) is))
+
+pub plan_at : (s0 s1 : State) (x y w : ViewForm) → x ≡ y → plan_seen w ≡ resolved_plan s0.scope.visible (plan_seen x) → s1 ≡ walked s0 (plan_breaches s0.scope.visible (plan_seen x)) s0.scope
+    → (plan_seen w ≡ resolved_plan s0.scope.visible (plan_seen y)) × (s1 ≡ walked s0 (plan_breaches s0.scope.visible (plan_seen y)) s0.scope)
+plan_at s0 s1 x y w is tree state =
+    (tree ∙ ap (λ (f : ViewForm). resolved_plan s0.scope.visible (plan_seen f)) is, state ∙ ap (λ (f : ViewForm). walked s0 (plan_breaches s0.scope.visible (plan_seen f)) s0.scope) is)
+
+pub header_at : (s0 s1 : State) (x y w : LoopHeader) → x ≡ y → (Room s0 1 → w ≡ with_iterator x (declares s0.scope x.iterator))
+    → (Room s0 1 → s1 ≡ walked s0 (twice s0.scope.visible x.iterator) (declare s0.scope x.iterator Iterator))
+    → (Room s0 1 → w ≡ with_iterator y (declares s0.scope y.iterator)) × (Room s0 1 → s1 ≡ walked s0 (twice s0.scope.visible y.iterator) (declare s0.scope y.iterator Iterator))
+header_at s0 s1 x y w is tree state = (
+  (λ room. tree room ∙ ap (λ (h : LoopHeader). with_iterator h (declares s0.scope h.iterator)) is),
+  (λ room. state room ∙ ap (λ (h : LoopHeader). walked s0 (twice s0.scope.visible h.iterator) (declare s0.scope h.iterator Iterator)) is),
+)
+
+pub sides_at : (s0 s1 : State) (x y w : Sides) → x ≡ y → ResolvesForm s0 s1 (sides_seen x) (sides_seen w) → ResolvesForm s0 s1 (sides_seen y) (sides_seen w)
+sides_at s0 s1 x y w is done = subst (λ (z : Sides). ResolvesForm s0 s1 (sides_seen z) (sides_seen w)) is done
+
 pub inner_at : (s s' : State) (x y : Command) (b : Action) → x ≡ y → (Room s (declared_in (action_seen x)) → ResolvesInner s s' (action_seen x) b) → Room s (declared_in (action_seen y)) → ResolvesInner s s' (action_seen y) b
 inner_at s s' x y b is done = subst (λ z. Room s (declared_in (action_seen z)) → ResolvesInner s s' (action_seen z) b) is done
 

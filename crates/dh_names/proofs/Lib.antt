@@ -1,6 +1,5 @@
 pub mod Entered
 pub mod Keeping
-pub mod InArms
 pub mod TermForms
 pub mod Extended
 pub mod FormsDone

@@ -5,13 +5,16 @@ use Rattle.dh_tree.specs.declared.breaches.Breach.{Breach}
 use Rattle.dh_tree.specs.declared.trees.expressions.Ref.{Ref}
 use Rattle.dh_tree.specs.declared.trees.commands.Command.{Command}
 use Rattle.dh_tree.specs.declared.trees.commands.CommandForm.{CommandForm}
+use Rattle.dh_tree.specs.declared.trees.commands.LoopHeader.{LoopHeader}
+use Rattle.dh_tree.specs.declared.trees.commands.Sides.{Sides}
 use Rattle.dh_tree.specs.declared.trees.programs.Sort.{Sort}
+use Rattle.dh_tree.specs.declared.trees.programs.Sort.TheVariants.{Iterator}
 use Rattle.dh_tree.specs.PlainTrees.{Action, ActionForm, blocks, MaybeAction, Actions, Groups}
 use Rattle.dh_tree.specs.LeastBreach.{least_of}
 use Rattle.dh_tree.specs.Scopes.{Binding, Scope, declare, leave, past, at_end, form_at_end, other_at_end, actions_at_end, groups_at_end}
 use Rattle.dh_tree.specs.Breaches.{twice, breaches, form_breaches, other_breaches, actions_breaches, groups_breaches}
 use Rattle.dh_tree.specs.Resolved.{declares, resolved_action, resolved_form, resolved_other, resolved_actions, resolved_groups}
-use Rattle.dh_tree.specs.Seen.{action_seen, action_form_seen, part_seen, maybe_block_seen}
+use Rattle.dh_tree.specs.Seen.{action_seen, action_form_seen, sides_seen, part_seen, maybe_block_seen}
 use Rattle.dh_tree.specs.NameCounts.{declared_in, declared_in_form, declared_in_other, declared_in_actions}
 use Rattle.dh_names.specs.Visible.{visible}
 use Rattle.dh_names.specs.declared.walks.Walk.{Walk}
@@ -50,10 +53,22 @@ FindsBy rule old new seen = state_of new ≡ walked (state_of old) (rule (state_
 abbrev pub NumbersName : Walk → (old new : Ref) → Type 0
 NumbersName walk old new = Room (state_of walk) 1 → new ≡ declares (state_of walk).scope old
 
+-- the header of a loop with this iterator in place of its own
+abbrev pub with_iterator : LoopHeader → Ref → LoopHeader
+with_iterator h iterator = record h { iterator = iterator }
+
+-- the same of the iterator of a loop
+abbrev pub NumbersHeader : Walk → (old new : LoopHeader) → Type 0
+NumbersHeader walk old new = Room (state_of walk) 1 → new ≡ with_iterator old (declares (state_of walk).scope old.iterator)
+
 -- the walk goes past a name that is declared as an entity of this sort, where that has a number
 abbrev pub DeclaresName : (old new : Walk) → (name : Ref) → Sort → Type 0
 DeclaresName old new name sort =
     Room (state_of old) 1 → state_of new ≡ walked (state_of old) (twice (state_of old).scope.visible name) (declare (state_of old).scope name sort)
+
+-- the same of the iterator of a loop with this header
+abbrev pub DeclaresIterator : (old new : Walk) → LoopHeader → Type 0
+DeclaresIterator old new header = DeclaresName old new header.iterator Iterator
 
 -- a walk over a command, up to its end
 pub record Resolves (old new : State) (a b : Action) : Type 0 where
@@ -86,14 +101,17 @@ pub record ResolvesGroups (old new : State) (a b : Groups) : Type 0 where
   pub tree : b ≡ resolved_groups old.scope a
   pub state : new ≡ walked old (groups_breaches old.scope a) (groups_at_end old.scope a)
 
--- the code's walk over a command, up to its end, where all that it declares has numbers; over its form, over a
--- block that may lack, over a command whose scope ends with it, over a command of a list, and over a part
+-- the code's walk over a command, up to its end, where all that it declares has numbers; over its form, over
+-- both sides of a store, over a block that may lack, over a command whose scope ends with it, over a command of a list, and over a part
 abbrev pub NumbersCommand : (old new : Walk) → (a b : Command) → Type 0
 NumbersCommand old new a b = Room (state_of old) (declared_in (action_seen a)) → Resolves (state_of old) (state_of new) (action_seen a) (action_seen b)
 
 abbrev pub NumbersForm : (old new : Walk) → (a b : CommandForm) → Type 0
 NumbersForm old new a b =
     Room (state_of old) (declared_in_form (action_form_seen a)) → ResolvesForm (state_of old) (state_of new) (action_form_seen a) (action_form_seen b)
+
+abbrev pub NumbersSides : (old new : Walk) → (a b : Sides) → Type 0
+NumbersSides old new a b = ResolvesForm (state_of old) (state_of new) (sides_seen a) (sides_seen b)
 
 abbrev pub NumbersOptional : (old new : Walk) → (a b : Option (Box Command Global)) → Type 0
 NumbersOptional old new a b =

@@ -48,9 +48,8 @@ impl Walk {
                 self.expression(value);
                 Ok(())
             }
-            CommandForm::Store { target, value } => {
-                self.expression(target);
-                self.expression(value);
+            CommandForm::Store { sides } => {
+                self.sides(sides);
                 Ok(())
             }
             CommandForm::Reduce { target, value, .. } => {
@@ -86,13 +85,12 @@ impl Walk {
                 Ok(())
             }
             CommandForm::For {
-                iterator,
+                header,
                 body,
                 combine,
-                ..
             } => {
                 let start = self.own_names();
-                self.declare(alloc, iterator, Sort::Iterator)?;
+                self.header(alloc, header)?;
                 self.command(alloc, body)?;
                 self.optional(alloc, combine)?;
                 self.leave(start);

@@ -23,7 +23,8 @@ pub fn resolve_term(names: &Names, least: &mut Option<Breach>, term: &mut Expr)
 #[cycle(expressions)]
 #[tactic(auto, using(dh_tree::proofs::SeenTerms::terms_are, dh_tree::proofs::Leasts::least_append))]
 fn resolve_form(names: &Names, least: &mut Option<Breach>, form: &mut ExprForm)
-    ensures tree { form_seen form.new ≡ resolved_term_form (visible names.now) (form_seen form.old) }
+    ensures tree { form_seen form.new ≡ resolved_term_form (visible names.now)
+        (form_seen form.old) }
     ensures least { LeastBy term_form_breaches names.now least.old least.new (form_seen form.old) }
 {
     match form {
@@ -50,7 +51,8 @@ fn resolve_form(names: &Names, least: &mut Option<Breach>, form: &mut ExprForm)
 #[cycle(expressions)]
 pub fn resolve_terms(names: &Names, least: &mut Option<Breach>, terms: &mut Vec<Expr>)
     ensures tree { ResolvesTerms (visible names.now) terms.old terms.new }
-    ensures least { LeastBy list_breaches names.now least.old least.new (expressions_seen terms.old) }
+    ensures least { LeastBy list_breaches names.now least.old least.new
+        (expressions_seen terms.old) }
 {
     for term in terms.iter_mut() {
         resolve_term(names, least, term);

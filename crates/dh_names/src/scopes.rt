@@ -22,11 +22,22 @@ pub struct Names {
 }
 
 impl Names {
+    // The number of what the name stands for among those seen of the program. A program without
+    // functions has none of them, and nothing is looked for.
+    fn find_outer(&self, name: &Name) -> Option<u32>
+        ensures { result ≡ entity_of self.now.outer name.now }
+    {
+        if self.outer.len() == 0 {
+            return None;
+        }
+        self.outer.find(name)
+    }
+
     /// The number of what the name stands for, where it is visible.
     pub fn find(&self, name: &Name) -> Option<u32>
         ensures { result ≡ entity_of (visible self.now) name.now }
     {
-        match self.outer.find(name) {
+        match self.find_outer(name) {
             Some(entity) => Some(entity),
             None => self.own.find(name),
         }

@@ -14,7 +14,8 @@ use dh_tree::{Expr, ViewForm};
 impl Walk {
     /// Gives the names of a view's offsets their numbers.
     pub fn plan(&mut self, form: &mut ViewForm)
-        ensures tree { plan_seen form.new ≡ resolved_plan (visible self.old.names) (plan_seen form.old) }
+        ensures tree { plan_seen form.new ≡ resolved_plan (visible self.old.names)
+            (plan_seen form.old) }
         ensures state { FindsBy plan_breaches self.old self.new (plan_seen form.old) }
     {
         match form {

@@ -6,12 +6,12 @@ ghost use Rattle.dh_tree.specs.Breaches.{unknown, term_breaches, value_breaches,
 ghost use Rattle.dh_tree.specs.Resolved.{used};
 ghost use Rattle.dh_names.specs.Visible.{visible};
 ghost use Rattle.dh_names.specs.InTrees.{ResolvesTerm, ResolvesTerms, ResolvesValue};
-ghost use Rattle.dh_names.specs.Walks.{state_of, cut, FindsBy, NumbersName, DeclaresName};
+ghost use Rattle.dh_names.specs.Walks.{state_of, cut, FindsBy, NumbersName, NumbersHeader, NumbersSides, DeclaresName, DeclaresIterator};
 
 use crate::expressions::{resolve_term, resolve_terms};
 use crate::scopes::{Names, bind_name, resolve_use};
 use dh_base::NoMemory;
-use dh_tree::{Breach, Entity, Expr, Ref, Sort};
+use dh_tree::{Breach, Entity, Expr, LoopHeader, Ref, Sides, Sort};
 use std::alloc::Global;
 
 /// A walk through the text of a program, up to some point.
@@ -61,6 +61,14 @@ impl Walk {
         resolve_terms(&self.names, &mut self.least, terms);
     }
 
+    /// Gives the names of both sides of a store their numbers.
+    pub fn sides(&mut self, sides: &mut Sides)
+        ensures { NumbersSides self.old self.new sides.old sides.new }
+    {
+        self.expression(&mut sides.target);
+        self.expression(&mut sides.value);
+    }
+
     /// Numbers a name that is declared, and makes it visible.
     pub fn declare(&mut self, alloc: Global, name: &mut Ref, sort: Sort) -> Result<(), NoMemory>
         ensures tree { OnOk result (NumbersName self.old name.old name.new) }
@@ -75,6 +83,14 @@ impl Walk {
         })?;
         name.entity = Some(number);
         Ok(())
+    }
+
+    /// Numbers the iterator of a loop, and makes it visible.
+    pub fn header(&mut self, alloc: Global, header: &mut LoopHeader) -> Result<(), NoMemory>
+        ensures tree { OnOk result (NumbersHeader self.old header.old header.new) }
+        ensures state { OnOk result (DeclaresIterator self.old self.new header.old) }
+    {
+        self.declare(alloc, &mut header.iterator, Sort::Iterator)
     }
 
     /// How many names of the function or the program's body are visible.

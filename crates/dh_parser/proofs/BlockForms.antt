@@ -1,19 +1,21 @@
 -- What is seen of the commands with blocks that the parser makes, and how many commands they are.
-use Rattle.std.proofs.Common.{◌≡◌, ℕ, suc, ◌+◌, List, [], ◌∷◌, ◌++◌, map, Option, option_map, ap, ◌∙◌, arith}
-use Rattle.std.specs.Prelude.{Vec}
+use Rattle.std.proofs.Common.{◌≡◌, ℕ, suc, ◌+◌, List, [], ◌∷◌, ◌++◌, map, Option, ap, sym, subst, ◌∙◌, arith}
+use Rattle.std.specs.Prelude.{Vec, Box}
 use Rattle.std.specs.Global.{Global}
 use Rattle.dh_base.specs.declared.places.Place.{Place}
-use Rattle.dh_tree.specs.declared.trees.expressions.Expr.{Expr}
 use Rattle.dh_tree.specs.declared.trees.commands.Command.{Command}
-use Rattle.dh_tree.specs.declared.trees.commands.CommandForm.TheVariants.{Block, If, While}
+use Rattle.dh_tree.specs.declared.trees.commands.CommandForm.TheVariants.{Block}
 use Rattle.dh_tree.specs.PlainTrees.{Placed, Unrolled, Action, action, action_then, no_actions, group_then, no_groups, MaybeAction, blocks, decides, repeats, counts}
 use Rattle.dh_tree.specs.Seen.{action_form_seen, action_seen, actions, part_seen, groups, maybe_seen, placed, unrolled}
-use Rattle.dh_tree.proofs.SeenActions.{block_is, if_is, while_is}
+use Rattle.dh_tree.proofs.SeenActions.{block_is}
+use Rattle.dh_parser.specs.declared.parsing.commands.Arms.{Arms}
+use Rattle.dh_parser.specs.declared.parsing.commands.Asked.{Asked}
 use Rattle.dh_parser.specs.declared.parsing.loops.LoopHead.{LoopHead}
 use Rattle.dh_parser.specs.declared.parsing.reading.Numeral.{Numeral}
-use Rattle.dh_parser.specs.Grammar.{ExprText, HeadText, BlockText, block, PartsText, while_loop, for_loop, if_else, ElseText, CombineText}
+use Rattle.dh_parser.specs.Grammar.{HeadText, BlockText, block, PartsText, while_loop, for_loop, if_else, ElseText, CombineText}
 use Rattle.dh_parser.specs.TreesOfTexts.{ref_of, placed_of, term_of, declared_of, factor_of, block_of, parts_of, compound_of, if_of, else_of, combine_of, combine_place_of, body_of, parts_place, count_block, count_parts, count_else, count_combine}
-use Rattle.dh_parser.specs.Answers.{Numbered, SameParts, SameBlock, SameElse, SameCombine, SameTerm, SameHead, SameNumber, SameUnrolled}
+use Rattle.dh_parser.specs.Answers.{Numbered, SameArms, SameAsked, SameParts, SameBlock, SameBoxedBlock, SameElse, SameCombine, SameHead, SameNumber, SameUnrolled, arms_with, block_seen, boxed_seen, if_seen, while_seen}
+use Rattle.dh_parser.specs.Reading.{TestText}
 
 add_one : (n : ℕ) → n + 1 ≡ suc n
 add_one n = omega arith
@@ -28,10 +30,10 @@ middle : (old count mid j : ℕ) → count ≡ old + 1 → mid ≡ count + j →
 middle old count mid j e f = omega arith
 
 pub block_made : {t : Action} (id old count new : ℕ) (place opener closer : Place) (body : Vec (Vec Command Global) Global) (p : PartsText)
-    → t ≡ action id place (action_form_seen (Block body)) → id ≡ old → count ≡ old + 1 → place ≡ opener → SameParts body p count new → Numbered t (block_of old (block opener p closer)) old new (suc (count_parts p))
+    → t ≡ block_seen id place body → id ≡ old → count ≡ old + 1 → place ≡ opener → SameParts body p count new → Numbered t (block_of old (block opener p closer)) old new (suc (count_parts p))
 block_made id old count new place opener closer body p h e f g s = record {
-  is = h ∙ (ap (λ x. action id place x) (block_is body) ∙ (ap (λ x. action id place (blocks x)) s.is ∙ (ap (λ x. action id place (blocks (parts_of x p))) (f ∙ add_one old)
-      ∙ (ap (λ x. action x place (blocks (parts_of (suc old) p))) e ∙ ap (λ x. action old x (blocks (parts_of (suc old) p))) g))));
+  is = h ∙ (ap (λ x. action id place (blocks x)) s.is ∙ (ap (λ x. action id place (blocks (parts_of x p))) (f ∙ add_one old)
+      ∙ (ap (λ x. action x place (blocks (parts_of (suc old) p))) e ∙ ap (λ x. action old x (blocks (parts_of (suc old) p))) g)));
   counted = after_one old count new (count_parts p) f s.counted;
 }
 
@@ -49,26 +51,29 @@ body_made id old count new place body p end h e f g s =
     h ∙ (ap (λ x. action id place x) (block_is body) ∙ (ap (λ x. action id place (blocks x)) s.is ∙ (ap (λ x. action id place (blocks (parts_of x p))) (f ∙ add_one old)
     ∙ (ap (λ x. action x place (blocks (parts_of (suc old) p))) e ∙ ap (λ x. action old x (blocks (parts_of (suc old) p))) g))))
 
-pub if_made : {t : Action} (id old count mid new : ℕ) (place word opener closer : Place) (test : Expr) (first other : _) (v : Command) (e : ExprText) (b : BlockText) (l : ElseText)
-    → t ≡ action id place (action_form_seen (If test first other)) → id ≡ old → count ≡ old + 1 → place ≡ word → SameTerm test e → first.value ≡ v → SameBlock v b count mid
-    → SameElse other l mid new → Numbered t (if_of old (if_else word opener e closer b l)) old new (suc (count_block b + count_else l))
-if_made id old count mid new place word opener closer test first other v e b l h i f g s w x y = record {
-  is = h ∙ (ap (λ z. action id place z) (if_is test first other) ∙ (ap (λ z. action id place (decides z (action_seen first.value) (maybe_seen (option_map (λ x. action_seen x.value) other)))) s
-      ∙ (ap (λ z. action id place (decides (term_of e) z (maybe_seen (option_map (λ x. action_seen x.value) other)))) (ap action_seen w ∙ (x.is ∙ ap (λ n. block_of n b) (f ∙ add_one old)))
-      ∙ (ap (λ z. action id place (decides (term_of e) (block_of (suc old) b) z)) (y.is ∙ ap (λ n. else_of n l) (middle old count mid (count_block b) f x.counted))
-      ∙ (ap (λ z. action z place (decides (term_of e) (block_of (suc old) b) (else_of (suc (old + count_block b)) l))) i
-      ∙ ap (λ z. action old z (decides (term_of e) (block_of (suc old) b) (else_of (suc (old + count_block b)) l))) g)))));
-  counted = after_two old count mid new (count_block b) (count_else l) f x.counted y.counted;
+pub if_made : {t : Action} {old count new : ℕ} (q : Asked) (a : Place × TestText) (v : Arms) (p : BlockText × ElseText)
+    → t ≡ if_seen q v → SameAsked q a old count → SameArms v p count new → Numbered t (if_of old (if_else a.0 a.1.opener a.1.test a.1.closer p.0 p.1)) old new (suc (count_block p.0 + count_else p.1))
+if_made {old = old} {count = count} {new = new} q a v p h s x = record {
+  is = h ∙ (ap (λ z. action q.id q.place (decides z (action_seen v.chosen.value) (maybe_seen (boxed_seen v.other)))) s.test
+      ∙ (ap (λ z. action q.id q.place (decides (term_of a.1.test) z (maybe_seen (boxed_seen v.other)))) (x.first.is ∙ ap (λ n. block_of n p.0) (s.counted ∙ add_one old))
+      ∙ (ap (λ z. action q.id q.place (decides (term_of a.1.test) (block_of (suc old) p.0) z)) (x.second.is ∙ ap (λ n. else_of n p.1) (middle old count x.between (count_block p.0) s.counted x.first.counted))
+      ∙ (ap (λ z. action z q.place (decides (term_of a.1.test) (block_of (suc old) p.0) (else_of (suc (old + count_block p.0)) p.1))) s.number
+      ∙ ap (λ z. action old z (decides (term_of a.1.test) (block_of (suc old) p.0) (else_of (suc (old + count_block p.0)) p.1))) s.place))));
+  counted = after_two old count x.between new (count_block p.0) (count_else p.1) s.counted x.first.counted x.second.counted;
 }
 
-pub while_made : {t : Action} (id old count new : ℕ) (place word opener closer : Place) (test : Expr) (body : _) (v : Command) (e : ExprText) (b : BlockText)
-    → t ≡ action id place (action_form_seen (While test body)) → id ≡ old → count ≡ old + 1 → place ≡ word → SameTerm test e → body.value ≡ v → SameBlock v b count new
-    → Numbered t (compound_of old (while_loop word opener e closer b)) old new (suc (count_block b))
-while_made id old count new place word opener closer test body v e b h i f g s w x = record {
-  is = h ∙ (ap (λ z. action id place z) (while_is test body) ∙ (ap (λ z. action id place (repeats z (action_seen body.value))) s
-      ∙ (ap (λ z. action id place (repeats (term_of e) z)) (ap action_seen w ∙ (x.is ∙ ap (λ n. block_of n b) (f ∙ add_one old)))
-      ∙ (ap (λ z. action z place (repeats (term_of e) (block_of (suc old) b))) i ∙ ap (λ z. action old z (repeats (term_of e) (block_of (suc old) b))) g))));
-  counted = after_one old count new (count_block b) f x.counted;
+pub arms_made : {old mid new : ℕ} {arms : Arms} (chosen : Box Command Global) (other : Option (Box Command Global)) (b : BlockText) (e : ElseText)
+    → arms ≡ arms_with chosen other → SameBoxedBlock chosen b old mid → SameElse other e mid new → SameArms arms (b, e) old new
+arms_made {old = old} {mid = mid} {new = new} chosen other b e h x y =
+    subst (λ (a : Arms). SameArms a (b, e) old new) (sym h) (record { between = mid; first = x; second = y })
+
+pub while_made : {t : Action} {old count new : ℕ} (q : Asked) (a : Place × TestText) (v : Box Command Global) (b : BlockText)
+    → t ≡ while_seen q v → SameAsked q a old count → SameBoxedBlock v b count new → Numbered t (compound_of old (while_loop a.0 a.1.opener a.1.test a.1.closer b)) old new (suc (count_block b))
+while_made {old = old} {count = count} {new = new} q a v b h s x = record {
+  is = h ∙ (ap (λ z. action q.id q.place (repeats z (action_seen v.value))) s.test
+      ∙ (ap (λ z. action q.id q.place (repeats (term_of a.1.test) z)) (x.is ∙ ap (λ n. block_of n b) (s.counted ∙ add_one old))
+      ∙ (ap (λ z. action z q.place (repeats (term_of a.1.test) (block_of (suc old) b))) s.number ∙ ap (λ z. action old z (repeats (term_of a.1.test) (block_of (suc old) b))) s.place)));
+  counted = after_one old count new (count_block b) s.counted x.counted;
 }
 
 placed_is : (n : Numeral) (p : Placed) → SameNumber n p → placed n.value n.place ≡ p

@@ -1,11 +1,11 @@
 -- How what a parser of the code calls answers for it, beside readers of lists that go on with one another.
-use Rattle.std.proofs.Common.{◌≡◌, Bool, true, false, if◌then◌else◌, List, Result, Ok, Err, IsErr, refl, ap, sym}
-use Rattle.std.specs.Result.{IsErrAnd}
+use Rattle.std.proofs.Common.{◌≡◌, Bool, true, false, if◌then◌else◌, List, Result, Ok, Err, IsErr, refl, ap, sym, subst}
+use Rattle.std.specs.Result.{IsErrAnd, IfOk}
 use Rattle.dh_lexer.specs.declared.tokens.Token.{Token}
 use Rattle.dh_parser.specs.declared.parsing.reading.Stop.{Stop}
 use Rattle.dh_parser.specs.declared.parsing.reading.Stop.TheVariants as stop
 use Rattle.dh_parser.specs.Reading.{Outcome, good, bad, deep, bind}
-use Rattle.dh_parser.specs.Answers.{AnswersBy, Answers}
+use Rattle.dh_parser.specs.Answers.{AnswersBy, Answers, MadeOf}
 
 abbrev answers : {A B : Type 0} (s : B → A → Type 0) (x : Result B Stop) (rest : List Token) (o : Outcome A) → AnswersBy s x rest o → Answers s x rest o
 answers s x rest o h = record { holds = h }
@@ -119,3 +119,24 @@ known {s = s} {v = v} {rest = rest} {o = o} h = known_by s v rest o h.holds
 
 pub answered : {A B : Type 0} {s : B → A → Type 0} {v : B} {rest : List Token} {o : Outcome A} (a : A) → o ≡ good a rest → s v a → Answers s (Ok v) rest o
 answered a e h = rw e (record { holds = (h, refl) })
+
+-- why nothing was read
+abbrev pub stop_of : {A : Type 0} → Result A Stop → Stop
+stop_of (Ok v) = stop.NoMemory
+stop_of (Err e) = e
+
+-- what is made of what was read answers for the whole
+pub made_of : {A B C D : Type 0} {s : B → A → Type 0} {t : C → D → Type 0} {P : B → C → Type 0} {x : Result B Stop} {y : Result C Stop} {rest : List Token} {o : Outcome A} (put : A → D)
+    → Answers s x rest o → MadeOf P x y → ((v : B) (w : C) (a : A) → s v a → P v w → t w (put a)) → Answers t y rest (bind o (λ a r. good (put a) r))
+made_of {x = Ok v} {y = Ok w} {o = good a r} put h m k = record { holds = (k v w a h.holds.0 m.holds, h.holds.1) }
+made_of {x = Ok v} {y = Ok w} {o = bad r} put h m k = absurd h.holds
+made_of {x = Ok v} {y = Ok w} {o = deep} put h m k = absurd h.holds
+made_of {x = Ok v} {y = Err stop.Here} put h m k = absurd m.holds
+made_of {x = Ok v} {y = Err stop.NoMemory} put h m k = record { holds = tt }
+made_of {C = C} {t = t} {x = Err e} {rest = rest} {o = o} put h m k =
+    subst (λ (z : Result C Stop). Answers t z rest (bind o (λ a r. good (put a) r))) (sym m.holds) (err_then (λ a r. good (put a) r) h)
+
+-- where tokens were taken in any case
+pub took_ok : {A T : Type 0} (x : Result A Stop) → T → IfOk x (λ _. T)
+took_ok (Ok v) h = h
+took_ok (Err e) h = tt

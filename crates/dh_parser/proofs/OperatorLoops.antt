@@ -1,19 +1,20 @@
 -- The loop over operators: what is read so far is the left operand of what follows.
-use Rattle.std.proofs.Common.{◌≡◌, ℕ, zero, suc, ◌<◌, List, length, Some, None, Ok, Err, refl, ap, sym, ◌∙◌, arith}
+use Rattle.std.proofs.Common.{◌≡◌, ℕ, zero, suc, ◌<◌, List, length, Some, None, Result, Ok, Err, refl, ap, sym, subst, ◌∙◌, arith}
 use Rattle.dh_base.specs.declared.places.Place.{Place}
 use Rattle.dh_lexer.specs.declared.tokens.Token.{Token}
 use Rattle.dh_value.specs.declared.operators.Op.{Op}
 use Rattle.dh_tree.specs.declared.trees.expressions.Expr.{Expr}
 use Rattle.dh_tree.specs.Seen.{term_seen}
 use Rattle.dh_parser.specs.declared.parsing.reading.Stop.{Stop}
+use Rattle.dh_parser.specs.declared.parsing.reading.Stop.TheVariants as stop
 use Rattle.dh_parser.specs.Allowed.{level}
 use Rattle.dh_parser.specs.Grammar.{ExprText, binary}
 use Rattle.dh_parser.specs.TreesOfTexts.{term_of, joined_terms}
 use Rattle.dh_parser.specs.Reading.{Outcome, good, bad, deep, bind, sign_text, sign_at, chain_with, chain, expression, operand}
-use Rattle.dh_parser.specs.Answers.{Answers, SameTerm, TookOperator}
+use Rattle.dh_parser.specs.Answers.{Answers, MadeOf, SameTerm, TookOperator, joined_expressions}
 use Rattle.dh_parser.proofs.StepsOfExpressions.{none_below}
 use Rattle.dh_parser.proofs.WholeExpressions.{expression_is}
-use Rattle.dh_parser.proofs.Going.{err_then}
+use Rattle.dh_parser.proofs.Going.{err_then, stop_of}
 
 -- the whole answer is that of the operators to come behind a text of the left operand
 pub record Chains (k : ℕ) (left : Expr) (rest : List Token) (whole : Outcome ExprText) : Type 0 where
@@ -80,3 +81,17 @@ done_by k left rest new whole (suc n) e few f s t g =
 pub chain_done : {k : ℕ} {left : Expr} {rest new : List Token} {whole : Outcome ExprText} → Chains k left rest whole → TookOperator k None rest new → Answers SameTerm (Ok left) new whole
 chain_done {k = k} {left = left} {rest = rest} {new = new} {whole = whole} w t =
     done_by k left rest new whole w.left_steps w.text w.few w.whole_is w.seen t.0 t.1
+
+-- an operator, where its right operand was read
+pub joins_goes : {k : ℕ} {left joined : Expr} {right : Result Expr Stop} {op : Op} {rest mid new : List Token} {whole : Outcome ExprText} → Chains k left rest whole → TookOperator k (Some op) rest mid
+    → Answers SameTerm right new (expression (suc (level op)) mid) → MadeOf (λ r e. term_seen e ≡ joined_expressions op left r) right (Ok joined) → length new < length rest → Chains k joined new whole
+joins_goes {right = Ok r} w t h m less = chain_goes w t h m.holds less
+joins_goes {right = Err e} w t h m less = absurd (cc m.holds)
+
+-- and where it was not, or memory was wanting
+pub joins_refused : {k : ℕ} {left : Expr} {right : Result Expr Stop} {x : Stop} {op : Op} {rest mid new : List Token} {whole : Outcome ExprText} → Chains k left rest whole → TookOperator k (Some op) rest mid
+    → Answers SameTerm right new (expression (suc (level op)) mid) → MadeOf (λ r e. term_seen e ≡ joined_expressions op left r) right (Err x) → Answers SameTerm (Err x) new whole
+joins_refused {right = Ok r} {x = stop.Here} w t h m = absurd m.holds
+joins_refused {right = Ok r} {x = stop.NoMemory} w t h m = record { holds = tt }
+joins_refused {right = Err e} {new = new} {whole = whole} w t h m =
+    subst (λ (f : Stop). Answers SameTerm (Err f) new whole) (sym (ap stop_of m.holds)) (chain_refused w t h)

@@ -11,13 +11,14 @@ use Rattle.dh_tree.specs.declared.trees.expressions.ExprForm.TheVariants.{Variab
 use Rattle.dh_tree.specs.PlainTrees.{Term, term, named, accessed, in_bank, applied, converted, term_then}
 use Rattle.dh_tree.specs.Seen.{form_seen, term_seen}
 use Rattle.dh_tree.proofs.SeenTerms.{variable_is, access_is, physical_is, binary_is, cast_is}
-use Rattle.dh_parser.specs.declared.parsing.reading.Numeral.{Numeral}
-use Rattle.dh_parser.specs.Grammar.{NameText, NumberText, KindText, ExprText, IndexText, MoreIndicesText, element, physical, variable, cast}
-use Rattle.dh_parser.specs.TreesOfTexts.{ref_of, name_text, placed_of, kind_of, term_of, access_of, index_of, indices_of, joined_terms}
+use Rattle.dh_parser.specs.Grammar.{NameText, KindText, ExprText, IndexText, MoreIndicesText, element, physical, variable, cast}
+use Rattle.dh_parser.specs.TreesOfTexts.{ref_of, name_text, kind_of, term_of, access_of, index_of, indices_of, joined_terms}
 use Rattle.dh_lexer.specs.declared.tokens.Token.{Token}
 use Rattle.dh_parser.specs.declared.parsing.reading.Stop.{Stop}
-use Rattle.dh_parser.specs.Reading.{Outcome}
-use Rattle.dh_parser.specs.Answers.{Answers, SameNumber, SameIndices}
+use Rattle.dh_parser.specs.declared.parsing.expressions.WrittenRow.{WrittenRow}
+use Rattle.dh_parser.specs.Reading.{Outcome, CastText}
+use Rattle.dh_parser.specs.Parts.{BankText}
+use Rattle.dh_parser.specs.Answers.{Answers, SameTerm, SameIndices, SameCastOf, SameRow, element_seen, row_seen}
 
 abbrev as_ref : List ℕ → Place → Option ℕ → Ref
 as_ref name place entity = record { name = name; place = place; entity = entity }
@@ -33,21 +34,31 @@ at_text {s = s} {x = x} {rest = rest} read r n h a = subst (λ m. Answers s x re
 pub variable_seen : {t : Term} (of : Ref) (n : NameText) → t ≡ term of.place None (form_seen (Variable of)) → of ≡ ref_of n → t ≡ term_of (variable n)
 variable_seen of n h e = h ∙ (ap (λ f. term of.place None f) (variable_is of) ∙ ap (λ (r : Ref). term r.place None (named r)) e)
 
-pub access_seen : {t : Term} (of : Ref) (n : NameText) (es : Vec Expr Global) (i : IndexText) (more : MoreIndicesText) → t ≡ term of.place None (form_seen (Access of es)) → of ≡ ref_of n → SameIndices es (i, more)
+pub element_made : {t : Term} (of : Ref) (es : Vec Expr Global) → t ≡ term of.place None (form_seen (Access of es)) → t ≡ element_seen of es
+element_made of es h = h ∙ ap (λ f. term of.place None f) (access_is of es)
+
+pub access_seen : {t : Term} (of : Ref) (n : NameText) (es : Vec Expr Global) (i : IndexText) (more : MoreIndicesText) → t ≡ element_seen of es → of ≡ ref_of n → SameIndices es (i, more)
     → t ≡ access_of (element n i more)
 access_seen of n es i more h e s =
-    h ∙ (ap (λ f. term of.place None f) (access_is of es) ∙ (ap (λ x. term of.place None (accessed of x)) s ∙ ap (λ (r : Ref). term r.place None (accessed r (term_then (index_of i) (indices_of more)))) e))
+    h ∙ (ap (λ x. term of.place None (accessed of x)) s ∙ ap (λ (r : Ref). term r.place None (accessed r (term_then (index_of i) (indices_of more)))) e)
 
-pub physical_seen : {t : Term} (of : Ref) (n : NameText) (bank : Numeral) (b : NumberText) (row : _) (v : Expr) (i : IndexText) (opener closer : Place) → t ≡ term of.place None (form_seen (Physical of bank.value bank.place row))
-    → of ≡ ref_of n → SameNumber bank (placed_of b) → row.value ≡ v → term_seen v ≡ index_of i → t ≡ access_of (physical n opener b closer i)
-physical_seen of n bank b row v i opener closer h e s f g =
-    h ∙ (ap (λ x. term of.place None x) (physical_is of bank.value bank.place row) ∙ (ap (λ x. term of.place None (in_bank of bank.value bank.place x)) (ap term_seen f ∙ g)
-    ∙ (ap (λ x. term of.place None (in_bank of x bank.place (index_of i))) s.0 ∙ (ap (λ x. term of.place None (in_bank of b.value x (index_of i))) s.1 ∙ ap (λ (r : Ref). term r.place None (in_bank r b.value b.place (index_of i))) e))))
+pub row_made : {t : Term} (of : Ref) (w : WrittenRow) (row : _) → t ≡ term of.place None (form_seen (Physical of w.bank.value w.bank.place row)) → row.value ≡ w.row → t ≡ row_seen of w
+row_made of w row h f =
+    h ∙ (ap (λ x. term of.place None x) (physical_is of w.bank.value w.bank.place row) ∙ ap (λ (v : Expr). term of.place None (in_bank of w.bank.value w.bank.place (term_seen v))) f)
 
-pub cast_seen : {t : Term} (p : Place) (inner : _) (to : Kind) (v : Expr) (e : ExprText) (k : KindText) (word closer : Place) → t ≡ term p None (form_seen (Cast inner to)) → inner.value ≡ v → term_seen v ≡ term_of e → to ≡ kind_of k
-    → t ≡ term_of (cast p e word k closer)
-cast_seen p inner to v e k word closer h f g l =
-    h ∙ (ap (λ x. term p None x) (cast_is inner to) ∙ (ap (λ x. term p None (converted x to)) (ap term_seen f ∙ g) ∙ ap (λ x. term p None (converted (term_of e) x)) l))
+pub physical_seen : {t : Term} (of : Ref) (n : NameText) (w : WrittenRow) (b : BankText) (i : IndexText) → t ≡ row_seen of w → of ≡ ref_of n → SameRow w (b, i)
+    → t ≡ access_of (physical n b.opener b.bank b.closer i)
+physical_seen of n w b i h e s =
+    h ∙ (ap (λ x. term of.place None (in_bank of w.bank.value w.bank.place x)) s.1
+    ∙ (ap (λ x. term of.place None (in_bank of x w.bank.place (index_of i))) s.0.0 ∙ (ap (λ x. term of.place None (in_bank of b.bank.value x (index_of i))) s.0.1
+    ∙ ap (λ (r : Ref). term r.place None (in_bank r b.bank.value b.bank.place (index_of i))) e)))
+
+pub cast_made : {t : Term} (p : Place) (inner : _) (to : Kind) (v : Expr) (k : KindText) → t ≡ term p None (form_seen (Cast inner to)) → inner.value ≡ v → to ≡ kind_of k → t ≡ term p None (converted (term_seen v) (kind_of k))
+cast_made p inner to v k h f l =
+    h ∙ (ap (λ x. term p None x) (cast_is inner to) ∙ (ap (λ (w : Expr). term p None (converted (term_seen w) to)) f ∙ ap (λ x. term p None (converted (term_seen v) x)) l))
+
+pub cast_seen : (p : Place) (inner v : Expr) (e : ExprText) (k : CastText) → SameCastOf p inner v k → SameTerm inner e → SameTerm v (cast p e k.word k.kind k.closer)
+cast_seen p inner v e k h g = h ∙ ap (λ x. term p None (converted x (kind_of k.kind))) g
 
 pub joined_seen : {t : Term} (op : Op) (l r : _) (a b : Expr) → t ≡ term a.place None (form_seen (Binary op l r)) → l.value ≡ a → r.value ≡ b → t ≡ joined_terms op (term_seen a) (term_seen b)
 joined_seen op l r a b h e f =

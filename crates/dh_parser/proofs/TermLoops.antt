@@ -7,8 +7,9 @@ use Rattle.dh_tree.specs.PlainTrees.{Term, Terms, no_terms, term_then}
 use Rattle.dh_tree.specs.Seen.{term_seen, terms}
 use Rattle.dh_parser.specs.declared.parsing.reading.Mark.TheVariants as mark
 use Rattle.dh_parser.specs.Marks.{comes}
-use Rattle.dh_parser.specs.Grammar.{NameText, ExprText, KindText, cast, bracket, no_indices, index_then, element, no_more_arguments, argument_then, some_arguments}
-use Rattle.dh_parser.specs.Reading.{Outcome, good, bind, the, the_kind, the_test, the_cast, bracket_from, the_index, more_indices, all_indices, access_from, the_expression, the_argument, more_arguments, the_arguments, expression}
+use Rattle.dh_parser.specs.Grammar.{NameText, ExprText, KindText, cast, bracket, no_indices, index_then, element, physical, no_more_arguments, argument_then, some_arguments}
+use Rattle.dh_parser.specs.Reading.{Outcome, good, bind, the, the_number, the_kind, the_test, the_cast, bracket_from, the_index, more_indices, all_indices, access_from, the_expression, the_argument, more_arguments, the_arguments, expression}
+use Rattle.dh_parser.specs.Parts.{the_bank, the_row}
 use Rattle.dh_parser.proofs.Going.{assoc, same_bind, if_true, if_false}
 
 -- terms in front of others
@@ -55,6 +56,14 @@ pub element_is : (n : NameText) (ts : List Token) → comes mark.OpenBrace ts �
 element_is n ts e = if_false (comes mark.OpenBrace ts) _ _ e ∙ sym (
     assoc (the_index expression ts) _ _ ∙ same_bind (the_index expression ts) _ _ λ i r0.
     assoc (more_indices expression (suc (length r0)) r0) _ _)
+
+-- a bank and a row of it, as what follows a name
+pub row_is : (n : NameText) (ts : List Token) → comes mark.OpenBrace ts ≡ true → access_from expression n ts ≡ bind (the_row expression ts) (λ p r. good (physical n p.0.opener p.0.bank p.0.closer p.1) r)
+row_is n ts e = if_true (comes mark.OpenBrace ts) _ _ e ∙ sym (
+    assoc (the_bank ts) _ _ ∙ (assoc (the mark.OpenBrace ts) _ _ ∙ same_bind (the mark.OpenBrace ts) _ _ λ opener r0.
+    assoc (the_number r0) _ _ ∙ same_bind (the_number r0) _ _ λ bank r1.
+    assoc (the mark.CloseBrace r1) _ _ ∙ same_bind (the mark.CloseBrace r1) _ _ λ closer r2.
+    assoc (the_index expression r2) _ _))
 
 pub arguments_go : (ts : List Token) → comes mark.Comma ts ≡ true → (n : ℕ)
     → more_arguments (suc n) ts ≡ bind (the_argument ts) (λ a r. bind (more_arguments n r) (λ more r. good (argument_then a.0 a.1 more) r))

@@ -1,5 +1,5 @@
 -- The answer of reading blocks does not hang on the number of steps, where these suffice.
-use Rattle.std.proofs.Common.{◌≡◌, ◌∙◌, ℕ, zero, suc, ◌≤◌, true, if◌then◌else◌, List, length, refl, ap, ◌<◌, arith}
+use Rattle.std.proofs.Common.{◌≡◌, ◌∙◌, ℕ, zero, suc, ◌≤◌, true, if◌then◌else◌, List, length, refl, ap, sym, ◌<◌, arith}
 use Rattle.dh_lexer.specs.declared.tokens.Token.{Token}
 use Rattle.dh_parser.specs.declared.parsing.reading.Mark.TheVariants as mark
 use Rattle.dh_parser.specs.Marks.{comes}
@@ -8,7 +8,8 @@ use Rattle.dh_parser.specs.Reading.{Outcome, good, bind, the, steps, the_express
 use Rattle.dh_parser.proofs.StepsOfExpressions.{mark_left, none_below, lt-own}
 use Rattle.dh_parser.proofs.StepsOfPrograms.{expression_left, EnoughBlocks, compound_left, part_left, parts_left, blocks_left, block_left, head_left, simple_left}
 use Rattle.dh_parser.proofs.WholeExpressions.{same_next, same_either}
-use Rattle.dh_parser.proofs.Going.{same_bind}
+use Rattle.dh_parser.specs.Parts.{the_arms, the_asked}
+use Rattle.dh_parser.proofs.Going.{assoc, same_bind}
 use Rattle.dh_parser.proofs.TermLoops.{test_then}
 
 -- two readers of blocks with one answer on fewer than m tokens, on which they do not give up
@@ -165,11 +166,24 @@ compound_is_if ts e = ap (λ b. if b then bind (the_if the_block (steps ts) ts) 
     else (bind (the_block ts) λ b r. good (block_alone b) r)))) e
 
 -- an `if` and a `while` by their tests
-pub if_by_test : (ts : List Token)
+if_by_test : (ts : List Token)
     → whole_if ts ≡ bind (the mark.If ts) (λ word r. bind (the_test r) (λ t r. bind (the_block r) (λ b r. bind (whole_else r) (λ other r. good (if_else word t.opener t.test t.closer b other) r))))
 if_by_test ts = if_is ts ∙ same_bind (the mark.If ts) _ _ λ word r0.
     test_then r0 (λ opener e closer r. bind (the_block r) (λ b r. bind (whole_else r) (λ other r. good (if_else word opener e closer b other) r)))
 
-pub while_by_test : (ts : List Token) → the_while the_block ts ≡ bind (the mark.While ts) (λ word r. bind (the_test r) (λ t r. bind (the_block r) (λ b r. good (while_loop word t.opener t.test t.closer b) r)))
+while_by_test : (ts : List Token) → the_while the_block ts ≡ bind (the mark.While ts) (λ word r. bind (the_test r) (λ t r. bind (the_block r) (λ b r. good (while_loop word t.opener t.test t.closer b) r)))
 while_by_test ts = same_bind (the mark.While ts) _ _ λ word r0.
     test_then r0 (λ opener e closer r. bind (the_block r) (λ b r. good (while_loop word opener e closer b) r))
+
+-- the same by what they ask, and by the arms
+pub if_by_asked : (ts : List Token) → whole_if ts ≡ bind (the_asked mark.If ts) (λ a r. bind (the_arms r) (λ p r. good (if_else a.0 a.1.opener a.1.test a.1.closer p.0 p.1) r))
+if_by_asked ts = if_by_test ts ∙ sym (
+    assoc (the mark.If ts) _ _ ∙ same_bind (the mark.If ts) _ _ λ word r0.
+    assoc (the_test r0) _ _ ∙ same_bind (the_test r0) _ _ λ t r1.
+    assoc (the_block r1) _ _ ∙ same_bind (the_block r1) _ _ λ b r2.
+    assoc (whole_else r2) _ _)
+
+pub while_by_asked : (ts : List Token) → the_while the_block ts ≡ bind (the_asked mark.While ts) (λ a r. bind (the_block r) (λ b r. good (while_loop a.0 a.1.opener a.1.test a.1.closer b) r))
+while_by_asked ts = while_by_test ts ∙ sym (
+    assoc (the mark.While ts) _ _ ∙ same_bind (the mark.While ts) _ _ λ word r0.
+    assoc (the_test r0) _ _)

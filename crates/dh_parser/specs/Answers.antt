@@ -19,16 +19,19 @@ use Rattle.dh_tree.specs.declared.trees.programs.Tree.{Tree}
 use Rattle.dh_parser.specs.declared.parsing.programs.Item.{Item}
 use Rattle.dh_parser.specs.declared.parsing.programs.Item.TheVariants as items
 use Rattle.dh_parser.specs.declared.parsing.programs.ItemsRead.{ItemsRead}
+use Rattle.dh_parser.specs.declared.parsing.commands.Arms.{Arms}
+use Rattle.dh_parser.specs.declared.parsing.commands.Asked.{Asked}
 use Rattle.dh_parser.specs.declared.parsing.commands.Beginning as commands
 use Rattle.dh_parser.specs.declared.parsing.commands.Beginning.TheVariants as beginnings
 use Rattle.dh_tree.specs.declared.trees.commands.CommandForm.{CommandForm}
-use Rattle.dh_tree.specs.PlainTrees.{Placed, Unrolled, Term, term_then, Action, action, ActionForm, counts, MaybeAction, Actions, no_actions, action_then, Groups, no_groups, group_then, blocks}
+use Rattle.dh_tree.specs.PlainTrees.{Placed, Unrolled, Term, term, accessed, in_bank, converted, term_then, Action, action, ActionForm, counts, decides, repeats, MaybeAction, Actions, no_actions, action_then, Groups, no_groups, group_then, blocks}
 use Rattle.dh_tree.specs.Seen.{term_seen, terms, factor_seen, plan_seen, action_form_seen, action_seen, part_seen, groups, maybe_seen, placed, unrolled, formal_seen, declared_seen, defined_seen, program_seen}
 use Rattle.dh_parser.specs.declared.parsing.reading.Stop.{Stop}
 use Rattle.dh_parser.specs.declared.parsing.reading.Stop.TheVariants as stop
 use Rattle.dh_parser.specs.declared.parsing.reading.Mark.{Mark}
 use Rattle.dh_parser.specs.declared.parsing.reading.Numeral.{Numeral}
 use Rattle.dh_parser.specs.declared.parsing.reading.Reader.{Reader}
+use Rattle.dh_parser.specs.declared.parsing.expressions.WrittenRow.{WrittenRow}
 use Rattle.dh_parser.specs.declared.parsing.types.WrittenType.{WrittenType}
 use Rattle.dh_parser.specs.declared.parsing.types.WrittenPorts.{WrittenPorts}
 use Rattle.dh_parser.specs.declared.parsing.types.WrittenBanks.{WrittenBanks}
@@ -40,7 +43,8 @@ use Rattle.dh_parser.specs.declared.parsing.views.Suffixes.{Suffixes}
 use Rattle.dh_parser.specs.Grammar.{NameText, NumberText, KindText, ItemsText, FactorText, SuffixText, OffsetText, ViewText, ValueText, SimpleText, BlockText, PartsText, PartText, CompoundText, IfText, ElseText, CombineText, ExprText, AccessText, IndexText, MoreIndicesText, ArgumentsText, PortsText, no_ports, some_ports, BanksText, DimsText, TypeText, DeclaredText, UnrollText, HeadText, ParameterText, ParametersText, ProgramText}
 use Rattle.dh_parser.specs.Marks.{comes}
 use Rattle.dh_parser.specs.TreesOfTexts.{placed_of, ref_of, name_text, word_of, kind_of, kind_place, banks_of, dims_of, places_of, shape_of, shape_places_of, is_memory_type, declared_of, factor_of, joined_terms, term_of, access_of, index_of, indices_of, arguments_of, suffix_of, parent_of, view_of, value_of, let_written, simple_form, simple_place, block_of, parts_of, part_of, compound_of, if_of, else_of, combine_of, combine_place_of, if_place, count_block, count_parts, count_part, count_compound, count_if, count_else, count_combine, formal_of, formals_of, decls_of, functions_of, count_items, body_of, program_of}
-use Rattle.dh_parser.specs.Reading.{Outcome, good, bad, the, width_then, Reads, expression, CastText, parent_and, the_simple, parameter_text, RangeText, sign_text, sign_at, Beginning, begins_simple, begins_compound, begins_semicolon, begins_nothing}
+use Rattle.dh_parser.specs.Reading.{Outcome, good, bad, the, width_then, Reads, expression, CastText, TestText, parent_and, the_simple, parameter_text, RangeText, sign_text, sign_at, Beginning, begins_simple, begins_compound, begins_semicolon, begins_nothing}
+use Rattle.dh_parser.specs.Parts.{BankText}
 
 abbrev pub AnswersBy : {A B : Type 0} → (B → A → Type 0) → Result B Stop → List Token → Outcome A → Type 0
 AnswersBy same (Ok v) rest (good a r) = same v a × (rest ≡ r)
@@ -169,6 +173,14 @@ Made P (Ok v) = P v
 Made P (Err stop.NoMemory) = Unit {0}
 Made P (Err stop.Here) = ⊥
 
+abbrev pub MadeBy : {A B : Type 0} → (A → B → Type 0) → Result A Stop → Result B Stop → Type 0
+MadeBy P (Ok v) made = Made (P v) made
+MadeBy P (Err e) made = made ≡ Err e
+
+-- what is made of what was read; where nothing was read, the refusal of that
+pub record MadeOf {A B : Type 0} (P : A → B → Type 0) (read : Result A Stop) (made : Result B Stop) : Type 0 where
+  pub holds : MadeBy P read made
+
 -- an expression stands for the tree of its text
 abbrev pub SameTerm : Expr → ExprText → Type 0
 SameTerm e t = term_seen e ≡ term_of t
@@ -194,6 +206,26 @@ SameIndex e i = term_seen e ≡ index_of i
 -- the kind to which a cast converts
 abbrev pub SameCast : Kind → CastText → Type 0
 SameCast kind t = SameKind kind t.kind
+
+-- the cast of an expression, behind the `(` at this place
+abbrev pub SameCastOf : Place → Expr → Expr → CastText → Type 0
+SameCastOf opening inner e t = term_seen e ≡ term opening None (converted (term_seen inner) (kind_of t.kind))
+
+-- the number of a bank
+abbrev pub SameBank : Numeral → BankText → Type 0
+SameBank n t = SameNumeral n t.bank
+
+-- a bank and a row of it
+abbrev pub SameRow : WrittenRow → BankText × IndexText → Type 0
+SameRow w t = SameBank w.bank t.0 × SameIndex w.row t.1
+
+-- the element of a memory with these indices
+abbrev pub element_seen : Ref → Vec Expr Global → Term
+element_seen of indices = term of.place None (accessed of (terms (map term_seen indices.items)))
+
+-- the row of a bank of a memory
+abbrev pub row_seen : Ref → WrittenRow → Term
+row_seen of w = term of.place None (in_bank of w.bank.value w.bank.place (term_seen w.row))
 
 abbrev pub SameArguments : Vec Expr Global → ArgumentsText → Type 0
 SameArguments es t = map term_seen es.items ≡ arguments_of t
@@ -290,6 +322,17 @@ SameCompound c t old new = Numbered (action_seen c) (compound_of old t) old new 
 abbrev pub SameIf : Command → IfText → ℕ → ℕ → Type 0
 SameIf c i old new = Numbered (action_seen c) (if_of old i) old new (count_if i)
 
+-- the block of this number, at this place, with these parts
+abbrev pub block_seen : ℕ → Place → Vec (Vec Command Global) Global → Action
+block_seen id place body = action id place (blocks (groups (map part_seen body.items)))
+
+-- what an `if` or a `while` asks, whose command has the number `old`
+pub record SameAsked (a : Asked) (t : Place × TestText) (old new : ℕ) : Type 0 where
+  pub number : a.id ≡ old
+  pub place : a.place ≡ t.0
+  pub test : SameTerm a.test.value t.1.test
+  pub counted : new ≡ old + 1
+
 -- the block of this number that holds this command alone
 abbrev pub block_around : ℕ → Command → Action
 block_around id inner = action id inner.place (blocks (group_then (action_then (action_seen inner) no_actions) no_groups))
@@ -305,6 +348,24 @@ boxed_seen held = option_map (λ b. action_seen b.value) held
 
 abbrev pub SameElse : Option (Box Command Global) → ElseText → ℕ → ℕ → Type 0
 SameElse held e old new = MaybeNumbered (maybe_seen (boxed_seen held)) (else_of old e) old new (count_else e)
+
+-- the arms of an `if`, in order
+abbrev pub arms_with : Box Command Global → Option (Box Command Global) → Arms
+arms_with chosen other = record { chosen = chosen; other = other }
+
+-- the arms of an `if`, of which the commands of the first are numbered first
+pub record SameArms (arms : Arms) (t : BlockText × ElseText) (old new : ℕ) : Type 0 where
+  pub between : ℕ
+  pub first : SameBoxedBlock arms.chosen t.0 old between
+  pub second : SameElse arms.other t.1 between new
+
+-- an `if` that asks this, with these arms
+abbrev pub if_seen : Asked → Arms → Action
+if_seen a arms = action a.id a.place (decides (term_seen a.test.value) (action_seen arms.chosen.value) (maybe_seen (boxed_seen arms.other)))
+
+-- a `while` that asks this, with this block
+abbrev pub while_seen : Asked → Box Command Global → Action
+while_seen a body = action a.id a.place (repeats (term_seen a.test.value) (action_seen body.value))
 
 abbrev pub SameCombine : Option Action → CombineText → ℕ → ℕ → Type 0
 SameCombine seen c old new = MaybeNumbered (maybe_seen seen) (combine_of old c) old new (count_combine c)

@@ -5,5 +5,6 @@ pub mod TreesOfTexts
 pub mod Programs
 pub mod Marks
 pub mod Reading
+pub mod Parts
 pub mod StepsEnough
 pub mod Answers

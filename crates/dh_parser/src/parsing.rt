@@ -12,6 +12,7 @@ mod operators;
 mod programs;
 mod reading;
 mod refusals;
+mod rooms;
 mod simple;
 mod types;
 mod views;

@@ -5,15 +5,13 @@ use Rattle.std.proofs.lemmas.List.{drop_all, map-append}
 use Rattle.std.specs.Prelude.{Vec}
 use Rattle.std.specs.Global.{Global}
 use Rattle.dh_base.proofs.ListItems.{at_item}
-use Rattle.dh_base.specs.declared.places.Place.{Place}
-use Rattle.dh_value.specs.declared.kinds.Kind.{Kind}
-use Rattle.dh_tree.specs.declared.trees.expressions.Ref.{Ref}
 use Rattle.dh_tree.specs.declared.trees.expressions.Expr.{Expr}
 use Rattle.dh_tree.specs.declared.trees.commands.Command.{Command}
 use Rattle.dh_tree.specs.declared.trees.commands.CommandForm.TheVariants.{If, While, For}
-use Rattle.dh_tree.proofs.SeenActions.{if_is, while_is, for_is}
+use Rattle.dh_tree.specs.declared.trees.commands.LoopHeader.{LoopHeader}
+use Rattle.dh_tree.proofs.SeenActions.{if_is, while_is, for_at}
 use Rattle.dh_tree.specs.PlainTrees as tree
-use Rattle.dh_tree.specs.Seen.{term_seen, placed, unrolled, action_form_seen, actions, groups, action_seen, part_seen, maybe_block_seen}
+use Rattle.dh_tree.specs.Seen.{term_seen, low_seen, high_seen, unroll_seen, action_form_seen, actions, groups, action_seen, part_seen, maybe_block_seen}
 use Rattle.dh_meaning.specs.Sites.{nothing_around}
 use Rattle.dh_meaning.specs.Phases.{form_phases, turn_count}
 use Rattle.dh_phases.specs.declared.phasing.Phase.{Phase}
@@ -72,31 +70,30 @@ part_end cs i done done' tail all current over ended inv =
 by_form : (c : Command) (form : _) (plain : tree.ActionForm) (read : List Numbered) → c.form ≡ form → action_form_seen form ≡ plain → read ≡ numbered (form_phases nothing_around 0 c.id c.place plain) → read ≡ command_phases c
 by_form c form plain read is shown e = e ∙ sym (ap (λ f. numbered (form_phases nothing_around 0 c.id c.place (action_form_seen f))) is ∙ ap (λ f. numbered (form_phases nothing_around 0 c.id c.place f)) shown)
 
-pub if_read : (c : Command) (test : Expr) (chosen : Box Command Global) (other : Option (Box Command Global)) (block : Command) (chosen_read other_read read : List Numbered) → c.form ≡ If test chosen other → block ≡ chosen.value
+pub if_read : (c : Command) (test : Box Expr Global) (chosen : Box Command Global) (other : Option (Box Command Global)) (block : Command) (chosen_read other_read read : List Numbered) → c.form ≡ If test chosen other → block ≡ chosen.value
     → chosen_read ≡ command_phases block → other_read ≡ phases_in_other (maybe_block_seen other) → read ≡ choice_phases c.id chosen_read other_read → read ≡ command_phases c
 if_read c test chosen other block chosen_read other_read read is same e f g =
     by_form c (If test chosen other) _ read is (if_is test chosen other)
     (g ∙ (ap (λ ps. choice_phases c.id ps other_read) (e ∙ ap command_phases same)
     ∙ (ap (λ ps. choice_phases c.id (command_phases chosen.value) ps) f
-    ∙ sym (choice_is c.id c.place (term_seen test) (action_seen chosen.value) (maybe_block_seen other)))))
+    ∙ sym (choice_is c.id c.place (term_seen test.value) (action_seen chosen.value) (maybe_block_seen other)))))
 
-pub while_read : (c : Command) (test : Expr) (body : Box Command Global) (block : Command) (body_read read : List Numbered) → c.form ≡ While test body → block ≡ body.value
+pub while_read : (c : Command) (test : Box Expr Global) (body : Box Command Global) (block : Command) (body_read read : List Numbered) → c.form ≡ While test body → block ≡ body.value
     → body_read ≡ command_phases block → read ≡ in_loop c.id (all_numbered body_read) ∷ [] → read ≡ command_phases c
 while_read c test body block body_read read is same e g =
     by_form c (While test body) _ read is (while_is test body)
     (g ∙ (ap (λ ps. in_loop c.id (all_numbered ps) ∷ []) (e ∙ ap command_phases same)
-    ∙ sym (loop_is c.id c.place (term_seen test) (action_seen body.value))))
+    ∙ sym (loop_is c.id c.place (term_seen test.value) (action_seen body.value))))
 
-pub for_read : (c : Command) (iterator : Ref) (declared : Option Kind) (low : ℕ) (low_place : Place) (high : ℕ) (high_place : Place) (factor : ℕ) (factor_place unroll_place : Place) (body : Box Command Global) (combine : Option (Box Command Global)) (combine_place : Place)
-    (block : Command) (count : ℕ) (body_read fold_read turn_read read : List Numbered) → c.form ≡ For iterator declared low low_place high high_place factor factor_place unroll_place body combine combine_place → block ≡ body.value
-    → count ≡ turn_count low high factor → body_read ≡ command_phases block → fold_read ≡ phases_in_other (maybe_block_seen combine) → turn_read ≡ folded_phases body_read fold_read
+pub for_read : (c : Command) (header : Box LoopHeader Global) (body : Box Command Global) (combine : Option (Box Command Global)) (h : LoopHeader) (block : Command) (count : ℕ) (body_read fold_read turn_read read : List Numbered)
+    → c.form ≡ For header body combine → h ≡ header.value → block ≡ body.value
+    → count ≡ turn_count h.low h.high h.factor → body_read ≡ command_phases block → fold_read ≡ phases_in_other (maybe_block_seen combine) → turn_read ≡ folded_phases body_read fold_read
     → read ≡ turn_phases c.id count turn_read → read ≡ command_phases c
-for_read c iterator declared low low_place high high_place factor factor_place unroll_place body combine combine_place block count body_read fold_read turn_read read is same n e f t g =
-    by_form c (For iterator declared low low_place high high_place factor factor_place unroll_place body combine combine_place) _ read is
-    (for_is iterator declared low low_place high high_place factor factor_place unroll_place body combine combine_place)
+for_read c header body combine h block count body_read fold_read turn_read read is at same n e f t g =
+    by_form c (For header body combine) _ read is (for_at header body combine h body.value at refl)
     (g ∙ (ap (λ k. turn_phases c.id k turn_read) n
-    ∙ (ap (λ ps. turn_phases c.id (turn_count low high factor) ps) (t ∙ (ap (λ ps. folded_phases ps fold_read) (e ∙ ap command_phases same) ∙ ap (λ ps. folded_phases (command_phases body.value) ps) f))
-    ∙ sym (turns_are c.id c.place iterator declared (placed low low_place) (placed high high_place) (unrolled factor factor_place unroll_place) (action_seen body.value) (maybe_block_seen combine) combine_place))))
+    ∙ (ap (λ ps. turn_phases c.id (turn_count h.low h.high h.factor) ps) (t ∙ (ap (λ ps. folded_phases ps fold_read) (e ∙ ap command_phases same) ∙ ap (λ ps. folded_phases (command_phases body.value) ps) f))
+    ∙ sym (turns_are c.id c.place h.iterator h.declared (low_seen h) (high_seen h) (unroll_seen h) (action_seen body.value) (maybe_block_seen combine) h.combine_place))))
 
 -- `combine` behind a body, by the last phase of that
 last_folded : (ps : List Numbered) (last : Numbered) (fold : List Numbered) → folded_phases (ps ++ last ∷ []) fold ≡ ps ++ folded_last last (straight_commands last) fold

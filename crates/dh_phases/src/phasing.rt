@@ -233,17 +233,20 @@ fn phases_of(alloc: Global, command: &Command) -> Result<Vec<Phase>, NoMemory>
             repeated(alloc, command.id, body)
         }
         CommandForm::For {
-            low,
-            high,
-            factor,
+            header,
             body,
             combine,
-            ..
         } => {
+            let header = header.as_ref();
             let body = phases_of(alloc, body)?;
             let folds = phases_of_other(alloc, combine)?;
             let turn = fold(alloc, body, folds)?;
-            turns(alloc, command.id, turn_count(*low, *high, *factor), turn)
+            turns(
+                alloc,
+                command.id,
+                turn_count(header.low, header.high, header.factor),
+                turn,
+            )
         }
         CommandForm::LetMemory { .. } => Ok(Vec::new(alloc)),
         CommandForm::View { form, .. } => {

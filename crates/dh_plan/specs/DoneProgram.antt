@@ -32,9 +32,7 @@ use Rattle.dh_plan.specs.declared.operations.OperationForm.{OperationForm}
 use Rattle.dh_plan.specs.declared.operations.OperationForm.TheVariants.{Constant, Old, Check, Probe, Set}
 use Rattle.dh_plan.specs.declared.operations.PlanBlock.{PlanBlock}
 use Rattle.dh_plan.specs.declared.operations.Reach.{Reach}
-use Rattle.dh_tree.specs.declared.viewing.ViewMap.{ViewMap}
-use Rattle.dh_tree.specs.declared.viewing.ViewSort.{ViewSort}
-use Rattle.dh_tree.specs.declared.viewing.ViewSort.TheVariants.{Shrink, Split, Suffix, Shift}
+use Rattle.dh_plan.specs.Ordered.{offsets_taken}
 use Rattle.dh_plan.specs.PlainPlans.{PlainPlan, first_in, operations_in}
 use Rattle.dh_plan.specs.Blocks.{first_fault, puts_of, all_set, spot_of_reach}
 use Rattle.dh_plan.specs.Correspondence.{Slots, FitKinds, paths_of_rounds}
@@ -253,20 +251,9 @@ abbrev pub IsConstantOr : PlainPlan → (block : ℕ) → Option ℕ → Type 0
 IsConstantOr plan block None = Unit {0}
 IsConstantOr plan block (Some number) = IsConstantAt plan block number
 
--- a view that moves nothing: shrink or split
-abbrev pub IsStillSort : ViewSort → Type 0
-IsStillSort Shrink = Unit {0}
-IsStillSort Split = Unit {0}
-IsStillSort Suffix = ⊥
-IsStillSort Shift = ⊥
-
-abbrev pub IsStill : Option ViewMap → Type 0
-IsStill None = ⊥
-IsStill (Some v) = IsStillSort v.sort
-
--- the element is named by constants: by indices through no view that moves, or by a row and the bank that is picked
+-- the element is named by constants: by indices and offsets, or by a row and the bank that is picked
 abbrev pub NamedByConstants : PlainPlan → (block : ℕ) → Reach → (row : Option ℕ) → Type 0
-NamedByConstants plan block r None = AllByRecursion (IsConstantAt plan block) r.indices × AllByRecursion (λ s. IsStill (slice_get plan.views s.view)) r.steps
+NamedByConstants plan block r None = AllByRecursion (IsConstantAt plan block) r.indices × AllByRecursion (IsConstantAt plan block) (offsets_taken r.steps)
 NamedByConstants plan block r (Some row) = IsConstantAt plan block row × IsConstantOr plan block r.select
 
 -- an access leads to an element, whatever registers and memories hold

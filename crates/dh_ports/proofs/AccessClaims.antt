@@ -1,10 +1,9 @@
 -- The claims of each access, by its number, among those of all that happens.
-use Rattle.std.proofs.Common.{◌≡◌, ℕ, zero, suc, add-one, ◌+◌, ◌<◌, ◌≤◌, ◌==◌, Bool, List, [], ◌∷◌, ◌++◌, length, map, refl, ap, sym, ◌∙◌, subst, arith, ◌&&◌, take}
+use Rattle.std.proofs.Common.{◌≡◌, ℕ, zero, suc, ◌+◌, ◌<◌, ◌≤◌, ◌==◌, Bool, List, [], ◌∷◌, ◌++◌, length, map, refl, ap, sym, ◌∙◌, arith, ◌&&◌, take}
 use mathlib.Core.Path.{fun_ext}
 use Rattle.std.specs.Prelude.{Option, Some, None, slice_get}
 use Rattle.std.specs.List.{filter}
 use Rattle.std.specs.Set.{distinct_count}
-use Rattle.dh_base.specs.declared.places.Place.{Place}
 use Rattle.dh_tree.specs.declared.tables.Dim.{Dim}
 use Rattle.dh_tree.specs.declared.tables.MemEntry.{MemEntry}
 use Rattle.dh_tree.specs.declared.trees.counters.Counter.{Counter}
@@ -19,8 +18,7 @@ use Rattle.dh_meets.specs.Charges.{bank_reached, key_of, paths_of, groups_of, su
 use Rattle.dh_meets.specs.SourceEvents.{Element, with_indices, in_row, SourceAccess}
 use Rattle.dh_events.specs.declared.events.Site.{Site}
 use Rattle.dh_ports.specs.declared.moves.Move.{Move}
-use Rattle.dh_events.specs.Accesses.{entity_in, element_in}
-use Rattle.dh_ports.specs.Claims.{access_of, base_of, keys_on, counts_to, claims_from, claims_in, claims_at, claims_of, moves_from, count_on, owner_of}
+use Rattle.dh_ports.specs.Claims.{access_of, base_of, keys_on, counts_to, claims_from, claims_in, claims_at, claims_of, count_on, owner_of}
 use Rattle.dh_ports.specs.Courses.{count}
 use Rattle.dh_events.specs.Incidents.{Incident, touches, assigned, arm_begins, arm_ends, begins, next, ends}
 use Rattle.dh_ports.specs.Wholes.{Touched, touched, touched_by, of_access, sites_in, at_touches}

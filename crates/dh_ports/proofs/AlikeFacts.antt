@@ -1,9 +1,8 @@
 -- What expressions that are alike have in common: their numbers, that no name in them stands for nothing, and the
 -- moment of the newest variable in them.
-use Rattle.std.proofs.Common.{◌≡◌, ℕ, zero, suc, ◌+◌, ◌<◌, ◌≤◌, ◌==◌, ◌&&◌, ◌||◌, Bool, true, false, List, max, refl, ap, sym, ◌∙◌, subst, arith, ◌⊎◌, inl, inr}
+use Rattle.std.proofs.Common.{◌≡◌, ℕ, ◌≤◌, ◌==◌, ◌&&◌, ◌||◌, Bool, true, false, List, max, refl, ap, sym, ◌∙◌, subst, arith, inl, inr}
 use Rattle.std.specs.Prelude.{Option, Some, None}
 use Rattle.std.proofs.lemmas.Bool.{eqb-true, eq-eqb, or_cases}
-use Rattle.dh_value.specs.declared.kinds.Kind.{Kind}
 use Rattle.dh_tree.specs.Memories.{same_entity}
 use Rattle.dh_tree.specs.PlainTrees.{Term, term, TermForm, number, truth_value, named, accessed, in_bank, applied, converted, Terms, no_terms, term_then}
 use Rattle.dh_meets.specs.Sharing.{same_truth, same_kind, same_maybe_kind, number_of_op, alike, alike_forms, all_alike, alike_elements, mentions, form_mentions, terms_mention, element_mentions}
@@ -11,9 +10,8 @@ use Rattle.dh_meets.specs.SourceEvents.{Element, with_indices, in_row}
 use Rattle.dh_events.specs.declared.structures.Structure.{Structure}
 use Rattle.dh_events.specs.declared.structures.Sort.{Sort}
 use Rattle.dh_events.specs.declared.structures.Sort.TheVariants as sort
-use Rattle.dh_events.specs.declared.structures.Form.{Form}
 use Rattle.dh_events.specs.declared.structures.Form.TheVariants as form
-use Rattle.dh_events.specs.Structures.{sort_of, sort_found, Stands, IsLast, Describes, DescribesForm, DescribesFrom, DescribesElement, AreDistinct, IsNameless, FormNameless, AnyNameless, newest_in, form_newest, newest_behind, entity_newest, element_newest}
+use Rattle.dh_events.specs.Structures.{sort_of, sort_found, Describes, DescribesForm, DescribesFrom, DescribesElement, AreDistinct, IsNameless, FormNameless, AnyNameless, newest_in, form_newest, newest_behind, entity_newest, element_newest}
 use Rattle.dh_events.specs.Elements.{ElementNameless}
 use Rattle.dh_events.proofs.StructureFacts.{one_number, alike_sorts}
 use Rattle.dh_ports.proofs.AlikeNumbers.{first_true, second_true, truths_same, entities_same, alike_kinds}

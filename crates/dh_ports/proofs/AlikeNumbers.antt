@@ -1,9 +1,8 @@
 -- Two expressions have one number exactly where they are alike, where no structure has two numbers; those with a
 -- name that stands for nothing are like none.
-use Rattle.std.proofs.Common.{◌≡◌, ℕ, zero, suc, ◌+◌, ◌≤◌, ◌==◌, ◌&&◌, Bool, true, false, List, max, refl, ap, sym, ◌∙◌, subst, arith, ◌⊎◌, inl, inr}
+use Rattle.std.proofs.Common.{◌≡◌, ℕ, zero, suc, ◌+◌, ◌==◌, ◌&&◌, Bool, true, false, List, refl, ap, sym, ◌∙◌, subst, arith, ◌⊎◌, inl, inr}
 use Rattle.std.specs.Prelude.{Option, Some, None}
 use Rattle.std.proofs.lemmas.Bool.{eqb-true, eq-eqb}
-use Rattle.dh_base.specs.declared.places.Place.{Place}
 use Rattle.dh_value.specs.declared.kinds.Kind.{Kind}
 use Rattle.dh_value.specs.declared.kinds.Kind.TheVariants as kind
 use Rattle.dh_tree.specs.Memories.{same_entity}
@@ -15,9 +14,8 @@ use Rattle.dh_events.specs.declared.structures.Sort.{Sort}
 use Rattle.dh_events.specs.declared.structures.Sort.TheVariants as sort
 use Rattle.dh_events.specs.declared.structures.Form.{Form}
 use Rattle.dh_events.specs.declared.structures.Form.TheVariants as form
-use Rattle.dh_events.specs.Structures.{sort_of, sort_found, Stands, Describes, DescribesForm, DescribesFrom, DescribesElement, AreDistinct, IsNameless, FormNameless, AnyNameless, newest_in, form_newest, newest_behind, entity_newest, element_newest}
-use Rattle.dh_events.specs.Elements.{IsNumberOf, ElementNameless}
-use Rattle.dh_events.proofs.StructureFacts.{one_sort, one_form, one_number, sorts_alike, alike_sorts}
+use Rattle.dh_events.specs.Structures.{sort_of, sort_found, Stands, Describes, DescribesForm, DescribesFrom, DescribesElement}
+use Rattle.dh_events.proofs.StructureFacts.{one_sort, one_form, sorts_alike, alike_sorts}
 
 absurd : {A : Type 0} → ⊥ → A
 absurd e = elim e [ ]

@@ -1,22 +1,18 @@
 -- The first breach of the rules on ports, from where ports are spent and which reads are late.
-use Rattle.std.proofs.Common.{◌≡◌, ℕ, zero, suc, ◌+◌, ◌<◌, ◌≤◌, Bool, true, false, if◌then◌else◌, List, [], ◌∷◌, ◌++◌, length, map, Contains, refl, ap, sym, ◌∙◌, subst, arith, inl, inr}
+use Rattle.std.proofs.Common.{◌≡◌, ℕ, zero, suc, ◌<◌, ◌≤◌, Bool, true, false, if◌then◌else◌, List, [], ◌∷◌, ◌++◌, length, Contains, refl, ap, sym, ◌∙◌, subst, arith, inl, inr}
 use mathlib.Core.Path.{fun_ext}
-use Rattle.std.specs.Prelude.{Option, Some, None, option_map, slice_get, slice_index, Vec}
-use Rattle.std.specs.Global.{Global}
+use Rattle.std.specs.Prelude.{Option, Some, None, option_map, slice_get}
 use Rattle.std.proofs.lemmas.List.Elements.{Contains-append_cases}
 use Rattle.dh_base.specs.declared.places.Place.{Place}
 use Rattle.dh_base.specs.declared.rules.Rule.TheVariants as rule
 use Rattle.dh_tree.specs.declared.breaches.Breach.{Breach}
 use Rattle.dh_tree.specs.declared.trees.counters.Counter.{Counter}
-use Rattle.dh_tree.specs.LeastBreach.{breach, least_of, Precedes, IsLeast}
+use Rattle.dh_tree.specs.LeastBreach.{breach, least_of}
 use Rattle.dh_tree.specs.Memories.{table_of}
 use Rattle.dh_tree.specs.PlainTrees.{Term, Program}
 use Rattle.dh_tree.proofs.FirstBreaches.{none_is_kept, least_is_kept}
-use Rattle.dh_meets.specs.Charges.{factors_of}
-use Rattle.dh_meets.specs.Ports.{KeepsPorts, PortsSpent, ReadsAfterWrite, IsPortBreach, IsFirstPortBreach, KeepsPortRules}
-use Rattle.dh_meets.specs.SourceEvents.{SourceAccess, accesses_in, trace}
+use Rattle.dh_meets.specs.Ports.{KeepsPorts, PortsSpent, ReadsAfterWrite, IsPortBreach}
 use Rattle.dh_events.specs.declared.events.Event.{Event}
-use Rattle.dh_events.specs.declared.events.Event.TheVariants as event
 use Rattle.dh_events.specs.declared.events.Site.{Site}
 use Rattle.dh_ports.specs.declared.levels.Step.{Step}
 use Rattle.dh_ports.specs.declared.moves.Layout.{Layout}
@@ -29,19 +25,17 @@ use Rattle.dh_events.specs.declared.events.Notes.{Notes}
 use Rattle.dh_events.specs.declared.structures.Structure.{Structure}
 use Rattle.dh_events.specs.Elements.{AreReads, no_clocks, IsNoted}
 use Rattle.dh_events.specs.Incidents.{Incident, touches, assigned, arm_begins, arm_ends, begins, next, ends, closed, incidents}
-use Rattle.dh_ports.specs.Layouts.{no_rounds, IsLayout, HaveFewCopies}
+use Rattle.dh_ports.specs.Layouts.{IsLayout, HaveFewCopies}
 use Rattle.dh_events.specs.Noted.{event_seen, all_seen}
-use Rattle.dh_events.specs.Rounds.{rounds_in, rounds_of}
-use Rattle.dh_ports.specs.Scanned.{is_late, late_at, place_in, all_late, spent_place, spent_at, FindsLate, FindsShared, KeepsLate}
+use Rattle.dh_ports.specs.Scanned.{is_late, late_at, place_in, all_late, spent_place, spent_at, FindsLate, KeepsLate}
 use Rattle.dh_events.specs.Stages.{stages_in}
 use Rattle.dh_events.specs.Structures.{AreDistinct}
 use Rattle.dh_events.specs.Tables.{numbered}
-use Rattle.dh_meaning.specs.Paths.{copies_in}
 use Rattle.dh_meets.specs.FewCopies.{most_copies, HasFewCopies}
-use Rattle.dh_ports.specs.Told.{IsToldBefore, TellsFirst}
-use Rattle.dh_ports.specs.Wholes.{no_stages, happenings_of, sites_in, TellsPhases, TellsLoops, loops_known, AreEventsOf, TellsShared, TellsSpent, TellsLate}
+use Rattle.dh_ports.specs.Told.{TellsFirst}
+use Rattle.dh_ports.specs.Wholes.{no_stages, happenings_of, sites_in, TellsLoops, loops_known, AreEventsOf, TellsSpent, TellsLate}
 use Rattle.dh_ports.proofs.PlacesOnce.{spent_once, kept_not_spent}
-use Rattle.dh_ports.proofs.SpentTold.{IsWhole, whole_is, access_there}
+use Rattle.dh_ports.proofs.SpentTold.{whole_is, access_there}
 
 absurd : {A : Type 0} → ⊥ → A
 absurd e = elim e [ ]

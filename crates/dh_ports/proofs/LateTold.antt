@@ -1,5 +1,5 @@
 -- Reads of a slot of which nothing is left are those that come behind a write of their bank in their phase.
-use Rattle.std.proofs.Common.{◌≡◌, ◌↔◌, ℕ, zero, suc, ◌+◌, ◌-◌, ◌<◌, ◌≤◌, ◌==◌, ◌&&◌, Bool, true, false, if◌then◌else◌, List, [], ◌∷◌, ◌++◌, length, map, replicate, refl, ap, sym, ◌∙◌, subst, arith, ◌⊎◌, inl, inr, Contains}
+use Rattle.std.proofs.Common.{◌≡◌, ℕ, zero, suc, ◌+◌, ◌-◌, ◌<◌, ◌≤◌, ◌==◌, ◌&&◌, Bool, true, false, if◌then◌else◌, List, [], ◌∷◌, ◌++◌, length, map, replicate, refl, ap, sym, ◌∙◌, subst, arith, ◌⊎◌, inl, inr, Contains}
 use Rattle.std.specs.Prelude.{Option, Some, None, option_map, slice_get, slice_index}
 use Rattle.std.specs.List.{AllByRecursion}
 use Rattle.std.proofs.lemmas.Bool.{cases_Bool, cases_lt, eqb-true, eq-eqb}
@@ -9,11 +9,10 @@ use Rattle.dh_base.specs.declared.places.Place.{Place}
 use Rattle.dh_base.specs.declared.rules.Rule.TheVariants as rule
 use Rattle.dh_tree.specs.declared.breaches.Breach.{Breach}
 use Rattle.dh_tree.specs.declared.tables.MemEntry.{MemEntry}
-use Rattle.dh_tree.specs.Elements.{banks_of}
 use Rattle.dh_tree.specs.LeastBreach.{breach}
-use Rattle.dh_tree.specs.Meets.{In, upto}
+use Rattle.dh_tree.specs.Meets.{upto}
 use Rattle.dh_tree.specs.declared.trees.counters.Counter.{Counter}
-use Rattle.dh_tree.specs.Memories.{Memory, memories_of, number_in, same_entity, table_of, entry_of}
+use Rattle.dh_tree.specs.Memories.{Memory, memories_of, same_entity, table_of}
 use Rattle.dh_tree.specs.PlainTrees.{Term, term, Program}
 use Rattle.dh_meaning.specs.OnePhase.{in_one_phase}
 use Rattle.dh_meets.specs.MayMeet.{meets_in}
@@ -28,23 +27,23 @@ use Rattle.dh_ports.specs.declared.levels.Step.TheVariants as step
 use Rattle.dh_ports.specs.declared.moves.Move.{Move}
 use Rattle.dh_ports.specs.declared.moves.Move.TheVariants as move
 use Rattle.dh_ports.specs.Claims.{access_of, base_of, claims_of, moves_from}
-use Rattle.dh_events.specs.Classes.{AreDistinct}
 use Rattle.dh_ports.specs.Courses.{count, before_at}
 use Rattle.dh_ports.specs.Expanded.{taken_by, all_taken}
 use Rattle.dh_events.specs.Incidents.{Incident, touches, assigned, arm_begins, arm_ends, begins, next, ends}
-use Rattle.dh_ports.specs.Levels.{Level, start, lefts_from}
+use Rattle.dh_ports.specs.Levels.{Level, start}
 use Rattle.dh_events.specs.Noted.{event_seen, all_seen}
-use Rattle.dh_ports.specs.Scanned.{bank_key, take_of, IsWritten, IsNoted, FindsLate}
+use Rattle.dh_ports.specs.Orders.{slot_in, step_in, order_of, order_step}
+use Rattle.dh_ports.specs.Scanned.{bank_key, take_of, phase_at, IsWritten, IsNotedFor, IsReadAt, HasRead, FindsLate}
 use Rattle.dh_ports.specs.Told.{IsToldBefore}
-use Rattle.dh_ports.specs.Wholes.{happenings_of, banks_in, Touched, touched, touched_by, of_access, sites_in, TellsPhases, TellsLoops, loops_known, AreEventsOf, TellsLate}
+use Rattle.dh_ports.specs.Wholes.{happenings_of, banks_in, Touched, touched, of_access, sites_in, TellsPhases, TellsLoops, loops_known, AreEventsOf, TellsLate}
 use Rattle.dh_ports.specs.WritesFound.{Meeting, can_reach, write_of, write_charge, FindsWrite}
-use Rattle.dh_ports.proofs.ClaimFacts.{Declared, found, one_entity, bases_apart}
-use Rattle.dh_ports.proofs.ClaimedBanks.{Claims, IsClaimOf, all_claims, Claimed, claimed, claims_back, Bounds, Reaching, reaching, reaching_claims, claimed_reaches}
-use Rattle.dh_ports.proofs.AccessClaims.{event_of, Follows, follow_all, nth_claims, claim_lists, none_claims, TouchAt}
+use Rattle.dh_ports.proofs.ClaimFacts.{found, one_entity, bases_apart}
+use Rattle.dh_ports.proofs.ClaimedBanks.{Claims, IsClaimOf, all_claims, Claimed, claimed, claims_back, Reaching, reaching, reaching_claims, claimed_reaches}
+use Rattle.dh_ports.proofs.AccessClaims.{event_of, follow_all, nth_claims, claim_lists, none_claims}
 use Rattle.dh_ports.proofs.MeetingFacts.{found_meeting, meeting_found}
 use Rattle.dh_ports.proofs.ReadsBehind.{finds_is, is_found}
 use Rattle.dh_ports.proofs.SpentTold.{IsWhole, whole_is, AccessAt, access_at, access_there, bounds_of}
-use Rattle.dh_ports.proofs.LateWalk.{slot_in, slot_found, slot_is, step_in, order_of, order_step, orders_are, IsLook, IsTake, Looks, looks_nothing, all_look, scan, Late, walk}
+use Rattle.dh_ports.proofs.LateWalk.{slot_found, slot_is, orders_are, Looks, scan, Late, walk}
 use Rattle.dh_ports.proofs.Wholes.{whole, access_in}
 
 absurd : {A : Type 0} → ⊥ → A
@@ -244,6 +243,31 @@ ordered known (Some event.ArmEnds) t writes site bank e = cc
 ordered known (Some event.Begins) t writes site bank e = cc
 ordered known (Some event.Next) t writes site bank e = cc
 ordered known (Some event.Ends) t writes site bank e = cc
+
+-- the phase of an access, and a read in its own
+phase_is : (o : Option Event) (t : Term) (writes : Bool) (site : Site) → option_map event_seen o ≡ Some (touches t writes site) → phase_at o ≡ site.phase
+phase_is None t writes site e = cc
+phase_is (Some (event.Touch access w phase round element newest)) t writes site e = ap (λ (s : Site). s.phase) (touch_site _ _ _ _ _ _ (some_same _ _ e))
+phase_is (Some (event.Assigned entity)) t writes site e = cc
+phase_is (Some event.ArmBegins) t writes site e = cc
+phase_is (Some event.ArmEnds) t writes site e = cc
+phase_is (Some event.Begins) t writes site e = cc
+phase_is (Some event.Next) t writes site e = cc
+phase_is (Some event.Ends) t writes site e = cc
+
+read_at : (o : Option Event) (t : Term) (site : Site) → option_map event_seen o ≡ Some (touches t false site) → IsReadAt o site.phase
+read_at None t site e = cc
+read_at (Some (event.Touch access true phase round element newest)) t site e = absurd (untrue (touch_writes _ _ _ _ _ _ (some_same _ _ e)))
+  where
+    untrue : true ≡ false → ⊥
+    untrue e = cc
+read_at (Some (event.Touch access false phase round element newest)) t site e = ap (λ (s : Site). s.phase) (touch_site _ _ _ _ _ _ (some_same _ _ e))
+read_at (Some (event.Assigned entity)) t site e = cc
+read_at (Some event.ArmBegins) t site e = cc
+read_at (Some event.ArmEnds) t site e = cc
+read_at (Some event.Begins) t site e = cc
+read_at (Some event.Next) t site e = cc
+read_at (Some event.Ends) t site e = cc
 
 -- a write's key of its bank is known
 written_key : (known : List Key) (o : Option Event) (t : Term) (site : Site) (bank : ℕ) → option_map event_seen o ≡ Some (touches t true site) → IsWritten known o bank → (slot : ℕ) × (slice_get known slot ≡ Some (bank_key site.phase bank))
@@ -512,10 +536,16 @@ module _ (p : Program) (events : List Event) (h0 : IsToldBefore p) (loops : Tell
       let q = reaching p x.access f.memory f.bank (bounds_of p h0 m.number x.access x.is) x.reached in
       let numbers : q.number ≡ r.number = some_same q.number r.number (sym q.known ∙ r.known) in
       let d : Claimed p (base_of (table_of p) r.number + f.bank) x.access = subst (λ (n : ℕ). Claimed p (base_of (table_of p) n + f.bank) x.access) numbers (reaching_claims p x.access f.memory f.bank q) in
-      let written = claim_there (IsNoted finds.known events) (event_of (all_seen events) m.number) (base_of (table_of p) r.number + f.bank) (nth_claims (claim_lists p (loops_known p) 0 (all_seen events)) m.number) (own m.number x.access x.is)
-      (claims_all (IsNoted finds.known events) p (loops_known p) 0 (all_seen events) finds.written m.number) (at_claimed m.number x.access x.is (base_of (table_of p) r.number + f.bank) d) in
-      let key = written_key finds.known (slice_get events (event_of (all_seen events) m.number)) (at m.number x.access x.is).touch.access (site m.number x.access x.is) (base_of (table_of p) r.number + f.bank) (seen_is m.number x.access x.is ∙ ap (λ b. Some (touches (at m.number x.access x.is).touch.access b (site m.number x.access x.is))) x.writes) written.1 in
       let phase : (site m.number x.access x.is).phase ≡ (site f.read f.later f.reads).phase = eqb-true _ _ (sym (phase_told m.number f.read x.access f.later x.is f.reads) ∙ x.phase) in
+      let has : HasRead events (phase_at (slice_get events (event_of (all_seen events) m.number))) = (
+        event_of (all_seen events) f.read,
+        subst (λ (n : ℕ). IsReadAt (slice_get events (event_of (all_seen events) f.read)) n)
+            (sym phase ∙ sym (phase_is (slice_get events (event_of (all_seen events) m.number)) (at m.number x.access x.is).touch.access x.access.writes (site m.number x.access x.is) (seen_is m.number x.access x.is)))
+            (read_at (slice_get events (event_of (all_seen events) f.read)) (at f.read f.later f.reads).touch.access (site f.read f.later f.reads) (seen_is f.read f.later f.reads ∙ ap (λ b. Some (touches (at f.read f.later f.reads).touch.access b (site f.read f.later f.reads))) f.read_is)),
+      ) in
+      let written = claim_there (IsNotedFor finds.known events) (event_of (all_seen events) m.number) (base_of (table_of p) r.number + f.bank) (nth_claims (claim_lists p (loops_known p) 0 (all_seen events)) m.number) (own m.number x.access x.is)
+      (claims_all (IsNotedFor finds.known events) p (loops_known p) 0 (all_seen events) finds.written m.number) (at_claimed m.number x.access x.is (base_of (table_of p) r.number + f.bank) d) in
+      let key = written_key finds.known (slice_get events (event_of (all_seen events) m.number)) (at m.number x.access x.is).touch.access (site m.number x.access x.is) (base_of (table_of p) r.number + f.bank) (seen_is m.number x.access x.is ∙ ap (λ b. Some (touches (at m.number x.access x.is).touch.access b (site m.number x.access x.is))) x.writes) (written.1 has) in
       let keyed : slice_get finds.known key.0 ≡ Some (bank_key (site f.read f.later f.reads).phase (base_of (table_of p) r.number + f.bank)) = key.1 ∙ ap (λ g. Some (bank_key g (base_of (table_of p) r.number + f.bank))) phase in
       record {
         number = f.read;

@@ -1,5 +1,5 @@
 -- The walk that finds reads behind writes: what it tells is at reads of slots of which nothing is left.
-use Rattle.std.proofs.Common.{◌≡◌, ◌↔◌, ℕ, zero, suc, ◌+◌, ◌-◌, ◌<◌, ◌≤◌, ◌==◌, ◌&&◌, Bool, true, false, if◌then◌else◌, List, [], ◌∷◌, ◌++◌, length, map, refl, ap, sym, ◌∙◌, subst, arith, ◌⊎◌, inl, inr, Contains}
+use Rattle.std.proofs.Common.{◌≡◌, ℕ, zero, suc, ◌+◌, ◌-◌, ◌<◌, ◌≤◌, ◌==◌, ◌&&◌, Bool, true, false, if◌then◌else◌, List, [], ◌∷◌, ◌++◌, length, map, refl, ap, sym, ◌∙◌, subst, arith, ◌⊎◌, inl, inr, Contains}
 use mathlib.Core.Path.{fun_ext}
 use Rattle.std.specs.Prelude.{Option, Some, None, option_map, slice_get}
 use Rattle.std.specs.List.{AllByRecursion}
@@ -21,12 +21,13 @@ use Rattle.dh_ports.specs.declared.moves.Move.{Move}
 use Rattle.dh_ports.specs.declared.moves.Move.TheVariants as move
 use Rattle.dh_ports.specs.Claims.{access_of, claims_of, moves_from}
 use Rattle.dh_events.specs.Classes.{AreDistinct}
-use Rattle.dh_ports.specs.Courses.{count, less, before_at}
-use Rattle.dh_ports.specs.Expanded.{level_behind, taken_by, all_taken, AreTaking}
+use Rattle.dh_ports.specs.Courses.{less, before_at}
+use Rattle.dh_ports.specs.Expanded.{level_behind, all_taken, AreTaking}
 use Rattle.dh_events.specs.Incidents.{Incident, touches, assigned, arm_begins, arm_ends, begins, next, ends}
-use Rattle.dh_ports.specs.Levels.{Level, level, taken, begun, kept_back, settled, advance, left_before, lefts_of}
+use Rattle.dh_ports.specs.Levels.{Level, level, taken, begun, kept_back, settled, lefts_of}
 use Rattle.dh_events.specs.Noted.{event_seen, all_seen}
-use Rattle.dh_ports.specs.Scanned.{bank_key, take_of, StepsAt, ClaimOrders, ClaimOrdersAt, IsOrdering, AreOrdering, is_late, late_at, place_in, place_found, term_place, all_late}
+use Rattle.dh_ports.specs.Orders.{key_test, order_of, order_step, slot_in, step_in}
+use Rattle.dh_ports.specs.Scanned.{bank_key, take_of, StepsAt, ClaimOrdersAt, IsOrdering, AreOrdering, late_at, place_in, place_found, term_place, all_late}
 use Rattle.dh_ports.specs.Wholes.{Touched, touched}
 use Rattle.dh_ports.proofs.ExpandedTies.{steps_taken}
 use Rattle.dh_events.proofs.KeyFacts.{same_key, own_key}
@@ -42,14 +43,6 @@ some_same x y e = cc
 
 -- Steps as a function of moves.
 
-abbrev key_test : Key → Key → Bool
-key_test a b = (a.phase == b.phase) && ((a.entity == b.entity) && ((a.element == b.element) && (a.newest == b.newest)))
-
--- the number of a key, where it has one
-abbrev pub slot_in : List Key → Key → Option ℕ
-slot_in [] k = None
-slot_in (x ∷ xs) k = if key_test x k then Some 0 else option_map suc (slot_in xs k)
-
 pub slot_found : (known : List Key) (k : Key) (s : ℕ) → slot_in known k ≡ Some s → slice_get known s ≡ Some k
 slot_found [] k s e = cc
 slot_found (x ∷ xs) k s e = by_test (cases_Bool (key_test x k)) e (slot_found xs k)
@@ -62,7 +55,7 @@ slot_found (x ∷ xs) k s e = by_test (cases_Bool (key_test x k)) e (slot_found 
     by_test (inl f) e rest = ap (slice_get (x ∷ xs)) (sym (some_same 0 s (sym (ap (λ b. if b then Some 0 else option_map suc (slot_in xs k)) f) ∙ e))) ∙ ap (λ y. Some y) (same_key x k f)
     by_test (inr f) e rest = of_rest (slot_in xs k) rest (sym (ap (λ b. if b then Some 0 else option_map suc (slot_in xs k)) f) ∙ e)
 
-slot_none : (known : List Key) (k : Key) → slot_in known k ≡ None → (n : ℕ) → slice_get known n ≡ Some k → ⊥
+pub slot_none : (known : List Key) (k : Key) → slot_in known k ≡ None → (n : ℕ) → slice_get known n ≡ Some k → ⊥
 slot_none [] k e n f = cc
 slot_none (x ∷ xs) k e n f = by_test (cases_Bool (key_test x k)) n f (slot_none xs k)
   where
@@ -80,10 +73,6 @@ slot_none (x ∷ xs) k e n f = by_test (cases_Bool (key_test x k)) n f (slot_non
     by_test (inl g) n f rest = some_none (sym (ap (λ b. if b then Some 0 else option_map suc (slot_in xs k)) g) ∙ e)
     by_test (inr g) zero f rest = clash (key_test x k) (subst (λ (y : Key). key_test x y ≡ true) (some_same x k f) (own_key x)) g
     by_test (inr g) (suc n) f rest = rest (none_of (slot_in xs k) (sym (ap (λ b. if b then Some 0 else option_map suc (slot_in xs k)) g) ∙ e)) n f
-
-abbrev pub step_in : Option ℕ → (takes : ℕ) → Step
-step_in None takes = step.Other
-step_in (Some slot) takes = step.Access slot takes
 
 module _ (known : List Key) (distinct : AreDistinct known) where
   pub slot_is : (k : Key) (s : ℕ) → slice_get known s ≡ Some k → slot_in known k ≡ Some s
@@ -104,25 +93,8 @@ module _ (known : List Key) (distinct : AreDistinct known) where
   steps_at k takes s (inl (slot, (e, f))) = f ∙ sym (ap (λ o. step_in o takes) (slot_is k slot e))
   steps_at k takes s (inr (none, f)) = f ∙ sym (ap (λ o. step_in o takes) (slot_lacks k none))
 
--- the step of the claim of a bank by an event
-abbrev pub order_of : List Key → Option Event → (bank : ℕ) → Step
-order_of known None bank = step.Other
-order_of known (Some (event.Touch access writes phase round element newest)) bank = step_in (slot_in known (bank_key phase bank)) (take_of writes)
-order_of known (Some (event.Assigned entity)) bank = step.Other
-order_of known (Some event.ArmBegins) bank = step.Other
-order_of known (Some event.ArmEnds) bank = step.Other
-order_of known (Some event.Begins) bank = step.Other
-order_of known (Some event.Next) bank = step.Other
-order_of known (Some event.Ends) bank = step.Other
-
-abbrev pub order_step : List Key → List Event → Move → Step
-order_step known events (move.Claim e bank keys) = order_of known (slice_get events e) bank
-order_step known events move.Begin = step.Begin
-order_step known events move.Next = step.Next
-order_step known events move.End = step.End
-
 module _ (known : List Key) (distinct : AreDistinct known) (events : List Event) where
-  order_is : (m : Move) (s : Step) → IsOrdering known events m s → s ≡ order_step known events m
+  pub order_is : (m : Move) (s : Step) → IsOrdering known events m s → s ≡ order_step known events m
   order_is (move.Claim e bank keys) s h = of_event (slice_get events e) h
     where
       of_event : (o : Option Event) → ClaimOrdersAt known o bank s → s ≡ order_of known o bank

@@ -6,6 +6,7 @@ use Rattle.std.specs.Global.{Global}
 use Rattle.std.specs.List.{AllByRecursion}
 use Rattle.std.proofs.lemmas.List.{map-append}
 use Rattle.dh_tree.specs.declared.trees.counters.Counter.{Counter}
+use Rattle.dh_tree.specs.Counters.{counters_of, AreSingle}
 use Rattle.dh_tree.specs.Memories.{Memory}
 use Rattle.dh_tree.specs.PlainTrees.{Action, Program}
 use Rattle.dh_meaning.specs.Bindings.{Binding, bindings}
@@ -20,9 +21,10 @@ use Rattle.dh_ways.specs.Stands.{hidden_of_program}
 use Rattle.dh_ways.proofs.StandsFound.{hidden_are}
 use Rattle.dh_events.specs.declared.dependence.Scope.{Scope}
 use Rattle.dh_ports.specs.Carriers.{Follow}
-use Rattle.dh_ports.specs.Layouts.{no_rounds}
+use Rattle.dh_ports.specs.Layouts.{AreRoundsOf, no_rounds}
 use Rattle.dh_events.specs.Rounds.{rounds_in, rounds_of, AreRounds}
 use Rattle.dh_events.specs.Scopes.{AreScopes}
+use Rattle.dh_ports.proofs.SingleRounds.{single_rounds}
 
 absurd : {A : Type 0} → ⊥ → A
 absurd e = elim e [ ]
@@ -32,12 +34,17 @@ no_round zero = refl
 no_round (suc id) = refl
 
 -- loops that were noted from nothing on
-pub rounds_noted : (p : Program) (body : Action) → body ≡ p.body → (old new : Vec (Vec Counter Global) Global) → old.items ≡ [] → AreRounds old new (rounds_in [] body) → rounds_of new.items ≡ rounds_in [] p.body no_rounds
+pub rounds_noted : (p : Program) (body : Action) → body ≡ p.body → (old new : Vec (Vec Counter Global) Global) → old.items ≡ [] → AreRounds old new (rounds_in [] body) → AreRoundsOf p new.items
 rounds_noted p body same old new empty noted =
     noted
     ∙ (ap (λ (l : List (Vec Counter Global)). rounds_in [] body (rounds_of l)) empty
     ∙ (ap (λ (f : ℕ → List Counter). rounds_in [] body f) (fun_ext no_round)
     ∙ ap (λ (a : Action). rounds_in [] a no_rounds) same))
+
+-- where each loop has one copy nothing is noted
+pub rounds_none : (p : Program) (rounds : List (Vec Counter Global)) → rounds ≡ [] → AreSingle (counters_of p) → AreRoundsOf p rounds
+rounds_none p rounds empty single =
+    ap (λ (l : List (Vec Counter Global)). rounds_of l) empty ∙ (fun_ext no_round ∙ sym (single_rounds [] p.body no_rounds single))
 
 -- variables of a body that is the program's
 pub scopes_told : (p : Program) (body : Action) → body ≡ p.body → (behind : List Binding) → behind ≡ view_bindings p → (scopes : List (Option Scope)) → AreScopes (bindings 0 body ++ behind) scopes → AreScopes (all_bindings_of p) scopes

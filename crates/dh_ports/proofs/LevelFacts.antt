@@ -7,7 +7,7 @@ use Rattle.dh_ports.specs.declared.marks.Mark.{Mark}
 use Rattle.dh_ports.specs.declared.levels.Frame.{Frame}
 use Rattle.dh_ports.specs.Logs.{at_begin, least, AreMarks, marks_now}
 use Rattle.dh_ports.specs.Levels.{Level, level, floor, level_of, floors_of, taken, begun, kept_back, at_rest, settled, settled_in, gone_back, gone_in, FrameKept}
-use Rattle.dh_ports.proofs.LogFacts.{mark, any_default, marks_both, now_marks, no_marks}
+use Rattle.dh_ports.proofs.LogFacts.{mark, any_default, no_marks}
 use Rattle.dh_ports.proofs.MarkedLevels.{less_level, back_level}
 
 -- the level where what was left at the part's begin is known
@@ -30,15 +30,14 @@ taken_none l k m s none = by_test (cases_Bool (k == s))
     by_test (inr e) = sym (ap (λ t. if t then level (l.now - m) l.base l.low l.outer else l) e)
 
 -- a part is given back
-pub kept_back_level : (left left1 : List ℕ) (log log1 lows lows1 : List Mark) (outer : List Frame) (s : ℕ) → slice_index left1 s ≡ at_begin log s (slice_index left s) → log1 ≡ [] → lows1 ≡ lows ++ marks_now left log
+pub kept_back_level : (left left1 : List ℕ) (log log1 lows lows1 : List Mark) (outer : List Frame) (s : ℕ) → slice_index left1 s ≡ at_begin log s (slice_index left s) → log1 ≡ [] → ((n : ℕ) → least lows1 s n ≡ least (lows ++ marks_now left log) s n)
     → level_of left1 log1 lows1 outer s ≡ kept_back (level_of left log lows outer s)
 kept_back_level left left1 log log1 lows lows1 outer s undone empty noted = back_level left left1 log log1 lows lows1 (floors_of (reverse outer) s) s undone empty noted
 
-pub kept_back_kept : (n n1 : ℕ) (left : List ℕ) (log log1 lows lows1 : List Mark) (outer : List Frame) → n1 ≡ n → log1 ≡ [] → lows1 ≡ lows ++ marks_now left log → AreMarks n log → AreMarks n lows → AllByRecursion (FrameKept n) outer
+pub kept_back_kept : (n n1 : ℕ) (log log1 lows lows1 : List Mark) (outer : List Frame) → n1 ≡ n → log1 ≡ [] → (AreMarks n log → AreMarks n lows → AreMarks n lows1) → AreMarks n log → AreMarks n lows → AllByRecursion (FrameKept n) outer
     → AreMarks n1 log1 × (AreMarks n1 lows1 × AllByRecursion (FrameKept n1) outer)
-kept_back_kept n n1 left log log1 lows lows1 outer long empty noted x y z =
-    subst (λ (m : ℕ). AreMarks m log1 × (AreMarks m lows1 × AllByRecursion (FrameKept m) outer)) (sym long)
-    (subst (λ (l : List Mark). AreMarks n l) (sym empty) (no_marks n), (subst (λ (l : List Mark). AreMarks n l) (sym noted) (marks_both n lows (marks_now left log) y (now_marks n left log x)), z))
+kept_back_kept n n1 log log1 lows lows1 outer long empty noted x y z =
+    subst (λ (m : ℕ). AreMarks m log1 × (AreMarks m lows1 × AllByRecursion (FrameKept m) outer)) (sym long) (subst (λ (l : List Mark). AreMarks n l) (sym empty) (no_marks n), (noted x y, z))
 
 -- parts begin
 pub begun_level : (left : List ℕ) (log lows log1 lows1 : List Mark) (outer outer1 : List Frame) (f : Frame) (s : ℕ) → log1 ≡ [] → lows1 ≡ [] → outer1 ≡ outer ++ f ∷ [] → f.log.items ≡ log → f.lows.items ≡ lows

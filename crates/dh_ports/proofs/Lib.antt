@@ -37,11 +37,17 @@ pub mod SharedFound
 pub mod LateWalk
 pub mod LateTold
 pub mod ScanTurns
+pub mod SharedSteps
+pub mod RunTurns
+pub mod QuietPhases
+pub mod UnreadPhases
+pub mod UnwrittenEvents
 pub mod BankTurns
 pub mod StartFacts
 pub mod FirstTold
 pub mod Judged
 pub mod MoveTurns
+pub mod SingleRounds
 pub mod LayoutFacts
 pub mod ClaimTurns
 pub mod CopyTurns
@@ -63,3 +69,4 @@ pub mod GroupCharges
 pub mod GroupTurns
 pub mod StrideTurns
 pub mod ThroughClaims
+pub mod EvenClaims

@@ -1,11 +1,12 @@
 -- Logs as functions of the slot: a mark more, undoing from the end, lowering from the front.
-use Rattle.std.proofs.Common.{◌≡◌, ℕ, zero, suc, ◌+◌, ◌-◌, ◌≤◌, ◌<◌, ◌==◌, Bool, true, false, List, [], ◌∷◌, ◌++◌, length, take, get_or, slice_index, slice_set, min, if◌then◌else◌, length-append, refl, ap, sym, ◌∙◌, subst, arith, ◌⊎◌, inl, inr}
-use Rattle.std.proofs.lemmas.Bool.{eqb-true, eq-eqb, cases_Bool}
+use Rattle.std.proofs.Common.{◌≡◌, ℕ, zero, suc, ◌+◌, ◌-◌, ◌≤◌, ◌<◌, ◌==◌, Bool, true, false, List, [], ◌∷◌, ◌++◌, length, take, drop, get_or, append-nil, slice_index, slice_set, min, if◌then◌else◌, length-append, refl, ap, sym, ◌∙◌, subst, arith, ◌⊎◌, inl, inr}
+use Rattle.std.proofs.lemmas.Bool.{eqb-true, cases_Bool}
 use Rattle.std.proofs.lemmas.Option.{slice_get-get_or}
-use Rattle.std.proofs.lemmas.List.{get_or-set_same, get_or-set_other, length-set}
+use Rattle.std.proofs.lemmas.List.{drop_all, length-set}
 use Rattle.dh_ports.specs.declared.marks.Mark.{Mark}
-use Rattle.dh_events.proofs.Turns.{index_set}
-use Rattle.dh_ports.specs.Logs.{at_begin, least, AreMarks, marks_now}
+use Rattle.dh_events.proofs.Turns.{at_place, index_set}
+use Rattle.std.specs.Prelude.{Some, slice_get}
+use Rattle.dh_ports.specs.Logs.{at_begin, least, AreMarks, NotesLow, NotesLows, marks_now}
 
 abbrev pub mark : ℕ → ℕ → Mark
 mark slot left = record { slot = slot; left = left }
@@ -210,12 +211,77 @@ lows_after lows log left m b begun = least_append lows (marks_now left log) m b 
     by_note (inl p) = ap (λ n. least lows m n) p ∙ least_swap lows m (slice_index left m) b
     by_note (inr p) = ap (λ n. least lows m n) (p.0 ∙ itself (slice_index left m) b (sym (p.1 (slice_index left m)) ∙ begun)) ∙ least_swap lows m (slice_index left m) b
 
-pub marks_both : (n : ℕ) (a b : List Mark) → AreMarks n a → AreMarks n b → AreMarks n (a ++ b)
-marks_both n [] b x y i k at = y i k at
-marks_both n (c ∷ a) b x y zero k at = x zero k at
-marks_both n (c ∷ a) b x y (suc i) k at = marks_both n a b (λ j e f. x (suc j) e f) y i k at
+-- Lows in place of lows of the same slots.
 
-pub now_marks : (n : ℕ) (left : List ℕ) (log : List Mark) → AreMarks n log → AreMarks n (marks_now left log)
-now_marks n left [] x i k at = x i k at
-now_marks n left (c ∷ log) x zero k at = let e : (record { slot = c.slot; left = slice_index left c.slot }) ≡ k = cc in subst (λ (j : Mark). j.slot < n) e (x zero c refl)
-now_marks n left (c ∷ log) x (suc i) k at = now_marks n left log (λ j e f. x (suc j) e f) i k at
+pub mark_there : (marks : List Mark) (place : ℕ) (b : Mark) → slice_get marks place ≡ Some b → place < length marks
+mark_there [] place b e = cc
+mark_there (c ∷ marks) zero b e = some (length marks)
+  where
+    some : (n : ℕ) → 0 < suc n
+    some n = omega arith
+mark_there (c ∷ marks) (suc place) b e = next place (length marks) (mark_there marks place b e)
+  where
+    next : (k n : ℕ) → k < n → suc k < suc n
+    next k n h = omega (arith, h)
+
+same_mark : (a b : Mark) → Some a ≡ Some b → a ≡ b
+same_mark a b e = cc
+
+lower_known : (lows : List Mark) (i k v w m x : ℕ) → slice_get lows i ≡ Some (mark k w) → least (slice_set lows i (mark k (min w v))) m x ≡ least (lows ++ mark k v ∷ []) m x
+lower_known [] i k v w m x e = cc
+lower_known (b ∷ lows) zero k v w m x e =
+    by_test (k == m)
+    ∙ (sym (ap (λ n. if k == m then min w n else n) (least_append lows (mark k v ∷ []) m x))
+    ∙ sym (ap (λ c. least ((c ∷ lows) ++ mark k v ∷ []) m x) (same_mark b (mark k w) e)))
+  where
+    grouped : (a c n : ℕ) → min (min a c) n ≡ min a (min c n)
+    grouped a c n = grind arith
+
+    by_test : (t : Bool) → (if t then min (min w v) (least lows m x) else least lows m x) ≡ (if t then min w (least lows m (if t then min v x else x)) else least lows m (if t then min v x else x))
+    by_test true = grouped w v (least lows m x) ∙ ap (λ n. min w n) (sym (least_min lows m v x))
+    by_test false = refl
+lower_known (b ∷ lows) (suc i) k v w m x e = ap (λ n. if b.slot == m then min b.left n else n) (lower_known lows i k v w m x e)
+
+set_marks : (n : ℕ) (lows : List Mark) (i : ℕ) (b : Mark) → b.slot < n → AreMarks n lows → AreMarks n (slice_set lows i b)
+set_marks n [] i b inside are j c e = are j c e
+set_marks n (x ∷ lows) zero b inside are zero c e = subst (λ (y : Mark). y.slot < n) (same_mark b c e) inside
+set_marks n (x ∷ lows) zero b inside are (suc j) c e = are (suc j) c e
+set_marks n (x ∷ lows) (suc i) b inside are zero c e = are zero c e
+set_marks n (x ∷ lows) (suc i) b inside are (suc j) c e = set_marks n lows i b inside (λ l d f. are (suc l) d f) j c e
+
+-- a low is added, or put in the place of one of its slot
+pub low_added : (old new : List Mark) (low : Mark) → new ≡ old ++ low ∷ [] → NotesLow old new low
+low_added old new low e = record {
+  noted = λ m x. ap (λ l. least l m x) e;
+  marks = λ n inside are. subst (λ (l : List Mark). AreMarks n l) (sym e) (marks_more n old low.slot low.left are inside);
+}
+
+pub low_put : (old new : List Mark) (place before left : ℕ) (low : Mark) → slice_get old place ≡ Some (mark low.slot before) → left ≡ min before low.left → new ≡ slice_set old place (mark low.slot left) → NotesLow old new low
+low_put old new place before left low at is e = record {
+  noted = λ m x. ap (λ l. least l m x) so ∙ lower_known old place low.slot low.left before m x at;
+  marks = λ n inside are. subst (λ (l : List Mark). AreMarks n l) (sym so) (set_marks n old place (mark low.slot (min before low.left)) inside are);
+}
+  where
+    so : new ≡ slice_set old place (mark low.slot (min before low.left))
+    so = e ∙ ap (λ n. slice_set old place (mark low.slot n)) is
+
+-- one mark of the log more
+module _ (left : List ℕ) (log : List Mark) (i : ℕ) (d : Mark) (start old new : List Mark) (inside : i < length log) (note : NotesLow old new (mark (get_or log i d).slot (slice_index left (get_or log i d).slot))) where
+  pub lows_turn : ((m x : ℕ) → least (old ++ marks_now left (drop i log)) m x ≡ least (start ++ marks_now left log) m x) → (m x : ℕ) → least (new ++ marks_now left (drop (i + 1) log)) m x ≡ least (start ++ marks_now left log) m x
+  lows_turn so m x =
+      least_append new (marks_now left (drop (i + 1) log)) m x
+      ∙ (note.noted m (least (marks_now left (drop (i + 1) log)) m x)
+      ∙ (least_append old (mark (get_or log i d).slot (slice_index left (get_or log i d).slot) ∷ []) m (least (marks_now left (drop (i + 1) log)) m x)
+      ∙ (sym (least_append old (mark (get_or log i d).slot (slice_index left (get_or log i d).slot) ∷ marks_now left (drop (i + 1) log)) m x)
+      ∙ (ap (λ l. least (old ++ marks_now left l) m x) (sym (at_place log i d inside))
+      ∙ so m x))))
+
+  pub lows_marks : ((n : ℕ) → AreMarks n log → AreMarks n start → AreMarks n old) → (n : ℕ) → AreMarks n log → AreMarks n start → AreMarks n new
+  lows_marks so n are first = note.marks n (are i (get_or log i d) (slice_get-get_or log i d inside)) (so n are first)
+
+pub lows_done : (left : List ℕ) (log : List Mark) (i : ℕ) (start old : List Mark) → length log ≤ i → ((m x : ℕ) → least (old ++ marks_now left (drop i log)) m x ≡ least (start ++ marks_now left log) m x) → ((n : ℕ) → AreMarks n log → AreMarks n start → AreMarks n old) → NotesLows left log start old
+lows_done left log i start old past so marks = record {
+  noted = λ m x.
+      ap (λ l. least l m x) (sym (append-nil old)) ∙ (ap (λ l. least (old ++ marks_now left l) m x) (sym (drop_all i log past)) ∙ so m x);
+  marks = marks;
+}

@@ -4,7 +4,7 @@ use Rattle.std.proofs.Common.{◌≡◌, ℕ, ◌-◌, ◌<◌, ◌==◌, true, 
 use Rattle.std.proofs.lemmas.Bool.{eqb-true, cases_Bool}
 use Rattle.dh_ports.specs.declared.marks.Mark.{Mark}
 use Rattle.dh_ports.specs.Logs.{at_begin, least, marks_now}
-use Rattle.dh_ports.specs.Levels.{Floor, Level, level, floor, taken, kept_back, settled}
+use Rattle.dh_ports.specs.Levels.{Floor, Level, level, taken, kept_back}
 use Rattle.dh_events.proofs.Turns.{index_set}
 use Rattle.dh_ports.proofs.LogFacts.{mark, logged_turn, lows_after}
 
@@ -37,10 +37,10 @@ module _ (left : List ℕ) (log log1 lows : List Mark) (floors : ℕ → List Fl
           ∙ sym (ap (λ t. if t then level_with lows floors s (slice_index left s - m) (at_begin log s (slice_index left s)) else level_by left log lows floors s) e)
 
 -- a part is given back
-pub back_level : (left left1 : List ℕ) (log log1 lows lows1 : List Mark) (floors : ℕ → List Floor) (s : ℕ) → slice_index left1 s ≡ at_begin log s (slice_index left s) → log1 ≡ [] → lows1 ≡ lows ++ marks_now left log
+pub back_level : (left left1 : List ℕ) (log log1 lows lows1 : List Mark) (floors : ℕ → List Floor) (s : ℕ) → slice_index left1 s ≡ at_begin log s (slice_index left s) → log1 ≡ [] → ((n : ℕ) → least lows1 s n ≡ least (lows ++ marks_now left log) s n)
     → level_by left1 log1 lows1 floors s ≡ kept_back (level_by left log lows floors s)
 back_level left left1 log log1 lows lows1 floors s undone empty noted =
     ap (λ l. level_by left1 l lows1 floors s) empty
     ∙ (ap (λ n. level n n (least lows1 s n) (floors n)) undone
     ∙ ap (λ m. level (at_begin log s (slice_index left s)) (at_begin log s (slice_index left s)) m (floors (at_begin log s (slice_index left s))))
-    (ap (λ l. least l s (at_begin log s (slice_index left s))) noted ∙ lows_after lows log left s (at_begin log s (slice_index left s)) refl))
+    (noted (at_begin log s (slice_index left s)) ∙ lows_after lows log left s (at_begin log s (slice_index left s)) refl))

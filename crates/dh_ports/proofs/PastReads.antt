@@ -1,8 +1,8 @@
 -- What happened so far, with the classes of reads: which of it spends a slot, and that reads of one class are shared.
-use Rattle.std.proofs.Common.{◌≡◌, ℕ, suc, ◌+◌, ◌<◌, ◌≤◌, ◌==◌, ◌&&◌, ◌||◌, not, Bool, true, false, if◌then◌else◌, List, [], ◌∷◌, ◌++◌, refl, ap, sym, ◌∙◌, subst, arith, ◌⊎◌, inl, inr}
+use Rattle.std.proofs.Common.{◌≡◌, ℕ, suc, ◌+◌, ◌<◌, ◌≤◌, ◌==◌, ◌&&◌, ◌||◌, not, Bool, true, false, if◌then◌else◌, List, [], ◌∷◌, ◌++◌, refl, ap, sym, ◌∙◌, subst, arith}
 use Rattle.std.specs.Prelude.{Option, Some, None, slice_get}
 use Rattle.std.specs.Option.{is_some}
-use Rattle.std.proofs.lemmas.Bool.{eqb-true, eq-eqb, or_cases}
+use Rattle.std.proofs.lemmas.Bool.{eqb-true, eq-eqb}
 use Rattle.dh_tree.specs.Memories.{same_entity}
 use Rattle.dh_tree.specs.PlainTrees.{Program}
 use Rattle.dh_meaning.specs.OnePhase.{in_one_phase}
@@ -18,7 +18,7 @@ use Rattle.dh_ports.specs.Scanned.{key_with}
 use Rattle.dh_events.specs.Structures.{AreDistinct, DescribesElement, element_newest}
 use Rattle.dh_ports.proofs.AlikeNumbers.{element_alike}
 use Rattle.dh_ports.proofs.AlikeFacts.{element_number, first_element, second_element, element_newest_alike, element_most, element_least, element_newest_same}
-use Rattle.dh_ports.proofs.MentionedSame.{set_by, set_in, unset_where, reassigned_where, element_mentioned}
+use Rattle.dh_ports.proofs.MentionedSame.{set_by, set_in, unset_where, reassigned_where}
 
 absurd : {A : Type 0} → ⊥ → A
 absurd e = elim e [ ]

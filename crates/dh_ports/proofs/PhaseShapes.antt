@@ -1,14 +1,13 @@
 -- How many phases lists of phases are (none, one Straight phase, or others), which phase is open behind them,
 -- and where accesses stand in the phases that are joined from those of parts.
-use Rattle.std.proofs.Common.{◌≡◌, ℕ, suc, ◌+◌, ◌≤◌, ◌==◌, ◌&&◌, ◌||◌, nat_le, not, Bool, true, false, if◌then◌else◌, List, [], ◌∷◌, ◌++◌, min, max, ◌⊎◌, inl, inr, refl, ap, sym, ◌∙◌, subst, arith}
+use Rattle.std.proofs.Common.{◌≡◌, ℕ, ◌+◌, ◌≤◌, ◌==◌, ◌&&◌, ◌||◌, nat_le, not, Bool, true, false, if◌then◌else◌, List, [], ◌∷◌, ◌++◌, min, max, ◌⊎◌, inl, inr, refl, ap, sym, ◌∙◌, subst, arith}
 use Rattle.std.specs.Prelude.{Option, Some, None}
-use Rattle.std.specs.List.{list_any}
 use Rattle.std.proofs.lemmas.List.Folds.{list_any-append}
 use Rattle.dh_meaning.specs.OnePhase.{makes, any_makes}
-use Rattle.dh_meaning.specs.Phases.{Located, Phase, straight, turns, repeated, decided, Phases, of_list, one_straight, joined, are_straight, folded}
+use Rattle.dh_meaning.specs.Phases.{Located, Phase, straight, turns, repeated, decided, one_straight, joined, are_straight, folded}
 use Rattle.dh_events.specs.declared.noting.Open.{Open}
 use Rattle.dh_events.specs.Incidents.{phase_at, open_phases, open_at, closed}
-use Rattle.dh_ports.proofs.PhaseRuns.{Run, tag_of, stands, times, straight_run, flat_one, flat_all, flat, or_none, or_assoc, or_both, runs_nil, flat_append, flat_straight, stands_append, times_append}
+use Rattle.dh_ports.proofs.PhaseRuns.{tag_of, stands, times, straight_run, flat_one, flat, or_none, or_assoc, or_both, runs_nil, flat_append, flat_straight, stands_append, times_append}
 
 -- none, one Straight phase, or others
 abbrev pub some_straight : List Located → ℕ

@@ -1,6 +1,6 @@
 -- Each access of a command has the number of the run in which it stands: of the command's phases, or of those of
 -- a loop without phases inside it.
-use Rattle.std.proofs.Common.{◌≡◌, ℕ, zero, suc, ◌+◌, ◌≤◌, ◌<◌, ◌==◌, ◌&&◌, ◌||◌, nat_le, nat_lt, not, Bool, true, false, if◌then◌else◌, List, [], ◌∷◌, ◌++◌, min, max, ◌⊎◌, inl, inr, refl, ap, sym, ◌∙◌, subst, arith}
+use Rattle.std.proofs.Common.{◌≡◌, ℕ, suc, ◌+◌, ◌≤◌, ◌==◌, ◌&&◌, ◌||◌, nat_le, not, Bool, true, false, if◌then◌else◌, List, [], ◌∷◌, ◌++◌, max, inl, inr, refl, ap, sym, ◌∙◌, subst, arith}
 use Rattle.std.proofs.lemmas.Bool.Decides.{nat_tests}
 use Rattle.std.specs.Prelude.{Option, Some, None}
 use Rattle.dh_base.specs.declared.places.Place.{Place}
@@ -8,21 +8,21 @@ use Rattle.dh_value.specs.declared.kinds.Kind.{Kind}
 use Rattle.dh_tree.specs.PlainTrees.{Term, term, TermForm, number, truth_value, named, accessed, in_bank, applied, converted, Terms, no_terms, term_then, shrinks, splits, suffixes, shifts, Action, action, ActionForm, lets, lets_memory, views, assigns, stores, reduces, calls, blocks, decides, repeats, counts, MaybeAction, no_action, one_action, Actions, no_actions, action_then, Groups, no_groups, group_then}
 use Rattle.dh_tree.specs.Seen.{terms}
 use Rattle.dh_tree.specs.ViewOffsets.{offsets_of}
-use Rattle.dh_meaning.specs.AccessNumbers.{term_accesses, own_accesses, accesses_of, other_accesses, part_accesses, terms_accesses}
-use Rattle.dh_meaning.specs.OnePhase.{is_within, makes, other_makes, test_makes}
-use Rattle.dh_meaning.specs.Phases.{Located, Phase, turns, repeated, decided, of_list, joined, are_straight, one_command, folded, turn_count, turn_phases, choice_phases, located, phases, form_phases, other_phases, groups_phases, parts_phases, unless_turns, idle_phases, idle_form_phases, idle_other_phases, idle_groups_phases, idle_part_phases}
+use Rattle.dh_meaning.specs.AccessNumbers.{term_accesses, accesses_of, part_accesses, terms_accesses}
+use Rattle.dh_meaning.specs.OnePhase.{is_within, makes, test_makes}
+use Rattle.dh_meaning.specs.Phases.{Located, Phase, decided, of_list, joined, are_straight, one_command, folded, turn_count, turn_phases, choice_phases, located, phases, form_phases, other_phases, groups_phases, parts_phases, unless_turns, idle_phases, idle_form_phases, idle_other_phases, idle_groups_phases, idle_part_phases}
 use Rattle.dh_meaning.specs.Sites.{Around, in_arm, in_loop, loop_of}
 use Rattle.dh_events.specs.declared.events.Site.{Site}
 use Rattle.dh_events.specs.declared.noting.Open.{Open}
 use Rattle.dh_events.specs.Incidents.{Incident, touches, assigned, arm_begins, arm_ends, begins, next, ends, site_at, term_incidents, form_incidents, terms_incidents, maybe_incidents, target_incidents, is_stepped, closed, released, phase_at, phase_of, tested, inside_choice, into_combine, round_inside, when_parted, arms_part, are_parts, open_after, part_open, open_combine, incidents, command_incidents, other_incidents, combine_incidents, groups_incidents, part_incidents}
-use Rattle.dh_events.specs.Stages.{loop_stage, stage_of, form_stage, other_stage, groups_stage, part_stage}
+use Rattle.dh_events.specs.Stages.{stage_of, form_stage, other_stage, groups_stage, part_stage}
 use Rattle.dh_ports.specs.Courses.{count}
 use Rattle.dh_ports.proofs.CourseTies.{count_append}
 use Rattle.dh_ports.proofs.IncidentTies.{term_count, maybe_count, target_count, action_count, part_count, terms_count}
 use Rattle.dh_ports.proofs.PhaseRuns.{tag_of, stands, flat_all, flat, or_none, or_assoc, or_both, runs_nil, flat_append, flat_of_list, stands_append}
-use Rattle.dh_ports.proofs.PhaseShapes.{size, most, last_behind, opened, next_going, going_opened, last_opened, opened_joined, into, into_none, all_stand, Fits, joined_stands, folded_stands, beside_stands, straight_stands, straight_size, full_joined, max_right, tops}
+use Rattle.dh_ports.proofs.PhaseShapes.{size, next_going, going_opened, last_opened, into, into_none, all_stand, joined_stands, folded_stands, beside_stands, straight_stands, straight_size, full_joined, max_right, tops}
 use Rattle.dh_ports.proofs.StagesKnown.{Known, KnownInside, KnownOther, KnownGroups, KnownPart}
-use Rattle.dh_ports.proofs.PhaseSizes.{choice_straight, TurnCases, loop_turns, stage_size, other_size, groups_size, part_size, groups_full, other_full, makes_tops, other_tops, max_first, sum_first, sum_second, few_choice, stepped_at, stepped_choice, after, part_straight, part_after, few_parts, within_none}
+use Rattle.dh_ports.proofs.PhaseSizes.{choice_straight, TurnCases, loop_turns, stage_size, other_size, groups_size, part_size, groups_full, makes_tops, other_tops, max_first, sum_first, sum_second, stepped_at, stepped_choice, after, part_straight, few_parts, within_none}
 
 -- the access of a number has this phase
 abbrev pub tells : ℕ → List Incident → (k p : ℕ) → Bool

@@ -1,21 +1,21 @@
 -- How many phases commands have, and which phase is open behind them, as the walk counts and carries them.
-use Rattle.std.proofs.Common.{◌≡◌, ℕ, suc, ◌+◌, ◌≤◌, ◌==◌, ◌&&◌, ◌||◌, nat_le, not, Bool, true, false, if◌then◌else◌, List, [], ◌∷◌, ◌++◌, min, max, ◌⊎◌, inl, inr, refl, ap, sym, ◌∙◌, subst, arith}
-use Rattle.std.proofs.lemmas.Bool.{ne_eqb, or_left, or_right, or_from, and_left}
+use Rattle.std.proofs.Common.{◌≡◌, ℕ, ◌+◌, ◌≤◌, ◌==◌, ◌&&◌, ◌||◌, nat_le, not, Bool, true, false, if◌then◌else◌, List, [], ◌∷◌, min, max, ◌⊎◌, inl, inr, refl, ap, sym, ◌∙◌, subst, arith}
+use Rattle.std.proofs.lemmas.Bool.{ne_eqb, or_left, or_right, or_from}
 use Rattle.std.proofs.lemmas.Bool.Decides.{nat_tests}
-use Rattle.std.specs.Prelude.{Option, Some, None}
+use Rattle.std.specs.Prelude.{Some, None}
 use Rattle.dh_base.specs.declared.places.Place.{Place}
-use Rattle.dh_tree.specs.PlainTrees.{Term, shrinks, splits, suffixes, shifts, Action, action, ActionForm, lets, lets_memory, views, assigns, stores, reduces, calls, blocks, decides, repeats, counts, MaybeAction, no_action, one_action, Actions, no_actions, action_then, Groups, no_groups, group_then}
+use Rattle.dh_tree.specs.PlainTrees.{shrinks, splits, suffixes, shifts, Action, action, ActionForm, lets, lets_memory, views, assigns, stores, reduces, calls, blocks, decides, repeats, counts, MaybeAction, no_action, one_action, Actions, no_actions, action_then, Groups, no_groups, group_then}
 use Rattle.dh_tree.specs.ViewOffsets.{moves}
 use Rattle.dh_meaning.specs.AccessNumbers.{term_accesses, accesses_of, part_accesses}
-use Rattle.dh_meaning.specs.OnePhase.{is_within, makes, form_makes, other_makes, groups_make, part_makes, any_makes}
-use Rattle.dh_meaning.specs.Phases.{Located, Phase, straight, turns, repeated, decided, Phases, of_list, one_straight, joined, are_straight, one_command, folded, turn_count, turn_phases, choice_phases, located, phases, form_phases, other_phases, groups_phases, parts_phases}
+use Rattle.dh_meaning.specs.OnePhase.{is_within, makes, form_makes, other_makes, groups_make, part_makes}
+use Rattle.dh_meaning.specs.Phases.{Located, Phase, straight, turns, repeated, decided, of_list, joined, are_straight, one_command, folded, turn_count, turn_phases, choice_phases, located, phases, form_phases, other_phases, groups_phases, parts_phases}
 use Rattle.dh_meaning.specs.Sites.{Around, in_arm, in_loop, loop_of}
 use Rattle.dh_events.specs.declared.noting.Open.{Open}
-use Rattle.dh_events.specs.Incidents.{open_phases, open_at, closed, released, phase_at, phase_of, tested, inside_choice, behind_loop, is_stepped, open_after, form_open, groups_open, part_open}
+use Rattle.dh_events.specs.Incidents.{open_phases, open_at, released, phase_at, phase_of, tested, inside_choice, behind_loop, is_stepped, open_after, form_open, groups_open, part_open}
 use Rattle.dh_events.specs.Stages.{loop_stage, choice_stage, stage_of, form_stage, other_stage, groups_stage, part_stage}
-use Rattle.dh_ports.proofs.PhaseRuns.{or_none, or_assoc, or_both}
-use Rattle.dh_ports.proofs.PhaseShapes.{size, most, IsFull, straight_size, size_few, some_size, size_joined, full_joined, size_append, full_append, max_right, behind_all, last_behind, opened, opened_all, opened_straight, next_going, going_opened, opened_joined, last_joined, last_append, opened_more, opened_beside, tops, all_tops, tops_append, tops_joined}
-use Rattle.dh_ports.proofs.StagesKnown.{Known, KnownInside, KnownOther, KnownGroups, KnownPart}
+use Rattle.dh_ports.proofs.PhaseRuns.{or_both}
+use Rattle.dh_ports.proofs.PhaseShapes.{size, most, IsFull, straight_size, some_size, size_joined, full_joined, size_append, full_append, max_right, last_behind, opened, opened_all, opened_joined, last_joined, last_append, opened_more, opened_beside, tops, all_tops, tops_append, tops_joined}
+use Rattle.dh_ports.proofs.StagesKnown.{Known, KnownInside, KnownGroups, KnownPart}
 
 -- An `if`.
 

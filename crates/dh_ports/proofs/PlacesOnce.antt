@@ -1,6 +1,6 @@
 -- Ports are spent at one place, and nowhere where they are kept; and the first breach of the rules on ports
 -- is one.
-use Rattle.std.proofs.Common.{◌≡◌, ℕ, ◌+◌, ◌<◌, ◌≤◌, inl, inr, [], ◌∷◌, Option, Some, None, option_map, ap, sym, ◌∙◌, subst, arith, Contains, zero, suc}
+use Rattle.std.proofs.Common.{◌≡◌, ℕ, ◌<◌, ◌≤◌, inl, inr, [], ◌∷◌, Option, Some, None, option_map, ap, sym, ◌∙◌, subst, arith, Contains, zero, suc}
 use Rattle.std.specs.Prelude.{slice_get}
 use Rattle.std.proofs.lemmas.Bool.{cases_lt}
 use Rattle.dh_base.specs.declared.places.Place.{Place}

@@ -5,7 +5,7 @@
 -- moment exactly where it was assigned to since; and that of a slot nothing is left exactly where a read of its
 -- class happened in arms that are all open (`PastReads`, `SpentSlots`). At a read, the slot of its class is then
 -- spent exactly where an earlier read of an equal key stands in open arms, which is that it shares one.
-use Rattle.std.proofs.Common.{◌≡◌, ℕ, zero, suc, ◌+◌, ◌-◌, ◌<◌, ◌≤◌, ◌==◌, Bool, true, false, if◌then◌else◌, List, [], ◌∷◌, ◌++◌, length, map, replicate, refl, ap, sym, ◌∙◌, subst, arith}
+use Rattle.std.proofs.Common.{◌≡◌, ℕ, zero, suc, ◌+◌, ◌<◌, ◌≤◌, ◌==◌, Bool, true, false, if◌then◌else◌, List, [], ◌∷◌, ◌++◌, length, replicate, refl, ap, sym, ◌∙◌, subst, arith}
 use Rattle.std.specs.Prelude.{Option, Some, None, slice_get, slice_index}
 use Rattle.std.specs.Option.{is_some}
 use Rattle.std.proofs.lemmas.List.{get_or-replicate}
@@ -15,7 +15,7 @@ use Rattle.dh_tree.specs.PlainTrees.{Term, term, Program}
 use Rattle.dh_tree.specs.declared.trees.expressions.Expr.{Expr}
 use Rattle.dh_tree.specs.Seen.{form_seen, term_seen}
 use Rattle.dh_meaning.specs.Sites.{Arm, nothing_around}
-use Rattle.dh_meets.specs.Sharing.{share_among, share_in, shared}
+use Rattle.dh_meets.specs.Sharing.{share_among, share_in}
 use Rattle.dh_meets.specs.SourceEvents.{Element, SourceAccess, SourceEvent, accesses, trace}
 use Rattle.dh_events.specs.declared.classes.Key.{Key}
 use Rattle.dh_events.specs.declared.events.Event.{Event}
@@ -23,21 +23,20 @@ use Rattle.dh_events.specs.declared.events.Event.TheVariants as event
 use Rattle.dh_events.specs.declared.events.Site.{Site}
 use Rattle.dh_ports.specs.declared.levels.Step.{Step}
 use Rattle.dh_ports.specs.declared.levels.Step.TheVariants as step
-use Rattle.dh_events.specs.declared.structures.Structure.{Structure}
-use Rattle.dh_events.specs.Accesses.{entity_in, element_in}
+use Rattle.dh_events.specs.Accesses.{entity_in}
 use Rattle.dh_events.specs.Classes as classes
 use Rattle.dh_events.specs.Elements.{assigned_at, clocks_after, element_of, IsElement, IsRead, AreReads, no_clocks}
 use Rattle.dh_events.specs.Incidents.{Incident, touches, arm_begins, arm_ends, begins, next, ends, site_at, closed, incidents}
 use Rattle.dh_events.specs.Incidents as incident
-use Rattle.dh_ports.specs.Levels.{Level, start, left_before, lefts_of, lefts_from, begun, gone_back, taken, advance}
+use Rattle.dh_ports.specs.Levels.{Level, start, left_before, lefts_of, lefts_from, begun, gone_back, advance}
 use Rattle.dh_events.specs.Noted.{event_seen, all_seen}
-use Rattle.dh_ports.specs.Scanned.{shares, all_share, key_with, read_key, TakesOf, IsSharing, AreSharing, FindsShared}
+use Rattle.dh_ports.specs.Scanned.{shares, all_share, key_with, TakesOf, IsSharing, AreSharing, FindsShared}
 use Rattle.dh_events.specs.Stages.{stages_in}
 use Rattle.dh_events.specs.Structures.{AreDistinct}
 use Rattle.dh_ports.specs.Wholes.{no_stages, happenings_of, at_touches, Touched, touched_by, of_access, sites_in, TellsPhases, AreEventsOf, TellsShared}
 use Rattle.dh_ports.proofs.AccessClaims.{Follows, follow_here, follow_next, follow_all}
 use Rattle.dh_ports.proofs.JoinedWalks.{Happens, touch_of, set_at, arm_opens, arm_closes, parts_begin, part_next, parts_end, incident_of, incidents_of, events_of, Runs, walked}
-use Rattle.dh_ports.proofs.PastReads.{Noted, noted_access, noted_set, happened, happened_append, spends, Walk, IsSlot, Classed, Held, Kept, Phased, shared_among, none_among, write_alone}
+use Rattle.dh_ports.proofs.PastReads.{Noted, noted_access, noted_set, happened, happened_append, spends, Walk, IsSlot, Classed, Held, Phased, shared_among, none_among, write_alone}
 use Rattle.dh_ports.proofs.SpentSlots.{Standing, stands_later, stands_set, stands_opens, stands_closes, stands_write, stands_other, stands_read}
 
 absurd : {A : Type 0} → ⊥ → A

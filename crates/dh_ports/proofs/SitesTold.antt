@@ -1,19 +1,17 @@
 -- Two accesses of a program stand in one Straight phase exactly where their incidents have one phase, and the
 -- unrolled loops round each are those that its incident names.
-use Rattle.std.proofs.Common.{◌≡◌, ℕ, zero, suc, ◌+◌, ◌≤◌, ◌<◌, ◌==◌, ◌&&◌, ◌||◌, Bool, true, false, List, [], ◌∷◌, ◌++◌, map, refl, ap, sym, ◌∙◌, subst, arith}
+use Rattle.std.proofs.Common.{◌≡◌, ℕ, zero, suc, ◌+◌, ◌≤◌, ◌<◌, ◌==◌, ◌&&◌, ◌||◌, Bool, true, false, List, [], ◌∷◌, ◌++◌, refl, ap, sym, ◌∙◌, arith}
 use Rattle.std.proofs.lemmas.Bool.{eq-eqb, eqb-true, ne_eqb}
 use Rattle.std.proofs.lemmas.Option.{slice_get-map}
 use Rattle.std.specs.Prelude.{Option, Some, None, option_map, slice_get}
-use Rattle.std.specs.List.{list_any}
 use Rattle.dh_tree.specs.declared.trees.counters.Counter.{Counter}
 use Rattle.dh_tree.specs.Numbers.{commands_in, IsNumbered}
 use Rattle.dh_tree.specs.PlainTrees.{Program}
-use Rattle.dh_meaning.specs.OnePhase.{in_one_phase, holds_both}
 use Rattle.dh_meaning.specs.Phases.{Phase, phases_of, idle_phases_of}
 use Rattle.dh_meaning.specs.Sites.{nothing_around}
-use Rattle.dh_meets.specs.SourceEvents.{SourceAccess, accesses_in, trace}
+use Rattle.dh_meets.specs.SourceEvents.{accesses_in, trace}
 use Rattle.dh_events.specs.declared.events.Site.{Site}
-use Rattle.dh_events.specs.Incidents.{Incident, touches, assigned, arm_begins, arm_ends, begins, next, ends, closed, incidents}
+use Rattle.dh_events.specs.Incidents.{Incident, touches, assigned, arm_begins, arm_ends, begins, next, ends, closed}
 use Rattle.dh_events.specs.Rounds.{rounds_in}
 use Rattle.dh_events.specs.Stages.{stages_in}
 use Rattle.dh_ports.specs.Layouts.{no_rounds}
@@ -22,9 +20,9 @@ use Rattle.dh_ports.proofs.PhaseRuns.{in_any, stands, times, flat, phases_told, 
 use Rattle.dh_ports.proofs.PhaseShapes.{into_none}
 use Rattle.dh_ports.proofs.StagesKnown.{known}
 use Rattle.dh_ports.proofs.PhaseSites.{tells, idle_append, told}
-use Rattle.dh_ports.proofs.PhaseTags.{one_in, runs_append, tagged, one_at_most}
+use Rattle.dh_ports.proofs.PhaseTags.{runs_append, tagged, one_at_most}
 use Rattle.dh_ports.proofs.LoopsKnown as loops
-use Rattle.dh_ports.proofs.LoopsTold.{loops_at, looped, seen_in, action_same}
+use Rattle.dh_ports.proofs.LoopsTold.{loops_at, action_same}
 
 tells_early : (n : ℕ) (xs : List Incident) (k p : ℕ) → k < n → tells n xs k p ≡ false
 tells_early n [] k p e = refl

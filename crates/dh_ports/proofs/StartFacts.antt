@@ -1,5 +1,5 @@
 -- What indices are in the first copy, and which loop has an iterator.
-use Rattle.std.proofs.Common.{◌≡◌, ℕ, zero, suc, add-one, ◌+◌, ◌-◌, ◌*◌, ◌%◌, ◌<◌, ◌≤◌, ◌==◌, Bool, true, false, if◌then◌else◌, List, [], ◌∷◌, ◌++◌, append_assoc, length, replicate, drop, get_or, refl, ap, sym, ◌∙◌, subst, arith, ◌⊎◌, inl, inr, ℤ}
+use Rattle.std.proofs.Common.{◌≡◌, ℕ, zero, suc, add-one, ◌+◌, ◌*◌, ◌%◌, ◌<◌, ◌≤◌, true, false, if◌then◌else◌, List, [], ◌∷◌, ◌++◌, append_assoc, length, replicate, drop, get_or, refl, ap, sym, ◌∙◌, subst, arith, ◌⊎◌, inl, inr, ℤ}
 use Rattle.std.specs.Prelude.{Option, Some, None, option_map, slice_index, slice_index_or, pos, ◌+ℤ◌, unsigned_abs}
 use Rattle.std.specs.List.{AllByRecursion}
 use Rattle.std.proofs.lemmas.Bool.{cases_Bool, cases_lt, eqb-true}
@@ -14,7 +14,7 @@ use Rattle.dh_tree.specs.Elements.{banks_of}
 use Rattle.dh_tree.specs.Indices as indices
 use Rattle.dh_tree.specs.Indices.{constant, iterator, dynamic}
 use Rattle.dh_tree.specs.Memories.{Memory, number_in, same_entity}
-use Rattle.dh_tree.specs.Shapes.{IsDim, IsMemory, IsProgramTable}
+use Rattle.dh_tree.specs.Shapes.{IsDim, IsMemory}
 use Rattle.dh_tree.specs.Tables.{elements_of, elements_in}
 use Rattle.dh_meaning.specs.Paths.{Path}
 use Rattle.dh_meets.specs.Charges.{index_in, level_of_loop}

@@ -1,7 +1,6 @@
 -- How accesses claim banks: with how many keys each reaches which bank. All banks of all memories stand in one
 -- list, memory by memory, and go by their places there.
-use Rattle.std.specs.Prelude.{◌≡◌, ℕ, zero, suc, ◌+◌, ◌<◌, ◌≤◌, ◌==◌, nat_lt, if◌then◌else◌, Bool, List, [], ◌∷◌, ◌++◌, length, map, replicate, slice_get, slice_index, Option, Some, None, Vec}
-use Rattle.std.specs.Global.{Global}
+use Rattle.std.specs.Prelude.{◌≡◌, ℕ, zero, suc, ◌+◌, ◌≤◌, ◌==◌, nat_lt, if◌then◌else◌, Bool, List, [], ◌∷◌, ◌++◌, length, map, replicate, slice_get, slice_index, Option, Some, None}
 use Rattle.std.specs.List.{filter}
 use Rattle.std.specs.Set.{distinct_count}
 use Rattle.dh_tree.specs.declared.tables.Dim.{Dim}
@@ -11,14 +10,13 @@ use Rattle.dh_tree.specs.declared.trees.expressions.Expr.{Expr}
 use Rattle.dh_tree.specs.Counters.{counters_of}
 use Rattle.dh_tree.specs.Elements.{banks_of}
 use Rattle.dh_tree.specs.Memories.{memories_of, number_in, table_of}
-use Rattle.dh_tree.specs.PlainTrees.{Term, term, TermForm, number, truth_value, named, accessed, in_bank, applied, converted, no_terms, Program}
+use Rattle.dh_tree.specs.PlainTrees.{Term, term, Program}
 use Rattle.dh_tree.specs.Seen.{term_seen}
-use Rattle.dh_meaning.specs.Bindings.{Binding}
 use Rattle.dh_meaning.specs.Ways as ways
 use Rattle.dh_meaning.specs.Ways.{Way, all_bindings_of, way_to}
-use Rattle.dh_meaning.specs.Paths.{Path, same_path}
+use Rattle.dh_meaning.specs.Paths.{same_path}
 use Rattle.dh_meets.specs.Charges.{bank_reached, charge_through, key_of, paths_of}
-use Rattle.dh_meets.specs.SourceEvents.{Element, with_indices, in_row, SourceAccess}
+use Rattle.dh_meets.specs.SourceEvents.{SourceAccess}
 use Rattle.dh_ports.specs.declared.moves.Move.{Move}
 use Rattle.dh_ports.specs.declared.moves.Move.TheVariants as move
 use Rattle.dh_events.specs.Accesses.{entity_in, element_in}

@@ -22,13 +22,17 @@ use Rattle.dh_meets.specs.FewCopies.{most_copies}
 abbrev pub no_rounds : ℕ → List Counter
 no_rounds id = []
 
+-- the unrolled loops of a program are noted so
+abbrev pub AreRoundsOf : Program → List (Vec Counter Global) → Type 0
+AreRoundsOf p rounds = rounds_of rounds ≡ rounds_in [] p.body no_rounds
+
 -- where loops are unrolled, it is known where variables are declared
 abbrev pub AreScopesWhere : Program → (rounds : List (Vec Counter Global)) → (scopes : List (Option Scope)) → Type 0
 AreScopesWhere p rounds scopes = (id : ℕ) → (rounds_of rounds id ≡ [] → ⊥) → AreScopes (all_bindings_of p) scopes
 
 pub record IsLayout (p : Program) (layout : Layout) : Type 0 where
   pub bases : AreBases (table_of p) layout.bases.items
-  pub rounds : rounds_of layout.rounds.items ≡ rounds_in [] p.body no_rounds
+  pub rounds : AreRoundsOf p layout.rounds.items
   pub scopes : AreScopesWhere p layout.rounds.items layout.scopes.items
   pub ways : map led_seen layout.ways ≡ ways_of p
   pub carriers : AreEach layout.ways layout.carriers.items

@@ -3,13 +3,17 @@ pub mod Levels
 pub mod Courses
 pub mod Expanded
 pub mod Claims
+pub mod Runs
 pub mod Banks
 pub mod Copies
 pub mod Carriers
 pub mod CarriersMade
 pub mod Layouts
 pub mod Scanned
+pub mod Orders
+pub mod Passing
 pub mod Told
 pub mod Spent
 pub mod WritesFound
 pub mod Wholes
+pub mod SharedSoFar

@@ -1,5 +1,5 @@
 -- Logs of what was left of slots' ports, as functions of the slot.
-use Rattle.std.specs.Prelude.{◌≡◌, ℕ, ◌<◌, ◌==◌, List, [], ◌∷◌, map, min, slice_index, slice_get, Some, if◌then◌else◌}
+use Rattle.std.specs.Prelude.{◌≡◌, ℕ, ◌<◌, ◌==◌, List, [], ◌∷◌, ◌++◌, map, min, slice_index, slice_get, Option, None, Some, if◌then◌else◌}
 use Rattle.dh_ports.specs.declared.marks.Mark.{Mark}
 
 -- what was left of a slot at a log's begin: what its first mark says, or what is left now
@@ -35,3 +35,22 @@ AreBegun log old new = (m : ℕ) → slice_index new m ≡ at_begin log m (slice
 -- where a log's marks were of these slots, they are
 abbrev pub StaysOfSlots : (slots : ℕ) → (old new : List Mark) → Type 0
 StaysOfSlots slots old new = AreMarks slots old → AreMarks slots new
+
+-- what is told of a slot by a mark, where it is of the slot, and by the mark at a place
+abbrev pub LeftIf : Mark → (slot : ℕ) → Option ℕ → Type 0
+LeftIf mark slot None = Unit {0}
+LeftIf mark slot (Some left) = mark ≡ record { slot = slot; left = left }
+
+abbrev pub LeftAt : List Mark → (place slot : ℕ) → Option ℕ → Type 0
+LeftAt marks place slot None = Unit {0}
+LeftAt marks place slot (Some left) = slice_get marks place ≡ Some (record { slot = slot; left = left })
+
+-- a low more, or a lower one in the place of one of its slot: each slot has the least that both say
+pub record NotesLow (old new : List Mark) (low : Mark) : Type 0 where
+  pub noted : (m x : ℕ) → least new m x ≡ least (old ++ low ∷ []) m x
+  pub marks : (n : ℕ) → low.slot < n → AreMarks n old → AreMarks n new
+
+-- the same of what is left now of the slots of a log
+pub record NotesLows (left : List ℕ) (log old new : List Mark) : Type 0 where
+  pub noted : (m x : ℕ) → least new m x ≡ least (old ++ marks_now left log) m x
+  pub marks : (n : ℕ) → AreMarks n log → AreMarks n old → AreMarks n new

@@ -199,6 +199,42 @@ IsNoted known events move.Begin = Unit {0}
 IsNoted known events move.Next = Unit {0}
 IsNoted known events move.End = Unit {0}
 
+-- the phase of an event that is an access, and of the claim of one
+abbrev pub phase_at : Option Event → ℕ
+phase_at None = 0
+phase_at (Some (event.Touch access writes phase round element newest)) = phase
+phase_at (Some (event.Assigned entity)) = 0
+phase_at (Some event.ArmBegins) = 0
+phase_at (Some event.ArmEnds) = 0
+phase_at (Some event.Begins) = 0
+phase_at (Some event.Next) = 0
+phase_at (Some event.Ends) = 0
+
+abbrev pub move_phase : List Event → Move → ℕ
+move_phase events (move.Claim event bank keys) = phase_at (slice_get events event)
+move_phase events move.Begin = 0
+move_phase events move.Next = 0
+move_phase events move.End = 0
+
+-- a read stands in a phase
+abbrev pub IsReadAt : Option Event → (phase : ℕ) → Type 0
+IsReadAt None phase = ⊥
+IsReadAt (Some (event.Touch access true other round element newest)) phase = ⊥
+IsReadAt (Some (event.Touch access false other round element newest)) phase = other ≡ phase
+IsReadAt (Some (event.Assigned entity)) phase = ⊥
+IsReadAt (Some event.ArmBegins) phase = ⊥
+IsReadAt (Some event.ArmEnds) phase = ⊥
+IsReadAt (Some event.Begins) phase = ⊥
+IsReadAt (Some event.Next) phase = ⊥
+IsReadAt (Some event.Ends) phase = ⊥
+
+abbrev pub HasRead : List Event → (phase : ℕ) → Type 0
+HasRead events phase = (i : ℕ) × IsReadAt (slice_get events i) phase
+
+-- where one does, the claim of a write is noted
+abbrev pub IsNotedFor : List Key → List Event → Move → Type 0
+IsNotedFor known events m = HasRead events (move_phase events m) → IsNoted known events m
+
 abbrev pub IsOrdering : List Key → List Event → Move → Step → Type 0
 IsOrdering known events (move.Claim event bank keys) s = ClaimOrdersAt known (slice_get events event) bank s
 IsOrdering known events move.Begin s = s ≡ step.Begin
@@ -214,7 +250,7 @@ AreOrdering known events _ _ = ⊥
 pub record FindsLate (events : List Event) (moves : List Move) (late : List Breach) : Type 0 where
   pub known : List Key
   pub distinct : AreDistinct known
-  pub written : AllByRecursion (IsNoted known events) moves
+  pub written : AllByRecursion (IsNotedFor known events) moves
   pub steps : List Step
   pub ordering : AreOrdering known events moves steps
   pub told : late ≡ all_late (all_seen events) moves steps (lefts_from (replicate (length known) 1) steps)

@@ -1,5 +1,5 @@
 -- What happens in a whole program, and what each walk over it is to tell.
-use Rattle.std.specs.Prelude.{◌≡◌, ◌↔◌, ℕ, ◌+◌, ◌<◌, ◌==◌, Bool, if◌then◌else◌, List, [], ◌∷◌, map, Contains, Option, Some, None, slice_get}
+use Rattle.std.specs.Prelude.{◌≡◌, ◌↔◌, ℕ, ◌+◌, ◌<◌, ◌==◌, Bool, List, [], ◌∷◌, map, Contains, Option, Some, None, slice_get}
 use Rattle.std.specs.Option.{is_some}
 use Rattle.dh_base.specs.declared.places.Place.{Place}
 use Rattle.dh_base.specs.declared.rules.Rule.TheVariants as rule
@@ -9,7 +9,7 @@ use Rattle.dh_tree.specs.declared.tables.MemEntry.{MemEntry}
 use Rattle.dh_tree.specs.Elements.{banks_of}
 use Rattle.dh_tree.specs.LeastBreach.{breach}
 use Rattle.dh_tree.specs.Memories.{memories_of, number_in, table_of}
-use Rattle.dh_tree.specs.PlainTrees.{Term, term, Action, Program}
+use Rattle.dh_tree.specs.PlainTrees.{Term, term, Program}
 use Rattle.dh_meaning.specs.OnePhase.{in_one_phase}
 use Rattle.dh_meets.specs.Charges.{charge}
 use Rattle.dh_meets.specs.Ports.{KeepsPorts, PortsSpent, ReadsAfterWrite}
@@ -17,17 +17,16 @@ use Rattle.dh_meets.specs.Sharing.{shared}
 use Rattle.dh_meets.specs.SourceEvents.{Element, SourceAccess, accesses_in, trace}
 use Rattle.dh_events.specs.declared.events.Event.{Event}
 use Rattle.dh_events.specs.declared.events.Site.{Site}
-use Rattle.dh_ports.specs.declared.moves.Move.{Move}
 use Rattle.dh_events.specs.declared.structures.Structure.{Structure}
 use Rattle.dh_events.specs.Accesses.{entity_in, element_in}
-use Rattle.dh_ports.specs.Claims.{access_of, base_of, claims_of, moves_from}
+use Rattle.dh_ports.specs.Claims.{base_of, claims_of}
 use Rattle.dh_events.specs.Elements.{AreReads, no_clocks}
 use Rattle.dh_ports.specs.Expanded.{all_taken}
 use Rattle.dh_events.specs.Incidents.{Incident, touches, assigned, arm_begins, arm_ends, begins, next, ends, closed, incidents}
 use Rattle.dh_ports.specs.Layouts.{no_rounds}
 use Rattle.dh_events.specs.Noted.{all_seen}
 use Rattle.dh_events.specs.Rounds.{rounds_in}
-use Rattle.dh_ports.specs.Scanned.{spending_step, spent_place, FindsLate, FindsShared}
+use Rattle.dh_ports.specs.Scanned.{spending_step}
 use Rattle.dh_events.specs.Stages.{stages_in}
 use Rattle.dh_events.specs.Structures.{AreDistinct}
 

@@ -13,7 +13,7 @@ use crate::laws::{
 };
 use crate::moves::{all_moves, layout_of};
 use crate::ordering::keep_late;
-use crate::sharing::find_shared;
+use crate::sharing::Sharing;
 use crate::spending::first_spent;
 use dh_base::{NoMemory, PassFault, Place, Rule};
 use dh_events::{Event, Notes, note_body, note_stages};
@@ -48,12 +48,13 @@ fn first_among(
     shared_reads_are_found();
     spent_ports_are_told();
     late_reads_are_told();
-    let shared = find_shared(alloc, events)?;
+    let mut sharing = Sharing::new(alloc, events.len())?;
     let layout = layout_of(alloc, typed)?;
-    let moves = all_moves(alloc, typed, &layout, events)?;
-    let spent = first_spent(alloc, typed, events, shared.as_slice(), moves.as_slice())?;
+    let moves = all_moves(alloc, typed, &layout, &mut sharing, events)?;
+    let shared = sharing.flags();
+    let spent = first_spent(alloc, typed, events, shared, moves.as_slice())?;
     let mut kept = spent_at(spent);
-    keep_late(alloc, &mut kept, events, moves.as_slice())?;
+    keep_late(alloc, &mut kept, events, &sharing, moves.as_slice())?;
     Ok(kept)
 }
 
@@ -65,7 +66,7 @@ fn first_breach(alloc: Global, typed: &Typed) -> Result<Option<Breach>, NoMemory
     let body = &typed.tree().body;
     let mut stages = Vec::new(alloc);
     note_stages(&mut stages, body)?;
-    let mut notes = Notes::new(alloc);
+    let mut notes = Notes::for_commands(alloc, stages.len())?;
     note_body(&mut notes, stages.as_slice(), body)?;
     // the notes are dropped at one place: what comes of them is found in a function of its own
     first_among(alloc, typed, notes.events.as_slice())

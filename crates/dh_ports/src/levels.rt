@@ -1,11 +1,12 @@
-//! What is left of some slots before each step of a list of steps.
+//! What is left of some slots, while steps are taken.
 
-ghost use Rattle.std.specs.Prelude.{◌≡◌, ◌≤◌, ◌+◌, IfOk, length};
-ghost use Rattle.dh_ports.specs.Levels.{level_at, taken, begun, kept_back, gone_back, advance, left_before, lefts_from, IsKept, Settles, Turns};
+ghost use Rattle.std.specs.Prelude.{◌≡◌, [], ℕ, ◌≤◌, ◌+◌, IfOk, length, slice_index};
+ghost use Rattle.dh_ports.specs.Levels.{level_at, start, taken, begun, kept_back, gone_back, advance, left_before, IsKept, Settles, Turns};
 
 use crate::marks::{Mark, lower, note_lows, undo};
 use dh_base::NoMemory;
 use std::alloc::Global;
+use std::mem;
 
 /// A step that concerns slots.
 #[derive(Clone, Copy)]
@@ -49,10 +50,46 @@ pub struct Levels {
     pub lows: Vec<Mark>,
     /// The parts round it, from the outside.
     pub outer: Vec<Frame>,
+    /// The lists of parts that ended, for parts to come: what stands in them counts for nothing.
+    pub spare: Vec<Frame>,
+}
+
+/// The lists of a part of which nothing is noted: those of one that ended, where there are some.
+fn blank(alloc: Global, spare: &mut Vec<Frame>) -> Frame
+    ensures log { result.log.items ≡ [] }
+    ensures lows { result.lows.items ≡ [] }
+{
+    match spare.pop() {
+        Some(frame) => {
+            let Frame { mut log, mut lows } = frame;
+            log.clear();
+            lows.clear();
+            Frame { log, lows }
+        }
+        None => Frame {
+            log: Vec::new(alloc),
+            lows: Vec::new(alloc),
+        },
+    }
 }
 
 impl Levels {
+    /// So much is left of each slot, and no part is begun.
+    pub fn new(alloc: Global, left: Vec<usize>) -> Levels
+        ensures kept { IsKept result }
+        ensures starts { (s : ℕ) → level_at result s ≡ start (slice_index left.items s) }
+    {
+        Levels {
+            left,
+            log: Vec::new(alloc),
+            lows: Vec::new(alloc),
+            outer: Vec::new(alloc),
+            spare: Vec::new(alloc),
+        }
+    }
+
     /// Takes so much of a slot, as far as it is there.
+    #[inline(never)]
     fn take(&mut self, slot: usize, takes: usize) -> Result<(), NoMemory>
         requires kept { IsKept self.old }
         ensures kept { IfOk result (λ _. IsKept self.new) }
@@ -70,27 +107,24 @@ impl Levels {
     }
 
     /// Begins parts.
-    fn begin(self, alloc: Global) -> Result<Levels, NoMemory>
-        requires kept { IsKept self }
-        ensures kept { IfOk result (λ l. IsKept l) }
-        ensures begun { IfOk result (λ l. Turns self l (λ s l. begun l)) }
+    #[inline(never)]
+    fn begin(&mut self, alloc: Global) -> Result<(), NoMemory>
+        requires kept { IsKept self.old }
+        ensures kept { IfOk result (λ _. IsKept self.new) }
+        ensures begun { IfOk result (λ _. Turns self.old self.new (λ s l. begun l)) }
     {
-        let Levels {
-            left,
-            log,
-            lows,
-            mut outer,
-        } = self;
-        outer.push(Frame { log, lows })?;
-        Ok(Levels {
-            left,
-            log: Vec::new(alloc),
-            lows: Vec::new(alloc),
-            outer,
-        })
+        let Frame { log, lows } = blank(alloc, &mut self.spare);
+        let outer_log = mem::replace(&mut self.log, log);
+        let outer_lows = mem::replace(&mut self.lows, lows);
+        self.outer.push(Frame {
+            log: outer_log,
+            lows: outer_lows,
+        })?;
+        Ok(())
     }
 
     /// Gives back what the present part took, and notes what it left.
+    #[inline(never)]
     fn give_back(&mut self) -> Result<(), NoMemory>
         requires kept { IsKept self.old }
         ensures kept { IfOk result (λ _. IsKept self.new) }
@@ -103,109 +137,75 @@ impl Levels {
     }
 
     /// Ends parts of which the last was given back.
-    fn settle(self) -> Result<Levels, NoMemory>
-        requires kept { IsKept self }
-        ensures kept { IfOk result (λ l. IsKept l) }
-        ensures settled { IfOk result (λ l. Settles self l) }
+    #[inline(never)]
+    fn settle(&mut self) -> Result<(), NoMemory>
+        requires kept { IsKept self.old }
+        ensures kept { IfOk result (λ _. IsKept self.new) }
+        ensures settled { IfOk result (λ _. Settles self.old self.new) }
     {
-        let Levels {
-            mut left,
-            log,
-            lows,
-            mut outer,
-        } = self;
-        match outer.pop() {
-            Some(frame) => {
-                let Frame {
-                    log: mut outer_log,
-                    lows: outer_lows,
-                } = frame;
-                lower(&mut left, lows.as_slice(), &mut outer_log)?;
-                Ok(Levels {
-                    left,
-                    log: outer_log,
-                    lows: outer_lows,
-                    outer,
-                })
-            }
-            None => Ok(Levels {
-                left,
-                log,
-                lows,
-                outer,
-            }),
-        }
+        let Some(frame) = self.outer.pop() else {
+            return Ok(());
+        };
+        let Frame { mut log, lows } = frame;
+        lower(&mut self.left, self.lows.as_slice(), &mut log)?;
+        let ended_log = mem::replace(&mut self.log, log);
+        let ended_lows = mem::replace(&mut self.lows, lows);
+        self.spare.push(Frame {
+            log: ended_log,
+            lows: ended_lows,
+        })?;
+        Ok(())
     }
 
     /// Ends a part, of which nothing stays.
-    fn back(self) -> Levels
-        requires kept { IsKept self }
-        ensures kept { IsKept result }
-        ensures gone { Turns self result (λ s l. gone_back l) }
+    #[inline(never)]
+    fn back(&mut self) -> Result<(), NoMemory>
+        requires kept { IsKept self.old }
+        ensures kept { IfOk result (λ _. IsKept self.new) }
+        ensures gone { IfOk result (λ _. Turns self.old self.new (λ s l. gone_back l)) }
     {
-        let Levels {
-            mut left,
-            log,
-            lows,
-            mut outer,
-        } = self;
-        undo(&mut left, log.as_slice());
-        match outer.pop() {
-            Some(frame) => {
-                let Frame {
-                    log: outer_log,
-                    lows: outer_lows,
-                } = frame;
-                Levels {
-                    left,
-                    log: outer_log,
-                    lows: outer_lows,
-                    outer,
-                }
-            }
-            None => {
-                let mut log = log;
-                log.clear();
-                Levels {
-                    left,
-                    log,
-                    lows,
-                    outer,
-                }
-            }
-        }
+        undo(&mut self.left, self.log.as_slice());
+        let Some(frame) = self.outer.pop() else {
+            self.log.clear();
+            return Ok(());
+        };
+        let Frame { log, lows } = frame;
+        let ended_log = mem::replace(&mut self.log, log);
+        let ended_lows = mem::replace(&mut self.lows, lows);
+        self.spare.push(Frame {
+            log: ended_log,
+            lows: ended_lows,
+        })?;
+        Ok(())
     }
 
     /// Takes a step.
-    fn step(self, alloc: Global, step: Step) -> Result<Levels, NoMemory>
-        requires kept { IsKept self }
-        ensures kept { IfOk result (λ l. IsKept l) }
-        ensures stepped { IfOk result (λ l. Turns self l (λ s l. advance s step l)) }
+    #[inline(always)]
+    pub fn step(&mut self, alloc: Global, step: Step) -> Result<(), NoMemory>
+        requires kept { IsKept self.old }
+        ensures kept { IfOk result (λ _. IsKept self.new) }
+        ensures stepped { IfOk result (λ _. Turns self.old self.new (λ s l. advance s step l)) }
     {
-        let mut levels = self;
         match step {
-            Step::Other => Ok(levels),
+            Step::Other => Ok(()),
             Step::Access { slot, takes } => {
                 if takes > 0 {
-                    levels.take(slot, takes)?;
+                    self.take(slot, takes)?;
                 }
-                Ok(levels)
+                Ok(())
             }
-            Step::Begin => levels.begin(alloc),
-            Step::Next => {
-                levels.give_back()?;
-                Ok(levels)
-            }
+            Step::Begin => self.begin(alloc),
+            Step::Next => self.give_back(),
             Step::End => {
-                levels.give_back()?;
-                levels.settle()
+                self.give_back()?;
+                self.settle()
             }
-            Step::Back => Ok(levels.back()),
+            Step::Back => self.back(),
         }
     }
 
     /// What is left where a step accesses a slot; 0 where it accesses none.
-    fn left_at(&self, step: Step) -> usize
+    pub fn left_at(&self, step: Step) -> usize
         ensures { result ≡ left_before step (λ s. level_at self.now s) }
     {
         match step {
@@ -219,22 +219,4 @@ impl Levels {
             Step::Other | Step::Begin | Step::Next | Step::End | Step::Back => 0,
         }
     }
-}
-
-/// What is left before each step, in the slot that it accesses; 0 where it accesses none.
-pub fn lefts(alloc: Global, starts: Vec<usize>, steps: &[Step]) -> Result<Vec<usize>, NoMemory>
-    ensures { IfOk result (λ lefts. lefts.items ≡ lefts_from starts.items steps.now) }
-{
-    let mut levels = Levels {
-        left: starts,
-        log: Vec::new(alloc),
-        lows: Vec::new(alloc),
-        outer: Vec::new(alloc),
-    };
-    let mut lefts = Vec::new(alloc);
-    for step in steps {
-        lefts.push(levels.left_at(*step))?;
-        levels = levels.step(alloc, *step)?;
-    }
-    Ok(lefts)
 }

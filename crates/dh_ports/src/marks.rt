@@ -1,7 +1,7 @@
 //! What is left of each of some slots, and marks to come back to.
 
-ghost use Rattle.std.specs.Prelude.{◌≡◌, ◌≤◌, ◌+◌, ◌++◌, IfOk, length};
-ghost use Rattle.dh_ports.specs.Logs.{AreBegun, AreLowered, AreMarks, GoesBack, StaysOfSlots, marks_now};
+ghost use Rattle.std.specs.Prelude.{◌≡◌, [], ◌∷◌, ◌<◌, ◌≤◌, ◌==◌, ◌+◌, ◌++◌, Some, IfOk, OnOk, length, min, slice_get, slice_set};
+ghost use Rattle.dh_ports.specs.Logs.{AreBegun, AreLowered, AreMarks, GoesBack, LeftAt, LeftIf, NotesLow, NotesLows, StaysOfSlots};
 
 use std::alloc::AllocFailed;
 
@@ -14,20 +14,108 @@ pub struct Mark {
     pub left: usize,
 }
 
-/// Adds what is now left of each slot of a log.
+/// Whether two numbers are one.
+fn same(one: usize, other: usize) -> bool
+    ensures { result ≡ (one == other) }
+{
+    one == other
+}
+
+/// The smaller of two numbers.
+fn smaller(one: usize, other: usize) -> usize
+    ensures { result ≡ min one other }
+{
+    one.min(other)
+}
+
+/// What a mark says was left, where it is of a slot.
+fn left_if(mark: Mark, slot: usize) -> Option<usize>
+    ensures { LeftIf mark slot result }
+{
+    if same(mark.slot, slot) {
+        Some(mark.left)
+    } else {
+        None
+    }
+}
+
+/// The mark at a place.
+fn mark_at(marks: &[Mark], place: usize) -> Mark
+    requires there { place < length marks.now }
+    ensures { slice_get marks.now place ≡ Some result }
+{
+    marks[place]
+}
+
+/// What the mark at a place says was left, where one stands there that is of a slot.
+fn left_at(marks: &[Mark], place: usize, slot: usize) -> Option<usize>
+    ensures { LeftAt marks.now place slot result }
+{
+    if place < marks.len() {
+        left_if(mark_at(marks, place), slot)
+    } else {
+        None
+    }
+}
+
+/// Puts a mark in the place of another one.
+fn set_slice(marks: &mut [Mark], place: usize, mark: Mark)
+    requires there { place < length marks.old }
+    ensures { marks.new ≡ slice_set marks.old place mark }
+{
+    marks[place] = mark;
+}
+
+/// `set_slice` of a vector.
+fn set_mark(marks: &mut Vec<Mark>, place: usize, mark: Mark)
+    requires there { place < length marks.old.items }
+    ensures { marks.new.items ≡ slice_set marks.old.items place mark }
+{
+    set_slice(marks.as_mut_slice(), place, mark);
+}
+
+/// Adds a mark.
+fn push_mark(marks: &mut Vec<Mark>, mark: Mark) -> Result<(), AllocFailed<Mark>>
+    ensures { OnOk result (marks.new.items ≡ marks.old.items ++ mark ∷ []) }
+{
+    marks.push(mark)?;
+    Ok(())
+}
+
+/// Adds a low, or lowers the one at a place, where it is of the same slot: parts that are alike note their lows in one
+/// order, and need those of one part.
+fn note_low(lows: &mut Vec<Mark>, place: usize, low: Mark) -> Result<(), AllocFailed<Mark>>
+    ensures { OnOk result (NotesLow lows.old.items lows.new.items low) }
+{
+    let Some(before) = left_at(lows.as_slice(), place, low.slot) else {
+        return push_mark(lows, low);
+    };
+    let left = smaller(before, low.left);
+    let slot = low.slot;
+    set_mark(lows, place, Mark { slot, left });
+    Ok(())
+}
+
+/// Notes what is now left of each slot of a log.
 pub fn note_lows(
     left: &[usize],
     log: &[Mark],
     lows: &mut Vec<Mark>,
 ) -> Result<(), AllocFailed<Mark>>
     requires inside { AreMarks (length left.now) log.now }
-    ensures { IfOk result (λ _. lows.new.items ≡ lows.old.items ++ marks_now left.now log.now) }
+    ensures { IfOk result (λ _. NotesLows left.now log.now lows.old.items lows.new.items) }
 {
+    let mut place: usize = 0;
     for mark in log {
-        lows.push(Mark {
-            slot: mark.slot,
-            left: left[mark.slot],
-        })?;
+        note_low(
+            lows,
+            place,
+            Mark {
+                slot: mark.slot,
+                left: left[mark.slot],
+            },
+        )?;
+        place = place.saturating_add(1);
     }
     Ok(())
 }

@@ -1,6 +1,6 @@
-//! What events do to banks: accesses claim them with numbers of keys.
+//! What events do to banks: accesses claim them with numbers of keys. Claims of banks in a row are kept as one.
 
-ghost use Rattle.std.specs.Prelude.{◌≡◌, ◌++◌, ◌≤◌, ◌+◌, ℕ, Some, None, IfOk, OnOk, length, map};
+ghost use Rattle.std.specs.Prelude.{◌≡◌, ◌++◌, ◌≤◌, ◌<◌, ◌+◌, ℕ, true, nat_lt, Some, None, IfOk, OnOk, length, map};
 ghost use Rattle.std.specs.List.{AllByRecursion};
 ghost use Rattle.dh_tree.specs.Memories.{memories_of, number_in, table_of};
 ghost use Rattle.dh_tree.specs.Seen.{form_seen, program_seen};
@@ -15,8 +15,11 @@ ghost use Rattle.dh_ports.specs.Banks.{each_below};
 ghost use Rattle.dh_ports.specs.Carriers.{carried_to, one_at, IsCarrier};
 ghost use Rattle.dh_ports.specs.Claims.{claim_in, claims_from, claims_of, moves_from, source_of};
 ghost use Rattle.dh_ports.specs.Copies.{copies_round, IsPast};
-ghost use Rattle.dh_ports.specs.Layouts.{AreScopesWhere, HaveFewCopies, IsLayout};
+ghost use Rattle.dh_ports.specs.Layouts.{AreRoundsOf, AreScopesWhere, HaveFewCopies, IsLayout};
+ghost use Rattle.dh_ports.specs.Runs as definitions;
+ghost use Rattle.dh_ports.specs.Runs.{moves_in, moves_of_run, one_claim, row_to};
 ghost use Rattle.dh_ports.specs.Scanned.{IsMoveOf};
+ghost use Rattle.dh_ports.specs.SharedSoFar.{AreShared, IsShared};
 ghost use Rattle.dh_meets.specs.FewCopies.{most_copies};
 
 use crate::banks::{bank_bases, bank_count, bank_reached, entity_of, number_of};
@@ -25,6 +28,7 @@ use crate::copies::Copied;
 use crate::counting::{Seen, keys_reaching};
 use crate::grouping::keys_through;
 use crate::leading::carriers_of;
+use crate::sharing::Sharing;
 use dh_base::NoMemory;
 use dh_events::{Event, Scope, loops_round, note_rounds, scopes_of};
 use dh_tree::{Counter, Dim, Expr, Typed};
@@ -51,6 +55,16 @@ pub enum Move {
     End,
 }
 
+/// A move, and the same to the banks behind its own: an access through a shift or a shrunk view reaches many banks in
+/// a row, with as many keys each.
+#[derive(Clone, Copy)]
+pub struct Run {
+    /// The first of the moves.
+    pub first: Move,
+    /// The number behind that of the last bank; 1 where no bank is claimed.
+    pub end: usize,
+}
+
 /// What is known of a program's loops, memories and views.
 #[derive(Drop)]
 pub struct Layout {
@@ -64,6 +78,27 @@ pub struct Layout {
     pub ways: WayTable,
     /// By the place of each view how charges are carried through it.
     pub carriers: Vec<Carrier>,
+}
+
+/// The unrolled loops of a program, as they are noted.
+fn noted_rounds(alloc: Global, typed: &Typed) -> Result<Vec<Vec<Counter>>, NoMemory>
+    ensures { IfOk result (λ rounds. AreRoundsOf (program_seen typed.now) rounds.items) }
+{
+    let mut rounds = Vec::new(alloc);
+    note_rounds(alloc, &mut rounds, &[], &typed.tree().body)?;
+    Ok(rounds)
+}
+
+/// By the number of each unrolled loop the unrolled loops round it, and itself: nothing is walked over where
+/// each loop has one copy.
+fn rounds_of_program(alloc: Global, typed: &Typed) -> Result<Vec<Vec<Counter>>, NoMemory>
+    ensures { IfOk result (λ rounds. AreRoundsOf (program_seen typed.now) rounds.items) }
+{
+    if typed.has_single_loops() {
+        Ok(Vec::new(alloc))
+    } else {
+        noted_rounds(alloc, typed)
+    }
 }
 
 /// Where variables are declared, of a program of which these are the views with their ways; none
@@ -96,8 +131,7 @@ pub fn layout_of(alloc: Global, typed: &Typed) -> Result<Layout, NoMemory>
     ensures { IfOk result (λ l. IsLayout (program_seen typed.now) l) }
 {
     let bases = bank_bases(alloc, typed.memories().as_slice())?;
-    let mut rounds = Vec::new(alloc);
-    note_rounds(alloc, &mut rounds, &[], &typed.tree().body)?;
+    let rounds = rounds_of_program(alloc, typed)?;
     let ways = ways_in(alloc, typed)?;
     let carriers = carriers_of(alloc, &ways)?;
     let scopes = scopes_in(alloc, typed, rounds.as_slice(), &ways)?;
@@ -110,45 +144,236 @@ pub fn layout_of(alloc: Global, typed: &Typed) -> Result<Layout, NoMemory>
     })
 }
 
+/// The number of the bank that a move claims; 0 where it claims none.
+pub fn slot_of(next: Move) -> usize
+    ensures { result ≡ definitions.slot_of next }
+{
+    match next {
+        Move::Claim { slot, .. } => slot,
+        Move::Begin | Move::Next | Move::End => 0,
+    }
+}
+
+/// The move that does the same to another bank.
+pub fn at_slot(next: Move, slot: usize) -> Move
+    ensures { result ≡ definitions.at_slot next slot }
+{
+    match next {
+        Move::Claim { event, keys, .. } => Move::Claim { event, slot, keys },
+        Move::Begin => Move::Begin,
+        Move::Next => Move::Next,
+        Move::End => Move::End,
+    }
+}
+
+/// Whether a move is a claim by this access with so many keys.
+fn claims_so(first: Move, event: usize, keys: usize) -> bool
+    ensures { result ≡ definitions.claims_so first event keys }
+{
+    match first {
+        Move::Claim {
+            event: other,
+            keys: each,
+            ..
+        } => other == event && each == keys,
+        Move::Begin | Move::Next | Move::End => false,
+    }
+}
+
+/// Whether a bank stands behind those of a run.
+fn is_next(last: Run, slot: usize) -> bool
+    ensures { result ≡ definitions.is_next last slot }
+{
+    slot_of(last.first) < last.end && last.end == slot
+}
+
+/// Whether the claim of a bank goes on with a run.
+fn goes_on(last: Run, event: usize, slot: usize, keys: usize) -> bool
+    ensures { result ≡ definitions.goes_on last event slot keys }
+{
+    claims_so(last.first, event, keys) && is_next(last, slot)
+}
+
+/// Adds a move, and the same to the banks in front of an end.
+fn push_run(moves: &mut Vec<Run>, first: Move, end: usize) -> Result<(), NoMemory>
+    ensures { OnOk result (moves_in moves.new.items
+        ≡ moves_in moves.old.items ++ row_to first end) }
+{
+    moves.push(Run { first, end })?;
+    Ok(())
+}
+
+/// Adds the claim of a bank as a run of its own.
+fn push_one(moves: &mut Vec<Run>, event: usize, slot: usize, keys: usize) -> Result<(), NoMemory>
+    requires few { slot < 2097152 }
+    ensures { OnOk result (moves_in moves.new.items
+        ≡ moves_in moves.old.items ++ one_claim event slot keys) }
+{
+    push_run(moves, Move::Claim { event, slot, keys }, slot + 1)
+}
+
+/// Adds a run, and the claim of a bank behind it as a run of its own.
+fn push_both(
+    moves: &mut Vec<Run>,
+    last: Run,
+    event: usize,
+    slot: usize,
+    keys: usize,
+) -> Result<(), NoMemory>
+    requires few { slot < 2097152 }
+    ensures { OnOk result (moves_in moves.new.items
+        ≡ (moves_in moves.old.items ++ moves_of_run last) ++ one_claim event slot keys) }
+{
+    push_run(moves, last.first, last.end)?;
+    push_one(moves, event, slot, keys)
+}
+
+/// Adds a run and the claim of a bank behind it: as one where the claim goes on with the run.
+fn push_behind(
+    moves: &mut Vec<Run>,
+    last: Run,
+    event: usize,
+    slot: usize,
+    keys: usize,
+) -> Result<(), NoMemory>
+    requires few { slot < 2097152 }
+    ensures { OnOk result (moves_in moves.new.items
+        ≡ (moves_in moves.old.items ++ moves_of_run last) ++ one_claim event slot keys) }
+{
+    if goes_on(last, event, slot, keys) {
+        push_run(moves, last.first, slot + 1)
+    } else {
+        push_both(moves, last, event, slot, keys)
+    }
+}
+
+/// Adds the claim of a bank, to the run before it where it goes on with that, by taking that run off.
+fn push_joined(moves: &mut Vec<Run>, event: usize, slot: usize, keys: usize) -> Result<(), NoMemory>
+    requires few { slot < 2097152 }
+    ensures { OnOk result (moves_in moves.new.items
+        ≡ moves_in moves.old.items ++ one_claim event slot keys) }
+{
+    match moves.pop() {
+        Some(last) => push_behind(moves, last, event, slot, keys),
+        None => push_one(moves, event, slot, keys),
+    }
+}
+
+/// Whether the claim of a bank goes on with the last run.
+fn goes_behind(moves: &[Run], event: usize, slot: usize, keys: usize) -> bool {
+    let many = moves.len();
+    if many > 0 {
+        goes_on(moves[many - 1], event, slot, keys)
+    } else {
+        false
+    }
+}
+
+/// Adds the claim of a bank, to the run before it where it goes on with that.
+fn push_claim(moves: &mut Vec<Run>, event: usize, slot: usize, keys: usize) -> Result<(), NoMemory>
+    requires few { slot < 2097152 }
+    ensures { OnOk result (moves_in moves.new.items
+        ≡ moves_in moves.old.items ++ one_claim event slot keys) }
+{
+    // most claims go on with none, and then no run has to be taken off
+    if goes_behind(moves.as_slice(), event, slot, keys) {
+        push_joined(moves, event, slot, keys)
+    } else {
+        push_one(moves, event, slot, keys)
+    }
+}
+
 /// Adds the claim of one bank of a memory whose banks begin at a number, where it has the bank.
 fn claim_one(
-    moves: &mut Vec<Move>,
+    moves: &mut Vec<Run>,
     event: usize,
     base: usize,
     banks: u64,
     bank: u64,
 ) -> Result<(), NoMemory>
     requires few { base + banks ≤ 2097152 }
-    ensures { OnOk result (moves.new.items ≡ moves.old.items ++ claim_in event base banks bank) }
+    ensures { OnOk result (moves_in moves.new.items
+        ≡ moves_in moves.old.items ++ claim_in event base banks bank) }
 {
     if bank < banks {
-        moves.push(Move::Claim {
-            event,
-            slot: base + bank as usize,
-            keys: 1,
-        })?;
+        let slot = base + bank as usize;
+        push_claim(moves, event, slot, 1)?;
     }
     Ok(())
 }
 
 /// Adds the claims of the banks of a memory that are reached, whose banks begin at a number.
 fn claim_all(
-    moves: &mut Vec<Move>,
+    moves: &mut Vec<Run>,
     event: usize,
     base: usize,
     counts: &[usize],
 ) -> Result<(), NoMemory>
     requires few { base + length counts.now ≤ 2097152 }
-    ensures { OnOk result (moves.new.items
-        ≡ moves.old.items ++ claims_from event base counts.now) }
+    ensures { OnOk result (moves_in moves.new.items
+        ≡ moves_in moves.old.items ++ claims_from event base counts.now) }
 {
     for bank in 0..counts.len() {
         if counts[bank] > 0 {
-            moves.push(Move::Claim {
-                event,
-                slot: base + bank,
-                keys: counts[bank],
-            })?;
+            push_claim(moves, event, base + bank, counts[bank])?;
+        }
+    }
+    Ok(())
+}
+
+/// Whether a bank is one of so many.
+fn is_within(bank: u64, banks: u64) -> bool
+    ensures { result ≡ nat_lt bank banks }
+{
+    bank < banks
+}
+
+/// Adds the claims of the banks of a memory to which one key on a bank of a view is carried, where a shift stands
+/// between: of all of them at once.
+fn claim_evenly(
+    moves: &mut Vec<Run>,
+    event: usize,
+    base: usize,
+    carrier: &Carrier,
+    bank: u64,
+) -> Result<(), NoMemory>
+    requires few { base + length carrier.now.sources.items ≤ 2097152 }
+    requires even { carrier.now.evenly ≡ true }
+    ensures { OnOk result (moves_in moves.new.items
+        ≡ moves_in moves.old.items ++ claims_from event base (each_below
+        (carried_to carrier.now (one_at bank)) (length carrier.now.sources.items))) }
+{
+    let many = carrier.sources.len();
+    let end = base + many;
+    if is_within(bank, carrier.banks) {
+        let first = Move::Claim {
+            event,
+            slot: base,
+            keys: 1,
+        };
+        push_run(moves, first, end)
+    } else {
+        Ok(())
+    }
+}
+
+/// Adds the claims of the banks of a memory to which one key on a bank of a view is carried, bank by bank.
+fn claim_each(
+    moves: &mut Vec<Run>,
+    event: usize,
+    base: usize,
+    carrier: &Carrier,
+    bank: u64,
+) -> Result<(), NoMemory>
+    requires few { base + length carrier.now.sources.items ≤ 2097152 }
+    ensures { OnOk result (moves_in moves.new.items
+        ≡ moves_in moves.old.items ++ claims_from event base (each_below
+        (carried_to carrier.now (one_at bank)) (length carrier.now.sources.items))) }
+{
+    for behind in 0..carrier.sources.len() {
+        if carries(carrier, bank, behind) {
+            let slot = base + behind;
+            push_claim(moves, event, slot, 1)?;
         }
     }
     Ok(())
@@ -156,27 +381,22 @@ fn claim_all(
 
 /// Adds the claims of the banks of a memory to which one key on a bank of a view is carried.
 fn claim_carried(
-    moves: &mut Vec<Move>,
+    moves: &mut Vec<Run>,
     event: usize,
     base: usize,
     carrier: &Carrier,
     bank: u64,
 ) -> Result<(), NoMemory>
     requires few { base + length carrier.now.sources.items ≤ 2097152 }
-    ensures { OnOk result (moves.new.items ≡ moves.old.items ++ claims_from event base
-        (each_below (carried_to carrier.now (one_at bank)) (length carrier.now.sources.items))) }
+    ensures { OnOk result (moves_in moves.new.items
+        ≡ moves_in moves.old.items ++ claims_from event base (each_below
+        (carried_to carrier.now (one_at bank)) (length carrier.now.sources.items))) }
 {
-    for behind in 0..carrier.sources.len() {
-        if carries(carrier, bank, behind) {
-            let slot = base + behind;
-            moves.push(Move::Claim {
-                event,
-                slot,
-                keys: 1,
-            })?;
-        }
+    if carrier.evenly {
+        claim_evenly(moves, event, base, carrier, bank)
+    } else {
+        claim_each(moves, event, base, carrier, bank)
     }
-    Ok(())
 }
 
 /// An access that claims banks.
@@ -198,7 +418,7 @@ fn claim_memory(
     typed: &Typed,
     layout: &Layout,
     seen: &mut Seen,
-    moves: &mut Vec<Move>,
+    moves: &mut Vec<Run>,
     memory: usize,
     claimant: Claimant<'_>,
 ) -> Result<(), NoMemory>
@@ -208,7 +428,7 @@ fn claim_memory(
     requires named { number_in (memories_of (program_seen typed.now))
         (entity_in (form_seen claimant.access.now.form)) ≡ Some memory }
     requires past { IsPast seen.old }
-    ensures claims { OnOk result (moves.new.items ≡ moves.old.items
+    ensures claims { OnOk result (moves_in moves.new.items ≡ moves_in moves.old.items
         ++ claims_of (program_seen typed.now) claimant.entry.event
         (source_of (loops_in layout.now.rounds.items claimant.entry.round) claimant.entry.writes
         claimant.entry.access.now)) }
@@ -243,7 +463,7 @@ fn claim_view(
     typed: &Typed,
     layout: &Layout,
     seen: &mut Seen,
-    moves: &mut Vec<Move>,
+    moves: &mut Vec<Run>,
     way: &WayRef<'_>,
     carrier: &Carrier,
     claimant: Claimant<'_>,
@@ -256,7 +476,7 @@ fn claim_view(
         (entity_in (form_seen claimant.access.now.form)) ≡ Some (way_seen way.now) }
     requires carrier { IsCarrier (way_seen way.now) carrier.now }
     requires past { IsPast seen.old }
-    ensures claims { OnOk result (moves.new.items ≡ moves.old.items
+    ensures claims { OnOk result (moves_in moves.new.items ≡ moves_in moves.old.items
         ++ claims_of (program_seen typed.now) claimant.entry.event
         (source_of (loops_in layout.now.rounds.items claimant.entry.round) claimant.entry.writes
         claimant.entry.access.now)) }
@@ -292,7 +512,7 @@ fn claim_led(
     typed: &Typed,
     layout: &Layout,
     seen: &mut Seen,
-    moves: &mut Vec<Move>,
+    moves: &mut Vec<Run>,
     entity: Option<u32>,
     claimant: Claimant<'_>,
 ) -> Result<(), NoMemory>
@@ -304,7 +524,7 @@ fn claim_led(
     requires entity { entity ≡ entity_in (form_seen claimant.access.now.form) }
     requires other { number_in (memories_of (program_seen typed.now)) entity ≡ None }
     requires past { IsPast seen.old }
-    ensures claims { OnOk result (moves.new.items ≡ moves.old.items
+    ensures claims { OnOk result (moves_in moves.new.items ≡ moves_in moves.old.items
         ++ claims_of (program_seen typed.now) claimant.entry.event
         (source_of (loops_in layout.now.rounds.items claimant.entry.round) claimant.entry.writes
         claimant.entry.access.now)) }
@@ -333,7 +553,7 @@ fn claim(
     typed: &Typed,
     layout: &Layout,
     seen: &mut Seen,
-    moves: &mut Vec<Move>,
+    moves: &mut Vec<Run>,
     claimant: Claimant<'_>,
 ) -> Result<(), NoMemory>
     requires table { IsProgramTable (table_of (program_seen typed.now)) }
@@ -342,7 +562,7 @@ fn claim(
         (ways_of (program_seen typed.now)) }
     requires copies { copies_round (loops_in layout.now.rounds.items claimant.round) ≤ most_copies }
     requires past { IsPast seen.old }
-    ensures claims { OnOk result (moves.new.items ≡ moves.old.items
+    ensures claims { OnOk result (moves_in moves.new.items ≡ moves_in moves.old.items
         ++ claims_of (program_seen typed.now) claimant.entry.event
         (source_of (loops_in layout.now.rounds.items claimant.entry.round) claimant.entry.writes
         claimant.entry.access.now)) }
@@ -355,26 +575,32 @@ fn claim(
     claim_memory(alloc, typed, layout, seen, moves, memory, claimant)
 }
 
-/// What events do to the banks of a program.
+/// What events do to the banks of a program, in runs; and which events share is noted in the same walk, since
+/// each look at an access far away costs time.
 pub fn all_moves(
     alloc: Global,
     typed: &Typed,
     layout: &Layout,
+    sharing: &mut Sharing,
     events: &[Event<'_>],
-) -> Result<Vec<Move>, NoMemory>
+) -> Result<Vec<Run>, NoMemory>
     requires table { IsProgramTable (table_of (program_seen typed.now)) }
     requires layout { IsLayout (program_seen typed.now) layout.now }
     requires leads { AllByRecursion (λ l. LeadsTo (memories_of (program_seen typed.now)) l.way)
         (ways_of (program_seen typed.now)) }
     requires copies { HaveFewCopies layout.now.rounds.items events.now }
-    ensures moves { IfOk result (λ moves. moves.items ≡ moves_from (program_seen typed.now)
-        (loops_in layout.now.rounds.items) 0 (all_seen events.now)) }
+    requires begins { IsShared events.now 0 sharing.old }
+    ensures moves { IfOk result (λ moves. moves_in moves.items ≡ moves_from
+        (program_seen typed.now) (loops_in layout.now.rounds.items) 0 (all_seen events.now)) }
     ensures within { IfOk result (λ moves. AllByRecursion (IsMoveOf (length events.now))
-        moves.items) }
+        (moves_in moves.items)) }
+    ensures shared { IfOk result (λ _. AreShared events.now sharing.new) }
 {
-    let mut moves = Vec::new(alloc);
+    // most events come to one run at most
+    let mut moves = Vec::with_capacity(alloc, events.len())?;
     let mut seen = Seen::new(alloc);
     for event in 0..events.len() {
+        sharing.note(alloc, events[event])?;
         match events[event] {
             Event::Touch {
                 access,
@@ -390,9 +616,9 @@ pub fn all_moves(
                 };
                 claim(alloc, typed, layout, &mut seen, &mut moves, claimant)?
             }
-            Event::Begins => moves.push(Move::Begin)?,
-            Event::Next => moves.push(Move::Next)?,
-            Event::Ends => moves.push(Move::End)?,
+            Event::Begins => push_run(&mut moves, Move::Begin, 1)?,
+            Event::Next => push_run(&mut moves, Move::Next, 1)?,
+            Event::Ends => push_run(&mut moves, Move::End, 1)?,
             Event::Assigned { .. } | Event::ArmBegins | Event::ArmEnds => {}
         }
     }

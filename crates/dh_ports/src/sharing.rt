@@ -1,12 +1,16 @@
 //! Which reads share an earlier one.
 
-ghost use Rattle.std.specs.Prelude.{◌≡◌, IfOk, length, replicate};
-ghost use Rattle.dh_events.specs.Classes.{Extends};
+ghost use Rattle.std.specs.Prelude.{◌≡◌, ◌≤◌, ◌+◌, false, if◌then◌else◌, IfOk, length, replicate};
+ghost use Rattle.dh_events.specs.Classes.{AreDistinct, Extends};
+ghost use Rattle.dh_ports.specs.Levels.{IsKept};
+ghost use Rattle.dh_ports.specs.Orders as orders;
+ghost use Rattle.dh_ports.specs.SharedSoFar.{BeginsShared, NotesShare, SharesNext};
 ghost use Rattle.dh_ports.specs.Scanned as scanned;
-ghost use Rattle.dh_ports.specs.Scanned.{FindsShared, IsSharing};
+ghost use Rattle.dh_ports.specs.Scanned.{IsSharing};
 
 use crate::banks::entity_of;
-use crate::levels::{Step, lefts};
+use crate::levels::{Levels, Step};
+use crate::ordering::{is_write, mark_read};
 use dh_base::NoMemory;
 use dh_events::{Classes, Event, Key};
 use std::alloc::Global;
@@ -54,10 +58,13 @@ fn read_key(event: Event<'_>) -> Option<Key>
 fn read_step(classes: &mut Classes, key: Option<Key>) -> Result<Step, NoMemory>
     ensures steps { IfOk result (λ s. scanned.TakesOf classes.new 1 key s) }
     ensures extends { IfOk result (λ s. Extends classes.old classes.new) }
+    ensures few { IfOk result (λ s. length classes.new ≤ length classes.old + 1) }
 {
     match key {
         Some(key) => {
             let slot = classes.number(key)?;
+            // no key has two numbers, so that one key was added at most
+            let _ = classes.len();
             Ok(Step::Access { slot, takes: 1 })
         }
         None => Ok(Step::Other),
@@ -68,6 +75,7 @@ fn read_step(classes: &mut Classes, key: Option<Key>) -> Result<Step, NoMemory>
 fn share_step(classes: &mut Classes, event: Event<'_>) -> Result<Step, NoMemory>
     ensures steps { IfOk result (λ s. IsSharing classes.new event.entry s) }
     ensures extends { IfOk result (λ s. Extends classes.old classes.new) }
+    ensures few { IfOk result (λ s. length classes.new ≤ length classes.old + 1) }
 {
     match event {
         Event::ArmBegins => Ok(Step::Begin),
@@ -81,7 +89,7 @@ fn share_step(classes: &mut Classes, event: Event<'_>) -> Result<Step, NoMemory>
 pub fn ones(alloc: Global, count: usize) -> Result<Vec<usize>, NoMemory>
     ensures { IfOk result (λ ones. ones.items ≡ replicate count 1) }
 {
-    let mut ones = Vec::new(alloc);
+    let mut ones = Vec::with_capacity(alloc, count)?;
     for _ in 0..count {
         ones.push(1)?;
     }
@@ -98,41 +106,80 @@ fn shares(step: Step, left: usize) -> bool
     }
 }
 
-/// Of each step whether it takes where nothing is left.
-fn all_share(alloc: Global, steps: &[Step], lefts: &[usize]) -> Result<Vec<bool>, NoMemory>
-    requires long { length lefts.now ≡ length steps.now }
-    ensures { IfOk result (λ flags. flags.items ≡ scanned.all_share steps.now lefts.now) }
-{
-    let mut flags = Vec::new(alloc);
-    for i in 0..steps.len() {
-        flags.push(shares(steps[i], lefts[i]))?;
-    }
-    Ok(flags)
-}
-
-/// The steps that events are for the sharing of reads.
-fn share_steps(
+/// Whether an event is a read that shares an earlier one. It takes what is left of its class.
+fn share_event(
     alloc: Global,
     classes: &mut Classes,
-    events: &[Event<'_>],
-) -> Result<Vec<Step>, NoMemory>
-    ensures { IfOk result (λ steps. scanned.AreSharing classes.new events.now steps.items) }
+    levels: &mut Levels,
+    event: Event<'_>,
+) -> Result<bool, NoMemory>
+    requires kept { IsKept levels.old }
+    ensures { IfOk result (λ flag. SharesNext classes.old classes.new levels.old levels.new
+        event.entry flag) }
 {
-    let mut steps = Vec::new(alloc);
-    for event in events {
-        steps.push(share_step(classes, *event)?)?;
-    }
-    Ok(steps)
+    let taken = share_step(classes, event)?;
+    let flag = shares(taken, levels.left_at(taken));
+    levels.step(alloc, taken)?;
+    Ok(flag)
 }
 
-/// For each event whether it is a read that shares an earlier one: a read before it with its key took what
-/// was left, and was not in an arm that ended.
-pub fn find_shared(alloc: Global, events: &[Event<'_>]) -> Result<Vec<bool>, NoMemory>
-    ensures found { IfOk result (λ shared. FindsShared events.now shared.items) }
-    ensures long { IfOk result (λ shared. length shared.items ≡ length events.now) }
+/// Whether there is no write yet, behind an event.
+fn stays_unwritten(unwritten: bool, event: Event<'_>) -> bool
+    ensures { result ≡ (if orders.is_write event.entry then false else unwritten) }
 {
-    let mut classes = Classes::new(alloc);
-    let steps = share_steps(alloc, &mut classes, events)?;
-    let lefts = lefts(alloc, ones(alloc, classes.len())?, steps.as_slice())?;
-    all_share(alloc, steps.as_slice(), lefts.as_slice())
+    if is_write(event) { false } else { unwritten }
+}
+
+/// What is noted of events on the way over them.
+#[derive(Drop)]
+pub struct Sharing {
+    /// The classes of reads.
+    pub classes: Classes,
+    /// What is left of each class.
+    pub levels: Levels,
+    /// For each event whether it is a read that shares an earlier one: a read before it with its key took
+    /// what was left, and was not in an arm that ended.
+    pub flags: Vec<bool>,
+    /// By phase 1 where a read stands in it.
+    pub read: Vec<usize>,
+    /// Whether there is no write.
+    pub unwritten: bool,
+}
+
+impl Sharing {
+    /// Nothing is noted of so many events.
+    pub fn new(alloc: Global, count: usize) -> Result<Sharing, NoMemory>
+        ensures { IfOk result (λ sharing. BeginsShared count sharing) }
+    {
+        // of each class one is left at first; there are no more classes than events
+        let ones = ones(alloc, count)?;
+        Ok(Sharing {
+            classes: Classes::new(alloc),
+            levels: Levels::new(alloc, ones),
+            flags: Vec::new(alloc),
+            read: Vec::new(alloc),
+            unwritten: true,
+        })
+    }
+
+    /// Notes an event.
+    pub fn note(&mut self, alloc: Global, event: Event<'_>) -> Result<(), NoMemory>
+        requires kept { IsKept self.old.levels }
+        ensures { IfOk result (λ _. NotesShare self.old self.new event.entry) }
+    {
+        let flag = share_event(alloc, &mut self.classes, &mut self.levels, event)?;
+        self.flags.push(flag)?;
+        mark_read(&mut self.read, event)?;
+        self.unwritten = stays_unwritten(self.unwritten, event);
+        Ok(())
+    }
+
+    /// Which events share.
+    pub fn flags(&self) -> &[bool]
+        ensures same { result.now ≡ self.now.flags.items }
+        ensures distinct { AreDistinct self.now.classes }
+    {
+        let _ = self.classes.len();
+        self.flags.as_slice()
+    }
 }

@@ -1,17 +1,20 @@
 //! Which accesses take ports of a bank of which too few are left.
 
-ghost use Rattle.std.specs.Prelude.{◌≡◌, IfOk, length, map};
+ghost use Rattle.std.specs.Prelude.{◌≡◌, IfOk, length};
 ghost use Rattle.std.specs.List.{AllByRecursion};
 ghost use Rattle.dh_tree.specs.Memories.{table_of};
 ghost use Rattle.dh_tree.specs.Seen.{program_seen};
 ghost use Rattle.dh_tree.specs.Shapes.{IsProgramTable};
 ghost use Rattle.dh_events.specs.Noted.{all_seen, event_seen};
+ghost use Rattle.dh_ports.specs.Levels.{IsKept};
+ghost use Rattle.dh_ports.specs.Passing.{first_from, ComesTo};
+ghost use Rattle.dh_ports.specs.Runs.{moves_in, moves_of_run};
 ghost use Rattle.dh_ports.specs.Scanned as scanned;
 ghost use Rattle.dh_ports.specs.Scanned.{spent_place, IsMoveOf};
 
 use crate::banks::bank_ports;
-use crate::levels::{Step, lefts};
-use crate::moves::Move;
+use crate::levels::{Levels, Step};
+use crate::moves::{Move, Run, at_slot, slot_of};
 use dh_base::{NoMemory, Place};
 use dh_events::Event;
 use dh_tree::Typed;
@@ -69,38 +72,63 @@ fn is_beyond(step: Step, left: usize) -> bool
     }
 }
 
-/// The steps that moves are.
-fn spending_steps(alloc: Global, shared: &[bool], moves: &[Move]) -> Result<Vec<Step>, NoMemory>
-    requires within { AllByRecursion (IsMoveOf (length shared.now)) moves.now }
-    ensures { IfOk result (λ steps. steps.items
-        ≡ map (scanned.spending_step shared.now) moves.now) }
-{
-    let mut steps = Vec::new(alloc);
-    for next in moves {
-        steps.push(spending_step(shared, *next))?;
-    }
-    Ok(steps)
+/// What moves come to, from what is left.
+#[derive(Clone, Copy)]
+pub enum Walked {
+    /// None takes more than is left.
+    Past,
+    /// The place of the first that takes more than is left.
+    Beyond(Option<Place>),
 }
 
-/// The place of the first move whose step takes more than is left.
-fn first_beyond(
+/// What the moves of a run come to, from what is left.
+fn spend_run(
+    alloc: Global,
     events: &[Event<'_>],
-    moves: &[Move],
-    steps: &[Step],
-    lefts: &[usize],
-) -> Option<Place>
-    requires within { AllByRecursion (IsMoveOf (length events.now)) moves.now }
-    requires steps { length steps.now ≡ length moves.now }
-    requires lefts { length lefts.now ≡ length moves.now }
-    ensures { result
-        ≡ scanned.first_beyond (all_seen events.now) moves.now steps.now lefts.now }
+    shared: &[bool],
+    levels: &mut Levels,
+    run: Run,
+) -> Result<Walked, NoMemory>
+    requires long { length shared.now ≡ length events.now }
+    requires within { AllByRecursion (IsMoveOf (length events.now)) (moves_of_run run) }
+    requires kept { IsKept levels.old }
+    ensures { IfOk result (λ walked. ComesTo (all_seen events.now) shared.now levels.old
+        (moves_of_run run) levels.new walked) }
 {
-    for i in 0..moves.len() {
-        if is_beyond(steps[i], lefts[i]) {
-            return place_in(events, moves[i]);
+    let from = slot_of(run.first);
+    for slot in from..run.end {
+        let next = at_slot(run.first, slot);
+        let step = spending_step(shared, next);
+        if is_beyond(step, levels.left_at(step)) {
+            return Ok(Walked::Beyond(place_in(events, next)));
+        }
+        levels.step(alloc, step)?;
+    }
+    Ok(Walked::Past)
+}
+
+/// The place of the first move that takes more than is left, from so much of each slot on.
+fn spend_all(
+    alloc: Global,
+    events: &[Event<'_>],
+    shared: &[bool],
+    starts: Vec<usize>,
+    moves: &[Run],
+) -> Result<Option<Place>, NoMemory>
+    requires long { length shared.now ≡ length events.now }
+    requires within { AllByRecursion (IsMoveOf (length events.now)) (moves_in moves.now) }
+    ensures { IfOk result (λ place. place ≡ first_from (all_seen events.now) shared.now
+        starts.items (moves_in moves.now)) }
+{
+    let mut levels = Levels::new(alloc, starts);
+    for run in moves {
+        let walked = spend_run(alloc, events, shared, &mut levels, *run)?;
+        match walked {
+            Walked::Past => {}
+            Walked::Beyond(place) => return Ok(place),
         }
     }
-    None
+    Ok(None)
 }
 
 /// The place of the first access that takes more ports of a bank than those that it may meet leave.
@@ -109,16 +137,14 @@ pub fn first_spent(
     typed: &Typed,
     events: &[Event<'_>],
     shared: &[bool],
-    moves: &[Move],
+    moves: &[Run],
 ) -> Result<Option<Place>, NoMemory>
     requires table { IsProgramTable (table_of (program_seen typed.now)) }
     requires long { length shared.now ≡ length events.now }
-    requires within { AllByRecursion (IsMoveOf (length events.now)) moves.now }
+    requires within { AllByRecursion (IsMoveOf (length events.now)) (moves_in moves.now) }
     ensures { IfOk result (λ place. place ≡ spent_place (table_of (program_seen typed.now))
-        events.now shared.now moves.now) }
+        events.now shared.now (moves_in moves.now)) }
 {
-    let steps = spending_steps(alloc, shared, moves)?;
     let ports = bank_ports(alloc, typed.memories().as_slice())?;
-    let lefts = lefts(alloc, ports, steps.as_slice())?;
-    Ok(first_beyond(events, moves, steps.as_slice(), lefts.as_slice()))
+    spend_all(alloc, events, shared, ports, moves)
 }

@@ -87,21 +87,17 @@ fn keep_command(
             2
         }
         CommandForm::For {
-            iterator,
-            low,
-            high,
-            factor,
+            header,
             body,
             combine,
-            combine_place,
-            ..
         } => {
-            let inner = in_body(context, *factor, iterator.entity);
+            let header = header.as_ref();
+            let inner = in_body(context, header.factor, header.iterator.entity);
             let turn = keep_command(entities, inner, kept, body);
-            let joining = in_combine(context, iterator.entity);
+            let joining = in_combine(context, header.iterator.entity);
             let folds = keep_other(entities, joining, kept, combine);
-            keep_combine(kept, combine, *combine_place);
-            of_loop(*low, *high, *factor, turn, folds)
+            keep_combine(kept, combine, header.combine_place);
+            of_loop(header.low, header.high, header.factor, turn, folds)
         }
         CommandForm::Let { .. } => 1,
         CommandForm::Store { .. } => 1,

@@ -1,11 +1,10 @@
 //! The phases of a command: what it does in each of its steps.
 
 ghost use Rattle.std.specs.Prelude.{◌≡◌, ◌<◌, ◌++◌, ◌∷◌, [], IfOk, length};
-ghost use Rattle.std.specs.List.{AllByRecursion};
 ghost use Rattle.dh_tree.specs.Seen.{action_seen, plan_seen};
 ghost use Rattle.dh_tree.specs.ViewOffsets.{moves as moves_so};
-ghost use Rattle.dh_sem.specs.Gathered.{FixesForm, GathersGroups, GathersOf, HoldsAll, HoldsList, all_kept, at_once, commands_seen, ended_all, ended_at, folded_with, joined_at, joined_with, kept_of, view_kept};
-ghost use Rattle.dh_sem.specs.Gathered.{BeginsIf, Chooses, Counts, Repeats, another, done_at_once};
+ghost use Rattle.dh_sem.specs.Gathered.{FixesForm, GathersGroups, GathersOf, HoldsAll, HoldsList, all_kept, at_once, commands_seen, ended_at, folded_with, joined_at, joined_with, kept_of, view_kept};
+ghost use Rattle.dh_sem.specs.Gathered.{BeginsIf, Chooses, Counts, Repeats, done_at_once};
 ghost use Rattle.dh_sem.specs.Lanes.{LanesInside, MoreLanes};
 ghost use Rattle.dh_meaning.specs.Phases.{phases};
 
@@ -327,26 +326,32 @@ pub fn phases_in<'a>(
             repeat(names, made, paths, test, body)
         }
         CommandForm::For {
-            iterator,
-            low,
-            high,
-            factor,
+            header,
             body,
             combine,
-            ..
         } => {
-            let turns = turn_count(*low, *high, *factor);
+            let header = header.as_ref();
+            let turns = turn_count(header.low, header.high, header.factor);
             if turns == 0 {
                 return Ok(Vec::new(names.alloc));
             }
-            let within = lanes_inside(names.alloc, &mut made.lanes, paths, *factor)?;
+            let within = lanes_inside(names.alloc, &mut made.lanes, paths, header.factor)?;
             let body = phases_in(names, made, within, body)?;
             let folds = match combine {
                 Some(block) => phases_in(names, made, within, block)?,
                 None => Vec::new(names.alloc),
             };
             let turn = fold(names.alloc, body, folds)?;
-            count(names, made, iterator, *low, *factor, turns, within, turn)
+            count(
+                names,
+                made,
+                &header.iterator,
+                header.low,
+                header.factor,
+                turns,
+                within,
+                turn,
+            )
         }
         CommandForm::Block { body } => phases_in_parts(names, made, paths, body.as_slice()),
         CommandForm::LetMemory { .. } => Ok(Vec::new(names.alloc)),

@@ -2,3 +2,4 @@ pub mod Spots
 pub mod Counts
 pub mod Loops
 pub mod CopiesWalked
+pub mod SingleCopies

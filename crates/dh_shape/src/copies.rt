@@ -21,13 +21,13 @@ pub(crate) fn copies_above(round: u64, command: &Command) -> Option<Excess>
         }
         CommandForm::While { body, .. } => copies_above(round, body),
         CommandForm::For {
-            factor,
+            header,
             body,
             combine,
-            ..
         } => {
+            let header = header.as_ref();
             // where it is not the first excess, it is below the limit, and so is not cut off
-            let inside = product(round, *factor);
+            let inside = product(round, header.factor);
             let inner = copies_above(inside, body);
             let behind = first_of(inner, copies_above_in_other(inside, combine));
             first_of(excess(Limit::Copies, inside), behind)

@@ -2,7 +2,7 @@
 
 ghost use Rattle.std.specs.Prelude.{◌≡◌, ◌*◌, min};
 ghost use Rattle.dh_tree.specs.Elements.{banks_of};
-ghost use Rattle.dh_tree.specs.Excesses.{most_counted, first_excess};
+ghost use Rattle.dh_tree.specs.Excesses.{most_counted, copies_excess, first_excess};
 ghost use Rattle.dh_tree.specs.Seen.{program_seen};
 ghost use Rattle.dh_tree.specs.Tables.{elements_of, elements_in};
 ghost use Rattle.dh_shape.specs.Above.{excess_in, first_in, excess_of, TellsExcess};
@@ -110,6 +110,18 @@ fn table_excess(entries: &[MemEntry], copies: Option<Excess>) -> Option<Excess>
     excess(Limit::Elements, all_elements(entries))
 }
 
+/// The first excess of copies of a program: where each loop has one there is none, and nothing is walked
+/// over.
+fn program_copies(typed: &Typed) -> Option<Excess>
+    ensures { result ≡ copies_excess 1 (program_seen typed.now).body }
+{
+    if typed.has_single_loops() {
+        None
+    } else {
+        copies_above(1, &typed.tree().body)
+    }
+}
+
 /// Tells whether the memories and copies of a program keep the limits. Takes no memory.
 ///
 /// # Errors
@@ -121,7 +133,7 @@ fn table_excess(entries: &[MemEntry], copies: Option<Excess>) -> Option<Excess>
 pub fn within(typed: &Typed) -> Result<(), Excess>
     ensures { TellsExcess (first_excess (program_seen typed.now)) result }
 {
-    let copies = copies_above(1, &typed.tree().body);
+    let copies = program_copies(typed);
     match table_excess(typed.memories().as_slice(), copies) {
         Some(excess) => Err(excess),
         None => Ok(()),

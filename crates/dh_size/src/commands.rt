@@ -18,9 +18,10 @@ pub fn with_command(sum: u64, command: &Command) -> u64
         CommandForm::Let { value, .. } => with_value(own, value),
         CommandForm::Assign { value, .. } => with_operators(own, value),
         CommandForm::Reduce { value, .. } => with_operators(own, value).saturating_add(1),
-        CommandForm::Store { target, value } => {
-            let next = with_operators(own, value);
-            with_operators(next, target)
+        CommandForm::Store { sides } => {
+            let sides = sides.as_ref();
+            let next = with_operators(own, &sides.value);
+            with_operators(next, &sides.target)
         }
         CommandForm::If { test, then, other } => {
             let tests = with_operators(own, test);
@@ -32,14 +33,14 @@ pub fn with_command(sum: u64, command: &Command) -> u64
             with_command(next, body)
         }
         CommandForm::For {
-            factor,
+            header,
             body,
             combine,
-            ..
         } => {
+            let header = header.as_ref();
             let turn = with_command(0, body);
             let inner = with_other(turn, combine);
-            own.saturating_add(factor.saturating_mul(inner))
+            own.saturating_add(header.factor.saturating_mul(inner))
         }
         CommandForm::Block { body } => with_parts(own, body.as_slice()),
         CommandForm::LetMemory { .. } => own,

@@ -102,7 +102,7 @@ pub fn plan_size(alloc: Global, program: &Typed) -> Result<u64, NoMemory>
     note_rounds(alloc, &mut rounds, &[], body)?;
     let mut stages = Vec::new(alloc);
     note_stages(&mut stages, body)?;
-    let mut notes = Notes::new(alloc);
+    let mut notes = Notes::for_commands(alloc, stages.len())?;
     note_body(&mut notes, stages.as_slice(), body)?;
     let events = notes.events.as_slice();
     let accesses = access_sizes(

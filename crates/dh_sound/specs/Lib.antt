@@ -27,7 +27,6 @@ pub mod BlocksCovered
 pub mod StepsCovered
 pub mod Joins
 pub mod StraightKinds
-pub mod Unled
 pub mod BehindViews
 pub mod ViewTrails
 pub mod ViewsBound

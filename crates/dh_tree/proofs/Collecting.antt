@@ -6,14 +6,13 @@ use Rattle.std.specs.Prelude.{slice_set, get_or}
 use Rattle.std.proofs.Math.Seq.{take-suc}
 use Rattle.std.specs.Option.{is_some}
 use Rattle.dh_tree.specs.declared.trees.memories.Found.{Found}
-use Rattle.dh_base.specs.declared.places.Place.{Place}
-use Rattle.dh_value.specs.declared.kinds.Kind.{Kind}
-use Rattle.dh_tree.specs.declared.trees.expressions.Ref.{Ref}
-use Rattle.dh_tree.specs.PlainTrees.{Placed, Unrolled, Action, ActionForm, counts, MaybeAction}
+use Rattle.dh_tree.specs.declared.trees.commands.LoopHeader.{LoopHeader}
+use Rattle.dh_tree.specs.PlainTrees.{Action, ActionForm, MaybeAction}
+use Rattle.dh_tree.specs.Seen.{counts_seen}
 use Rattle.dh_tree.specs.Memories.{Memory, same_entity, number_in, form_locals}
 use Rattle.dh_tree.specs.declared.trees.counters.Counter.{Counter}
 use Rattle.dh_tree.specs.Counters.{counters, form_counters, other_counters, counter_in}
-use Rattle.dh_tree.specs.Collected.{memory_found, all_found, AreKept, AreCounted}
+use Rattle.dh_tree.specs.Collected.{memory_found, all_found, counter_of, AreKept, AreCounted}
 
 -- what is looked up of an entity that had this before, where something stands for it or does not
 abbrev pub one_more : {A : Type 0} → Option A → Bool → A → Option A
@@ -136,11 +135,11 @@ memory_more found new f seen form e s l =
     ap all_found e ∙ (map-append memory_found found (f ∷ []) ∙ ap (λ ms. all_found found ++ ms) (sym (ap form_locals s ∙ l)))
 
 -- a loop is found, and those inside it
-pub loop_more : (old pushed inner all : List Counter) (seen : ActionForm) {iterator : Ref} {declared : Option Kind} {low high : Placed} {factor : Unrolled} {body : Action} {combine : MaybeAction} {place : Place}
-    → seen ≡ counts iterator declared low high factor body combine place → pushed ≡ old ++ record { entity = iterator.entity; low = low.value; high = high.value; factor = factor.value } ∷ [] → inner ≡ pushed ++ counters body → all ≡ inner ++ other_counters combine → all ≡ old ++ form_counters seen
-loop_more old pushed inner all seen {iterator = i} {low = low} {high = high} {factor = factor} {body = body} {combine = combine} s p f g =
+pub loop_more : (old pushed inner all : List Counter) (seen : ActionForm) (header : LoopHeader) (body : Action) (combine : MaybeAction)
+    → seen ≡ counts_seen header body combine → pushed ≡ old ++ counter_of header ∷ [] → inner ≡ pushed ++ counters body → all ≡ inner ++ other_counters combine → all ≡ old ++ form_counters seen
+loop_more old pushed inner all seen header body combine s p f g =
     g ∙ (ap (λ l. l ++ other_counters combine) (f ∙ ap (λ l. l ++ counters body) p)
-    ∙ (ap (λ l. l ++ other_counters combine) (append_assoc old (record { entity = i.entity; low = low.value; high = high.value; factor = factor.value } ∷ []) (counters body))
+    ∙ (ap (λ l. l ++ other_counters combine) (append_assoc old (counter_of header ∷ []) (counters body))
     ∙ (append_assoc old _ (other_counters combine) ∙ ap (λ x. old ++ form_counters x) (sym s))))
 
 -- loops noted so far, and the next one

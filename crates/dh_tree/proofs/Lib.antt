@@ -18,6 +18,10 @@ pub mod KeptMemories
 pub mod ProgramTables
 pub mod Collecting
 pub mod EntitiesGrow
+pub mod LoopsAmong
+pub mod SortsDeclared
+pub mod ViewsDeclared
+pub mod SingleLoops
 pub mod ShapeRules
 pub mod BankElements
 pub mod BankSpread

@@ -1,14 +1,15 @@
 -- What is kept of the memories of a program: their table, and their numbers by entity.
-use Rattle.std.specs.Prelude.{◌≡◌, ℕ, ◌<◌, List, [], ◌∷◌, ◌++◌, length, map, get_or, Option, Some, None, Result, OnOk, Vec}
+use Rattle.std.specs.Prelude.{◌≡◌, ℕ, ◌<◌, IsTrue, List, [], ◌∷◌, ◌++◌, length, map, get_or, Option, Some, None, Result, OnOk, Vec}
 use Rattle.std.specs.Global.{Global}
 use Rattle.dh_tree.specs.declared.tables.MemEntry.{MemEntry}
-use Rattle.dh_tree.specs.declared.trees.commands.Command.{Command}
+use Rattle.dh_tree.specs.declared.trees.commands.LoopHeader.{LoopHeader}
 use Rattle.dh_tree.specs.declared.trees.counters.Counter.{Counter}
+use Rattle.dh_tree.specs.declared.trees.counters.Loops.{Loops}
 use Rattle.dh_tree.specs.declared.trees.memories.Collected.{Collected}
 use Rattle.dh_tree.specs.declared.trees.memories.Found.{Found}
 use Rattle.dh_tree.specs.declared.trees.programs.Decl.{Decl}
 use Rattle.dh_tree.specs.declared.trees.programs.Tree.{Tree}
-use Rattle.dh_tree.specs.Counters.{counters, counter_in}
+use Rattle.dh_tree.specs.Counters.{counters, counter_in, AreSingle}
 use Rattle.dh_tree.specs.Memories.{Memory, outside_memory, memories_of, number_in, entry_of}
 use Rattle.dh_tree.specs.Seen.{declared_seen, action_seen, program_seen}
 
@@ -17,6 +18,10 @@ memory_found f = record { name = f.name.now; shape = f.shape.now; shape_places =
 
 abbrev pub all_found : List Found → List Memory
 all_found fs = map memory_found fs
+
+-- the loop with this header
+abbrev pub counter_of : LoopHeader → Counter
+counter_of h = record { entity = h.iterator.entity; low = h.low; high = h.high; factor = h.factor }
 
 -- these memories are found behind those that were found before, where no memory was refused
 abbrev pub FindsMemories : {E : Type 0} → Result (Unit {0}) E → (old new : Vec Found Global) → List Memory → Type 0
@@ -52,9 +57,15 @@ pub record HasTable (ms : List Memory) (entities : ℕ) (table : List MemEntry) 
 abbrev pub AreNumbersOf : List Memory → (entities : ℕ) → List (Option ℕ) → Type 0
 AreNumbersOf ms entities numbers = (length numbers ≡ entities) × AreNumbered ms numbers
 
--- so many loops, of each entity that of which it is the iterator
-abbrev pub AreLoopsOf : Command → (entities : ℕ) → List (Option Counter) → Type 0
-AreLoopsOf body entities slots = (length slots ≡ entities) × AreCounted (counters (action_seen body)) slots
+-- these loops among so many entities: of each entity that of which it is the iterator, where there is a loop; and
+-- where it is told, each has one copy of its body at most
+abbrev pub AreLoopsAmong : List Counter → (entities : ℕ) → Loops → Type 0
+AreLoopsAmong cs entities l =
+    ((cs ≡ [] → ⊥) → length l.by_entity.items ≡ entities) × (AreCounted cs l.by_entity.items × (IsTrue l.single → AreSingle cs))
+
+-- the loops of a tree
+abbrev pub AreLoopsOf : Tree → Loops → Type 0
+AreLoopsOf t l = AreLoopsAmong (counters (action_seen t.body)) (length t.entities.items) l
 
 -- where an entity is the next memory behind those that are numbered, and this is its number, it is numbered too
 abbrev pub NumbersNext : (entity : Option ℕ) → (number : ℕ) → (old new : List (Option ℕ)) → Type 0

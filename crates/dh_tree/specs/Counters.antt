@@ -1,5 +1,6 @@
 -- The loops of a program, by their iterators.
-use Rattle.std.specs.Prelude.{ℕ, List, [], ◌∷◌, ◌++◌, Option, Some, None, if◌then◌else◌}
+use Rattle.std.specs.Prelude.{ℕ, ◌≤◌, List, [], ◌∷◌, ◌++◌, Option, Some, None, if◌then◌else◌}
+use Rattle.std.specs.List.{AllByRecursion}
 use Rattle.dh_tree.specs.declared.trees.counters.Counter.{Counter}
 use Rattle.dh_tree.specs.Memories.{same_entity}
 use Rattle.dh_tree.specs.PlainTrees.{Action, action, ActionForm, lets, lets_memory, views, assigns, stores, reduces, calls, blocks, decides, repeats, counts, MaybeAction, no_action, one_action, Actions, no_actions, action_then, Groups, no_groups, group_then, Program}
@@ -42,3 +43,11 @@ counters_of p = counters p.body
 abbrev pub counter_in : List Counter → Option ℕ → Option Counter
 counter_in [] entity = None
 counter_in (c ∷ cs) entity = if same_entity c.entity entity then Some c else counter_in cs entity
+
+-- a loop has one copy of its body at most
+abbrev pub IsSingle : Counter → Type 0
+IsSingle c = c.factor ≤ 1
+
+-- and so each of these
+abbrev pub AreSingle : List Counter → Type 0
+AreSingle cs = AllByRecursion IsSingle cs

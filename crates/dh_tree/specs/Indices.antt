@@ -1,7 +1,8 @@
 -- Which sizes, banks, indices and bounds of a program break the rules on shapes: `BankDivides` (K8),
 -- `UnrollDivides` (K9), `BankUnroll` (K10), `DynamicBank` (K11) and `ConstantRange` (K12). (The rules of
 -- this profile on banks and ranges, after Nigam and others, PLDI 2020.) Accesses to a memory whose shape
--- breaks a rule add no breach. Views and calls are not built and have none.
+-- breaks a rule add no breach. Those of views and of accesses through them stand in `ViewBreaches`; calls are not
+-- built and have none.
 use Rattle.std.specs.Prelude.{ℕ, ◌-◌, ◌%◌, ◌==◌, ◌&&◌, ◌||◌, not, nat_le, nat_lt, Bool, true, false, List, [], ◌∷◌, ◌++◌, Option, Some, None, if◌then◌else◌, ℤ, pos, neg_ℤ, ◌+ℤ◌, int_le, int_lt}
 use Rattle.dh_base.specs.declared.places.Place.{Place}
 use Rattle.dh_base.specs.declared.rules.Rule.TheVariants.{BankDivides, UnrollDivides, BankUnroll, DynamicBank, ConstantRange}

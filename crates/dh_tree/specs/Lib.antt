@@ -3,6 +3,7 @@ pub mod Tables
 pub mod Memories
 pub mod Counters
 pub mod Collected
+pub mod EntitySorts
 pub mod Shapes
 pub mod Indices
 pub mod ViewElements
@@ -29,6 +30,7 @@ pub mod Told
 pub mod Scopes
 pub mod Breaches
 pub mod Resolved
+pub mod TypedTrees
 pub mod NameCounts
 pub mod Forms
 pub mod Widths

@@ -1,8 +1,8 @@
 -- The rules on where memories are declared, what is assigned to, and what stands in the copies of a loop's
 -- body: `MemoryPlace` (K14), `OuterWrite` (K15), `DivergentSteps` (K16) and `Reducer` (K17). (The rules of
 -- this profile.) Entities are numbered in text order: what is declared outside a loop has a number below
--- that of its iterator, what is declared inside has one above. Views and calls are not built and have no
--- breach.
+-- that of its iterator, what is declared inside has one above. A view breaks none of these rules but where it
+-- stands for a reducer; calls are not built and have no breach.
 use Rattle.std.specs.Prelude.{ℕ, ◌&&◌, ◌||◌, not, nat_lt, nat_le, Bool, true, false, if◌then◌else◌, List, [], ◌∷◌, ◌++◌, slice_get, Option, Some, None}
 use Rattle.std.specs.Option.{is_some}
 use Rattle.dh_base.specs.declared.places.Place.{Place}

@@ -11,6 +11,8 @@ use Rattle.dh_tree.specs.declared.trees.commands.Command.{Command}
 use Rattle.dh_tree.specs.declared.trees.commands.CommandForm.{CommandForm}
 use Rattle.dh_tree.specs.declared.trees.commands.CommandForm.TheVariants.{Let, LetMemory, View, Assign, Store, Reduce, Call, Block, Block', If', While', For'}
 use Rattle.dh_tree.specs.declared.trees.commands.CommandForm.TheBlock as block
+use Rattle.dh_tree.specs.declared.trees.commands.LoopHeader.{LoopHeader}
+use Rattle.dh_tree.specs.declared.trees.commands.Sides.{Sides}
 use Rattle.dh_tree.specs.declared.trees.commands.ViewForm.{ViewForm}
 use Rattle.dh_tree.specs.declared.trees.commands.ViewForm.TheVariants.{Shrink, Split, Suffix, Shift}
 use Rattle.dh_tree.specs.declared.trees.programs.Decl.{Decl}
@@ -68,20 +70,37 @@ placed value place = record { value = value; place = place }
 abbrev pub unrolled : ℕ → Place → Place → Unrolled
 unrolled value place word = record { value = value; place = place; word = word }
 
+-- both sides of a store, as the form of a command
+abbrev pub sides_seen : Sides → ActionForm
+sides_seen s = stores (term_seen s.target) (term_seen s.value)
+
+-- the numbers of a loop, each with its place
+abbrev pub low_seen : LoopHeader → Placed
+low_seen h = placed h.low h.low_place
+
+abbrev pub high_seen : LoopHeader → Placed
+high_seen h = placed h.high h.high_place
+
+abbrev pub unroll_seen : LoopHeader → Unrolled
+unroll_seen h = unrolled h.factor h.factor_place h.unroll_place
+
+-- the loop with this header, this body, and this block that joins its copies
+abbrev pub counts_seen : LoopHeader → Action → MaybeAction → ActionForm
+counts_seen h body combine = counts h.iterator h.declared (low_seen h) (high_seen h) (unroll_seen h) body combine h.combine_place
+
 unfoldable mutual
   pub action_form_seen : CommandForm → ActionForm
-  action_form_seen (Let name declared value) = lets name declared (option_map term_seen value)
-  action_form_seen (LetMemory name shape shape_places value) = lets_memory name shape.value shape_places.value (option_map term_seen value)
-  action_form_seen (View name parent form) = views name parent (plan_seen form)
-  action_form_seen (Assign target value) = assigns target (term_seen value)
-  action_form_seen (Store target value) = stores (term_seen target) (term_seen value)
-  action_form_seen (Reduce target op value) = reduces target op (term_seen value)
-  action_form_seen (Call function arguments) = calls function (map term_seen arguments.items)
+  action_form_seen (Let declared name value) = lets name declared (option_map term_seen value.value)
+  action_form_seen (LetMemory name shape shape_places value) = lets_memory name.value shape.value shape_places.value (option_map term_seen value.value)
+  action_form_seen (View name parent form) = views name.value parent.value (plan_seen form.value)
+  action_form_seen (Assign target value) = assigns target (term_seen value.value)
+  action_form_seen (Store sides) = sides_seen sides.value
+  action_form_seen (Reduce op target value) = reduces target op (term_seen value.value)
+  action_form_seen (Call function arguments) = calls function.value (map term_seen arguments.items)
   action_form_seen (Block' shape rows) = blocks (rows_seen rows)
-  action_form_seen (If' test p id place form other) = decides (term_seen test) (action id place (action_form_seen form)) (other_seen other)
-  action_form_seen (While' test p id place form) = repeats (term_seen test) (action id place (action_form_seen form))
-  action_form_seen (For' iterator declared low low_place high high_place factor factor_place unroll_place p id place form combine combine_place) =
-      counts iterator declared (placed low low_place) (placed high high_place) (unrolled factor factor_place unroll_place) (action id place (action_form_seen form)) (other_seen combine) combine_place
+  action_form_seen (If' test p id place form other) = decides (term_seen test.value) (action id place (action_form_seen form)) (other_seen other)
+  action_form_seen (While' test p id place form) = repeats (term_seen test.value) (action id place (action_form_seen form))
+  action_form_seen (For' header p id place form combine) = counts_seen header.value (action id place (action_form_seen form)) (other_seen combine)
 
   pub other_seen : block.Held-CommandForm-If-2 → MaybeAction
   other_seen block.None' = no_action

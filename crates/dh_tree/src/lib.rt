@@ -20,7 +20,7 @@ pub use laws::{
 pub use loads::loads_are_largest_sums;
 pub use tables::{Dim, MemEntry, MemTable, Name, Shape, copy_table, element_count, is_table};
 pub use trees::{
-    Command, CommandForm, Counter, Decl, DimPlaces, Entity, Expr, ExprForm, Function, Named,
-    Parameter, Ref, ShapePlaces, Sort, Tree, Typed, ViewForm, has_dashes,
+    Command, CommandForm, Counter, Decl, DimPlaces, Entity, Expr, ExprForm, Function, LoopHeader,
+    Named, Parameter, Ref, ShapePlaces, Sides, Sort, Tree, Typed, ViewForm, has_dashes,
 };
 pub use viewing::{ViewMap, ViewSort, Viewed};

@@ -11,9 +11,10 @@ mod expressions;
 mod memories;
 mod named;
 mod programs;
+mod sorts;
 mod typed;
 
-pub use commands::{Command, CommandForm, ViewForm};
+pub use commands::{Command, CommandForm, LoopHeader, Sides, ViewForm};
 pub use counters::Counter;
 pub use dividing::has_dashes;
 pub use expressions::{Expr, ExprForm, Ref};

@@ -1,5 +1,5 @@
 -- What a walk over a form does, from what its steps do.
-use Rattle.std.proofs.Common.{◌≡◌, List, [], ◌∷◌, ◌++◌, Option, Some, None, sym, ap, subst, ◌∙◌}
+use Rattle.std.proofs.Common.{◌≡◌, List, [], ◌∷◌, ◌++◌, Option, Some, None, refl, sym, ap, subst, ◌∙◌}
 use Rattle.std.proofs.lemmas.List.{append_assoc}
 use Rattle.dh_base.specs.declared.places.Place.{Place}
 use Rattle.dh_value.specs.declared.kinds.Kind.{Kind}
@@ -9,11 +9,15 @@ use Rattle.dh_tree.specs.declared.breaches.Breach.{Breach}
 use Rattle.dh_tree.specs.declared.trees.expressions.Ref.{Ref}
 use Rattle.dh_tree.specs.declared.trees.programs.ShapePlaces.{ShapePlaces}
 use Rattle.dh_tree.specs.declared.trees.commands.Command.{Command}
-use Rattle.dh_tree.specs.Seen.{action_seen}
+use Rattle.dh_tree.specs.declared.trees.commands.LoopHeader.{LoopHeader}
+use Rattle.dh_tree.specs.declared.trees.commands.ViewForm.{ViewForm}
+use Rattle.dh_tree.specs.declared.trees.expressions.Expr.{Expr}
+use Rattle.dh_tree.specs.Seen.{plan_seen, action_seen, low_seen, high_seen, unroll_seen, counts_seen}
 use Rattle.dh_tree.specs.PlainTrees.{Term, ViewPlan, Placed, Unrolled, Action, ActionForm, lets, lets_memory, views, assigns, stores, reduces, calls, blocks, decides, repeats, counts, MaybeAction, Groups}
 use Rattle.dh_tree.specs.Kinds.{Fact, of_iterator, Facts, fact_of, found, for_numbers, parameters_of, target_kind, variable_fact, parameter_fact, view_fact, iterator_kind, facts_after, facts_after_other, typed_term, typed_maybe, typed_plan, typed_arguments, typed_action, typed_other}
 use Rattle.dh_tree.specs.KindBreaches.{term_kind_breaches, right_side_breaches, maybe_breaches, condition_breaches, plan_breaches, target_breaches, parent_breaches, reducer_breaches, arguments_breaches, iterator_breaches, low_breaches, high_breaches, action_kind_breaches, other_kind_breaches}
-use Rattle.dh_types.specs.Walks.{State, walked, noted, learned, Types, TypesForm, TypesOther, TypesGroups}
+use Rattle.dh_types.specs.InTrees.{value_seen}
+use Rattle.dh_types.specs.Walks.{State, walked, noted, learned, entered, entered_as, Types, TypesForm, TypesOther, TypesGroups}
 use Rattle.dh_tree.proofs.Leasts.{least_append}
 
 abbrev state_with : Facts → Option Breach → State
@@ -43,16 +47,6 @@ memory_done s0 s1 s2 name shape places v v' fact tree one known two = record {
   tree = ap (λ w. lets_memory name shape places w) tree;
   state = two ∙ ap (λ f. learned s1 f) known ∙ ap (λ s. learned s (parameter_fact shape.kind (Some shape))) one;
 }
-
--- the same where the shape's box is read twice on the way
-pub memory_read : (s0 s1 s2 : State) (name : Ref) (shape first second : Shape) (places : ShapePlaces) (v v' : Option Term) (fact : Fact)
-    → first ≡ shape → second ≡ shape
-    → v' ≡ typed_maybe s0.facts (Some first.kind) v → s1 ≡ noted s0 (maybe_breaches s0.facts (Some first.kind) v') → fact ≡ parameter_fact second.kind (Some second) → s2 ≡ learned s1 fact
-    → TypesForm s0 s2 (lets_memory name shape places v) (lets_memory name shape places v')
-memory_read s0 s1 s2 name shape first second places v v' fact at_first at_second tree one known two =
-    memory_done s0 s1 s2 name shape places v v' fact
-    (tree ∙ ap (λ (s : Shape). typed_maybe s0.facts (Some s.kind) v) at_first) (one ∙ ap (λ (s : Shape). noted s0 (maybe_breaches s0.facts (Some s.kind) v')) at_first)
-    (known ∙ ap (λ (s : Shape). parameter_fact s.kind (Some s)) at_second) two
 
 pub views_done : (s0 s1 s2 s3 : State) (name parent : Ref) (f f' : ViewPlan) (fact : Fact)
     → s1 ≡ noted s0 (parent_breaches (fact_of s0.facts parent) parent.place)
@@ -146,6 +140,32 @@ counts_done s0 s1 s2 s3 s4 i k kind low high factor a a' o o' place fact kind_is
           (append_assoc (iterator_breaches i j) (low_breaches j low ++ high_breaches j low high) inside ∙ ap (λ l. iterator_breaches i j ++ l) (append_assoc (low_breaches j low) (high_breaches j low high) inside));
     }
 
--- a command that is behind a box
+-- the header of a loop, from what its steps do
+pub header_done : (s0 s1 s2 : State) (h : LoopHeader) (kind : Kind) → kind ≡ iterator_kind h.declared
+    → s1 ≡ noted s0 (iterator_breaches h.iterator kind ++ (low_breaches kind (low_seen h) ++ high_breaches kind (low_seen h) (high_seen h))) → s2 ≡ learned s1 (of_iterator kind) → s2 ≡ entered s0 h
+header_done s0 s1 s2 h kind is one two = two ∙ ap (λ s. learned s (of_iterator kind)) one ∙ ap (λ k. entered_as s0 h k) is
+
+-- a loop behind its header
+pub loops_done : (s0 s1 s2 s3 : State) (h : LoopHeader) (a a' : Action) (o o' : MaybeAction)
+    → s1 ≡ entered s0 h → Types s1 s2 a a' → TypesOther s2 s3 o o' → TypesForm s0 s3 (counts_seen h a o) (counts_seen h a' o')
+loops_done s0 s1 s2 s3 h a a' o o' head body combine =
+    let j = iterator_kind h.declared in
+    let one = noted s0 (iterator_breaches h.iterator j ++ (low_breaches j (low_seen h) ++ high_breaches j (low_seen h) (high_seen h))) in
+    counts_done s0 one s1 s2 s3 h.iterator h.declared j (low_seen h) (high_seen h) (unroll_seen h) a a' o o' h.combine_place (of_iterator j) refl refl refl head body combine
+
+-- What was done to what is behind boxes: the shape and the right side of a memory, the parent and the form of a
+-- view, a command.
+pub memory_at : (s s' : State) (name : Ref) (places : ShapePlaces) (x y : Shape) (v w u : Option Expr) → x ≡ y → v ≡ w
+    → TypesForm s s' (lets_memory name x places (value_seen v)) (lets_memory name x places (value_seen u)) → TypesForm s s' (lets_memory name y places (value_seen w)) (lets_memory name y places (value_seen u))
+memory_at s s' name places x y v w u is now done =
+    subst (λ (h : Shape). TypesForm s s' (lets_memory name h places (value_seen w)) (lets_memory name h places (value_seen u))) is
+    (subst (λ (o : Option Expr). TypesForm s s' (lets_memory name x places (value_seen o)) (lets_memory name x places (value_seen u))) now done)
+
+pub viewed_at : (s s' : State) (name x y : Ref) (f g h : ViewForm) → x ≡ y → f ≡ g
+    → TypesForm s s' (views name x (plan_seen f)) (views name x (plan_seen h)) → TypesForm s s' (views name y (plan_seen g)) (views name y (plan_seen h))
+viewed_at s s' name x y f g h is now done =
+    subst (λ (r : Ref). TypesForm s s' (views name r (plan_seen g)) (views name r (plan_seen h))) is
+    (subst (λ (p : ViewForm). TypesForm s s' (views name x (plan_seen p)) (views name x (plan_seen h))) now done)
+
 pub types_at : (s s' : State) (x y : Command) (b : Action) → x ≡ y → Types s s' (action_seen x) b → Types s s' (action_seen y) b
 types_at s s' x y b is done = subst (λ z. Types s s' (action_seen z) b) is done

@@ -1,6 +1,6 @@
 pub mod LeastKept
 pub mod Indices
-pub mod InArms
+pub mod Widths
 pub mod Forms
 pub mod Lists
 pub mod Known

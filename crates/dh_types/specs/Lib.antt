@@ -1,4 +1,5 @@
 pub mod Facts
+pub mod Leaves
 pub mod Bare
 pub mod InTrees
 pub mod Judging

@@ -8,18 +8,24 @@ use Rattle.dh_tree.specs.declared.trees.expressions.Expr.{Expr}
 use Rattle.dh_tree.specs.declared.trees.expressions.Ref.{Ref}
 use Rattle.dh_tree.specs.declared.trees.commands.Command.{Command}
 use Rattle.dh_tree.specs.declared.trees.commands.CommandForm.{CommandForm}
+use Rattle.dh_tree.specs.declared.trees.commands.LoopHeader.{LoopHeader}
+use Rattle.dh_tree.specs.declared.trees.commands.Sides.{Sides}
+use Rattle.dh_tree.specs.declared.trees.commands.ViewForm.{ViewForm}
+use Rattle.dh_tree.specs.declared.tables.Shape.{Shape}
+use Rattle.dh_tree.specs.declared.trees.programs.ShapePlaces.{ShapePlaces}
 use Rattle.dh_tree.specs.declared.trees.programs.Decl.{Decl}
 use Rattle.dh_tree.specs.declared.trees.programs.Parameter.{Parameter}
 use Rattle.dh_tree.specs.declared.trees.programs.Function.{Function}
 use Rattle.dh_tree.specs.LeastBreach.{least_of}
 use Rattle.dh_tree.specs.NameCounts.{declared_in}
-use Rattle.dh_tree.specs.Seen.{term_seen, action_seen, action_form_seen, part_seen, declared_seen, formal_seen, defined_seen, maybe_block_seen}
-use Rattle.dh_tree.specs.PlainTrees.{Action, ActionForm, MaybeAction, Actions, Groups, Defined}
-use Rattle.dh_tree.specs.Kinds.{Fact, Facts, fact_of, target_kind, function_fact, declared_facts, formal_facts, facts_after, facts_after_form, facts_after_other, facts_after_actions, facts_after_groups, facts_after_function, facts_after_functions, typed_action, typed_action_form, typed_other, typed_actions, typed_groups, typed_function, typed_functions}
+use Rattle.dh_tree.specs.Seen.{term_seen, plan_seen, low_seen, high_seen, sides_seen, action_seen, action_form_seen, part_seen, declared_seen, formal_seen, defined_seen, maybe_block_seen}
+use Rattle.dh_tree.specs.PlainTrees.{Action, ActionForm, lets, lets_memory, views, MaybeAction, Actions, Groups, Defined}
+use Rattle.dh_tree.specs.Kinds.{Fact, of_iterator, iterator_kind, Facts, fact_of, target_kind, function_fact, declared_facts, formal_facts, facts_after, facts_after_form, facts_after_other, facts_after_actions, facts_after_groups, facts_after_function, facts_after_functions, typed_action, typed_action_form, typed_other, typed_actions, typed_groups, typed_function, typed_functions}
 use Rattle.dh_tree.specs.Kinds as rules
-use Rattle.dh_tree.specs.KindBreaches.{right_side_breaches, target_breaches, parent_breaches, reducer_breaches, action_kind_breaches, action_form_kind_breaches, other_kind_breaches, actions_kind_breaches, groups_kind_breaches, function_kind_breaches, functions_kind_breaches}
+use Rattle.dh_tree.specs.KindBreaches.{right_side_breaches, target_breaches, parent_breaches, reducer_breaches, iterator_breaches, low_breaches, high_breaches, action_kind_breaches, action_form_kind_breaches, other_kind_breaches, actions_kind_breaches, groups_kind_breaches, function_kind_breaches, functions_kind_breaches}
 use Rattle.dh_types.specs.declared.facts.Fact as known
 use Rattle.dh_types.specs.Facts.{fact_seen, facts_seen}
+use Rattle.dh_types.specs.InTrees.{value_seen}
 use Rattle.dh_types.specs.declared.walks.Walk.{Walk}
 
 -- a point of the text: what is known there, and the least breach so far
@@ -45,6 +51,13 @@ learned s fact = record { facts = s.facts ++ fact ∷ []; least = s.least }
 -- the state where further facts are known
 abbrev pub knows : State → List Fact → State
 knows s facts = record { facts = s.facts ++ facts; least = s.least }
+
+-- the state behind the header of a loop: its breaches are noted, and its iterator is known
+abbrev pub entered_as : State → LoopHeader → Kind → State
+entered_as s h kind = learned (noted s (iterator_breaches h.iterator kind ++ (low_breaches kind (low_seen h) ++ high_breaches kind (low_seen h) (high_seen h)))) (of_iterator kind)
+
+abbrev pub entered : State → LoopHeader → State
+entered s h = entered_as s h (iterator_kind h.declared)
 
 -- the walk notes these breaches at its point
 abbrev pub NotesAll : (old new : Walk) → List Breach → Type 0
@@ -129,6 +142,20 @@ TypesCommand old new a b = Types (state_of old) (state_of new) (action_seen a) (
 
 abbrev pub TypesCommandForm : (old new : Walk) → (a b : CommandForm) → Type 0
 TypesCommandForm old new a b = TypesForm (state_of old) (state_of new) (action_form_seen a) (action_form_seen b)
+
+-- the code's walk over the parts of a variable or a memory, of a view, and of a store, as a form of that name
+abbrev pub TypesVariable : (old new : Walk) → (declared : Option Kind) → (a b : Option Expr) → Type 0
+TypesVariable old new declared a b = (name : Ref) → TypesForm (state_of old) (state_of new) (lets name declared (value_seen a)) (lets name declared (value_seen b))
+
+abbrev pub TypesMemory : (old new : Walk) → Shape → (a b : Option Expr) → Type 0
+TypesMemory old new shape a b =
+    (name : Ref) (places : ShapePlaces) → TypesForm (state_of old) (state_of new) (lets_memory name shape places (value_seen a)) (lets_memory name shape places (value_seen b))
+
+abbrev pub TypesViewed : (old new : Walk) → (parent : Ref) → (a b : ViewForm) → Type 0
+TypesViewed old new parent a b = (name : Ref) → TypesForm (state_of old) (state_of new) (views name parent (plan_seen a)) (views name parent (plan_seen b))
+
+abbrev pub TypesSides : (old new : Walk) → (a b : Sides) → Type 0
+TypesSides old new a b = TypesForm (state_of old) (state_of new) (sides_seen a) (sides_seen b)
 
 abbrev pub TypesOptional : (old new : Walk) → (a b : Option (Box Command Global)) → Type 0
 TypesOptional old new a b = TypesOther (state_of old) (state_of new) (maybe_block_seen a) (maybe_block_seen b)

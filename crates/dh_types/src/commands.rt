@@ -1,26 +1,14 @@
 //! The kinds within commands.
 
-ghost use Rattle.std.specs.Prelude.{◌≡◌, ◌<◌, MatchResult};
+ghost use Rattle.std.specs.Prelude.{◌<◌, MatchResult};
 ghost use Rattle.dh_tree.specs.NameCounts.{declared_in, declared_in_form, declared_in_other, declared_in_actions};
 ghost use Rattle.dh_tree.specs.Seen.{action_seen, action_form_seen, part_seen, maybe_block_seen};
-ghost use Rattle.dh_tree.specs.Kinds as rules;
 ghost use Rattle.dh_types.specs.Walks.{TypesCommand, TypesCommandForm, TypesOptional, TypesPart};
 
-use crate::facts::{Fact, memory_fact, variable_fact};
 use crate::walks::Walk;
 use dh_base::NoMemory;
-use dh_tree::{Command, CommandForm, Kind};
+use dh_tree::{Command, CommandForm};
 use std::alloc::Global;
-
-// The kind of an iterator: the unsigned one of 32 bits where none is written.
-fn iterator_kind(declared: Option<Kind>) -> Kind
-    ensures { result ≡ rules.iterator_kind declared }
-{
-    match declared {
-        Some(kind) => kind,
-        None => Kind::Unsigned(32),
-    }
-}
 
 impl Walk {
     /// Gives the expressions of a command their kinds.
@@ -44,28 +32,23 @@ impl Walk {
                 value,
                 ..
             } => {
-                self.value(*declared, value);
-                self.learn(variable_fact(*declared, value))?;
+                self.variable(*declared, value)?;
                 Ok(())
             }
             CommandForm::LetMemory { shape, value, .. } => {
-                self.value(Some(shape.kind), value);
-                self.learn(memory_fact(shape))?;
+                self.memory(shape, value)?;
                 Ok(())
             }
             CommandForm::View { parent, form, .. } => {
-                self.parent(parent);
-                self.plan(form);
-                self.learn(self.view(parent, form))?;
+                self.viewed(parent, form)?;
                 Ok(())
             }
             CommandForm::Assign { target, value } => {
                 self.assignment(target, value);
                 Ok(())
             }
-            CommandForm::Store { target, value } => {
-                self.access(target);
-                self.right_side(target.kind, value);
+            CommandForm::Store { sides } => {
+                self.sides(sides);
                 Ok(())
             }
             CommandForm::Reduce { target, value, .. } => {
@@ -97,19 +80,11 @@ impl Walk {
                 Ok(())
             }
             CommandForm::For {
-                iterator,
-                declared,
-                low,
-                low_place,
-                high,
-                high_place,
+                header,
                 body,
                 combine,
-                ..
             } => {
-                let kind = iterator_kind(*declared);
-                self.bounds(iterator, kind, (*low, *low_place), (*high, *high_place));
-                self.learn(Fact::Iterator { kind })?;
+                self.header(header)?;
                 self.command(alloc, body)?;
                 self.optional(alloc, combine)?;
                 Ok(())

@@ -8,7 +8,7 @@ ghost use Rattle.dh_types.specs.Bare.{settled, settled_form, filled_in, filled_i
 ghost use Rattle.dh_types.specs.InTrees.{TypesTerm, TypesTerms, Fills, wanted_left, wanted_right};
 
 use crate::facts::Fact;
-use crate::finding::kind_found;
+use crate::finding::{is_bare_number, is_leaf, kind_found, leaf_kind};
 use crate::operands::{left_want, right_want};
 use crate::sorts::{for_numbers, keeps_bare};
 use dh_tree::{Expr, ExprForm, Kind};
@@ -59,6 +59,22 @@ pub fn settle(facts: &[Fact], term: &mut Expr) -> bool
     bare
 }
 
+// As `settle`, without a walk where it is a number or a name alone.
+#[cycle(expressions)]
+fn settle_part(facts: &[Fact], term: &mut Expr) -> bool
+    ensures bare { result ≡ rules.is_bare (term_seen term.old) }
+    ensures tree { term_seen term.new ≡ settled (facts_seen facts.now) (term_seen term.old) }
+{
+    if is_bare_number(&term.form) {
+        return true;
+    }
+    if is_leaf(&term.form) {
+        term.kind = leaf_kind(facts, None, &term.form);
+        return false;
+    }
+    settle(facts, term)
+}
+
 // The kinds within a form that is not bare, and whether it is. The form stays where it is.
 #[cycle(expressions)]
 #[tactic(auto, using(dh_tree::proofs::SeenTerms::terms_are))]
@@ -79,8 +95,8 @@ fn settle_form(facts: &[Fact], form: &mut ExprForm) -> bool
             false
         }
         ExprForm::Binary { op, left, right } => {
-            let bare_left = settle(facts, left);
-            let bare_right = settle(facts, right);
+            let bare_left = settle_part(facts, left);
+            let bare_right = settle_part(facts, right);
             if is_bare(*op, bare_left, bare_right) {
                 return true;
             }
@@ -99,6 +115,10 @@ fn settle_form(facts: &[Fact], form: &mut ExprForm) -> bool
 pub fn type_term(facts: &[Fact], want: Option<Kind>, term: &mut Expr)
     ensures { TypesTerm facts.now want term.old term.new }
 {
+    if is_leaf(&term.form) {
+        term.kind = leaf_kind(facts, want, &term.form);
+        return;
+    }
     if settle(facts, term) {
         fill(facts, want, term);
     }
@@ -126,7 +146,11 @@ fn fill_bare(facts: &[Fact], bare: bool, want: Option<Kind>, operand: &mut Expr)
     ensures { Fills facts.now bare want operand.old operand.new }
 {
     if bare {
-        fill(facts, want, operand);
+        if is_leaf(&operand.form) {
+            operand.kind = leaf_kind(facts, want, &operand.form);
+        } else {
+            fill(facts, want, operand);
+        }
     }
 }
 

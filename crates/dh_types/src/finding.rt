@@ -5,6 +5,7 @@ ghost use Rattle.dh_tree.specs.Seen.{term_seen, form_seen, all_terms_seen};
 ghost use Rattle.dh_tree.specs.Kinds as rules;
 ghost use Rattle.dh_types.specs.Facts.{facts_seen, known_fact, has_integer};
 ghost use Rattle.dh_types.specs.InTrees.{are_right_indices};
+ghost use Rattle.dh_types.specs.Leaves.{is_leaf_form, is_number_form, leaf_found};
 
 use crate::facts::{Fact, fact_of};
 use crate::operands::applied_kind;
@@ -94,6 +95,52 @@ fn cast_kind(inner: Option<Kind>, to: Kind) -> Option<Kind>
     match inner {
         Some(_) if !is_truth(to) => Some(to),
         _ => None,
+    }
+}
+
+/// Whether it is a number, which takes the kind of its place.
+#[tactic(auto, using(dh_tree::proofs::SeenTerms::terms_are))]
+pub fn is_bare_number(form: &ExprForm) -> bool
+    ensures { result ≡ is_number_form (form_seen form.now) }
+{
+    match form {
+        ExprForm::Number { .. } => true,
+        ExprForm::Truth { .. }
+        | ExprForm::Variable { .. }
+        | ExprForm::Access { .. }
+        | ExprForm::Physical { .. }
+        | ExprForm::Binary { .. }
+        | ExprForm::Cast { .. } => false,
+    }
+}
+
+/// Whether it is a number, a truth or a name alone, which have no parts.
+#[tactic(auto, using(dh_tree::proofs::SeenTerms::terms_are))]
+pub fn is_leaf(form: &ExprForm) -> bool
+    ensures { result ≡ is_leaf_form (form_seen form.now) }
+{
+    match form {
+        ExprForm::Number { .. } | ExprForm::Truth { .. } | ExprForm::Variable { .. } => true,
+        ExprForm::Access { .. }
+        | ExprForm::Physical { .. }
+        | ExprForm::Binary { .. }
+        | ExprForm::Cast { .. } => false,
+    }
+}
+
+/// The kind of a number, a truth or a name alone; none of other forms.
+#[tactic(auto, using(dh_tree::proofs::SeenTerms::terms_are))]
+pub fn leaf_kind(facts: &[Fact], want: Option<Kind>, form: &ExprForm) -> Option<Kind>
+    ensures { result ≡ leaf_found (facts_seen facts.now) want (form_seen form.now) }
+{
+    match form {
+        ExprForm::Number { negative, value } => number_kind(want, *negative, *value),
+        ExprForm::Truth { .. } => Some(Kind::Bool),
+        ExprForm::Variable { of } => value_kind(fact_of(facts, of)),
+        ExprForm::Access { .. }
+        | ExprForm::Physical { .. }
+        | ExprForm::Binary { .. }
+        | ExprForm::Cast { .. } => None,
     }
 }
 

@@ -9,6 +9,7 @@ ghost use Rattle.dh_tree.specs.KindBreaches.{term_kind_breaches, indices_kind_br
 ghost use Rattle.dh_types.specs.Facts.{facts_seen, known_fact, listed, is_memory as names_it, is_memory_name};
 ghost use Rattle.dh_types.specs.InTrees.{have_wrong_count};
 ghost use Rattle.dh_types.specs.Judging.{JudgesAccess, KeepsBy, breaches_for};
+ghost use Rattle.dh_types.specs.Leaves.{is_sound, names_value};
 
 use crate::facts::{Fact, fact_of};
 use crate::keeping::{keep, lost_unless, mismatch_unless};
@@ -97,6 +98,33 @@ fn cast_breach(place: Place, inner: Option<Kind>, to: Kind) -> Option<Breach>
     }
 }
 
+// Whether a name that is used as a value breaks no rule.
+fn is_value_name(fact: Option<&Fact>) -> bool
+    ensures { result ≡ names_value (known_fact fact.entry) }
+{
+    match fact {
+        Some(Fact::Memory { .. } | Fact::Function { .. }) => false,
+        Some(Fact::Variable { .. } | Fact::Iterator { .. }) | None => true,
+    }
+}
+
+// Whether it is a number that has a kind, a truth or the name of a value, of which nothing is to be
+// kept. Most parts of expressions are.
+#[tactic(auto, using(dh_tree::proofs::SeenTerms::terms_are))]
+fn is_sound_leaf(facts: &[Fact], term: &Expr) -> bool
+    ensures { result ≡ is_sound (facts_seen facts.now) (term_seen term.now) }
+{
+    match &term.form {
+        ExprForm::Number { .. } => term.kind.is_some(),
+        ExprForm::Truth { .. } => true,
+        ExprForm::Variable { of } => is_value_name(fact_of(facts, of)),
+        ExprForm::Access { .. }
+        | ExprForm::Physical { .. }
+        | ExprForm::Binary { .. }
+        | ExprForm::Cast { .. } => false,
+    }
+}
+
 /// Keeps the breaches of an expression.
 #[cycle(breaches)]
 #[tactic(auto, using(dh_tree::proofs::SeenTerms::terms_are, dh_tree::proofs::Leasts::least_append))]
@@ -115,29 +143,40 @@ pub fn keep_term(facts: &[Fact], kept: &mut Option<Breach>, term: &Expr)
         ExprForm::Physical { of, row, .. } => {
             keep(kept, memory_breach(fact_of(facts, of), place));
             keep(kept, index_breach(row.kind, row.place));
-            keep_term(facts, kept, row);
+            keep_part(facts, kept, row);
         }
         ExprForm::Binary { op, left, right } => {
             let breach = applied_breach(*op, (left.place, left.kind), (right.place, right.kind));
             keep(kept, breach);
-            keep_term(facts, kept, left);
-            keep_term(facts, kept, right);
+            keep_part(facts, kept, left);
+            keep_part(facts, kept, right);
         }
         ExprForm::Cast { inner, to } => {
             keep(kept, cast_breach(place, inner.kind, *to));
-            keep_term(facts, kept, inner);
+            keep_part(facts, kept, inner);
         }
+    }
+}
+
+/// As `keep_term`, and most parts of expressions are seen without a call.
+#[cycle(breaches)]
+pub fn keep_part(facts: &[Fact], kept: &mut Option<Breach>, term: &Expr)
+    ensures { KeepsBy term_kind_breaches facts.now kept.old kept.new (term_seen term.now) }
+{
+    if !is_sound_leaf(facts, term) {
+        keep_term(facts, kept, term);
     }
 }
 
 // Keeps the breaches of indices.
 #[cycle(breaches)]
 fn keep_indices(facts: &[Fact], kept: &mut Option<Breach>, indices: &[Expr])
-    ensures { KeepsBy indices_kind_breaches facts.now kept.old kept.new (all_terms_seen indices.now) }
+    ensures { KeepsBy indices_kind_breaches facts.now kept.old kept.new
+        (all_terms_seen indices.now) }
 {
     for index in indices {
         keep(kept, index_breach(index.kind, index.place));
-        keep_term(facts, kept, index);
+        keep_part(facts, kept, index);
     }
 }
 
@@ -147,7 +186,7 @@ pub fn keep_offset(facts: &[Fact], kept: &mut Option<Breach>, offset: &Expr)
     ensures { KeepsBy offset_breaches facts.now kept.old kept.new (term_seen offset.now) }
 {
     keep(kept, index_breach(offset.kind, offset.place));
-    keep_term(facts, kept, offset);
+    keep_part(facts, kept, offset);
 }
 
 // The breach of a right side of a kind for a target of a kind.
@@ -177,7 +216,7 @@ pub fn keep_right_side(
     ensures { KeepsBy (breaches_for target) facts.now kept.old kept.new (term_seen value.now) }
 {
     keep(kept, assigned_breach(target, value.kind, value.place));
-    keep_term(facts, kept, value);
+    keep_part(facts, kept, value);
 }
 
 // The breach of a condition of this kind.
@@ -196,7 +235,7 @@ pub fn keep_condition(facts: &[Fact], kept: &mut Option<Breach>, test: &Expr)
     ensures { KeepsBy condition_breaches facts.now kept.old kept.new (term_seen test.now) }
 {
     keep(kept, truth_breach(test.kind, test.place));
-    keep_term(facts, kept, test);
+    keep_part(facts, kept, test);
 }
 
 // Whether it is a memory or a view.
@@ -230,7 +269,7 @@ pub fn keep_argument(facts: &[Fact], kept: &mut Option<Breach>, argument: &Expr)
     ensures { KeepsBy argument_breaches facts.now kept.old kept.new (term_seen argument.now) }
 {
     if !names_memory(facts, argument) {
-        keep_term(facts, kept, argument);
+        keep_part(facts, kept, argument);
     }
 }
 

@@ -11,6 +11,7 @@ mod functions;
 mod judging;
 mod keeping;
 mod operands;
+mod parts;
 mod programs;
 mod sorts;
 mod views;

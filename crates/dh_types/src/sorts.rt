@@ -1,8 +1,9 @@
 //! Sorts of kinds and of operators.
 
-ghost use Rattle.std.specs.Prelude.{◌≡◌};
+ghost use Rattle.std.specs.Prelude.{◌≡◌, ◌<◌, ◌^◌, ◌↔◌, IsTrue, pos};
 ghost use Rattle.dh_tree.specs.Kinds as rules;
 ghost use Rattle.dh_tree.specs.WiderKinds as kinds;
+ghost use Rattle.dh_value.specs.Words.{IsValue};
 
 use dh_tree::Kind;
 use dh_value::{Op, fits};
@@ -81,12 +82,33 @@ pub fn for_numbers(kind: Option<Kind>) -> Option<Kind>
     }
 }
 
+// Whether the number has at most so many bits.
+fn is_within(number: u64, width: u8) -> bool
+    ensures { IsTrue result ↔ (number < 2 ^ width) }
+{
+    width >= 64 || number >> width == 0
+}
+
+// Whether the number, which has no `-`, is a value of the kind.
+fn is_whole_value(kind: Kind, number: u64) -> bool
+    ensures { IsTrue result ↔ IsValue kind (pos number) }
+{
+    match kind {
+        Kind::Bool => false,
+        Kind::Unsigned(width) => is_within(number, width),
+        Kind::Signed(width) => is_within(number, width.saturating_sub(1)),
+    }
+}
+
 /// Whether the number, with a `-` before it where it is negative, is a value of the kind.
 pub fn is_value(kind: Kind, negative: bool, number: u64) -> bool
     ensures { result ≡ rules.is_value kind (rules.signed_number negative number) }
 {
-    let number = i128::from(number);
-    fits(kind, if negative { -number } else { number })
+    if negative {
+        fits(kind, -i128::from(number))
+    } else {
+        is_whole_value(kind, number)
+    }
 }
 
 /// Whether the operator is a shift.

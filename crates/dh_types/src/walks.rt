@@ -68,7 +68,8 @@ impl Walk {
     /// Gives a right side, which may lack, its kinds.
     pub fn value(&mut self, target: Option<Kind>, value: &mut Option<Expr>)
         ensures tree { TypesValue self.old.facts.items target value.old value.new }
-        ensures state { NotesBy (maybe_breaches_for target) self.old self.new (value_seen value.new) }
+        ensures state { NotesBy (maybe_breaches_for target) self.old self.new
+            (value_seen value.new) }
     {
         match value {
             Some(term) => self.right_side(target, term),
@@ -109,7 +110,8 @@ impl Walk {
     /// Gives arguments the kinds of the parameters.
     pub fn arguments(&mut self, function: &Ref, arguments: &mut Vec<Expr>)
         ensures tree { TypesCall self.old.facts.items function.now arguments.old arguments.new }
-        ensures state { NotesBy arguments_breaches self.old self.new (expressions_seen arguments.new) }
+        ensures state { NotesBy arguments_breaches self.old self.new
+            (expressions_seen arguments.new) }
     {
         let parameters = parameters_of(fact_of(&self.facts, function));
         type_arguments(&self.facts, &mut self.least, parameters, arguments);

@@ -1,10 +1,11 @@
 -- The views of a plan are listed by their places, so that what is taken of a view tells which view is behind it.
-use Rattle.std.proofs.Common.{◌≡◌, ◌⊎◌, inl, inr, ℕ, zero, suc, ◌+◌, ◌<◌, ◌≤◌, ◌^◌, List, [], ◌∷◌, ◌++◌, length, map, take, Some, None, refl, ap, sym, ◌∙◌, subst, arith}
+use Rattle.std.proofs.Common.{◌≡◌, ◌⊎◌, inl, inr, ℕ, zero, suc, ◌+◌, ◌<◌, ◌≤◌, ◌^◌, List, [], ◌∷◌, ◌++◌, length, map, take, Some, None, refl, ap, sym, ◌∙◌, subst, arith, length-append}
 use Rattle.std.specs.Prelude.{Option, option_map, slice_get}
 use Rattle.std.specs.List.{AllByRecursion}
 use Rattle.std.proofs.lemmas.List.{length-map, length_push, map_more, take_all}
 use Rattle.std.proofs.lemmas.Option.{get_or_from_slice_get, none-some, same_Some, slice_get-map, slice_get_within}
 use Rattle.dh_tree.specs.declared.tables.Dim.{Dim}
+use Rattle.dh_tree.specs.declared.tables.Shape.{Shape}
 use Rattle.dh_tree.specs.declared.viewing.Viewed.{Viewed}
 use Rattle.dh_tree.specs.declared.viewing.ViewMap.{ViewMap}
 use Rattle.dh_tree.specs.Elements.{banks_of}
@@ -14,9 +15,10 @@ use Rattle.dh_tree.specs.Ready.{IsReady, most_tokens}
 use Rattle.dh_tree.specs.Seen.{program_seen}
 use Rattle.dh_tree.specs.ViewFactors.{factor_breaches_of}
 use Rattle.dh_tree.specs.ViewShapes.{IsViewMap}
-use Rattle.dh_tree.specs.Views.{viewed_in}
+use Rattle.dh_tree.specs.Views.{Viewing, shape_in, viewed_behind, viewed_in, viewed_of, views_of}
 use Rattle.dh_tree.proofs.EmptyLists.{first_none}
 use Rattle.dh_tree.proofs.ProgramTables.{program_table}
+use Rattle.dh_tree.proofs.ViewsDeclared.{views_few}
 use Rattle.dh_meaning.specs.Ways.{Led, Step, Way, step_of, way_in, way_unless, ways_of}
 use Rattle.dh_meets.specs.Charges.{may_reach}
 use Rattle.dh_viewing.specs.declared.bank_sets.BankSet.{BankSet}
@@ -209,10 +211,10 @@ lists_none ls views through none empty = record {
   each = λ k l t there at. absurd (none-some t (ap (λ (ts : List Through). slice_get ts k) (sym empty) ∙ at));
 }
 
-pub lists_all : (ls : List kept.Led) (place n : ℕ) (views : List ViewMap) (through : List Through) → n ≡ length ls → n ≤ place → place ≤ n → length views < 2 ^ 32 → ListsFirst (map led_seen ls) place views through → ListsAll (map led_seen ls) views through
+pub lists_all : (ls : List kept.Led) (place n : ℕ) (views : List ViewMap) (through : List Through) → n ≡ length ls → n ≤ place → place ≤ n → length ls < 2 ^ 32 → ListsFirst (map led_seen ls) place views through → ListsAll (map led_seen ls) views through
 lists_all ls place n views through many past inside few lists = (
   subst (λ (k : ℕ). ListsFirst (map led_seen ls) k views through) end lists,
-  subst (λ (k : ℕ). k < 2 ^ 32) (ap (λ (vs : List ViewMap). length vs) lists.views_are ∙ (length-map (take place (map led_seen ls)) (λ (l : Led). l.way.is) ∙ ap (λ (l : List Led). length l) all)) few,
+  subst (λ (k : ℕ). k < 2 ^ 32) (sym (length-map ls led_seen)) few,
 )
   where
     end : place ≡ length (map led_seen ls)
@@ -221,11 +223,28 @@ lists_all ls place n views through many past inside few lists = (
         same : (a b : ℕ) → b ≤ a → a ≤ b → a ≡ b
         same a b e f = omega (arith, e, f)
 
-    all : take place (map led_seen ls) ≡ map led_seen ls
-    all = take_all place (map led_seen ls) (enough (length (map led_seen ls)) place (sym end))
-      where
-        enough : (a b : ℕ) → a ≡ b → a ≤ b
-        enough a b e = omega (arith, e)
+-- The views of a program that is ready are few.
+
+viewed_one : (v : Viewing) (parent : Option Shape) → length (viewed_of v parent) ≤ 1
+viewed_one v None = omega arith
+viewed_one v (Some parent) = omega arith
+
+viewed_few : (ms : List Memory) (before : List Viewed) (vs : List Viewing) → length (viewed_behind ms before vs) ≤ length before + length vs
+viewed_few ms before [] = omega arith
+viewed_few ms before (v ∷ vs) =
+    let own = viewed_of v (shape_in ms before v.parent.entity) in
+    let rest = viewed_few ms (before ++ own) vs in
+    let long = length-append before own in
+    let one = viewed_one v (shape_in ms before v.parent.entity) in
+    omega (arith, rest, long, one)
+
+pub ways_few : (p : Program) (ls : List kept.Led) → IsReady p → length p.entities < 2 ^ 32 → map led_seen ls ≡ ways_of p → length ls < 2 ^ 32
+ways_few p ls r few are =
+    let long : length (viewed_in p) ≤ 0 + length (views_of p) = viewed_few (memories_of p) [] (views_of p) in
+    let all = views_few p r.entities in
+    let same : length ls ≡ length (viewed_in p) =
+    sym (length-map ls led_seen) ∙ (ap (λ (ds : List Led). length ds) are ∙ (sym (length-map (ways_of p) viewed_of_led) ∙ ap (λ (vs : List Viewed). length vs) (ways_are_views p))) in
+    omega (arith, long, all, same, few)
 
 -- Views by their numbers.
 

@@ -2,7 +2,7 @@
 //! take of each: the number of the one behind it on its way, and by each of its banks the banks of the memory that may be
 //! reached from there.
 
-ghost use Rattle.std.specs.Prelude.{◌≡◌, ◌↔◌, ◌<◌, ◌≤◌, ◌+◌, ◌++◌, ◌∷◌, ◌&&◌, ◌||◌, [], ℕ, IsTrue, List, false, length, map, slice_get, IfOk, OnOk};
+ghost use Rattle.std.specs.Prelude.{◌≡◌, ◌<◌, ◌≤◌, ◌+◌, ◌++◌, ◌∷◌, ◌&&◌, ◌||◌, [], ℕ, List, false, length, map, slice_get, IfOk, OnOk};
 ghost use Rattle.std.specs.List.{AllByRecursion};
 ghost use Rattle.dh_tree.specs.Elements as elements;
 ghost use Rattle.dh_tree.specs.Shapes.{IsDim, most_banks};
@@ -220,20 +220,14 @@ fn list_at(
     Ok(())
 }
 
-/// Whether each of these views has a number of 32 bits.
-fn are_few(views: &Items<ViewMap>) -> bool
-    ensures { IsTrue result ↔ (length views.now < 4294967296) }
-{
-    views.len() < 4294967296
-}
-
-/// The views with these ways.
+/// The views with these ways, of which each has a number of 32 bits.
 ///
 /// # Errors
 ///
-/// `NoMemory` where an allocation was refused, or where there are more views than numbers.
+/// `NoMemory` where an allocation was refused.
 pub fn list_views(alloc: Global, ways: &WayTable) -> Result<ListedViews, NoMemory>
-    requires { AllByRecursion (λ l. LeadsSomewhere l.way.steps) (map led_seen ways.now) }
+    requires leads { AllByRecursion (λ l. LeadsSomewhere l.way.steps) (map led_seen ways.now) }
+    requires few { length ways.now < 4294967296 }
     ensures { IfOk result (λ l. ListsAll (map led_seen ways.now) l.views l.through.items) }
 {
     let mut views = Items::new(alloc);
@@ -241,9 +235,5 @@ pub fn list_views(alloc: Global, ways: &WayTable) -> Result<ListedViews, NoMemor
     for place in 0..ways.len() {
         list_at(alloc, ways, place, &mut views, &mut through)?;
     }
-    if are_few(&views) {
-        Ok(ListedViews { views, through })
-    } else {
-        Err(NoMemory)
-    }
+    Ok(ListedViews { views, through })
 }

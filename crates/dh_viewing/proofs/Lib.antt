@@ -16,3 +16,4 @@ pub mod NoViews
 pub mod ViewsFound
 pub mod PlacedViews
 pub mod SmallOffsets
+pub mod PairedFactors

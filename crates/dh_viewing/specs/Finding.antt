@@ -1,12 +1,12 @@
 -- What the code finds of the views of a program.
-use Rattle.std.specs.Prelude.{◌≡◌, ℕ, ◌/◌, Bool, if◌then◌else◌, List, [], ◌∷◌, ◌++◌, map, Option, Some, None, Result, Ok, Err, OnOk, Vec}
+use Rattle.std.specs.Prelude.{◌≡◌, ℕ, ◌/◌, Bool, if◌then◌else◌, List, [], ◌∷◌, ◌++◌, map, Option, Some, None, Result, OnOk, Vec}
 use Rattle.std.specs.Global.{Global}
-use Rattle.dh_base.specs.declared.lists.NoMemory.{NoMemory}
 use Rattle.dh_base.specs.declared.places.Place.{Place}
 use Rattle.dh_tree.specs.declared.breaches.Breach.{Breach}
 use Rattle.dh_tree.specs.declared.tables.Dim.{Dim}
 use Rattle.dh_tree.specs.declared.tables.MemEntry.{MemEntry}
 use Rattle.dh_tree.specs.declared.tables.Shape.{Shape}
+use Rattle.dh_tree.specs.declared.trees.expressions.Expr.{Expr}
 use Rattle.dh_tree.specs.declared.viewing.Viewed.{Viewed}
 use Rattle.dh_tree.specs.declared.viewing.ViewMap.{ViewMap}
 use Rattle.dh_tree.specs.Indices.{shape_keeps}
@@ -69,3 +69,7 @@ place_or other (Some p) = p
 abbrev pub factor_broken_at : (multiplies : Bool) → Option ℕ → Place → Dim → List Breach
 factor_broken_at m (Some k) p d = factor_broken (factor_keeps m k d.banks) p
 factor_broken_at m None p d = []
+
+-- the factors of a suffix, of which each stands beside its offset
+abbrev pub factors_paired : List (ℕ × Expr) → List ℕ
+factors_paired by = map (λ (p : ℕ × Expr). p.0) by

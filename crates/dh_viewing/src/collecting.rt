@@ -101,7 +101,7 @@ fn shrunk_dim(factors: &[u64], place: usize, dim: &Dim) -> Dim
 fn shrunk(alloc: Global, factors: &[u64], dims: &[Dim]) -> Result<Items<Dim>, NoMemory>
     ensures { IfOk result (λ ds. ds ≡ shrunk_dims factors.now dims.now) }
 {
-    let mut all = Items::new(alloc);
+    let mut all = Items::with_room(alloc, dims.len())?;
     for (i, dim) in dims.iter().enumerate() {
         all.push(shrunk_dim(factors, i, dim))?;
     }
@@ -146,7 +146,7 @@ fn dims(alloc: Global, form: &ViewForm, parent: &[Dim]) -> Result<Items<Dim>, No
 fn suffix_factors(alloc: Global, by: &[(u64, Expr)]) -> Result<Items<u64>, NoMemory>
     ensures { IfOk result (λ ks. ks ≡ map (λ s. s.factor) (map factor_seen by.now)) }
 {
-    let mut factors = Items::new(alloc);
+    let mut factors = Items::with_room(alloc, by.len())?;
     for pair in by {
         factors.push(pair.0)?;
     }
@@ -154,7 +154,7 @@ fn suffix_factors(alloc: Global, by: &[(u64, Expr)]) -> Result<Items<u64>, NoMem
 }
 
 /// The factors of a view.
-pub(crate) fn factors(alloc: Global, form: &ViewForm) -> Result<Items<u64>, NoMemory>
+fn factors(alloc: Global, form: &ViewForm) -> Result<Items<u64>, NoMemory>
     ensures { IfOk result (λ ks. ks ≡ factors_of (plan_seen form.now)) }
 {
     match form {
@@ -315,7 +315,7 @@ fn table_in(alloc: Global, typed: &Typed) -> Result<ViewTable, NoMemory>
     ensures { IfOk result (λ views. views ≡ viewed_in (program_seen typed.now)) }
 {
     let found = found_in(alloc, typed)?;
-    let mut views = ViewTable::new(alloc);
+    let mut views = ViewTable::with_room(alloc, found.len())?;
     push_views(alloc, typed, &mut views, found.as_slice())?;
     Ok(views)
 }

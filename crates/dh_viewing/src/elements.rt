@@ -1,6 +1,6 @@
 //! The element of its parent that an index of a view names.
 
-ghost use Rattle.std.specs.Prelude.{◌≡◌, ℕ, ◌≤◌, ◌<◌, ◌^◌, List, ℤ, length, option_map, Some, pos, ◌+ℤ◌, ◌*ℤ◌};
+ghost use Rattle.std.specs.Prelude.{◌≡◌, ℕ, ◌≤◌, ◌<◌, List, ℤ, length, option_map, Some, pos, ◌+ℤ◌, ◌*ℤ◌};
 ghost use Rattle.std.specs.List.{AllByRecursion};
 ghost use Rattle.dh_tree.specs.declared.viewing.ViewSort.TheVariants as sorts;
 ghost use Rattle.dh_viewing.specs.Moved.{Moves, kept_number, moved_number, moved_numbers, number_within};
@@ -80,7 +80,8 @@ fn moved_all(dims: &[Dim], factors: &[u64], offsets: &[i128], indices: &[i128]) 
     requires factors_long { length factors.now ≡ length dims.now }
     requires offsets_long { length offsets.now ≡ length dims.now }
     requires indices_long { length indices.now ≡ length dims.now }
-    ensures { option_map numbers_in result ≡ moved_numbers dims.now factors.now offsets.now indices.now }
+    ensures { option_map numbers_in result
+        ≡ moved_numbers dims.now factors.now offsets.now indices.now }
 {
     let mut index = no_numbers();
     for i in 0..dims.len() {
@@ -128,7 +129,8 @@ fn split_through(v: &ViewMap, indices: &[i128]) -> Option<Index>
     requires map { IsViewMap v.now }
     requires sort { v.now.sort ≡ sorts.Split }
     requires indices { length indices.now ≡ length v.now.shape.dims }
-    ensures { (offsets : List ℤ) → option_map numbers_in result ≡ element_through v.now offsets indices.now }
+    ensures { (offsets : List ℤ) → option_map numbers_in result
+        ≡ element_through v.now offsets indices.now }
 {
     let view = v.shape.dims.as_slice();
     let Some(copy) = natural(indices[0], view[0].size) else {
@@ -163,7 +165,8 @@ pub fn through(v: &ViewMap, offset: &Index, index: &Index) -> Option<Index>
     requires map { IsViewMap v.now }
     requires offsets { offset.now.len ≡ length v.now.parent.dims }
     requires indices { index.now.len ≡ length v.now.shape.dims }
-    ensures { option_map numbers_in result ≡ element_through v.now (numbers_in offset.now) (numbers_in index.now) }
+    ensures { option_map numbers_in result
+        ≡ element_through v.now (numbers_in offset.now) (numbers_in index.now) }
 {
     let indices = listed(index);
     match v.sort {

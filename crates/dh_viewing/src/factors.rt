@@ -1,21 +1,21 @@
 //! The rule on the factors and the brackets of views.
 
-ghost use Rattle.std.specs.Prelude.{◌≡◌, [], ◌∷◌, Some, OnOk, slice_get};
+ghost use Rattle.std.specs.Prelude.{◌≡◌, [], ◌∷◌, Some, OnOk, map, slice_get, true};
 ghost use Rattle.dh_base.specs.declared.rules.Rule.TheVariants as rules;
 ghost use Rattle.dh_tree.specs.Kinds.{when};
 ghost use Rattle.dh_tree.specs.LeastBreach.{breach, least_of};
 ghost use Rattle.dh_tree.specs.Memories.{memories_of};
-ghost use Rattle.dh_tree.specs.Seen.{plan_seen, program_seen};
+ghost use Rattle.dh_tree.specs.Seen.{factor_seen, plan_seen, program_seen};
 ghost use Rattle.dh_tree.specs.Told.{MayTellLeast};
 ghost use Rattle.dh_tree.specs.ViewFactors as definitions;
 ghost use Rattle.dh_tree.specs.ViewFactors.{factor_breaches_of, factors_breaches, plan_breaches, viewing_breaches, viewings_breaches};
-ghost use Rattle.dh_tree.specs.Views.{factors_of, shape_in, viewed_behind};
-ghost use Rattle.dh_viewing.specs.Finding.{all_found, factor_broken_at, place_or, viewing_found};
+ghost use Rattle.dh_tree.specs.Views.{shape_in, viewed_behind};
+ghost use Rattle.dh_viewing.specs.Finding.{all_found, factor_broken_at, factors_paired, place_or, viewing_found};
 
-use crate::collecting::{Found, factors, found_in, push_view, shape_of};
+use crate::collecting::{Found, found_in, push_view, shape_of};
 use crate::placing::ViewTable;
 use dh_base::{NoMemory, PassFault, Place, Rule};
-use dh_tree::{Breach, Dim, Shape, Typed, ViewForm, keep_least};
+use dh_tree::{Breach, Dim, Expr, Shape, Typed, ViewForm, keep_least};
 use std::alloc::Global;
 
 /// The rule on views, where it is broken at a place.
@@ -44,24 +44,42 @@ fn factor_keeps(multiplies: bool, factor: u64, banks: u64) -> bool
     }
 }
 
-/// The breach of the factor of this number, of a dimension, if there is one.
+/// The breach of a factor of a dimension, if there is one.
 fn keep_factor(
     kept: &mut Option<Breach>,
     multiplies: bool,
-    factors: &[u64],
-    number: usize,
+    factor: Option<u64>,
     place: Place,
     dim: &Dim,
 )
-    ensures { kept.new ≡ least_of kept.old
-        (factor_broken_at multiplies (slice_get factors.now number) place dim.now) }
+    ensures { kept.new ≡ least_of kept.old (factor_broken_at multiplies factor place dim.now) }
 {
-    match factors.get(number) {
+    match factor {
         Some(factor) => {
-            let is_kept = factor_keeps(multiplies, *factor, dim.banks);
+            let is_kept = factor_keeps(multiplies, factor, dim.banks);
             keep_if(kept, !is_kept, place);
         }
         None => {}
+    }
+}
+
+/// The factor of this number, if there is one.
+fn factor_at(factors: &[u64], number: usize) -> Option<u64>
+    ensures { result ≡ slice_get factors.now number }
+{
+    match factors.get(number) {
+        Some(factor) => Some(*factor),
+        None => None,
+    }
+}
+
+/// That of a suffix, whose factors stand beside its offsets.
+fn multiple_at(by: &[(u64, Expr)], number: usize) -> Option<u64>
+    ensures { result ≡ slice_get (factors_paired by.now) number }
+{
+    match by.get(number) {
+        Some(pair) => Some(pair.0),
+        None => None,
     }
 }
 
@@ -89,7 +107,26 @@ fn keep_factors(
 {
     for (i, dim) in dims.iter().enumerate() {
         let place = place_at(places, i, parent);
-        keep_factor(kept, multiplies, factors, i, place, dim);
+        let factor = factor_at(factors, i);
+        keep_factor(kept, multiplies, factor, place, dim);
+    }
+}
+
+/// Those of a suffix, whose factors are multiples of banks.
+fn keep_multiples(
+    kept: &mut Option<Breach>,
+    parent: Place,
+    by: &[(u64, Expr)],
+    places: &[Place],
+    dims: &[Dim],
+)
+    ensures { kept.new ≡ least_of kept.old (factors_breaches true parent
+        (map (λ s. s.factor) (map factor_seen by.now)) places.now dims.now) }
+{
+    for (i, dim) in dims.iter().enumerate() {
+        let place = place_at(places, i, parent);
+        let factor = multiple_at(by, i);
+        keep_factor(kept, true, factor, place, dim);
     }
 }
 
@@ -107,62 +144,45 @@ fn brackets_fit(form: &ViewForm, dims: usize) -> bool
 
 /// The breaches of a view of what has these dimensions, by its factors.
 #[tactic(auto, using(dh_tree::proofs::Leasts::least_append))]
-fn keep_view(
-    kept: &mut Option<Breach>,
-    dims: &[Dim],
-    parent: Place,
-    form: &ViewForm,
-    factors: &[u64],
-)
-    requires { factors.now ≡ factors_of (plan_seen form.now) }
+fn keep_view(kept: &mut Option<Breach>, dims: &[Dim], parent: Place, form: &ViewForm)
     ensures { kept.new ≡ least_of kept.old (plan_breaches dims.now parent (plan_seen form.now)) }
 {
     let is_fit = brackets_fit(form, dims.len());
     keep_if(kept, !is_fit, parent);
     match form {
-        ViewForm::Shrink { by_place, .. } => {
+        ViewForm::Shrink { by, by_place } => {
+            let factors = by.as_slice();
             keep_factors(kept, false, parent, factors, by_place.as_slice(), dims);
         }
-        ViewForm::Split { by_place, .. } => {
+        ViewForm::Split { by, by_place } => {
+            let factors = by.as_slice();
             keep_factors(kept, false, parent, factors, by_place.as_slice(), dims);
         }
-        ViewForm::Suffix { by_place, .. } => {
-            keep_factors(kept, true, parent, factors, by_place.as_slice(), dims);
+        ViewForm::Suffix { by, by_place } => {
+            let pairs = by.as_slice();
+            keep_multiples(kept, parent, pairs, by_place.as_slice(), dims);
         }
         ViewForm::Shift { .. } => {}
     }
 }
 
 /// Those of a view whose parent has this shape.
-pub(crate) fn keep_found(
-    alloc: Global,
-    kept: &mut Option<Breach>,
-    found: &Found<'_>,
-    parent: &Shape,
-) -> Result<(), NoMemory>
-    ensures { OnOk result (kept.new
-        ≡ least_of kept.old (viewing_breaches (viewing_found found.now) (Some parent.now))) }
+pub(crate) fn keep_found(kept: &mut Option<Breach>, found: &Found<'_>, parent: &Shape)
+    ensures { kept.new
+        ≡ least_of kept.old (viewing_breaches (viewing_found found.now) (Some parent.now)) }
 {
-    let by = factors(alloc, found.form)?;
     let dims = parent.dims.as_slice();
-    keep_view(kept, dims, found.parent.place, found.form, by.as_slice());
-    Ok(())
+    keep_view(kept, dims, found.parent.place, found.form);
 }
 
 /// Those of a view whose parent is a memory or one of these views.
-fn keep_behind(
-    alloc: Global,
-    typed: &Typed,
-    kept: &mut Option<Breach>,
-    views: &ViewTable,
-    found: &Found<'_>,
-) -> Result<(), NoMemory>
-    ensures { OnOk result (kept.new ≡ least_of kept.old (viewing_breaches (viewing_found found.now)
-        (shape_in (memories_of (program_seen typed.now)) views.now found.now.parent.now.entity))) }
+fn keep_behind(typed: &Typed, kept: &mut Option<Breach>, views: &ViewTable, found: &Found<'_>)
+    ensures { kept.new ≡ least_of kept.old (viewing_breaches (viewing_found found.now)
+        (shape_in (memories_of (program_seen typed.now)) views.now found.now.parent.now.entity)) }
 {
     match shape_of(typed, views, found.parent.entity) {
-        Some(parent) => keep_found(alloc, kept, found, parent),
-        None => Ok(()),
+        Some(parent) => keep_found(kept, found, parent),
+        None => {}
     }
 }
 
@@ -175,12 +195,13 @@ pub(crate) fn keep_all(
     found: &[Found<'_>],
 ) -> Result<(), NoMemory>
     ensures breaches { OnOk result (kept.new ≡ least_of kept.old
-        (viewings_breaches (memories_of (program_seen typed.now)) views.old (all_found found.now))) }
+        (viewings_breaches (memories_of (program_seen typed.now)) views.old
+        (all_found found.now))) }
     ensures views { OnOk result (views.new
         ≡ viewed_behind (memories_of (program_seen typed.now)) views.old (all_found found.now)) }
 {
     for view in found {
-        keep_behind(alloc, typed, kept, views, view)?;
+        keep_behind(typed, kept, views, view);
         push_view(alloc, typed, views, view)?;
     }
     Ok(())
@@ -200,7 +221,7 @@ pub fn keep_view_factors(
         ≡ least_of kept.old (factor_breaches_of (program_seen typed.now))) }
 {
     let found = found_in(alloc, typed)?;
-    let mut views = ViewTable::new(alloc);
+    let mut views = ViewTable::with_room(alloc, found.len())?;
     keep_all(alloc, typed, kept, &mut views, found.as_slice())
 }
 

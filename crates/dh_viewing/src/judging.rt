@@ -69,7 +69,7 @@ fn kept_map(
         return Ok(None);
     };
     let mut breach = None;
-    keep_found(alloc, &mut breach, found, parent)?;
+    keep_found(&mut breach, found, parent);
     match breach {
         Some(_) => Ok(None),
         None => Ok(Some(map_to(alloc, found.form, parent)?)),
@@ -84,7 +84,8 @@ fn push_kept(
     found: &Found<'_>,
 ) -> Result<(), NoMemory>
     ensures { OnOk result (kept.new ≡ kept.old ++ kept_of (viewing_found found.now)
-        (kept_shape_in (memories_of (program_seen typed.now)) kept.old found.now.parent.now.entity)) }
+        (kept_shape_in (memories_of (program_seen typed.now))
+        kept.old found.now.parent.now.entity)) }
 {
     let is = kept_map(
         alloc,
@@ -128,10 +129,9 @@ pub fn judge_views(
     if found.is_empty() {
         return Ok(None);
     }
-    let mut views = JudgedViews {
-        all: ViewTable::new(alloc),
-        kept: ViewTable::new(alloc),
-    };
+    let all = ViewTable::with_room(alloc, found.len())?;
+    let beside = ViewTable::with_room(alloc, found.len())?;
+    let mut views = JudgedViews { all, kept: beside };
     keep_all(alloc, typed, kept, &mut views.all, found.as_slice())?;
     push_all_kept(alloc, typed, &mut views.kept, found.as_slice())?;
     Ok(Some(views))

@@ -1,6 +1,6 @@
 //! Views, each of which is found by its entity without a search.
 
-ghost use Rattle.std.specs.Prelude.{◌≡◌, ◌<◌, [], ◌∷◌, ◌++◌, length, option_map, OnOk};
+ghost use Rattle.std.specs.Prelude.{◌≡◌, ◌<◌, [], ◌∷◌, ◌++◌, length, option_map, IfOk, OnOk};
 ghost use Rattle.dh_tree.specs.Views.{view_in};
 ghost use Rattle.dh_viewing.specs.Placed.{ArePlaced, PlacesNext, TellTheSame, map_at, placed_at};
 
@@ -135,14 +135,19 @@ impl Model for ViewTable {
 }
 
 impl ViewTable {
-    /// No view.
-    pub fn new(alloc: Global) -> ViewTable
-        ensures { result ≡ [] }
+    /// No view, with room for so many.
+    ///
+    /// # Errors
+    ///
+    /// `NoMemory`, the one error; no clause tells when.
+    pub fn with_room(alloc: Global, count: usize) -> Result<ViewTable, NoMemory>
+        ensures { IfOk result (λ table. table ≡ []) }
     {
-        ViewTable {
-            views: Items::new(alloc),
+        let views = Items::with_room(alloc, count)?;
+        Ok(ViewTable {
+            views,
             places: Vec::new(alloc),
-        }
+        })
     }
 
     /// Adds a view behind the others.

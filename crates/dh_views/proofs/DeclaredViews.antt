@@ -70,8 +70,11 @@ none_declared : (vs : List Viewing) → is_any vs ≡ false → vs ≡ []
 none_declared [] e = refl
 none_declared (v ∷ vs) e = cc
 
+pub none_kept : (p : Program) (old : Option Breach) → views_of p ≡ [] → old ≡ least_of old (view_breaches_of p)
+none_kept p old none = ap (λ l. least_of old l) (sym (without_views p none))
+
 pub nothing_kept : (p : Program) (b : Bool) (old : Option Breach) → b ≡ is_any (views_of p) → b ≡ false → old ≡ least_of old (view_breaches_of p)
-nothing_kept p b old told e = ap (λ l. least_of old l) (sym (without_views p (none_declared (views_of p) (sym told ∙ e))))
+nothing_kept p b old told e = none_kept p old (none_declared (views_of p) (sym told ∙ e))
 
 -- one is: memory may be refused
 pub kept_or_refused : (p : Program) (b : Bool) (old new : Option Breach) (r : Result (Unit {0}) NoMemory) → b ≡ is_any (views_of p) → b ≡ true

@@ -1,13 +1,14 @@
 -- What the code looks up of a memory, a loop or a dimension, told over tables.
-use Rattle.std.specs.Prelude.{ℕ, ◌^◌, List, Option, Some, None, if◌then◌else◌, slice_get, []}
+use Rattle.std.specs.Prelude.{ℕ, ◌^◌, List, Option, Some, None, if◌then◌else◌, slice_get}
 use Rattle.dh_base.specs.declared.places.Place.{Place}
 use Rattle.dh_tree.specs.declared.breaches.Breach.{Breach}
 use Rattle.dh_tree.specs.declared.tables.Dim.{Dim}
 use Rattle.dh_tree.specs.declared.tables.MemEntry.{MemEntry}
+use Rattle.dh_tree.specs.declared.trees.commands.LoopHeader.{LoopHeader}
 use Rattle.dh_tree.specs.declared.trees.counters.Counter.{Counter}
 use Rattle.dh_tree.specs.declared.trees.programs.DimPlaces.{DimPlaces}
 use Rattle.dh_tree.specs.Indices.{shape_keeps, dim_breaches, turns_breaches}
-use Rattle.dh_tree.specs.PlainTrees.{ActionForm, counts}
+use Rattle.dh_tree.specs.Seen.{low_seen, high_seen, unroll_seen}
 
 -- above every number that a text has
 abbrev pub number_bound : ℕ
@@ -28,10 +29,9 @@ abbrev pub copies_of : Option Counter → ℕ
 copies_of None = 1
 copies_of (Some c) = c.factor
 
--- what the bounds and the copies of a command break, where it is a loop
-abbrev pub loop_breaches : ActionForm → List Breach
-loop_breaches (counts iterator declared low high factor body combine combine_place) = turns_breaches low high factor
-loop_breaches form = []
+-- what the bounds and the copies of a loop break
+abbrev pub header_breaches : LoopHeader → List Breach
+header_breaches h = turns_breaches (low_seen h) (high_seen h) (unroll_seen h)
 
 -- the breaches of a dimension whose numbers stand there, or at its type
 abbrev pub placed_breaches : Place → Option DimPlaces → Dim → List Breach

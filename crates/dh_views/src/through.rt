@@ -153,9 +153,10 @@ pub(crate) fn keep_viewed_command(
         CommandForm::LetMemory { value, .. } => keep_maybe_viewed(typed, views, kept, value),
         CommandForm::View { form, .. } => keep_offsets(typed, views, kept, form),
         CommandForm::Assign { value, .. } => keep_viewed(typed, views, kept, value),
-        CommandForm::Store { target, value } => {
-            keep_viewed(typed, views, kept, target);
-            keep_viewed(typed, views, kept, value);
+        CommandForm::Store { sides } => {
+            let sides = sides.as_ref();
+            keep_viewed(typed, views, kept, &sides.target);
+            keep_viewed(typed, views, kept, &sides.value);
         }
         CommandForm::Reduce { value, .. } => keep_viewed(typed, views, kept, value),
         CommandForm::If { test, then, other } => {

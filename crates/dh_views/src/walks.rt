@@ -2,10 +2,10 @@
 
 ghost use Rattle.std.specs.Prelude.{◌≡◌, OnOk};
 ghost use Rattle.dh_tree.specs.LeastBreach.{least_of};
-ghost use Rattle.dh_tree.specs.Seen.{action_form_seen, program_seen};
+ghost use Rattle.dh_tree.specs.Seen.{program_seen};
 ghost use Rattle.dh_tree.specs.Told.{MayTellLeast};
 ghost use Rattle.dh_tree.specs.ViewBreaches.{shapes_breaches_of, view_breaches_of};
-ghost use Rattle.dh_views.specs.Kept.{loop_breaches};
+ghost use Rattle.dh_views.specs.Kept.{header_breaches};
 ghost use Rattle.dh_views.specs.Wanting.{FindsBreach, KeepsViews, WantsForViews};
 ghost use Rattle.dh_views.specs.Walked.{term_broken, terms_broken, maybe_broken, command_broken, other_broken, parts_broken};
 
@@ -15,7 +15,7 @@ use crate::declaring::declares;
 use crate::keeping::keep_if;
 use crate::through::keep_viewed_command;
 use dh_base::{NoMemory, PassFault, Rule};
-use dh_tree::{Breach, Command, CommandForm, Expr, ExprForm, Typed};
+use dh_tree::{Breach, Command, CommandForm, Expr, ExprForm, LoopHeader, Typed};
 use dh_viewing::{divides, judge_views};
 use std::alloc::Global;
 
@@ -73,34 +73,18 @@ fn keep_maybe(typed: &Typed, kept: &mut Option<Breach>, value: &Option<Expr>)
 
 /// Of a loop an upper bound below the lower one, and a number of copies that does not divide that of the
 /// turns.
-#[tactic(auto, using(dh_tree::proofs::SeenActions::actions_are, dh_tree::proofs::Leasts::least_append))]
-fn keep_turns(kept: &mut Option<Breach>, form: &CommandForm)
-    ensures { kept.new ≡ least_of kept.old (loop_breaches (action_form_seen form.now)) }
+#[tactic(auto, using(dh_tree::proofs::Leasts::least_append))]
+fn keep_turns(kept: &mut Option<Breach>, header: &LoopHeader)
+    ensures { kept.new ≡ least_of kept.old (header_breaches header.now) }
 {
-    match form {
-        CommandForm::For {
-            low,
-            high,
-            high_place,
-            factor,
-            factor_place,
-            ..
-        } => {
-            keep_if(kept, *high < *low, Rule::ConstantRange, *high_place);
-            let is_dealt = divides(*factor, high.saturating_sub(*low));
-            keep_if(kept, !is_dealt, Rule::UnrollDivides, *factor_place);
-        }
-        CommandForm::Let { .. } => {}
-        CommandForm::LetMemory { .. } => {}
-        CommandForm::View { .. } => {}
-        CommandForm::Assign { .. } => {}
-        CommandForm::Store { .. } => {}
-        CommandForm::Reduce { .. } => {}
-        CommandForm::Call { .. } => {}
-        CommandForm::Block { .. } => {}
-        CommandForm::If { .. } => {}
-        CommandForm::While { .. } => {}
-    }
+    keep_if(
+        kept,
+        header.high < header.low,
+        Rule::ConstantRange,
+        header.high_place,
+    );
+    let is_dealt = divides(header.factor, header.high.saturating_sub(header.low));
+    keep_if(kept, !is_dealt, Rule::UnrollDivides, header.factor_place);
 }
 
 /// The breaches in a command.
@@ -121,9 +105,10 @@ fn keep_command(typed: &Typed, kept: &mut Option<Breach>, command: &Command)
             keep_maybe(typed, kept, value);
         }
         CommandForm::Assign { value, .. } => keep_term(typed, kept, value),
-        CommandForm::Store { target, value } => {
-            keep_term(typed, kept, target);
-            keep_term(typed, kept, value);
+        CommandForm::Store { sides } => {
+            let sides = sides.as_ref();
+            keep_term(typed, kept, &sides.target);
+            keep_term(typed, kept, &sides.value);
         }
         CommandForm::If { test, then, other } => {
             keep_term(typed, kept, test);
@@ -134,8 +119,12 @@ fn keep_command(typed: &Typed, kept: &mut Option<Breach>, command: &Command)
             keep_term(typed, kept, test);
             keep_command(typed, kept, body);
         }
-        CommandForm::For { body, combine, .. } => {
-            keep_turns(kept, &command.form);
+        CommandForm::For {
+            header,
+            body,
+            combine,
+        } => {
+            keep_turns(kept, header);
             keep_command(typed, kept, body);
             keep_other(typed, kept, combine);
         }
@@ -172,7 +161,8 @@ fn keep_groups(typed: &Typed, kept: &mut Option<Breach>, parts: &[Vec<Command>])
 
 /// Those of the rules on views.
 fn keep_declared(alloc: Global, typed: &Typed, kept: &mut Option<Breach>) -> Result<(), NoMemory>
-    ensures { OnOk result (kept.new ≡ least_of kept.old (view_breaches_of (program_seen typed.now))) }
+    ensures { OnOk result (kept.new ≡ least_of kept.old
+        (view_breaches_of (program_seen typed.now))) }
 {
     let tree = typed.tree();
     let Ok(judged) = judge_views(alloc, typed, kept) else {
@@ -191,6 +181,9 @@ fn keep_declared(alloc: Global, typed: &Typed, kept: &mut Option<Breach>) -> Res
 fn keep_views(alloc: Global, typed: &Typed, kept: &mut Option<Breach>) -> Result<(), NoMemory>
     ensures { KeepsViews (program_seen typed.now) kept.old kept.new result }
 {
+    if typed.has_no_view() {
+        return Ok(());
+    }
     let tree = typed.tree();
     if declares(&tree.body) {
         keep_declared(alloc, typed, kept)

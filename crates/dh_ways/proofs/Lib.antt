@@ -4,6 +4,7 @@ pub mod TargetsOnWays
 pub mod HiddenApart
 pub mod KeptVariables
 pub mod StandsFound
+pub mod NoStands
 pub mod StandsCut
 pub mod RoundsFew
 pub mod EntitiesCounted

@@ -41,9 +41,10 @@ fn hide_all(
     offsets: &[Expr],
 ) -> Result<Items<Hidden>, NoMemory>
     requires few { first + length offsets.now < 4294967296 }
-    ensures { IfOk result (λ hidden. hidden ≡ hidden_at first depth copies (map term_seen offsets.now)) }
+    ensures { IfOk result (λ hidden. hidden
+        ≡ hidden_at first depth copies (map term_seen offsets.now)) }
 {
-    let mut hidden = Items::new(alloc);
+    let mut hidden = Items::with_room(alloc, offsets.len())?;
     for (i, offset) in offsets.iter().enumerate() {
         let entity = entity_behind(first, i);
         let kind = kind_of(offset);
@@ -69,7 +70,7 @@ fn hide_pairs(
     ensures { IfOk result (λ hidden. hidden
         ≡ hidden_at first depth copies (map (λ p. term_seen p.1) by.now)) }
 {
-    let mut hidden = Items::new(alloc);
+    let mut hidden = Items::with_room(alloc, by.len())?;
     for (i, pair) in by.iter().enumerate() {
         let entity = entity_behind(first, i);
         let kind = kind_of(&pair.1);

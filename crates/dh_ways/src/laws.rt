@@ -47,7 +47,8 @@ pub fn loops_round_views_are_few()
 /// What is a memory has no way.
 #[tactic(auto, using(crate::proofs::MemoriesUnled::memory_unled))]
 pub fn memories_have_no_way()
-    ensures { (p : Program) (entity : Option ℕ) (m : Memory) → memory_in (memories_of p) entity ≡ Some m
+    ensures { (p : Program) (entity : Option ℕ) (m : Memory)
+        → memory_in (memories_of p) entity ≡ Some m
         → way_to p entity ≡ None }
 {}
 
@@ -57,7 +58,8 @@ pub fn memories_have_no_way()
 pub fn hidden_variables_are_apart()
     ensures numbered { (p : Program) → map (λ h. h.entity) (hidden_variables p)
         ≡ numbers_from (length p.entities) (length (hidden_variables p)) }
-    ensures counted { (p : Program) → all_entities_of p ≡ length p.entities + length (hidden_variables p) }
+    ensures counted { (p : Program) → all_entities_of p
+        ≡ length p.entities + length (hidden_variables p) }
     ensures within { (p : Program) (entity : Option ℕ) (w : Way) → way_to p entity ≡ Some w
         → IsWayWithin (length p.entities) (all_entities_of p) w }
 {}

@@ -1,6 +1,6 @@
 //! The ways of views, each of which is found by the view's entity without a search.
 
-ghost use Rattle.std.specs.Prelude.{◌≡◌, ◌<◌, [], ◌∷◌, ◌++◌, if◌then◌else◌, is_ok, length, map, option_map, slice_get, Some, OnOk};
+ghost use Rattle.std.specs.Prelude.{◌≡◌, ◌<◌, [], ◌∷◌, ◌++◌, if◌then◌else◌, is_ok, length, map, option_map, slice_get, Some, IfOk, OnOk};
 ghost use Rattle.dh_meaning.specs.Ways.{way_in};
 ghost use Rattle.dh_ways.specs.Linked.{AreLinked, CanFollow, IsParentAt, led_by, way_there, ways_linked};
 ghost use Rattle.dh_ways.specs.Placed.{ArePlaced, FindsPlace, PlacesNext, place_found};
@@ -83,14 +83,15 @@ impl Model for WayTable {
 }
 
 impl WayTable {
-    /// No view.
-    pub(crate) fn new(alloc: Global) -> WayTable
-        ensures { result ≡ [] }
+    /// No view, with room for so many.
+    pub(crate) fn with_room(alloc: Global, count: usize) -> Result<WayTable, NoMemory>
+        ensures { IfOk result (λ table. table ≡ []) }
     {
-        WayTable {
-            links: Items::new(alloc),
+        let links = Items::with_room(alloc, count)?;
+        Ok(WayTable {
+            links,
             places: Vec::new(alloc),
-        }
+        })
     }
 
     /// Adds a view behind the others.

@@ -71,13 +71,13 @@ fn find_standing<'a>(
         }
         CommandForm::While { body, .. } => find_standing(found, depth, copies, body),
         CommandForm::For {
-            factor,
+            header,
             body,
             combine,
-            ..
         } => {
-            let inner = depth_in(depth, *factor);
-            let more = copies_in(copies, *factor);
+            let header = header.as_ref();
+            let inner = depth_in(depth, header.factor);
+            let more = copies_in(copies, header.factor);
             find_standing(found, inner, more, body)?;
             stand_in_other(found, inner, more, combine)
         }
@@ -126,13 +126,16 @@ fn stand_in_parts<'a>(
     Ok(())
 }
 
-/// The views that a program declares, in text order.
+/// The views that a program declares, in text order. Where no entity is a view, nothing is walked over.
 pub(crate) fn standing_in<'a>(alloc: Global, typed: &'a Typed) -> Result<Vec<Stood<'a>>, NoMemory>
     requires round { AllByRecursion IsFewRound (stands 0 1 (program_seen typed.now).body) }
     ensures { IfOk result (λ found. map stand_seen found.items
         ≡ stands 0 1 (program_seen typed.now).body) }
 {
     let mut found = Vec::new(alloc);
+    if typed.has_no_view() {
+        return Ok(found);
+    }
     find_standing(&mut found, 0, 1, &typed.tree().body)?;
     Ok(found)
 }

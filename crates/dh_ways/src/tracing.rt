@@ -1,6 +1,6 @@
 //! The ways of a program's views, each in front of that of its parent.
 
-ghost use Rattle.std.specs.Prelude.{◌≡◌, ◌+◌, ◌<◌, ◌++◌, ℕ, List, Some, None, length, map, max, slice_get, IfOk, OnOk};
+ghost use Rattle.std.specs.Prelude.{◌≡◌, ◌+◌, ◌<◌, ◌++◌, List, Some, None, length, map, max, slice_get, IfOk, OnOk};
 ghost use Rattle.dh_tree.specs.Memories.{memories_of};
 ghost use Rattle.dh_tree.specs.Seen.{plan_seen, program_seen};
 ghost use Rattle.dh_tree.specs.ViewOffsets as offsets;
@@ -231,7 +231,8 @@ fn push_ways(
     stood: &[Stood<'_>],
 ) -> Result<(), NoMemory>
     requires few { behind_all first (map standing_seen stood.now) < 4294967296 }
-    ensures { OnOk result (map led_seen ways.new ≡ led_behind (memories_of (program_seen typed.now)) first
+    ensures { OnOk result (map led_seen ways.new
+        ≡ led_behind (memories_of (program_seen typed.now)) first
         (map led_seen ways.old) (map standing_seen stood.now)) }
 {
     let mut next = first;
@@ -252,7 +253,7 @@ pub fn ways_in(alloc: Global, typed: &Typed) -> Result<WayTable, NoMemory>
 {
     let stood = standing_in(alloc, typed)?;
     let first = first_hidden(typed);
-    let mut ways = WayTable::new(alloc);
+    let mut ways = WayTable::with_room(alloc, stood.len())?;
     push_ways(alloc, typed, &mut ways, first, stood.as_slice())?;
     Ok(ways)
 }

@@ -1,20 +1,33 @@
 //! Expressions: operands joined by operators, of which the tighter take their operands first.
 
-ghost use Rattle.std.specs.Prelude.{◌≡◌, ◌≤◌, length, IfOk, IfErr, None};
+ghost use Rattle.std.specs.Prelude.{◌≡◌, ◌≤◌, ◌++◌, ◌∷◌, [], length, IfOk, IfErr, None};
+ghost use Rattle.dh_tree.specs.declared.trees.expressions.Expr.{Expr};
 ghost use Rattle.dh_tree.specs.PlainTrees.{term, number, truth_value};
 ghost use Rattle.dh_tree.specs.Seen.{form_seen, term_seen};
-ghost use Rattle.dh_parser.specs.Answers.{Made, SameTerm, SameIndices, AnswersAfterName, AnswersAs, AnswersTerm, SameAccess, SameArguments, SameCast, SameIndex, TookTokens, joined_expressions};
-ghost use Rattle.dh_parser.specs.Reading.{expression, operand, named_from, access_from, all_indices, the_index, bracket_from, the_cast, the_argument, the_arguments};
+ghost use Rattle.dh_parser.specs.Answers.{Made, MadeOf, SameTerm, SameIndices, AnswersAfterName, AnswersAs, AnswersTerm, SameAccess, SameArguments, SameBank, SameCast, SameCastOf, SameIndex, SameRow, TookTokens, element_seen, joined_expressions, row_seen};
+ghost use Rattle.dh_parser.specs.Parts.{the_bank, the_row};
+ghost use Rattle.dh_parser.specs.Reading.{the, expression, operand, named_from, access_from, all_indices, the_index, bracket_from, the_cast, the_argument, the_arguments};
+ghost use Rattle.dh_parser.specs.declared.parsing.reading.Mark.TheVariants as sign;
 ghost use Rattle.dh_parser.specs.declared.parsing.reading.Stop.TheVariants as stop;
 
 use crate::parsing::operators::{level_above, take_operator};
-use crate::parsing::reading::{Mark, Reader, Stop};
+use crate::parsing::reading::{Mark, Numeral, Reader, Stop};
+use crate::parsing::rooms::{indices_in_sight, room_for_second};
 use crate::parsing::types::read_kind;
 use dh_base::Place;
 use dh_lexer::TokenKind;
 use dh_tree::{Expr, ExprForm, Kind, Ref};
 use dh_value::Op;
 use std::alloc::Global;
+
+/// A row of a bank as it is written.
+#[derive(Drop)]
+pub(crate) struct WrittenRow {
+    /// The number of the bank.
+    pub bank: Numeral,
+    /// The row in that bank.
+    pub row: Expr,
+}
 
 /// The expression of operators that bind at least as tightly as `level`, from 0 for all to 10 for
 /// none.
@@ -26,14 +39,15 @@ pub(crate) fn read_expression(reader: &mut Reader<'_>, level: u8) -> Result<Expr
 {
     let mut left = read_operand(reader)?;
     while let Some(op) = take_operator(reader, level) {
-        let right = read_expression(reader, level_above(op))?;
-        left = joined(reader.alloc, op, left, right)?;
+        let right = read_expression(reader, level_above(op));
+        left = joined_with(reader.alloc, op, left, right)?;
     }
     Ok(left)
 }
 
 /// An operand: a literal, a name, an access, or something in parentheses.
 #[cycle(expression)]
+#[inline(always)]
 pub(crate) fn read_operand(reader: &mut Reader<'_>) -> Result<Expr, Stop>
     ensures answer { AnswersTerm (operand expression) result reader.old reader.new }
     ensures commands { reader.new.commands ≡ reader.old.commands }
@@ -75,6 +89,7 @@ pub(crate) fn read_operand(reader: &mut Reader<'_>) -> Result<Expr, Stop>
 
 /// What a name begins: an access, or the name alone.
 #[cycle(expression)]
+#[inline(always)]
 fn read_named(reader: &mut Reader<'_>, of: Ref) -> Result<Expr, Stop>
     requires { of.entity ≡ None }
     ensures answer { AnswersAfterName named_from SameTerm of result reader.old reader.new }
@@ -96,22 +111,24 @@ pub(crate) fn read_access(reader: &mut Reader<'_>, of: Ref) -> Result<Expr, Stop
     ensures commands { reader.new.commands ≡ reader.old.commands }
     ensures shorter { length reader.new.rest.now ≤ length reader.old.rest.now }
 {
-    let place = of.place;
     if !reader.is_next(Mark::OpenBrace) {
-        let indices = read_indices(reader)?;
-        return Ok(plain(place, ExprForm::Access { of, indices }));
+        let indices = read_indices(reader);
+        return element_of(of, indices);
     }
-    reader.skip(Mark::OpenBrace)?;
-    let bank = reader.number()?;
-    reader.skip(Mark::CloseBrace)?;
+    let row = read_row(reader);
+    row_of(reader.alloc, of, row)
+}
+
+/// `{bank}[row]`, what follows the name of a memory of which one bank is read.
+#[cycle(expression)]
+fn read_row(reader: &mut Reader<'_>) -> Result<WrittenRow, Stop>
+    ensures answer { AnswersAs (the_row expression) SameRow result reader.old reader.new }
+    ensures commands { reader.new.commands ≡ reader.old.commands }
+    ensures shorter { length reader.new.rest.now ≤ length reader.old.rest.now }
+{
+    let bank = read_bank(reader)?;
     let row = read_index(reader)?;
-    let form = ExprForm::Physical {
-        of,
-        bank: bank.value,
-        bank_place: bank.place,
-        row: Box::new(reader.alloc, row)?,
-    };
-    Ok(plain(place, form))
+    Ok(WrittenRow { bank, row })
 }
 
 /// Indices in brackets, at least one.
@@ -121,16 +138,28 @@ fn read_indices(reader: &mut Reader<'_>) -> Result<Vec<Expr>, Stop>
     ensures commands { reader.new.commands ≡ reader.old.commands }
     ensures shorter { length reader.new.rest.now ≤ length reader.old.rest.now }
 {
-    // most accesses have one index
-    let mut indices = Vec::with_capacity(reader.alloc, 1)?;
-    let first = read_index(reader)?;
-    indices.push(first)?;
+    let mut indices = Vec::with_capacity(reader.alloc, indices_in_sight(reader.rest))?;
+    read_further(reader, &mut indices)?;
     while reader.is_next(Mark::OpenBracket) {
-        let index = read_index(reader)?;
-        indices.push(index)?;
+        read_further(reader, &mut indices)?;
     }
     indices.shrink_to_fit();
     Ok(indices)
+}
+
+/// An index in brackets, put behind others. It is read into their list, in place of being handed on.
+#[cycle(expression)]
+fn read_further(reader: &mut Reader<'_>, indices: &mut Vec<Expr>) -> Result<(), Stop>
+    ensures answer { AnswersAs (the_index expression)
+        (λ _ i. (e : Expr) × ((indices.new.items ≡ indices.old.items ++ (e ∷ [])) × SameIndex e i))
+        result reader.old reader.new }
+    ensures commands { reader.new.commands ≡ reader.old.commands }
+    ensures shorter { length reader.new.rest.now ≤ length reader.old.rest.now }
+    ensures taken { IfOk result (λ _. TookTokens reader.old reader.new) }
+{
+    reader.skip(Mark::OpenBracket)?;
+    let index = read_expression(reader, 0)?;
+    put_index(reader, index, indices)
 }
 
 /// An index in brackets.
@@ -143,8 +172,7 @@ fn read_index(reader: &mut Reader<'_>) -> Result<Expr, Stop>
 {
     reader.skip(Mark::OpenBracket)?;
     let index = read_expression(reader, 0)?;
-    reader.skip(Mark::CloseBracket)?;
-    Ok(index)
+    read_closing(reader, Mark::CloseBracket, index)
 }
 
 /// What stands in parentheses, of which the first stood at `opening`: an expression or a cast.
@@ -156,9 +184,54 @@ fn read_bracketed(reader: &mut Reader<'_>, opening: Place) -> Result<Expr, Stop>
 {
     let inner = read_expression(reader, 0)?;
     if !reader.is_next(Mark::As) {
-        reader.skip(Mark::CloseParen)?;
-        return Ok(inner);
+        return read_closing(reader, Mark::CloseParen, inner);
     }
+    read_cast_of(reader, opening, inner)
+}
+
+/// The number of a bank in braces.
+fn read_bank(reader: &mut Reader<'_>) -> Result<Numeral, Stop>
+    ensures memory { IfErr result (λ e. e ≡ stop.Here) }
+    ensures answer { AnswersAs the_bank SameBank result reader.old reader.new }
+    ensures commands { reader.new.commands ≡ reader.old.commands }
+    ensures shorter { length reader.new.rest.now ≤ length reader.old.rest.now }
+{
+    reader.skip(Mark::OpenBrace)?;
+    let bank = reader.number()?;
+    reader.skip(Mark::CloseBrace)?;
+    Ok(bank)
+}
+
+/// An expression that was read, once the sign that closes it is.
+fn read_closing(reader: &mut Reader<'_>, mark: Mark, inner: Expr) -> Result<Expr, Stop>
+    ensures answer { AnswersAs (the mark) (λ e p. e ≡ inner) result reader.old reader.new }
+    ensures commands { reader.new.commands ≡ reader.old.commands }
+    ensures shorter { length reader.new.rest.now ≤ length reader.old.rest.now }
+{
+    reader.skip(mark)?;
+    Ok(inner)
+}
+
+/// Puts an index behind others, once the sign that closes it is read.
+fn put_index(reader: &mut Reader<'_>, index: Expr, indices: &mut Vec<Expr>) -> Result<(), Stop>
+    ensures answer { AnswersAs (the sign.CloseBracket)
+        (λ _ p. indices.new.items ≡ indices.old.items ++ (index ∷ []))
+        result reader.old reader.new }
+    ensures commands { reader.new.commands ≡ reader.old.commands }
+    ensures shorter { length reader.new.rest.now ≤ length reader.old.rest.now }
+{
+    reader.skip(Mark::CloseBracket)?;
+    room_for_second(indices);
+    indices.push(index)?;
+    Ok(())
+}
+
+/// The cast of an expression that stands behind the `(` of this place, once its `as kind)` is read.
+fn read_cast_of(reader: &mut Reader<'_>, opening: Place, inner: Expr) -> Result<Expr, Stop>
+    ensures answer { AnswersAs the_cast (SameCastOf opening inner) result reader.old reader.new }
+    ensures commands { reader.new.commands ≡ reader.old.commands }
+    ensures shorter { length reader.new.rest.now ≤ length reader.old.rest.now }
+{
     let to = read_cast(reader)?;
     let inner = Box::new(reader.alloc, inner)?;
     Ok(plain(opening, ExprForm::Cast { inner, to }))
@@ -233,6 +306,53 @@ fn truth(place: Place, value: bool) -> Expr
     ensures { term_seen result ≡ term place None (truth_value value) }
 {
     plain(place, ExprForm::Truth { value })
+}
+
+/// `of[index]..`, where its indices were read.
+fn element_of(of: Ref, indices: Result<Vec<Expr>, Stop>) -> Result<Expr, Stop>
+    ensures { MadeOf (λ read e. term_seen e ≡ element_seen of read) indices result }
+{
+    match indices {
+        Ok(indices) => Ok(plain(of.place, ExprForm::Access { of, indices })),
+        Err(stop) => Err(stop),
+    }
+}
+
+/// `of{bank}[row]`, where its bank and its row were read.
+fn row_of(alloc: Global, of: Ref, row: Result<WrittenRow, Stop>) -> Result<Expr, Stop>
+    ensures { MadeOf (λ read e. term_seen e ≡ row_seen of read) row result }
+{
+    match row {
+        Ok(row) => physical(alloc, of, row),
+        Err(stop) => Err(stop),
+    }
+}
+
+/// `of{bank}[row]`
+fn physical(alloc: Global, of: Ref, written: WrittenRow) -> Result<Expr, Stop>
+    ensures { Made (λ e. term_seen e ≡ row_seen of written) result }
+{
+    let WrittenRow { bank, row } = written;
+    let row = Box::new(alloc, row)?;
+    let place = of.place;
+    let form = ExprForm::Physical {
+        of,
+        bank: bank.value,
+        bank_place: bank.place,
+        row,
+    };
+    Ok(plain(place, form))
+}
+
+/// `left op right`, where the right operand was read. It stands apart, since most expressions have no operator.
+#[inline(never)]
+fn joined_with(alloc: Global, op: Op, left: Expr, right: Result<Expr, Stop>) -> Result<Expr, Stop>
+    ensures { MadeOf (λ read e. term_seen e ≡ joined_expressions op left read) right result }
+{
+    match right {
+        Ok(right) => joined(alloc, op, left, right),
+        Err(stop) => Err(stop),
+    }
 }
 
 /// `left op right`

@@ -116,7 +116,8 @@ pub(crate) enum Mark {
     End,
 }
 
-/// Whether the token is this word or sign.
+/// Whether the token is this word or sign. Where the mark is known, this is one comparison.
+#[inline(always)]
 pub(crate) fn is_mark(kind: &TokenKind, mark: Mark) -> bool
     ensures { result ≡ marks.is_mark kind.now mark }
 {
@@ -173,6 +174,7 @@ impl Reader<'_> {
     }
 
     /// Whether this comes next.
+    #[inline(always)]
     pub fn is_next(&self, mark: Mark) -> bool
         ensures { result ≡ comes mark self.now.rest.now }
     {
@@ -183,6 +185,7 @@ impl Reader<'_> {
     }
 
     /// Whether an access goes on here, after its name.
+    #[inline(always)]
     pub fn goes_on(&self) -> bool
         ensures { result ≡ goes_on self.now.rest.now }
     {
@@ -190,6 +193,7 @@ impl Reader<'_> {
     }
 
     /// Takes this, if it comes next, and says whether it did.
+    #[inline(always)]
     pub fn take(&mut self, mark: Mark) -> bool
         ensures took { Took mark result self.old.rest.now self.new.rest.now }
         ensures shorter { length self.new.rest.now ≤ length self.old.rest.now }
@@ -205,6 +209,7 @@ impl Reader<'_> {
     }
 
     /// Takes this, which has to come next. Gives its place.
+    #[inline(always)]
     pub fn skip(&mut self, mark: Mark) -> Result<Place, Stop>
         ensures memory { IfErr result (λ e. e ≡ stop.Here) }
         ensures answer { AnswersAs (the mark) (λ place p. place ≡ p) result self.old self.new }
@@ -222,6 +227,7 @@ impl Reader<'_> {
     }
 
     /// Takes a name, which has to come next. Only where one does it takes memory.
+    #[inline]
     pub fn name(&mut self) -> Result<Ref, Stop>
         ensures memory { IfWanting result (the_name self.old.rest.now) }
         ensures unnumbered { IfOk result (λ name. name.entity ≡ None) }

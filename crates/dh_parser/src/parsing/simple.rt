@@ -11,10 +11,12 @@ use crate::parsing::reading::{Mark, Reader, Stop, begin};
 use crate::parsing::types::{WrittenType, read_type};
 use crate::parsing::views::read_view;
 use dh_lexer::TokenKind;
-use dh_tree::{Command, CommandForm, Expr, Ref};
+use dh_tree::{Command, CommandForm, Expr, Ref, Sides};
 use std::alloc::Global;
 
-/// A command that begins with `let`, `view` or a name.
+/// A command that begins with `let`, `view` or a name. It stands apart, so that blocks in blocks take little of
+/// the stack.
+#[inline(never)]
 pub(crate) fn read_simple(reader: &mut Reader<'_>) -> Result<Command, Stop>
     requires { most_commands reader.old ≤ 2 ^ 32 }
     ensures answer { NumbersAs the_simple SameSimpleCommand result reader.old reader.new }
@@ -68,10 +70,11 @@ fn read_let(reader: &mut Reader<'_>) -> Result<CommandForm, Stop>
     if !reader.is_next(Mark::Colon) {
         reader.skip(Mark::Assign)?;
         let value = read_expression(reader, 0)?;
+        let held = Box::new(reader.alloc, Some(value))?;
         return Ok(CommandForm::Let {
-            name,
             declared: None,
-            value: Some(value),
+            name,
+            value: held,
         });
     }
     reader.skip(Mark::Colon)?;
@@ -95,20 +98,22 @@ fn typed_let(
         places,
         is_memory,
     } = written;
+    let held = Box::new(alloc, value)?;
     if is_memory {
+        let memory = Box::new(alloc, name)?;
         let shape = Box::new(alloc, shape)?;
         let shape_places = Box::new(alloc, places)?;
         return Ok(CommandForm::LetMemory {
-            name,
+            name: memory,
             shape,
             shape_places,
-            value,
+            value: held,
         });
     }
     Ok(CommandForm::Let {
-        name,
         declared: Some(shape.kind),
-        value,
+        name,
+        value: held,
     })
 }
 
@@ -139,16 +144,18 @@ fn read_named(reader: &mut Reader<'_>, name: Ref) -> Result<CommandForm, Stop>
         TokenKind::Becomes => {
             reader.rest = after;
             let value = read_expression(reader, 0)?;
+            let held = Box::new(reader.alloc, value)?;
             Ok(CommandForm::Assign {
                 target: name,
-                value,
+                value: held,
             })
         }
         TokenKind::OpenParen => {
             reader.rest = after;
             let arguments = read_arguments(reader)?;
+            let function = Box::new(reader.alloc, name)?;
             Ok(CommandForm::Call {
-                function: name,
+                function,
                 arguments,
             })
         }
@@ -159,10 +166,11 @@ fn read_named(reader: &mut Reader<'_>, name: Ref) -> Result<CommandForm, Stop>
             };
             reader.rest = after;
             let value = read_expression(reader, 0)?;
+            let held = Box::new(reader.alloc, value)?;
             Ok(CommandForm::Reduce {
-                target: name,
                 op,
-                value,
+                target: name,
+                value: held,
             })
         }
     }
@@ -178,5 +186,6 @@ fn read_store(reader: &mut Reader<'_>, name: Ref) -> Result<CommandForm, Stop>
     let target = read_access(reader, name)?;
     reader.skip(Mark::Becomes)?;
     let value = read_expression(reader, 0)?;
-    Ok(CommandForm::Store { target, value })
+    let sides = Box::new(reader.alloc, Sides { target, value })?;
+    Ok(CommandForm::Store { sides })
 }

@@ -168,14 +168,24 @@ fn read_ports(reader: &mut Reader<'_>) -> Result<Option<WrittenPorts>, Stop>
     Ok(Some(WrittenPorts { braces, number }))
 }
 
+/// How many dimensions room is taken for first: most memories have one.
+fn first_dims(reader: &Reader<'_>) -> usize {
+    if reader.is_next(Mark::OpenBracket) {
+        1
+    } else {
+        0
+    }
+}
+
 /// The dimensions that come next, and the places of their parts.
 fn read_dims(reader: &mut Reader<'_>) -> Result<(Items<Dim>, Items<DimPlaces>), Stop>
     ensures answer { AnswersAs all_dims SameDims result reader.old reader.new }
     ensures commands { reader.new.commands ≡ reader.old.commands }
     ensures shorter { length reader.new.rest.now ≤ length reader.old.rest.now }
 {
-    let mut dims = Items::new(reader.alloc);
-    let mut places = Items::new(reader.alloc);
+    let room = first_dims(reader);
+    let mut dims = Items::with_room(reader.alloc, room)?;
+    let mut places = Items::with_room(reader.alloc, room)?;
     while reader.is_next(Mark::OpenBracket) {
         let written = read_dim(reader)?;
         dims.push(written.dim)?;

@@ -38,7 +38,14 @@ pub(crate) fn read_view(reader: &mut Reader<'_>) -> Result<CommandForm, Stop>
     let name = reader.name()?;
     reader.skip(Mark::Assign)?;
     let (parent, form) = read_plan(reader)?;
-    Ok(CommandForm::View { name, parent, form })
+    let view = Box::new(reader.alloc, name)?;
+    let shown = Box::new(reader.alloc, parent)?;
+    let plan = Box::new(reader.alloc, form)?;
+    Ok(CommandForm::View {
+        name: view,
+        parent: shown,
+        form: plan,
+    })
 }
 
 /// `form parent[by ..]..`
@@ -117,8 +124,9 @@ fn read_factors(reader: &mut Reader<'_>) -> Result<Factors, Stop>
     ensures commands { reader.new.commands ≡ reader.old.commands }
     ensures shorter { length reader.new.rest.now ≤ length reader.old.rest.now }
 {
-    let mut by = Vec::new(reader.alloc);
-    let mut by_place = Vec::new(reader.alloc);
+    // most views have one bracket
+    let mut by_place = Vec::with_capacity(reader.alloc, 1)?;
+    let mut by = Vec::with_capacity(reader.alloc, 1)?;
     let first = read_factor(reader)?;
     by.push(first.value)?;
     by_place.push(first.place)?;
@@ -151,8 +159,9 @@ fn read_suffixes(reader: &mut Reader<'_>) -> Result<Suffixes, Stop>
     ensures commands { reader.new.commands ≡ reader.old.commands }
     ensures shorter { length reader.new.rest.now ≤ length reader.old.rest.now }
 {
-    let mut by = Vec::new(reader.alloc);
-    let mut by_place = Vec::new(reader.alloc);
+    // most views have one bracket
+    let mut by_place = Vec::with_capacity(reader.alloc, 1)?;
+    let mut by = Vec::with_capacity(reader.alloc, 1)?;
     let (first, offset) = read_suffix(reader)?;
     by.push((first.value, offset))?;
     by_place.push(first.place)?;
@@ -186,7 +195,8 @@ fn read_offsets(reader: &mut Reader<'_>) -> Result<Vec<Expr>, Stop>
     ensures commands { reader.new.commands ≡ reader.old.commands }
     ensures shorter { length reader.new.rest.now ≤ length reader.old.rest.now }
 {
-    let mut by = Vec::new(reader.alloc);
+    // most views have one bracket
+    let mut by = Vec::with_capacity(reader.alloc, 1)?;
     let first = read_offset(reader)?;
     by.push(first)?;
     while reader.is_next(Mark::OpenBracket) {

@@ -17,67 +17,100 @@ pub struct Command {
     pub form: CommandForm,
 }
 
-/// What a command is.
+/// Both sides of a store.
+#[derive(Debug, Drop)]
+pub struct Sides {
+    /// An access.
+    pub target: Expr,
+    /// The value.
+    pub value: Expr,
+}
+
+/// What stands before the body of a loop: its iterator and its numbers, and where these and its words
+/// stand.
+#[derive(Debug, Drop)]
+pub struct LoopHeader {
+    /// The iterator.
+    pub iterator: Ref,
+    /// Its kind, where it is written.
+    pub declared: Option<Kind>,
+    /// Its first value.
+    pub low: u64,
+    /// Where that number stands.
+    pub low_place: Place,
+    /// The number after its last value.
+    pub high: u64,
+    /// Where that number stands.
+    pub high_place: Place,
+    /// The copies of the body; 1 where none are written.
+    pub factor: u64,
+    /// Where that number stands; the place of the command where it is not written.
+    pub factor_place: Place,
+    /// Where the word `unroll` stands; the place of the command where it does not.
+    pub unroll_place: Place,
+    /// Where the word `combine` stands; the place of the command where it does not.
+    pub combine_place: Place,
+}
+
+/// What a command is. Blocks hold their commands side by side, so that each takes the room of the
+/// largest form: what is larger than a list is in a box. Small fields stand first, beside the tag.
 #[cycle(commands)]
 #[derive(Debug, Drop)]
 pub enum CommandForm {
     /// `let name: declared = value`, of which one may lack.
     Let {
-        /// The variable.
-        name: Ref,
         /// Its kind, where it is written.
         declared: Option<Kind>,
+        /// The variable.
+        name: Ref,
         /// Its first value, where it is written.
-        value: Option<Expr>,
+        value: Box<Option<Expr>>,
     },
-    /// `let name: shape`, of a type with ports or dimensions. Its large parts are in boxes, so that no other
-    /// command takes the room that this one would.
+    /// `let name: shape`, of a type with ports or dimensions.
     LetMemory {
         /// The memory.
-        name: Ref,
+        name: Box<Ref>,
         /// Its shape.
         shape: Box<Shape>,
         /// The places of the shape's numbers.
         shape_places: Box<ShapePlaces>,
         /// A right side, where one is written. No rule allows one.
-        value: Option<Expr>,
+        value: Box<Option<Expr>>,
     },
     /// `view name = form`, with the parent's name within the form.
     View {
         /// The view.
-        name: Ref,
+        name: Box<Ref>,
         /// The memory or view that it shows.
-        parent: Ref,
+        parent: Box<Ref>,
         /// How it shows that.
-        form: ViewForm,
+        form: Box<ViewForm>,
     },
     /// `target := value`, to a variable.
     Assign {
         /// The variable.
         target: Ref,
         /// The value.
-        value: Expr,
+        value: Box<Expr>,
     },
     /// `target := value`, to an element.
     Store {
-        /// An access.
-        target: Expr,
-        /// The value.
-        value: Expr,
+        /// The access and the value.
+        sides: Box<Sides>,
     },
     /// `target op= value`
     Reduce {
-        /// The variable.
-        target: Ref,
         /// One of `Add`, `Sub` and `Mul`.
         op: Op,
+        /// The variable.
+        target: Ref,
         /// The right side.
-        value: Expr,
+        value: Box<Expr>,
     },
     /// `function(arguments)`
     Call {
         /// The function.
-        function: Ref,
+        function: Box<Ref>,
         /// The arguments, in order.
         arguments: Vec<Expr>,
     },
@@ -89,7 +122,7 @@ pub enum CommandForm {
     /// `if (test) then else other`
     If {
         /// The condition.
-        test: Expr,
+        test: Box<Expr>,
         /// The block that runs where it holds.
         then: Box<Command>,
         /// The block that runs where it does not; that of a further `if` after `else`.
@@ -98,36 +131,18 @@ pub enum CommandForm {
     /// `while (test) body`
     While {
         /// The condition.
-        test: Expr,
+        test: Box<Expr>,
         /// The block that runs while it holds.
         body: Box<Command>,
     },
     /// `for (let iterator: declared = low..high) unroll factor body combine combine`
     For {
-        /// The iterator.
-        iterator: Ref,
-        /// Its kind, where it is written.
-        declared: Option<Kind>,
-        /// Its first value.
-        low: u64,
-        /// Where that number stands.
-        low_place: Place,
-        /// The number after its last value.
-        high: u64,
-        /// Where that number stands.
-        high_place: Place,
-        /// The copies of the body; 1 where none are written.
-        factor: u64,
-        /// Where that number stands; the place of the command where it is not written.
-        factor_place: Place,
-        /// Where the word `unroll` stands; the place of the command where it does not.
-        unroll_place: Place,
+        /// What stands before the body.
+        header: Box<LoopHeader>,
         /// The block of each turn.
         body: Box<Command>,
         /// The block that joins the copies, where it is written.
         combine: Option<Box<Command>>,
-        /// Where the word `combine` stands; the place of the command where it does not.
-        combine_place: Place,
     },
 }
 

@@ -1,11 +1,13 @@
 //! The loops of a program, by the entities of their iterators.
 
-ghost use Rattle.std.specs.Prelude.{◌≡◌, [], None, length, replicate, IfOk};
-ghost use Rattle.dh_tree.specs.Seen.{action_seen, all_parts_seen, maybe_block_seen};
-ghost use Rattle.dh_tree.specs.Counters.{counters, other_counters, groups_counters};
-ghost use Rattle.dh_tree.specs.Collected.{AreCounted, AreLoopsOf, CountsNext, FindsLoops};
+ghost use Rattle.std.specs.Prelude.{◌≡◌, ◌↔◌, IsTrue, [], None, length, replicate, IfOk};
+ghost use Rattle.dh_tree.specs.Seen.{action_seen, all_parts_seen, maybe_block_seen, program_seen};
+ghost use Rattle.dh_tree.specs.Counters.{counters, other_counters, groups_counters, AreSingle};
+ghost use Rattle.dh_tree.specs.Resolved.{HasEntities};
+ghost use Rattle.dh_tree.specs.Collected.{AreCounted, AreLoopsOf, CountsNext, FindsLoops, counter_of};
 
-use crate::trees::{Command, CommandForm};
+use crate::trees::sorts::declare_no_loop;
+use crate::trees::{Command, CommandForm, LoopHeader, Tree};
 use dh_base::NoMemory;
 use std::alloc::Global;
 
@@ -23,6 +25,27 @@ pub struct Counter {
     pub factor: u64,
 }
 
+/// The loops of a program.
+#[derive(Debug, Drop)]
+pub struct Loops {
+    /// By the number of an entity the loop of which it is the iterator; empty where there is no loop.
+    pub by_entity: Vec<Option<Counter>>,
+    /// Whether each has one copy of its body at most.
+    pub single: bool,
+}
+
+/// The loop with this header.
+fn counted(header: &LoopHeader) -> Counter
+    ensures { result ≡ counter_of header.now }
+{
+    Counter {
+        entity: header.iterator.entity,
+        low: header.low,
+        high: header.high,
+        factor: header.factor,
+    }
+}
+
 /// Finds the loops of a command, in the order of the tree, a loop before those inside it.
 #[cycle(finding_loops)]
 #[tactic(auto, using(crate::proofs::SeenActions::actions_are, crate::proofs::Collecting::found_none, crate::proofs::Collecting::found_both))]
@@ -37,20 +60,11 @@ fn find_loops(found: &mut Vec<Counter>, command: &Command) -> Result<(), NoMemor
         }
         CommandForm::While { body, .. } => find_loops(found, body),
         CommandForm::For {
-            iterator,
-            low,
-            high,
-            factor,
+            header,
             body,
             combine,
-            ..
         } => {
-            found.push(Counter {
-                entity: iterator.entity,
-                low: *low,
-                high: *high,
-                factor: *factor,
-            })?;
+            found.push(counted(header))?;
             find_loops(found, body)?;
             find_loops_in_other(found, combine)
         }
@@ -125,17 +139,49 @@ fn note_loops(slots: &mut [Option<Counter>], found: &[Counter])
     }
 }
 
-/// For each of so many entities the loop of which it is the iterator.
-pub fn loops_of(
-    alloc: Global,
-    body: &Command,
-    entities: usize,
-) -> Result<Vec<Option<Counter>>, NoMemory>
-    ensures { IfOk result (λ slots. AreLoopsOf body.now entities slots.items) }
+/// Finds the loops of a tree. There is none where no entity is an iterator: then nothing is walked over.
+fn loops_in(alloc: Global, tree: &Tree) -> Result<Vec<Counter>, NoMemory>
+    requires { HasEntities (program_seen tree.now) }
+    ensures { IfOk result (λ found. found.items ≡ counters (action_seen tree.now.body)) }
 {
+    let entities = tree.entities.as_slice();
     let mut found = Vec::new(alloc);
-    find_loops(&mut found, body)?;
-    let mut slots = no_loops(alloc, entities)?;
-    note_loops(slots.as_mut_slice(), found.as_slice());
-    Ok(slots)
+    if declare_no_loop(entities) {
+        return Ok(found);
+    }
+    find_loops(&mut found, &tree.body)?;
+    Ok(found)
+}
+
+/// Whether each of these loops has one copy of its body at most.
+fn are_single(found: &[Counter]) -> bool
+    ensures { IsTrue result ↔ AreSingle found.now }
+{
+    for counter in found {
+        if 1 < counter.factor {
+            return false;
+        }
+    }
+    true
+}
+
+/// The loops of a tree.
+pub fn loops_of(alloc: Global, tree: &Tree) -> Result<Loops, NoMemory>
+    requires { HasEntities (program_seen tree.now) }
+    ensures { IfOk result (λ loops. AreLoopsOf tree.now loops) }
+{
+    let found = loops_in(alloc, tree)?;
+    let list = found.as_slice();
+    if list.is_empty() {
+        return Ok(Loops {
+            by_entity: Vec::new(alloc),
+            single: true,
+        });
+    }
+    let mut by_entity = no_loops(alloc, tree.entities.len())?;
+    note_loops(by_entity.as_mut_slice(), found.as_slice());
+    Ok(Loops {
+        by_entity,
+        single: are_single(found.as_slice()),
+    })
 }

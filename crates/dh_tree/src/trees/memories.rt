@@ -1,11 +1,13 @@
 //! The memories of a program: their table, and their numbers by entity.
 
 ghost use Rattle.std.specs.Prelude.{◌≡◌, None, length, map, replicate, IfOk};
-ghost use Rattle.dh_tree.specs.Seen.{action_seen, all_parts_seen, maybe_block_seen};
-ghost use Rattle.dh_tree.specs.Memories.{locals, other_locals, groups_locals, entry_of};
+ghost use Rattle.dh_tree.specs.Seen.{action_seen, all_parts_seen, maybe_block_seen, program_seen};
+ghost use Rattle.dh_tree.specs.Resolved.{HasEntities};
+ghost use Rattle.dh_tree.specs.Memories.{locals, other_locals, groups_locals, memories_of, entry_of};
 ghost use Rattle.dh_tree.specs.Collected.{memory_found, all_found, outside_memories, FindsMemories, NumbersNext, AreNumbersOf, IsCollected};
 
 use crate::tables::{MemEntry, MemTable, Shape};
+use crate::trees::sorts::declare_few_memories;
 use crate::trees::{Command, CommandForm, Decl, Ref, ShapePlaces, Tree};
 use dh_base::{Items, NoMemory};
 use std::alloc::Global;
@@ -170,12 +172,29 @@ fn numbers(
     Ok(numbers)
 }
 
+/// Finds the memories of a tree. None is local where no more are declared than come from outside: then
+/// nothing is walked over.
+fn memories_in<'a>(alloc: Global, tree: &'a Tree) -> Result<Vec<Found<'a>>, NoMemory>
+    requires { HasEntities (program_seen tree.now) }
+    ensures { IfOk result (λ found.
+        all_found found.items ≡ memories_of (program_seen tree.now)) }
+{
+    let decls = tree.decls.as_slice();
+    let entities = tree.entities.as_slice();
+    let mut found = find_decls(alloc, decls)?;
+    if declare_few_memories(entities, decls.len()) {
+        return Ok(found);
+    }
+    find_locals(&mut found, &tree.body)?;
+    Ok(found)
+}
+
 /// The memories of a tree.
 pub fn collect(alloc: Global, tree: &Tree) -> Result<Collected, NoMemory>
+    requires { HasEntities (program_seen tree.now) }
     ensures { IfOk result (λ c. IsCollected tree.now c) }
 {
-    let mut found = find_decls(alloc, tree.decls.as_slice())?;
-    find_locals(&mut found, &tree.body)?;
+    let found = memories_in(alloc, tree)?;
     Ok(Collected {
         table: entries(alloc, found.as_slice())?,
         numbers: numbers(alloc, found.as_slice(), tree.entities.len())?,

@@ -1,31 +1,33 @@
 //! Trees whose expressions have their kinds.
 
-ghost use Rattle.std.specs.Prelude.{◌≡◌, ◌<◌, Some, length, IfOk};
+ghost use Rattle.std.specs.Prelude.{◌≡◌, IsTrue, Some, [], IfOk};
 ghost use Rattle.dh_tree.specs.Seen.{program_seen};
 ghost use Rattle.dh_tree.specs.Collected.{AreLoopsOf, IsCollected};
-ghost use Rattle.dh_tree.specs.Counters.{counters_of, counter_in};
+ghost use Rattle.dh_tree.specs.Counters.{counters_of, counter_in, AreSingle};
 ghost use Rattle.dh_tree.specs.Breaches.{KeepsNames};
 ghost use Rattle.dh_tree.specs.Resolved.{HasEntities};
 ghost use Rattle.dh_tree.specs.Kinds.{HasKinds};
 ghost use Rattle.dh_tree.specs.KindBreaches.{KeepsKinds};
 ghost use Rattle.dh_tree.specs.Memories.{memories_of, number_in, table_of};
+ghost use Rattle.dh_tree.specs.Views.{views_of};
 
 use crate::tables::MemTable;
-use crate::trees::counters::loops_of;
+use crate::trees::counters::{Loops, loops_of};
 use crate::trees::memories::{Collected, collect};
+use crate::trees::sorts::declare_no_view;
 use crate::trees::{Counter, Tree};
 use dh_base::NoMemory;
 use std::alloc::Global;
 use std::marker::Model;
 
-/// The memories of a tree, and of each of its entities the loop of which it is the iterator.
-fn tables_of(alloc: Global, tree: &Tree) -> Result<(Collected, Vec<Option<Counter>>), NoMemory>
+/// The memories of a tree, and its loops.
+fn tables_of(alloc: Global, tree: &Tree) -> Result<(Collected, Loops), NoMemory>
+    requires { HasEntities (program_seen tree.now) }
     ensures memories { IfOk result (λ t. IsCollected tree.now t.0) }
-    ensures loops { IfOk result (λ t.
-        AreLoopsOf tree.now.body (length tree.now.entities.items) t.1.items) }
+    ensures loops { IfOk result (λ t. AreLoopsOf tree.now t.1) }
 {
     let memories = collect(alloc, tree)?;
-    let loops = loops_of(alloc, &tree.body, tree.entities.len())?;
+    let loops = loops_of(alloc, tree)?;
     Ok((memories, loops))
 }
 
@@ -35,8 +37,7 @@ fn tables_of(alloc: Global, tree: &Tree) -> Result<(Collected, Vec<Option<Counte
 pub struct Typed {
     tree: Tree,
     memories: Collected,
-    // the loop of which it is the iterator, of each entity that is one
-    loops: Vec<Option<Counter>>,
+    loops: Loops,
 }
 
 /// A call, and not the drop of each part where the tree is dropped: that is long, and would stand in the
@@ -53,18 +54,10 @@ impl Drop for Typed {
 }
 
 impl Model for Typed {
-    ghost use Rattle.std.specs.Prelude.{◌≡◌, length};
     ghost use Rattle.std.specs.Coded.{codes};
     ghost use Rattle.dh_tree.specs.contracts.trees.commands.Command as command;
     ghost use Rattle.dh_tree.specs.declared.trees.programs.Tree.{Tree};
-    ghost use Rattle.dh_tree.specs.Seen.{program_seen};
-    ghost use Rattle.dh_tree.specs.Breaches.{KeepsNames};
-    ghost use Rattle.dh_tree.specs.Resolved.{HasEntities};
-    ghost use Rattle.dh_tree.specs.Kinds.{HasKinds};
-    ghost use Rattle.dh_tree.specs.KindBreaches.{KeepsKinds};
-    ghost use Rattle.dh_tree.specs.Memories.{memories_of};
-    ghost use Rattle.dh_tree.specs.Counters.{counters_of};
-    ghost use Rattle.dh_tree.specs.Collected.{HasTable, AreCounted};
+    ghost use Rattle.dh_tree.specs.TypedTrees.{IsTypedWith};
 
     ghost Value = { Tree };
 
@@ -72,7 +65,7 @@ impl Model for Typed {
 
     ghost view = { λ t. t.tree };
 
-    ghost invariant = { λ t. (KeepsNames (program_seen t.tree) × HasEntities (program_seen t.tree)) × ((HasKinds (program_seen t.tree) × KeepsKinds (program_seen t.tree)) × (HasTable (memories_of (program_seen t.tree)) (length t.tree.entities.items) t.memories.table t.memories.numbers.items × ((length t.loops.items ≡ length t.tree.entities.items) × AreCounted (counters_of (program_seen t.tree)) t.loops.items))) };
+    ghost invariant = { λ t. IsTypedWith t.tree t.memories t.loops };
 }
 
 impl Typed {
@@ -127,11 +120,26 @@ impl Typed {
         ensures { result ≡ counter_in (counters_of (program_seen self.now)) (Some entity) }
     {
         let entity = entity as usize;
-        if entity < self.loops.len() {
-            self.loops[entity]
+        if entity < self.loops.by_entity.len() {
+            self.loops.by_entity[entity]
         } else {
             None
         }
+    }
+
+    /// Whether it is told at once that each loop has one copy of its body at most.
+    pub fn has_single_loops(&self) -> bool
+        ensures { IsTrue result → AreSingle (counters_of (program_seen self.now)) }
+    {
+        self.loops.single
+    }
+
+    /// Whether it is told at once that it declares no view: none of its entities is one.
+    pub fn has_no_view(&self) -> bool
+        ensures { IsTrue result → views_of (program_seen self.now) ≡ [] }
+    {
+        let entities = self.tree.entities.as_slice();
+        declare_no_view(entities)
     }
 
     /// The table of its memories: those from outside, then the local ones, both in the order of the tree.

@@ -24,4 +24,4 @@ keep_command-returns-in-For-clause-kept t c =
     two_kept c.args.kept.now c.keep_command-in-For.new.kept c.keep_other.new.kept (unbuilt_action (action_seen c.in-For.body.value))
     (unbuilt_other (maybe_seen (option_map (λ b. action_seen b.value) c.in-For.combine)))
     (c.keep_command-in-For.ensures.kept ∙ ap (λ (b : Command). least_of c.args.kept.now (unbuilt_action (action_seen b))) c.deref-in-For.ensures) c.keep_other.ensures.kept
-    ∙ ap (λ f. least_of c.args.kept.now (unbuilt_form c.args.command.now.place f)) (sym (ap action_form_seen c.in-For.is ∙ for_is _ _ _ _ _ _ _ _ _ _ _ _))
+    ∙ ap (λ f. least_of c.args.kept.now (unbuilt_form c.args.command.now.place f)) (sym (ap action_form_seen c.in-For.is ∙ for_is _ _ _))

@@ -1,11 +1,11 @@
-use Rattle.std.proofs.Common.{◌+◌, List, map, ap, sym, ◌∙◌, subst, None}
+use Rattle.std.proofs.Common.{◌+◌, List, map, refl, ap, sym, ◌∙◌, subst, None}
 use Rattle.std.specs.Prelude.{Option, Box, Vec, option_map}
 use Rattle.std.specs.Global.{Global}
 use Rattle.std.proofs.lemmas.Result.{IfOk-weaker}
 use Rattle.dh_tree.specs.declared.trees.commands.Command.{Command}
 use Rattle.dh_tree.specs.PlainTrees.{assigns, blocks, decides, lets, reduces, stores, views}
 use Rattle.dh_tree.specs.Seen.{action_form_seen, action_seen, groups, maybe_block_seen, maybe_seen, part_seen, plan_seen, term_seen}
-use Rattle.dh_tree.proofs.SeenActions.{assign_is, block_is, call_is, for_is, if_is, let_is, let_memory_is, reduce_is, store_is, view_is, while_is}
+use Rattle.dh_tree.proofs.SeenActions.{assign_at, block_is, call_is, for_is, if_at, let_at, let_memory_is, reduce_at, store_at, view_at, while_is}
 use Rattle.dh_meaning.specs.AccessNumbers.{accesses_of, term_accesses}
 use Rattle.dh_meaning.specs.Core.{no_commands}
 use Rattle.dh_meaning.specs.CoreOf.{core_action, core_other, core_term, depth_of, entity_number, first_value}
@@ -17,37 +17,37 @@ use Rattle.dh_code.proofs.flattening.+flatten_command.Goals as goal
 
 pub flatten_command-returns-in_ok-value-in-Let : goal.flatten_command-returns-in_ok-value-in-Let
 flatten_command-returns-in_ok-value-in-Let t c =
-    IfOk-weaker c.add_assign.result _ _ (λ first step. front_as c.args.names.now c.args.code.now c.add_assign.new.code c.args.command.now first c.args.next (lets c.in-Let.name c.in-Let.declared (option_map term_seen c.in-Let.value))
-    (ap action_form_seen c.in-Let.is ∙ let_is c.in-Let.name c.in-Let.declared c.in-Let.value) (λ p loops n rest placing can.
-    assign_front c.args.names.now p loops placing.held c.args.code.now c.first_value.new.code c.add_assign.new.code (entity_number c.in-Let.name.entity) (depth_of (known_in c.args.names.now) c.in-Let.name) (first_value (known_in c.args.names.now) n c.in-Let.declared (option_map term_seen c.in-Let.value))
+    IfOk-weaker c.add_assign.result _ _ (λ first step. front_as c.args.names.now c.args.code.now c.add_assign.new.code c.args.command.now first c.args.next (lets c.in-Let.name c.in-Let.declared (option_map term_seen c.deref.result.now))
+    (ap action_form_seen c.in-Let.is ∙ let_at c.in-Let.declared c.in-Let.name c.in-Let.value c.deref.result.now c.deref.ensures) (λ p loops n rest placing can.
+    assign_front c.args.names.now p loops placing.held c.args.code.now c.first_value.new.code c.add_assign.new.code (entity_number c.in-Let.name.entity) (depth_of (known_in c.args.names.now) c.in-Let.name) (first_value (known_in c.args.names.now) n c.in-Let.declared (option_map term_seen c.deref.result.now))
     c.in_ok-value-in-Let.value c.args.next first rest can (c.in_ok-value-in-Let.ensures n) step)) c.add_assign.ensures
 
 pub flatten_command-returns-in_ok-value-in-Assign : goal.flatten_command-returns-in_ok-value-in-Assign
 flatten_command-returns-in_ok-value-in-Assign t c =
-    IfOk-weaker c.add_assign-in-Assign.result _ _ (λ first step. front_as c.args.names.now c.args.code.now c.add_assign-in-Assign.new.code c.args.command.now first c.args.next (assigns c.in-Assign.target (term_seen c.in-Assign.value))
-    (ap action_form_seen c.in-Assign.is ∙ assign_is c.in-Assign.target c.in-Assign.value) (λ p loops n rest placing can.
-    assign_front c.args.names.now p loops placing.held c.args.code.now c.flat.new.code c.add_assign-in-Assign.new.code (entity_number c.in-Assign.target.entity) (depth_of (known_in c.args.names.now) c.in-Assign.target) (core_term (known_in c.args.names.now) n (term_seen c.in-Assign.value))
+    IfOk-weaker c.add_assign-in-Assign.result _ _ (λ first step. front_as c.args.names.now c.args.code.now c.add_assign-in-Assign.new.code c.args.command.now first c.args.next (assigns c.in-Assign.target (term_seen c.deref-in-Assign.result.now))
+    (ap action_form_seen c.in-Assign.is ∙ assign_at c.in-Assign.target c.in-Assign.value c.deref-in-Assign.result.now c.deref-in-Assign.ensures) (λ p loops n rest placing can.
+    assign_front c.args.names.now p loops placing.held c.args.code.now c.flat.new.code c.add_assign-in-Assign.new.code (entity_number c.in-Assign.target.entity) (depth_of (known_in c.args.names.now) c.in-Assign.target) (core_term (known_in c.args.names.now) n (term_seen c.deref-in-Assign.result.now))
     c.in_ok-value-in-Assign.value c.args.next first rest can (c.in_ok-value-in-Assign.ensures n) step)) c.add_assign-in-Assign.ensures
 
 pub flatten_command-returns-in-Store : goal.flatten_command-returns-in-Store
 flatten_command-returns-in-Store t c =
-    IfOk-weaker c.add_store.result _ _ (λ first h. front_as c.args.names.now c.args.code.now c.add_store.new.code c.args.command.now first c.args.next (stores (term_seen c.in-Store.target) (term_seen c.in-Store.value))
-    (ap action_form_seen c.in-Store.is ∙ store_is c.in-Store.target c.in-Store.value) (λ p loops n rest placing can. h n rest p loops placing can)) c.add_store.ensures
+    IfOk-weaker c.add_store.result _ _ (λ first h. front_as c.args.names.now c.args.code.now c.add_store.new.code c.args.command.now first c.args.next (stores (term_seen c.as_ref-sides.result.now.target) (term_seen c.as_ref-sides.result.now.value))
+    (ap action_form_seen c.in-Store.is ∙ store_at c.in-Store.sides c.as_ref-sides.result.now c.as_ref-sides.ensures) (λ p loops n rest placing can. h n rest p loops placing can)) c.add_store.ensures
 
 pub flatten_command-returns-in-Reduce : goal.flatten_command-returns-in-Reduce
 flatten_command-returns-in-Reduce t c =
-    IfOk-weaker c.add_reduce.result _ _ (λ first h. front_as c.args.names.now c.args.code.now c.add_reduce.new.code c.args.command.now first c.args.next (reduces c.in-Reduce.target c.in-Reduce.op (term_seen c.in-Reduce.value))
-    (ap action_form_seen c.in-Reduce.is ∙ reduce_is c.in-Reduce.target c.in-Reduce.op c.in-Reduce.value) (λ p loops n rest placing can. h n rest p loops placing can)) c.add_reduce.ensures
+    IfOk-weaker c.add_reduce.result _ _ (λ first h. front_as c.args.names.now c.args.code.now c.add_reduce.new.code c.args.command.now first c.args.next (reduces c.in-Reduce.target c.in-Reduce.op (term_seen c.deref-in-Reduce.result.now))
+    (ap action_form_seen c.in-Reduce.is ∙ reduce_at c.in-Reduce.op c.in-Reduce.target c.in-Reduce.value c.deref-in-Reduce.result.now c.deref-in-Reduce.ensures) (λ p loops n rest placing can. h n rest p loops placing can)) c.add_reduce.ensures
 
 pub flatten_command-returns-in_ok-other-in-If : goal.flatten_command-returns-in_ok-other-in-If
 flatten_command-returns-in_ok-other-in-If t c =
-    IfOk-weaker c.add_step.result _ _ (λ first step. front_as c.args.names.now c.args.code.now c.add_step.new.code c.args.command.now first c.args.next (decides (term_seen c.in-If.test) (action_seen c.in-If.then.value) (maybe_block_seen c.in-If.other))
-    (ap action_form_seen c.in-If.is ∙ if_is c.in-If.test c.in-If.then c.in-If.other) (λ p loops n rest placing can.
+    IfOk-weaker c.add_step.result _ _ (λ first step. front_as c.args.names.now c.args.code.now c.add_step.new.code c.args.command.now first c.args.next (decides (term_seen c.deref-in-If.result.now) (action_seen c.in-If.then.value) (maybe_block_seen c.in-If.other))
+    (ap action_form_seen c.in-If.is ∙ if_at c.in-If.test c.in-If.then c.in-If.other c.deref-in-If.result.now c.in-If.then.value c.deref-in-If.ensures refl) (λ p loops n rest placing can.
     let known = known_in c.args.names.now in
-    let m = n + term_accesses (term_seen c.in-If.test) in
-    choose_front c.args.names.now p loops c.args.code.now c.flat-in-If.new.code c.flatten_command.new.code c.flatten_other.new.code c.add_step.new.code (core_term known n (term_seen c.in-If.test)) (core_action known m (action_seen c.in-If.then.value) no_commands) (core_other known (m + accesses_of (action_seen c.in-If.then.value)) (maybe_block_seen c.in-If.other))
+    let m = n + term_accesses (term_seen c.deref-in-If.result.now) in
+    choose_front c.args.names.now p loops c.args.code.now c.flat-in-If.new.code c.flatten_command.new.code c.flatten_other.new.code c.add_step.new.code (core_term known n (term_seen c.deref-in-If.result.now)) (core_action known m (action_seen c.in-If.then.value) no_commands) (core_other known (m + accesses_of (action_seen c.in-If.then.value)) (maybe_block_seen c.in-If.other))
     c.in_ok-test-in-If.test c.in_ok-chosen-in-If.chosen c.in_ok-other-in-If.other c.args.next first rest can (c.in_ok-test-in-If.ensures n)
-    (subst (λ (x : Command). CanDoAll (table_in c.args.names.now) p loops (core_action known m (action_seen x) no_commands) → IsInFront c.args.names.now c.flat-in-If.new.code c.flatten_command.new.code c.in_ok-chosen-in-If.chosen None (core_action known m (action_seen x) no_commands) no_commands) c.deref.ensures (c.in_ok-chosen-in-If.ensures p loops m no_commands placing))
+    (subst (λ (x : Command). CanDoAll (table_in c.args.names.now) p loops (core_action known m (action_seen x) no_commands) → IsInFront c.args.names.now c.flat-in-If.new.code c.flatten_command.new.code c.in_ok-chosen-in-If.chosen None (core_action known m (action_seen x) no_commands) no_commands) c.deref-in-If-2.ensures (c.in_ok-chosen-in-If.ensures p loops m no_commands placing))
     (c.in_ok-other-in-If.ensures p loops (m + accesses_of (action_seen c.in-If.then.value)) placing) step)) c.add_step.ensures
 
 pub flatten_command-loop-i-init : goal.flatten_command-loop-i-init
@@ -75,8 +75,8 @@ flatten_command-returns-in-LetMemory t c = front_as c.args.names.now c.args.code
 
 pub flatten_command-returns-in-View : goal.flatten_command-returns-in-View
 flatten_command-returns-in-View t c =
-    IfOk-weaker c.add_view.result _ _ (λ first h. front_as c.args.names.now c.args.code.now c.add_view.new.code c.args.command.now first c.args.next (views c.in-View.name c.in-View.parent (plan_seen c.in-View.form))
-    (ap action_form_seen c.in-View.is ∙ view_is c.in-View.name c.in-View.parent c.in-View.form) (λ p loops n rest placing can. h n rest p loops placing can)) c.add_view.ensures
+    IfOk-weaker c.add_view.result _ _ (λ first h. front_as c.args.names.now c.args.code.now c.add_view.new.code c.args.command.now first c.args.next (views c.deref-in-View.result.now c.in-View.parent.value (plan_seen c.deref-in-View-2.result.now))
+    (ap action_form_seen c.in-View.is ∙ view_at c.in-View.name c.in-View.parent c.in-View.form c.deref-in-View.result.now c.in-View.parent.value c.deref-in-View-2.result.now c.deref-in-View.ensures refl c.deref-in-View-2.ensures) (λ p loops n rest placing can. h n rest p loops placing can)) c.add_view.ensures
 
 pub flatten_command-returns-in-Call : goal.flatten_command-returns-in-Call
 flatten_command-returns-in-Call t c = front_as c.args.names.now c.args.code.now c.args.code.now c.args.command.now c.args.next c.args.next _ (ap action_form_seen c.in-Call.is ∙ call_is _ _) (λ p loops n rest placing can. front_none c.args.names.now c.args.code.now c.args.next rest)
@@ -85,7 +85,7 @@ pub flatten_command-returns-in-While : goal.flatten_command-returns-in-While
 flatten_command-returns-in-While t c = front_as c.args.names.now c.args.code.now c.args.code.now c.args.command.now c.args.next c.args.next _ (ap action_form_seen c.in-While.is ∙ while_is _ _) (λ p loops n rest placing can. front_none c.args.names.now c.args.code.now c.args.next rest)
 
 pub flatten_command-returns-in-For : goal.flatten_command-returns-in-For
-flatten_command-returns-in-For t c = front_as c.args.names.now c.args.code.now c.args.code.now c.args.command.now c.args.next c.args.next _ (ap action_form_seen c.in-For.is ∙ for_is _ _ _ _ _ _ _ _ _ _ _ _) (λ p loops n rest placing can. front_none c.args.names.now c.args.code.now c.args.next rest)
+flatten_command-returns-in-For t c = front_as c.args.names.now c.args.code.now c.args.code.now c.args.command.now c.args.next c.args.next _ (ap action_form_seen c.in-For.is ∙ for_is _ _ _) (λ p loops n rest placing can. front_none c.args.names.now c.args.code.now c.args.next rest)
 
 pub flatten_other-returns-in-None : goal.flatten_other-returns-in-None
 flatten_other-returns-in-None t c = λ p loops n placing can.

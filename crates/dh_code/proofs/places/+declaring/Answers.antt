@@ -5,7 +5,7 @@ use Rattle.std.proofs.lemmas.List.{drop_all, drop_more}
 use Rattle.std.proofs.lemmas.Result.{on_ok_weaker}
 use Rattle.dh_tree.specs.declared.trees.commands.Command.{Command}
 use Rattle.dh_tree.specs.Seen.{action_form_seen, action_seen, actions, groups, maybe_block_seen, part_seen}
-use Rattle.dh_tree.proofs.SeenActions.{assign_is, call_is, for_is, if_is, let_memory_is, reduce_is, store_is, view_is}
+use Rattle.dh_tree.proofs.SeenActions.{assign_is, call_is, for_at, if_is, let_memory_is, reduce_is, store_is, view_is}
 use Rattle.dh_meaning.specs.Bindings.{iterator_kind}
 use Rattle.dh_code.specs.Declarations.{declarations, declared_of, factors_inside, groups_declarations, other_declarations, part_declarations}
 use Rattle.dh_code.specs.Placed.{AreFew}
@@ -18,18 +18,19 @@ declare-returns-in_ok-declare-in-If t c =
     on_ok_weaker c.declare_other.result (λ more. declares_as c.args.list.now.items c.declare_other.new.list.items c.args.depth c.args.copies c.args.command.now _
     (ap action_form_seen c.in-If.is ∙ if_is c.in-If.test c.in-If.then c.in-If.other) (λ factors round few.
     declares_both c.args.list.now.items c.declare.new.list.items c.declare_other.new.list.items (declarations factors (action_seen c.in-If.then.value)) (other_declarations factors (maybe_block_seen c.in-If.other))
-    (c.in_ok-declare-in-If.ensures factors round (subst (λ (x : Command). AreFew (declarations factors (action_seen x))) (sym c.deref.ensures) (few_left (declarations factors (action_seen c.in-If.then.value)) _ few))
-    ∙ ap (λ (x : Command). c.args.list.now.items ++ map declared_of (declarations factors (action_seen x))) c.deref.ensures)
+    (c.in_ok-declare-in-If.ensures factors round (subst (λ (x : Command). AreFew (declarations factors (action_seen x))) (sym c.deref-in-If.ensures) (few_left (declarations factors (action_seen c.in-If.then.value)) _ few))
+    ∙ ap (λ (x : Command). c.args.list.now.items ++ map declared_of (declarations factors (action_seen x))) c.deref-in-If.ensures)
     (more factors round (few_right (declarations factors (action_seen c.in-If.then.value)) _ few))))
     c.declare_other.ensures
 
 pub declare-returns-in_ok-declare-in-For : goal.declare-returns-in_ok-declare-in-For
 declare-returns-in_ok-declare-in-For t c =
+    let h = c.as_ref-header.result.now in
     on_ok_weaker c.declare_other-in-For.result (λ more. declares_as c.args.list.now.items c.declare_other-in-For.new.list.items c.args.depth c.args.copies c.args.command.now _
-    (ap action_form_seen c.in-For.is ∙ for_is _ _ _ _ _ _ _ _ _ _ _ _) (λ factors round few.
+    (ap action_form_seen c.in-For.is ∙ for_at c.in-For.header c.in-For.body c.in-For.combine h c.in-For.body.value c.as_ref-header.ensures refl) (λ factors round few.
     let round' = c.inside-depth.ensures factors round few.0 in
-    let inner = factors_inside factors c.in-For.factor in
-    declares_for c.args.list.now.items c.push-in-For.new.self.items c.declare-in-For.new.list.items c.declare_other-in-For.new.list.items (record { entity = c.in-For.iterator.entity; kind_is = iterator_kind c.in-For.declared; factors = inner }) c.in-For.iterator.entity c.iterator_kind.result c.inside-depth.result.0 c.inside-depth.result.1
+    let inner = factors_inside factors h.factor in
+    declares_for c.args.list.now.items c.push-in-For.new.self.items c.declare-in-For.new.list.items c.declare_other-in-For.new.list.items (record { entity = h.iterator.entity; kind_is = iterator_kind h.declared; factors = inner }) h.iterator.entity c.iterator_kind.result c.inside-depth.result.0 c.inside-depth.result.1
     (declarations inner (action_seen c.in-For.body.value)) (other_declarations inner (maybe_block_seen c.in-For.combine)) refl c.iterator_kind.ensures round' c.in_ok-push-in-For.ensures.items
     (c.in_ok-declare-in-For.ensures inner round' (subst (λ (x : Command). AreFew (declarations inner (action_seen x))) (sym c.deref-in-For.ensures) (few_left (declarations inner (action_seen c.in-For.body.value)) _ few.1))
     ∙ ap (λ (x : Command). c.push-in-For.new.self.items ++ map declared_of (declarations inner (action_seen x))) c.deref-in-For.ensures)
@@ -46,7 +47,7 @@ pub declare-returns-in-Assign : goal.declare-returns-in-Assign
 declare-returns-in-Assign t c = declares_none c.args.list.now.items c.args.depth c.args.copies c.args.command.now _ (ap action_form_seen c.in-Assign.is ∙ assign_is _ _) (λ factors. refl)
 
 pub declare-returns-in-Store : goal.declare-returns-in-Store
-declare-returns-in-Store t c = declares_none c.args.list.now.items c.args.depth c.args.copies c.args.command.now _ (ap action_form_seen c.in-Store.is ∙ store_is _ _) (λ factors. refl)
+declare-returns-in-Store t c = declares_none c.args.list.now.items c.args.depth c.args.copies c.args.command.now _ (ap action_form_seen c.in-Store.is ∙ store_is _) (λ factors. refl)
 
 pub declare-returns-in-Reduce : goal.declare-returns-in-Reduce
 declare-returns-in-Reduce t c = declares_none c.args.list.now.items c.args.depth c.args.copies c.args.command.now _ (ap action_form_seen c.in-Reduce.is ∙ reduce_is _ _ _) (λ factors. refl)

@@ -4,7 +4,7 @@ use Rattle.std.proofs.lemmas.Result.{IfOk-weaker}
 use Rattle.dh_tree.specs.declared.trees.expressions.Expr.{Expr}
 use Rattle.dh_tree.specs.PlainTrees.{lets, views, assigns, stores, reduces, blocks, decides}
 use Rattle.dh_tree.specs.Seen.{action_form_seen, action_seen, all_parts_seen, maybe_block_seen, plan_seen, term_seen}
-use Rattle.dh_tree.proofs.SeenActions.{assign_is, block_is, call_is, for_is, if_is, let_is, let_memory_is, reduce_is, store_is, view_is, while_is}
+use Rattle.dh_tree.proofs.SeenActions.{assign_at, block_is, call_is, for_is, if_at, let_at, let_memory_is, reduce_at, store_at, view_at, while_is}
 use Rattle.dh_meaning.specs.CoreOf.{way_of}
 use Rattle.dh_meaning.specs.Ways.{hidden_in}
 use Rattle.dh_expressions.specs.Evaluated.{known_in}
@@ -33,38 +33,38 @@ pub push_command-returns-in-Some-clause-means : goal.push_command-returns-in-Som
 push_command-returns-in-Some-clause-means t c =
     IfOk-weaker c.assign_all.result _ _
     (λ next d. as_seen c.args.scene.now c.args.around c.args.command.now (lets c.in-Let.name c.in-Let.declared (Some (term_seen c.in-Some.value))) c.args.first next c.args.building.now c.assign_all.new.building
-    (ap action_form_seen c.in-Let.is ∙ (let_is c.in-Let.name c.in-Let.declared c.in-Let.value ∙ ap (λ (v : Option Expr). lets c.in-Let.name c.in-Let.declared (option_map term_seen v)) c.in-Some.is))
+    (ap action_form_seen c.in-Let.is ∙ (let_at c.in-Let.declared c.in-Let.name c.in-Let.value c.as_ref-value.result.now c.as_ref-value.ensures ∙ ap (λ (v : Option Expr). lets c.in-Let.name c.in-Let.declared (option_map term_seen v)) c.in-Some.is))
     (let_done c.args.scene.now c.args.around c.args.command.now.id c.args.command.now.place c.args.first next c.args.building.now c.assign_all.new.building c.in-Let.name c.in-Let.declared (term_seen c.in-Some.value) d))
     c.assign_all.ensures.means
 
 pub push_command-returns-in_ok-clear_all-in-None-clause-means : goal.push_command-returns-in_ok-clear_all-in-None-clause-means
 push_command-returns-in_ok-clear_all-in-None-clause-means t c =
     as_seen c.args.scene.now c.args.around c.args.command.now (lets c.in-Let.name c.in-Let.declared None) c.args.first c.args.first c.args.building.now c.clear_all.new.building
-    (ap action_form_seen c.in-Let.is ∙ (let_is c.in-Let.name c.in-Let.declared c.in-Let.value ∙ ap (λ (v : Option Expr). lets c.in-Let.name c.in-Let.declared (option_map term_seen v)) c.in-None.is))
+    (ap action_form_seen c.in-Let.is ∙ (let_at c.in-Let.declared c.in-Let.name c.in-Let.value c.as_ref-value.result.now c.as_ref-value.ensures ∙ ap (λ (v : Option Expr). lets c.in-Let.name c.in-Let.declared (option_map term_seen v)) c.in-None.is))
     (clear_done c.args.scene.now c.args.around c.args.command.now.id c.args.command.now.place c.args.first c.args.building.now c.clear_all.new.building c.in-Let.name c.in-Let.declared c.in_ok-clear_all-in-None.ensures.means)
 
 pub push_command-returns-in-Assign-clause-means : goal.push_command-returns-in-Assign-clause-means
 push_command-returns-in-Assign-clause-means t c =
     IfOk-weaker c.assign_all-in-Assign.result _ _
-    (λ next d. as_seen c.args.scene.now c.args.around c.args.command.now (assigns c.in-Assign.target (term_seen c.in-Assign.value)) c.args.first next c.args.building.now c.assign_all-in-Assign.new.building
-    (ap action_form_seen c.in-Assign.is ∙ assign_is c.in-Assign.target c.in-Assign.value)
-    (assign_done c.args.scene.now c.args.around c.args.command.now.id c.args.command.now.place c.args.first next c.args.building.now c.assign_all-in-Assign.new.building c.in-Assign.target (term_seen c.in-Assign.value) d))
+    (λ next d. as_seen c.args.scene.now c.args.around c.args.command.now (assigns c.in-Assign.target (term_seen c.deref.result.now)) c.args.first next c.args.building.now c.assign_all-in-Assign.new.building
+    (ap action_form_seen c.in-Assign.is ∙ assign_at c.in-Assign.target c.in-Assign.value c.deref.result.now c.deref.ensures)
+    (assign_done c.args.scene.now c.args.around c.args.command.now.id c.args.command.now.place c.args.first next c.args.building.now c.assign_all-in-Assign.new.building c.in-Assign.target (term_seen c.deref.result.now) d))
     c.assign_all-in-Assign.ensures.means
 
 pub push_command-returns-in-Store-clause-means : goal.push_command-returns-in-Store-clause-means
 push_command-returns-in-Store-clause-means t c =
     IfOk-weaker c.store_all.result _ _
-    (λ next d. as_seen c.args.scene.now c.args.around c.args.command.now (stores (term_seen c.in-Store.target) (term_seen c.in-Store.value)) c.args.first next c.args.building.now c.store_all.new.building
-    (ap action_form_seen c.in-Store.is ∙ store_is c.in-Store.target c.in-Store.value)
-    (store_done c.args.scene.now c.args.around c.args.command.now.id c.args.command.now.place c.args.first next c.args.building.now c.store_all.new.building (term_seen c.in-Store.target) (term_seen c.in-Store.value) d))
+    (λ next d. as_seen c.args.scene.now c.args.around c.args.command.now (stores (term_seen c.as_ref-sides.result.now.target) (term_seen c.as_ref-sides.result.now.value)) c.args.first next c.args.building.now c.store_all.new.building
+    (ap action_form_seen c.in-Store.is ∙ store_at c.in-Store.sides c.as_ref-sides.result.now c.as_ref-sides.ensures)
+    (store_done c.args.scene.now c.args.around c.args.command.now.id c.args.command.now.place c.args.first next c.args.building.now c.store_all.new.building (term_seen c.as_ref-sides.result.now.target) (term_seen c.as_ref-sides.result.now.value) d))
     c.store_all.ensures.means
 
 pub push_command-returns-in-Reduce-clause-means : goal.push_command-returns-in-Reduce-clause-means
 push_command-returns-in-Reduce-clause-means t c =
     IfOk-weaker c.reduce_all.result _ _
-    (λ next d. as_seen c.args.scene.now c.args.around c.args.command.now (reduces c.in-Reduce.target c.in-Reduce.op (term_seen c.in-Reduce.value)) c.args.first next c.args.building.now c.reduce_all.new.building
-    (ap action_form_seen c.in-Reduce.is ∙ reduce_is c.in-Reduce.target c.in-Reduce.op c.in-Reduce.value)
-    (reduce_done c.args.scene.now c.args.around c.args.command.now.id c.args.command.now.place c.args.first next c.args.building.now c.reduce_all.new.building c.in-Reduce.target c.in-Reduce.op (term_seen c.in-Reduce.value) d))
+    (λ next d. as_seen c.args.scene.now c.args.around c.args.command.now (reduces c.in-Reduce.target c.in-Reduce.op (term_seen c.deref-in-Reduce.result.now)) c.args.first next c.args.building.now c.reduce_all.new.building
+    (ap action_form_seen c.in-Reduce.is ∙ reduce_at c.in-Reduce.op c.in-Reduce.target c.in-Reduce.value c.deref-in-Reduce.result.now c.deref-in-Reduce.ensures)
+    (reduce_done c.args.scene.now c.args.around c.args.command.now.id c.args.command.now.place c.args.first next c.args.building.now c.reduce_all.new.building c.in-Reduce.target c.in-Reduce.op (term_seen c.deref-in-Reduce.result.now) d))
     c.reduce_all.ensures.means
 
 pub push_command-returns-in_ok-join_all-in-If-clause-means : goal.push_command-returns-in_ok-join_all-in-If-clause-means
@@ -72,11 +72,11 @@ push_command-returns-in_ok-join_all-in-If-clause-means t c =
     let joins : JoinsAll c.push_other.new.building c.join_all.new.building c.as_slice-tests.result.now c.in_ok-next-in-If.chosen.items c.in_ok-next-in-If-2.other.items =
     subst (λ (ls : List Left). JoinsAll c.push_other.new.building c.join_all.new.building c.as_slice-tests.result.now ls c.in_ok-next-in-If-2.other.items) c.as_slice.ensures.value
     (subst (λ (ls : List Left). JoinsAll c.push_other.new.building c.join_all.new.building c.as_slice-tests.result.now c.as_slice.result.now ls) c.as_slice-in-If.ensures.value c.in_ok-join_all-in-If.ensures.means) in
-    as_seen c.args.scene.now c.args.around c.args.command.now (decides (term_seen c.in-If.test) (action_seen c.deref.result.now) (maybe_block_seen c.in-If.other)) c.args.first c.in_ok-next-in-If-2.next c.args.building.now c.join_all.new.building
-    (ap action_form_seen c.in-If.is ∙ (if_is c.in-If.test c.in-If.then c.in-If.other ∙ ap (λ b. decides (term_seen c.in-If.test) (action_seen b) (maybe_block_seen c.in-If.other)) (sym c.deref.ensures)))
-    (choice_done c.args.scene.now c.args.around c.args.first c.in_ok-tests-in-If.next c.in_ok-next-in-If.next c.in_ok-next-in-If-2.next (term_seen c.in-If.test) (action_seen c.deref.result.now) (maybe_block_seen c.in-If.other)
+    as_seen c.args.scene.now c.args.around c.args.command.now (decides (term_seen c.deref-in-If.result.now) (action_seen c.deref-in-If-2.result.now) (maybe_block_seen c.in-If.other)) c.args.first c.in_ok-next-in-If-2.next c.args.building.now c.join_all.new.building
+    (ap action_form_seen c.in-If.is ∙ if_at c.in-If.test c.in-If.then c.in-If.other c.deref-in-If.result.now c.deref-in-If-2.result.now c.deref-in-If.ensures c.deref-in-If-2.ensures)
+    (choice_done c.args.scene.now c.args.around c.args.first c.in_ok-tests-in-If.next c.in_ok-next-in-If.next c.in_ok-next-in-If-2.next (term_seen c.deref-in-If.result.now) (action_seen c.deref-in-If-2.result.now) (maybe_block_seen c.in-If.other)
     c.args.building.now c.test_all.new.building c.push_arm.new.building c.push_other.new.building c.join_all.new.building c.as_slice-tests.result.now c.in_ok-next-in-If.chosen.items c.in_ok-next-in-If-2.other.items joins.choices joins.middle
-    (subst (λ (ns : List ℕ). TestsAll c.args.scene.now c.args.around c.args.building.now c.test_all.new.building c.args.first c.in_ok-tests-in-If.next (term_seen c.in-If.test) ns) (sym c.as_slice-tests.ensures.value) c.in_ok-tests-in-If.ensures.means)
+    (subst (λ (ns : List ℕ). TestsAll c.args.scene.now c.args.around c.args.building.now c.test_all.new.building c.args.first c.in_ok-tests-in-If.next (term_seen c.deref-in-If.result.now) ns) (sym c.as_slice-tests.ensures.value) c.in_ok-tests-in-If.ensures.means)
     c.in_ok-next-in-If.ensures.means c.in_ok-next-in-If-2.ensures.means joins.joins joins.chooses joins.accesses c.args.command.now.id c.args.command.now.place)
 
 pub push_command-returns-in-Block-clause-means : goal.push_command-returns-in-Block-clause-means
@@ -94,9 +94,11 @@ push_command-returns-in-LetMemory-clause-means t c =
 
 pub push_command-returns-in-View-clause-means : goal.push_command-returns-in-View-clause-means
 push_command-returns-in-View-clause-means t c =
+    let name = c.deref-in-View.result.now in
+    let form = c.deref-in-View-2.result.now in
     IfOk-weaker c.keep_view.result _ _
-    (λ next d. viewed_done c.args.scene.now c.args.around c.args.command.now c.in-View.name c.in-View.parent (plan_seen c.in-View.form) c.args.first c.behind_command-idle.result next c.args.building.now c.keep_view.new.building
-    (ap action_form_seen c.in-View.is ∙ view_is c.in-View.name c.in-View.parent c.in-View.form) c.behind_command-idle.ensures d)
+    (λ next d. viewed_done c.args.scene.now c.args.around c.args.command.now name c.in-View.parent.value (plan_seen form) c.args.first c.behind_command-idle.result next c.args.building.now c.keep_view.new.building
+    (ap action_form_seen c.in-View.is ∙ view_at c.in-View.name c.in-View.parent c.in-View.form name c.in-View.parent.value form c.deref-in-View.ensures refl c.deref-in-View-2.ensures) c.behind_command-idle.ensures d)
     c.keep_view.ensures.means
 
 pub push_command-returns-in-Call-clause-means : goal.push_command-returns-in-Call-clause-means
@@ -111,7 +113,7 @@ pub push_command-returns-in-For-clause-means : goal.push_command-returns-in-For-
 push_command-returns-in-For-clause-means t c =
     counted_done c.args.scene.now c.args.around c.args.command.now _ c.args.first c.behind_command-in-For.result c.args.building.now
     (ap action_form_seen c.in-For.is
-    ∙ for_is c.in-For.iterator c.in-For.declared c.in-For.low c.in-For.low_place c.in-For.high c.in-For.high_place c.in-For.factor c.in-For.factor_place c.in-For.unroll_place c.in-For.body c.in-For.combine c.in-For.combine_place)
+    ∙ for_is c.in-For.header c.in-For.body c.in-For.combine)
     c.behind_command-in-For.ensures tt (λ n. refl)
 
 pub push_parts-loop-command-init : goal.push_parts-loop-command-init
@@ -178,34 +180,34 @@ pub push_command-returns-in-Some-clause-made : goal.push_command-returns-in-Some
 push_command-returns-in-Some-clause-made t c =
     IfOk-weaker c.assign_all.result _ _
     (λ next m. made_seen c.args.scene.now c.args.around c.args.command.now (lets c.in-Let.name c.in-Let.declared (Some (term_seen c.in-Some.value))) c.args.first next c.args.building.now c.assign_all.new.building
-    (ap action_form_seen c.in-Let.is ∙ (let_is c.in-Let.name c.in-Let.declared c.in-Let.value ∙ ap (λ (v : Option Expr). lets c.in-Let.name c.in-Let.declared (option_map term_seen v)) c.in-Some.is)) m)
+    (ap action_form_seen c.in-Let.is ∙ (let_at c.in-Let.declared c.in-Let.name c.in-Let.value c.as_ref-value.result.now c.as_ref-value.ensures ∙ ap (λ (v : Option Expr). lets c.in-Let.name c.in-Let.declared (option_map term_seen v)) c.in-Some.is)) m)
     c.assign_all.ensures.made
 
 pub push_command-returns-in_ok-clear_all-in-None-clause-made : goal.push_command-returns-in_ok-clear_all-in-None-clause-made
 push_command-returns-in_ok-clear_all-in-None-clause-made t c =
     made_seen c.args.scene.now c.args.around c.args.command.now (lets c.in-Let.name c.in-Let.declared None) c.args.first c.args.first c.args.building.now c.clear_all.new.building
-    (ap action_form_seen c.in-Let.is ∙ (let_is c.in-Let.name c.in-Let.declared c.in-Let.value ∙ ap (λ (v : Option Expr). lets c.in-Let.name c.in-Let.declared (option_map term_seen v)) c.in-None.is))
+    (ap action_form_seen c.in-Let.is ∙ (let_at c.in-Let.declared c.in-Let.name c.in-Let.value c.as_ref-value.result.now c.as_ref-value.ensures ∙ ap (λ (v : Option Expr). lets c.in-Let.name c.in-Let.declared (option_map term_seen v)) c.in-None.is))
     (c.in_ok-clear_all-in-None.ensures.made c.args.first)
 
 pub push_command-returns-in-Assign-clause-made : goal.push_command-returns-in-Assign-clause-made
 push_command-returns-in-Assign-clause-made t c =
     IfOk-weaker c.assign_all-in-Assign.result _ _
-    (λ next m. made_seen c.args.scene.now c.args.around c.args.command.now (assigns c.in-Assign.target (term_seen c.in-Assign.value)) c.args.first next c.args.building.now c.assign_all-in-Assign.new.building
-    (ap action_form_seen c.in-Assign.is ∙ assign_is c.in-Assign.target c.in-Assign.value) m)
+    (λ next m. made_seen c.args.scene.now c.args.around c.args.command.now (assigns c.in-Assign.target (term_seen c.deref.result.now)) c.args.first next c.args.building.now c.assign_all-in-Assign.new.building
+    (ap action_form_seen c.in-Assign.is ∙ assign_at c.in-Assign.target c.in-Assign.value c.deref.result.now c.deref.ensures) m)
     c.assign_all-in-Assign.ensures.made
 
 pub push_command-returns-in-Store-clause-made : goal.push_command-returns-in-Store-clause-made
 push_command-returns-in-Store-clause-made t c =
     IfOk-weaker c.store_all.result _ _
-    (λ next m. made_seen c.args.scene.now c.args.around c.args.command.now (stores (term_seen c.in-Store.target) (term_seen c.in-Store.value)) c.args.first next c.args.building.now c.store_all.new.building
-    (ap action_form_seen c.in-Store.is ∙ store_is c.in-Store.target c.in-Store.value) m)
+    (λ next m. made_seen c.args.scene.now c.args.around c.args.command.now (stores (term_seen c.as_ref-sides.result.now.target) (term_seen c.as_ref-sides.result.now.value)) c.args.first next c.args.building.now c.store_all.new.building
+    (ap action_form_seen c.in-Store.is ∙ store_at c.in-Store.sides c.as_ref-sides.result.now c.as_ref-sides.ensures) m)
     c.store_all.ensures.made
 
 pub push_command-returns-in-Reduce-clause-made : goal.push_command-returns-in-Reduce-clause-made
 push_command-returns-in-Reduce-clause-made t c =
     IfOk-weaker c.reduce_all.result _ _
-    (λ next m. made_seen c.args.scene.now c.args.around c.args.command.now (reduces c.in-Reduce.target c.in-Reduce.op (term_seen c.in-Reduce.value)) c.args.first next c.args.building.now c.reduce_all.new.building
-    (ap action_form_seen c.in-Reduce.is ∙ reduce_is c.in-Reduce.target c.in-Reduce.op c.in-Reduce.value) m)
+    (λ next m. made_seen c.args.scene.now c.args.around c.args.command.now (reduces c.in-Reduce.target c.in-Reduce.op (term_seen c.deref-in-Reduce.result.now)) c.args.first next c.args.building.now c.reduce_all.new.building
+    (ap action_form_seen c.in-Reduce.is ∙ reduce_at c.in-Reduce.op c.in-Reduce.target c.in-Reduce.value c.deref-in-Reduce.result.now c.deref-in-Reduce.ensures) m)
     c.reduce_all.ensures.made
 
 pub push_command-returns-in_ok-join_all-in-If-clause-made : goal.push_command-returns-in_ok-join_all-in-If-clause-made
@@ -213,8 +215,8 @@ push_command-returns-in_ok-join_all-in-If-clause-made t c =
     let joins : MadeJoined c.as_slice-tests.result.now c.in_ok-next-in-If.chosen.items c.in_ok-next-in-If-2.other.items c.push_other.new.building c.join_all.new.building =
     subst (λ (ls : List Left). MadeJoined c.as_slice-tests.result.now ls c.in_ok-next-in-If-2.other.items c.push_other.new.building c.join_all.new.building) c.as_slice.ensures.value
     (subst (λ (ls : List Left). MadeJoined c.as_slice-tests.result.now c.as_slice.result.now ls c.push_other.new.building c.join_all.new.building) c.as_slice-in-If.ensures.value c.in_ok-join_all-in-If.ensures.made) in
-    made_seen c.args.scene.now c.args.around c.args.command.now (decides (term_seen c.in-If.test) (action_seen c.deref.result.now) (maybe_block_seen c.in-If.other)) c.args.first c.in_ok-next-in-If-2.next c.args.building.now c.join_all.new.building
-    (ap action_form_seen c.in-If.is ∙ (if_is c.in-If.test c.in-If.then c.in-If.other ∙ ap (λ b. decides (term_seen c.in-If.test) (action_seen b) (maybe_block_seen c.in-If.other)) (sym c.deref.ensures)))
+    made_seen c.args.scene.now c.args.around c.args.command.now (decides (term_seen c.deref-in-If.result.now) (action_seen c.deref-in-If-2.result.now) (maybe_block_seen c.in-If.other)) c.args.first c.in_ok-next-in-If-2.next c.args.building.now c.join_all.new.building
+    (ap action_form_seen c.in-If.is ∙ if_at c.in-If.test c.in-If.then c.in-If.other c.deref-in-If.result.now c.deref-in-If-2.result.now c.deref-in-If.ensures c.deref-in-If-2.ensures)
     (record {
       tested = c.test_all.new.building;
       after_chosen = c.push_arm.new.building;
@@ -225,7 +227,7 @@ push_command-returns-in_ok-join_all-in-If-clause-made t c =
       chosen_left = c.in_ok-next-in-If.chosen.items;
       other_left = c.in_ok-next-in-If-2.other.items;
       test =
-          subst (λ (ns : List ℕ). MadeTests c.args.scene.now c.args.around c.args.first (term_seen c.in-If.test) (paths_counted c.args.around) c.args.building.now c.test_all.new.building c.in_ok-tests-in-If.next ns) (sym c.as_slice-tests.ensures.value) c.in_ok-tests-in-If.ensures.made;
+          subst (λ (ns : List ℕ). MadeTests c.args.scene.now c.args.around c.args.first (term_seen c.deref-in-If.result.now) (paths_counted c.args.around) c.args.building.now c.test_all.new.building c.in_ok-tests-in-If.next ns) (sym c.as_slice-tests.ensures.value) c.in_ok-tests-in-If.ensures.made;
       chosen = c.in_ok-next-in-If.ensures.made;
       other = c.in_ok-next-in-If-2.ensures.made;
       joined = joins;
@@ -244,11 +246,13 @@ push_command-returns-in-LetMemory-clause-made t c = made_seen c.args.scene.now c
 
 pub push_command-returns-in-View-clause-made : goal.push_command-returns-in-View-clause-made
 push_command-returns-in-View-clause-made t c =
-    let view_seen = ap action_form_seen c.in-View.is ∙ view_is c.in-View.name c.in-View.parent c.in-View.form in
+    let name = c.deref-in-View.result.now in
+    let form = c.deref-in-View-2.result.now in
+    let view_seen = ap action_form_seen c.in-View.is ∙ view_at c.in-View.name c.in-View.parent c.in-View.form name c.in-View.parent.value form c.deref-in-View.ensures refl c.deref-in-View-2.ensures in
     IfOk-weaker c.keep_view.result _ _
-    (λ next m. made_seen c.args.scene.now c.args.around c.args.command.now (views c.in-View.name c.in-View.parent (plan_seen c.in-View.form)) c.args.first next c.args.building.now c.keep_view.new.building view_seen
-    (view_made c.args.scene.now c.args.around (plan_seen c.in-View.form) c.args.first c.behind_command-idle.result next c.args.building.now c.keep_view.new.building (idle_next c.args.command.now _ c.args.first c.behind_command-idle.result view_seen c.behind_command-idle.ensures)
-    (hidden_in (way_of (known_in c.args.scene.now) c.in-View.name)) m))
+    (λ next m. made_seen c.args.scene.now c.args.around c.args.command.now (views name c.in-View.parent.value (plan_seen form)) c.args.first next c.args.building.now c.keep_view.new.building view_seen
+    (view_made c.args.scene.now c.args.around (plan_seen form) c.args.first c.behind_command-idle.result next c.args.building.now c.keep_view.new.building (idle_next c.args.command.now _ c.args.first c.behind_command-idle.result view_seen c.behind_command-idle.ensures)
+    (hidden_in (way_of (known_in c.args.scene.now) name)) m))
     c.keep_view.ensures.made
 
 pub push_command-returns-in-Call-clause-made : goal.push_command-returns-in-Call-clause-made
@@ -261,5 +265,5 @@ push_command-returns-in-While-clause-made t c =
 
 pub push_command-returns-in-For-clause-made : goal.push_command-returns-in-For-clause-made
 push_command-returns-in-For-clause-made t c =
-    let for_seen = ap action_form_seen c.in-For.is ∙ for_is c.in-For.iterator c.in-For.declared c.in-For.low c.in-For.low_place c.in-For.high c.in-For.high_place c.in-For.factor c.in-For.factor_place c.in-For.unroll_place c.in-For.body c.in-For.combine c.in-For.combine_place in
+    let for_seen = ap action_form_seen c.in-For.is ∙ for_is c.in-For.header c.in-For.body c.in-For.combine in
     made_seen c.args.scene.now c.args.around c.args.command.now _ c.args.first _ c.args.building.now c.args.building.now for_seen (record { still = refl; next_is = idle_next c.args.command.now _ c.args.first c.behind_command-in-For.result for_seen c.behind_command-in-For.ensures })

@@ -8,8 +8,8 @@ use Rattle.dh_events.specs.Tables.{numbered}
 use Rattle.dh_events.proofs.ReadFacts.{notes_of, stays_made, read_stays}
 use Rattle.dh_events.proofs.noting.+outer.Goals as goal
 
-pub returns-in_ok-element-in-Physical-clause-noted : goal.returns-in_ok-element-in-Physical-clause-noted
-returns-in_ok-element-in-Physical-clause-noted t c =
+pub note_reads-returns-in_ok-element-in-Physical-clause-noted : goal.note_reads-returns-in_ok-element-in-Physical-clause-noted
+note_reads-returns-in_ok-element-in-Physical-clause-noted t c =
     let seen = ap form_seen c.in-Physical.is ∙ physical_is c.in-Physical.of c.in-Physical.bank c.in-Physical.bank_place c.in-Physical.row in
     let is = ap element_in seen ∙ ap (λ x. in_row c.in-Physical.bank (term_seen x)) (sym c.deref.ensures) in
     let first = stays_made c.args.notes.now c.note_index.new.notes c.row.new.structures c.in_ok-row-in-Physical.ensures.noted c.in_ok-element-in-Physical.ensures.extends in

@@ -28,4 +28,4 @@ pub note_inside-returns-in_ok-joins-in-For-clause-noted : goal.note_inside-retur
 note_inside-returns-in_ok-joins-in-For-clause-noted t c =
     c.in_ok-joins-in-For.ensures.noted
     ∙ (ap (λ f. other_stages (maybe_seen (option_map (λ b. action_seen b.value) c.in-For.combine)) f) (c.in_ok-inner-in-For.ensures.noted ∙ ap (λ x. stages_in (action_seen x) (numbered c.args.stages.now.items)) c.deref-in-For.ensures)
-    ∙ ap (λ x. form_stages x (numbered c.args.stages.now.items)) (sym (ap action_form_seen c.in-For.is ∙ for_is _ _ _ _ _ _ _ _ _ _ _ _)))
+    ∙ ap (λ x. form_stages x (numbered c.args.stages.now.items)) (sym (ap action_form_seen c.in-For.is ∙ for_is _ _ _)))

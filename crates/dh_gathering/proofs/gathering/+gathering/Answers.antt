@@ -1,10 +1,10 @@
-use Rattle.std.proofs.Common.{Some, ap, sym, ◌∙◌, subst, rules}
+use Rattle.std.proofs.Common.{Some, refl, ap, ◌∙◌, subst, rules}
 use Rattle.std.proofs.lemmas.List.{drop_all}
 use Rattle.std.proofs.lemmas.Result.{IfOk-weaker}
 use Rattle.dh_accesses.proofs.CountedParts.{left_first, next_command}
 use Rattle.dh_tree.proofs.SeenActions as known
-use Rattle.dh_tree.specs.PlainTrees.{action, repeats, counts, decides}
-use Rattle.dh_tree.specs.Seen.{action_seen, action_form_seen, all_parts_seen, maybe_block_seen, plan_seen, term_seen, placed, unrolled}
+use Rattle.dh_tree.specs.PlainTrees.{action}
+use Rattle.dh_tree.specs.Seen.{action_seen, action_form_seen, all_parts_seen, high_seen, low_seen, maybe_block_seen, plan_seen, term_seen, unroll_seen}
 use Rattle.dh_tree.specs.ViewOffsets.{moves}
 use Rattle.dh_meaning.specs.AccessNumbers.{groups_accesses}
 use Rattle.dh_expressions.specs.Levels.{levels_inside}
@@ -17,43 +17,42 @@ use Rattle.dh_gathering.proofs.gathering.+gathering.Goals as goal
 
 pub gather-returns-in_ok-forms-in-If-clause-gathers : goal.gather-returns-in_ok-forms-in-If-clause-gathers
 gather-returns-in_ok-forms-in-If-clause-gathers t c =
-    let seen = ap action_form_seen c.in-If.is ∙ (known.if_is c.in-If.test c.in-If.then c.in-If.other ∙ ap (λ b. decides (term_seen c.in-If.test) (action_seen b) (maybe_block_seen c.in-If.other)) (sym c.deref.ensures)) in
+    let seen = ap action_form_seen c.in-If.is ∙ known.if_at c.in-If.test c.in-If.then c.in-If.other c.as_ref-test.result.now c.deref.result.now c.as_ref-test.ensures c.deref.ensures in
     gathers_as c.args.scene.now c.args.paths.now c.args.made.now c.choose.new.made (all_kept c.in_ok-forms-in-If.forms.items) c.args.first c.args.command.now.id c.args.command.now.place (action_form_seen c.args.command.now.form) _ seen
     (choice_of_code c.args.scene.now c.args.paths.now c.args.made.now c.gather.new.made c.gather_other.new.made c.choose.new.made (all_kept c.in_ok-chosen-in-If.chosen.items) (all_kept c.in_ok-other-in-If.other.items) (all_kept c.in_ok-forms-in-If.forms.items)
-    c.args.first c.behind_term-next.result c.in_ok-chosen-in-If.next c.args.command.now.id c.args.command.now.place (term_seen c.in-If.test) (action_seen c.deref.result.now) (maybe_block_seen c.in-If.other)
-    c.behind_term-next.ensures c.in_ok-chosen-in-If.ensures.next c.in_ok-chosen-in-If.ensures.gathers c.in_ok-other-in-If.ensures.gathers (subst (λ f. Chooses c.args.scene.now c.args.paths.now c.gather_other.new.made c.choose.new.made c.args.first (action c.args.command.now.id c.args.command.now.place f) (term_seen c.in-If.test) (all_kept c.in_ok-chosen-in-If.chosen.items) (all_kept c.in_ok-other-in-If.other.items) (all_kept c.in_ok-forms-in-If.forms.items)) seen c.in_ok-forms-in-If.ensures.made))
+    c.args.first c.behind_term-next.result c.in_ok-chosen-in-If.next c.args.command.now.id c.args.command.now.place (term_seen c.as_ref-test.result.now) (action_seen c.deref.result.now) (maybe_block_seen c.in-If.other)
+    c.behind_term-next.ensures c.in_ok-chosen-in-If.ensures.next c.in_ok-chosen-in-If.ensures.gathers c.in_ok-other-in-If.ensures.gathers (subst (λ f. Chooses c.args.scene.now c.args.paths.now c.gather_other.new.made c.choose.new.made c.args.first (action c.args.command.now.id c.args.command.now.place f) (term_seen c.as_ref-test.result.now) (all_kept c.in_ok-chosen-in-If.chosen.items) (all_kept c.in_ok-other-in-If.other.items) (all_kept c.in_ok-forms-in-If.forms.items)) seen c.in_ok-forms-in-If.ensures.made))
 
 pub gather-returns-in_ok-forms-in-While-clause-gathers : goal.gather-returns-in_ok-forms-in-While-clause-gathers
 gather-returns-in_ok-forms-in-While-clause-gathers t c =
-    let seen = ap action_form_seen c.in-While.is ∙ (known.while_is c.in-While.test c.in-While.body ∙ ap (λ b. repeats (term_seen c.in-While.test) (action_seen b)) (sym c.deref-in-While.ensures)) in
+    let seen = ap action_form_seen c.in-While.is ∙ known.while_at c.in-While.test c.in-While.body c.as_ref-test-in-While.result.now c.deref-in-While.result.now c.as_ref-test-in-While.ensures c.deref-in-While.ensures in
     gathers_as c.args.scene.now c.args.paths.now c.args.made.now c.repeat.new.made (all_kept c.in_ok-forms-in-While.forms.items) c.args.first c.args.command.now.id c.args.command.now.place (action_form_seen c.args.command.now.form) _ seen
     (loop_of_code c.args.scene.now c.args.paths.now c.args.made.now c.gather-in-While.new.made c.repeat.new.made (all_kept c.in_ok-body-in-While.body.items) (all_kept c.in_ok-forms-in-While.forms.items)
-    c.args.first c.behind_term-next-in-While.result c.args.command.now.id c.args.command.now.place (term_seen c.in-While.test) (action_seen c.deref-in-While.result.now)
+    c.args.first c.behind_term-next-in-While.result c.args.command.now.id c.args.command.now.place (term_seen c.as_ref-test-in-While.result.now) (action_seen c.deref-in-While.result.now)
     c.behind_term-next-in-While.ensures c.in_ok-body-in-While.ensures.gathers c.in_ok-forms-in-While.ensures.made)
 
 pub gather-returns-in_ok-forms-in-For-clause-gathers : goal.gather-returns-in_ok-forms-in-For-clause-gathers
 gather-returns-in_ok-forms-in-For-clause-gathers t c =
-    let seen = ap action_form_seen c.in-For.is
-    ∙ (known.for_is c.in-For.iterator c.in-For.declared c.in-For.low c.in-For.low_place c.in-For.high c.in-For.high_place c.in-For.factor c.in-For.factor_place c.in-For.unroll_place c.in-For.body c.in-For.combine c.in-For.combine_place
-    ∙ ap (λ b. counts c.in-For.iterator c.in-For.declared (placed c.in-For.low c.in-For.low_place) (placed c.in-For.high c.in-For.high_place) (unrolled c.in-For.factor c.in-For.factor_place c.in-For.unroll_place) (action_seen b) (maybe_block_seen c.in-For.combine) c.in-For.combine_place) (sym c.deref-in-For.ensures)) in
+    let head = c.as_ref-header.result.now in
+    let seen = ap action_form_seen c.in-For.is ∙ known.for_at c.in-For.header c.in-For.body c.in-For.combine head c.deref-in-For.result.now c.as_ref-header.ensures c.deref-in-For.ensures in
     gathers_as c.args.scene.now c.args.paths.now c.args.made.now c.turns.new.made (all_kept c.in_ok-forms-in-For.forms.items) c.args.first c.args.command.now.id c.args.command.now.place (action_form_seen c.args.command.now.form) _ seen
     (turns_of_code c.args.scene.now c.args.paths.now c.in_ok-within-in-For.within c.args.made.now c.gather-in-For.new.made c.gather_other-in-For.new.made c.turns.new.made (all_kept c.in_ok-body-in-For.body.items) (all_kept c.in_ok-folds-in-For.folds.items) (all_kept c.in_ok-turn-in-For.turn.items) (all_kept c.in_ok-forms-in-For.forms.items)
-    c.args.first c.in_ok-body-in-For.next c.args.command.now.id c.args.command.now.place c.in-For.iterator c.in-For.declared (placed c.in-For.low c.in-For.low_place) (placed c.in-For.high c.in-For.high_place) (unrolled c.in-For.factor c.in-For.factor_place c.in-For.unroll_place)
-    (action_seen c.deref-in-For.result.now) (maybe_block_seen c.in-For.combine) c.in-For.combine_place c.turn_count-count.result
-    c.turn_count-count.ensures c.if-count-eq0.false (c.in_ok-within-in-For.ensures.levels ∙ ap (λ e. levels_inside c.args.paths.now.levels.items (Some e) c.in-For.factor) c.entity_of-entity.ensures) c.in_ok-within-in-For.ensures.count c.in_ok-body-in-For.ensures.next c.in_ok-body-in-For.ensures.gathers c.in_ok-folds-in-For.ensures.gathers c.in_ok-turn-in-For.ensures c.in_ok-forms-in-For.ensures.made)
+    c.args.first c.in_ok-body-in-For.next c.args.command.now.id c.args.command.now.place head.iterator head.declared (low_seen head) (high_seen head) (unroll_seen head)
+    (action_seen c.deref-in-For.result.now) (maybe_block_seen c.in-For.combine) head.combine_place c.turn_count-count.result
+    c.turn_count-count.ensures c.if-count-eq0.false (c.in_ok-within-in-For.ensures.levels ∙ ap (λ e. levels_inside c.args.paths.now.levels.items (Some e) head.factor) c.entity_of-entity.ensures) c.in_ok-within-in-For.ensures.count c.in_ok-body-in-For.ensures.next c.in_ok-body-in-For.ensures.gathers c.in_ok-folds-in-For.ensures.gathers c.in_ok-turn-in-For.ensures c.in_ok-forms-in-For.ensures.made)
 
 pub gather-returns-in-View-clause-gathers : goal.gather-returns-in-View-clause-gathers
 gather-returns-in-View-clause-gathers t c =
-    let seen = ap action_form_seen c.in-View.is ∙ known.view_is c.in-View.name c.in-View.parent c.in-View.form in
+    let seen = ap action_form_seen c.in-View.is ∙ known.view_at c.in-View.name c.in-View.parent c.in-View.form c.in-View.name.value c.in-View.parent.value c.deref-in-View.result.now refl refl c.deref-in-View.ensures in
     IfOk-weaker c.view_phases.result _ _
     (λ g is. gathers_as c.args.scene.now c.args.paths.now c.args.made.now c.args.made.now (all_kept g.0.items) c.args.first c.args.command.now.id c.args.command.now.place (action_form_seen c.args.command.now.form) _ seen
-    (view_of_code c.args.scene.now c.args.paths.now c.args.made.now (all_kept g.0.items) c.args.first c.args.command.now.id c.args.command.now.place c.in-View.name c.in-View.parent (plan_seen c.in-View.form)
-    (is ∙ ap (λ f. view_kept (moves (plan_seen c.in-View.form)) (numbered (action c.args.command.now.id c.args.command.now.place f) c.args.first)) seen)))
+    (view_of_code c.args.scene.now c.args.paths.now c.args.made.now (all_kept g.0.items) c.args.first c.args.command.now.id c.args.command.now.place c.in-View.name.value c.in-View.parent.value (plan_seen c.deref-in-View.result.now)
+    (is ∙ ap (λ f. view_kept (moves (plan_seen c.deref-in-View.result.now)) (numbered (action c.args.command.now.id c.args.command.now.place f) c.args.first)) seen)))
     c.view_phases.ensures.forms
 
 pub gather-returns-in-View-clause-once : goal.gather-returns-in-View-clause-once
 gather-returns-in-View-clause-once t c =
-    IfOk-weaker c.view_phases.result _ _ (λ g is. once_view c.args.made.now (all_kept g.0.items) (moves (plan_seen c.in-View.form)) (numbered (action_seen c.args.command.now) c.args.first) is) c.view_phases.ensures.forms
+    IfOk-weaker c.view_phases.result _ _ (λ g is. once_view c.args.made.now (all_kept g.0.items) (moves (plan_seen c.deref-in-View.result.now)) (numbered (action_seen c.args.command.now) c.args.first) is) c.view_phases.ensures.forms
 
 pub gather-returns-in-Block-clause-gathers : goal.gather-returns-in-Block-clause-gathers
 gather-returns-in-Block-clause-gathers t c =

@@ -1,11 +1,11 @@
-use Rattle.std.proofs.Common.{◌≡◌, ℕ, true, List, map, drop, ap, sym, ◌∙◌, refl, subst}
+use Rattle.std.proofs.Common.{true, map, ap, sym, ◌∙◌, refl, subst}
 use Rattle.std.specs.Prelude.{Box, Option, option_map}
 use Rattle.std.specs.Global.{Global}
 use Rattle.std.proofs.lemmas.Result.{on_ok_weaker}
 use Rattle.dh_tree.specs.declared.trees.commands.Command.{Command}
-use Rattle.dh_tree.specs.PlainTrees.{assigns, blocks, calls, counts, decides, lets, lets_memory, reduces, repeats, stores, views}
-use Rattle.dh_tree.specs.Seen.{action_form_seen, action_seen, groups, maybe_seen, part_seen, placed, plan_seen, term_seen, unrolled}
-use Rattle.dh_tree.proofs.SeenActions.{assign_is, block_is, call_is, for_is, if_is, let_is, let_memory_is, reduce_is, store_is, view_is, while_is}
+use Rattle.dh_tree.specs.PlainTrees.{assigns, blocks, calls, decides, lets, lets_memory, reduces, repeats, views}
+use Rattle.dh_tree.specs.Seen.{action_form_seen, action_seen, counts_seen, groups, high_seen, low_seen, maybe_block_seen, maybe_seen, part_seen, plan_seen, sides_seen, term_seen, unroll_seen}
+use Rattle.dh_tree.proofs.SeenActions.{assign_is, block_is, call_is, for_at, if_at, let_is, let_memory_is, reduce_is, store_is, view_is, while_at}
 use Rattle.dh_tree.specs.ViewOffsets.{moves}
 use Rattle.dh_meaning.specs.AccessNumbers.{accesses_of, other_accesses}
 use Rattle.dh_meaning.specs.Phases.{other_phases, phases}
@@ -50,46 +50,46 @@ walk_command-returns-after-loop-part t c =
 
 pub walk_command-returns-in_ok-walk_other-in-If : goal.walk_command-returns-in_ok-walk_other-in-If
 walk_command-returns-in_ok-walk_other-in-If t c = on_ok_weaker c.close-in-If.result (λ closes.
-    by_form c.args.ways.now c.args.stages.now c.args.walk.now c.close-in-If.new.walk c.args.command.now (decides (term_seen c.in-If.test) (action_seen c.deref.result.now) (maybe_seen (option_map (λ b. action_seen b.value) c.in-If.other)))
-    (ap action_form_seen c.in-If.is ∙ (if_is c.in-If.test c.in-If.then c.in-If.other ∙ ap (λ x. decides (term_seen c.in-If.test) (action_seen x) (maybe_seen (option_map (λ b. action_seen b.value) c.in-If.other))) (sym c.deref.ensures))) c.get_at-stage.result c.get_at-stage.ensures c.if-stage-eq0.false c.if-stage-eq1.false
-    (walked_choice c.args.stages.now c.args.walk.now c.walk_test.new.walk c.walk_command-in-If.new.walk c.close.new.walk c.walk_other.new.walk c.close-in-If.new.walk c.args.command.now c.deref.result.now c.in-If.test (maybe_seen (option_map (λ b. action_seen b.value) c.in-If.other))
+    by_form c.args.ways.now c.args.stages.now c.args.walk.now c.close-in-If.new.walk c.args.command.now (decides (term_seen c.deref.result.now) (action_seen c.deref-in-If.result.now) (maybe_block_seen c.in-If.other))
+    (ap action_form_seen c.in-If.is ∙ if_at c.in-If.test c.in-If.then c.in-If.other c.deref.result.now c.deref-in-If.result.now c.deref.ensures c.deref-in-If.ensures) c.get_at-stage.result c.get_at-stage.ensures c.if-stage-eq0.false c.if-stage-eq1.false
+    (walked_choice c.args.stages.now c.args.walk.now c.walk_test.new.walk c.walk_command-in-If.new.walk c.close.new.walk c.walk_other.new.walk c.close-in-If.new.walk c.args.command.now c.deref-in-If.result.now c.deref.result.now (maybe_block_seen c.in-If.other)
     c.in_ok-walk_test-in-If.ensures c.in_ok-walk_command-in-If.ensures c.in_ok-close-in-If.ensures c.in_ok-walk_other-in-If.ensures closes)) c.close-in-If.ensures
 
 pub walk_command-returns-in_ok-walk_command-in-While : goal.walk_command-returns-in_ok-walk_command-in-While
 walk_command-returns-in_ok-walk_command-in-While t c = on_ok_weaker c.close-in-While.result (λ closes.
-    by_form c.args.ways.now c.args.stages.now c.args.walk.now c.close-in-While.new.walk c.args.command.now (repeats (term_seen c.in-While.test) (action_seen c.deref-in-While.result.now))
-    (ap action_form_seen c.in-While.is ∙ (while_is c.in-While.test c.in-While.body ∙ ap (λ x. repeats (term_seen c.in-While.test) (action_seen x)) (sym c.deref-in-While.ensures))) c.get_at-stage.result c.get_at-stage.ensures c.if-stage-eq0.false c.if-stage-eq1.false
-    (walked_repeat c.args.stages.now c.args.walk.now c.walk_test-in-While.new.walk c.walk_command-in-While.new.walk c.close-in-While.new.walk c.args.command.now c.deref-in-While.result.now c.in-While.test c.in_ok-walk_test-in-While.ensures c.in_ok-walk_command-in-While.ensures closes)) c.close-in-While.ensures
+    by_form c.args.ways.now c.args.stages.now c.args.walk.now c.close-in-While.new.walk c.args.command.now (repeats (term_seen c.deref-in-While.result.now) (action_seen c.deref-in-While-2.result.now))
+    (ap action_form_seen c.in-While.is ∙ while_at c.in-While.test c.in-While.body c.deref-in-While.result.now c.deref-in-While-2.result.now c.deref-in-While.ensures c.deref-in-While-2.ensures) c.get_at-stage.result c.get_at-stage.ensures c.if-stage-eq0.false c.if-stage-eq1.false
+    (walked_repeat c.args.stages.now c.args.walk.now c.walk_test-in-While.new.walk c.walk_command-in-While.new.walk c.close-in-While.new.walk c.args.command.now c.deref-in-While-2.result.now c.deref-in-While.result.now c.in_ok-walk_test-in-While.ensures c.in_ok-walk_command-in-While.ensures closes)) c.close-in-While.ensures
 
 pub walk_command-returns-in_ok-walk_other-in-For : goal.walk_command-returns-in_ok-walk_other-in-For
-walk_command-returns-in_ok-walk_other-in-For t c = on_ok_weaker c.close-in-For-2.result (λ closes.
-    by_form c.args.ways.now c.args.stages.now c.args.walk.now c.close-in-For-2.new.walk c.args.command.now (counts c.in-For.iterator c.in-For.declared (placed c.in-For.low c.in-For.low_place) (placed c.in-For.high c.in-For.high_place) (unrolled c.in-For.factor c.in-For.factor_place c.in-For.unroll_place) (action_seen c.deref-in-For.result.now) (maybe_seen (option_map (λ b. action_seen b.value) c.in-For.combine)) c.in-For.combine_place)
-    (ap action_form_seen c.in-For.is
-    ∙ (for_is c.in-For.iterator c.in-For.declared c.in-For.low c.in-For.low_place c.in-For.high c.in-For.high_place c.in-For.factor c.in-For.factor_place c.in-For.unroll_place c.in-For.body c.in-For.combine c.in-For.combine_place
-    ∙ ap (λ x. counts c.in-For.iterator c.in-For.declared (placed c.in-For.low c.in-For.low_place) (placed c.in-For.high c.in-For.high_place) (unrolled c.in-For.factor c.in-For.factor_place c.in-For.unroll_place) (action_seen x) (maybe_seen (option_map (λ b. action_seen b.value) c.in-For.combine)) c.in-For.combine_place) (sym c.deref-in-For.ensures))) c.get_at-stage.result c.get_at-stage.ensures c.if-stage-eq0.false c.if-stage-eq1.false
-    (walked_turns c.args.stages.now c.args.walk.now c.close-in-For.new.walk c.walk_command-in-For.new.walk c.walk_other-in-For.new.walk c.close-in-For-2.new.walk c.args.command.now c.deref-in-For.result.now c.in-For.iterator c.in-For.declared (placed c.in-For.low c.in-For.low_place) (placed c.in-For.high c.in-For.high_place) (unrolled c.in-For.factor c.in-For.factor_place c.in-For.unroll_place) (maybe_seen (option_map (λ b. action_seen b.value) c.in-For.combine)) c.in-For.combine_place
+walk_command-returns-in_ok-walk_other-in-For t c =
+    let h = c.in-For.header.value in
+    on_ok_weaker c.close-in-For-2.result (λ closes.
+    by_form c.args.ways.now c.args.stages.now c.args.walk.now c.close-in-For-2.new.walk c.args.command.now (counts_seen h (action_seen c.deref-in-For.result.now) (maybe_block_seen c.in-For.combine))
+    (ap action_form_seen c.in-For.is ∙ for_at c.in-For.header c.in-For.body c.in-For.combine h c.deref-in-For.result.now refl c.deref-in-For.ensures) c.get_at-stage.result c.get_at-stage.ensures c.if-stage-eq0.false c.if-stage-eq1.false
+    (walked_turns c.args.stages.now c.args.walk.now c.close-in-For.new.walk c.walk_command-in-For.new.walk c.walk_other-in-For.new.walk c.close-in-For-2.new.walk c.args.command.now c.deref-in-For.result.now h.iterator h.declared (low_seen h) (high_seen h) (unroll_seen h) (maybe_block_seen c.in-For.combine) h.combine_place
     c.in_ok-close-in-For.ensures c.in_ok-walk_command-in-For.ensures c.in_ok-walk_other-in-For.ensures closes)) c.close-in-For-2.ensures
 
 pub walk_command-returns-in-Let : goal.walk_command-returns-in-Let
-walk_command-returns-in-Let t c = by_form c.args.ways.now c.args.stages.now c.args.walk.now c.args.walk.now c.args.command.now (lets c.in-Let.name c.in-Let.declared (option_map term_seen c.in-Let.value)) (ap action_form_seen c.in-Let.is ∙ let_is _ _ _) c.get_at-stage.result c.get_at-stage.ensures c.if-stage-eq0.false c.if-stage-eq1.false (never_more c.args.stages.now c.args.walk.now c.args.command.now (lets c.in-Let.name c.in-Let.declared (option_map term_seen c.in-Let.value)) (λ r. refl))
+walk_command-returns-in-Let t c = by_form c.args.ways.now c.args.stages.now c.args.walk.now c.args.walk.now c.args.command.now (lets c.in-Let.name c.in-Let.declared (option_map term_seen c.in-Let.value.value)) (ap action_form_seen c.in-Let.is ∙ let_is _ _ _) c.get_at-stage.result c.get_at-stage.ensures c.if-stage-eq0.false c.if-stage-eq1.false (never_more c.args.stages.now c.args.walk.now c.args.command.now (lets c.in-Let.name c.in-Let.declared (option_map term_seen c.in-Let.value.value)) (λ r. refl))
 
 pub walk_command-returns-in-Assign : goal.walk_command-returns-in-Assign
-walk_command-returns-in-Assign t c = by_form c.args.ways.now c.args.stages.now c.args.walk.now c.args.walk.now c.args.command.now (assigns c.in-Assign.target (term_seen c.in-Assign.value)) (ap action_form_seen c.in-Assign.is ∙ assign_is _ _) c.get_at-stage.result c.get_at-stage.ensures c.if-stage-eq0.false c.if-stage-eq1.false (never_more c.args.stages.now c.args.walk.now c.args.command.now (assigns c.in-Assign.target (term_seen c.in-Assign.value)) (λ r. refl))
+walk_command-returns-in-Assign t c = by_form c.args.ways.now c.args.stages.now c.args.walk.now c.args.walk.now c.args.command.now (assigns c.in-Assign.target (term_seen c.in-Assign.value.value)) (ap action_form_seen c.in-Assign.is ∙ assign_is _ _) c.get_at-stage.result c.get_at-stage.ensures c.if-stage-eq0.false c.if-stage-eq1.false (never_more c.args.stages.now c.args.walk.now c.args.command.now (assigns c.in-Assign.target (term_seen c.in-Assign.value.value)) (λ r. refl))
 
 pub walk_command-returns-in-Store : goal.walk_command-returns-in-Store
-walk_command-returns-in-Store t c = by_form c.args.ways.now c.args.stages.now c.args.walk.now c.args.walk.now c.args.command.now (stores (term_seen c.in-Store.target) (term_seen c.in-Store.value)) (ap action_form_seen c.in-Store.is ∙ store_is _ _) c.get_at-stage.result c.get_at-stage.ensures c.if-stage-eq0.false c.if-stage-eq1.false (never_more c.args.stages.now c.args.walk.now c.args.command.now (stores (term_seen c.in-Store.target) (term_seen c.in-Store.value)) (λ r. refl))
+walk_command-returns-in-Store t c = by_form c.args.ways.now c.args.stages.now c.args.walk.now c.args.walk.now c.args.command.now (sides_seen c.in-Store.sides.value) (ap action_form_seen c.in-Store.is ∙ store_is _) c.get_at-stage.result c.get_at-stage.ensures c.if-stage-eq0.false c.if-stage-eq1.false (never_more c.args.stages.now c.args.walk.now c.args.command.now (sides_seen c.in-Store.sides.value) (λ r. refl))
 
 pub walk_command-returns-in-Reduce : goal.walk_command-returns-in-Reduce
-walk_command-returns-in-Reduce t c = by_form c.args.ways.now c.args.stages.now c.args.walk.now c.args.walk.now c.args.command.now (reduces c.in-Reduce.target c.in-Reduce.op (term_seen c.in-Reduce.value)) (ap action_form_seen c.in-Reduce.is ∙ reduce_is _ _ _) c.get_at-stage.result c.get_at-stage.ensures c.if-stage-eq0.false c.if-stage-eq1.false (never_more c.args.stages.now c.args.walk.now c.args.command.now (reduces c.in-Reduce.target c.in-Reduce.op (term_seen c.in-Reduce.value)) (λ r. refl))
+walk_command-returns-in-Reduce t c = by_form c.args.ways.now c.args.stages.now c.args.walk.now c.args.walk.now c.args.command.now (reduces c.in-Reduce.target c.in-Reduce.op (term_seen c.in-Reduce.value.value)) (ap action_form_seen c.in-Reduce.is ∙ reduce_is _ _ _) c.get_at-stage.result c.get_at-stage.ensures c.if-stage-eq0.false c.if-stage-eq1.false (never_more c.args.stages.now c.args.walk.now c.args.command.now (reduces c.in-Reduce.target c.in-Reduce.op (term_seen c.in-Reduce.value.value)) (λ r. refl))
 
 pub walk_command-returns-in-LetMemory : goal.walk_command-returns-in-LetMemory
-walk_command-returns-in-LetMemory t c = by_form c.args.ways.now c.args.stages.now c.args.walk.now c.args.walk.now c.args.command.now (lets_memory c.in-LetMemory.name c.in-LetMemory.shape.value c.in-LetMemory.shape_places.value (option_map term_seen c.in-LetMemory.value)) (ap action_form_seen c.in-LetMemory.is ∙ let_memory_is _ _ _ _) c.get_at-stage.result c.get_at-stage.ensures c.if-stage-eq0.false c.if-stage-eq1.false (never_more c.args.stages.now c.args.walk.now c.args.command.now (lets_memory c.in-LetMemory.name c.in-LetMemory.shape.value c.in-LetMemory.shape_places.value (option_map term_seen c.in-LetMemory.value)) (λ r. refl))
+walk_command-returns-in-LetMemory t c = by_form c.args.ways.now c.args.stages.now c.args.walk.now c.args.walk.now c.args.command.now (lets_memory c.in-LetMemory.name.value c.in-LetMemory.shape.value c.in-LetMemory.shape_places.value (option_map term_seen c.in-LetMemory.value.value)) (ap action_form_seen c.in-LetMemory.is ∙ let_memory_is _ _ _ _) c.get_at-stage.result c.get_at-stage.ensures c.if-stage-eq0.false c.if-stage-eq1.false (never_more c.args.stages.now c.args.walk.now c.args.command.now (lets_memory c.in-LetMemory.name.value c.in-LetMemory.shape.value c.in-LetMemory.shape_places.value (option_map term_seen c.in-LetMemory.value.value)) (λ r. refl))
 
 pub walk_command-returns-in-View : goal.walk_command-returns-in-View
-walk_command-returns-in-View t c = by_form c.args.ways.now c.args.stages.now c.args.walk.now c.args.walk.now c.args.command.now (views c.in-View.name c.in-View.parent (plan_seen c.in-View.form)) (ap action_form_seen c.in-View.is ∙ view_is _ _ _) c.get_at-stage.result c.get_at-stage.ensures c.if-stage-eq0.false c.if-stage-eq1.false (never_more c.args.stages.now c.args.walk.now c.args.command.now (views c.in-View.name c.in-View.parent (plan_seen c.in-View.form)) (λ r. view_few (moves (plan_seen c.in-View.form)) _))
+walk_command-returns-in-View t c = by_form c.args.ways.now c.args.stages.now c.args.walk.now c.args.walk.now c.args.command.now (views c.in-View.name.value c.in-View.parent.value (plan_seen c.in-View.form.value)) (ap action_form_seen c.in-View.is ∙ view_is _ _ _) c.get_at-stage.result c.get_at-stage.ensures c.if-stage-eq0.false c.if-stage-eq1.false (never_more c.args.stages.now c.args.walk.now c.args.command.now (views c.in-View.name.value c.in-View.parent.value (plan_seen c.in-View.form.value)) (λ r. view_few (moves (plan_seen c.in-View.form.value)) _))
 
 pub walk_command-returns-in-Call : goal.walk_command-returns-in-Call
-walk_command-returns-in-Call t c = by_form c.args.ways.now c.args.stages.now c.args.walk.now c.args.walk.now c.args.command.now (calls c.in-Call.function (map term_seen c.in-Call.arguments.items)) (ap action_form_seen c.in-Call.is ∙ call_is _ _) c.get_at-stage.result c.get_at-stage.ensures c.if-stage-eq0.false c.if-stage-eq1.false (never_more c.args.stages.now c.args.walk.now c.args.command.now (calls c.in-Call.function (map term_seen c.in-Call.arguments.items)) (λ r. refl))
+walk_command-returns-in-Call t c = by_form c.args.ways.now c.args.stages.now c.args.walk.now c.args.walk.now c.args.command.now (calls c.in-Call.function.value (map term_seen c.in-Call.arguments.items)) (ap action_form_seen c.in-Call.is ∙ call_is _ _) c.get_at-stage.result c.get_at-stage.ensures c.if-stage-eq0.false c.if-stage-eq1.false (never_more c.args.stages.now c.args.walk.now c.args.command.now (calls c.in-Call.function.value (map term_seen c.in-Call.arguments.items)) (λ r. refl))
 
 pub walk_other-returns-in-Some : goal.walk_other-returns-in-Some
 walk_other-returns-in-Some t c = on_ok_weaker c.walk_command.result (λ g known u r base line tells s.

@@ -1,7 +1,7 @@
-use Rattle.std.proofs.Common.{◌≡◌, ℕ, ◌+◌, ◌++◌, map, ap, sym, ◌∙◌, arith}
+use Rattle.std.proofs.Common.{◌≡◌, ℕ, ◌+◌, ◌++◌, map, refl, ap, sym, ◌∙◌, arith}
 use Rattle.std.proofs.lemmas.Result.{on_ok_weaker}
 use Rattle.dh_tree.specs.Seen.{action_form_seen, action_seen, actions, groups, part_seen}
-use Rattle.dh_tree.proofs.SeenActions.{block_is, if_is}
+use Rattle.dh_tree.proofs.SeenActions.{block_is, if_at}
 use Rattle.dh_meaning.specs.AccessNumbers.{accesses_of, groups_accesses, inner_accesses, own_accesses, part_accesses}
 use Rattle.dh_events.proofs.Turns.{at_item}
 use Rattle.dh_lengths.specs.HeldLevels.{zeros}
@@ -24,8 +24,8 @@ pub skip_command-returns-in_ok-skip_command-in-If : goal.skip_command-returns-in
 skip_command-returns-in_ok-skip_command-in-If t c =
     on_ok_weaker c.skip_other.result (λ e.
     three_zeros c.args.reads.now.items c.skip_term-in-If.new.reads.items c.skip_command.new.reads.items c.skip_other.new.reads.items _ _ _ c.in_ok-skip_term-in-If.ensures
-    (c.in_ok-skip_command-in-If.ensures ∙ ap (λ x. c.skip_term-in-If.new.reads.items ++ zeros (accesses_of (action_seen x))) c.deref.ensures) e
-    ∙ ap (λ f. c.args.reads.now.items ++ zeros (own_accesses f + inner_accesses f)) (sym (ap action_form_seen c.in-If.is ∙ if_is c.in-If.test c.in-If.then c.in-If.other))) c.skip_other.ensures
+    (c.in_ok-skip_command-in-If.ensures ∙ ap (λ x. c.skip_term-in-If.new.reads.items ++ zeros (accesses_of (action_seen x))) c.deref-in-If.ensures) e
+    ∙ ap (λ f. c.args.reads.now.items ++ zeros (own_accesses f + inner_accesses f)) (sym (ap action_form_seen c.in-If.is ∙ if_at c.in-If.test c.in-If.then c.in-If.other c.deref.result.now c.in-If.then.value c.deref.ensures refl))) c.skip_other.ensures
 
 pub skip_command-returns-after-loop-part : goal.skip_command-returns-after-loop-part
 skip_command-returns-after-loop-part t c =

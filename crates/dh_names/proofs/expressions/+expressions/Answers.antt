@@ -4,7 +4,7 @@ use Rattle.dh_tree.specs.LeastBreach.{least_of}
 use Rattle.dh_tree.specs.Breaches.{unknown, term_breaches, list_breaches}
 use Rattle.dh_tree.specs.Resolved.{used, resolved_term}
 use Rattle.dh_tree.specs.contracts.trees.expressions.ExprForm.{enum}
-use Rattle.dh_names.proofs.InArms.{holds, holds_some}
+use Rattle.dh_base.proofs.InArms.{holds, holds_some}
 use Rattle.dh_names.specs.Visible.{visible}
 use Rattle.dh_base.proofs.InPlace.{start, turn, finish, written}
 use Rattle.dh_names.proofs.TermForms.{access_done, access_least, physical_done, binary_done, cast_done, term_step, term_made, terms_made, terms_run}

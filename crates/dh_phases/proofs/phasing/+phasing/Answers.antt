@@ -14,7 +14,7 @@ phases_of-returns-in_ok-body-in-While t c =
 
 pub phases_of-returns-in_ok-turn-in-For : goal.phases_of-returns-in_ok-turn-in-For
 phases_of-returns-in_ok-turn-in-For t c =
-    IfOk-weaker c.turns.result _ _ (λ ps is. for_read c.args.command.now _ _ _ _ _ _ _ _ _ _ _ _ c.deref-in-For.result.now c.turn_count.result _ _ _ _ c.in-For.is c.deref-in-For.ensures c.turn_count.ensures c.in_ok-body-in-For.ensures c.in_ok-folds-in-For.ensures c.in_ok-turn-in-For.ensures is) c.turns.ensures
+    IfOk-weaker c.turns.result _ _ (λ ps is. for_read c.args.command.now _ _ _ _ c.deref-in-For.result.now c.turn_count.result _ _ _ _ c.in-For.is c.as_ref-header.ensures c.deref-in-For.ensures c.turn_count.ensures c.in_ok-body-in-For.ensures c.in_ok-folds-in-For.ensures c.in_ok-turn-in-For.ensures is) c.turns.ensures
 
 pub phases_of_parts-loop-command-init : goal.phases_of_parts-loop-command-init
 phases_of_parts-loop-command-init t c =

@@ -1,6 +1,5 @@
 use Rattle.std.proofs.Common.{ap, ◌∙◌, ℕ, ◌+◌, ◌<◌, length, slice_index, arith}
 use Rattle.dh_tree.specs.Elements.{banks_of}
-use Rattle.dh_ports.specs.Claims.{base_of}
 use Rattle.dh_ports.proofs.StartFacts.{base_none, base_next, base_most, bases_more, long_more}
 use Rattle.dh_ports.proofs.banks.bank_bases.Goals as goal
 

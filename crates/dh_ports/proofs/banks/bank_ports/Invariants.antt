@@ -1,4 +1,4 @@
-use Rattle.std.proofs.Common.{◌≡◌, ◌++◌, drop, get_or, replicate}
+use Rattle.std.proofs.Common.{◌≡◌, ◌++◌, drop, replicate}
 use Rattle.std.specs.List.{AllByRecursion}
 use Rattle.dh_tree.specs.Shapes.{IsMemory}
 use Rattle.dh_ports.specs.Claims.{ports_in}

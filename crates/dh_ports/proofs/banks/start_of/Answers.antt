@@ -1,7 +1,6 @@
 use Rattle.std.proofs.Common.{◌≡◌, ◌+◌, sym, ◌∙◌, ap, subst, arith, Some, pos, ◌+ℤ◌, unsigned_abs, to_z, of_z, to_z-of_z}
-use Rattle.dh_tree.specs.Counters.{counters_of}
 use Rattle.dh_tree.specs.Indices.{index_kind}
-use Rattle.dh_tree.specs.Seen.{form_seen, program_seen}
+use Rattle.dh_tree.specs.Seen.{form_seen}
 use Rattle.dh_ports.specs.declared.banks.Start.{Start}
 use Rattle.dh_ports.specs.Banks.{counters_in, copy_of, IsStart}
 use Rattle.std.specs.Int.{w128}

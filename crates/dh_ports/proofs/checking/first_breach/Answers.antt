@@ -6,14 +6,14 @@ use Rattle.dh_ports.proofs.checking.first_breach.Goals as goal
 
 pub first_among-requires-clause-seen : goal.first_among-requires-clause-seen
 first_among-requires-clause-seen c =
-    events_seen (program_seen c.args.typed.now) (program_seen c.tree.result.now) (ap program_seen c.tree.ensures.tree) c.new-stages.result.items c.note_stages.new.stages.items c.as_slice.result.now c.new-notes.result.events.items c.note_body.new.notes.events.items c.as_slice-2.result.now
-    c.new-stages.ensures.items c.in_ok-note_stages.ensures.noted c.as_slice.ensures.value c.new-notes.ensures.empty c.in_ok-note_body.ensures.adds c.as_slice-2.ensures.value
+    events_seen (program_seen c.args.typed.now) (program_seen c.tree.result.now) (ap program_seen c.tree.ensures.tree) c.new-stages.result.items c.note_stages.new.stages.items c.as_slice.result.now c.in_ok-notes.notes.events.items c.note_body.new.notes.events.items c.as_slice-2.result.now
+    c.new-stages.ensures.items c.in_ok-note_stages.ensures.noted c.as_slice.ensures.value c.in_ok-notes.ensures.empty c.in_ok-note_body.ensures.adds c.as_slice-2.ensures.value
 
 pub returns : goal.returns
 returns c =
     let p = program_seen c.args.typed.now in
     let events = c.as_slice-2.result.now in
-    let seen = events_seen p (program_seen c.tree.result.now) (ap program_seen c.tree.ensures.tree) c.new-stages.result.items c.note_stages.new.stages.items c.as_slice.result.now c.new-notes.result.events.items c.note_body.new.notes.events.items events
-    c.new-stages.ensures.items c.in_ok-note_stages.ensures.noted c.as_slice.ensures.value c.new-notes.ensures.empty c.in_ok-note_body.ensures.adds c.as_slice-2.ensures.value in
-    let are = are_events p c.note_body.new.notes events c.as_slice-2.ensures.value seen c.drop-2.inside.known.keys c.drop-2.view_is c.drop-2.invariant (c.in_ok-note_body.ensures.noted.noted c.new-notes.ensures.noted) in
+    let seen = events_seen p (program_seen c.tree.result.now) (ap program_seen c.tree.ensures.tree) c.new-stages.result.items c.note_stages.new.stages.items c.as_slice.result.now c.in_ok-notes.notes.events.items c.note_body.new.notes.events.items events
+    c.new-stages.ensures.items c.in_ok-note_stages.ensures.noted c.as_slice.ensures.value c.in_ok-notes.ensures.empty c.in_ok-note_body.ensures.adds c.as_slice-2.ensures.value in
+    let are = are_events p c.note_body.new.notes events c.as_slice-2.ensures.value seen c.drop-2.inside.known.keys c.drop-2.view_is c.drop-2.invariant (c.in_ok-note_body.ensures.noted.noted c.in_ok-notes.ensures.noted) in
     IfOk-weaker c.first_among.result _ _ (λ first told. told are) c.first_among.ensures

@@ -8,6 +8,7 @@ use Rattle.dh_events.specs.Accesses.{entity_in, loops_in}
 use Rattle.dh_ports.specs.Banks.{each_below}
 use Rattle.dh_ports.specs.Claims.{keys_on, source_of}
 use Rattle.dh_ports.specs.Copies.{copies_round}
+use Rattle.dh_ports.specs.Runs.{moves_in}
 use Rattle.dh_meets.specs.FewCopies.{most_copies}
 use Rattle.dh_ports.proofs.ClaimFacts.{number_unled}
 use Rattle.dh_ports.proofs.ClaimTurns.{past_claimed, one_claimed, all_claimed, entry_at, none_at, shape_at, base_at, base_there, slots_few, each_few, no_loop, some_loop, scopes_at, kept_scopes}
@@ -19,7 +20,7 @@ returns-in_default c =
     let p = program_seen c.args.typed.now in
     let past : length c.as_slice.result.now ≤ c.args.memory = search rules in
     record {
-      claims = nothing_added c.args.moves.now.items _ (past_claimed c.args.typed.now c.args.claimant.event (loops_in c.args.layout.now.rounds.items c.args.claimant.round) c.args.claimant.writes c.args.claimant.access.now (number_unled p (entity_in (form_seen c.args.claimant.access.now.form)) c.args.memory c.requires.named)
+      claims = nothing_added (moves_in c.args.moves.now.items) _ (past_claimed c.args.typed.now c.args.claimant.event (loops_in c.args.layout.now.rounds.items c.args.claimant.round) c.args.claimant.writes c.args.claimant.access.now (number_unled p (entity_in (form_seen c.args.claimant.access.now.form)) c.args.memory c.requires.named)
           (number_in (memories_of p) (entity_in (form_seen c.args.claimant.access.now.form))) c.args.memory refl c.requires.named (none_at (table_of p) c.as_slice.result.now c.args.memory (c.as_slice.ensures ∙ c.memories.ensures) past));
       past = c.requires.past;
     }
@@ -68,7 +69,7 @@ returns-then-is_empty c =
     (base_at (table_of p) c.as_slice.result.now c.args.layout.now.bases.items c.args.memory c.index-base.result.now same c.requires.layout.bases within c.index-base.ensures) c.bank_count-banks.ensures
     (sym loops_are ∙ no_loop c.loops_round-loops.result.now c.is_empty.result c.is_empty.ensures c.if-is_empty.true) c.bank_reached-bank.result c.bank_reached-bank.ensures in
     record {
-      claims = on_ok_weaker c.claim_one.result (λ so. so ∙ ap (λ l. c.args.moves.now.items ++ l) (sym claims)) c.claim_one.ensures;
+      claims = on_ok_weaker c.claim_one.result (λ so. so ∙ ap (λ l. moves_in c.args.moves.now.items ++ l) (sym claims)) c.claim_one.ensures;
       past = on_ok_weaker c.claim_one.result (λ so. c.requires.past) c.claim_one.ensures;
     }
 
@@ -115,6 +116,6 @@ returns c =
     (base_at (table_of p) c.as_slice.result.now c.args.layout.now.bases.items c.args.memory c.index-base.result.now same c.requires.layout.bases within c.index-base.ensures) c.bank_count-banks.ensures
     c.as_slice-3.result.now (c.as_slice-3.ensures.value ∙ (c.in_ok-counts.ensures.counts ∙ ap (λ (ls : List Counter). each_below (keys_on p c.as_slice-dims.result.now (source_of ls c.args.claimant.writes c.args.claimant.access.now)) c.bank_count-banks.result) loops_are)) in
     record {
-      claims = on_ok_weaker c.claim_all.result (λ so. so ∙ ap (λ l. c.args.moves.now.items ++ l) (sym claims)) c.claim_all.ensures;
+      claims = on_ok_weaker c.claim_all.result (λ so. so ∙ ap (λ l. moves_in c.args.moves.now.items ++ l) (sym claims)) c.claim_all.ensures;
       past = on_ok_weaker c.claim_all.result (λ so. c.in_ok-counts.ensures.past) c.claim_all.ensures;
     }

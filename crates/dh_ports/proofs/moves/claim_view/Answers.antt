@@ -11,6 +11,7 @@ use Rattle.dh_ways.specs.Seen.{way_seen}
 use Rattle.dh_ports.specs.Banks.{each_below}
 use Rattle.dh_ports.specs.Claims.{source_of}
 use Rattle.dh_ports.specs.Copies.{copies_round}
+use Rattle.dh_ports.specs.Runs.{moves_in}
 use Rattle.dh_meets.specs.FewCopies.{most_copies}
 use Rattle.dh_ports.proofs.CarrierTurns.{shaped}
 use Rattle.dh_ports.proofs.ClaimTurns.{each_few, kept_scopes, no_loop, scopes_at, some_loop}
@@ -20,7 +21,7 @@ use Rattle.dh_ports.proofs.moves.claim_view.Goals as goal
 
 pub returns-in_default : goal.returns-in_default
 returns-in_default c = record {
-  claims = nothing_added c.args.moves.now.items _
+  claims = nothing_added (moves_in c.args.moves.now.items) _
       (none_through c.args.typed.now c.args.claimant.event (loops_in c.args.layout.now.rounds.items c.args.claimant.round) c.args.claimant.writes c.args.claimant.access.now (way_seen c.args.way.now) c.requires.named c.number_of.result (c.number_of.ensures ∙ ap (number_in (memories_of (program_seen c.args.typed.now))) c.memory-ends_at.ensures) c.in_default.is);
   past = c.requires.past;
 }
@@ -53,7 +54,7 @@ returns-then-is_empty c =
     let claims = one_through c.args.typed.now c.args.claimant.event (loops_in c.args.layout.now.rounds.items c.args.claimant.round) c.args.claimant.writes c.args.claimant.access.now (way_seen c.args.way.now) c.requires.named c.number_of.result (c.number_of.ensures ∙ ap (number_in (memories_of (program_seen c.args.typed.now))) c.memory-ends_at.ensures) c.requires.leads c.args.carrier.now c.requires.carrier c.in-Some.memory c.in-Some.is
     c.as_slice-dims.result.now (c.as_slice-dims.ensures ∙ ap (λ (v : ViewMap). v.shape.dims) c.view-named.ensures) c.bank_reached-bank.result c.bank_reached-bank.ensures (sym loops_are ∙ no_loop c.loops_round-loops.result.now c.is_empty.result c.is_empty.ensures c.if-is_empty.true) c.index-base.result.now base in
     record {
-      claims = on_ok_weaker c.claim_carried.result (λ so. so ∙ ap (λ l. c.args.moves.now.items ++ l) (sym claims)) c.claim_carried.ensures;
+      claims = on_ok_weaker c.claim_carried.result (λ so. so ∙ ap (λ l. moves_in c.args.moves.now.items ++ l) (sym claims)) c.claim_carried.ensures;
       past = on_ok_weaker c.claim_carried.result (λ so. c.requires.past) c.claim_carried.ensures;
     }
 
@@ -94,6 +95,6 @@ returns c =
     c.index-base.result.now c.as_slice-2.result.now base
     (c.as_slice-2.ensures.value ∙ (c.in_ok-counts.ensures.counts ∙ ap (λ (ls : List Counter). each_below (charge_through p (way_seen c.args.way.now) (source_of ls c.args.claimant.writes c.args.claimant.access.now)) (length c.args.carrier.now.sources.items)) loops_are)) in
     record {
-      claims = on_ok_weaker c.claim_all.result (λ so. so ∙ ap (λ l. c.args.moves.now.items ++ l) (sym claims)) c.claim_all.ensures;
+      claims = on_ok_weaker c.claim_all.result (λ so. so ∙ ap (λ l. moves_in c.args.moves.now.items ++ l) (sym claims)) c.claim_all.ensures;
       past = on_ok_weaker c.claim_all.result (λ so. c.in_ok-counts.ensures.past) c.claim_all.ensures;
     }

@@ -1,15 +1,14 @@
-use Rattle.std.proofs.Common.{List, ap, ◌∙◌, subst}
+use Rattle.std.proofs.Common.{List, ◌∙◌, subst}
 use Rattle.std.specs.Prelude.{Vec}
 use Rattle.std.specs.Global.{Global}
 use Rattle.dh_tree.specs.declared.tables.MemEntry.{MemEntry}
 use Rattle.dh_tree.specs.declared.trees.counters.Counter.{Counter}
-use Rattle.dh_tree.specs.declared.trees.programs.Tree.{Tree}
 use Rattle.dh_tree.specs.Memories.{memories_of}
-use Rattle.dh_tree.specs.Seen.{action_seen, program_seen}
+use Rattle.dh_tree.specs.Seen.{program_seen}
 use Rattle.dh_meaning.specs.Ways.{ways_of}
 use Rattle.dh_ports.specs.Claims.{AreBases}
 use Rattle.dh_ports.specs.Layouts.{AreScopesWhere}
-use Rattle.dh_ports.proofs.LayoutFacts.{follow_all, rounds_noted}
+use Rattle.dh_ports.proofs.LayoutFacts.{follow_all}
 use Rattle.dh_ports.proofs.moves.layout_of.Goals as goal
 
 pub carriers_of-requires : goal.carriers_of-requires
@@ -25,7 +24,7 @@ returns c =
     let p = program_seen c.args.typed.now in
     record {
       bases = subst (λ (table : List MemEntry). AreBases table c.in_ok-bases.bases.items) (c.as_slice.ensures ∙ c.memories.ensures) c.in_ok-bases.ensures;
-      rounds = rounds_noted p (action_seen c.tree.result.now.body) (ap (λ (t : Tree). action_seen t.body) c.tree.ensures.tree) c.new-rounds.result c.note_rounds.new.rounds c.new-rounds.ensures.items c.in_ok-note_rounds.ensures;
+      rounds = c.in_ok-rounds.ensures;
       scopes = subst (λ (rounds : List (Vec Counter Global)). AreScopesWhere p rounds c.in_ok-scopes.scopes.items) c.as_slice-2.ensures.value c.in_ok-scopes.ensures;
       ways = c.in_ok-ways.ensures;
       carriers = c.in_ok-carriers.ensures;

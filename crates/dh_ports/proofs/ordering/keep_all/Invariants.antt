@@ -1,12 +1,15 @@
-use Rattle.std.proofs.Common.{◌≡◌, drop}
+-- The least is kept from here among the runs that are left as from the start among all.
+use Rattle.std.proofs.Common.{◌≡◌, drop, length}
 use Rattle.std.specs.List.{AllByRecursion}
-use Rattle.std.specs.Prelude.{length}
 use Rattle.dh_tree.specs.LeastBreach.{least_of}
-use Rattle.dh_events.specs.Noted.{all_seen}
-use Rattle.dh_ports.specs.Scanned.{all_late, IsMoveOf}
+use Rattle.dh_ports.specs.Levels.{IsKept}
+use Rattle.dh_ports.specs.Passing.{all_from, late_from}
+use Rattle.dh_ports.specs.Runs.{moves_in}
+use Rattle.dh_ports.specs.Scanned.{IsMoveOf}
 use Rattle.dh_ports.proofs.ordering.keep_all.Given as goal
 
-abbrev pub invariant-loop-i : goal.invariant-loop-i
-invariant-loop-i l =
-    (least_of l.kept (all_late (all_seen l.events) (drop l.i l.moves) (drop l.i l.steps) (drop l.i l.lefts)) ≡ least_of l.fn.kept (all_late (all_seen l.events) l.moves l.steps l.lefts))
-    × AllByRecursion (IsMoveOf (length l.events)) (drop l.i l.moves)
+abbrev pub invariant-loop-run : goal.invariant-loop-run
+invariant-loop-run l =
+    IsKept l.levels
+    × ((least_of l.kept (late_from l.classes l.events l.levels (moves_in (drop l.run-index l.moves))) ≡ least_of l.fn.kept (all_from l.classes l.events l.fn.starts.items (moves_in l.moves)))
+    × AllByRecursion (IsMoveOf (length l.events)) (moves_in (drop l.run-index l.moves)))

@@ -1,12 +1,24 @@
-use Rattle.std.proofs.Common.{ap, ◌∙◌, length}
-use Rattle.dh_ports.proofs.ScanTurns.{ordering_long, lefts_long}
+use Rattle.std.proofs.Common.{ℕ, List, replicate, ap, subst, sym, ◌∙◌}
+use Rattle.std.proofs.lemmas.Result.{on_ok_weaker}
+use Rattle.dh_ports.specs.Orders.{AreMarked, AreRead}
+use Rattle.dh_ports.specs.Runs.{moves_in}
+use Rattle.dh_ports.proofs.RunTurns.{keeps_late}
+use Rattle.dh_ports.proofs.UnwrittenEvents.{keeps_unwritten}
 use Rattle.dh_ports.proofs.ordering.keep_late.Goals as goal
 
-pub keep_all-requires-clause-steps : goal.keep_all-requires-clause-steps
-keep_all-requires-clause-steps c = ap length c.as_slice-2.ensures.value ∙ ordering_long c.in_ok-classes.classes c.args.events.now c.args.moves.now c.in_ok-steps.steps.items c.in_ok-steps.ensures
+pub returns-then-unwritten : goal.returns-then-unwritten
+returns-then-unwritten c = keeps_unwritten c.args.events.now (moves_in c.args.moves.now) c.args.kept.now c.requires.within (c.requires.shared.unwritten c.if-unwritten.true)
 
-pub keep_all-requires-clause-lefts : goal.keep_all-requires-clause-lefts
-keep_all-requires-clause-lefts c =
-    ap length c.as_slice-3.ensures.value
-    ∙ (lefts_long _ c.as_slice.result.now c.in_ok-lefts.lefts.items c.in_ok-lefts.ensures
-    ∙ (ap length c.as_slice.ensures.value ∙ ordering_long c.in_ok-classes.classes c.args.events.now c.args.moves.now c.in_ok-steps.steps.items c.in_ok-steps.ensures))
+pub written_banks-requires-clause-read : goal.written_banks-requires-clause-read
+written_banks-requires-clause-read c = subst (λ (m : List ℕ). AreRead c.args.events.now m) (sym c.as_slice-read.ensures.value) c.requires.shared.read
+
+pub keep_all-requires-clause-distinct : goal.keep_all-requires-clause-distinct
+keep_all-requires-clause-distinct c = c.len.ensures.distinct
+
+pub keep_all-requires-clause-marked : goal.keep_all-requires-clause-marked
+keep_all-requires-clause-marked c = subst (λ (m : List ℕ). AreMarked c.in_ok-classes.classes m) (sym c.as_slice-phases.ensures.value) c.in_ok-classes.ensures.marked
+
+pub returns : goal.returns
+returns c =
+    on_ok_weaker c.keep_all.result (λ kept. keeps_late c.in_ok-classes.classes c.args.events.now (moves_in c.args.moves.now) c.args.kept.now c.keep_all.new.kept c.in_ok-free.free.items c.len.ensures.distinct c.requires.within c.in_ok-classes.ensures.written
+    (c.in_ok-free.ensures ∙ ap (λ n. replicate n 1) c.len.ensures.long) kept) c.keep_all.ensures

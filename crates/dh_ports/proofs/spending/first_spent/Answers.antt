@@ -1,10 +1,12 @@
-use Rattle.std.proofs.Common.{ap, ◌∙◌, length}
-use Rattle.std.proofs.lemmas.List.{length-map}
-use Rattle.dh_ports.proofs.ScanTurns.{lefts_long}
+use Rattle.std.proofs.Common.{ap, ◌∙◌}
+use Rattle.std.proofs.lemmas.Result.{IfOk-weaker}
+use Rattle.dh_events.specs.Noted.{all_seen}
+use Rattle.dh_ports.specs.Claims.{ports_in}
+use Rattle.dh_ports.specs.Passing.{first_from}
+use Rattle.dh_ports.specs.Runs.{moves_in}
 use Rattle.dh_ports.proofs.spending.first_spent.Goals as goal
 
-pub first_beyond-requires-clause-lefts : goal.first_beyond-requires-clause-lefts
-first_beyond-requires-clause-lefts c =
-    ap length c.as_slice-4.ensures.value
-    ∙ (lefts_long _ c.as_slice-2.result.now c.in_ok-lefts.lefts.items c.in_ok-lefts.ensures
-    ∙ (ap length (c.as_slice-2.ensures.value ∙ c.in_ok-steps.ensures) ∙ length-map _ _))
+pub returns : goal.returns
+returns c =
+    IfOk-weaker c.spend_all.result _ _ (λ place is. is ∙ ap (λ starts. first_from (all_seen c.args.events.now) c.args.shared.now starts (moves_in c.args.moves.now)) (c.in_ok-ports.ensures ∙ ap ports_in (c.as_slice.ensures ∙ c.memories.ensures)))
+    c.spend_all.ensures

@@ -5,7 +5,7 @@ use Rattle.dh_tree.specs.PhaseKinds.{phase_kind, form_phase_kind, groups_phase_k
 use Rattle.dh_tree.specs.Placements as placements
 use Rattle.dh_tree.specs.Placements.{in_body, in_combine, action_placement_breaches, other_placement_breaches, combine_breaches, form_placement_breaches}
 use Rattle.dh_tree.specs.Seen.{action_seen, action_form_seen, maybe_block_seen, part_seen, groups}
-use Rattle.dh_tree.proofs.SeenActions.{for_is}
+use Rattle.dh_tree.proofs.SeenActions.{for_at}
 use Rattle.dh_rules.specs.Walked.{context_seen}
 use Rattle.dh_rules.proofs.Walks.{next_kept, next_steps, groups_cut, three_kept}
 use Rattle.dh_rules.proofs.placements.+commands.Goals as goal
@@ -34,21 +34,24 @@ pub keep_command-returns-in-For-clause-kept : goal.keep_command-returns-in-For-c
 keep_command-returns-in-For-clause-kept t c =
     let es = c.args.entities.now in
     let round = context_seen c.args.context in
+    let h = c.as_ref-header.result.now in
     three_kept c.args.kept.now c.keep_command-turn.new.kept c.keep_other-folds.new.kept c.keep_combine.new.kept
-    (action_placement_breaches es (in_body round c.in-For.factor c.in-For.iterator.entity) (action_seen c.in-For.body.value))
-    (other_placement_breaches es (in_combine round c.in-For.iterator.entity) (maybe_block_seen c.in-For.combine))
-    (combine_breaches (maybe_block_seen c.in-For.combine) c.in-For.combine_place)
+    (action_placement_breaches es (in_body round h.factor h.iterator.entity) (action_seen c.in-For.body.value))
+    (other_placement_breaches es (in_combine round h.iterator.entity) (maybe_block_seen c.in-For.combine))
+    (combine_breaches (maybe_block_seen c.in-For.combine) h.combine_place)
     (c.keep_command-turn.ensures.kept
     ∙ (ap (λ (b : Command). least_of c.args.kept.now (action_placement_breaches es (context_seen c.in_body-inner.result) (action_seen b))) c.deref-in-For.ensures
     ∙ ap (λ (o : placements.Context). least_of c.args.kept.now (action_placement_breaches es o (action_seen c.in-For.body.value))) c.in_body-inner.ensures))
     (c.keep_other-folds.ensures.kept
     ∙ ap (λ (o : placements.Context). least_of c.keep_command-turn.new.kept (other_placement_breaches es o (maybe_block_seen c.in-For.combine))) c.in_combine-joining.ensures)
     c.keep_combine.ensures
-    ∙ ap (λ f. least_of c.args.kept.now (form_placement_breaches es round c.args.command.now.place f)) (sym (ap action_form_seen c.in-For.is ∙ for_is _ _ _ _ _ _ _ _ _ _ _ _))
+    ∙ ap (λ f. least_of c.args.kept.now (form_placement_breaches es round c.args.command.now.place f))
+    (sym (ap action_form_seen c.in-For.is ∙ for_at c.in-For.header c.in-For.body c.in-For.combine h c.in-For.body.value c.as_ref-header.ensures refl))
 
 pub keep_command-returns-in-For-clause-steps : goal.keep_command-returns-in-For-clause-steps
 keep_command-returns-in-For-clause-steps t c =
+    let h = c.as_ref-header.result.now in
     c.of_loop.ensures
-    ∙ (ap (λ n. turns_kind ((c.in-For.high - c.in-For.low) / c.in-For.factor) n c.keep_other-folds.result) (c.keep_command-turn.ensures.steps ∙ ap (λ (b : Command). phase_kind (action_seen b)) c.deref-in-For.ensures)
-    ∙ (ap (λ n. turns_kind ((c.in-For.high - c.in-For.low) / c.in-For.factor) (phase_kind (action_seen c.in-For.body.value)) n) c.keep_other-folds.ensures.steps
-    ∙ ap form_phase_kind (sym (ap action_form_seen c.in-For.is ∙ for_is _ _ _ _ _ _ _ _ _ _ _ _))))
+    ∙ (ap (λ n. turns_kind ((h.high - h.low) / h.factor) n c.keep_other-folds.result) (c.keep_command-turn.ensures.steps ∙ ap (λ (b : Command). phase_kind (action_seen b)) c.deref-in-For.ensures)
+    ∙ (ap (λ n. turns_kind ((h.high - h.low) / h.factor) (phase_kind (action_seen c.in-For.body.value)) n) c.keep_other-folds.ensures.steps
+    ∙ ap form_phase_kind (sym (ap action_form_seen c.in-For.is ∙ for_at c.in-For.header c.in-For.body c.in-For.combine h c.in-For.body.value c.as_ref-header.ensures refl))))

@@ -2,8 +2,7 @@ use Rattle.std.proofs.Common.{List, option_map, refl, ap, sym, ◌∙◌, subst}
 use Rattle.std.proofs.lemmas.List.{drop_all}
 use Rattle.std.proofs.lemmas.Result.{IfOk-weaker}
 use Rattle.dh_tree.proofs.SeenActions as known
-use Rattle.dh_tree.specs.PlainTrees.{repeats, counts, decides}
-use Rattle.dh_tree.specs.Seen.{action_seen, action_form_seen, term_seen, maybe_seen, placed, plan_seen, unrolled}
+use Rattle.dh_tree.specs.Seen.{action_seen, action_form_seen, low_seen, high_seen, maybe_seen, plan_seen, unroll_seen}
 use Rattle.dh_meaning.specs.Phases.{other_phases}
 use Rattle.dh_sem.specs.Gathered.{GathersGroups, GathersOf, Kept, all_kept, commands_seen}
 use Rattle.dh_sem.proofs.GatheredCommands.{alone_as, choice_as, loop_as, nothing_as, view_as}
@@ -14,7 +13,7 @@ use Rattle.dh_sem.proofs.gathering.+gathering.Goals as goal
 
 pub phases_in-returns-in-Let : goal.phases_in-returns-in-Let
 phases_in-returns-in-Let t c =
-    IfOk-weaker c.one_command.result _ _ (λ forms is. alone_as c.args.names.now c.args.paths c.args.made.now (all_kept forms.items) c.args.command.now _ (ap action_form_seen c.in-Let.is ∙ known.let_is c.in-Let.name c.in-Let.declared c.in-Let.value) (λ r n. refl) is) c.one_command.ensures
+    IfOk-weaker c.one_command.result _ _ (λ forms is. alone_as c.args.names.now c.args.paths c.args.made.now (all_kept forms.items) c.args.command.now _ (ap action_form_seen c.in-Let.is ∙ known.let_is c.in-Let.declared c.in-Let.name c.in-Let.value) (λ r n. refl) is) c.one_command.ensures
 
 pub phases_in-returns-in-Assign : goal.phases_in-returns-in-Assign
 phases_in-returns-in-Assign t c =
@@ -22,18 +21,19 @@ phases_in-returns-in-Assign t c =
 
 pub phases_in-returns-in-Store : goal.phases_in-returns-in-Store
 phases_in-returns-in-Store t c =
-    IfOk-weaker c.one_command-in-Store.result _ _ (λ forms is. alone_as c.args.names.now c.args.paths c.args.made.now (all_kept forms.items) c.args.command.now _ (ap action_form_seen c.in-Store.is ∙ known.store_is c.in-Store.target c.in-Store.value) (λ r n. refl) is) c.one_command-in-Store.ensures
+    IfOk-weaker c.one_command-in-Store.result _ _ (λ forms is. alone_as c.args.names.now c.args.paths c.args.made.now (all_kept forms.items) c.args.command.now _ (ap action_form_seen c.in-Store.is ∙ known.store_is c.in-Store.sides) (λ r n. refl) is) c.one_command-in-Store.ensures
 
 pub phases_in-returns-in-Reduce : goal.phases_in-returns-in-Reduce
 phases_in-returns-in-Reduce t c =
-    IfOk-weaker c.one_command-in-Reduce.result _ _ (λ forms is. alone_as c.args.names.now c.args.paths c.args.made.now (all_kept forms.items) c.args.command.now _ (ap action_form_seen c.in-Reduce.is ∙ known.reduce_is c.in-Reduce.target c.in-Reduce.op c.in-Reduce.value) (λ r n. refl) is) c.one_command-in-Reduce.ensures
+    IfOk-weaker c.one_command-in-Reduce.result _ _ (λ forms is. alone_as c.args.names.now c.args.paths c.args.made.now (all_kept forms.items) c.args.command.now _ (ap action_form_seen c.in-Reduce.is ∙ known.reduce_is c.in-Reduce.op c.in-Reduce.target c.in-Reduce.value) (λ r n. refl) is) c.one_command-in-Reduce.ensures
 
 pub phases_in-returns-in-LetMemory : goal.phases_in-returns-in-LetMemory
 phases_in-returns-in-LetMemory t c = nothing_as c.args.names.now c.args.paths c.args.made.now (all_kept c.new-in-LetMemory.result.items) c.args.command.now _ (ap action_form_seen c.in-LetMemory.is ∙ known.let_memory_is c.in-LetMemory.name c.in-LetMemory.shape c.in-LetMemory.shape_places c.in-LetMemory.value) (λ r n. refl) (ap all_kept c.new-in-LetMemory.ensures.items)
 
 pub phases_in-returns-in-View : goal.phases_in-returns-in-View
 phases_in-returns-in-View t c =
-    IfOk-weaker c.view_phases.result _ _ (λ forms is. view_as c.args.names.now c.args.paths c.args.made.now (all_kept forms.items) c.args.command.now c.in-View.name c.in-View.parent (plan_seen c.in-View.form) (ap action_form_seen c.in-View.is ∙ known.view_is c.in-View.name c.in-View.parent c.in-View.form) is) c.view_phases.ensures
+    IfOk-weaker c.view_phases.result _ _ (λ forms is. view_as c.args.names.now c.args.paths c.args.made.now (all_kept forms.items) c.args.command.now c.in-View.name.value c.in-View.parent.value (plan_seen c.deref-in-View.result.now)
+    (ap action_form_seen c.in-View.is ∙ known.view_at c.in-View.name c.in-View.parent c.in-View.form c.in-View.name.value c.in-View.parent.value c.deref-in-View.result.now refl refl c.deref-in-View.ensures) is) c.view_phases.ensures
 
 pub phases_in-returns-in-Call : goal.phases_in-returns-in-Call
 phases_in-returns-in-Call t c = nothing_as c.args.names.now c.args.paths c.args.made.now (all_kept c.new-in-Call.result.items) c.args.command.now _ (ap action_form_seen c.in-Call.is ∙ known.call_is c.in-Call.function c.in-Call.arguments) (λ r n. refl) (ap all_kept c.new-in-Call.ensures.items)
@@ -46,16 +46,16 @@ phases_in-returns-after-other t c =
       | phases_in-in-None w ↦ lacks_as c.args.names.now c.args.paths c.phases_in.new.made c.match-other.made c.match-other.other.items c.in-If.other w.in-None.is w.made-is (ap (λ v. v.items) w.other-is ∙ w.new-other.ensures.items)
     ] in
     IfOk-weaker c.choose.result _ _
-    (λ forms h. choice_as c.args.names.now c.args.paths c.args.made.now c.phases_in.new.made c.match-other.made c.choose.new.made (all_kept c.in_ok-chosen-in-If.chosen.items) (all_kept c.match-other.other.items) (all_kept forms.items) c.args.command.now c.deref.result.now (maybe_seen (option_map (λ b. action_seen b.value) c.in-If.other)) c.in-If.test
-    (ap action_form_seen c.in-If.is ∙ (known.if_is c.in-If.test c.in-If.then c.in-If.other ∙ ap (λ b. decides (term_seen c.in-If.test) (action_seen b) (maybe_seen (option_map (λ b. action_seen b.value) c.in-If.other))) (sym c.deref.ensures)))
+    (λ forms h. choice_as c.args.names.now c.args.paths c.args.made.now c.phases_in.new.made c.match-other.made c.choose.new.made (all_kept c.in_ok-chosen-in-If.chosen.items) (all_kept c.match-other.other.items) (all_kept forms.items) c.args.command.now c.deref.result.now (maybe_seen (option_map (λ b. action_seen b.value) c.in-If.other)) c.deref-in-If.result.now
+    (ap action_form_seen c.in-If.is ∙ known.if_at c.in-If.test c.in-If.then c.in-If.other c.deref-in-If.result.now c.deref.result.now c.deref-in-If.ensures c.deref.ensures)
     c.in_ok-chosen-in-If.ensures others h)
     c.choose.ensures
 
 pub phases_in-returns-in_ok-body-in-While : goal.phases_in-returns-in_ok-body-in-While
 phases_in-returns-in_ok-body-in-While t c =
     IfOk-weaker c.repeat.result _ _
-    (λ forms h. loop_as c.args.names.now c.args.paths c.args.made.now c.phases_in-in-While.new.made c.repeat.new.made (all_kept c.in_ok-body-in-While.body.items) (all_kept forms.items) c.args.command.now c.deref-in-While.result.now c.in-While.test
-    (ap action_form_seen c.in-While.is ∙ (known.while_is c.in-While.test c.in-While.body ∙ ap (λ b. repeats (term_seen c.in-While.test) (action_seen b)) (sym c.deref-in-While.ensures)))
+    (λ forms h. loop_as c.args.names.now c.args.paths c.args.made.now c.phases_in-in-While.new.made c.repeat.new.made (all_kept c.in_ok-body-in-While.body.items) (all_kept forms.items) c.args.command.now c.deref-in-While.result.now c.deref-in-While-2.result.now
+    (ap action_form_seen c.in-While.is ∙ known.while_at c.in-While.test c.in-While.body c.deref-in-While-2.result.now c.deref-in-While.result.now c.deref-in-While-2.ensures c.deref-in-While.ensures)
     c.in_ok-body-in-While.ensures h)
     c.repeat.ensures
 
@@ -96,13 +96,15 @@ phases_in_parts-returns t c = λ r n.
 
 pub phases_in-returns-then-turns-eq0 : goal.phases_in-returns-then-turns-eq0
 phases_in-returns-then-turns-eq0 t c =
-    idle_as c.args.names.now c.args.paths c.args.made.now (all_kept c.new.result.items) c.args.command.now c.in-For.body.value c.in-For.iterator c.in-For.declared (placed c.in-For.low c.in-For.low_place) (placed c.in-For.high c.in-For.high_place) (unrolled c.in-For.factor c.in-For.factor_place c.in-For.unroll_place)
-    (maybe_seen (option_map (λ b. action_seen b.value) c.in-For.combine)) c.in-For.combine_place c.turn_count-turns.result
-    (ap action_form_seen c.in-For.is ∙ known.for_is c.in-For.iterator c.in-For.declared c.in-For.low c.in-For.low_place c.in-For.high c.in-For.high_place c.in-For.factor c.in-For.factor_place c.in-For.unroll_place c.in-For.body c.in-For.combine c.in-For.combine_place)
+    let h = c.as_ref-header.result.now in
+    idle_as c.args.names.now c.args.paths c.args.made.now (all_kept c.new.result.items) c.args.command.now c.in-For.body.value h.iterator h.declared (low_seen h) (high_seen h) (unroll_seen h)
+    (maybe_seen (option_map (λ b. action_seen b.value) c.in-For.combine)) h.combine_place c.turn_count-turns.result
+    (ap action_form_seen c.in-For.is ∙ known.for_at c.in-For.header c.in-For.body c.in-For.combine h c.in-For.body.value c.as_ref-header.ensures refl)
     c.turn_count-turns.ensures c.if-turns-eq0.true (ap all_kept c.new.ensures.items)
 
 pub phases_in-returns-in_ok-turn-in-For : goal.phases_in-returns-in_ok-turn-in-For
 phases_in-returns-in_ok-turn-in-For t c =
+    let head = c.as_ref-header.result.now in
     let folds : GathersOf c.args.names.now c.in_ok-within-in-For.within c.phases_in-in-For.new.made c.match-combine.made (all_kept c.match-combine.folds.items) (λ r n. other_phases r n (maybe_seen (option_map (λ b. action_seen b.value) c.in-For.combine))) =
     elim c.match-combine.branch [
       | phases_in-in-Some-combine+in_ok-folds-in-Some-combine w ↦ found_as c.args.names.now c.in_ok-within-in-For.within c.phases_in-in-For.new.made w.phases_in-in-Some-combine.new.made c.match-combine.made w.in_ok-folds-in-Some-combine.folds.items c.match-combine.folds.items c.in-For.combine w.in-Some-combine.block w.deref-in-Some-combine.result.now w.in-Some-combine.is w.deref-in-Some-combine.ensures w.made-is (ap (λ v. v.items) w.folds-is) w.in_ok-folds-in-Some-combine.ensures
@@ -110,10 +112,9 @@ phases_in-returns-in_ok-turn-in-For t c =
     ] in
     IfOk-weaker c.count.result _ _
     (λ forms h. turns_as c.args.names.now c.args.paths c.in_ok-within-in-For.within c.args.made.now (record { code = c.args.made.now.code; phases = c.args.made.now.phases; lanes = c.lanes_inside.new.lanes }) c.phases_in-in-For.new.made c.match-combine.made c.count.new.made
-    (all_kept c.in_ok-body-in-For.body.items) (all_kept c.match-combine.folds.items) (all_kept c.in_ok-turn-in-For.turn.items) (all_kept forms.items) c.args.command.now c.deref-in-For.result.now c.in-For.iterator c.in-For.declared (placed c.in-For.low c.in-For.low_place) (placed c.in-For.high c.in-For.high_place) (unrolled c.in-For.factor c.in-For.factor_place c.in-For.unroll_place)
-    (maybe_seen (option_map (λ b. action_seen b.value) c.in-For.combine)) c.in-For.combine_place c.turn_count-turns.result
-    (ap action_form_seen c.in-For.is ∙ (known.for_is c.in-For.iterator c.in-For.declared c.in-For.low c.in-For.low_place c.in-For.high c.in-For.high_place c.in-For.factor c.in-For.factor_place c.in-For.unroll_place c.in-For.body c.in-For.combine c.in-For.combine_place
-    ∙ ap (λ b. counts c.in-For.iterator c.in-For.declared (placed c.in-For.low c.in-For.low_place) (placed c.in-For.high c.in-For.high_place) (unrolled c.in-For.factor c.in-For.factor_place c.in-For.unroll_place) (action_seen b) (maybe_seen (option_map (λ b. action_seen b.value) c.in-For.combine)) c.in-For.combine_place) (sym c.deref-in-For.ensures)))
+    (all_kept c.in_ok-body-in-For.body.items) (all_kept c.match-combine.folds.items) (all_kept c.in_ok-turn-in-For.turn.items) (all_kept forms.items) c.args.command.now c.deref-in-For.result.now head.iterator head.declared (low_seen head) (high_seen head) (unroll_seen head)
+    (maybe_seen (option_map (λ b. action_seen b.value) c.in-For.combine)) head.combine_place c.turn_count-turns.result
+    (ap action_form_seen c.in-For.is ∙ known.for_at c.in-For.header c.in-For.body c.in-For.combine head c.deref-in-For.result.now c.as_ref-header.ensures c.deref-in-For.ensures)
     c.turn_count-turns.ensures c.if-turns-eq0.false refl refl c.in_ok-within-in-For.ensures.more c.in_ok-within-in-For.ensures.lead
     c.in_ok-body-in-For.ensures folds c.in_ok-turn-in-For.ensures h)
     c.count.ensures

@@ -48,8 +48,8 @@ access_sizes-requires-clause-few c =
     let p = program_seen c.args.program.now in
     let same = ap program_seen c.tree.ensures.tree in
     let noted = ap rounds_of c.as_slice-2.ensures.value ∙ rounds_noted p (action_seen c.tree.result.now.body) (ap (λ (t : Tree). action_seen t.body) c.tree.ensures.tree) c.new-rounds.result c.note_rounds.new.rounds c.new-rounds.ensures.items c.in_ok-note_rounds.ensures in
-    let seen = events_seen p (program_seen c.tree.result.now) same c.new-stages.result.items c.note_stages.new.stages.items c.as_slice.result.now c.new-notes.result.events.items c.note_body.new.notes.events.items c.as_slice-events.result.now
-    c.new-stages.ensures.items c.in_ok-note_stages.ensures.noted c.as_slice.ensures.value c.new-notes.ensures.empty c.in_ok-note_body.ensures.adds c.as_slice-events.ensures.value in
+    let seen = events_seen p (program_seen c.tree.result.now) same c.new-stages.result.items c.note_stages.new.stages.items c.as_slice.result.now c.in_ok-notes.notes.events.items c.note_body.new.notes.events.items c.as_slice-events.result.now
+    c.new-stages.ensures.items c.in_ok-note_stages.ensures.noted c.as_slice.ensures.value c.in_ok-notes.ensures.empty c.in_ok-note_body.ensures.adds c.as_slice-events.ensures.value in
     events_few p h.of_text.first h.of_text.numbered c.as_slice-2.result.now noted c.as_slice-events.result.now seen (c.ready_accesses_are_told.ensures.copies p h.indices h.limits)
 
 pub returns : goal.returns
@@ -59,8 +59,8 @@ returns c =
     let same = ap program_seen c.tree.ensures.tree in
     let body = ap (λ (q : Program). q.body) (sym same) in
     let noted = ap rounds_of c.as_slice-2.ensures.value ∙ rounds_noted p (action_seen c.tree.result.now.body) (ap (λ (t : Tree). action_seen t.body) c.tree.ensures.tree) c.new-rounds.result c.note_rounds.new.rounds c.new-rounds.ensures.items c.in_ok-note_rounds.ensures in
-    let seen = events_seen p (program_seen c.tree.result.now) same c.new-stages.result.items c.note_stages.new.stages.items c.as_slice.result.now c.new-notes.result.events.items c.note_body.new.notes.events.items c.as_slice-events.result.now
-    c.new-stages.ensures.items c.in_ok-note_stages.ensures.noted c.as_slice.ensures.value c.new-notes.ensures.empty c.in_ok-note_body.ensures.adds c.as_slice-events.ensures.value in
+    let seen = events_seen p (program_seen c.tree.result.now) same c.new-stages.result.items c.note_stages.new.stages.items c.as_slice.result.now c.in_ok-notes.notes.events.items c.note_body.new.notes.events.items c.as_slice-events.result.now
+    c.new-stages.ensures.items c.in_ok-note_stages.ensures.noted c.as_slice.ensures.value c.in_ok-notes.ensures.empty c.in_ok-note_body.ensures.adds c.as_slice-events.ensures.value in
     let table = c.kept_programs_have_tables.ensures p 1048577 h.of_text h.names h.built h.indices h.limits h.placements in
     let shares : TellsShares p c.as_slice-3.result.now = subst (λ (ss : List (Option _)). TellsShares p ss) (sym c.as_slice-3.ensures.value) (c.in_ok-shares.ensures p h.of_text.first body h.of_text.numbered) in
     size_done p (sizes_from p (loops_in c.as_slice-2.result.now) c.as_slice-3.result.now 0 (all_seen c.as_slice-events.result.now)) c.in_ok-accesses.accesses c.with_command.result c.min.result c.in_ok-accesses.ensures

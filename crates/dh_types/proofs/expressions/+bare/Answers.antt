@@ -2,7 +2,7 @@ use Rattle.std.proofs.Common.{refl}
 use Rattle.dh_tree.proofs.SeenTerms.{access_is, physical_is, cast_is}
 use Rattle.dh_tree.specs.contracts.trees.expressions.ExprForm.{enum}
 use Rattle.dh_types.specs.Facts.{facts_seen}
-use Rattle.dh_types.proofs.InArms.{reading}
+use Rattle.dh_base.proofs.InArms.{reading}
 use Rattle.dh_types.proofs.Forms.{filled_binary, filled_kept}
 use Rattle.dh_types.proofs.expressions.+bare.Goals as goal
 

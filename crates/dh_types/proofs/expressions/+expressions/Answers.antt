@@ -6,7 +6,7 @@ use Rattle.dh_base.proofs.InPlace.{start, turn, finish, written}
 use Rattle.dh_types.proofs.Lists.{term_step, term_made, terms_made}
 use Rattle.dh_types.proofs.Forms.{settled_access, settled_physical, settled_cast, bare_binary, settled_binary, settled_typed, settled_filled}
 use Rattle.dh_tree.specs.contracts.trees.expressions.ExprForm.{enum}
-use Rattle.dh_types.proofs.InArms.{holds, holds_some, reading}
+use Rattle.dh_base.proofs.InArms.{holds, holds_some, reading}
 use Rattle.dh_types.proofs.expressions.+expressions.Goals as goal
 
 pub settle_form-returns-in-Access-clause-tree : goal.settle_form-returns-in-Access-clause-tree
@@ -37,13 +37,13 @@ pub settle_form-returns-then-is_bare-clause-tree : goal.settle_form-returns-then
 settle_form-returns-then-is_bare-clause-tree t c =
     let r = reading enum 5 (c.in-Binary.op, (c.in-Binary.left, (c.in-Binary.right, tt))) _ c.in-Binary.is in
     bare_binary (facts_seen c.args.facts.now) _ r.0.0 r.0.1.0 r.0.1.1.0 _ _ _ _ _ _ _ r.1 c.deref_mut-in-Binary.ensures.value c.deref_mut-in-Binary-2.ensures.value
-    c.settle-bare_left.ensures.bare c.settle-bare_left.ensures.tree c.settle-bare_right.ensures.bare c.settle-bare_right.ensures.tree c.is_bare.ensures c.if-is_bare.true
+    c.settle_part-bare_left.ensures.bare c.settle_part-bare_left.ensures.tree c.settle_part-bare_right.ensures.bare c.settle_part-bare_right.ensures.tree c.is_bare.ensures c.if-is_bare.true
 
 pub settle_form-returns-else-is_bare-clause-tree : goal.settle_form-returns-else-is_bare-clause-tree
 settle_form-returns-else-is_bare-clause-tree t c =
     let r = reading enum 5 (c.in-Binary.op, (c.in-Binary.left, (c.in-Binary.right, tt))) _ c.in-Binary.is in
     settled_binary (facts_seen c.args.facts.now) _ r.0.0 r.0.1.0 r.0.1.1.0 _ _ _ _ _ _ _ _ _ _ _ r.1 c.deref_mut-in-Binary.ensures.value c.deref_mut-in-Binary-2.ensures.value
-    c.settle-bare_left.ensures.bare c.settle-bare_left.ensures.tree c.settle-bare_right.ensures.bare c.settle-bare_right.ensures.tree c.is_bare.ensures c.if-is_bare.false
+    c.settle_part-bare_left.ensures.bare c.settle_part-bare_left.ensures.tree c.settle_part-bare_right.ensures.bare c.settle_part-bare_right.ensures.tree c.is_bare.ensures c.if-is_bare.false
     c.deref_mut-in-Binary-3.ensures.value c.deref_mut-in-Binary-4.ensures.value c.fill_operands.ensures.left c.fill_operands.ensures.right
 
 pub type_term-returns-then-settle : goal.type_term-returns-then-settle

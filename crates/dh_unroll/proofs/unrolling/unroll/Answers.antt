@@ -1,4 +1,4 @@
-use Rattle.std.proofs.Common.{List, refl, sym, subst, ◌∙◌}
+use Rattle.std.proofs.Common.{◌^◌, List, refl, sym, subst, ◌∙◌}
 use Rattle.std.specs.List.{AllByRecursion}
 use Rattle.dh_tree.specs.declared.trees.programs.Tree.{Tree}
 use Rattle.dh_tree.specs.declared.trees.typed.Typed.{Typed}
@@ -6,18 +6,25 @@ use Rattle.dh_tree.specs.Seen.{action_seen, program_seen}
 use Rattle.dh_meaning.specs.Ways.{Led}
 use Rattle.dh_accesses.specs.Met.{MeetsBody}
 use Rattle.dh_plan.specs.Passes.{IsToCompile}
+use Rattle.dh_ways.proofs.StandsCut.{names_few}
 use Rattle.dh_runnable.proofs.ProgramsRun.{ready_few}
 use Rattle.dh_unroll.specs.ViewsListed.{LeadsSomewhere}
 use Rattle.dh_unroll.proofs.PlansUnrolled.{lists_own, plan_unrolled, unrolled_same}
-use Rattle.dh_unroll.proofs.ViewsListed.{ready_leads}
+use Rattle.dh_unroll.proofs.ViewsListed.{ready_leads, ways_few}
 use Rattle.dh_unroll.proofs.unrolling.unroll.Goals as goal
 
 pub ways_in-requires : goal.ways_in-requires
 ways_in-requires c = record { few = ready_few (program_seen c.typed-program.result.now) (subst (λ (t : Typed). IsToCompile (program_seen t)) (sym c.typed-program.ensures) c.requires).ready }
 
-pub list_views-requires : goal.list_views-requires
-list_views-requires c =
+pub list_views-requires-clause-leads : goal.list_views-requires-clause-leads
+list_views-requires-clause-leads c =
     subst (λ (ls : List Led). AllByRecursion (λ (l : Led). LeadsSomewhere l.way.steps) ls) (sym c.in_ok-ways.ensures) (ready_leads (program_seen c.typed-program.result.now) (subst (λ (t : Typed). IsToCompile (program_seen t)) (sym c.typed-program.ensures) c.requires).ready)
+
+pub list_views-requires-clause-few : goal.list_views-requires-clause-few
+list_views-requires-clause-few c =
+    let p = program_seen c.typed-program.result.now in
+    let ready = (subst (λ (t : Typed). IsToCompile (program_seen t)) (sym c.typed-program.ensures) c.requires).ready in
+    ways_few p _ ready (names_few p (2 ^ 32) (ready_few p ready).entities) c.in_ok-ways.ensures
 
 pub phases_of-requires-clause-asked : goal.phases_of-requires-clause-asked
 phases_of-requires-clause-asked c = subst (λ (t : Typed). IsToCompile (program_seen t)) (sym c.typed-program.ensures) c.requires

@@ -10,12 +10,12 @@ pub list_at-requires-clause-there : goal.list_at-requires-clause-there
 list_at-requires-clause-there c = subst (λ (n : ℕ). c.loop-place.place < n) c.len-place-end.ensures c.loop-place-test.true
 
 pub list_at-requires-clause-leads : goal.list_at-requires-clause-leads
-list_at-requires-clause-leads c = c.requires
+list_at-requires-clause-leads c = c.requires.leads
 
 pub list_at-requires-clause-lists : goal.list_at-requires-clause-lists
 list_at-requires-clause-lists c = c.loop-place.invariant
 
-pub returns-then-are_few : goal.returns-then-are_few
-returns-then-are_few c =
-    let few = c.are_few.ensures.0 c.if-are_few.true in
+pub returns : goal.returns
+returns c =
+    let few = c.requires.few in
     lists_all c.args.ways.now c.loop-place.place c.len-place-end.result c.loop-place.views c.loop-place.through.items c.len-place-end.ensures c.loop-place-test.false c.loop-place.auto.place-end (omega (arith, few)) c.loop-place.invariant

@@ -1,4 +1,4 @@
-use Rattle.std.proofs.Common.{ap, ◌∙◌, get_or, arith}
+use Rattle.std.proofs.Common.{ℕ, Option, ap, ◌∙◌, get_or, arith}
 use Rattle.std.specs.Prelude.{slice_get}
 use Rattle.dh_base.specs.declared.places.Place.{Place}
 use Rattle.dh_tree.specs.LeastBreach.{least_of}
@@ -9,7 +9,9 @@ use Rattle.dh_viewing.proofs.factors.keep_factors.Goals as goal
 pub loop-i-preserved : goal.loop-i-preserved
 loop-i-preserved c =
     factors_next c.args.multiplies c.args.parent c.args.factors.now c.args.places.now c.args.dims.now c.loop-i.i (record { size = 0; banks = 0 }) c.args.kept.now c.loop-i.kept c.keep_factor.new.kept c.loop-i-test.true
-    (c.keep_factor.ensures ∙ ap (λ (p : Place). least_of c.loop-i.kept (factor_broken_at c.args.multiplies (slice_get c.args.factors.now c.loop-i.i) p (get_or c.args.dims.now c.loop-i.i (record { size = 0; banks = 0 })))) c.place_at-place.ensures) c.loop-i.invariant
+    (c.keep_factor.ensures
+    ∙ (ap (λ (o : Option ℕ). least_of c.loop-i.kept (factor_broken_at c.args.multiplies o c.place_at-place.result (get_or c.args.dims.now c.loop-i.i (record { size = 0; banks = 0 })))) c.factor_at-factor.ensures
+    ∙ ap (λ (p : Place). least_of c.loop-i.kept (factor_broken_at c.args.multiplies (slice_get c.args.factors.now c.loop-i.i) p (get_or c.args.dims.now c.loop-i.i (record { size = 0; banks = 0 })))) c.place_at-place.ensures)) c.loop-i.invariant
 
 pub returns : goal.returns
 returns c =

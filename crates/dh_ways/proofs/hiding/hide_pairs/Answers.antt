@@ -7,7 +7,7 @@ use Rattle.dh_ways.proofs.StandsFound.{hidden_end, hidden_first, hidden_kind, hi
 use Rattle.dh_ways.proofs.hiding.hide_pairs.Goals as goal
 
 pub loop-i-init : goal.loop-i-init
-loop-i-init c = ap (λ l. l ++ hidden_at (c.args.first + 0) c.args.depth c.args.copies (map (λ (p : ℕ × Expr). term_seen p.1) c.args.by.now)) c.new-hidden.ensures ∙ hidden_first (map (λ (p : ℕ × Expr). term_seen p.1) c.args.by.now) c.args.first c.args.depth c.args.copies
+loop-i-init c = ap (λ l. l ++ hidden_at (c.args.first + 0) c.args.depth c.args.copies (map (λ (p : ℕ × Expr). term_seen p.1) c.args.by.now)) c.in_ok-hidden.ensures ∙ hidden_first (map (λ (p : ℕ × Expr). term_seen p.1) c.args.by.now) c.args.first c.args.depth c.args.copies
 
 pub loop-i-preserved : goal.loop-i-preserved
 loop-i-preserved c = rw (add-one c.loop-i.i)

@@ -14,7 +14,7 @@ returns c =
     let p = program_seen c.args.typed.now in
     let ms = memories_of p in
     c.in_ok-push_ways.ensures
-    ∙ (ap (λ l. led_behind ms c.first_hidden-first.result (map led_seen l) (map standing_seen c.as_slice.result.now)) c.new-ways.ensures
+    ∙ (ap (λ l. led_behind ms c.first_hidden-first.result (map led_seen l) (map standing_seen c.as_slice.result.now)) c.in_ok-ways.ensures
     ∙ (ap (λ l. led_behind ms c.first_hidden-first.result [] (map standing_seen l)) c.as_slice.ensures.value
     ∙ (ap (λ l. led_behind ms c.first_hidden-first.result [] l) (standings_seen c.in_ok-stood.stood.items (stands 0 1 p.body) (standings 0 p.body) c.in_ok-stood.ensures (stands_told 0 1 p.body))
     ∙ ap (λ n. led_behind ms n [] (standings 0 p.body)) c.first_hidden-first.ensures)))

@@ -2,67 +2,78 @@ use Rattle.std.proofs.Common.{◌∙◌, ◌<◌, ap, sym, subst, map, option_ma
 use Rattle.std.proofs.lemmas.Result.{MatchResult-weaker}
 use Rattle.std.specs.Box.{with_value}
 use Rattle.std.specs.Vec.{with_items}
-use Rattle.dh_tree.specs.Seen.{term_seen, plan_seen, action_seen, action_form_seen, part_seen, groups, maybe_seen, maybe_block_seen, placed, unrolled}
+use Rattle.dh_tree.specs.declared.trees.programs.Sort.TheVariants.{Memory, View}
+use Rattle.dh_tree.specs.Seen.{term_seen, plan_seen, action_seen, action_form_seen, part_seen, groups, maybe_block_seen}
 use Rattle.dh_tree.proofs.SeenActions.{let_is, let_memory_is, view_is, assign_is, store_is, reduce_is, call_is, block_is, if_is, while_is, for_is}
 use Rattle.dh_names.specs.Walks.{state_of}
 use Rattle.dh_tree.specs.NameCounts.{declared_in, declared_in_other, declared_in_actions}
 use Rattle.dh_base.proofs.InPlace.{turn_fits}
 use Rattle.dh_tree.proofs.DeclaringParts.{wanting, counted_as, in_left, in_right, some_command, some_part}
 use Rattle.dh_names.proofs.ListsDone.{entity_count, action_step, action_made, action_grows, part_step, part_made, part_grows, next_turn, part_turn, part_done, parts_done}
-use Rattle.dh_names.proofs.FormsDone.{form_done, lets_done, memory_done, views_done, assigns_done, stores_done, reduces_done, calls_done, blocks_done, repeats_done, decides_done, counts_done, inner_done, next_block, next_other, inner_at, resolves_at}
+use Rattle.dh_names.proofs.FormsDone.{form_done, lets_done, memory_done, views_done, assigns_done, reduces_done, calls_done, blocks_done, repeats_done, decides_done, loops_done, inner_done, next_block, next_other, expression_at, value_at, used_at, declared_at, plan_at, header_at, sides_at, inner_at, resolves_at}
 use Rattle.dh_tree.specs.contracts.trees.commands.CommandForm.{enum}
-use Rattle.dh_names.proofs.InArms.{holds, holds_some, reading}
+use Rattle.dh_base.proofs.InArms.{holds, holds_some, reading}
 use Rattle.dh_names.proofs.walks.Walk.+commands.Goals as goal
 
 pub form-returns-in_ok-declare-in-Let : goal.form-returns-in_ok-declare-in-Let
 form-returns-in_ok-declare-in-Let t c =
-    let r = reading enum 0 (c.in-Let.name, (c.in-Let.declared, (c.in-Let.value, tt))) _ c.in-Let.is in
-    form_done _ _ _ _ _ _ (ap action_form_seen r.1 ∙ let_is r.0.0 r.0.1.0 r.0.1.1.0) (let_is c.declare.new.name r.0.1.0 c.value.new.value)
-    (lets_done (state_of c.args.self.now) (state_of c.value.new.self) (state_of c.declare.new.self) r.0.0 c.declare.new.name r.0.1.0 (option_map term_seen r.0.1.1.0) (option_map term_seen c.value.new.value)
-    c.value.ensures.tree c.value.ensures.state c.in_ok-declare-in-Let.ensures.tree c.in_ok-declare-in-Let.ensures.state)
+    let r = reading enum 0 (c.in-Let.declared, (c.in-Let.name, (c.in-Let.value, tt))) _ c.in-Let.is in
+    let v = value_at (state_of c.args.self.now) (state_of c.value.new.self) _ _ c.value.new.value c.deref_mut.ensures.value c.value.ensures.tree c.value.ensures.state in
+    form_done _ _ _ _ _ _ (ap action_form_seen r.1 ∙ let_is r.0.0 r.0.1.0 r.0.1.1.0) (let_is r.0.0 c.declare.new.name (with_value r.0.1.1.0 c.value.new.value))
+    (lets_done (state_of c.args.self.now) (state_of c.value.new.self) (state_of c.declare.new.self) r.0.1.0 c.declare.new.name r.0.0 (option_map term_seen r.0.1.1.0.value) (option_map term_seen c.value.new.value)
+    v.0 v.1 c.in_ok-declare-in-Let.ensures.tree c.in_ok-declare-in-Let.ensures.state)
 
 pub form-returns-in_ok-declare-in-LetMemory : goal.form-returns-in_ok-declare-in-LetMemory
 form-returns-in_ok-declare-in-LetMemory t c =
     let r = reading enum 1 (c.in-LetMemory.name, (c.in-LetMemory.shape, (c.in-LetMemory.shape_places, (c.in-LetMemory.value, tt)))) _ c.in-LetMemory.is in
-    form_done _ _ _ _ _ _ (ap action_form_seen r.1 ∙ let_memory_is r.0.0 r.0.1.0 r.0.1.1.0 r.0.1.1.1.0) (let_memory_is c.declare-in-LetMemory.new.name r.0.1.0 r.0.1.1.0 c.value-in-LetMemory.new.value)
-    (memory_done (state_of c.args.self.now) (state_of c.value-in-LetMemory.new.self) (state_of c.declare-in-LetMemory.new.self) r.0.0 c.declare-in-LetMemory.new.name r.0.1.0.value r.0.1.1.0.value
-    (option_map term_seen r.0.1.1.1.0) (option_map term_seen c.value-in-LetMemory.new.value)
-    c.value-in-LetMemory.ensures.tree c.value-in-LetMemory.ensures.state c.in_ok-declare-in-LetMemory.ensures.tree c.in_ok-declare-in-LetMemory.ensures.state)
+    let v = value_at (state_of c.args.self.now) (state_of c.value-in-LetMemory.new.self) _ _ c.value-in-LetMemory.new.value c.deref_mut-in-LetMemory.ensures.value c.value-in-LetMemory.ensures.tree c.value-in-LetMemory.ensures.state in
+    let n = declared_at (state_of c.value-in-LetMemory.new.self) (state_of c.declare-in-LetMemory.new.self) Memory _ _ c.declare-in-LetMemory.new.name c.deref_mut-in-LetMemory-2.ensures.value
+    c.in_ok-declare-in-LetMemory.ensures.tree c.in_ok-declare-in-LetMemory.ensures.state in
+    form_done _ _ _ _ _ _ (ap action_form_seen r.1 ∙ let_memory_is r.0.0 r.0.1.0 r.0.1.1.0 r.0.1.1.1.0) (let_memory_is (with_value r.0.0 c.declare-in-LetMemory.new.name) r.0.1.0 r.0.1.1.0 (with_value r.0.1.1.1.0 c.value-in-LetMemory.new.value))
+    (memory_done (state_of c.args.self.now) (state_of c.value-in-LetMemory.new.self) (state_of c.declare-in-LetMemory.new.self) r.0.0.value c.declare-in-LetMemory.new.name r.0.1.0.value r.0.1.1.0.value
+    (option_map term_seen r.0.1.1.1.0.value) (option_map term_seen c.value-in-LetMemory.new.value) v.0 v.1 n.0 n.1)
 
 pub form-returns-in_ok-declare-in-View : goal.form-returns-in_ok-declare-in-View
 form-returns-in_ok-declare-in-View t c =
     let r = reading enum 2 (c.in-View.name, (c.in-View.parent, (c.in-View.form, tt))) _ c.in-View.is in
-    form_done _ _ _ _ _ _ (ap action_form_seen r.1 ∙ view_is r.0.0 r.0.1.0 r.0.1.1.0) (view_is c.declare-in-View.new.name c.use_name.new.name c.plan.new.form)
-    (views_done (state_of c.args.self.now) (state_of c.use_name.new.self) (state_of c.plan.new.self) (state_of c.declare-in-View.new.self) r.0.0 c.declare-in-View.new.name r.0.1.0 c.use_name.new.name (plan_seen r.0.1.1.0) (plan_seen c.plan.new.form)
-    c.use_name.ensures.tree c.use_name.ensures.state c.plan.ensures.tree c.plan.ensures.state c.in_ok-declare-in-View.ensures.tree c.in_ok-declare-in-View.ensures.state)
+    let u = used_at (state_of c.args.self.now) (state_of c.use_name.new.self) _ _ c.use_name.new.name c.deref_mut-in-View.ensures.value c.use_name.ensures.tree c.use_name.ensures.state in
+    let p = plan_at (state_of c.use_name.new.self) (state_of c.plan.new.self) _ _ c.plan.new.form c.deref_mut-in-View-2.ensures.value c.plan.ensures.tree c.plan.ensures.state in
+    let n = declared_at (state_of c.plan.new.self) (state_of c.declare-in-View.new.self) View _ _ c.declare-in-View.new.name c.deref_mut-in-View-3.ensures.value c.in_ok-declare-in-View.ensures.tree c.in_ok-declare-in-View.ensures.state in
+    form_done _ _ _ _ _ _ (ap action_form_seen r.1 ∙ view_is r.0.0 r.0.1.0 r.0.1.1.0) (view_is (with_value r.0.0 c.declare-in-View.new.name) (with_value r.0.1.0 c.use_name.new.name) (with_value r.0.1.1.0 c.plan.new.form))
+    (views_done (state_of c.args.self.now) (state_of c.use_name.new.self) (state_of c.plan.new.self) (state_of c.declare-in-View.new.self) r.0.0.value c.declare-in-View.new.name r.0.1.0.value c.use_name.new.name
+    (plan_seen r.0.1.1.0.value) (plan_seen c.plan.new.form) u.0 u.1 p.0 p.1 n.0 n.1)
 
 pub form-returns-in-Assign : goal.form-returns-in-Assign
 form-returns-in-Assign t c =
     let r = reading enum 3 (c.in-Assign.target, (c.in-Assign.value, tt)) _ c.in-Assign.is in
-    form_done _ _ _ _ _ _ (ap action_form_seen r.1 ∙ assign_is r.0.0 r.0.1.0) (assign_is c.use_name-in-Assign.new.name c.expression.new.term)
-    (λ room. assigns_done (state_of c.args.self.now) (state_of c.use_name-in-Assign.new.self) (state_of c.expression.new.self) r.0.0 c.use_name-in-Assign.new.name (term_seen r.0.1.0) (term_seen c.expression.new.term)
-    c.use_name-in-Assign.ensures.tree c.use_name-in-Assign.ensures.state c.expression.ensures.tree c.expression.ensures.state)
+    let e = expression_at (state_of c.use_name-in-Assign.new.self) (state_of c.expression.new.self) _ _ c.expression.new.term c.deref_mut-in-Assign.ensures.value c.expression.ensures.tree c.expression.ensures.state in
+    form_done _ _ _ _ _ _ (ap action_form_seen r.1 ∙ assign_is r.0.0 r.0.1.0) (assign_is c.use_name-in-Assign.new.name (with_value r.0.1.0 c.expression.new.term))
+    (λ room. assigns_done (state_of c.args.self.now) (state_of c.use_name-in-Assign.new.self) (state_of c.expression.new.self) r.0.0 c.use_name-in-Assign.new.name (term_seen r.0.1.0.value) (term_seen c.expression.new.term)
+    c.use_name-in-Assign.ensures.tree c.use_name-in-Assign.ensures.state e.0 e.1)
 
 pub form-returns-in-Store : goal.form-returns-in-Store
 form-returns-in-Store t c =
-    let r = reading enum 4 (c.in-Store.target, (c.in-Store.value, tt)) _ c.in-Store.is in
-    form_done _ _ _ _ _ _ (ap action_form_seen r.1 ∙ store_is r.0.0 r.0.1.0) (store_is c.expression-in-Store.new.term c.expression-in-Store-2.new.term)
-    (λ room. stores_done (state_of c.args.self.now) (state_of c.expression-in-Store.new.self) (state_of c.expression-in-Store-2.new.self) (term_seen r.0.0) (term_seen c.expression-in-Store.new.term) (term_seen r.0.1.0) (term_seen c.expression-in-Store-2.new.term)
-    c.expression-in-Store.ensures.tree c.expression-in-Store.ensures.state c.expression-in-Store-2.ensures.tree c.expression-in-Store-2.ensures.state)
+    let whole = holds_some enum 4 (c.in-Store.sides, tt) _ c.in-Store.is in
+    let held = holds enum 4 (c.in-Store.sides, tt) _ c.in-Store.is in
+    rw (whole, held)
+    (form_done _ _ _ _ _ _ (ap action_form_seen c.in-Store.is ∙ store_is c.in-Store.sides) (store_is (with_value c.in-Store.sides c.sides.new.sides))
+    (λ room. sides_at (state_of c.args.self.now) (state_of c.sides.new.self) _ _ c.sides.new.sides (c.deref_mut-in-Store.ensures.value ∙ ap (λ b. b.value) c.in-Store.sides-is) c.sides.ensures))
 
 pub form-returns-in-Reduce : goal.form-returns-in-Reduce
 form-returns-in-Reduce t c =
-    let r = reading enum 5 (c.in-Reduce.target, (c.in-Reduce.op, (c.in-Reduce.value, tt))) _ c.in-Reduce.is in
-    form_done _ _ _ _ _ _ (ap action_form_seen r.1 ∙ reduce_is r.0.0 r.0.1.0 r.0.1.1.0) (reduce_is c.use_name-in-Reduce.new.name r.0.1.0 c.expression-in-Reduce.new.term)
-    (λ room. reduces_done (state_of c.args.self.now) (state_of c.use_name-in-Reduce.new.self) (state_of c.expression-in-Reduce.new.self) r.0.0 c.use_name-in-Reduce.new.name r.0.1.0 (term_seen r.0.1.1.0) (term_seen c.expression-in-Reduce.new.term)
-    c.use_name-in-Reduce.ensures.tree c.use_name-in-Reduce.ensures.state c.expression-in-Reduce.ensures.tree c.expression-in-Reduce.ensures.state)
+    let r = reading enum 5 (c.in-Reduce.op, (c.in-Reduce.target, (c.in-Reduce.value, tt))) _ c.in-Reduce.is in
+    let e = expression_at (state_of c.use_name-in-Reduce.new.self) (state_of c.expression-in-Reduce.new.self) _ _ c.expression-in-Reduce.new.term c.deref_mut-in-Reduce.ensures.value c.expression-in-Reduce.ensures.tree c.expression-in-Reduce.ensures.state in
+    form_done _ _ _ _ _ _ (ap action_form_seen r.1 ∙ reduce_is r.0.0 r.0.1.0 r.0.1.1.0) (reduce_is r.0.0 c.use_name-in-Reduce.new.name (with_value r.0.1.1.0 c.expression-in-Reduce.new.term))
+    (λ room. reduces_done (state_of c.args.self.now) (state_of c.use_name-in-Reduce.new.self) (state_of c.expression-in-Reduce.new.self) r.0.1.0 c.use_name-in-Reduce.new.name r.0.0 (term_seen r.0.1.1.0.value) (term_seen c.expression-in-Reduce.new.term)
+    c.use_name-in-Reduce.ensures.tree c.use_name-in-Reduce.ensures.state e.0 e.1)
 
 pub form-returns-in-Call : goal.form-returns-in-Call
 form-returns-in-Call t c =
     let r = reading enum 6 (c.in-Call.function, (c.in-Call.arguments, tt)) _ c.in-Call.is in
-    form_done _ _ _ _ _ _ (ap action_form_seen r.1 ∙ call_is r.0.0 r.0.1.0) (call_is c.use_name-in-Call.new.name c.expressions.new.terms)
-    (λ room. calls_done (state_of c.args.self.now) (state_of c.use_name-in-Call.new.self) (state_of c.expressions.new.self) r.0.0 c.use_name-in-Call.new.name (map term_seen r.0.1.0.items) (map term_seen c.expressions.new.terms.items)
-    c.use_name-in-Call.ensures.tree c.use_name-in-Call.ensures.state c.expressions.ensures.tree c.expressions.ensures.state)
+    let u = used_at (state_of c.args.self.now) (state_of c.use_name-in-Call.new.self) _ _ c.use_name-in-Call.new.name c.deref_mut-in-Call.ensures.value c.use_name-in-Call.ensures.tree c.use_name-in-Call.ensures.state in
+    form_done _ _ _ _ _ _ (ap action_form_seen r.1 ∙ call_is r.0.0 r.0.1.0) (call_is (with_value r.0.0 c.use_name-in-Call.new.name) c.expressions.new.terms)
+    (λ room. calls_done (state_of c.args.self.now) (state_of c.use_name-in-Call.new.self) (state_of c.expressions.new.self) r.0.0.value c.use_name-in-Call.new.name (map term_seen r.0.1.0.items) (map term_seen c.expressions.new.terms.items)
+    u.0 u.1 c.expressions.ensures.tree c.expressions.ensures.state)
 
 pub form-returns-after-loop-part : goal.form-returns-after-loop-part
 form-returns-after-loop-part t c =
@@ -77,35 +88,32 @@ form-returns-after-loop-part t c =
 pub form-returns-in_ok-optional-in-If : goal.form-returns-in_ok-optional-in-If
 form-returns-in_ok-optional-in-If t c =
     let r = reading enum 8 (c.in-If.test, (c.in-If.then, (c.in-If.other, tt))) _ c.in-If.is in
-    form_done _ _ _ _ _ _ (ap action_form_seen r.1 ∙ if_is r.0.0 r.0.1.0 r.0.1.1.0) (if_is c.expression-in-If.new.term (with_value r.0.1.0 c.inner.new.command) c.optional.new.block)
+    let e = expression_at (state_of c.args.self.now) (state_of c.expression-in-If.new.self) _ _ c.expression-in-If.new.term c.deref_mut-in-If.ensures.value c.expression-in-If.ensures.tree c.expression-in-If.ensures.state in
+    form_done _ _ _ _ _ _ (ap action_form_seen r.1 ∙ if_is r.0.0 r.0.1.0 r.0.1.1.0) (if_is (with_value r.0.0 c.expression-in-If.new.term) (with_value r.0.1.0 c.inner.new.command) c.optional.new.block)
     (decides_done (state_of c.args.self.now) (state_of c.expression-in-If.new.self) (state_of c.inner.new.self) (state_of c.optional.new.self) (state_of c.leave.new.self) c.own_names-start.result
-    (term_seen r.0.0) (term_seen c.expression-in-If.new.term) (action_seen r.0.1.0.value) (action_seen c.inner.new.command)
-    (maybe_seen (option_map (λ b. action_seen b.value) r.0.1.1.0)) (maybe_seen (option_map (λ b. action_seen b.value) c.optional.new.block))
-    c.expression-in-If.ensures.tree c.expression-in-If.ensures.state c.own_names-start.ensures
-    (inner_at _ _ _ _ _ c.deref_mut.ensures.value c.in_ok-inner-in-If.ensures) c.in_ok-optional-in-If.ensures c.leave.ensures)
+    (term_seen r.0.0.value) (term_seen c.expression-in-If.new.term) (action_seen r.0.1.0.value) (action_seen c.inner.new.command)
+    (maybe_block_seen r.0.1.1.0) (maybe_block_seen c.optional.new.block)
+    e.0 e.1 c.own_names-start.ensures
+    (inner_at _ _ _ _ _ c.deref_mut-in-If-2.ensures.value c.in_ok-inner-in-If.ensures) c.in_ok-optional-in-If.ensures c.leave.ensures)
 
 pub form-returns-in_ok-inner-in-While : goal.form-returns-in_ok-inner-in-While
 form-returns-in_ok-inner-in-While t c =
     let r = reading enum 9 (c.in-While.test, (c.in-While.body, tt)) _ c.in-While.is in
-    form_done _ _ _ _ _ _ (ap action_form_seen r.1 ∙ while_is r.0.0 r.0.1.0) (while_is c.expression-in-While.new.term (with_value r.0.1.0 c.inner-in-While.new.command))
-    (repeats_done (state_of c.args.self.now) (state_of c.expression-in-While.new.self) (state_of c.inner-in-While.new.self) (term_seen r.0.0) (term_seen c.expression-in-While.new.term) (action_seen r.0.1.0.value) (action_seen c.inner-in-While.new.command)
-    c.expression-in-While.ensures.tree c.expression-in-While.ensures.state
-    (inner_at _ _ _ _ _ c.deref_mut-in-While.ensures.value c.in_ok-inner-in-While.ensures))
+    let e = expression_at (state_of c.args.self.now) (state_of c.expression-in-While.new.self) _ _ c.expression-in-While.new.term c.deref_mut-in-While.ensures.value c.expression-in-While.ensures.tree c.expression-in-While.ensures.state in
+    form_done _ _ _ _ _ _ (ap action_form_seen r.1 ∙ while_is r.0.0 r.0.1.0) (while_is (with_value r.0.0 c.expression-in-While.new.term) (with_value r.0.1.0 c.inner-in-While.new.command))
+    (repeats_done (state_of c.args.self.now) (state_of c.expression-in-While.new.self) (state_of c.inner-in-While.new.self) (term_seen r.0.0.value) (term_seen c.expression-in-While.new.term) (action_seen r.0.1.0.value) (action_seen c.inner-in-While.new.command)
+    e.0 e.1
+    (inner_at _ _ _ _ _ c.deref_mut-in-While-2.ensures.value c.in_ok-inner-in-While.ensures))
 
 pub form-returns-in_ok-optional-in-For : goal.form-returns-in_ok-optional-in-For
 form-returns-in_ok-optional-in-For t c =
-    let held = holds enum 10 (c.in-For.iterator, (c.in-For.declared, (c.in-For.low, (c.in-For.low_place, (c.in-For.high, (c.in-For.high_place, (c.in-For.factor, (c.in-For.factor_place, (c.in-For.unroll_place, (c.in-For.body, (c.in-For.combine, (c.in-For.combine_place, tt)))))))))))) _ c.in-For.is in
-    rw held
-    (form_done _ _ _ _ _ _
-    (ap action_form_seen c.in-For.is ∙ for_is c.in-For.iterator c.in-For.declared c.in-For.low c.in-For.low_place c.in-For.high c.in-For.high_place c.in-For.factor c.in-For.factor_place c.in-For.unroll_place c.in-For.body c.in-For.combine c.in-For.combine_place)
-    (for_is c.declare-in-For.new.name c.in-For.declared c.in-For.low c.in-For.low_place c.in-For.high c.in-For.high_place c.in-For.factor c.in-For.factor_place c.in-For.unroll_place (with_value c.in-For.body c.command.new.command) c.optional-in-For.new.block c.in-For.combine_place)
-    (counts_done (state_of c.args.self.now) (state_of c.declare-in-For.new.self) (state_of c.command.new.self) (state_of c.optional-in-For.new.self) (state_of c.leave-in-For.new.self) c.own_names-start-in-For.result
-    c.in-For.iterator c.declare-in-For.new.name c.in-For.declared (placed c.in-For.low c.in-For.low_place) (placed c.in-For.high c.in-For.high_place) (unrolled c.in-For.factor c.in-For.factor_place c.in-For.unroll_place)
-    (action_seen c.in-For.body.value) (action_seen c.command.new.command)
-    (maybe_seen (option_map (λ b. action_seen b.value) c.in-For.combine)) (maybe_seen (option_map (λ b. action_seen b.value) c.optional-in-For.new.block)) c.in-For.combine_place
-    c.own_names-start-in-For.ensures (rw held at c.in_ok-declare-in-For.ensures.tree) (rw held at c.in_ok-declare-in-For.ensures.state)
-    (resolves_at _ _ _ _ _ (c.deref_mut-in-For.ensures.value ∙ ap (λ b. b.value) c.in-For.body-is) c.in_ok-command-in-For.ensures)
-    (rw held at c.in_ok-optional-in-For.ensures) c.leave-in-For.ensures))
+    let r = reading enum 10 (c.in-For.header, (c.in-For.body, (c.in-For.combine, tt))) _ c.in-For.is in
+    let h = header_at (state_of c.args.self.now) (state_of c.header.new.self) _ _ c.header.new.header c.deref_mut-in-For.ensures.value c.in_ok-header-in-For.ensures.tree c.in_ok-header-in-For.ensures.state in
+    form_done _ _ _ _ _ _ (ap action_form_seen r.1 ∙ for_is r.0.0 r.0.1.0 r.0.1.1.0) (for_is (with_value r.0.0 c.header.new.header) (with_value r.0.1.0 c.command.new.command) c.optional-in-For.new.block)
+    (loops_done (state_of c.args.self.now) (state_of c.header.new.self) (state_of c.command.new.self) (state_of c.optional-in-For.new.self) (state_of c.leave-in-For.new.self) c.own_names-start-in-For.result
+    r.0.0.value c.header.new.header (action_seen r.0.1.0.value) (action_seen c.command.new.command) (maybe_block_seen r.0.1.1.0) (maybe_block_seen c.optional-in-For.new.block)
+    c.own_names-start-in-For.ensures h.0 h.1
+    (resolves_at _ _ _ _ _ c.deref_mut-in-For-2.ensures.value c.in_ok-command-in-For.ensures) c.in_ok-optional-in-For.ensures c.leave-in-For.ensures)
 
 pub inner-returns : goal.inner-returns
 inner-returns t c = inner_done (state_of c.args.self.now) (state_of c.command.new.self) _ _ (action_seen c.args.command.now) (action_seen c.command.new.command) c.own_names-start.ensures c.in_ok-command.ensures c.leave.ensures
@@ -148,7 +156,7 @@ part-returns-in_err-next t c =
 pub form-returns-in_err-declare-in-Let : goal.form-returns-in_err-declare-in-Let
 form-returns-in_err-declare-in-Let t c =
     wanting _ _ c.from_residual.ensures
-    (counted_as _ _ _ c.in-Let.is (let_is c.in-Let.name c.in-Let.declared c.in-Let.value) (omega arith))
+    (counted_as _ _ _ c.in-Let.is (let_is c.in-Let.declared c.in-Let.name c.in-Let.value) (omega arith))
 
 pub form-returns-in_err-declare-in-LetMemory : goal.form-returns-in_err-declare-in-LetMemory
 form-returns-in_err-declare-in-LetMemory t c =
@@ -171,7 +179,7 @@ pub form-returns-in_err-inner-in-If : goal.form-returns-in_err-inner-in-If
 form-returns-in_err-inner-in-If t c =
     wanting _ _ c.from_residual-in_err-inner-in-If.ensures
     (counted_as _ _ _ c.in-If.is (if_is c.in-If.test c.in-If.then c.in-If.other)
-    (in_left _ _ (subst (λ z. 0 < declared_in (action_seen z)) (c.deref_mut.ensures.value ∙ ap (λ b. b.value) c.in-If.then-is) c.in_err-inner-in-If.ensures)))
+    (in_left _ _ (subst (λ z. 0 < declared_in (action_seen z)) (c.deref_mut-in-If-2.ensures.value ∙ ap (λ b. b.value) c.in-If.then-is) c.in_err-inner-in-If.ensures)))
 
 pub form-returns-in_err-optional-in-If : goal.form-returns-in_err-optional-in-If
 form-returns-in_err-optional-in-If t c =
@@ -183,25 +191,19 @@ pub form-returns-in_err-inner-in-While : goal.form-returns-in_err-inner-in-While
 form-returns-in_err-inner-in-While t c =
     wanting _ _ c.from_residual-in_err-inner-in-While.ensures
     (counted_as _ _ _ c.in-While.is (while_is c.in-While.test c.in-While.body)
-    (subst (λ z. 0 < declared_in (action_seen z)) (c.deref_mut-in-While.ensures.value ∙ ap (λ b. b.value) c.in-While.body-is) c.in_err-inner-in-While.ensures))
+    (subst (λ z. 0 < declared_in (action_seen z)) (c.deref_mut-in-While-2.ensures.value ∙ ap (λ b. b.value) c.in-While.body-is) c.in_err-inner-in-While.ensures))
 
-pub form-returns-in_err-declare-in-For : goal.form-returns-in_err-declare-in-For
-form-returns-in_err-declare-in-For t c =
-    wanting _ _ c.from_residual-in_err-declare-in-For.ensures
-    (counted_as _ _ _ c.in-For.is
-    (for_is c.in-For.iterator c.in-For.declared c.in-For.low c.in-For.low_place c.in-For.high c.in-For.high_place c.in-For.factor c.in-For.factor_place c.in-For.unroll_place c.in-For.body c.in-For.combine c.in-For.combine_place)
-    (omega arith))
+pub form-returns-in_err-header-in-For : goal.form-returns-in_err-header-in-For
+form-returns-in_err-header-in-For t c =
+    wanting _ _ c.from_residual-in_err-header-in-For.ensures
+    (counted_as _ _ _ c.in-For.is (for_is c.in-For.header c.in-For.body c.in-For.combine) (omega arith))
 
 pub form-returns-in_err-command-in-For : goal.form-returns-in_err-command-in-For
 form-returns-in_err-command-in-For t c =
     wanting _ _ c.from_residual-in_err-command-in-For.ensures
-    (counted_as _ _ _ c.in-For.is
-    (for_is c.in-For.iterator c.in-For.declared c.in-For.low c.in-For.low_place c.in-For.high c.in-For.high_place c.in-For.factor c.in-For.factor_place c.in-For.unroll_place c.in-For.body c.in-For.combine c.in-For.combine_place)
-    (omega arith))
+    (counted_as _ _ _ c.in-For.is (for_is c.in-For.header c.in-For.body c.in-For.combine) (omega arith))
 
 pub form-returns-in_err-optional-in-For : goal.form-returns-in_err-optional-in-For
 form-returns-in_err-optional-in-For t c =
     wanting _ _ c.from_residual-in_err-optional-in-For.ensures
-    (counted_as _ _ _ c.in-For.is
-    (for_is c.in-For.iterator c.in-For.declared c.in-For.low c.in-For.low_place c.in-For.high c.in-For.high_place c.in-For.factor c.in-For.factor_place c.in-For.unroll_place c.in-For.body c.in-For.combine c.in-For.combine_place)
-    (omega arith))
+    (counted_as _ _ _ c.in-For.is (for_is c.in-For.header c.in-For.body c.in-For.combine) (omega arith))

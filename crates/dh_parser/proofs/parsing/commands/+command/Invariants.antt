@@ -25,6 +25,9 @@ decreases-read_boxed_block l = length l.reader.now.rest.now * 8 + 3
 abbrev pub decreases-read_if : goal.decreases-read_if
 decreases-read_if l = length l.reader.now.rest.now * 8 + 2
 
+abbrev pub decreases-read_arms : goal.decreases-read_arms
+decreases-read_arms l = length l.reader.now.rest.now * 8 + 4
+
 abbrev pub decreases-read_while : goal.decreases-read_while
 decreases-read_while l = length l.reader.now.rest.now * 8 + 2
 

@@ -1,4 +1,5 @@
-use Rattle.std.proofs.Common.{refl}
+use Rattle.std.proofs.Common.{refl, ap, ◌∙◌}
+use Rattle.dh_tree.specs.Seen.{term_seen}
 use Rattle.dh_parser.proofs.Going.{ok_then, err_then, given}
 use Rattle.dh_parser.proofs.parsing.commands.read_test.Goals as goal
 
@@ -25,4 +26,4 @@ returns-clause-answer c =
     ok_then _ c.in_ok-skip.ensures.answer λ a0 p0.
     ok_then _ c.in_ok-test.ensures.answer λ a1 p1.
     ok_then _ c.in_ok-skip-2.ensures.answer λ a2 p2.
-    record { holds = (p1, refl) }
+    record { holds = (ap term_seen c.in_ok-held.ensures.ok ∙ p1, refl) }

@@ -1,40 +1,14 @@
 use Rattle.std.proofs.Common.{rules, refl, ap, map, sym, ◌∙◌}
 use Rattle.dh_tree.specs.Seen.{term_seen, terms}
-use Rattle.dh_parser.specs.Grammar.{index_then, no_indices}
+use Rattle.dh_parser.specs.Grammar.{element, physical, bracket, cast, index, index_then, no_indices}
 use Rattle.dh_parser.specs.Reading.{expression, the_index, more_indices}
-use Rattle.dh_parser.proofs.Going.{ok_then, err_then, given, when_true, when_false}
-use Rattle.dh_parser.proofs.Loops.{loop_after, loop_goes, loop_refused, loop_done}
-use Rattle.dh_parser.proofs.OperatorLoops.{chain_begins, chain_none, chain_goes}
-use Rattle.dh_parser.proofs.TermLoops.{terms_first, terms_listed, terms_listed_all, indices_go, indices_end, element_is, bracket_is}
+use Rattle.dh_parser.proofs.Going.{ok_then, err_then, given, when_true, when_false, made_of, took_ok}
+use Rattle.dh_parser.proofs.Loops.{loop_after, loop_goes, loop_refused, loop_done, through}
+use Rattle.dh_parser.proofs.OperatorLoops.{chain_begins, chain_none, joins_goes, joins_refused}
+use Rattle.dh_parser.proofs.TermLoops.{terms_first, terms_listed, terms_listed_all, indices_go, indices_end, element_is, row_is, bracket_is}
 use Rattle.dh_parser.specs.TreesOfTexts.{name_text}
 use Rattle.dh_parser.proofs.TermForms.{unnumbered, variable_seen, access_seen, physical_seen, cast_seen}
 use Rattle.dh_parser.proofs.parsing.expressions.+expression.Goals as goal
-
-pub read_access-returns-then-not-is_next-clause-answer :
-    goal.read_access-returns-then-not-is_next-clause-answer
-read_access-returns-then-not-is_next-clause-answer t c =
-    rw (element_is (name_text c.args.of) _ (sym c.if-not-is_next.ensures))
-    (ok_then _ c.in_ok-indices.ensures.answer λ p s.
-    record { holds = (access_seen _ (name_text c.args.of) _ p.0 p.1 c.plain.ensures (unnumbered c.args.of c.requires) s, refl) })
-
-pub read_access-returns-in_err-row-clause-answer :
-    goal.read_access-returns-in_err-row-clause-answer
-read_access-returns-in_err-row-clause-answer t c =
-    rw (given c.from_residual-in_err-row.ensures)
-    (when_true _ _ (sym c.if-not-is_next.ensures)
-    (ok_then _ c.in_ok-skip.ensures.answer λ opener p0.
-    ok_then _ c.in_ok-bank.ensures.answer λ bank p1.
-    ok_then _ c.in_ok-skip-2.ensures.answer λ closer p2.
-    err_then _ c.in_err-row.ensures.answer))
-
-pub read_access-returns-clause-answer : goal.read_access-returns-clause-answer
-read_access-returns-clause-answer t c =
-    when_true _ _ (sym c.if-not-is_next.ensures)
-    (ok_then _ c.in_ok-skip.ensures.answer λ opener p0.
-    ok_then _ c.in_ok-bank.ensures.answer λ bank p1.
-    ok_then _ c.in_ok-skip-2.ensures.answer λ closer p2.
-    ok_then _ c.in_ok-row.ensures.answer λ row p3.
-    record { holds = (physical_seen _ (name_text c.args.of) _ bank _ _ row opener closer c.plain-2.ensures (unnumbered c.args.of c.requires) p1 (search rules) p3, refl) })
 
 pub read_expression-returns-in_err-left-clause-answer :
     goal.read_expression-returns-in_err-left-clause-answer
@@ -48,30 +22,23 @@ read_expression-loop-op-init t c = record {
   shorter = search rules;
 }
 
-pub read_expression-loop-op-preserved : goal.read_expression-loop-op-preserved
-read_expression-loop-op-preserved t c = record {
-  chains = chain_goes c.loop-op.invariant.chains c.in-Some.ensures.took (rw c.level_above.ensures at c.in_ok-right.ensures.answer) c.in_ok-left-2.ensures (search rules);
-  commands = search rules;
-  shorter = search rules;
-}
-
 pub read_indices-loop-reader-init : goal.read_indices-loop-reader-init
 read_indices-loop-reader-init t c = record {
-  loops = loop_after (more_indices expression) (λ i more. (i, more)) c.in_ok-first.ensures.answer (λ i s more. terms_first _ _ c.in_ok-push.ensures.items c.in_ok-indices.ensures.items s);
+  loops = loop_after (more_indices expression) (λ i more. (i, more)) c.in_ok-read_further.ensures.answer (λ i s more. terms_first s.0 _ s.1.0 c.in_ok-indices.ensures.items s.1.1);
   commands = search rules;
   shorter = search rules;
 }
 
-pub read_indices-returns-in_err-index-clause-answer :
-    goal.read_indices-returns-in_err-index-clause-answer
-read_indices-returns-in_err-index-clause-answer t c =
-    rw (given c.from_residual-in_err-index.ensures)
-    (loop_refused (the_index expression) index_then c.loop-reader.invariant.loops (indices_go _ (search rules)) c.in_err-index.ensures.answer)
+pub read_indices-returns-in_err-read_further-2-clause-answer :
+    goal.read_indices-returns-in_err-read_further-2-clause-answer
+read_indices-returns-in_err-read_further-2-clause-answer t c =
+    rw (given c.from_residual-in_err-read_further-2.ensures)
+    (loop_refused (the_index expression) index_then c.loop-reader.invariant.loops (indices_go _ (search rules)) c.in_err-read_further-2.ensures.answer)
 
 pub read_indices-loop-reader-preserved : goal.read_indices-loop-reader-preserved
 read_indices-loop-reader-preserved t c = record {
-  loops = loop_goes (the_index expression) index_then c.loop-reader.invariant.loops (indices_go _ (search rules)) c.in_ok-index.ensures.answer (search rules)
-      (λ put i so s more. terms_listed _ _ _ (so (index_then i more)) c.in_ok-push-2.ensures.items s);
+  loops = loop_goes (the_index expression) index_then c.loop-reader.invariant.loops (indices_go _ (search rules)) c.in_ok-read_further-2.ensures.answer (search rules)
+      (λ put i so s more. terms_listed _ s.0 _ (so (index_then i more)) s.1.0 s.1.1);
   commands = search rules;
   shorter = search rules;
 }
@@ -96,51 +63,91 @@ read_index-returns-in_err-index-clause-answer t c =
     (ok_then _ c.in_ok-skip.ensures.answer λ a0 p0.
     err_then _ c.in_err-index.ensures.answer)
 
-pub read_index-returns-in_err-skip-2-clause-answer : goal.read_index-returns-in_err-skip-2-clause-answer
-read_index-returns-in_err-skip-2-clause-answer t c =
-    rw (given c.from_residual-in_err-skip-2.ensures)
-    (ok_then _ c.in_ok-skip.ensures.answer λ a0 p0.
-    ok_then _ c.in_ok-index.ensures.answer λ a1 p1.
-    err_then _ c.in_err-skip-2.ensures.answer)
+pub read_further-returns-in_err-skip-clause-answer : goal.read_further-returns-in_err-skip-clause-answer
+read_further-returns-in_err-skip-clause-answer t c =
+    rw (given c.from_residual.ensures)
+    (err_then _ c.in_err-skip.ensures.answer)
 
-pub read_index-returns-clause-answer : goal.read_index-returns-clause-answer
-read_index-returns-clause-answer t c =
-    ok_then _ c.in_ok-skip.ensures.answer λ a0 p0.
-    ok_then _ c.in_ok-index.ensures.answer λ a1 p1.
-    ok_then _ c.in_ok-skip-2.ensures.answer λ a2 p2.
-    record { holds = (p1, refl) }
-
-pub read_access-returns-in_err-bank-clause-answer : goal.read_access-returns-in_err-bank-clause-answer
-read_access-returns-in_err-bank-clause-answer t c =
-    rw (given c.from_residual-in_err-bank.ensures)
-    (when_true _ _ (sym c.if-not-is_next.ensures)
+pub read_further-returns-in_err-index-clause-answer : goal.read_further-returns-in_err-index-clause-answer
+read_further-returns-in_err-index-clause-answer t c =
+    rw (given c.from_residual-in_err-index.ensures)
     (ok_then _ c.in_ok-skip.ensures.answer λ a0 p0.
-    err_then _ c.in_err-bank.ensures.answer))
+    err_then _ c.in_err-index.ensures.answer)
 
-pub read_access-returns-in_err-skip-2-clause-answer : goal.read_access-returns-in_err-skip-2-clause-answer
-read_access-returns-in_err-skip-2-clause-answer t c =
-    rw (given c.from_residual-in_err-skip-2.ensures)
-    (when_true _ _ (sym c.if-not-is_next.ensures)
-    (ok_then _ c.in_ok-skip.ensures.answer λ a0 p0.
-    ok_then _ c.in_ok-bank.ensures.answer λ a1 p1.
-    err_then _ c.in_err-skip-2.ensures.answer))
+pub read_further-returns-clause-answer : goal.read_further-returns-clause-answer
+read_further-returns-clause-answer t c =
+    ok_then _ c.in_ok-skip.ensures.answer λ opener p0.
+    ok_then _ c.in_ok-index.ensures.answer λ e p1.
+    through (λ closer. index opener e closer) c.put_index.ensures.answer (λ v p s. (c.in_ok-index.index, (s, p1)))
+
+pub read_further-returns-clause-taken : goal.read_further-returns-clause-taken
+read_further-returns-clause-taken t c = took_ok c.put_index.result (search rules)
 
 pub read_bracketed-returns-in_err-inner-clause-answer : goal.read_bracketed-returns-in_err-inner-clause-answer
 read_bracketed-returns-in_err-inner-clause-answer t c =
     rw (bracket_is c.args.opening c.args.reader.now.rest.now, given c.from_residual.ensures)
     (err_then _ c.in_err-inner.ensures.answer)
 
-pub read_bracketed-returns-in_err-to-clause-answer : goal.read_bracketed-returns-in_err-to-clause-answer
-read_bracketed-returns-in_err-to-clause-answer t c =
-    rw (bracket_is c.args.opening c.args.reader.now.rest.now, given c.from_residual-in_err-to.ensures)
+pub read_access-returns-then-not-is_next-clause-answer : goal.read_access-returns-then-not-is_next-clause-answer
+read_access-returns-then-not-is_next-clause-answer t c =
+    rw (element_is (name_text c.args.of) _ (sym c.if-not-is_next.ensures))
+    (made_of (λ p. element (name_text c.args.of) p.0 p.1) c.read_indices-indices.ensures.answer c.element_of.ensures
+    (λ es e p s m. access_seen c.args.of (name_text c.args.of) es p.0 p.1 m (unnumbered c.args.of c.requires) s))
+
+pub read_access-returns-clause-answer : goal.read_access-returns-clause-answer
+read_access-returns-clause-answer t c =
+    rw (row_is (name_text c.args.of) _ (sym c.if-not-is_next.ensures))
+    (made_of (λ p. physical (name_text c.args.of) p.0.opener p.0.bank p.0.closer p.1) c.read_row-row.ensures.answer c.row_of.ensures
+    (λ w e p s m. physical_seen c.args.of (name_text c.args.of) w p.0 p.1 m (unnumbered c.args.of c.requires) s))
+
+pub read_row-returns-in_err-bank-clause-answer : goal.read_row-returns-in_err-bank-clause-answer
+read_row-returns-in_err-bank-clause-answer t c =
+    rw (given c.from_residual.ensures)
+    (err_then _ c.in_err-bank.ensures.answer)
+
+pub read_row-returns-in_err-row-clause-answer : goal.read_row-returns-in_err-row-clause-answer
+read_row-returns-in_err-row-clause-answer t c =
+    rw (given c.from_residual-in_err-row.ensures)
+    (ok_then _ c.in_ok-bank.ensures.answer λ b p0.
+    err_then _ c.in_err-row.ensures.answer)
+
+pub read_row-returns-clause-answer : goal.read_row-returns-clause-answer
+read_row-returns-clause-answer t c =
+    ok_then _ c.in_ok-bank.ensures.answer λ b p0.
+    ok_then _ c.in_ok-row.ensures.answer λ i p1.
+    record { holds = ((p0, p1), refl) }
+
+pub read_expression-loop-op-preserved : goal.read_expression-loop-op-preserved
+read_expression-loop-op-preserved t c = record {
+  chains = joins_goes c.loop-op.invariant.chains c.in-Some.ensures.took (rw c.level_above.ensures at c.read_expression-right.ensures.answer) c.in_ok-left-2.ensures (search rules);
+  commands = search rules;
+  shorter = search rules;
+}
+
+pub read_expression-returns-in_err-left-2-clause-answer : goal.read_expression-returns-in_err-left-2-clause-answer
+read_expression-returns-in_err-left-2-clause-answer t c =
+    rw (given c.from_residual-in_err-left-2.ensures)
+    (joins_refused c.loop-op.invariant.chains c.in-Some.ensures.took (rw c.level_above.ensures at c.read_expression-right.ensures.answer) c.in_err-left-2.ensures)
+
+pub read_index-returns-clause-answer : goal.read_index-returns-clause-answer
+read_index-returns-clause-answer t c =
+    ok_then _ c.in_ok-skip.ensures.answer λ opener p0.
+    ok_then _ c.in_ok-index.ensures.answer λ e p1.
+    through (λ closer. index opener e closer) c.read_closing.ensures.answer (λ v p s. ap term_seen s ∙ p1)
+
+pub read_index-returns-clause-taken : goal.read_index-returns-clause-taken
+read_index-returns-clause-taken t c = took_ok c.read_closing.result (search rules)
+
+pub read_bracketed-returns-then-not-is_next-clause-answer : goal.read_bracketed-returns-then-not-is_next-clause-answer
+read_bracketed-returns-then-not-is_next-clause-answer t c =
+    rw (bracket_is c.args.opening c.args.reader.now.rest.now)
     (ok_then _ c.in_ok-inner.ensures.answer λ e p0.
-    when_true _ _ (sym c.if-not-is_next.ensures)
-    (err_then _ c.in_err-to.ensures.answer))
+    when_false _ _ (sym c.if-not-is_next.ensures)
+    (through (λ closer. bracket c.args.opening e closer) c.read_closing.ensures.answer (λ v p s. ap term_seen s ∙ p0)))
 
 pub read_bracketed-returns-clause-answer : goal.read_bracketed-returns-clause-answer
 read_bracketed-returns-clause-answer t c =
     rw (bracket_is c.args.opening c.args.reader.now.rest.now)
     (ok_then _ c.in_ok-inner.ensures.answer λ e p0.
     when_true _ _ (sym c.if-not-is_next.ensures)
-    (ok_then _ c.in_ok-to.ensures.answer λ k p1.
-    record { holds = (cast_seen _ _ _ _ e k.kind k.word k.closer c.plain.ensures (search rules) p0 p1, refl) }))
+    (through (λ k. cast c.args.opening e k.word k.kind k.closer) c.read_cast_of.ensures.answer (λ v k s. cast_seen c.args.opening c.in_ok-inner.inner v e k s p0)))

@@ -24,11 +24,17 @@ decreases-read_named l = length l.reader.now.rest.now * 8 + 4
 abbrev pub decreases-read_access : goal.decreases-read_access
 decreases-read_access l = length l.reader.now.rest.now * 8 + 3
 
+abbrev pub decreases-read_row : goal.decreases-read_row
+decreases-read_row l = length l.reader.now.rest.now * 8 + 2
+
 abbrev pub decreases-read_indices : goal.decreases-read_indices
 decreases-read_indices l = length l.reader.now.rest.now * 8 + 2
 
 abbrev pub decreases-read_index : goal.decreases-read_index
 decreases-read_index l = length l.reader.now.rest.now * 8 + 1
+
+abbrev pub decreases-read_further : goal.decreases-read_further
+decreases-read_further l = length l.reader.now.rest.now * 8 + 1
 
 abbrev pub invariant-read_expression-loop-op : goal.invariant-read_expression-loop-op
 invariant-read_expression-loop-op l = record {

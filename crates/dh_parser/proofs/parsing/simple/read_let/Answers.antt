@@ -9,7 +9,7 @@ returns-then-not-is_next-clause-answer c = λ word.
     when_false _ _ (sym c.if-not-is_next.ensures)
     (ok_then _ c.in_ok-skip.ensures.answer λ equal p1.
     ok_then _ c.in_ok-value.ensures.answer λ t p2.
-    record { holds = ((value_seen _ _ word equal n t p0 p2, refl), refl) })
+    record { holds = ((value_seen _ _ _ word equal n t c.in_ok-held.ensures.ok p0 p2, refl), refl) })
 
 pub returns-in_err-written-clause-answer : goal.returns-in_err-written-clause-answer
 returns-in_err-written-clause-answer c = λ word.

@@ -30,4 +30,4 @@ returns-clause-answer c =
     ok_then _ (also (λ a. place_of (access_of a) ≡ (name_text c.args.name).place) (rw (← access_is (name_text c.args.name) _) at c.in_ok-target.ensures.answer) (access_starts (read (steps c.args.reader.now.rest.now)) (name_text c.args.name) c.args.reader.now.rest.now)) λ a p0.
     ok_then _ c.in_ok-skip.ensures.answer λ becomes p1.
     ok_then _ c.in_ok-value.ensures.answer λ t p2.
-    record { holds = ((store_seen _ _ becomes a t p0.0 p2, p0.1), refl) }
+    record { holds = ((store_seen _ _ _ becomes a t c.in_ok-sides.ensures.ok p0.0 p2, p0.1), refl) }

@@ -15,7 +15,7 @@ loop-reader-init c = record {
 
 pub returns-in_err-written-clause-answer : goal.returns-in_err-written-clause-answer
 returns-in_err-written-clause-answer c =
-    rw (given c.from_residual.ensures)
+    rw (given c.from_residual-in_err-written.ensures)
     (loop_refused the_dim (λ put more. put more) c.loop-reader.invariant.loops (dims_go _ (search rules)) c.in_err-written.ensures.answer)
 
 pub loop-reader-preserved : goal.loop-reader-preserved

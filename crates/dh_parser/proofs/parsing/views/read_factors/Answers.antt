@@ -7,7 +7,7 @@ use Rattle.dh_parser.proofs.parsing.views.read_factors.Goals as goal
 
 pub loop-reader-init : goal.loop-reader-init
 loop-reader-init c = record {
-  loops = loop_after (more_of the_factor) (λ a more. (a, more)) c.in_ok-first.ensures.answer (λ a s more. (first_in _ _ c.in_ok-push.ensures.items c.new-by.ensures.items s.0, first_in _ _ c.in_ok-push-2.ensures.items c.new-by_place.ensures.items s.1));
+  loops = loop_after (more_of the_factor) (λ a more. (a, more)) c.in_ok-first.ensures.answer (λ a s more. (first_in _ _ c.in_ok-push.ensures.items c.in_ok-by.ensures.items s.0, first_in _ _ c.in_ok-push-2.ensures.items c.in_ok-by_place.ensures.items s.1));
   commands = search rules;
   shorter = search rules;
 }

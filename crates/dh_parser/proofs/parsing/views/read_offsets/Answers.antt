@@ -8,7 +8,7 @@ use Rattle.dh_parser.proofs.parsing.views.read_offsets.Goals as goal
 
 pub loop-reader-init : goal.loop-reader-init
 loop-reader-init c = record {
-  loops = loop_after (more_of the_offset) (λ a more. (a, more)) c.in_ok-first.ensures.answer (λ a s more. first_in _ _ (pushed_map _ term_seen _ c.in_ok-push.ensures.items) (ap (λ l. map term_seen l) c.new-by.ensures.items) s);
+  loops = loop_after (more_of the_offset) (λ a more. (a, more)) c.in_ok-first.ensures.answer (λ a s more. first_in _ _ (pushed_map _ term_seen _ c.in_ok-push.ensures.items) (ap (λ l. map term_seen l) c.in_ok-by.ensures.items) s);
   commands = search rules;
   shorter = search rules;
 }

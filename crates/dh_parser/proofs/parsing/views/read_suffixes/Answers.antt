@@ -8,7 +8,7 @@ use Rattle.dh_parser.proofs.parsing.views.read_suffixes.Goals as goal
 
 pub loop-reader-init : goal.loop-reader-init
 loop-reader-init c = record {
-  loops = loop_after (more_of the_suffix) (λ a more. (a, more)) c.in_ok-first.ensures.answer (λ a s more. (first_in _ _ (pushed_map _ factor_seen _ c.in_ok-push.ensures.items) (ap (λ l. map factor_seen l) c.new-by.ensures.items) (suffix_seen _ _ a s), first_in _ _ c.in_ok-push-2.ensures.items c.new-by_place.ensures.items s.0.1));
+  loops = loop_after (more_of the_suffix) (λ a more. (a, more)) c.in_ok-first.ensures.answer (λ a s more. (first_in _ _ (pushed_map _ factor_seen _ c.in_ok-push.ensures.items) (ap (λ l. map factor_seen l) c.in_ok-by.ensures.items) (suffix_seen _ _ a s), first_in _ _ c.in_ok-push-2.ensures.items c.in_ok-by_place.ensures.items s.0.1));
   commands = search rules;
   shorter = search rules;
 }

@@ -15,7 +15,7 @@ returns-clause-answer c = λ word.
     ok_then _ c.in_ok-name.ensures.answer λ n p0.
     ok_then _ c.in_ok-skip.ensures.answer λ equal p1.
     ok_then _ c.in_ok-parent.ensures.answer λ v p2.
-    record { holds = ((view_seen _ _ _ word equal n v p0 p2, refl), refl) }
+    record { holds = ((view_seen _ _ _ _ _ _ word equal n v c.in_ok-view.ensures.ok c.in_ok-shown.ensures.ok c.in_ok-plan.ensures.ok p0 p2, refl), refl) }
 
 pub returns-in_err-name-clause-answer : goal.returns-in_err-name-clause-answer
 returns-in_err-name-clause-answer c = λ word.

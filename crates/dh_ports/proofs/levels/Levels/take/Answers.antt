@@ -1,4 +1,4 @@
-use Rattle.std.proofs.Common.{refl, subst, ℕ, ◌<◌, ◌∙◌}
+use Rattle.std.proofs.Common.{subst, ℕ, ◌<◌, ◌∙◌}
 use Rattle.dh_ports.proofs.LevelFacts.{taken_level}
 use Rattle.dh_ports.proofs.levels.Levels.take.Goals as goal
 

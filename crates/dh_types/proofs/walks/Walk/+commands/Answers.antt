@@ -1,65 +1,69 @@
-use Rattle.std.proofs.Common.{◌∙◌, ◌<◌, ap, subst, refl, map, option_map, arith}
+use Rattle.std.proofs.Common.{◌∙◌, ◌<◌, Option, ap, subst, refl, map, option_map, arith}
 use Rattle.std.specs.Box.{with_value}
 use Rattle.std.specs.Vec.{with_items}
-use Rattle.dh_tree.specs.Seen.{term_seen, plan_seen, action_seen, action_form_seen, part_seen, groups, maybe_seen, maybe_block_seen, placed, unrolled}
+use Rattle.dh_tree.specs.declared.trees.expressions.Ref.{Ref}
+use Rattle.dh_tree.specs.declared.trees.expressions.Expr.{Expr}
+use Rattle.dh_tree.specs.declared.trees.commands.Sides.{Sides}
+use Rattle.dh_tree.specs.PlainTrees.{lets, assigns, reduces, calls, decides, repeats}
+use Rattle.dh_tree.specs.Seen.{term_seen, sides_seen, action_seen, action_form_seen, part_seen, groups, maybe_block_seen}
 use Rattle.dh_tree.proofs.SeenActions.{let_is, let_memory_is, view_is, assign_is, store_is, reduce_is, call_is, block_is, if_is, while_is, for_is}
-use Rattle.dh_tree.specs.Kinds.{of_iterator}
 use Rattle.dh_tree.specs.NameCounts.{declared_in, declared_in_other}
 use Rattle.dh_tree.proofs.DeclaringParts.{wanting, counted_as, in_left, in_right, some_command, some_part}
-use Rattle.dh_types.specs.Walks.{state_of}
+use Rattle.dh_types.specs.Walks.{state_of, entered, TypesForm}
 use Rattle.dh_base.proofs.InPlace.{start, turn}
 use Rattle.dh_types.proofs.ListsDone.{action_step, action_made, part_step, part_made, action_turn, part_turn, part_done, parts_done}
-use Rattle.dh_types.proofs.FormsDone.{form_done, lets_done, memory_read, views_done, assigns_done, stores_done, reduces_done, calls_done, blocks_done, repeats_done, decides_done, counts_done, types_at}
+use Rattle.dh_types.proofs.FormsDone.{form_done, assigns_done, reduces_done, calls_done, blocks_done, repeats_done, decides_done, loops_done, memory_at, viewed_at, types_at}
 use Rattle.dh_tree.specs.contracts.trees.commands.CommandForm.{enum}
-use Rattle.dh_types.proofs.InArms.{holds, holds_some, reading}
+use Rattle.dh_base.proofs.InArms.{holds, holds_some, reading}
 use Rattle.dh_types.proofs.walks.Walk.+commands.Goals as goal
 
-pub form-returns-in_ok-learn-in-Let : goal.form-returns-in_ok-learn-in-Let
-form-returns-in_ok-learn-in-Let t c =
-    let r = reading enum 0 (c.in-Let.name, (c.in-Let.declared, (c.in-Let.value, tt))) _ c.in-Let.is in
-    form_done _ _ _ _ _ _ (ap action_form_seen r.1 ∙ let_is r.0.0 r.0.1.0 r.0.1.1.0) (let_is r.0.0 r.0.1.0 c.value.new.value)
-    (lets_done (state_of c.args.self.now) (state_of c.value.new.self) (state_of c.learn.new.self) r.0.0 r.0.1.0 (option_map term_seen r.0.1.1.0) (option_map term_seen c.value.new.value) _
-    c.value.ensures.tree c.value.ensures.state c.variable_fact.ensures c.in_ok-learn-in-Let.ensures)
+pub form-returns-in_ok-variable-in-Let : goal.form-returns-in_ok-variable-in-Let
+form-returns-in_ok-variable-in-Let t c =
+    let r = reading enum 0 (c.in-Let.declared, (c.in-Let.name, (c.in-Let.value, tt))) _ c.in-Let.is in
+    form_done _ _ _ _ _ _ (ap action_form_seen r.1 ∙ let_is r.0.0 r.0.1.0 r.0.1.1.0) (let_is r.0.0 r.0.1.0 (with_value r.0.1.1.0 c.variable.new.value))
+    (subst (λ (v : Option Expr). TypesForm (state_of c.args.self.now) (state_of c.variable.new.self) (lets r.0.1.0 r.0.0 (option_map term_seen v)) (lets r.0.1.0 r.0.0 (option_map term_seen c.variable.new.value)))
+    c.deref_mut.ensures.value (c.in_ok-variable-in-Let.ensures r.0.1.0))
 
-pub form-returns-in_ok-learn-in-LetMemory : goal.form-returns-in_ok-learn-in-LetMemory
-form-returns-in_ok-learn-in-LetMemory t c =
+pub form-returns-in_ok-memory-in-LetMemory : goal.form-returns-in_ok-memory-in-LetMemory
+form-returns-in_ok-memory-in-LetMemory t c =
     let r = reading enum 1 (c.in-LetMemory.name, (c.in-LetMemory.shape, (c.in-LetMemory.shape_places, (c.in-LetMemory.value, tt)))) _ c.in-LetMemory.is in
-    form_done _ _ _ _ _ _ (ap action_form_seen r.1 ∙ let_memory_is r.0.0 r.0.1.0 r.0.1.1.0 r.0.1.1.1.0) (let_memory_is r.0.0 r.0.1.0 r.0.1.1.0 c.value-in-LetMemory.new.value)
-    (memory_read (state_of c.args.self.now) (state_of c.value-in-LetMemory.new.self) (state_of c.learn-in-LetMemory.new.self) r.0.0 r.0.1.0.value c.deref.result.now c.deref-in-LetMemory.result.now r.0.1.1.0.value
-    (option_map term_seen r.0.1.1.1.0) (option_map term_seen c.value-in-LetMemory.new.value) _
-    c.deref.ensures c.deref-in-LetMemory.ensures c.value-in-LetMemory.ensures.tree c.value-in-LetMemory.ensures.state c.memory_fact.ensures c.in_ok-learn-in-LetMemory.ensures)
+    form_done _ _ _ _ _ _ (ap action_form_seen r.1 ∙ let_memory_is r.0.0 r.0.1.0 r.0.1.1.0 r.0.1.1.1.0) (let_memory_is r.0.0 r.0.1.0 r.0.1.1.0 (with_value r.0.1.1.1.0 c.memory.new.value))
+    (memory_at (state_of c.args.self.now) (state_of c.memory.new.self) r.0.0.value r.0.1.1.0.value _ _ _ _ c.memory.new.value c.deref.ensures c.deref_mut-in-LetMemory.ensures.value (c.in_ok-memory-in-LetMemory.ensures r.0.0.value r.0.1.1.0.value))
 
-pub form-returns-in_ok-learn-in-View : goal.form-returns-in_ok-learn-in-View
-form-returns-in_ok-learn-in-View t c =
+pub form-returns-in_ok-viewed-in-View : goal.form-returns-in_ok-viewed-in-View
+form-returns-in_ok-viewed-in-View t c =
     let r = reading enum 2 (c.in-View.name, (c.in-View.parent, (c.in-View.form, tt))) _ c.in-View.is in
-    form_done _ _ _ _ _ _ (ap action_form_seen r.1 ∙ view_is r.0.0 r.0.1.0 r.0.1.1.0) (view_is r.0.0 r.0.1.0 c.plan.new.form)
-    (views_done (state_of c.args.self.now) (state_of c.parent.new.self) (state_of c.plan.new.self) (state_of c.learn-in-View.new.self) r.0.0 r.0.1.0 (plan_seen r.0.1.1.0) (plan_seen c.plan.new.form) _
-    c.parent.ensures c.plan.ensures.tree c.plan.ensures.state c.view.ensures c.in_ok-learn-in-View.ensures)
+    form_done _ _ _ _ _ _ (ap action_form_seen r.1 ∙ view_is r.0.0 r.0.1.0 r.0.1.1.0) (view_is r.0.0 r.0.1.0 (with_value r.0.1.1.0 c.viewed.new.form))
+    (viewed_at (state_of c.args.self.now) (state_of c.viewed.new.self) r.0.0.value _ _ _ _ c.viewed.new.form c.deref-in-View.ensures c.deref_mut-in-View.ensures.value (c.in_ok-viewed-in-View.ensures r.0.0.value))
 
 pub form-returns-in-Assign : goal.form-returns-in-Assign
 form-returns-in-Assign t c =
     let r = reading enum 3 (c.in-Assign.target, (c.in-Assign.value, tt)) _ c.in-Assign.is in
-    form_done _ _ _ _ _ _ (ap action_form_seen r.1 ∙ assign_is r.0.0 r.0.1.0) (assign_is r.0.0 c.assignment.new.value)
-    (assigns_done (state_of c.args.self.now) (state_of c.assignment.new.self) r.0.0 (term_seen r.0.1.0) (term_seen c.assignment.new.value) c.assignment.ensures.tree c.assignment.ensures.state)
+    form_done _ _ _ _ _ _ (ap action_form_seen r.1 ∙ assign_is r.0.0 r.0.1.0) (assign_is r.0.0 (with_value r.0.1.0 c.assignment.new.value))
+    (subst (λ (e : Expr). TypesForm (state_of c.args.self.now) (state_of c.assignment.new.self) (assigns r.0.0 (term_seen e)) (assigns r.0.0 (term_seen c.assignment.new.value))) c.deref_mut-in-Assign.ensures.value
+    (assigns_done (state_of c.args.self.now) (state_of c.assignment.new.self) r.0.0 (term_seen c.deref_mut-in-Assign.result.now) (term_seen c.assignment.new.value) c.assignment.ensures.tree c.assignment.ensures.state))
 
 pub form-returns-in-Store : goal.form-returns-in-Store
 form-returns-in-Store t c =
-    let r = reading enum 4 (c.in-Store.target, (c.in-Store.value, tt)) _ c.in-Store.is in
-    form_done _ _ _ _ _ _ (ap action_form_seen r.1 ∙ store_is r.0.0 r.0.1.0) (store_is c.access.new.target c.right_side.new.value)
-    (stores_done (state_of c.args.self.now) (state_of c.access.new.self) (state_of c.right_side.new.self) (term_seen r.0.0) (term_seen c.access.new.target) (term_seen r.0.1.0) (term_seen c.right_side.new.value)
-    c.access.ensures.tree c.access.ensures.state c.right_side.ensures.tree c.right_side.ensures.state)
+    let whole = holds_some enum 4 (c.in-Store.sides, tt) _ c.in-Store.is in
+    let held = holds enum 4 (c.in-Store.sides, tt) _ c.in-Store.is in
+    rw (whole, held)
+    (form_done _ _ _ _ _ _ (ap action_form_seen c.in-Store.is ∙ store_is c.in-Store.sides) (store_is (with_value c.in-Store.sides c.sides.new.sides))
+    (subst (λ (x : Sides). TypesForm (state_of c.args.self.now) (state_of c.sides.new.self) (sides_seen x) (sides_seen c.sides.new.sides)) (c.deref_mut-in-Store.ensures.value ∙ ap (λ b. b.value) c.in-Store.sides-is) c.sides.ensures))
 
 pub form-returns-in-Reduce : goal.form-returns-in-Reduce
 form-returns-in-Reduce t c =
-    let r = reading enum 5 (c.in-Reduce.target, (c.in-Reduce.op, (c.in-Reduce.value, tt))) _ c.in-Reduce.is in
-    form_done _ _ _ _ _ _ (ap action_form_seen r.1 ∙ reduce_is r.0.0 r.0.1.0 r.0.1.1.0) (reduce_is r.0.0 r.0.1.0 c.reduction.new.value)
-    (reduces_done (state_of c.args.self.now) (state_of c.reduction.new.self) r.0.0 r.0.1.0 (term_seen r.0.1.1.0) (term_seen c.reduction.new.value) c.reduction.ensures.tree c.reduction.ensures.state)
+    let r = reading enum 5 (c.in-Reduce.op, (c.in-Reduce.target, (c.in-Reduce.value, tt))) _ c.in-Reduce.is in
+    form_done _ _ _ _ _ _ (ap action_form_seen r.1 ∙ reduce_is r.0.0 r.0.1.0 r.0.1.1.0) (reduce_is r.0.0 r.0.1.0 (with_value r.0.1.1.0 c.reduction.new.value))
+    (subst (λ (e : Expr). TypesForm (state_of c.args.self.now) (state_of c.reduction.new.self) (reduces r.0.1.0 r.0.0 (term_seen e)) (reduces r.0.1.0 r.0.0 (term_seen c.reduction.new.value))) c.deref_mut-in-Reduce.ensures.value
+    (reduces_done (state_of c.args.self.now) (state_of c.reduction.new.self) r.0.1.0 r.0.0 (term_seen c.deref_mut-in-Reduce.result.now) (term_seen c.reduction.new.value) c.reduction.ensures.tree c.reduction.ensures.state))
 
 pub form-returns-in-Call : goal.form-returns-in-Call
 form-returns-in-Call t c =
     let r = reading enum 6 (c.in-Call.function, (c.in-Call.arguments, tt)) _ c.in-Call.is in
     form_done _ _ _ _ _ _ (ap action_form_seen r.1 ∙ call_is r.0.0 r.0.1.0) (call_is r.0.0 c.arguments.new.arguments)
-    (calls_done (state_of c.args.self.now) (state_of c.arguments.new.self) r.0.0 (map term_seen r.0.1.0.items) (map term_seen c.arguments.new.arguments.items) c.arguments.ensures.tree c.arguments.ensures.state)
+    (subst (λ (f : Ref). TypesForm (state_of c.args.self.now) (state_of c.arguments.new.self) (calls f (map term_seen r.0.1.0.items)) (calls f (map term_seen c.arguments.new.arguments.items))) c.deref-in-Call.ensures
+    (calls_done (state_of c.args.self.now) (state_of c.arguments.new.self) c.deref-in-Call.result.now (map term_seen r.0.1.0.items) (map term_seen c.arguments.new.arguments.items) c.arguments.ensures.tree c.arguments.ensures.state))
 
 pub form-returns-after-loop-part : goal.form-returns-after-loop-part
 form-returns-after-loop-part t c =
@@ -74,33 +78,31 @@ form-returns-after-loop-part t c =
 pub form-returns-in_ok-optional-in-If : goal.form-returns-in_ok-optional-in-If
 form-returns-in_ok-optional-in-If t c =
     let r = reading enum 8 (c.in-If.test, (c.in-If.then, (c.in-If.other, tt))) _ c.in-If.is in
-    form_done _ _ _ _ _ _ (ap action_form_seen r.1 ∙ if_is r.0.0 r.0.1.0 r.0.1.1.0) (if_is c.condition.new.test (with_value r.0.1.0 c.command.new.command) c.optional.new.block)
+    form_done _ _ _ _ _ _ (ap action_form_seen r.1 ∙ if_is r.0.0 r.0.1.0 r.0.1.1.0) (if_is (with_value r.0.0 c.condition.new.test) (with_value r.0.1.0 c.command.new.command) c.optional.new.block)
+    (subst (λ (e : Expr). TypesForm (state_of c.args.self.now) (state_of c.optional.new.self) (decides (term_seen e) (action_seen r.0.1.0.value) (maybe_block_seen r.0.1.1.0))
+    (decides (term_seen c.condition.new.test) (action_seen c.command.new.command) (maybe_block_seen c.optional.new.block))) c.deref_mut-in-If.ensures.value
     (decides_done (state_of c.args.self.now) (state_of c.condition.new.self) (state_of c.command.new.self) (state_of c.optional.new.self)
-    (term_seen r.0.0) (term_seen c.condition.new.test) (action_seen r.0.1.0.value) (action_seen c.command.new.command)
-    (maybe_seen (option_map (λ b. action_seen b.value) r.0.1.1.0)) (maybe_seen (option_map (λ b. action_seen b.value) c.optional.new.block))
-    c.condition.ensures.tree c.condition.ensures.state (types_at _ _ _ _ _ c.deref_mut.ensures.value c.in_ok-command-in-If.ensures) c.in_ok-optional-in-If.ensures)
+    (term_seen c.deref_mut-in-If.result.now) (term_seen c.condition.new.test) (action_seen r.0.1.0.value) (action_seen c.command.new.command) (maybe_block_seen r.0.1.1.0) (maybe_block_seen c.optional.new.block)
+    c.condition.ensures.tree c.condition.ensures.state (types_at _ _ _ _ _ c.deref_mut-in-If-2.ensures.value c.in_ok-command-in-If.ensures) c.in_ok-optional-in-If.ensures))
 
 pub form-returns-in_ok-command-in-While : goal.form-returns-in_ok-command-in-While
 form-returns-in_ok-command-in-While t c =
     let r = reading enum 9 (c.in-While.test, (c.in-While.body, tt)) _ c.in-While.is in
-    form_done _ _ _ _ _ _ (ap action_form_seen r.1 ∙ while_is r.0.0 r.0.1.0) (while_is c.condition-in-While.new.test (with_value r.0.1.0 c.command-in-While.new.command))
-    (repeats_done (state_of c.args.self.now) (state_of c.condition-in-While.new.self) (state_of c.command-in-While.new.self) (term_seen r.0.0) (term_seen c.condition-in-While.new.test) (action_seen r.0.1.0.value) (action_seen c.command-in-While.new.command)
-    c.condition-in-While.ensures.tree c.condition-in-While.ensures.state (types_at _ _ _ _ _ c.deref_mut-in-While.ensures.value c.in_ok-command-in-While.ensures))
+    form_done _ _ _ _ _ _ (ap action_form_seen r.1 ∙ while_is r.0.0 r.0.1.0) (while_is (with_value r.0.0 c.condition-in-While.new.test) (with_value r.0.1.0 c.command-in-While.new.command))
+    (subst (λ (e : Expr). TypesForm (state_of c.args.self.now) (state_of c.command-in-While.new.self) (repeats (term_seen e) (action_seen r.0.1.0.value)) (repeats (term_seen c.condition-in-While.new.test) (action_seen c.command-in-While.new.command)))
+    c.deref_mut-in-While.ensures.value
+    (repeats_done (state_of c.args.self.now) (state_of c.condition-in-While.new.self) (state_of c.command-in-While.new.self)
+    (term_seen c.deref_mut-in-While.result.now) (term_seen c.condition-in-While.new.test) (action_seen r.0.1.0.value) (action_seen c.command-in-While.new.command)
+    c.condition-in-While.ensures.tree c.condition-in-While.ensures.state (types_at _ _ _ _ _ c.deref_mut-in-While-2.ensures.value c.in_ok-command-in-While.ensures)))
 
 pub form-returns-in_ok-optional-in-For : goal.form-returns-in_ok-optional-in-For
 form-returns-in_ok-optional-in-For t c =
-    let held = holds enum 10 (c.in-For.iterator, (c.in-For.declared, (c.in-For.low, (c.in-For.low_place, (c.in-For.high, (c.in-For.high_place, (c.in-For.factor, (c.in-For.factor_place, (c.in-For.unroll_place, (c.in-For.body, (c.in-For.combine, (c.in-For.combine_place, tt)))))))))))) _ c.in-For.is in
-    rw held
-    (form_done _ _ _ _ _ _
-    (ap action_form_seen c.in-For.is ∙ for_is c.in-For.iterator c.in-For.declared c.in-For.low c.in-For.low_place c.in-For.high c.in-For.high_place c.in-For.factor c.in-For.factor_place c.in-For.unroll_place c.in-For.body c.in-For.combine c.in-For.combine_place)
-    (for_is c.in-For.iterator c.in-For.declared c.in-For.low c.in-For.low_place c.in-For.high c.in-For.high_place c.in-For.factor c.in-For.factor_place c.in-For.unroll_place (with_value c.in-For.body c.command-in-For.new.command) c.optional-in-For.new.block c.in-For.combine_place)
-    (counts_done (state_of c.args.self.now) (state_of c.bounds.new.self) (state_of c.learn-in-For.new.self) (state_of c.command-in-For.new.self) (state_of c.optional-in-For.new.self)
-    c.in-For.iterator c.in-For.declared c.iterator_kind-kind.result (placed c.in-For.low c.in-For.low_place) (placed c.in-For.high c.in-For.high_place) (unrolled c.in-For.factor c.in-For.factor_place c.in-For.unroll_place)
-    (action_seen c.in-For.body.value) (action_seen c.command-in-For.new.command)
-    (maybe_seen (option_map (λ b. action_seen b.value) c.in-For.combine)) (maybe_seen (option_map (λ b. action_seen b.value) c.optional-in-For.new.block)) c.in-For.combine_place (of_iterator c.iterator_kind-kind.result)
-    (rw held at c.iterator_kind-kind.ensures) (rw held at c.bounds.ensures) refl c.in_ok-learn-in-For.ensures
-    (types_at _ _ _ _ _ (c.deref_mut-in-For.ensures.value ∙ ap (λ b. b.value) c.in-For.body-is) c.in_ok-command-in-For.ensures)
-    (rw held at c.in_ok-optional-in-For.ensures)))
+    let r = reading enum 10 (c.in-For.header, (c.in-For.body, (c.in-For.combine, tt))) _ c.in-For.is in
+    form_done _ _ _ _ _ _ (ap action_form_seen r.1 ∙ for_is r.0.0 r.0.1.0 r.0.1.1.0) (for_is r.0.0 (with_value r.0.1.0 c.command-in-For.new.command) c.optional-in-For.new.block)
+    (loops_done (state_of c.args.self.now) (state_of c.header.new.self) (state_of c.command-in-For.new.self) (state_of c.optional-in-For.new.self) r.0.0.value
+    (action_seen r.0.1.0.value) (action_seen c.command-in-For.new.command) (maybe_block_seen r.0.1.1.0) (maybe_block_seen c.optional-in-For.new.block)
+    (c.in_ok-header-in-For.ensures ∙ ap (entered (state_of c.args.self.now)) c.deref-in-For.ensures)
+    (types_at _ _ _ _ _ c.deref_mut-in-For.ensures.value c.in_ok-command-in-For.ensures) c.in_ok-optional-in-For.ensures)
 
 pub part-loop-command-init : goal.part-loop-command-init
 part-loop-command-init t c = ((refl, λ k d past. refl), start action_seen action_step action_made _ _)
@@ -131,19 +133,19 @@ part-returns-in_err-command t c =
     (some_command c.args.part.now c.deref_mut-command-items.result.now c.loop-command.command-items c.loop-command.command-index c.command-item.result c.deref_mut-command-items.ensures.value
     (omega (arith, c.loop-command-test.true, c.loop-command.auto.command-items)) c.loop-command.invariant.0 c.in_err-command.ensures)
 
-pub form-returns-in_err-learn-in-Let : goal.form-returns-in_err-learn-in-Let
-form-returns-in_err-learn-in-Let t c =
+pub form-returns-in_err-variable-in-Let : goal.form-returns-in_err-variable-in-Let
+form-returns-in_err-variable-in-Let t c =
     wanting _ _ c.from_residual.ensures
-    (counted_as _ _ _ c.in-Let.is (let_is c.in-Let.name c.in-Let.declared c.in-Let.value) (omega arith))
+    (counted_as _ _ _ c.in-Let.is (let_is c.in-Let.declared c.in-Let.name c.in-Let.value) (omega arith))
 
-pub form-returns-in_err-learn-in-LetMemory : goal.form-returns-in_err-learn-in-LetMemory
-form-returns-in_err-learn-in-LetMemory t c =
-    wanting _ _ c.from_residual-in_err-learn-in-LetMemory.ensures
+pub form-returns-in_err-memory-in-LetMemory : goal.form-returns-in_err-memory-in-LetMemory
+form-returns-in_err-memory-in-LetMemory t c =
+    wanting _ _ c.from_residual-in_err-memory-in-LetMemory.ensures
     (counted_as _ _ _ c.in-LetMemory.is (let_memory_is c.in-LetMemory.name c.in-LetMemory.shape c.in-LetMemory.shape_places c.in-LetMemory.value) (omega arith))
 
-pub form-returns-in_err-learn-in-View : goal.form-returns-in_err-learn-in-View
-form-returns-in_err-learn-in-View t c =
-    wanting _ _ c.from_residual-in_err-learn-in-View.ensures
+pub form-returns-in_err-viewed-in-View : goal.form-returns-in_err-viewed-in-View
+form-returns-in_err-viewed-in-View t c =
+    wanting _ _ c.from_residual-in_err-viewed-in-View.ensures
     (counted_as _ _ _ c.in-View.is (view_is c.in-View.name c.in-View.parent c.in-View.form) (omega arith))
 
 pub form-returns-in_err-part-in-Block : goal.form-returns-in_err-part-in-Block
@@ -157,7 +159,7 @@ pub form-returns-in_err-command-in-If : goal.form-returns-in_err-command-in-If
 form-returns-in_err-command-in-If t c =
     wanting _ _ c.from_residual-in_err-command-in-If.ensures
     (counted_as _ _ _ c.in-If.is (if_is c.in-If.test c.in-If.then c.in-If.other)
-    (in_left _ _ (subst (λ z. 0 < declared_in (action_seen z)) (c.deref_mut.ensures.value ∙ ap (λ b. b.value) c.in-If.then-is) c.in_err-command-in-If.ensures)))
+    (in_left _ _ (subst (λ z. 0 < declared_in (action_seen z)) (c.deref_mut-in-If-2.ensures.value ∙ ap (λ b. b.value) c.in-If.then-is) c.in_err-command-in-If.ensures)))
 
 pub form-returns-in_err-optional-in-If : goal.form-returns-in_err-optional-in-If
 form-returns-in_err-optional-in-If t c =
@@ -169,25 +171,19 @@ pub form-returns-in_err-command-in-While : goal.form-returns-in_err-command-in-W
 form-returns-in_err-command-in-While t c =
     wanting _ _ c.from_residual-in_err-command-in-While.ensures
     (counted_as _ _ _ c.in-While.is (while_is c.in-While.test c.in-While.body)
-    (subst (λ z. 0 < declared_in (action_seen z)) (c.deref_mut-in-While.ensures.value ∙ ap (λ b. b.value) c.in-While.body-is) c.in_err-command-in-While.ensures))
+    (subst (λ z. 0 < declared_in (action_seen z)) (c.deref_mut-in-While-2.ensures.value ∙ ap (λ b. b.value) c.in-While.body-is) c.in_err-command-in-While.ensures))
 
-pub form-returns-in_err-learn-in-For : goal.form-returns-in_err-learn-in-For
-form-returns-in_err-learn-in-For t c =
-    wanting _ _ c.from_residual-in_err-learn-in-For.ensures
-    (counted_as _ _ _ c.in-For.is
-    (for_is c.in-For.iterator c.in-For.declared c.in-For.low c.in-For.low_place c.in-For.high c.in-For.high_place c.in-For.factor c.in-For.factor_place c.in-For.unroll_place c.in-For.body c.in-For.combine c.in-For.combine_place)
-    (omega arith))
+pub form-returns-in_err-header-in-For : goal.form-returns-in_err-header-in-For
+form-returns-in_err-header-in-For t c =
+    wanting _ _ c.from_residual-in_err-header-in-For.ensures
+    (counted_as _ _ _ c.in-For.is (for_is c.in-For.header c.in-For.body c.in-For.combine) (omega arith))
 
 pub form-returns-in_err-command-in-For : goal.form-returns-in_err-command-in-For
 form-returns-in_err-command-in-For t c =
     wanting _ _ c.from_residual-in_err-command-in-For.ensures
-    (counted_as _ _ _ c.in-For.is
-    (for_is c.in-For.iterator c.in-For.declared c.in-For.low c.in-For.low_place c.in-For.high c.in-For.high_place c.in-For.factor c.in-For.factor_place c.in-For.unroll_place c.in-For.body c.in-For.combine c.in-For.combine_place)
-    (omega arith))
+    (counted_as _ _ _ c.in-For.is (for_is c.in-For.header c.in-For.body c.in-For.combine) (omega arith))
 
 pub form-returns-in_err-optional-in-For : goal.form-returns-in_err-optional-in-For
 form-returns-in_err-optional-in-For t c =
     wanting _ _ c.from_residual-in_err-optional-in-For.ensures
-    (counted_as _ _ _ c.in-For.is
-    (for_is c.in-For.iterator c.in-For.declared c.in-For.low c.in-For.low_place c.in-For.high c.in-For.high_place c.in-For.factor c.in-For.factor_place c.in-For.unroll_place c.in-For.body c.in-For.combine c.in-For.combine_place)
-    (omega arith))
+    (counted_as _ _ _ c.in-For.is (for_is c.in-For.header c.in-For.body c.in-For.combine) (omega arith))

@@ -1,0 +1,7 @@
+use Rattle.dh_types.specs.Walks.{state_of}
+use Rattle.dh_types.proofs.FormsDone.{header_done}
+use Rattle.dh_types.proofs.walks.Walk.header.Goals as goal
+
+pub returns : goal.returns
+returns c =
+    header_done (state_of c.args.self.now) (state_of c.bounds.new.self) (state_of c.learn.new.self) c.args.header.now c.iterator_kind-kind.result c.iterator_kind-kind.ensures c.bounds.ensures c.in_ok-learn.ensures
