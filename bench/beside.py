@@ -7,6 +7,9 @@ import statistics
 import subprocess
 import time
 
+# What ./dahlia sets: malloc of the GNU C library asks the kernel for huge pages.
+HUGE_PAGES = 'glibc.malloc.hugetlb=1'
+
 
 def peer_and_rest(arguments):
     """The path behind `--peer`, or None, and the arguments without the two words."""
@@ -16,6 +19,11 @@ def peer_and_rest(arguments):
     if at + 1 == len(arguments):
         raise SystemExit('bench: --peer needs the path of a program')
     return os.path.abspath(arguments[at + 1]), arguments[:at] + arguments[at + 2:]
+
+
+def without(word, arguments):
+    """Whether the word is among the arguments, and they without it."""
+    return word in arguments, [argument for argument in arguments if argument != word]
 
 
 def measured(words, folder):
