@@ -1,4 +1,3 @@
-pub mod KeptForms
 pub mod OneVerdict
 pub mod Passing
 pub mod Texts

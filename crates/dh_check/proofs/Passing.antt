@@ -110,14 +110,13 @@ forms_passed : (ports : Bool) (p : Program) (v : Verdict) → unbuilt_forms p �
     → JudgedTree ports p v
 forms_passed ports p v e h = passed (unbuilt_forms p) v (Passes (breaches_of p) v (JudgedTyped ports (typed (resolved p)) v)) e h
 
-pub forms_stop : (p : Program) (b : Breach) → IsLeast (unbuilt_forms p) b → Stops (λ ports v. JudgedTree ports p v) (fault.Refused b.rule b.place)
-forms_stop p b h =
-    λ ports. refused_at (unbuilt_forms p) b.rule b.place (Passes (breaches_of p) (refuses b.rule b.place) (JudgedTyped ports (typed (resolved p)) (refuses b.rule b.place))) h
-
-pub names_stop : (p : Program) (e : PassFault) → unbuilt_forms p ≡ [] → names.Answers p (Err e) → Stops (λ ports v. JudgedTree ports p v) (of_pass e)
-names_stop p pass.NoMemory none h = λ ports. tt
-names_stop p (pass.Refused r place) none h =
-    λ ports. forms_passed ports p (refuses r place) none (refused_at (breaches_of p) r place (JudgedTyped ports (typed (resolved p)) (refuses r place)) h)
+-- a form is not built, or a name breaks a rule
+pub names_stop : (p : Program) (e : PassFault) → names.AnswersBuilt p (Err e) → Stops (λ ports v. JudgedTree ports p v) (of_pass e)
+names_stop p pass.NoMemory h = λ ports. tt
+names_stop p (pass.Refused r place) (inl h) =
+    λ ports. refused_at (unbuilt_forms p) r place (Passes (breaches_of p) (refuses r place) (JudgedTyped ports (typed (resolved p)) (refuses r place))) h
+names_stop p (pass.Refused r place) (inr h) =
+    λ ports. forms_passed ports p (refuses r place) h.0 (refused_at (breaches_of p) r place (JudgedTyped ports (typed (resolved p)) (refuses r place)) h.1)
 
 tree_named : (ports : Bool) (p q : Program) (v : Verdict) → unbuilt_forms p ≡ [] → q ≡ resolved p → KeepsNames p → JudgedTyped ports (typed q) v
     → JudgedTree ports p v

@@ -1,19 +1,21 @@
 -- The passes over typed programs before that over ports: what they tell of a program that they let through, and of one that they refuse.
-use Rattle.std.proofs.Common.{◌≡◌, inl, inr, List, [], Option, Some, None, Result, Ok, Err, refl, sym, ap}
+use Rattle.std.proofs.Common.{◌≡◌, inl, inr, List, [], Option, Some, None, Result, Ok, Err, refl, sym, ap, ◌∙◌}
 use Rattle.dh_base.specs.declared.faults.PassFault.{PassFault}
 use Rattle.dh_base.specs.declared.faults.PassFault.TheVariants as pass
 use Rattle.dh_base.specs.declared.limits.Excess.{Excess}
 use Rattle.dh_shape.specs.Above.{TellsExcess}
 use Rattle.dh_tree.specs.declared.breaches.Breach.{Breach}
 use Rattle.dh_tree.specs.Excesses.{first_excess}
+use Rattle.dh_tree.specs.LeastBreach.{least_of}
 use Rattle.dh_tree.specs.Placements.{placement_breaches}
 use Rattle.dh_tree.specs.PlainTrees.{Program}
-use Rattle.dh_tree.specs.Told.{TellsLeast, MayTellLeast}
+use Rattle.dh_tree.specs.Told.{MayTellLeast}
 use Rattle.dh_tree.specs.ViewBreaches.{shapes_breaches_of}
+use Rattle.dh_tree.proofs.FirstBreaches.{none_is_kept, least_is_kept}
 use Rattle.dh_views.specs.Wanting.{WantsForViews}
 use Rattle.dh_check.specs.declared.checking.CheckFault.{CheckFault}
 use Rattle.dh_check.specs.declared.checking.CheckFault.TheVariants as fault
-use Rattle.dh_check.specs.Ready.{of_pass, TellsBreach, TellsShapes}
+use Rattle.dh_check.specs.Ready.{of_pass, TellsShapes}
 
 -- a limit that is exceeded, or none
 pub excess_told : (o : Option Excess) (x : Excess) → TellsExcess {A = Unit {0}} o (Err x) → o ≡ Some x
@@ -25,7 +27,7 @@ no_excess None h = refl
 no_excess (Some first) h = absurd h
 
 -- the first of these passes refuses
-pub shapes_refused : (p : Program) (e : PassFault) → MayTellLeast {A = Unit {0}} (shapes_breaches_of p) (Err e) → WantsForViews {A = Unit {0}} p (Err e)
+pub shapes_refused : (p : Program) (e : PassFault) → MayTellLeast {A = Option Breach} (shapes_breaches_of p) (Err e) → WantsForViews {A = Option Breach} p (Err e)
     → TellsShapes {A = Unit {0}} p (Err (of_pass e))
 shapes_refused p (pass.Refused rule place) h wanted = inl h
 shapes_refused p pass.NoMemory h wanted = wanted
@@ -34,8 +36,13 @@ shapes_refused p pass.NoMemory h wanted = wanted
 pub limits_refused : (p : Program) (x : Excess) → shapes_breaches_of p ≡ [] → TellsExcess {A = Unit {0}} (first_excess p) (Err x) → TellsShapes {A = Unit {0}} p (Err (fault.TooLarge x.limit x.count))
 limits_refused p x shapes h = (shapes, excess_told (first_excess p) x h)
 
--- the third
-pub places_refused : (p : Program) (e : PassFault) → shapes_breaches_of p ≡ [] → TellsExcess {A = Unit {0}} (first_excess p) (Ok tt) → TellsLeast {A = Unit {0}} (placement_breaches p) (Err e)
-    → TellsShapes {A = Unit {0}} p (Err (of_pass e))
-places_refused p (pass.Refused rule place) shapes limits h = inr (record { shapes = shapes; limits = no_excess (first_excess p) limits; least = h })
-places_refused p pass.NoMemory shapes limits h = absurd h
+-- the third, whose first breach has been found before
+pub place_refused : (p : Program) (first : Option Breach) (b : Breach) → shapes_breaches_of p ≡ [] → TellsExcess {A = Unit {0}} (first_excess p) (Ok tt) → first ≡ least_of None (placement_breaches p) → first ≡ Some b
+    → TellsShapes {A = Unit {0}} p (Err (fault.Refused b.rule b.place))
+place_refused p first b shapes limits e is =
+    inr (record { shapes = shapes; limits = no_excess (first_excess p) limits; least = least_is_kept (placement_breaches p) b (sym e ∙ is) })
+
+-- none of them
+pub all_kept : (p : Program) (first : Option Breach) → shapes_breaches_of p ≡ [] → TellsExcess {A = Unit {0}} (first_excess p) (Ok tt) → first ≡ least_of None (placement_breaches p) → first ≡ None
+    → TellsShapes {A = Unit {0}} p (Ok tt)
+all_kept p first shapes limits e is = (shapes, (no_excess (first_excess p) limits, none_is_kept (placement_breaches p) (sym e ∙ is)))

@@ -31,11 +31,6 @@ abbrev pub of_pass : PassFault → CheckFault
 of_pass (pass.Refused rule place) = fault.Refused rule place
 of_pass pass.NoMemory = fault.NoMemory
 
--- the breach of these that stands first, or that there is none
-abbrev pub TellsBreach : {A : Type 0} → List Breach → Result A Breach → Type 0
-TellsBreach breaches (Ok a) = breaches ≡ []
-TellsBreach breaches (Err b) = IsLeast breaches b
-
 -- the rules on places, of a program that keeps those on shapes, indices, bounds and views, and the limits on
 -- memories, are broken first here
 pub record BreaksPlaces (p : Program) (b : Breach) : Type 0 where

@@ -9,22 +9,20 @@ ghost use Rattle.dh_tree.specs.Excesses as excesses;
 ghost use Rattle.dh_tree.specs.Ready.{most_tokens};
 ghost use Rattle.dh_check.specs.Acceptance.{IsSound};
 ghost use Rattle.dh_check.specs.declared.checking.CheckFault.TheVariants as fault;
-ghost use Rattle.dh_check.specs.Ready.{of_pass, TellsBreach, TellsText, TellsTree, TellsNamed, TellsShapes};
+ghost use Rattle.dh_check.specs.Ready.{of_pass, TellsText, TellsTree, TellsNamed, TellsShapes};
 ghost use Rattle.dh_check.specs.Verdicts.{Checks, ChecksWithoutPorts, counted_excess, tokens_excess};
 
-use crate::forms::first_unbuilt;
 use crate::laws::ready_programs_have_tables;
 use dh_base::{Excess, Limit, PassFault, Place, Rule};
 use dh_lexer::{Counts, Token, counts, lex};
-use dh_names::resolve;
+use dh_names::resolve_built;
 use dh_parser::parse;
 use dh_ports::{Accepted, check_ports};
-use dh_rules::rules;
+use dh_rules::shapes_and_places;
 use dh_shape::within;
 use dh_sound::{accepted_programs_are_never_stuck, ready_accesses_are_told};
 use dh_tree::{Breach, Named, Tree, Typed};
 use dh_types::type_program;
-use dh_views::shapes;
 use std::alloc::Global;
 
 /// Why a text is no accepted program.
@@ -157,32 +155,13 @@ fn within_limits(tokens: &[Token]) -> Result<(), Excess>
     }
 }
 
-/// The forms of a program that may stand in it.
-fn built(tree: &Tree) -> Result<(), Breach>
-    ensures { TellsBreach (unbuilt_forms (program_seen tree.now)) result }
-{
-    match first_unbuilt(tree) {
-        Some(breach) => Err(breach),
-        None => Ok(()),
-    }
-}
-
 /// The passes over a tree before that over ports.
 fn ready_tree(alloc: Global, tree: Tree) -> Result<Typed, CheckFault>
     requires { IsOfText most_tokens (program_seen tree) }
     ensures { TellsTree (program_seen tree) result }
 {
-    match built(&tree) {
-        Ok(()) => {
-            let named = resolve(alloc, tree)?;
-            ready_named(alloc, named)
-        }
-        Err(breach) => {
-            // a call, in the place of the drop of each part of the tree
-            tree.let_go();
-            Err(CheckFault::from(breach))
-        }
-    }
+    let named = resolve_built(alloc, tree)?;
+    ready_named(alloc, named)
 }
 
 /// The passes over a tree whose names are resolved, before that over ports.
@@ -199,12 +178,15 @@ fn ready_named(alloc: Global, named: Named) -> Result<Typed, CheckFault>
 }
 
 /// The rules on shapes, indices, bounds and views, then the limits on memories, then the rules on where
-/// memories stand and what is assigned to. Takes memory only where a view is declared.
+/// memories stand and what is assigned to, whose first breach the walk over shapes has found. Takes memory
+/// only where a view is declared.
 fn shaped(alloc: Global, typed: &Typed) -> Result<(), CheckFault>
     ensures { TellsShapes (program_seen typed.now) result }
 {
-    shapes(alloc, typed)?;
+    let misplaced = shapes_and_places(alloc, typed)?;
     within(typed)?;
-    rules(typed)?;
-    Ok(())
+    match misplaced {
+        Some(breach) => Err(CheckFault::from(breach)),
+        None => Ok(()),
+    }
 }

@@ -3,7 +3,6 @@
 #![tactic(auto)]
 
 mod checking;
-mod forms;
 mod laws;
 
 pub use checking::{CheckFault, check, check_without_ports};

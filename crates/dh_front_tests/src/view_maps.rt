@@ -13,10 +13,10 @@ fn map_of(alloc: Global, text: &str, entity: u32) -> Result<ViewMap, Fail> {
     let Some(judged) = judge_views(alloc, &typed, &mut breach)? else {
         return Err("no view")?;
     };
-    match judged.all.get(Some(entity)) {
-        Some(_) => Ok(view_map(alloc, &typed, entity)?),
-        None => return Err("no view of this entity")?,
+    if !judged.has_view(Some(entity)) {
+        return Err("no view of this entity")?;
     }
+    Ok(view_map(alloc, &typed, entity)?)
 }
 
 /// Its sort, the kind and the ports of its elements, its dimensions, those of its parent, and its factors.

@@ -4,6 +4,7 @@ pub mod TermForms
 pub mod Extended
 pub mod FormsDone
 pub mod ListsDone
+pub mod FormsKept
 pub mod OffsetsDone
 pub mod Again
 pub mod AgainPrograms
@@ -11,5 +12,6 @@ pub mod LeastKept
 pub mod FunctionsDone
 pub mod ItemsDone
 pub mod ProgramsDone
+pub mod ProgramsAnswered
 pub mod EmptyTrees
 pub mod Wanting

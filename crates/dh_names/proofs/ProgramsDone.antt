@@ -1,7 +1,6 @@
 -- A walk over a whole program.
-use Rattle.std.proofs.Common.{◌≡◌, ℕ, ◌+◌, List, [], ◌∷◌, ◌++◌, length, map, Some, None, sym, ap, subst, ◌∙◌, arith}
+use Rattle.std.proofs.Common.{◌≡◌, ℕ, ◌+◌, List, [], ◌∷◌, ◌++◌, length, map, None, sym, ap, subst, ◌∙◌, arith}
 use Rattle.std.proofs.lemmas.List.{length-append, append-nil}
-use Rattle.dh_tree.specs.declared.breaches.Breach.{Breach}
 use Rattle.dh_tree.specs.declared.trees.programs.Decl.{Decl}
 use Rattle.dh_tree.specs.declared.trees.programs.Entity.{Entity}
 use Rattle.dh_tree.specs.declared.trees.programs.Tree.{Tree}
@@ -9,16 +8,14 @@ use Rattle.dh_tree.specs.declared.trees.programs.Function as code
 use Rattle.dh_tree.specs.declared.trees.programs.Sort.TheVariants.{Memory, Function}
 use Rattle.dh_tree.specs.PlainTrees.{Action, Declared, Defined, Program}
 use Rattle.dh_tree.specs.Seen.{declared_seen, defined_seen, action_seen, program_seen}
-use Rattle.dh_tree.specs.LeastBreach.{least_of, IsLeast}
+use Rattle.dh_tree.specs.LeastBreach.{least_of}
 use Rattle.dh_tree.specs.Scopes.{Binding, Scope, at_end, after_function, after_functions, memory_items, function_items, merged, items_of, after_items, entity, outer_entities, first_scope, body_scope}
-use Rattle.dh_tree.specs.Breaches.{breaches, functions_breaches, items_breaches, breaches_of, KeepsNames}
-use Rattle.dh_tree.specs.Resolved.{resolved_action, resolved_decls, resolved_functions, resolved, HasEntities}
+use Rattle.dh_tree.specs.Breaches.{breaches, functions_breaches, items_breaches, breaches_of}
+use Rattle.dh_tree.specs.Resolved.{resolved_action, resolved_decls, resolved_functions, resolved}
 use Rattle.dh_tree.specs.NameCounts.{declared_in, declared_in_functions, HasFewNames}
 use Rattle.dh_names.specs.Walks.{State, Room, Resolves}
 use Rattle.dh_names.specs.Programs.{ResolvesFunctions, left}
 use Rattle.dh_tree.proofs.Leasts.{least_append}
-use Rattle.dh_names.proofs.LeastKept.{none_kept, least_kept}
-use Rattle.dh_names.proofs.AgainPrograms.{breaches_again, resolved_again}
 use Rattle.dh_names.proofs.FunctionsDone.{length_map, function_counted}
 
 functions_counted : (n : ℕ) (s : Scope) (fs : List Defined) → length (after_functions n s fs).entities ≡ length s.entities + declared_in_functions fs
@@ -140,15 +137,3 @@ module _ (p : Program) (s0 s1 s3 : State) (outer top : List Binding) (ds' : List
       ∙ sym (least_append s0.least f b)
       ∙ ap (λ k. least_of k (f ++ b)) x.items
       ∙ sym (least_append None (items_breaches [] (items_of p)) (f ++ b))
-
-  pub program_refused : (b : Breach) → s3.least ≡ Some b → IsLeast (breaches_of p) b
-  program_refused b is = least_kept (breaches_of p) b (sym program_least ∙ is)
-
-  pub program_keeps : s3.least ≡ None → KeepsNames p
-  program_keeps is = none_kept (breaches_of p) (sym program_least ∙ is)
-
-  pub tree_keeps : s3.least ≡ None → KeepsNames (program ds' fs' b' s3.scope.entities)
-  tree_keeps is = ap (λ q. breaches_of q) program_tree ∙ breaches_again p ∙ program_keeps is
-
-  pub tree_resolved : HasEntities (program ds' fs' b' s3.scope.entities)
-  tree_resolved = ap (λ q. resolved q) program_tree ∙ resolved_again p ∙ sym program_tree

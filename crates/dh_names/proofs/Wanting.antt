@@ -13,7 +13,7 @@ use Rattle.dh_tree.specs.PlainTrees.{Program}
 use Rattle.dh_tree.specs.Seen.{action_seen, declared_seen, defined_seen, program_seen}
 use Rattle.dh_tree.specs.Scopes.{Binding, bind}
 use Rattle.dh_tree.specs.NameCounts.{declared_in, names_declared}
-use Rattle.dh_names.specs.Programs.{Answers}
+use Rattle.dh_names.specs.Programs.{Answers, AnswersBuilt}
 use Rattle.dh_names.specs.Visible.{Binds}
 use Rattle.dh_names.proofs.FunctionsDone.{length_map}
 
@@ -25,6 +25,10 @@ bound_ok old new name n (Err e) h = tt
 pub refused : (p : Program) (r : Result Named PassFault) → IsErr r × IsErrAnd r (λ e. e ≡ fault.NoMemory) → 0 < names_declared p → Answers p r
 refused p (Ok n) h k = absurd (cc h.0)
 refused p (Err e) h k = rw h.1 k
+
+pub refused_built : (p : Program) (r : Result Named PassFault) → IsErr r × IsErrAnd r (λ e. e ≡ fault.NoMemory) → 0 < names_declared p → AnswersBuilt p r
+refused_built p (Ok n) h k = absurd (cc h.0)
+refused_built p (Err e) h k = rw h.1 k
 
 pub some_items : (tree : Tree) (ds : List Decl) (fs : List Function) → ds ≡ tree.decls.items → fs ≡ tree.functions.items → 0 < length ds + length fs → 0 < names_declared (program_seen tree)
 some_items tree ds fs a b h =

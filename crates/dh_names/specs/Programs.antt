@@ -1,5 +1,5 @@
 -- What the walk over a program does before and behind its commands, and what it answers.
-use Rattle.std.specs.Prelude.{ℕ, Bool, true, false, ◌+◌, ◌≡◌, List, [], ◌∷◌, ◌++◌, ◌<◌, ◌≤◌, length, map, drop, Option, None, Result, Ok, Err, Vec}
+use Rattle.std.specs.Prelude.{ℕ, Bool, true, false, ◌+◌, ◌≡◌, ◌⊎◌, List, [], ◌∷◌, ◌++◌, ◌<◌, ◌≤◌, length, map, drop, Option, Some, None, Result, Ok, Err, Vec}
 use Rattle.std.specs.Global.{Global}
 use Rattle.dh_base.specs.declared.faults.PassFault.{PassFault}
 use Rattle.dh_base.specs.declared.faults.PassFault.TheVariants as fault
@@ -9,6 +9,7 @@ use Rattle.dh_tree.specs.declared.trees.programs.Entity.{Entity}
 use Rattle.dh_tree.specs.declared.trees.programs.Function.{Function}
 use Rattle.dh_tree.specs.declared.trees.programs.Parameter.{Parameter}
 use Rattle.dh_tree.specs.declared.trees.programs.Sort.TheVariants as sort
+use Rattle.dh_tree.specs.declared.trees.programs.Tree.{Tree}
 use Rattle.dh_tree.specs.declared.trees.named.Named.{Named}
 use Rattle.dh_tree.specs.PlainTrees.{Declared, Formal, Defined, Program}
 use Rattle.dh_tree.specs.Seen.{action_seen, declared_seen, formal_seen, defined_seen, program_seen}
@@ -17,10 +18,12 @@ use Rattle.dh_tree.specs.Scopes.{Binding, entity_of, bind, entity, Item, memory_
 use Rattle.dh_tree.specs.Breaches.{breaches_of, KeepsNames, twice, items_breaches, formals_breaches, function_breaches, functions_breaches}
 use Rattle.dh_tree.specs.Resolved.{resolved, resolved_decls, resolved_formals, resolved_function, resolved_functions}
 use Rattle.dh_tree.specs.NameCounts.{declared_in, declared_in_functions, names_declared}
+use Rattle.dh_tree.specs.Forms.{unbuilt_forms}
 use Rattle.dh_names.specs.Visible.{visible, LeastBy}
 use Rattle.dh_names.specs.Walks.{State, state_of, walked}
 use Rattle.dh_names.specs.declared.scopes.Names.{Names}
 use Rattle.dh_names.specs.declared.walks.Walk.{Walk}
+use Rattle.dh_names.specs.declared.programs.WalkedProgram.{WalkedProgram}
 
 -- a walk over the parameters of a function
 pub record ResolvesFormals (old new : State) (a b : List Formal) : Type 0 where
@@ -132,3 +135,23 @@ abbrev pub Answers : Program → Result Named PassFault → Type 0
 Answers p (Ok named) = (program_seen named ≡ resolved p) × KeepsNames p
 Answers p (Err (fault.Refused rule place)) = IsLeast (breaches_of p) (breach rule place)
 Answers p (Err fault.NoMemory) = 0 < names_declared p
+
+-- the same of a program whose forms are all built; any other is answered by the form that stands first of those
+-- that are not
+abbrev pub AnswersBuilt : Program → Result Named PassFault → Type 0
+AnswersBuilt p (Ok named) = (unbuilt_forms p ≡ []) × ((program_seen named ≡ resolved p) × KeepsNames p)
+AnswersBuilt p (Err (fault.Refused rule place)) = IsLeast (unbuilt_forms p) (breach rule place) ⊎ ((unbuilt_forms p ≡ []) × IsLeast (breaches_of p) (breach rule place))
+AnswersBuilt p (Err fault.NoMemory) = 0 < names_declared p
+
+-- what a walk over a program finds: its tree with entities, the breach of its names that stands first, and the
+-- form that does of those that are not built
+pub record IsWalked (p : Program) (w : WalkedProgram) : Type 0 where
+  pub tree : program_seen w.tree ≡ resolved p
+  pub least : w.least ≡ least_of None (breaches_of p)
+  pub unbuilt : w.unbuilt ≡ least_of None (unbuilt_forms p)
+
+-- a tree whose names are resolved is answered, where there is no breach of them, and else the breach is
+abbrev pub Settles : Tree → Option Breach → Result Named PassFault → Type 0
+Settles tree least (Ok named) = (named ≡ tree) × (least ≡ None)
+Settles tree least (Err (fault.Refused rule place)) = least ≡ Some (breach rule place)
+Settles tree least (Err fault.NoMemory) = ⊥

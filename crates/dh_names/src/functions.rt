@@ -35,7 +35,8 @@ impl Walk {
         Ok(())
     }
 
-    // A function, which is entity number `number`. Only earlier functions are visible before it.
+    // A function, which is entity number `number`. Only earlier functions are visible before it. It is not
+    // built as a whole, so that no form is looked for in it.
     fn function(
         &mut self,
         alloc: Global,
@@ -48,7 +49,8 @@ impl Walk {
     {
         function.name.entity = Some(number);
         self.parameters(alloc, &mut function.parameters)?;
-        self.command(alloc, &mut function.body)?;
+        let mut within = None;
+        self.command(alloc, &mut within, &mut function.body)?;
         self.names.own.truncate(0);
         self.names.outer.bind(alloc, &function.name.name, number)
     }

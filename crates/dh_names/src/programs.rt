@@ -1,11 +1,15 @@
 //! The names of whole programs.
 
-ghost use Rattle.std.specs.Prelude.{◌≡◌, ◌+◌, ◌<◌, ◌^◌, [], OnOk, OnErr, MatchResult, length};
+ghost use Rattle.std.specs.Prelude.{◌≡◌, ◌+◌, ◌<◌, ◌^◌, [], None, OnOk, OnErr, MatchResult, length};
 ghost use Rattle.dh_tree.specs.Seen.{program_seen};
-ghost use Rattle.dh_tree.specs.NameCounts.{HasFewNames};
-ghost use Rattle.dh_names.specs.Programs.{Answers, entities_outside, NumbersMemories, is_function_first, AreLeft, BindsItem, LacksItem, BindsItems, FindsTwice};
+ghost use Rattle.dh_base.specs.declared.faults.PassFault.TheVariants as fault;
+ghost use Rattle.dh_tree.specs.Breaches.{KeepsNames};
+ghost use Rattle.dh_tree.specs.Resolved.{HasEntities};
+ghost use Rattle.dh_tree.specs.NameCounts.{HasFewNames, names_declared};
+ghost use Rattle.dh_names.specs.Programs.{Answers, AnswersBuilt, IsWalked, Settles, entities_outside, NumbersMemories, is_function_first, AreLeft, BindsItem, LacksItem, BindsItems, FindsTwice};
 
 use crate::bindings::Bindings;
+use crate::forms::keep_functions;
 use crate::scopes::{Names, bind_name};
 use crate::walks::Walk;
 use dh_base::{NoMemory, PassFault};
@@ -122,17 +126,22 @@ fn no_names(alloc: Global) -> Names
     }
 }
 
-/// Gives each name of the tree the number of what it stands for, and lists the entities. Refuses a
-/// tree with a name that is not visible where it is used, or that is visible already where it is
-/// declared, with the breach that stands first.
-///
-/// # Errors
-///
-/// `Refused` with `UnknownName` at a name that is not visible, or with `NameTwice` at the name of a
-/// declaration. `NoMemory` where an allocation was refused; a tree that declares no name takes none.
-pub fn resolve(alloc: Global, tree: Tree) -> Result<Named, PassFault>
+/// What a walk over a program finds.
+#[derive(Drop)]
+struct WalkedProgram {
+    /// The tree with the numbers of its names, and its entities.
+    tree: Tree,
+    /// The breach of the rules on names that stands first.
+    least: Option<Breach>,
+    /// The form that stands first of those that are not built.
+    unbuilt: Option<Breach>,
+}
+
+// The walk over a program: functions first, then its body.
+fn walk_program(alloc: Global, tree: Tree) -> Result<WalkedProgram, NoMemory>
     requires few { HasFewNames (program_seen tree) }
-    ensures { Answers (program_seen tree) result }
+    ensures { MatchResult result (λ walked. IsWalked (program_seen tree) walked)
+        (λ _. 0 < names_declared (program_seen tree)) }
 {
     let Tree {
         mut decls,
@@ -150,19 +159,75 @@ pub fn resolve(alloc: Global, tree: Tree) -> Result<Named, PassFault>
         least,
     };
     number_decls(&mut decls);
+    let mut unbuilt = None;
+    keep_functions(&mut unbuilt, functions.as_slice());
     walk.functions(alloc, &mut functions, count)?;
     walk.names = names;
-    walk.command(alloc, &mut body)?;
-    match walk.least {
-        Some(breach) => Err(PassFault::Refused {
-            rule: breach.rule,
-            place: breach.place,
-        }),
-        None => Ok(Named::of(Tree {
+    walk.command(alloc, &mut unbuilt, &mut body)?;
+    Ok(WalkedProgram {
+        tree: Tree {
             decls,
             functions,
             body,
             entities: walk.entities,
-        })),
+        },
+        least: walk.least,
+        unbuilt,
+    })
+}
+
+// The fault of a program with this breach, whose tree is let go.
+fn refused(tree: Tree, breach: Breach) -> PassFault
+    ensures { result ≡ fault.Refused breach.rule breach.place }
+{
+    tree.let_go();
+    PassFault::Refused {
+        rule: breach.rule,
+        place: breach.place,
+    }
+}
+
+// The tree that is resolved, unless a rule on names is broken.
+fn named(tree: Tree, least: Option<Breach>) -> Result<Named, PassFault>
+    requires names { least ≡ None → KeepsNames (program_seen tree) }
+    requires entities { HasEntities (program_seen tree) }
+    ensures { Settles tree least result }
+{
+    match least {
+        Some(breach) => Err(refused(tree, breach)),
+        None => Ok(Named::of(tree)),
+    }
+}
+
+/// Gives each name of the tree the number of what it stands for, and lists the entities. Refuses a
+/// tree with a name that is not visible where it is used, or that is visible already where it is
+/// declared, with the breach that stands first.
+///
+/// # Errors
+///
+/// `Refused` with `UnknownName` at a name that is not visible, or with `NameTwice` at the name of a
+/// declaration. `NoMemory` where an allocation was refused; a tree that declares no name takes none.
+pub fn resolve(alloc: Global, tree: Tree) -> Result<Named, PassFault>
+    requires few { HasFewNames (program_seen tree) }
+    ensures { Answers (program_seen tree) result }
+{
+    let walked = walk_program(alloc, tree)?;
+    named(walked.tree, walked.least)
+}
+
+/// As `resolve`, of a tree whose forms are all built. Refuses any other with the form that stands first
+/// of those that are not built, whatever its names break.
+///
+/// # Errors
+///
+/// Those of `resolve`, and `Refused` with `Unsupported` at a form that is not built.
+pub fn resolve_built(alloc: Global, tree: Tree) -> Result<Named, PassFault>
+    requires few { HasFewNames (program_seen tree) }
+    ensures { AnswersBuilt (program_seen tree) result }
+{
+    let walked = walk_program(alloc, tree)?;
+    match walked.unbuilt {
+        Some(form) => Err(refused(walked.tree, form)),
+        None => named(walked.tree, walked.least),
     }
 }

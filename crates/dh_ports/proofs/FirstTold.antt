@@ -25,6 +25,7 @@ use Rattle.dh_events.specs.declared.events.Notes.{Notes}
 use Rattle.dh_events.specs.declared.structures.Structure.{Structure}
 use Rattle.dh_events.specs.Elements.{AreReads, no_clocks, IsNoted}
 use Rattle.dh_events.specs.Incidents.{Incident, touches, assigned, arm_begins, arm_ends, begins, next, ends, closed, incidents}
+use Rattle.dh_ports.specs.EventMoves.{moves_known}
 use Rattle.dh_ports.specs.Layouts.{IsLayout, HaveFewCopies}
 use Rattle.dh_events.specs.Noted.{event_seen, all_seen}
 use Rattle.dh_ports.specs.Scanned.{is_late, late_at, place_in, all_late, spent_place, spent_at, FindsLate, KeepsLate}
@@ -205,11 +206,9 @@ are_events p notes events events_are seen keys keys_are distinct noted = record 
   reads = subst (λ (l : List Event). AreReads notes.structures no_clocks 0 l) (sym events_are) noted.reads;
 }
 
--- the first breach, as the code finds it over copies of its lists
-pub first_done : (p : Program) (events : List Event) (layout : Layout) → IsLayout p layout → (flags shared : List Bool) (moves spent_moves late_moves : List Move) → moves ≡ moves_from p (loops_in layout.rounds.items) 0 (all_seen events)
-    → TellsSpent p (spent_place (table_of p) events flags (moves_from p (loops_known p) 0 (all_seen events))) → ((late : List Breach) → FindsLate events (moves_from p (loops_known p) 0 (all_seen events)) late → TellsLate p late)
-    → shared ≡ flags → spent_moves ≡ moves → late_moves ≡ moves → (place : Option Place) → place ≡ spent_place (table_of p) events shared spent_moves → (old new : Option Breach) → old ≡ spent_at place → KeepsLate events late_moves old new → TellsFirst p new
-first_done p events layout l flags shared moves spent_moves late_moves moves_are tells_spent tells_late shared_is spent_is late_is place place_is old new old_is kept =
-    found_first p events flags late_moves (late_is ∙ (moves_are ∙ ap (λ (f : Option ℕ → List Counter). moves_from p f 0 (all_seen events)) (layout_loops p layout l))) tells_spent tells_late place
-    (place_is ∙ (ap (λ (fs : List Bool). spent_place (table_of p) events fs spent_moves) shared_is ∙ ap (λ (ms : List Move). spent_place (table_of p) events flags ms) (spent_is ∙ sym late_is)))
-    old new old_is kept
+-- the first breach, as the code finds it
+pub first_done : (p : Program) (events : List Event) (layout : Layout) → IsLayout p layout → (flags : List Bool) → TellsSpent p (spent_place (table_of p) events flags (moves_from p (loops_known p) 0 (all_seen events)))
+    → ((late : List Breach) → FindsLate events (moves_from p (loops_known p) 0 (all_seen events)) late → TellsLate p late)
+    → (place : Option Place) → place ≡ spent_place (table_of p) events flags (moves_known p layout events) → (old new : Option Breach) → old ≡ spent_at place → KeepsLate events (moves_known p layout events) old new → TellsFirst p new
+first_done p events layout l flags tells_spent tells_late place place_is old new old_is kept =
+    found_first p events flags (moves_known p layout events) (ap (λ (f : Option ℕ → List Counter). moves_from p f 0 (all_seen events)) (layout_loops p layout l)) tells_spent tells_late place place_is old new old_is kept

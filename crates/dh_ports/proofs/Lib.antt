@@ -41,12 +41,14 @@ pub mod SharedSteps
 pub mod RunTurns
 pub mod QuietPhases
 pub mod UnreadPhases
-pub mod UnwrittenEvents
+pub mod AheadNotes
+pub mod AheadKept
 pub mod BankTurns
 pub mod StartFacts
 pub mod FirstTold
 pub mod Judged
 pub mod MoveTurns
+pub mod WalkTurns
 pub mod SingleRounds
 pub mod LayoutFacts
 pub mod ClaimTurns
@@ -70,3 +72,5 @@ pub mod GroupTurns
 pub mod StrideTurns
 pub mod ThroughClaims
 pub mod EvenClaims
+pub mod SameReach
+pub mod SumTurns

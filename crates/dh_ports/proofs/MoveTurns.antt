@@ -1,5 +1,5 @@
 -- Steps of the loops over events and banks.
-use Rattle.std.proofs.Common.{◌≡◌, ℕ, zero, suc, ◌+◌, ◌<◌, ◌≤◌, ◌==◌, Bool, false, if◌then◌else◌, List, [], ◌∷◌, ◌++◌, append_assoc, append-nil, length, drop, get_or, refl, ap, sym, ◌∙◌, subst, arith, ◌⊎◌, inl, inr}
+use Rattle.std.proofs.Common.{◌≡◌, ℕ, zero, suc, ◌+◌, ◌<◌, ◌≤◌, ◌==◌, false, if◌then◌else◌, List, [], ◌∷◌, ◌++◌, append_assoc, append-nil, length, drop, get_or, refl, ap, sym, ◌∙◌, subst, arith, ◌⊎◌, inl, inr}
 use Rattle.std.specs.Prelude.{Option, Some, slice_get, slice_index, Vec}
 use Rattle.std.specs.Global.{Global}
 use Rattle.std.specs.List.{AllByRecursion}
@@ -11,13 +11,11 @@ use Rattle.dh_events.specs.declared.events.Event.{Event}
 use Rattle.dh_events.specs.declared.events.Event.TheVariants as event
 use Rattle.dh_ports.specs.declared.moves.Move.{Move}
 use Rattle.dh_ports.specs.declared.moves.Move.TheVariants as move
-use Rattle.dh_events.specs.Accesses.{loops_in}
-use Rattle.dh_ports.specs.Claims.{claim_at, claims_from, claims_of, moves_from, source_of}
-use Rattle.dh_ports.specs.Copies.{copies_round}
+use Rattle.dh_ports.specs.Claims.{claim_at, claims_from, moves_from, source_of}
+use Rattle.dh_ports.specs.EventMoves.{moves_of, HasFewCopiesAt}
 use Rattle.dh_ports.specs.Layouts.{HaveFewCopies}
 use Rattle.dh_events.specs.Noted.{all_seen}
 use Rattle.dh_ports.specs.Scanned.{IsMoveOf}
-use Rattle.dh_meets.specs.FewCopies.{most_copies}
 use Rattle.dh_ports.proofs.ClaimedBanks.{IsClaimOf, all_claims}
 use Rattle.dh_events.proofs.Turns.{at_place}
 
@@ -56,15 +54,6 @@ module _ (event base i : ℕ) (counts : List ℕ) (inside : i < length counts) w
 
 -- What an event does to banks.
 
-abbrev pub moves_of : Program → (Option ℕ → List Counter) → (place : ℕ) → Event → List Move
-moves_of p loops place (event.Touch access writes phase round element newest) = claims_of p place (source_of (loops round) writes access.now)
-moves_of p loops place (event.Assigned entity) = []
-moves_of p loops place event.ArmBegins = []
-moves_of p loops place event.ArmEnds = []
-moves_of p loops place event.Begins = move.Begin ∷ []
-moves_of p loops place event.Next = move.Next ∷ []
-moves_of p loops place event.Ends = move.End ∷ []
-
 moves_so : (p : Program) (loops : Option ℕ → List Counter) (place : ℕ) (e : Event) (es : List Event) → moves_from p loops place (all_seen (e ∷ es)) ≡ moves_of p loops place e ++ moves_from p loops (place + 1) (all_seen es)
 moves_so p loops place (event.Touch access writes phase round element newest) es = refl
 moves_so p loops place (event.Assigned entity) es = refl
@@ -74,12 +63,15 @@ moves_so p loops place event.Begins es = refl
 moves_so p loops place event.Next es = refl
 moves_so p loops place event.Ends es = refl
 
+pub moves_here : (p : Program) (loops : Option ℕ → List Counter) (es : List Event) (i : ℕ) (e : Event) → i < length es → e ≡ get_or es i e → moves_from p loops i (all_seen (drop i es)) ≡ moves_of p loops i e ++ moves_from p loops (i + 1) (all_seen (drop (i + 1) es))
+moves_here p loops es i e inside is = ap (λ l. moves_from p loops i (all_seen l)) (at_place es i e inside ∙ ap (λ x. x ∷ drop (i + 1) es) (sym is)) ∙ moves_so p loops i e (drop (i + 1) es)
+
 pub moves_turn : (p : Program) (loops : Option ℕ → List Counter) (es : List Event) (i : ℕ) (e : Event) (before new whole : List Move) → i < length es → e ≡ get_or es i e → before ++ moves_from p loops i (all_seen (drop i es)) ≡ whole → new ≡ before ++ moves_of p loops i e
     → new ++ moves_from p loops (i + 1) (all_seen (drop (i + 1) es)) ≡ whole
 moves_turn p loops es i e before new whole inside is so more =
     ap (λ l. l ++ moves_from p loops (i + 1) (all_seen (drop (i + 1) es))) more
     ∙ (append_assoc before (moves_of p loops i e) (moves_from p loops (i + 1) (all_seen (drop (i + 1) es)))
-    ∙ (ap (λ l. before ++ l) (sym (ap (λ l. moves_from p loops i (all_seen l)) (at_place es i e inside ∙ ap (λ x. x ∷ drop (i + 1) es) (sym is)) ∙ moves_so p loops i e (drop (i + 1) es))) ∙ so))
+    ∙ (ap (λ l. before ++ l) (sym (moves_here p loops es i e inside is)) ∙ so))
 
 all_append : {A : Type 0} (P : A → Type 0) (xs ys : List A) → AllByRecursion P xs → AllByRecursion P ys → AllByRecursion P (xs ++ ys)
 all_append P [] ys h i = i
@@ -92,7 +84,7 @@ claims_within n event (move.Begin ∷ ms) l h = absurd h.0
 claims_within n event (move.Next ∷ ms) l h = absurd h.0
 claims_within n event (move.End ∷ ms) l h = absurd h.0
 
-moves_within : (p : Program) (loops : Option ℕ → List Counter) (n i : ℕ) (e : Event) → i < n → AllByRecursion (IsMoveOf n) (moves_of p loops i e)
+pub moves_within : (p : Program) (loops : Option ℕ → List Counter) (n i : ℕ) (e : Event) → i < n → AllByRecursion (IsMoveOf n) (moves_of p loops i e)
 moves_within p loops n i (event.Touch access writes phase round element newest) l = claims_within n i _ l (all_claims p i (source_of (loops round) writes access.now))
 moves_within p loops n i (event.Assigned entity) l = tt
 moves_within p loops n i event.ArmBegins l = tt
@@ -120,50 +112,20 @@ event_found (x ∷ es) (suc i) d e inside is = event_found es i d e (less i (len
     less : (k n : ℕ) → suc k < suc n → k < n
     less k n e = omega (arith, e)
 
-same_item : (es : List Event) (i : ℕ) (d e : Event) → i < length es → get_or es i d ≡ e → e ≡ get_or es i e
-same_item [] i d e inside is = absurd (none i inside)
-  where
-    none : (k : ℕ) → k < 0 → ⊥
-    none k e = omega (arith, e)
-same_item (x ∷ es) zero d e inside is = sym is
-same_item (x ∷ es) (suc i) d e inside is = same_item es i d e (less i (length es) inside) is
-  where
-    less : (k n : ℕ) → suc k < suc n → k < n
-    less k n e = omega (arith, e)
+-- what does nothing to banks
+pub nothing_of : (p : Program) (loops : Option ℕ → List Counter) (place : ℕ) (e : Event) → ((entity : Option ℕ) × (e ≡ event.Assigned entity)) ⊎ ((e ≡ event.ArmBegins) ⊎ (e ≡ event.ArmEnds)) → moves_of p loops place e ≡ []
+nothing_of p loops place e (inl (entity, is)) = ap (λ x. moves_of p loops place x) is
+nothing_of p loops place e (inr (inl is)) = ap (λ x. moves_of p loops place x) is
+nothing_of p loops place e (inr (inr is)) = ap (λ x. moves_of p loops place x) is
 
-pub copies_at : (rounds : List (Vec Counter Global)) (es : List Event) (i : ℕ) (d : Event) → HaveFewCopies rounds es → i < length es → (access : _) (writes : Bool) (phase : ℕ) (round : Option ℕ) (element : Option ℕ) (newest : ℕ)
-    → get_or es i d ≡ event.Touch access writes phase round element newest → copies_round (loops_in rounds round) ≤ most_copies
-copies_at rounds es i d few inside access writes phase round element newest is = few i access writes phase round element newest (event_found es i d _ inside is)
-
--- One event more, arm by arm.
-
-module _ (p : Program) (rounds : List (Vec Counter Global)) (es : List Event) (i : ℕ) (d : Event) (before new whole : List Move) (inside : i < length es) (so_far : before ++ moves_from p (loops_in rounds) i (all_seen (drop i es)) ≡ whole) (within : AllByRecursion (IsMoveOf (length es)) before) where
-  abbrev pub Turned : Type 0
-  Turned = (new ++ moves_from p (loops_in rounds) (i + 1) (all_seen (drop (i + 1) es)) ≡ whole) × AllByRecursion (IsMoveOf (length es)) new
-
-  turned : (e : Event) → get_or es i d ≡ e → new ≡ before ++ moves_of p (loops_in rounds) i e → Turned
-  turned e is more = (moves_turn p (loops_in rounds) es i e before new whole inside (same_item es i d e inside is) so_far more, within_turn p (loops_in rounds) (length es) i e before new inside within more)
-
-  pub touch_turn : (access : _) (writes : Bool) (phase : ℕ) (round : Option ℕ) (element : Option ℕ) (newest : ℕ) → get_or es i d ≡ event.Touch access writes phase round element newest → new ≡ before ++ claims_of p i (source_of (loops_in rounds round) writes access.now) → Turned
-  touch_turn access writes phase round element newest is so = turned (event.Touch access writes phase round element newest) is so
-
-  pub begin_turn : get_or es i d ≡ event.Begins → new ≡ before ++ move.Begin ∷ [] → Turned
-  begin_turn is so = turned event.Begins is so
-
-  pub next_turn : get_or es i d ≡ event.Next → new ≡ before ++ move.Next ∷ [] → Turned
-  next_turn is so = turned event.Next is so
-
-  pub end_turn : get_or es i d ≡ event.Ends → new ≡ before ++ move.End ∷ [] → Turned
-  end_turn is so = turned event.Ends is so
-
-  nothing_turn : (e : Event) → get_or es i d ≡ e → moves_of p (loops_in rounds) i e ≡ [] → new ≡ before → Turned
-  nothing_turn e is none so = turned e is (so ∙ (sym (append-nil before) ∙ ap (λ l. before ++ l) (sym none)))
-
-  -- what does nothing to banks
-  pub other_turn : ((entity : Option ℕ) × (get_or es i d ≡ event.Assigned entity)) ⊎ ((get_or es i d ≡ event.ArmBegins) ⊎ (get_or es i d ≡ event.ArmEnds)) → new ≡ before → Turned
-  other_turn (inl (entity, is)) so = nothing_turn (event.Assigned entity) is refl so
-  other_turn (inr (inl is)) so = nothing_turn event.ArmBegins is refl so
-  other_turn (inr (inr is)) so = nothing_turn event.ArmEnds is refl so
+pub few_at : (rounds : List (Vec Counter Global)) (es : List Event) (i : ℕ) (e : Event) → HaveFewCopies rounds es → i < length es → e ≡ get_or es i e → HasFewCopiesAt rounds e
+few_at rounds es i (event.Touch access writes phase round element newest) few inside is = few i access writes phase round element newest (event_found es i _ _ inside (sym is))
+few_at rounds es i (event.Assigned entity) few inside is = tt
+few_at rounds es i event.ArmBegins few inside is = tt
+few_at rounds es i event.ArmEnds few inside is = tt
+few_at rounds es i event.Begins few inside is = tt
+few_at rounds es i event.Next few inside is = tt
+few_at rounds es i event.Ends few inside is = tt
 
 -- Behind the last event.
 

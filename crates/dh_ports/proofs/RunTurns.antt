@@ -202,15 +202,18 @@ module _ (whole : List Incident) (shared : List Bool) where
   spent_start starts levels ms e = ap (λ ls. first_beyond whole ms (map (spending_step shared) ms) ls) (lefts_same (λ s. level_at levels s) (λ s. start (slice_index starts s)) e (map (spending_step shared) ms))
 
   -- one run more
-  pub spent_run : (rs : List Run) (i : ℕ) (d : Run) (old new : Levels) (place : Option Place) → i < length rs → beyond_from whole shared old (moves_in (drop i rs)) ≡ place → ((rest : List Move) → beyond_from whole shared new rest ≡ beyond_from whole shared old (moves_of_run (get_or rs i d) ++ rest))
-      → beyond_from whole shared new (moves_in (drop (i + 1) rs)) ≡ place
-  spent_run rs i d old new place inside so turns = turns (moves_in (drop (i + 1) rs)) ∙ (ap (beyond_from whole shared old) (sym (runs_at rs i d inside)) ∙ so)
+  spent_join : (rs : List Run) (i : ℕ) (d : Run) (old : Levels) → i < length rs → (rest : List Move) → beyond_from whole shared old (moves_of_run (get_or rs i d) ++ (moves_in (drop (i + 1) rs) ++ rest)) ≡ beyond_from whole shared old (moves_in (drop i rs) ++ rest)
+  spent_join rs i d old inside rest = ap (beyond_from whole shared old) (sym (append_assoc (moves_of_run (get_or rs i d)) (moves_in (drop (i + 1) rs)) rest) ∙ ap (λ l. l ++ rest) (sym (runs_at rs i d inside)))
 
-  pub spent_ends : (rs : List Run) (i : ℕ) (d : Run) (old : Levels) (place found : Option Place) → i < length rs → beyond_from whole shared old (moves_in (drop i rs)) ≡ place → ((rest : List Move) → found ≡ beyond_from whole shared old (moves_of_run (get_or rs i d) ++ rest)) → found ≡ place
-  spent_ends rs i d old place found inside so stops = stops (moves_in (drop (i + 1) rs)) ∙ (ap (beyond_from whole shared old) (sym (runs_at rs i d inside)) ∙ so)
+  module _ (rs : List Run) (i : ℕ) (d : Run) (first old : Levels) (ms : List Move) (inside : i < length rs) (so : (rest : List Move) → beyond_from whole shared old (moves_in (drop i rs) ++ rest) ≡ beyond_from whole shared first (ms ++ rest)) where
+    pub spent_run : (new : Levels) → ((rest : List Move) → beyond_from whole shared new rest ≡ beyond_from whole shared old (moves_of_run (get_or rs i d) ++ rest)) → (rest : List Move) → beyond_from whole shared new (moves_in (drop (i + 1) rs) ++ rest) ≡ beyond_from whole shared first (ms ++ rest)
+    spent_run new turns rest = turns (moves_in (drop (i + 1) rs) ++ rest) ∙ (spent_join rs i d old inside rest ∙ so rest)
 
-  pub spent_done : (rs : List Run) (i : ℕ) (levels : Levels) (place : Option Place) → length rs ≤ i → beyond_from whole shared levels (moves_in (drop i rs)) ≡ place → ◌≡◌ {A = Option Place} None place
-  spent_done rs i levels place past so = ap (λ l. beyond_from whole shared levels (moves_in l)) (sym (drop_all i rs past)) ∙ so
+    pub spent_ends : (found : Option Place) → ((rest : List Move) → found ≡ beyond_from whole shared old (moves_of_run (get_or rs i d) ++ rest)) → (rest : List Move) → found ≡ beyond_from whole shared first (ms ++ rest)
+    spent_ends found stops rest = stops (moves_in (drop (i + 1) rs) ++ rest) ∙ (spent_join rs i d old inside rest ∙ so rest)
+
+  pub spent_done : (rs : List Run) (i : ℕ) (first levels : Levels) (ms : List Move) → length rs ≤ i → ((rest : List Move) → beyond_from whole shared levels (moves_in (drop i rs) ++ rest) ≡ beyond_from whole shared first (ms ++ rest)) → (rest : List Move) → beyond_from whole shared levels rest ≡ beyond_from whole shared first (ms ++ rest)
+  spent_done rs i first levels ms past so rest = ap (λ l. beyond_from whole shared levels (moves_in l ++ rest)) (sym (drop_all i rs past)) ∙ so rest
 
 -- Order.
 

@@ -3,7 +3,7 @@ use Rattle.std.proofs.Common.{◌≡◌, ℕ, ◌+◌, ◌<◌, ◌≤◌, nat_l
 use Rattle.std.specs.Prelude.{Option, Some, None, slice_get, slice_index}
 use Rattle.std.proofs.lemmas.Bool.{cases_Bool}
 use Rattle.std.proofs.lemmas.Bool.Decides.{nat_tests}
-use Rattle.std.proofs.lemmas.List.{append-nil, get_or-replicate, length-append, take_all, take_more}
+use Rattle.std.proofs.lemmas.List.{append-nil, get_or-replicate, length-append, length-take-le, take_all, take_more}
 use Rattle.std.proofs.lemmas.Option.{slice_get-get_or, slice_get_within}
 use Rattle.dh_events.specs.declared.classes.Key.{Key}
 use Rattle.dh_events.specs.declared.events.Event.{Event}
@@ -18,9 +18,6 @@ use Rattle.dh_ports.specs.SharedSoFar.{AreShared, BeginsShared, IsShared, NotesS
 use Rattle.dh_ports.specs.Scanned.{all_share, read_key, shares, AreSharing, FindsShared, IsSharing, TakesOf}
 use Rattle.dh_ports.proofs.LeftTurns.{lefts_same}
 use Rattle.dh_ports.proofs.ScanTurns.{shares_long, sharing_long, sharing_turn}
-use Rattle.dh_ports.proofs.UnreadPhases.{read_done, read_first, read_turn}
-use Rattle.dh_ports.proofs.UnwrittenEvents.{both, unwritten_done, unwritten_turn}
-use Rattle.dh_ports.specs.Orders.{is_write}
 
 absurd : {A : Type 0} → ⊥ → A
 absurd e = elim e [ ]
@@ -171,26 +168,26 @@ module _ (known : List Key) (events : List Event) (i : ℕ) (levels : Levels) (f
   share_all : length flags ≡ length events
   share_all = ap (λ (l : List Bool). length l) all_told ∙ (shares_long (replicate (length events) 1) so.steps ∙ sharing_long known events so.steps all_sharing)
 
+-- of each event so far there is a flag
+pub flags_long : (known : List Key) (events : List Event) (i : ℕ) (levels : Levels) (flags : List Bool) → i ≤ length events → SharesSoFar (length events) known (take i events) levels flags → length flags ≡ i
+flags_long known events i levels flags inside so =
+    ap (λ (l : List Bool). length l) (sym (append-nil flags) ∙ (so.told [] ∙ ap (λ l. all_share l (lefts_from (replicate (length events) 1) l)) (append-nil so.steps)))
+    ∙ (shares_long (replicate (length events) 1) so.steps ∙ (sharing_long known (take i events) so.steps so.sharing ∙ length-take-le i events inside))
+
 -- All that is noted on the way.
 
 pub share_begins : (count : ℕ) (starts : List ℕ) (s : Sharing) → starts ≡ replicate count 1 → s.classes ≡ [] → IsKept s.levels → ((k : ℕ) → level_at s.levels k ≡ start (slice_index starts k)) → s.flags.items ≡ [] → BeginsShared count s
 share_begins count starts s ones none kept begins empty = λ events long. record {
   shares = subst (λ (n : ℕ). SharesSoFar n s.classes [] s.levels s.flags.items) (sym long) (share_none count starts s.classes s.levels s.flags.items ones none kept begins empty);
-  read = read_first events s.read.items;
-  unwritten = λ _. refl;
 }
 
 pub share_turn : (events : List Event) (i : ℕ) (d : Event) (old new : Sharing) → i < length events → d ≡ get_or events i d → NotesShare old new d → IsShared events i old → IsShared events (i + 1) new
 share_turn events i d old new inside is notes so = record {
   shares = share_next (length events) old.classes new.classes events i d old.levels new.levels old.flags.items new.flags.items notes.flag inside is so.shares notes.next notes.more;
-  read = read_turn events i d old.read.items new.read.items inside is notes.read so.read;
-  unwritten = λ e. let parts = both (is_write d) old.unwritten (sym notes.unwritten ∙ e) in unwritten_turn events i d (is_write d) inside is (so.unwritten parts.1) refl parts.0;
 }
 
 pub share_ends : (events : List Event) (i : ℕ) (s : Sharing) → length events ≤ i → IsShared events i s → AreShared events s
 share_ends events i s past so = record {
   found = share_done s.classes events i s.levels s.flags.items past so.shares;
   long = share_all s.classes events i s.levels s.flags.items past so.shares;
-  read = read_done events i s.read.items past so.read;
-  unwritten = λ e. unwritten_done events i past (so.unwritten e);
 }

@@ -8,6 +8,7 @@ pub mod Banks
 pub mod Copies
 pub mod Carriers
 pub mod CarriersMade
+pub mod Tallies
 pub mod Layouts
 pub mod Scanned
 pub mod Orders
@@ -17,3 +18,6 @@ pub mod Spent
 pub mod WritesFound
 pub mod Wholes
 pub mod SharedSoFar
+pub mod Ahead
+pub mod EventMoves
+pub mod Walks

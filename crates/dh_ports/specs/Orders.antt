@@ -83,19 +83,3 @@ MarksRead old new event.ArmEnds = numbered new ≡ numbered old
 MarksRead old new event.Begins = numbered new ≡ numbered old
 MarksRead old new event.Next = numbered new ≡ numbered old
 MarksRead old new event.Ends = numbered new ≡ numbered old
-
--- Programs in which nothing is written.
-
-abbrev pub is_write : Event → Bool
-is_write (event.Touch access writes phase round element newest) = writes
-is_write (event.Assigned entity) = false
-is_write event.ArmBegins = false
-is_write event.ArmEnds = false
-is_write event.Begins = false
-is_write event.Next = false
-is_write event.Ends = false
-
--- none of these events is a write
-abbrev pub is_unwritten : List Event → Bool
-is_unwritten [] = true
-is_unwritten (e ∷ es) = if is_write e then false else is_unwritten es

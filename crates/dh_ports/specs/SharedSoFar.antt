@@ -1,5 +1,5 @@
--- Which of the events so far share, and what else is noted of them on the way.
-use Rattle.std.specs.Prelude.{◌≡◌, ℕ, ◌+◌, ◌≤◌, Bool, true, false, if◌then◌else◌, List, [], ◌∷◌, ◌++◌, drop, length, replicate, take}
+-- Which of the events so far share.
+use Rattle.std.specs.Prelude.{◌≡◌, ℕ, ◌+◌, ◌≤◌, Bool, List, [], ◌∷◌, ◌++◌, length, replicate, take}
 use Rattle.dh_events.specs.declared.classes.Key.{Key}
 use Rattle.dh_events.specs.declared.events.Event.{Event}
 use Rattle.dh_events.specs.Classes.{AreDistinct, Extends}
@@ -7,7 +7,6 @@ use Rattle.dh_ports.specs.declared.levels.Levels.{Levels}
 use Rattle.dh_ports.specs.declared.levels.Step.{Step}
 use Rattle.dh_ports.specs.declared.sharing.Sharing.{Sharing}
 use Rattle.dh_ports.specs.Levels.{advance, left_before, level_at, lefts_from, lefts_of, IsKept, Turns}
-use Rattle.dh_ports.specs.Orders.{is_unwritten, is_write, AreRead, MarksRead, ReadSoFar}
 use Rattle.dh_ports.specs.Scanned.{all_share, shares, AreSharing, FindsShared, IsSharing}
 
 -- whether an event shares, as its step looks at what is left before it is taken
@@ -34,14 +33,10 @@ pub record NotesShare (old new : Sharing) (e : Event) : Type 0 where
   pub flag : Bool
   pub next : SharesNext old.classes new.classes old.levels new.levels e flag
   pub more : new.flags.items ≡ old.flags.items ++ flag ∷ []
-  pub read : MarksRead old.read.items new.read.items e
-  pub unwritten : new.unwritten ≡ (if is_write e then false else old.unwritten)
 
 -- so much is noted of so many of these events
 pub record IsShared (events : List Event) (i : ℕ) (s : Sharing) : Type 0 where
   pub shares : SharesSoFar (length events) s.classes (take i events) s.levels s.flags.items
-  pub read : ReadSoFar events (drop i events) s.read.items
-  pub unwritten : s.unwritten ≡ true → is_unwritten (drop i events) ≡ is_unwritten events
 
 -- where nothing is noted yet, of so many events
 abbrev pub BeginsShared : (count : ℕ) → Sharing → Type 0
@@ -51,5 +46,3 @@ BeginsShared count s = (events : List Event) → length events ≡ count → IsS
 pub record AreShared (events : List Event) (s : Sharing) : Type 0 where
   pub found : AreDistinct s.classes → FindsShared events s.flags.items
   pub long : length s.flags.items ≡ length events
-  pub read : AreRead events s.read.items
-  pub unwritten : s.unwritten ≡ true → true ≡ is_unwritten events

@@ -146,6 +146,17 @@ pub fn carrier_first(alloc: Global, view: &ViewMap) -> Result<Carrier, NoMemory>
         (each_below itself (banks_of view.now.parent.dims)) carrier) }
 {
     let count = bank_count(view.parent.dims.as_slice());
+    let shifted = is_shift(view);
+    if shifted {
+        let dims = view.shape.dims.as_slice();
+        let banks = bank_count(dims);
+        let none = no_counts(alloc, count)?;
+        return Ok(Carrier {
+            banks,
+            evenly: true,
+            sources: none,
+        });
+    }
     let banks = own_banks(alloc, count)?;
     let carrier = carrier_on(alloc, view, false, banks.as_slice())?;
     Ok(carrier)

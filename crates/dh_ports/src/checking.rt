@@ -1,20 +1,31 @@
 //! The check of the rules on ports.
 
-ghost use Rattle.std.specs.Prelude.{◌≡◌, IfOk};
+ghost use Rattle.std.specs.Prelude.{◌≡◌, length, IfOk, OnOk};
+ghost use Rattle.std.specs.List.{AllByRecursion};
+ghost use Rattle.dh_tree.specs.Memories.{memories_of, table_of};
 ghost use Rattle.dh_tree.specs.Seen.{program_seen};
+ghost use Rattle.dh_tree.specs.Shapes.{IsProgramTable};
+ghost use Rattle.dh_meaning.specs.Ways.{ways_of};
+ghost use Rattle.dh_ways.specs.Leading.{LeadsTo};
 ghost use Rattle.dh_events.specs.Noted.{all_seen};
+ghost use Rattle.dh_ports.specs.Ahead.{IsAhead};
+ghost use Rattle.dh_ports.specs.EventMoves.{moves_known};
+ghost use Rattle.dh_ports.specs.Layouts.{HaveFewCopies, IsLayout};
 ghost use Rattle.dh_ports.specs.Scanned as scanned;
+ghost use Rattle.dh_ports.specs.Scanned.{IsMoveOf};
 ghost use Rattle.dh_ports.specs.Told.{IsToldBefore, JudgesPorts, TellsFirst, TellsPorts};
 ghost use Rattle.dh_ports.specs.Wholes.{happenings_of, AreEventsOf};
 
 use crate::accepted::Accepted;
+use crate::lasts::LastWrites;
 use crate::laws::{
     incidents_tell_sites, late_reads_are_told, shared_reads_are_found, spent_ports_are_told,
 };
-use crate::moves::{all_moves, layout_of};
+use crate::moves::{Layout, all_moves, layout_of};
 use crate::ordering::keep_late;
 use crate::sharing::Sharing;
-use crate::spending::first_spent;
+use crate::spending::place_walked;
+use crate::walking::walk;
 use dh_base::{NoMemory, PassFault, Place, Rule};
 use dh_events::{Event, Notes, note_body, note_stages};
 use dh_tree::{Breach, Typed};
@@ -33,6 +44,36 @@ fn spent_at(place: Option<Place>) -> Option<Breach>
     }
 }
 
+/// Keeps the least of the breaches of reads that come behind a write of their bank in their phase.
+fn keep_behind(
+    alloc: Global,
+    typed: &Typed,
+    layout: &Layout,
+    kept: &mut Option<Breach>,
+    events: &[Event<'_>],
+    lasts: &LastWrites,
+) -> Result<(), NoMemory>
+    requires table { IsProgramTable (table_of (program_seen typed.now)) }
+    requires layout { IsLayout (program_seen typed.now) layout.now }
+    requires leads { AllByRecursion (λ l. LeadsTo (memories_of (program_seen typed.now)) l.way)
+        (ways_of (program_seen typed.now)) }
+    requires copies { HaveFewCopies layout.now.rounds.items events.now }
+    requires within { AllByRecursion (IsMoveOf (length events.now))
+        (moves_known (program_seen typed.now) layout.now events.now) }
+    requires ahead { IsAhead events.now (moves_known (program_seen typed.now) layout.now events.now)
+        lasts.now }
+    ensures { OnOk result (scanned.KeepsLate events.now (moves_known (program_seen typed.now)
+        layout.now events.now) kept.old kept.new) }
+{
+    // in most programs each read stands ahead of the writes of its bank in its phase
+    let ahead = lasts.ahead;
+    if ahead {
+        return Ok(());
+    }
+    let moves = all_moves(alloc, typed, layout, events)?;
+    keep_late(alloc, kept, events, moves.as_slice())
+}
+
 /// The first breach of the rules on ports, if there is one, by what happens in a program's body.
 fn first_among(
     alloc: Global,
@@ -49,12 +90,11 @@ fn first_among(
     spent_ports_are_told();
     late_reads_are_told();
     let mut sharing = Sharing::new(alloc, events.len())?;
+    let mut lasts = LastWrites::new(alloc);
     let layout = layout_of(alloc, typed)?;
-    let moves = all_moves(alloc, typed, &layout, &mut sharing, events)?;
-    let shared = sharing.flags();
-    let spent = first_spent(alloc, typed, events, shared, moves.as_slice())?;
-    let mut kept = spent_at(spent);
-    keep_late(alloc, &mut kept, events, &sharing, moves.as_slice())?;
+    let walked = walk(alloc, typed, &layout, &mut sharing, &mut lasts, events)?;
+    let mut kept = spent_at(place_walked(walked));
+    keep_behind(alloc, typed, &layout, &mut kept, events, &lasts)?;
     Ok(kept)
 }
 

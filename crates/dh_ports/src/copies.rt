@@ -15,7 +15,7 @@ use dh_tree::{Counter, Dim, Expr, ExprForm, Typed};
 use std::alloc::Global;
 
 /// A loop as the number of a path tells its copy: `number / stride % factor`.
-#[derive(Clone, Copy)]
+#[derive(Clone, Copy, PartialEq, Eq)]
 pub struct Level {
     /// The copies of the loop.
     factor: u64,
@@ -26,7 +26,7 @@ pub struct Level {
 }
 
 /// A dimension of more than one bank, as the number of a path tells its bank.
-#[derive(Clone, Copy)]
+#[derive(Clone, Copy, PartialEq, Eq)]
 pub struct Lane {
     /// The banks of the dimension.
     banks: u64,

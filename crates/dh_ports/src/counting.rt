@@ -9,10 +9,12 @@ ghost use Rattle.dh_meaning.specs.Ways.{all_bindings_of};
 ghost use Rattle.dh_ports.specs.Banks.{each_below};
 ghost use Rattle.dh_ports.specs.Claims.{keys_on, source_of};
 ghost use Rattle.dh_ports.specs.Copies.{copies_round, AreCounts, IsCounted, IsMarked, IsPast, IsUnseen, Sees, TellsPaths};
+ghost use Rattle.dh_ports.specs.Tallies.{IsReady};
 ghost use Rattle.dh_events.specs.Scopes.{AreScopes};
 ghost use Rattle.dh_meets.specs.FewCopies.{most_copies};
 
 use crate::copies::{Copied, Reach, bank_at, key_at, reach_in};
+use crate::keeping::Tally;
 use dh_base::NoMemory;
 use dh_events::{Scope, get_at, set_at};
 use dh_tree::Typed;
@@ -154,30 +156,48 @@ pub fn count_paths(
     Ok(())
 }
 
-/// For each of the banks of a memory with how many keys the copies of an access reach it.
+/// Keeps for each of so many banks with how many keys the paths of an access reach it. Where the last access reached
+/// alike, its counts are those.
+fn keep_counts(alloc: Global, tally: &mut Tally, reach: Reach, banks: u64) -> Result<(), NoMemory>
+    requires tells { 1 ≤ reach.paths.count → TellsPaths reach }
+    requires range { reach.paths.count ≤ most_copies }
+    requires few { banks ≤ most_banks }
+    requires past { IsReady tally.old }
+    ensures counts { OnOk result (AreCounts reach 0 reach.paths.count
+        banks tally.new.direct.counts.items) }
+    ensures past { OnOk result (IsReady tally.new) }
+{
+    let many = reach.paths.count;
+    if tally.direct.are_of(&reach, many, banks) {
+        return Ok(());
+    }
+    let mut counts = no_counts(alloc, banks)?;
+    tally.seen.begin();
+    count_paths(&mut tally.seen, &mut counts, banks, &reach, 0, many)?;
+    tally.keep_direct(reach, many, banks, counts);
+    Ok(())
+}
+
+/// Keeps for each of the banks of a memory with how many keys the copies of an access reach it.
 pub fn keys_reaching(
     alloc: Global,
     typed: &Typed,
     scopes: &[Option<Scope>],
-    seen: &mut Seen,
+    tally: &mut Tally,
     copied: Copied<'_>,
-) -> Result<Vec<usize>, NoMemory>
+) -> Result<(), NoMemory>
     requires dims { AllByRecursion IsDim copied.dims.now }
     requires few { banks_of copied.dims.now ≤ most_banks }
     requires banks { copied.banks ≡ banks_of copied.dims.now }
     requires copies { copies_round copied.loops.now ≤ most_copies }
     requires scopes { AreScopes (all_bindings_of (program_seen typed.now)) scopes.now }
-    requires past { IsPast seen.old }
-    ensures counts { IfOk result (λ counts. counts.items ≡ each_below
+    requires past { IsReady tally.old }
+    ensures counts { OnOk result (tally.new.direct.counts.items ≡ each_below
         (keys_on (program_seen typed.now) copied.entry.dims.now
         (source_of copied.entry.loops.now copied.entry.writes copied.entry.access.now))
         copied.entry.banks) }
-    ensures past { OnOk result (IsPast seen.new) }
+    ensures past { OnOk result (IsReady tally.new) }
 {
     let reach = reach_in(alloc, typed, scopes, copied)?;
-    let mut counts = no_counts(alloc, copied.banks)?;
-    seen.begin();
-    let count = reach.paths.count;
-    count_paths(seen, &mut counts, copied.banks, &reach, 0, count)?;
-    Ok(counts)
+    keep_counts(alloc, tally, reach, copied.banks)
 }

@@ -16,10 +16,12 @@ ghost use Rattle.dh_ports.specs.Banks.{each_below};
 ghost use Rattle.dh_ports.specs.Carriers.{carried_to, AddsCarried, AreGroupSums, Carries};
 ghost use Rattle.dh_ports.specs.Claims.{source_of};
 ghost use Rattle.dh_ports.specs.Copies.{copies_round, AreCounts, IsPast, TellsPaths};
+ghost use Rattle.dh_ports.specs.Tallies.{IsReady};
 
 use crate::carrying::{Carrier, carried_at};
 use crate::copies::{Copied, Reach, reach_in, stride_of};
 use crate::counting::{Seen, clear, count_paths, no_counts};
+use crate::keeping::Tally;
 use dh_base::NoMemory;
 use dh_events::Scope;
 use dh_tree::Typed;
@@ -107,38 +109,64 @@ fn carried_sums(
     Ok(sums)
 }
 
-/// For each of the banks of a memory how much the copies of an access through the views on a way charge it.
+/// Keeps for each bank of a memory the sum of what so many groups of so many paths carry there. Where the last access
+/// reached alike, its sums are those.
+fn keep_sums(
+    alloc: Global,
+    tally: &mut Tally,
+    reach: Reach,
+    carrier: &Carrier,
+    stride: u64,
+    groups: u64,
+) -> Result<(), NoMemory>
+    requires tells { TellsPaths reach }
+    requires range { groups * stride ≤ most_copies }
+    requires few { carrier.now.banks ≤ most_banks }
+    requires within { (bank : ℕ) → bank < length carrier.now.sources.items
+        → slice_index carrier.now.sources.items bank < carrier.now.banks }
+    requires past { IsReady tally.old }
+    ensures sums { OnOk result (AreGroupSums reach carrier.now
+        stride groups tally.new.last.sums.items) }
+    ensures past { OnOk result (IsReady tally.new) }
+{
+    if tally.last.are_of(&reach, carrier, stride, groups) {
+        return Ok(());
+    }
+    let sums = carried_sums(alloc, &mut tally.seen, &reach, carrier, stride, groups)?;
+    tally.keep(alloc, reach, carrier, stride, groups, sums)
+}
+
+/// Keeps for each of the banks of a memory how much the copies of an access through the views on a way charge it.
 pub fn keys_through(
     alloc: Global,
     typed: &Typed,
     scopes: &[Option<Scope>],
-    seen: &mut Seen,
+    tally: &mut Tally,
     way: &WayRef<'_>,
     carrier: &Carrier,
     copied: Copied<'_>,
-) -> Result<Vec<usize>, NoMemory>
+) -> Result<(), NoMemory>
     requires dims { AllByRecursion IsDim copied.dims.now }
     requires few { banks_of copied.dims.now ≤ most_banks }
     requires named { copied.dims.now ≡ way.now.view.shape.dims }
     requires copies { copies_round copied.loops.now ≤ most_copies }
     requires scopes { AreScopes (all_bindings_of (program_seen typed.now)) scopes.now }
     requires carries { Carries (way_seen way.now) carrier.now }
-    requires past { IsPast seen.old }
-    ensures counts { IfOk result (λ sums. sums.items ≡ each_below
+    requires past { IsReady tally.old }
+    ensures counts { OnOk result (tally.new.last.sums.items ≡ each_below
         (charge_through (program_seen typed.now) (way_seen way.now)
         (source_of copied.entry.loops.now copied.entry.writes copied.entry.access.now))
         (length carrier.now.sources.items)) }
-    ensures past { OnOk result (IsPast seen.new) }
+    ensures past { OnOk result (IsReady tally.new) }
 {
     let reach = reach_in(alloc, typed, scopes, copied)?;
     let count = reach.paths.count;
     if count == 0 {
         let none = no_counts(alloc, carrier.sources.len() as u64)?;
-        return Ok(none);
+        return tally.keep(alloc, reach, carrier, 0, 0, none);
     }
     let deep = way.shifts();
     let stride = stride_of(reach.paths.levels.as_slice(), deep, count);
     let groups = count / stride;
-    let sums = carried_sums(alloc, seen, &reach, carrier, stride, groups)?;
-    Ok(sums)
+    keep_sums(alloc, tally, reach, carrier, stride, groups)
 }

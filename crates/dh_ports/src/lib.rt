@@ -15,6 +15,8 @@ mod checking;
 mod copies;
 mod counting;
 mod grouping;
+mod keeping;
+mod lasts;
 mod laws;
 mod leading;
 mod levels;
@@ -23,6 +25,7 @@ mod moves;
 mod ordering;
 mod sharing;
 mod spending;
+mod walking;
 
 pub use accepted::Accepted;
 pub use carrying::{Carrier, carries};

@@ -9,30 +9,30 @@ ghost use Rattle.dh_meaning.specs.Ways.{way_to, ways_of};
 ghost use Rattle.dh_ways.specs.CutStands.{HasFewWays};
 ghost use Rattle.dh_ways.specs.Leading.{LeadsTo};
 ghost use Rattle.dh_ways.specs.Seen.{led_seen, way_seen};
+ghost use Rattle.dh_ways.specs.Stands.{hidden_of_program};
 ghost use Rattle.dh_events.specs.Accesses.{entity_in, loops_in};
-ghost use Rattle.dh_events.specs.Noted.{all_seen};
 ghost use Rattle.dh_ports.specs.Banks.{each_below};
 ghost use Rattle.dh_ports.specs.Carriers.{carried_to, one_at, IsCarrier};
-ghost use Rattle.dh_ports.specs.Claims.{claim_in, claims_from, claims_of, moves_from, source_of};
-ghost use Rattle.dh_ports.specs.Copies.{copies_round, IsPast};
+ghost use Rattle.dh_ports.specs.Claims.{claim_in, claims_from, claims_of, source_of};
+ghost use Rattle.dh_ports.specs.Copies.{copies_round};
+ghost use Rattle.dh_ports.specs.EventMoves.{moves_known, moves_of, HasFewCopiesAt};
 ghost use Rattle.dh_ports.specs.Layouts.{AreRoundsOf, AreScopesWhere, HaveFewCopies, IsLayout};
 ghost use Rattle.dh_ports.specs.Runs as definitions;
 ghost use Rattle.dh_ports.specs.Runs.{moves_in, moves_of_run, one_claim, row_to};
-ghost use Rattle.dh_ports.specs.Scanned.{IsMoveOf};
-ghost use Rattle.dh_ports.specs.SharedSoFar.{AreShared, IsShared};
+ghost use Rattle.dh_ports.specs.Tallies.{IsReady};
 ghost use Rattle.dh_meets.specs.FewCopies.{most_copies};
 
 use crate::banks::{bank_bases, bank_count, bank_reached, entity_of, number_of};
 use crate::carrying::{Carrier, carries};
 use crate::copies::Copied;
-use crate::counting::{Seen, keys_reaching};
+use crate::counting::keys_reaching;
 use crate::grouping::keys_through;
+use crate::keeping::Tally;
 use crate::leading::carriers_of;
-use crate::sharing::Sharing;
 use dh_base::NoMemory;
 use dh_events::{Event, Scope, loops_round, note_rounds, scopes_of};
 use dh_tree::{Counter, Dim, Expr, Typed};
-use dh_ways::{WayRef, WayTable, hidden_in, ways_in};
+use dh_ways::{Hidden, WayRef, WayTable, ways_and_hidden};
 use std::alloc::Global;
 
 /// What an event does to banks.
@@ -101,24 +101,24 @@ fn rounds_of_program(alloc: Global, typed: &Typed) -> Result<Vec<Vec<Counter>>, 
     }
 }
 
-/// Where variables are declared, of a program of which these are the views with their ways; none
-/// where no loop is unrolled.
+/// Where variables are declared, of a program of which these are the views with their ways, and the
+/// variables that keep their offsets; none where no loop is unrolled.
 fn scopes_in(
     alloc: Global,
     typed: &Typed,
     rounds: &[Vec<Counter>],
     ways: &WayTable,
+    hidden: &[Hidden],
 ) -> Result<Vec<Option<Scope>>, NoMemory>
     requires ways { map led_seen ways.now ≡ ways_of (program_seen typed.now) }
-    requires few { HasFewWays (program_seen typed.now) }
+    requires hidden { hidden.now ≡ hidden_of_program (program_seen typed.now) }
     ensures { IfOk result (λ scopes. AreScopesWhere (program_seen typed.now) rounds.now
         scopes.items) }
 {
     if rounds.is_empty() {
         return Ok(Vec::new(alloc));
     }
-    let hidden = hidden_in(alloc, typed)?;
-    let scopes = scopes_of(alloc, &typed.tree().body, ways, hidden.as_slice())?;
+    let scopes = scopes_of(alloc, &typed.tree().body, ways, hidden)?;
     Ok(scopes)
 }
 
@@ -132,9 +132,10 @@ pub fn layout_of(alloc: Global, typed: &Typed) -> Result<Layout, NoMemory>
 {
     let bases = bank_bases(alloc, typed.memories().as_slice())?;
     let rounds = rounds_of_program(alloc, typed)?;
-    let ways = ways_in(alloc, typed)?;
+    let (ways, hidden) = ways_and_hidden(alloc, typed)?;
     let carriers = carriers_of(alloc, &ways)?;
-    let scopes = scopes_in(alloc, typed, rounds.as_slice(), &ways)?;
+    let variables = hidden.as_slice();
+    let scopes = scopes_in(alloc, typed, rounds.as_slice(), &ways, variables)?;
     Ok(Layout {
         bases,
         rounds,
@@ -417,7 +418,7 @@ fn claim_memory(
     alloc: Global,
     typed: &Typed,
     layout: &Layout,
-    seen: &mut Seen,
+    tally: &mut Tally,
     moves: &mut Vec<Run>,
     memory: usize,
     claimant: Claimant<'_>,
@@ -427,12 +428,12 @@ fn claim_memory(
     requires copies { copies_round (loops_in layout.now.rounds.items claimant.round) ≤ most_copies }
     requires named { number_in (memories_of (program_seen typed.now))
         (entity_in (form_seen claimant.access.now.form)) ≡ Some memory }
-    requires past { IsPast seen.old }
+    requires past { IsReady tally.old }
     ensures claims { OnOk result (moves_in moves.new.items ≡ moves_in moves.old.items
         ++ claims_of (program_seen typed.now) claimant.entry.event
         (source_of (loops_in layout.now.rounds.items claimant.entry.round) claimant.entry.writes
         claimant.entry.access.now)) }
-    ensures past { OnOk result (IsPast seen.new) }
+    ensures past { OnOk result (IsReady tally.new) }
 {
     let Some(entry) = typed.memories().as_slice().get(memory) else {
         return Ok(());
@@ -453,8 +454,9 @@ fn claim_memory(
         banks,
     };
     let scopes = layout.scopes.as_slice();
-    let counts = keys_reaching(alloc, typed, scopes, seen, copied)?;
-    claim_all(moves, claimant.event, base, counts.as_slice())
+    keys_reaching(alloc, typed, scopes, tally, copied)?;
+    let counts = tally.direct.counts.as_slice();
+    claim_all(moves, claimant.event, base, counts)
 }
 
 /// Adds the claims of an access through the views on a way.
@@ -462,7 +464,7 @@ fn claim_view(
     alloc: Global,
     typed: &Typed,
     layout: &Layout,
-    seen: &mut Seen,
+    tally: &mut Tally,
     moves: &mut Vec<Run>,
     way: &WayRef<'_>,
     carrier: &Carrier,
@@ -475,12 +477,12 @@ fn claim_view(
     requires named { way_to (program_seen typed.now)
         (entity_in (form_seen claimant.access.now.form)) ≡ Some (way_seen way.now) }
     requires carrier { IsCarrier (way_seen way.now) carrier.now }
-    requires past { IsPast seen.old }
+    requires past { IsReady tally.old }
     ensures claims { OnOk result (moves_in moves.new.items ≡ moves_in moves.old.items
         ++ claims_of (program_seen typed.now) claimant.entry.event
         (source_of (loops_in layout.now.rounds.items claimant.entry.round) claimant.entry.writes
         claimant.entry.access.now)) }
-    ensures past { OnOk result (IsPast seen.new) }
+    ensures past { OnOk result (IsReady tally.new) }
 {
     let ends_at = way.memory();
     let Some(memory) = number_of(typed, ends_at) else {
@@ -502,8 +504,8 @@ fn claim_view(
         banks: carrier.banks,
     };
     let scopes = layout.scopes.as_slice();
-    let counts = keys_through(alloc, typed, scopes, seen, way, carrier, copied)?;
-    claim_all(moves, claimant.event, base, counts.as_slice())
+    keys_through(alloc, typed, scopes, tally, way, carrier, copied)?;
+    claim_all(moves, claimant.event, base, tally.last.sums.as_slice())
 }
 
 /// Adds the claims of an access of what is no memory, by its entity.
@@ -511,7 +513,7 @@ fn claim_led(
     alloc: Global,
     typed: &Typed,
     layout: &Layout,
-    seen: &mut Seen,
+    tally: &mut Tally,
     moves: &mut Vec<Run>,
     entity: Option<u32>,
     claimant: Claimant<'_>,
@@ -523,12 +525,12 @@ fn claim_led(
     requires copies { copies_round (loops_in layout.now.rounds.items claimant.round) ≤ most_copies }
     requires entity { entity ≡ entity_in (form_seen claimant.access.now.form) }
     requires other { number_in (memories_of (program_seen typed.now)) entity ≡ None }
-    requires past { IsPast seen.old }
+    requires past { IsReady tally.old }
     ensures claims { OnOk result (moves_in moves.new.items ≡ moves_in moves.old.items
         ++ claims_of (program_seen typed.now) claimant.entry.event
         (source_of (loops_in layout.now.rounds.items claimant.entry.round) claimant.entry.writes
         claimant.entry.access.now)) }
-    ensures past { OnOk result (IsPast seen.new) }
+    ensures past { OnOk result (IsReady tally.new) }
 {
     let Some(place) = layout.ways.place_of(entity) else {
         return Ok(());
@@ -539,7 +541,7 @@ fn claim_led(
         alloc,
         typed,
         layout,
-        seen,
+        tally,
         moves,
         &way,
         &each[place],
@@ -552,7 +554,7 @@ fn claim(
     alloc: Global,
     typed: &Typed,
     layout: &Layout,
-    seen: &mut Seen,
+    tally: &mut Tally,
     moves: &mut Vec<Run>,
     claimant: Claimant<'_>,
 ) -> Result<(), NoMemory>
@@ -561,27 +563,68 @@ fn claim(
     requires leads { AllByRecursion (λ l. LeadsTo (memories_of (program_seen typed.now)) l.way)
         (ways_of (program_seen typed.now)) }
     requires copies { copies_round (loops_in layout.now.rounds.items claimant.round) ≤ most_copies }
-    requires past { IsPast seen.old }
+    requires past { IsReady tally.old }
     ensures claims { OnOk result (moves_in moves.new.items ≡ moves_in moves.old.items
         ++ claims_of (program_seen typed.now) claimant.entry.event
         (source_of (loops_in layout.now.rounds.items claimant.entry.round) claimant.entry.writes
         claimant.entry.access.now)) }
-    ensures past { OnOk result (IsPast seen.new) }
+    ensures past { OnOk result (IsReady tally.new) }
 {
     let entity = entity_of(claimant.access);
     let Some(memory) = number_of(typed, entity) else {
-        return claim_led(alloc, typed, layout, seen, moves, entity, claimant);
+        return claim_led(alloc, typed, layout, tally, moves, entity, claimant);
     };
-    claim_memory(alloc, typed, layout, seen, moves, memory, claimant)
+    claim_memory(alloc, typed, layout, tally, moves, memory, claimant)
 }
 
-/// What events do to the banks of a program, in runs; and which events share is noted in the same walk, since
-/// each look at an access far away costs time.
+/// Adds what an event does to banks.
+#[inline(always)]
+pub fn move_banks(
+    alloc: Global,
+    typed: &Typed,
+    layout: &Layout,
+    tally: &mut Tally,
+    moves: &mut Vec<Run>,
+    place: usize,
+    event: Event<'_>,
+) -> Result<(), NoMemory>
+    requires table { IsProgramTable (table_of (program_seen typed.now)) }
+    requires layout { IsLayout (program_seen typed.now) layout.now }
+    requires leads { AllByRecursion (λ l. LeadsTo (memories_of (program_seen typed.now)) l.way)
+        (ways_of (program_seen typed.now)) }
+    requires copies { HasFewCopiesAt layout.now.rounds.items event }
+    requires past { IsReady tally.old }
+    ensures moves { OnOk result (moves_in moves.new.items ≡ moves_in moves.old.items
+        ++ moves_of (program_seen typed.now) (loops_in layout.now.rounds.items) place event.entry) }
+    ensures past { OnOk result (IsReady tally.new) }
+{
+    match event {
+        Event::Touch {
+            access,
+            writes,
+            round,
+            ..
+        } => {
+            let claimant = Claimant {
+                event: place,
+                access,
+                writes,
+                round,
+            };
+            claim(alloc, typed, layout, tally, moves, claimant)
+        }
+        Event::Begins => push_run(moves, Move::Begin, 1),
+        Event::Next => push_run(moves, Move::Next, 1),
+        Event::Ends => push_run(moves, Move::End, 1),
+        Event::Assigned { .. } | Event::ArmBegins | Event::ArmEnds => Ok(()),
+    }
+}
+
+/// What events do to the banks of a program, in runs.
 pub fn all_moves(
     alloc: Global,
     typed: &Typed,
     layout: &Layout,
-    sharing: &mut Sharing,
     events: &[Event<'_>],
 ) -> Result<Vec<Run>, NoMemory>
     requires table { IsProgramTable (table_of (program_seen typed.now)) }
@@ -589,38 +632,22 @@ pub fn all_moves(
     requires leads { AllByRecursion (λ l. LeadsTo (memories_of (program_seen typed.now)) l.way)
         (ways_of (program_seen typed.now)) }
     requires copies { HaveFewCopies layout.now.rounds.items events.now }
-    requires begins { IsShared events.now 0 sharing.old }
-    ensures moves { IfOk result (λ moves. moves_in moves.items ≡ moves_from
-        (program_seen typed.now) (loops_in layout.now.rounds.items) 0 (all_seen events.now)) }
-    ensures within { IfOk result (λ moves. AllByRecursion (IsMoveOf (length events.now))
-        (moves_in moves.items)) }
-    ensures shared { IfOk result (λ _. AreShared events.now sharing.new) }
+    ensures { IfOk result (λ moves. moves_in moves.items
+        ≡ moves_known (program_seen typed.now) layout.now events.now) }
 {
     // most events come to one run at most
     let mut moves = Vec::with_capacity(alloc, events.len())?;
-    let mut seen = Seen::new(alloc);
+    let mut tally = Tally::new(alloc);
     for event in 0..events.len() {
-        sharing.note(alloc, events[event])?;
-        match events[event] {
-            Event::Touch {
-                access,
-                writes,
-                round,
-                ..
-            } => {
-                let claimant = Claimant {
-                    event,
-                    access,
-                    writes,
-                    round,
-                };
-                claim(alloc, typed, layout, &mut seen, &mut moves, claimant)?
-            }
-            Event::Begins => push_run(&mut moves, Move::Begin, 1)?,
-            Event::Next => push_run(&mut moves, Move::Next, 1)?,
-            Event::Ends => push_run(&mut moves, Move::End, 1)?,
-            Event::Assigned { .. } | Event::ArmBegins | Event::ArmEnds => {}
-        }
+        move_banks(
+            alloc,
+            typed,
+            layout,
+            &mut tally,
+            &mut moves,
+            event,
+            events[event],
+        )?;
     }
     Ok(moves)
 }

@@ -10,12 +10,11 @@ ghost use Rattle.dh_ports.specs.Orders.{AreMarked, AreRead, MarksRead};
 ghost use Rattle.dh_ports.specs.Passing.{all_from, KeepsTo};
 ghost use Rattle.dh_ports.specs.Runs.{moves_in, moves_of_run};
 ghost use Rattle.dh_ports.specs.Scanned as scanned;
-ghost use Rattle.dh_ports.specs.SharedSoFar.{AreShared};
 ghost use Rattle.dh_ports.specs.Scanned.{IsMoveOf, KeepsLate};
 
 use crate::levels::{Levels, Step};
 use crate::moves::{Move, Run, at_slot, slot_of};
-use crate::sharing::{Sharing, ones};
+use crate::sharing::ones;
 use crate::spending::place_in;
 use dh_base::{NoMemory, Place, Rule};
 use dh_events::{Classes, Event, Key, get_at, set_at};
@@ -78,7 +77,7 @@ fn note_write(
 }
 
 /// Marks the phase of a read.
-pub fn mark_read(read: &mut Vec<usize>, event: Event<'_>) -> Result<(), NoMemory>
+fn mark_read(read: &mut Vec<usize>, event: Event<'_>) -> Result<(), NoMemory>
     ensures { OnOk result (MarksRead read.old.items read.new.items event.entry) }
 {
     match event {
@@ -97,19 +96,15 @@ pub fn mark_read(read: &mut Vec<usize>, event: Event<'_>) -> Result<(), NoMemory
     }
 }
 
-/// Whether an event is a write.
-pub fn is_write(event: Event<'_>) -> bool
-    ensures { result ≡ orders.is_write event.entry }
+/// By phase 1 where a read stands in it.
+fn read_phases(alloc: Global, events: &[Event<'_>]) -> Result<Vec<usize>, NoMemory>
+    ensures { IfOk result (λ read. AreRead events.now read.items) }
 {
-    match event {
-        Event::Touch { writes, .. } => writes,
-        Event::Assigned { .. }
-        | Event::ArmBegins
-        | Event::ArmEnds
-        | Event::Begins
-        | Event::Next
-        | Event::Ends => false,
+    let mut read = Vec::new(alloc);
+    for event in 0..events.len() {
+        mark_read(&mut read, events[event])?;
     }
+    Ok(read)
 }
 
 /// Numbers the keys of the claims of a run, where they are of a write in a phase in which something is read.
@@ -320,26 +315,19 @@ fn keep_all(
 }
 
 /// Keeps the least of the breaches of reads that come behind a write of a bank that they reach, in their
-/// phase, where the two may meet. The phases of reads are noted.
+/// phase, where the two may meet.
 pub fn keep_late(
     alloc: Global,
     kept: &mut Option<Breach>,
     events: &[Event<'_>],
-    sharing: &Sharing,
     moves: &[Run],
 ) -> Result<(), NoMemory>
-    requires shared { AreShared events.now sharing.now }
     requires within { AllByRecursion (IsMoveOf (length events.now)) (moves_in moves.now) }
     ensures { OnOk result (KeepsLate events.now (moves_in moves.now) kept.old kept.new) }
 {
-    // where nothing is written, no move has to be looked at
-    let unwritten = sharing.unwritten;
-    if unwritten {
-        return Ok(());
-    }
+    let read = read_phases(alloc, events)?;
     let mut marked = Vec::new(alloc);
-    let read = sharing.read.as_slice();
-    let classes = written_banks(alloc, &mut marked, read, events, moves)?;
+    let classes = written_banks(alloc, &mut marked, read.as_slice(), events, moves)?;
     let free = ones(alloc, classes.len())?;
     let phases = marked.as_slice();
     keep_all(alloc, kept, events, &classes, phases, free, moves)

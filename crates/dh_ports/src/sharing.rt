@@ -1,16 +1,14 @@
 //! Which reads share an earlier one.
 
-ghost use Rattle.std.specs.Prelude.{◌≡◌, ◌≤◌, ◌+◌, false, if◌then◌else◌, IfOk, length, replicate};
-ghost use Rattle.dh_events.specs.Classes.{AreDistinct, Extends};
+ghost use Rattle.std.specs.Prelude.{◌≡◌, ◌≤◌, ◌+◌, IfOk, length, replicate};
+ghost use Rattle.dh_events.specs.Classes.{Extends};
 ghost use Rattle.dh_ports.specs.Levels.{IsKept};
-ghost use Rattle.dh_ports.specs.Orders as orders;
 ghost use Rattle.dh_ports.specs.SharedSoFar.{BeginsShared, NotesShare, SharesNext};
 ghost use Rattle.dh_ports.specs.Scanned as scanned;
 ghost use Rattle.dh_ports.specs.Scanned.{IsSharing};
 
 use crate::banks::entity_of;
 use crate::levels::{Levels, Step};
-use crate::ordering::{is_write, mark_read};
 use dh_base::NoMemory;
 use dh_events::{Classes, Event, Key};
 use std::alloc::Global;
@@ -123,13 +121,6 @@ fn share_event(
     Ok(flag)
 }
 
-/// Whether there is no write yet, behind an event.
-fn stays_unwritten(unwritten: bool, event: Event<'_>) -> bool
-    ensures { result ≡ (if orders.is_write event.entry then false else unwritten) }
-{
-    if is_write(event) { false } else { unwritten }
-}
-
 /// What is noted of events on the way over them.
 #[derive(Drop)]
 pub struct Sharing {
@@ -140,10 +131,6 @@ pub struct Sharing {
     /// For each event whether it is a read that shares an earlier one: a read before it with its key took
     /// what was left, and was not in an arm that ended.
     pub flags: Vec<bool>,
-    /// By phase 1 where a read stands in it.
-    pub read: Vec<usize>,
-    /// Whether there is no write.
-    pub unwritten: bool,
 }
 
 impl Sharing {
@@ -157,8 +144,6 @@ impl Sharing {
             classes: Classes::new(alloc),
             levels: Levels::new(alloc, ones),
             flags: Vec::new(alloc),
-            read: Vec::new(alloc),
-            unwritten: true,
         })
     }
 
@@ -169,17 +154,6 @@ impl Sharing {
     {
         let flag = share_event(alloc, &mut self.classes, &mut self.levels, event)?;
         self.flags.push(flag)?;
-        mark_read(&mut self.read, event)?;
-        self.unwritten = stays_unwritten(self.unwritten, event);
         Ok(())
-    }
-
-    /// Which events share.
-    pub fn flags(&self) -> &[bool]
-        ensures same { result.now ≡ self.now.flags.items }
-        ensures distinct { AreDistinct self.now.classes }
-    {
-        let _ = self.classes.len();
-        self.flags.as_slice()
     }
 }

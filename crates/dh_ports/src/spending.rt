@@ -1,23 +1,20 @@
 //! Which accesses take ports of a bank of which too few are left.
 
-ghost use Rattle.std.specs.Prelude.{◌≡◌, IfOk, length};
+ghost use Rattle.std.specs.Prelude.{◌≡◌, ◌≤◌, ◌++◌, Bool, List, IfOk, length};
 ghost use Rattle.std.specs.List.{AllByRecursion};
-ghost use Rattle.dh_tree.specs.Memories.{table_of};
-ghost use Rattle.dh_tree.specs.Seen.{program_seen};
-ghost use Rattle.dh_tree.specs.Shapes.{IsProgramTable};
 ghost use Rattle.dh_events.specs.Noted.{all_seen, event_seen};
 ghost use Rattle.dh_ports.specs.Levels.{IsKept};
-ghost use Rattle.dh_ports.specs.Passing.{first_from, ComesTo};
+ghost use Rattle.dh_ports.specs.Passing.{ComesTo};
 ghost use Rattle.dh_ports.specs.Runs.{moves_in, moves_of_run};
 ghost use Rattle.dh_ports.specs.Scanned as scanned;
-ghost use Rattle.dh_ports.specs.Scanned.{spent_place, IsMoveOf};
+ghost use Rattle.dh_ports.specs.Scanned.{IsMoveOf};
+ghost use Rattle.dh_ports.specs.Walks as walks;
+ghost use Rattle.dh_ports.specs.Walks.{KeptWhile, SpendsTo};
 
-use crate::banks::bank_ports;
 use crate::levels::{Levels, Step};
 use crate::moves::{Move, Run, at_slot, slot_of};
 use dh_base::{NoMemory, Place};
 use dh_events::Event;
-use dh_tree::Typed;
 use std::alloc::Global;
 
 /// The step that a move is: an access takes a port for each of its keys, and none where it shares.
@@ -81,7 +78,17 @@ pub enum Walked {
     Beyond(Option<Place>),
 }
 
-/// What the moves of a run come to, from what is left.
+/// The place of the first move that takes more than is left, if there is one.
+pub fn place_walked(walked: Walked) -> Option<Place>
+    ensures { result ≡ walks.place_walked walked }
+{
+    match walked {
+        Walked::Past => None,
+        Walked::Beyond(place) => place,
+    }
+}
+
+/// What the moves of a run come to, from what is left. Of their events and those before it is known whether they share.
 fn spend_run(
     alloc: Global,
     events: &[Event<'_>],
@@ -89,11 +96,11 @@ fn spend_run(
     levels: &mut Levels,
     run: Run,
 ) -> Result<Walked, NoMemory>
-    requires long { length shared.now ≡ length events.now }
-    requires within { AllByRecursion (IsMoveOf (length events.now)) (moves_of_run run) }
+    requires few { length shared.now ≤ length events.now }
+    requires within { AllByRecursion (IsMoveOf (length shared.now)) (moves_of_run run) }
     requires kept { IsKept levels.old }
-    ensures { IfOk result (λ walked. ComesTo (all_seen events.now) shared.now levels.old
-        (moves_of_run run) levels.new walked) }
+    ensures { IfOk result (λ walked. (more : List Bool) → ComesTo (all_seen events.now)
+        (shared.now ++ more) levels.old (moves_of_run run) levels.new walked) }
 {
     let from = slot_of(run.first);
     for slot in from..run.end {
@@ -107,44 +114,47 @@ fn spend_run(
     Ok(Walked::Past)
 }
 
-/// The place of the first move that takes more than is left, from so much of each slot on.
+/// What the moves of runs come to, from what is left.
 fn spend_all(
     alloc: Global,
     events: &[Event<'_>],
     shared: &[bool],
-    starts: Vec<usize>,
+    levels: &mut Levels,
     moves: &[Run],
-) -> Result<Option<Place>, NoMemory>
-    requires long { length shared.now ≡ length events.now }
-    requires within { AllByRecursion (IsMoveOf (length events.now)) (moves_in moves.now) }
-    ensures { IfOk result (λ place. place ≡ first_from (all_seen events.now) shared.now
-        starts.items (moves_in moves.now)) }
+) -> Result<Walked, NoMemory>
+    requires few { length shared.now ≤ length events.now }
+    requires within { AllByRecursion (IsMoveOf (length shared.now)) (moves_in moves.now) }
+    requires kept { IsKept levels.old }
+    ensures { IfOk result (λ walked. (more : List Bool) → ComesTo (all_seen events.now)
+        (shared.now ++ more) levels.old (moves_in moves.now) levels.new walked) }
 {
-    let mut levels = Levels::new(alloc, starts);
     for run in moves {
-        let walked = spend_run(alloc, events, shared, &mut levels, *run)?;
+        let walked = spend_run(alloc, events, shared, levels, *run)?;
         match walked {
             Walked::Past => {}
-            Walked::Beyond(place) => return Ok(place),
+            Walked::Beyond(place) => return Ok(Walked::Beyond(place)),
         }
     }
-    Ok(None)
+    Ok(Walked::Past)
 }
 
-/// The place of the first access that takes more ports of a bank than those that it may meet leave.
-pub fn first_spent(
+/// What moves and those of runs behind them come to.
+pub fn spend_behind(
     alloc: Global,
-    typed: &Typed,
     events: &[Event<'_>],
     shared: &[bool],
+    levels: &mut Levels,
+    walked: Walked,
     moves: &[Run],
-) -> Result<Option<Place>, NoMemory>
-    requires table { IsProgramTable (table_of (program_seen typed.now)) }
-    requires long { length shared.now ≡ length events.now }
-    requires within { AllByRecursion (IsMoveOf (length events.now)) (moves_in moves.now) }
-    ensures { IfOk result (λ place. place ≡ spent_place (table_of (program_seen typed.now))
-        events.now shared.now (moves_in moves.now)) }
+) -> Result<Walked, NoMemory>
+    requires few { length shared.now ≤ length events.now }
+    requires within { AllByRecursion (IsMoveOf (length shared.now)) (moves_in moves.now) }
+    requires kept { KeptWhile walked levels.old }
+    ensures { IfOk result (λ after. (more : List Bool) → SpendsTo (all_seen events.now)
+        (shared.now ++ more) walked levels.old (moves_in moves.now) after levels.new) }
 {
-    let ports = bank_ports(alloc, typed.memories().as_slice())?;
-    spend_all(alloc, events, shared, ports, moves)
+    match walked {
+        Walked::Past => spend_all(alloc, events, shared, levels, moves),
+        Walked::Beyond(place) => Ok(Walked::Beyond(place)),
+    }
 }

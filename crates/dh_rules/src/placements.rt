@@ -1,11 +1,16 @@
-//! Where memories are declared, what is assigned to, and what stands in copies.
+//! Where memories are declared, what is assigned to, and what stands in copies; and, in the same walk, what
+//! breaks the rules on shapes.
 
-ghost use Rattle.std.specs.Prelude.{◌≡◌, map, None};
+ghost use Rattle.std.specs.Prelude.{◌≡◌, map, None, IfOk};
+ghost use Rattle.dh_tree.specs.Indices.{index_breaches_of};
 ghost use Rattle.dh_tree.specs.LeastBreach.{least_of};
 ghost use Rattle.dh_tree.specs.Placements as placements;
 ghost use Rattle.dh_tree.specs.Placements.{assigned_breaches, decls_placement_breaches, placement_breaches};
 ghost use Rattle.dh_tree.specs.Seen.{declared_seen, program_seen};
-ghost use Rattle.dh_tree.specs.Told.{TellsLeast};
+ghost use Rattle.dh_tree.specs.Told.{MayTellLeast, TellsLeast};
+ghost use Rattle.dh_tree.specs.ViewBreaches.{shapes_breaches_of};
+ghost use Rattle.dh_views.specs.Walked as walked;
+ghost use Rattle.dh_views.specs.Wanting.{WantsForViews};
 ghost use Rattle.dh_rules.specs.Walked.{command_broken, other_broken, parts_broken, command_steps, other_steps, parts_steps};
 
 use crate::contexts::{Context, branched, in_body, in_combine, nothing_round};
@@ -13,7 +18,9 @@ use crate::keeping::{is_from_outside, keep_if, names_iterator};
 use crate::reducers::{keep_combine, keep_joined, keep_reducer};
 use crate::steps::{behind, beside, choice, of_loop, of_view};
 use dh_base::{PassFault, Rule};
-use dh_tree::{Breach, Command, CommandForm, Decl, Entity, Kind, Ref, Shape, Tree, Typed};
+use dh_tree::{Breach, Command, CommandForm, Decl, Entity, Kind, Ref, Shape, Typed};
+use dh_views::{keep_decl_shapes, keep_own, keep_views};
+use std::alloc::Global;
 
 /// Whether a shape is that of no memory: its kind is `bool`, or it has no dimension.
 fn is_no_memory(shape: &Shape) -> bool
@@ -34,19 +41,31 @@ fn keep_assigned(entities: &[Entity], first: u32, kept: &mut Option<Breach>, tar
     keep_if(kept, is_broken, Rule::OuterWrite, target.place);
 }
 
-/// The breaches in a command that has this round it; how many phases it has: none, one straight phase, or
-/// others (2).
+/// The entities of a program.
+fn entities_of(typed: &Typed) -> &[Entity]
+    ensures { result.now ≡ typed.now.entities.items }
+{
+    typed.tree().entities.as_slice()
+}
+
+/// The breaches in a command that has this round it, those of the rules on shapes by themselves; how many
+/// phases it has: none, one straight phase, or others (2).
 #[cycle(commands)]
 #[tactic(auto, using(dh_tree::proofs::SeenActions::actions_are, dh_tree::proofs::Leasts::least_append))]
 fn keep_command(
-    entities: &[Entity],
-    context: Context,
-    kept: &mut Option<Breach>,
+    typed: &Typed,
+    context: &Context,
+    shapes: &mut Option<Breach>,
+    places: &mut Option<Breach>,
     command: &Command,
 ) -> u32
-    ensures kept { kept.new ≡ least_of kept.old (command_broken entities.now context command.now) }
+    ensures shapes { shapes.new ≡ least_of shapes.old
+        (walked.command_broken typed.now command.now) }
+    ensures places { places.new ≡ least_of places.old
+        (command_broken typed.now.entities.items context.now command.now) }
     ensures steps { result ≡ command_steps command.now }
 {
+    keep_own(typed, shapes, command);
     match &command.form {
         CommandForm::LetMemory {
             name,
@@ -55,26 +74,28 @@ fn keep_command(
             ..
         } => {
             let is_broken = context.within | is_no_memory(shape) | value.is_some();
-            keep_if(kept, is_broken, Rule::MemoryPlace, name.place);
+            keep_if(places, is_broken, Rule::MemoryPlace, name.place);
             0
         }
         CommandForm::Assign { target, .. } => {
-            keep_assigned(entities, context.first, kept, target);
+            keep_assigned(entities_of(typed), context.first, places, target);
             1
         }
         CommandForm::Reduce { target, value, .. } => {
-            keep_reducer(entities, context.joins, kept, target, value);
+            keep_reducer(entities_of(typed), context.joins, places, target, value);
             1
         }
-        CommandForm::Block { body } => keep_groups(entities, context, kept, body.as_slice()),
+        CommandForm::Block { body } => {
+            keep_groups(typed, context, shapes, places, body.as_slice())
+        }
         CommandForm::If { then, other, .. } => {
-            let inner = branched(context);
-            let chosen = keep_command(entities, inner, kept, then);
-            let others = keep_other(entities, inner, kept, other);
+            let inner = branched(*context);
+            let chosen = keep_command(typed, &inner, shapes, places, then);
+            let others = keep_other(typed, &inner, shapes, places, other);
             let steps = choice(chosen, others);
             // copies may take different arms, and then would not take the same steps
             keep_if(
-                kept,
+                places,
                 context.copied & (steps >= 2),
                 Rule::DivergentSteps,
                 command.place,
@@ -82,8 +103,9 @@ fn keep_command(
             steps
         }
         CommandForm::While { body, .. } => {
-            keep_command(entities, branched(context), kept, body);
-            keep_if(kept, context.copied, Rule::DivergentSteps, command.place);
+            let inside = branched(*context);
+            keep_command(typed, &inside, shapes, places, body);
+            keep_if(places, context.copied, Rule::DivergentSteps, command.place);
             2
         }
         CommandForm::For {
@@ -92,11 +114,11 @@ fn keep_command(
             combine,
         } => {
             let header = header.as_ref();
-            let inner = in_body(context, header.factor, header.iterator.entity);
-            let turn = keep_command(entities, inner, kept, body);
-            let joining = in_combine(context, header.iterator.entity);
-            let folds = keep_other(entities, joining, kept, combine);
-            keep_combine(kept, combine, header.combine_place);
+            let inner = in_body(*context, header.factor, header.iterator.entity);
+            let turn = keep_command(typed, &inner, shapes, places, body);
+            let joining = in_combine(*context, header.iterator.entity);
+            let folds = keep_other(typed, &joining, shapes, places, combine);
+            keep_combine(places, combine, header.combine_place);
             of_loop(header.low, header.high, header.factor, turn, folds)
         }
         CommandForm::Let { .. } => 1,
@@ -109,16 +131,19 @@ fn keep_command(
 /// Those in an arm of a branch or a block that joins copies, where there is one.
 #[cycle(commands)]
 fn keep_other(
-    entities: &[Entity],
-    context: Context,
-    kept: &mut Option<Breach>,
+    typed: &Typed,
+    context: &Context,
+    shapes: &mut Option<Breach>,
+    places: &mut Option<Breach>,
     other: &Option<Box<Command>>,
 ) -> u32
-    ensures kept { kept.new ≡ least_of kept.old (other_broken entities.now context other.now) }
+    ensures shapes { shapes.new ≡ least_of shapes.old (walked.other_broken typed.now other.now) }
+    ensures places { places.new ≡ least_of places.old
+        (other_broken typed.now.entities.items context.now other.now) }
     ensures steps { result ≡ other_steps other.now }
 {
     match other {
-        Some(block) => keep_command(entities, context, kept, block),
+        Some(block) => keep_command(typed, context, shapes, places, block),
         None => 0,
     }
 }
@@ -127,20 +152,23 @@ fn keep_other(
 #[cycle(commands)]
 #[tactic(auto, using(dh_tree::proofs::SeenActions::actions_are, dh_tree::proofs::Leasts::least_append))]
 fn keep_groups(
-    entities: &[Entity],
-    context: Context,
-    kept: &mut Option<Breach>,
+    typed: &Typed,
+    context: &Context,
+    shapes: &mut Option<Breach>,
+    places: &mut Option<Breach>,
     parts: &[Vec<Command>],
 ) -> u32
-    ensures kept { kept.new ≡ least_of kept.old (parts_broken entities.now context parts.now) }
+    ensures shapes { shapes.new ≡ least_of shapes.old (walked.parts_broken typed.now parts.now) }
+    ensures places { places.new ≡ least_of places.old
+        (parts_broken typed.now.entities.items context.now parts.now) }
     ensures steps { result ≡ parts_steps parts.now }
 {
     let mut all: u32 = 0;
     for part in parts {
         let mut most: u32 = 0;
         for command in part {
-            let steps = keep_command(entities, context, kept, command);
-            keep_joined(context.joins, kept, command);
+            let steps = keep_command(typed, context, shapes, places, command);
+            keep_joined(context.joins, places, command);
             most = beside(most, steps);
         }
         all = behind(all, most);
@@ -163,20 +191,29 @@ fn keep_decls(kept: &mut Option<Breach>, decls: &[Decl])
     }
 }
 
-/// The first breach of a program, if there is one.
+/// The first breach of each kind that one walk over the commands finds.
+#[derive(Clone, Copy)]
+struct Firsts {
+    /// Of the rules on shapes, indices and bounds, without those on views.
+    shapes: Option<Breach>,
+    /// Of the rules on where memories stand, what is assigned to, and what stands in copies.
+    places: Option<Breach>,
+}
+
+/// The first breaches of a program, where there are some.
 #[tactic(auto, using(dh_tree::proofs::Leasts::least_append))]
-fn first_breach(tree: &Tree) -> Option<Breach>
-    ensures { result ≡ least_of None (placement_breaches (program_seen tree.now)) }
+fn first_breaches(typed: &Typed) -> Firsts
+    ensures shapes { result.shapes ≡ least_of None (index_breaches_of (program_seen typed.now)) }
+    ensures places { result.places ≡ least_of None (placement_breaches (program_seen typed.now)) }
 {
-    let mut kept = None;
-    keep_decls(&mut kept, tree.decls.as_slice());
-    keep_command(
-        tree.entities.as_slice(),
-        nothing_round(),
-        &mut kept,
-        &tree.body,
-    );
-    kept
+    let tree = typed.tree();
+    let mut shapes = None;
+    let mut places = None;
+    keep_decl_shapes(&mut shapes, tree.decls.as_slice());
+    keep_decls(&mut places, tree.decls.as_slice());
+    let round = nothing_round();
+    keep_command(typed, &round, &mut shapes, &mut places, &tree.body);
+    Firsts { shapes, places }
 }
 
 /// Tells whether the memories of a program are declared where they may be, with shapes that memories
@@ -191,11 +228,38 @@ fn first_breach(tree: &Tree) -> Option<Breach>
 pub fn rules(typed: &Typed) -> Result<(), PassFault>
     ensures { TellsLeast (placement_breaches (program_seen typed.now)) result }
 {
-    match first_breach(typed.tree()) {
+    match first_breaches(typed).places {
         Some(breach) => Err(PassFault::Refused {
             rule: breach.rule,
             place: breach.place,
         }),
         None => Ok(()),
+    }
+}
+
+/// Tells what `shapes` of `dh_views` tells; and, of a program that keeps the rules on shapes, the first
+/// breach of those of `rules`, if there is one. One walk over the commands for both, but for views.
+///
+/// # Errors
+///
+/// As `shapes`: `Refused` with the first breach of the rules on shapes, or `NoMemory`, of a program that
+/// declares a view alone.
+pub fn shapes_and_places(alloc: Global, typed: &Typed) -> Result<Option<Breach>, PassFault>
+    ensures breach { MayTellLeast (shapes_breaches_of (program_seen typed.now)) result }
+    ensures memory { WantsForViews (program_seen typed.now) result }
+    ensures places { IfOk result
+        (λ first. first ≡ least_of None (placement_breaches (program_seen typed.now))) }
+{
+    let firsts = first_breaches(typed);
+    let mut shapes = firsts.shapes;
+    let Ok(()) = keep_views(alloc, typed, &mut shapes) else {
+        return Err(PassFault::NoMemory);
+    };
+    match shapes {
+        Some(breach) => Err(PassFault::Refused {
+            rule: breach.rule,
+            place: breach.place,
+        }),
+        None => Ok(firsts.places),
     }
 }

@@ -15,5 +15,6 @@ pub mod KeptAll
 pub mod NoViews
 pub mod ViewsFound
 pub mod PlacedViews
+pub mod TablesOutlined
 pub mod SmallOffsets
 pub mod PairedFactors

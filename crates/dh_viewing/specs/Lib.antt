@@ -4,4 +4,5 @@ pub mod ReachedBanks
 pub mod Carried
 pub mod Placed
 pub mod Finding
+pub mod Outlined
 pub mod Judged

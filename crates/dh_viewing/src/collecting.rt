@@ -98,7 +98,7 @@ fn shrunk_dim(factors: &[u64], place: usize, dim: &Dim) -> Dim
 }
 
 /// The dimensions of a shrunk view: the same sizes in fewer banks.
-fn shrunk(alloc: Global, factors: &[u64], dims: &[Dim]) -> Result<Items<Dim>, NoMemory>
+pub(crate) fn shrunk(alloc: Global, factors: &[u64], dims: &[Dim]) -> Result<Items<Dim>, NoMemory>
     ensures { IfOk result (λ ds. ds ≡ shrunk_dims factors.now dims.now) }
 {
     let mut all = Items::with_room(alloc, dims.len())?;
@@ -109,7 +109,7 @@ fn shrunk(alloc: Global, factors: &[u64], dims: &[Dim]) -> Result<Items<Dim>, No
 }
 
 /// The dimensions of a split: so many copies, and what each of them has.
-fn split(alloc: Global, factors: &[u64], dims: &[Dim]) -> Result<Items<Dim>, NoMemory>
+pub(crate) fn split(alloc: Global, factors: &[u64], dims: &[Dim]) -> Result<Items<Dim>, NoMemory>
     ensures { IfOk result (λ ds. ds ≡ split_dims factors.now dims.now) }
 {
     let mut all = Items::new(alloc);
@@ -223,11 +223,7 @@ pub fn shape_of_memory(typed: &Typed, entity: Option<u32>) -> Option<&Shape>
 }
 
 /// The shape of the memory, or else of the view, that an entity is.
-pub(crate) fn shape_of<'a>(
-    typed: &'a Typed,
-    views: &'a ViewTable,
-    entity: Option<u32>,
-) -> Option<&'a Shape>
+fn shape_of<'a>(typed: &'a Typed, views: &'a ViewTable, entity: Option<u32>) -> Option<&'a Shape>
     ensures { option_map (λ s. s.now) result
         ≡ shape_in (memories_of (program_seen typed.now)) views.now entity }
 {
@@ -272,7 +268,7 @@ pub(crate) fn push_map(
 }
 
 /// Adds a view behind others; one that has no parent, as in no typed program, is none.
-pub(crate) fn push_view(
+fn push_view(
     alloc: Global,
     typed: &Typed,
     views: &mut ViewTable,

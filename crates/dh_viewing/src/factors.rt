@@ -1,6 +1,6 @@
 //! The rule on the factors and the brackets of views.
 
-ghost use Rattle.std.specs.Prelude.{◌≡◌, [], ◌∷◌, Some, OnOk, map, slice_get, true};
+ghost use Rattle.std.specs.Prelude.{◌≡◌, [], ◌∷◌, ◌++◌, Some, OnOk, map, slice_get, true};
 ghost use Rattle.dh_base.specs.declared.rules.Rule.TheVariants as rules;
 ghost use Rattle.dh_tree.specs.Kinds.{when};
 ghost use Rattle.dh_tree.specs.LeastBreach.{breach, least_of};
@@ -9,11 +9,12 @@ ghost use Rattle.dh_tree.specs.Seen.{factor_seen, plan_seen, program_seen};
 ghost use Rattle.dh_tree.specs.Told.{MayTellLeast};
 ghost use Rattle.dh_tree.specs.ViewFactors as definitions;
 ghost use Rattle.dh_tree.specs.ViewFactors.{factor_breaches_of, factors_breaches, plan_breaches, viewing_breaches, viewings_breaches};
-ghost use Rattle.dh_tree.specs.Views.{shape_in, viewed_behind};
+ghost use Rattle.dh_tree.specs.Views.{shape_in, viewed_behind, viewed_of};
 ghost use Rattle.dh_viewing.specs.Finding.{all_found, factor_broken_at, factors_paired, place_or, viewing_found};
+ghost use Rattle.dh_viewing.specs.Outlined.{above_seen};
 
-use crate::collecting::{Found, found_in, push_view, shape_of};
-use crate::placing::ViewTable;
+use crate::collecting::{Found, found_in};
+use crate::outlines::{Above, Outlines, above_of, outline_of, shape_above};
 use dh_base::{NoMemory, PassFault, Place, Rule};
 use dh_tree::{Breach, Dim, Expr, Shape, Typed, ViewForm, keep_least};
 use std::alloc::Global;
@@ -175,24 +176,54 @@ pub(crate) fn keep_found(kept: &mut Option<Breach>, found: &Found<'_>, parent: &
     keep_view(kept, dims, found.parent.place, found.form);
 }
 
-/// Those of a view whose parent is a memory or one of these views.
-fn keep_behind(typed: &Typed, kept: &mut Option<Breach>, views: &ViewTable, found: &Found<'_>)
-    ensures { kept.new ≡ least_of kept.old (viewing_breaches (viewing_found found.now)
-        (shape_in (memories_of (program_seen typed.now)) views.now found.now.parent.now.entity)) }
+/// Those of a view of what has this shape, which is added behind others.
+fn keep_of<'a>(
+    alloc: Global,
+    kept: &mut Option<Breach>,
+    views: &mut Outlines<'a>,
+    found: &Found<'a>,
+    above: Above<'a>,
+) -> Result<(), NoMemory>
+    ensures breaches { OnOk result (kept.new ≡ least_of kept.old
+        (viewing_breaches (viewing_found found.now) (Some (above_seen above.entry)))) }
+    ensures views { OnOk result (views.new
+        ≡ views.old ++ viewed_of (viewing_found found.now) (Some (above_seen above.entry))) }
 {
-    match shape_of(typed, views, found.parent.entity) {
-        Some(parent) => keep_found(kept, found, parent),
-        None => {}
+    keep_found(kept, found, shape_above(&above));
+    let view = outline_of(alloc, found, above)?;
+    views.push(view)
+}
+
+/// Those of a view behind others, to which it is added; one that has no parent, as in no typed program, is none.
+fn keep_behind<'a>(
+    alloc: Global,
+    typed: &'a Typed,
+    kept: &mut Option<Breach>,
+    views: &mut Outlines<'a>,
+    found: &Found<'a>,
+) -> Result<(), NoMemory>
+    ensures breaches { OnOk result (kept.new
+        ≡ least_of kept.old (viewing_breaches (viewing_found found.now)
+        (shape_in (memories_of (program_seen typed.now)) views.old
+        found.now.parent.now.entity))) }
+    ensures views { OnOk result (views.new ≡ views.old ++ viewed_of (viewing_found found.now)
+        (shape_in (memories_of (program_seen typed.now)) views.old
+        found.now.parent.now.entity)) }
+{
+    let above = above_of(alloc, typed, views, found.parent.entity)?;
+    match above {
+        Some(above) => keep_of(alloc, kept, views, found, above),
+        None => Ok(()),
     }
 }
 
 /// Those of these views behind others, which are added.
-pub(crate) fn keep_all(
+pub(crate) fn keep_all<'a>(
     alloc: Global,
-    typed: &Typed,
+    typed: &'a Typed,
     kept: &mut Option<Breach>,
-    views: &mut ViewTable,
-    found: &[Found<'_>],
+    views: &mut Outlines<'a>,
+    found: &[Found<'a>],
 ) -> Result<(), NoMemory>
     ensures breaches { OnOk result (kept.new ≡ least_of kept.old
         (viewings_breaches (memories_of (program_seen typed.now)) views.old
@@ -201,8 +232,7 @@ pub(crate) fn keep_all(
         ≡ viewed_behind (memories_of (program_seen typed.now)) views.old (all_found found.now)) }
 {
     for view in found {
-        keep_behind(typed, kept, views, view);
-        push_view(alloc, typed, views, view)?;
+        keep_behind(alloc, typed, kept, views, view)?;
     }
     Ok(())
 }
@@ -221,7 +251,8 @@ pub fn keep_view_factors(
         ≡ least_of kept.old (factor_breaches_of (program_seen typed.now))) }
 {
     let found = found_in(alloc, typed)?;
-    let mut views = ViewTable::with_room(alloc, found.len())?;
+    let entities = typed.tree().entities.len();
+    let mut views = Outlines::with_room(alloc, found.len(), entities)?;
     keep_all(alloc, typed, kept, &mut views, found.as_slice())
 }
 

@@ -1,27 +1,100 @@
 //! All views of a program together: what each is, whether it keeps the rule, and the first breach.
 
-ghost use Rattle.std.specs.Prelude.{◌≡◌, ◌++◌, option_map, IfOk, OnOk};
-ghost use Rattle.dh_tree.specs.Memories.{memories_of};
+ghost use Rattle.std.specs.Prelude.{◌≡◌, ◌++◌, ◌&&◌, [], true, option_map, IfOk, OnOk};
+ghost use Rattle.std.specs.Option.{is_some};
+ghost use Rattle.dh_tree.specs.Memories.{memories_of, table_of};
 ghost use Rattle.dh_tree.specs.Seen.{program_seen};
-ghost use Rattle.dh_tree.specs.ViewBreaches.{kept_behind, kept_of, kept_shape_in};
+ghost use Rattle.dh_tree.specs.ViewBreaches.{dims_through, kept_behind, kept_of, kept_shape_in};
+ghost use Rattle.dh_tree.specs.ViewFactors.{viewings_breaches};
+ghost use Rattle.dh_tree.specs.Views.{view_in, viewed_behind};
 ghost use Rattle.dh_viewing.specs.Finding.{all_found, kept_through, shape_kept, viewing_found};
-ghost use Rattle.dh_viewing.specs.Judged.{JudgesViews};
+ghost use Rattle.dh_viewing.specs.Judged as definitions;
+ghost use Rattle.dh_viewing.specs.Judged.{JudgesViews, kept_or};
 
 use crate::collecting::{Found, found_in, map_to, push_map, shape_of_memory};
 use crate::factors::{keep_all, keep_found};
 use crate::keeping::shape_keeps;
+use crate::outlines::{Outlines, dims_outlined};
 use crate::placing::ViewTable;
 use dh_base::NoMemory;
-use dh_tree::{Breach, Shape, Typed, ViewMap};
+use dh_tree::{Breach, Dim, MemEntry, Shape, Typed, ViewMap};
 use std::alloc::Global;
+use std::marker::Model;
 
-/// The views of a program.
+/// The views of a program: all, and those that keep the rules, and of which all on the way to their memory do.
+/// A contract sees both as lists.
 #[derive(Debug, Drop)]
-pub struct JudgedViews {
-    /// All.
-    pub all: ViewTable,
-    /// Those that keep the rules, and of which all on the way to their memory do.
-    pub kept: ViewTable,
+pub struct JudgedViews<'a> {
+    all: Outlines<'a>,
+    // those that keep the rules, where a rule is broken; else they are all
+    apart: Option<ViewTable>,
+}
+
+impl<'a> Model for JudgedViews<'a> {
+    ghost use Rattle.dh_viewing.specs.Judged.{ViewsJudged, kept_or};
+
+    ghost Value = { ViewsJudged };
+
+    ghost view = { λ v. record { all = v.all; kept = kept_or v.all v.apart } };
+}
+
+impl<'a> JudgedViews<'a> {
+    /// Whether an entity is a view.
+    pub fn has_view(&self, entity: Option<u32>) -> bool
+        ensures { result ≡ is_some (view_in self.now.all entity) }
+    {
+        self.all.get(entity).is_some()
+    }
+
+    /// The dimensions of the view that an entity is, if it is one that keeps the rules.
+    pub fn kept_dims(&self, entity: Option<u32>) -> Option<&[Dim]>
+        ensures { option_map (λ ds. ds.now) result ≡ dims_through (view_in self.now.kept entity) }
+    {
+        match &self.apart {
+            Some(kept) => dims_viewed(kept.get(entity)),
+            None => dims_in(&self.all, entity),
+        }
+    }
+}
+
+/// The dimensions of a view, if there is one.
+fn dims_viewed(view: Option<&ViewMap>) -> Option<&[Dim]>
+    ensures { option_map (λ ds. ds.now) result ≡ dims_through (option_map (λ v. v.now) view.entry) }
+{
+    match view {
+        Some(view) => Some(view.shape.dims.as_slice()),
+        None => None,
+    }
+}
+
+/// The dimensions of the view that an entity is, if it is one of these.
+fn dims_in<'b>(views: &'b Outlines<'_>, entity: Option<u32>) -> Option<&'b [Dim]>
+    ensures { option_map (λ ds. ds.now) result ≡ dims_through (view_in views.now entity) }
+{
+    match views.get(entity) {
+        Some(view) => Some(dims_outlined(view)),
+        None => None,
+    }
+}
+
+/// Whether none of these memories has a shape that breaks a rule.
+fn entries_keep(entries: &[MemEntry]) -> bool
+    ensures { result ≡ definitions.entries_keep entries.now }
+{
+    for entry in entries {
+        if !shape_keeps(&entry.shape) {
+            return false;
+        }
+    }
+    true
+}
+
+/// Whether it is told at once that all views keep the rules: nothing is broken by them, and none of the memories.
+fn keeps_all(typed: &Typed, is_unbroken: bool) -> bool
+    ensures { result
+        ≡ (is_unbroken && definitions.entries_keep (table_of (program_seen typed.now))) }
+{
+    is_unbroken && entries_keep(typed.memories().as_slice())
 }
 
 /// The shape of a memory, where it keeps the rules, or else of a view.
@@ -111,6 +184,26 @@ fn push_all_kept(
     Ok(())
 }
 
+/// Those of these views that keep the rules, where they are not all of them: no table is made where nothing is broken.
+fn kept_apart(
+    alloc: Global,
+    typed: &Typed,
+    is_unbroken: bool,
+    found: &[Found<'_>],
+) -> Result<Option<ViewTable>, NoMemory>
+    ensures { IfOk result (λ apart. (is_unbroken ≡ true
+        → viewings_breaches (memories_of (program_seen typed.now)) [] (all_found found.now) ≡ [])
+        → kept_or (viewed_behind (memories_of (program_seen typed.now)) [] (all_found found.now))
+        apart ≡ kept_behind (memories_of (program_seen typed.now)) [] (all_found found.now)) }
+{
+    if keeps_all(typed, is_unbroken) {
+        return Ok(None);
+    }
+    let mut kept = ViewTable::with_room(alloc, found.len())?;
+    push_all_kept(alloc, typed, &mut kept, found)?;
+    Ok(Some(kept))
+}
+
 /// Tells the views of a program, and which of them keep the rules, and keeps the breach of the rule on
 /// factors and brackets that stands first, beside what was kept before. Tells nothing where the program has
 /// no view. Linear in the source.
@@ -118,21 +211,21 @@ fn push_all_kept(
 /// # Errors
 ///
 /// `NoMemory`, the one error; no clause tells when.
-pub fn judge_views(
+pub fn judge_views<'a>(
     alloc: Global,
-    typed: &Typed,
+    typed: &'a Typed,
     kept: &mut Option<Breach>,
-) -> Result<Option<JudgedViews>, NoMemory>
+) -> Result<Option<JudgedViews<'a>>, NoMemory>
     ensures { JudgesViews (program_seen typed.now) result kept.old kept.new }
 {
     let found = found_in(alloc, typed)?;
     if found.is_empty() {
         return Ok(None);
     }
-    let all = ViewTable::with_room(alloc, found.len())?;
-    let beside = ViewTable::with_room(alloc, found.len())?;
-    let mut views = JudgedViews { all, kept: beside };
-    keep_all(alloc, typed, kept, &mut views.all, found.as_slice())?;
-    push_all_kept(alloc, typed, &mut views.kept, found.as_slice())?;
-    Ok(Some(views))
+    let views = found.as_slice();
+    let entities = typed.tree().entities.len();
+    let mut all = Outlines::with_room(alloc, found.len(), entities)?;
+    keep_all(alloc, typed, kept, &mut all, views)?;
+    let apart = kept_apart(alloc, typed, kept.is_none(), views)?;
+    Ok(Some(JudgedViews { all, apart }))
 }

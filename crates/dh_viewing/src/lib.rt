@@ -13,6 +13,7 @@ mod keeping;
 mod laws;
 mod numbers;
 mod offsets;
+mod outlines;
 mod placing;
 
 pub use bank_sets::{BankSet, banks_of};

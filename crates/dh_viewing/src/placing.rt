@@ -28,7 +28,7 @@ pub fn make_room(places: &mut Vec<Option<usize>>, entity: usize) -> Result<(), N
 
 /// Notes the place of a view, where its entity is no view yet: a name that is declared twice would stand
 /// for its first view.
-fn note(places: &mut [Option<usize>], entity: usize, place: usize)
+pub(crate) fn note(places: &mut [Option<usize>], entity: usize, place: usize)
     requires { entity < length places.now }
     ensures { PlacesNext entity place places.old places.new }
 {

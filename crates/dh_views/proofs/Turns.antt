@@ -11,13 +11,13 @@ use Rattle.dh_tree.specs.ViewBreaches.{action_view_breaches, known_views, view_b
 use Rattle.dh_tree.specs.ViewFactors.{factor_breaches_of}
 use Rattle.dh_tree.specs.Views.{viewed_in}
 use Rattle.dh_tree.proofs.Leasts.{least_append}
-use Rattle.dh_viewing.specs.declared.judging.JudgedViews.{JudgedViews}
-use Rattle.dh_viewing.specs.Judged.{JudgesViews}
+use Rattle.dh_viewing.specs.Judged.{JudgesViews, ViewsJudged as JudgedViews}
 use Rattle.dh_views.specs.Kept.{header_breaches}
+use Rattle.dh_views.specs.Walked.{own_breaches}
 
 pub loop_kept : (known : Known) (h : LoopHeader) (body : Action) (combine : MaybeAction) (form : ActionForm) (old a b c : Option Breach)
     → form ≡ counts_seen h body combine
-    → a ≡ least_of old (header_breaches h)
+    → a ≡ least_of old (own_breaches known form)
     → b ≡ least_of a (action_index_breaches known body)
     → c ≡ least_of b (other_index_breaches known combine)
     → c ≡ least_of old (action_form_index_breaches known form)
@@ -27,7 +27,7 @@ loop_kept known h body combine form old a b c is ea eb ec =
     let joined = other_index_breaches known combine in
     ec
     ∙ (ap (λ k. least_of k joined) eb
-    ∙ (ap (λ k. least_of (least_of k inside) joined) ea
+    ∙ (ap (λ k. least_of (least_of k inside) joined) (ea ∙ ap (λ f. least_of old (own_breaches known f)) is)
     ∙ (sym (least_append (least_of old turns) inside joined)
     ∙ (sym (least_append old turns (inside ++ joined)) ∙ ap (λ f. least_of old (action_form_index_breaches known f)) (sym is)))))
 

@@ -11,7 +11,7 @@ use Rattle.dh_tree.specs.PlainTrees.{Term}
 use Rattle.dh_tree.specs.Seen.{term_seen, all_terms_seen, action_seen, all_parts_seen, maybe_block_seen}
 use Rattle.dh_tree.specs.ViewBreaches.{KnownViews, dims_through, term_view_breaches, terms_view_breaches, maybe_view_breaches, offsets_view_breaches, action_view_breaches, other_view_breaches, groups_view_breaches}
 use Rattle.dh_tree.specs.Views.{view_in}
-use Rattle.dh_viewing.specs.declared.judging.JudgedViews.{JudgedViews}
+use Rattle.dh_viewing.specs.Judged.{ViewsJudged as JudgedViews}
 use Rattle.dh_views.specs.Walked.{known_in, term_broken}
 
 -- the names of a program, with its views

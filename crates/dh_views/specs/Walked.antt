@@ -1,5 +1,5 @@
 -- What parts of a program's tree break of the rules on shapes, indices and bounds.
-use Rattle.std.specs.Prelude.{◌≡◌, ℕ, Bool, List, Option, option_map, Vec}
+use Rattle.std.specs.Prelude.{◌≡◌, ℕ, Bool, List, [], ◌++◌, Option, option_map, Vec}
 use Rattle.std.specs.Global.{Global, Box}
 use Rattle.dh_base.specs.declared.places.Place.{Place}
 use Rattle.dh_shape.specs.Classified.{Classifies, loops_in}
@@ -11,11 +11,12 @@ use Rattle.dh_tree.specs.declared.trees.expressions.Expr.{Expr}
 use Rattle.dh_tree.specs.declared.trees.programs.Tree.{Tree}
 use Rattle.dh_tree.specs.Elements.{rows_of}
 use Rattle.dh_tree.specs.Indices as indices
-use Rattle.dh_tree.specs.Indices.{Known, known_of, index_kind, index_breaches, indices_breaches, access_breaches, physical_breaches, kept_dims, term_index_breaches, terms_index_breaches, maybe_index_breaches, action_index_breaches, other_index_breaches, groups_index_breaches}
+use Rattle.dh_tree.specs.Indices.{Known, known_of, index_kind, index_breaches, indices_breaches, access_breaches, physical_breaches, kept_dims, term_index_breaches, terms_index_breaches, maybe_index_breaches, shape_breaches, turns_breaches, action_index_breaches, other_index_breaches, groups_index_breaches}
 use Rattle.dh_tree.specs.Kinds.{signed_number}
 use Rattle.dh_tree.specs.LeastBreach.{least_of}
 use Rattle.dh_tree.specs.Memories.{memory_in, memories_of}
-use Rattle.dh_tree.specs.Seen.{form_seen, term_seen, all_terms_seen, action_seen, all_parts_seen, maybe_block_seen, program_seen}
+use Rattle.dh_tree.specs.PlainTrees.{ActionForm, lets, lets_memory, views, assigns, stores, reduces, calls, blocks, decides, repeats, counts}
+use Rattle.dh_tree.specs.Seen.{form_seen, term_seen, all_terms_seen, action_form_seen, action_seen, all_parts_seen, maybe_block_seen, program_seen}
 
 -- the memories and loops of a program
 abbrev pub known_in : Tree → Known
@@ -58,6 +59,23 @@ terms_broken tree es = terms_index_breaches (known_in tree) (all_terms_seen es)
 
 abbrev pub maybe_broken : Tree → Option Expr → List Breach
 maybe_broken tree e = maybe_index_breaches (known_in tree) (option_map term_seen e)
+
+-- the breaches of a command, without those of the commands inside it
+abbrev pub own_breaches : Known → ActionForm → List Breach
+own_breaches known (lets name declared value) = maybe_index_breaches known value
+own_breaches known (lets_memory name shape shape_places value) = shape_breaches shape shape_places ++ maybe_index_breaches known value
+own_breaches known (views name parent form) = []
+own_breaches known (assigns target value) = term_index_breaches known value
+own_breaches known (stores target value) = term_index_breaches known target ++ term_index_breaches known value
+own_breaches known (reduces target o value) = term_index_breaches known value
+own_breaches known (calls function arguments) = []
+own_breaches known (blocks body) = []
+own_breaches known (decides test chosen other) = term_index_breaches known test
+own_breaches known (repeats test body) = term_index_breaches known test
+own_breaches known (counts i declared low high factor body combine combine_place) = turns_breaches low high factor
+
+abbrev pub own_broken : Tree → Command → List Breach
+own_broken tree c = own_breaches (known_in tree) (action_form_seen c.form)
 
 -- the breaches in a command, in a block that may lack, and in the parts of a block
 abbrev pub command_broken : Tree → Command → List Breach

@@ -55,8 +55,8 @@ pub(crate) fn keep_shape(kept: &mut Option<Breach>, shape: &Shape, places: &Shap
     );
 }
 
-/// Those of the memories from outside.
-pub(crate) fn keep_decls(kept: &mut Option<Breach>, decls: &[Decl])
+/// Those of the shapes of the memories from outside.
+pub fn keep_decl_shapes(kept: &mut Option<Breach>, decls: &[Decl])
     ensures { kept.new ≡ least_of kept.old (decls_shape_breaches (map declared_seen decls.now)) }
 {
     for decl in decls {

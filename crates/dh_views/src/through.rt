@@ -26,8 +26,8 @@ fn keep_through(
 )
     ensures { kept.new ≡ least_of kept.old (through_broken typed.now views.now of indices.now) }
 {
-    match views.kept.get(of) {
-        Some(view) => keep_indices(typed, kept, view.shape.dims.as_slice(), indices),
+    match views.kept_dims(of) {
+        Some(dims) => keep_indices(typed, kept, dims, indices),
         None => {}
     }
 }
@@ -37,10 +37,8 @@ fn keep_name(views: &JudgedViews, kept: &mut Option<Breach>, of: &Ref)
     ensures { kept.new
         ≡ least_of kept.old (physical_broken (view_in views.now.all of.now.entity) of.now) }
 {
-    match views.all.get(of.entity) {
-        Some(_) => keep_if(kept, true, Rule::ViewFactor, of.place),
-        None => {}
-    }
+    let is_view = views.has_view(of.entity);
+    keep_if(kept, is_view, Rule::ViewFactor, of.place);
 }
 
 /// The breaches in an expression.

@@ -7,10 +7,10 @@ ghost use Rattle.dh_tree.specs.Told.{MayTellLeast};
 ghost use Rattle.dh_tree.specs.ViewBreaches.{shapes_breaches_of, view_breaches_of};
 ghost use Rattle.dh_views.specs.Kept.{header_breaches};
 ghost use Rattle.dh_views.specs.Wanting.{FindsBreach, KeepsViews, WantsForViews};
-ghost use Rattle.dh_views.specs.Walked.{term_broken, terms_broken, maybe_broken, command_broken, other_broken, parts_broken};
+ghost use Rattle.dh_views.specs.Walked.{term_broken, terms_broken, maybe_broken, own_broken, command_broken, other_broken, parts_broken};
 
 use crate::accesses::{keep_access, keep_physical};
-use crate::declared::{keep_decls, keep_shape};
+use crate::declared::{keep_decl_shapes, keep_shape};
 use crate::declaring::declares;
 use crate::keeping::keep_if;
 use crate::through::keep_viewed_command;
@@ -87,11 +87,10 @@ fn keep_turns(kept: &mut Option<Breach>, header: &LoopHeader)
     keep_if(kept, !is_dealt, Rule::UnrollDivides, header.factor_place);
 }
 
-/// The breaches in a command.
-#[cycle(commands)]
+/// The breaches of a command, without those of the commands inside it.
 #[tactic(auto, using(dh_tree::proofs::SeenActions::actions_are, dh_tree::proofs::Leasts::least_append))]
-fn keep_command(typed: &Typed, kept: &mut Option<Breach>, command: &Command)
-    ensures { kept.new ≡ least_of kept.old (command_broken typed.now command.now) }
+pub fn keep_own(typed: &Typed, kept: &mut Option<Breach>, command: &Command)
+    ensures { kept.new ≡ least_of kept.old (own_broken typed.now command.now) }
 {
     match &command.form {
         CommandForm::Let { value, .. } => keep_maybe(typed, kept, value),
@@ -110,26 +109,39 @@ fn keep_command(typed: &Typed, kept: &mut Option<Breach>, command: &Command)
             keep_term(typed, kept, &sides.target);
             keep_term(typed, kept, &sides.value);
         }
-        CommandForm::If { test, then, other } => {
-            keep_term(typed, kept, test);
+        CommandForm::Reduce { value, .. } => keep_term(typed, kept, value),
+        CommandForm::If { test, .. } => keep_term(typed, kept, test),
+        CommandForm::While { test, .. } => keep_term(typed, kept, test),
+        CommandForm::For { header, .. } => keep_turns(kept, header),
+        CommandForm::Block { .. } => {}
+        CommandForm::View { .. } => {}
+        CommandForm::Call { .. } => {}
+    }
+}
+
+/// The breaches in a command.
+#[cycle(commands)]
+#[tactic(auto, using(dh_tree::proofs::SeenActions::actions_are, dh_tree::proofs::Leasts::least_append))]
+fn keep_command(typed: &Typed, kept: &mut Option<Breach>, command: &Command)
+    ensures { kept.new ≡ least_of kept.old (command_broken typed.now command.now) }
+{
+    keep_own(typed, kept, command);
+    match &command.form {
+        CommandForm::If { then, other, .. } => {
             keep_command(typed, kept, then);
             keep_other(typed, kept, other);
         }
-        CommandForm::While { test, body } => {
-            keep_term(typed, kept, test);
-            keep_command(typed, kept, body);
-        }
-        CommandForm::For {
-            header,
-            body,
-            combine,
-        } => {
-            keep_turns(kept, header);
+        CommandForm::While { body, .. } => keep_command(typed, kept, body),
+        CommandForm::For { body, combine, .. } => {
             keep_command(typed, kept, body);
             keep_other(typed, kept, combine);
         }
         CommandForm::Block { body } => keep_groups(typed, kept, body.as_slice()),
-        CommandForm::Reduce { value, .. } => keep_term(typed, kept, value),
+        CommandForm::Let { .. } => {}
+        CommandForm::LetMemory { .. } => {}
+        CommandForm::Assign { .. } => {}
+        CommandForm::Store { .. } => {}
+        CommandForm::Reduce { .. } => {}
         CommandForm::View { .. } => {}
         CommandForm::Call { .. } => {}
     }
@@ -177,8 +189,12 @@ fn keep_declared(alloc: Global, typed: &Typed, kept: &mut Option<Breach>) -> Res
     }
 }
 
-/// Those of the rules on views, where a view is declared.
-fn keep_views(alloc: Global, typed: &Typed, kept: &mut Option<Breach>) -> Result<(), NoMemory>
+/// Those of the rules on views, where a view is declared: memory is wanted there alone.
+///
+/// # Errors
+///
+/// `NoMemory`, of a program that declares a view alone.
+pub fn keep_views(alloc: Global, typed: &Typed, kept: &mut Option<Breach>) -> Result<(), NoMemory>
     ensures { KeepsViews (program_seen typed.now) kept.old kept.new result }
 {
     if typed.has_no_view() {
@@ -199,7 +215,7 @@ fn first_breach(alloc: Global, typed: &Typed) -> Result<Option<Breach>, NoMemory
 {
     let tree = typed.tree();
     let mut kept = None;
-    keep_decls(&mut kept, tree.decls.as_slice());
+    keep_decl_shapes(&mut kept, tree.decls.as_slice());
     keep_command(typed, &mut kept, &tree.body);
     keep_views(alloc, typed, &mut kept)?;
     Ok(kept)

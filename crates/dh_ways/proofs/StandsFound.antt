@@ -16,7 +16,7 @@ use Rattle.dh_ways.specs.declared.ways.Hidden.{Hidden}
 use Rattle.dh_ways.specs.HiddenVariables.{all_hidden, hidden_variables}
 use Rattle.dh_ways.specs.Seen.{hidden_seen}
 use Rattle.dh_ways.specs.CutStands.{form_cut_stands}
-use Rattle.dh_ways.specs.Stands.{Stand, all_own, copies_inside, form_stands, groups_stands, hidden_at, hidden_of_program, other_stands, own_of, part_stands, stand_seen, standing_of, stands}
+use Rattle.dh_ways.specs.Stands.{Stand, all_own, copies_inside, form_stands, groups_stands, hidden_at, hidden_of_program, other_stands, own_of, part_stands, stand_seen, standing_of, standing_seen, stands}
 
 -- A view is found.
 pub stood_more : (found new : List Stood) (s : Stood) (depth copies : ℕ) (seen form : ActionForm) → new ≡ found ++ s ∷ [] → seen ≡ form → form_cut_stands depth copies form ≡ stand_seen s ∷ [] → map stand_seen new ≡ map stand_seen found ++ form_cut_stands depth copies seen
@@ -142,6 +142,21 @@ own_more stood first i next now own new s there is at made added h =
 
 pub own_end : (stood : List Stood) (first i : ℕ) (now : List Hidden) → length stood ≤ i → now ++ all_own (first + length now) (map stand_seen (drop i stood)) ≡ all_own first (map stand_seen stood) → now ≡ all_own first (map stand_seen stood)
 own_end stood first i now over h = sym (append-nil now) ∙ (ap (λ l. now ++ all_own (first + length now) (map stand_seen l)) (sym (drop_of_length-le stood over)) ∙ h)
+
+-- those of the rest behind those so far
+pub all_more : (stood : List Stood) (start first next i : ℕ) (before now new : List Hidden) (s : Stood) → i < length stood → s ≡ get_or stood i s → next ≡ definitions.behind_hidden first (standing_seen s) → new ≡ now ++ own_of first (stand_seen s)
+    → now ++ all_own first (map stand_seen (drop i stood)) ≡ before ++ all_own start (map stand_seen stood) → new ++ all_own next (map stand_seen (drop (suc i) stood)) ≡ before ++ all_own start (map stand_seen stood)
+all_more stood start first next i before now new s there is step added h =
+    ap (λ l. l ++ all_own next rest) added
+    ∙ (append_assoc now (own_of first (stand_seen s)) (all_own next rest)
+    ∙ (ap (λ n. now ++ (own_of first (stand_seen s) ++ all_own n rest)) step
+    ∙ (ap (λ l. now ++ all_own first (map stand_seen l)) (sym (drop-cons stood i s there ∙ ap (λ x. x ∷ drop (suc i) stood) (sym is))) ∙ h)))
+  where
+    rest : List Stand
+    rest = map stand_seen (drop (suc i) stood)
+
+pub all_end : (stood : List Stood) (start first i : ℕ) (before now : List Hidden) → length stood ≤ i → now ++ all_own first (map stand_seen (drop i stood)) ≡ before ++ all_own start (map stand_seen stood) → now ≡ before ++ all_own start (map stand_seen stood)
+all_end stood start first i before now over h = sym (append-nil now) ∙ (ap (λ l. now ++ all_own first (map stand_seen l)) (sym (drop_of_length-le stood over)) ∙ h)
 
 -- they are the hidden variables of the meaning
 all_told : (first : ℕ) (ss : List Stand) → map hidden_seen (all_own first ss) ≡ all_hidden first (map standing_of ss)

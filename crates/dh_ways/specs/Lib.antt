@@ -1,5 +1,6 @@
 pub mod Leading
 pub mod Kept
+pub mod OwnVariables
 pub mod Seen
 pub mod SpotsThrough
 pub mod HiddenVariables

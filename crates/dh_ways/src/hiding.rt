@@ -8,6 +8,7 @@ ghost use Rattle.dh_ways.specs.CutStands.{HasFewWays};
 ghost use Rattle.dh_ways.specs.Stands.{all_own, hidden_at, hidden_of_program, own_of, stand_seen};
 
 use crate::standing::{Stood, standing_in};
+use crate::variables::Own;
 use crate::ways::Hidden;
 use dh_base::{Items, NoMemory};
 use dh_tree::{Expr, Typed, ViewForm};
@@ -84,22 +85,65 @@ fn hide_pairs(
     Ok(hidden)
 }
 
-/// Those of the offsets of a view.
-pub(crate) fn own_hidden(
+/// The variables of these offsets, as a view holds them.
+fn own_all(
     alloc: Global,
     first: u32,
-    view: &Stood<'_>,
-) -> Result<Items<Hidden>, NoMemory>
+    depth: u32,
+    copies: u64,
+    offsets: &[Expr],
+) -> Result<Own, NoMemory>
+    requires few { first + length offsets.now < 4294967296 }
+    ensures { IfOk result (λ own. own ≡ hidden_at first depth copies (map term_seen offsets.now)) }
+{
+    if offsets.len() != 1 {
+        return Ok(Own::of(hide_all(alloc, first, depth, copies, offsets)?));
+    }
+    let kind = kind_of(&offsets[0]);
+    Ok(Own::alone(Hidden {
+        entity: first,
+        kind,
+        depth,
+        copies,
+    }))
+}
+
+/// Those of the offsets of a suffix.
+fn own_pairs(
+    alloc: Global,
+    first: u32,
+    depth: u32,
+    copies: u64,
+    by: &[(u64, Expr)],
+) -> Result<Own, NoMemory>
+    requires few { first + length by.now < 4294967296 }
+    ensures { IfOk result (λ own. own
+        ≡ hidden_at first depth copies (map (λ p. term_seen p.1) by.now)) }
+{
+    if by.len() != 1 {
+        return Ok(Own::of(hide_pairs(alloc, first, depth, copies, by)?));
+    }
+    let kind = kind_of(&by[0].1);
+    Ok(Own::alone(Hidden {
+        entity: first,
+        kind,
+        depth,
+        copies,
+    }))
+}
+
+/// Those of the offsets of a view.
+pub(crate) fn own_hidden(alloc: Global, first: u32, view: &Stood<'_>) -> Result<Own, NoMemory>
     requires few { first + length (offsets_of (stand_seen view.now).form) < 4294967296 }
     ensures { IfOk result (λ hidden. hidden ≡ own_of first (stand_seen view.now)) }
 {
     match view.form {
-        ViewForm::Shrink { .. } => Ok(Items::new(alloc)),
-        ViewForm::Split { .. } => Ok(Items::new(alloc)),
+        ViewForm::Shrink { .. } => Ok(Own::of(Items::new(alloc))),
+        ViewForm::Split { .. } => Ok(Own::of(Items::new(alloc))),
         ViewForm::Suffix { by, .. } => {
-            hide_pairs(alloc, first, view.depth, view.copies, by.as_slice())
+            own_pairs(alloc, first, view.depth, view.copies, by.as_slice())
         }
-        ViewForm::Shift { by } => hide_all(alloc, first, view.depth, view.copies, by.as_slice()),
+        ViewForm::Shift { by } => own_all(alloc, first, view.depth, view.copies, by.as_slice()),
     }
 }
 

@@ -9,6 +9,7 @@ mod linking;
 mod placing;
 mod standing;
 mod tracing;
+mod variables;
 mod ways;
 
 pub use hiding::hidden_in;
@@ -18,5 +19,5 @@ pub use laws::{
 };
 pub use linking::WayRef;
 pub use placing::WayTable;
-pub use tracing::ways_in;
+pub use tracing::{ways_and_hidden, ways_in};
 pub use ways::Hidden;

@@ -5,6 +5,7 @@ ghost use Rattle.std.specs.Prelude.{◌≡◌, ◌<◌, ◌∷◌, Some, length,
 ghost use Rattle.dh_ways.specs.Linked.{AreLinked, IsLinkAt, IsParentAt, IsSplit, hidden_kept, views_kept, way_there, ways_linked};
 
 use crate::hiding::append;
+use crate::variables::Own;
 use crate::ways::Hidden;
 use dh_base::{Items, NoMemory};
 use dh_tree::ViewMap;
@@ -19,7 +20,7 @@ pub(crate) struct Link {
     /// The view.
     pub(crate) view: ViewMap,
     /// Where its own offsets are kept.
-    pub(crate) own: Items<Hidden>,
+    pub(crate) own: Own,
     /// The place of its parent's link, before its own; None of a view of a memory.
     pub(crate) parent: Option<usize>,
     /// The first variable that keeps an offset on the way, if there is one.

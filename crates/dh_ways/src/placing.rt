@@ -83,15 +83,17 @@ impl Model for WayTable {
 }
 
 impl WayTable {
-    /// No view, with room for so many.
-    pub(crate) fn with_room(alloc: Global, count: usize) -> Result<WayTable, NoMemory>
+    /// No view, with room for so many among so many entities.
+    pub(crate) fn with_room(
+        alloc: Global,
+        count: usize,
+        entities: usize,
+    ) -> Result<WayTable, NoMemory>
         ensures { IfOk result (λ table. table ≡ []) }
     {
         let links = Items::with_room(alloc, count)?;
-        Ok(WayTable {
-            links,
-            places: Vec::new(alloc),
-        })
+        let places = Vec::with_capacity(alloc, entities)?;
+        Ok(WayTable { links, places })
     }
 
     /// Adds a view behind the others.

@@ -13,12 +13,13 @@ ghost use Rattle.dh_ways.specs.Kept.{Led};
 ghost use Rattle.dh_ways.specs.Linked.{way_there};
 ghost use Rattle.dh_ways.specs.Traced.{IsLinkOf, IsLinked, LeadsNext, MayFollow, led_in, linked_on};
 ghost use Rattle.dh_ways.specs.Seen.{led_seen, way_seen};
-ghost use Rattle.dh_ways.specs.Stands.{stand_seen, standing_seen};
+ghost use Rattle.dh_ways.specs.Stands.{all_own, hidden_of_program, own_of, stand_seen, standing_seen};
 
-use crate::hiding::{entity_behind, first_hidden, own_hidden};
+use crate::hiding::{append, entity_behind, first_hidden, own_hidden};
 use crate::linking::{Link, WayRef};
 use crate::placing::WayTable;
 use crate::standing::{Stood, standing_in};
+use crate::variables::Own;
 use crate::ways::Hidden;
 use dh_base::{Items, NoMemory};
 use dh_tree::{Shape, Typed, ViewForm, ViewMap};
@@ -73,7 +74,7 @@ fn first_or(hidden: &[Hidden], behind: Option<Hidden>) -> Option<Hidden>
 }
 
 /// The link of a view of a memory, whose offsets are kept in these variables.
-fn link_from(view: &Stood<'_>, made: ViewMap, own: Items<Hidden>) -> Link
+fn link_from(view: &Stood<'_>, made: ViewMap, own: Own) -> Link
     ensures { (before : List Led) → IsLinkOf before (standing_seen view.now) own made None result }
 {
     let first = first_or(own.as_slice(), None);
@@ -92,13 +93,7 @@ fn link_from(view: &Stood<'_>, made: ViewMap, own: Items<Hidden>) -> Link
 }
 
 /// The link of a view of one that has this way and stands at this place.
-fn link_behind(
-    view: &Stood<'_>,
-    made: ViewMap,
-    own: Items<Hidden>,
-    parent: &WayRef<'_>,
-    place: usize,
-) -> Link
+fn link_behind(view: &Stood<'_>, made: ViewMap, own: Own, parent: &WayRef<'_>, place: usize) -> Link
     ensures { (before : List Led) → place < length before
         → Some parent.now ≡ way_there before (Some place)
         → IsLinkOf before (standing_seen view.now) own made (Some (way_seen parent.now)) result }
@@ -125,7 +120,7 @@ fn link_behind(
 fn lead_memory(
     alloc: Global,
     view: &Stood<'_>,
-    own: Items<Hidden>,
+    own: Own,
     shape: &Shape,
 ) -> Result<Option<Link>, NoMemory>
     ensures { IfOk result (λ link. (before : List Led) → IsLinked before (standing_seen view.now)
@@ -139,7 +134,7 @@ fn lead_memory(
 fn lead_on(
     alloc: Global,
     view: &Stood<'_>,
-    own: Items<Hidden>,
+    own: Own,
     parent: &WayRef<'_>,
     place: usize,
 ) -> Result<Option<Link>, NoMemory>
@@ -159,7 +154,7 @@ fn lead_behind(
     alloc: Global,
     ways: &WayTable,
     view: &Stood<'_>,
-    own: Items<Hidden>,
+    own: Own,
 ) -> Result<Option<Link>, NoMemory>
     ensures { IfOk result (λ link. IsLinked ways.now (standing_seen view.now) own
         (led_in (map led_seen ways.now) (standing_seen view.now)) link) }
@@ -179,7 +174,7 @@ fn link_of_view(
     typed: &Typed,
     ways: &WayTable,
     view: &Stood<'_>,
-    own: Items<Hidden>,
+    own: Own,
 ) -> Result<Option<Link>, NoMemory>
     ensures { IfOk result (λ link. IsLinked ways.now (standing_seen view.now) own
         (λ first. led_after (memories_of (program_seen typed.now)) first (map led_seen ways.now)
@@ -203,43 +198,78 @@ fn push_link(ways: &mut WayTable, link: Option<Link>) -> Result<(), NoMemory>
     }
 }
 
-/// Adds a view behind others; its offsets are kept in entities from this one on. Gives the one behind them.
+/// Adds a view behind others, and its variables behind others; they are entities from this one on. Gives the one
+/// behind them.
 fn push_way(
     alloc: Global,
     typed: &Typed,
     ways: &mut WayTable,
+    hidden: &mut Items<Hidden>,
     first: u32,
     view: &Stood<'_>,
 ) -> Result<u32, NoMemory>
     requires few { first + length (offsets_of (stand_seen view.now).form) < 4294967296 }
     ensures { IfOk result (λ next. LeadsNext (memories_of (program_seen typed.now))
-        (map led_seen ways.old) (map led_seen ways.new) first next (standing_seen view.now)) }
+        (map led_seen ways.old) (map led_seen ways.new) first next (standing_seen view.now)
+        × (hidden.new ≡ hidden.old ++ own_of first (stand_seen view.now))) }
 {
     let own = own_hidden(alloc, first, view)?;
+    append(hidden, own.as_slice())?;
     let next = entity_behind(first, own.len());
     let link = link_of_view(alloc, typed, ways, view, own)?;
     push_link(ways, link)?;
     Ok(next)
 }
 
-/// Adds these views behind others.
+/// Adds these views behind others, and their variables.
 fn push_ways(
     alloc: Global,
     typed: &Typed,
     ways: &mut WayTable,
+    hidden: &mut Items<Hidden>,
     first: u32,
     stood: &[Stood<'_>],
 ) -> Result<(), NoMemory>
     requires few { behind_all first (map standing_seen stood.now) < 4294967296 }
-    ensures { OnOk result (map led_seen ways.new
+    ensures { OnOk result ((map led_seen ways.new
         ≡ led_behind (memories_of (program_seen typed.now)) first
-        (map led_seen ways.old) (map standing_seen stood.now)) }
+        (map led_seen ways.old) (map standing_seen stood.now))
+        × (hidden.new ≡ hidden.old ++ all_own first (map stand_seen stood.now))) }
 {
     let mut next = first;
     for view in stood {
-        next = push_way(alloc, typed, ways, next, view)?;
+        next = push_way(alloc, typed, ways, hidden, next, view)?;
     }
     Ok(())
+}
+
+/// The entities among which so many views stand.
+fn room_for(typed: &Typed, views: usize) -> usize {
+    if views == 0 {
+        0
+    } else {
+        typed.tree().entities.len()
+    }
+}
+
+/// The ways of a program's views, and the variables that keep their offsets, both in text order.
+///
+/// # Errors
+///
+/// `NoMemory`, the one error; no clause tells when.
+pub fn ways_and_hidden(alloc: Global, typed: &Typed) -> Result<(WayTable, Items<Hidden>), NoMemory>
+    requires few { HasFewWays (program_seen typed.now) }
+    ensures { IfOk result (λ made. (map led_seen made.0 ≡ ways_of (program_seen typed.now))
+        × (made.1 ≡ hidden_of_program (program_seen typed.now))) }
+{
+    let stood = standing_in(alloc, typed)?;
+    let first = first_hidden(typed);
+    let entities = room_for(typed, stood.len());
+    let mut ways = WayTable::with_room(alloc, stood.len(), entities)?;
+    let mut hidden = Items::new(alloc);
+    let views = stood.as_slice();
+    push_ways(alloc, typed, &mut ways, &mut hidden, first, views)?;
+    Ok((ways, hidden))
 }
 
 /// The ways of a program's views, in text order.
@@ -251,9 +281,6 @@ pub fn ways_in(alloc: Global, typed: &Typed) -> Result<WayTable, NoMemory>
     requires few { HasFewWays (program_seen typed.now) }
     ensures { IfOk result (λ ways. map led_seen ways ≡ ways_of (program_seen typed.now)) }
 {
-    let stood = standing_in(alloc, typed)?;
-    let first = first_hidden(typed);
-    let mut ways = WayTable::with_room(alloc, stood.len())?;
-    push_ways(alloc, typed, &mut ways, first, stood.as_slice())?;
+    let (ways, _hidden) = ways_and_hidden(alloc, typed)?;
     Ok(ways)
 }

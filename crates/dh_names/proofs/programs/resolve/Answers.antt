@@ -1,93 +1,16 @@
-use Rattle.std.proofs.Common.{◌≡◌, ◌∙◌, ap, sym, refl, map, length, arith}
-use Rattle.dh_tree.specs.Seen.{declared_seen, defined_seen, action_seen, program_seen}
-use Rattle.dh_names.specs.Visible.{visible}
-use Rattle.dh_names.specs.Walks.{state_of}
-use Rattle.dh_names.proofs.FunctionsDone.{length_map}
-use Rattle.dh_names.proofs.ProgramsDone.{facts, start_scope, nothing_own, no_names_seen, functions_room, program_tree, program_refused, program_keeps, tree_keeps, tree_resolved}
-use Rattle.dh_names.proofs.Wanting.{refused, some_items, some_functions, some_body}
+use Rattle.dh_tree.specs.Seen.{program_seen}
+use Rattle.dh_names.proofs.ProgramsAnswered.{keeps_names, has_entities, answered}
+use Rattle.dh_names.proofs.Wanting.{refused}
 use Rattle.dh_names.proofs.programs.resolve.Goals as goal
 
-pub functions-requires-clause-few : goal.functions-requires-clause-few
-functions-requires-clause-few c =
-    let d = length_map declared_seen c.args.tree.decls.items in
-    let f = length_map defined_seen c.args.tree.functions.items in
-    let e : c.len-count.result ≡ length c.args.tree.decls.items = c.len-count.ensures ∙ sym c.deref.ensures.len ∙ ap (λ l. length l) c.deref.ensures.value in
-    omega (arith, c.requires.few, e, d, f)
+pub named-requires-clause-names : goal.named-requires-clause-names
+named-requires-clause-names c = keeps_names (program_seen c.args.tree) c.in_ok-walked.walked c.in_ok-walked.ensures
 
-pub functions-requires-clause-room : goal.functions-requires-clause-room
-functions-requires-clause-room c =
-    functions_room (program_seen c.args.tree) (state_of (record { names = c.no_names.result; entities = c.in_ok-outer_entities.field-0; least = c.bind_items.new.least })) c.requires.few
-    (start_scope c.args.tree c.no_names.result.outer c.no_names.result.own c.in_ok-outer_entities.field-0.items c.deref-3.result.now c.deref-4.result.now c.no_names.ensures.outer c.no_names.ensures.own c.deref-3.ensures.value c.deref-4.ensures.value c.in_ok-outer_entities.ensures)
-
-pub functions-requires-clause-outside : goal.functions-requires-clause-outside
-functions-requires-clause-outside c = nothing_own c.no_names.result.outer c.no_names.result.own c.no_names.ensures.own
-
-pub returns-in-Some : goal.returns-in-Some
-returns-in-Some c =
-    program_refused (program_seen c.args.tree) (state_of (record { names = c.no_names.result; entities = c.in_ok-outer_entities.field-0; least = c.bind_items.new.least })) (state_of c.functions.new.self) (state_of c.command.new.self)
-    c.bind_items.new.names.outer (visible c.bind_items.new.names) (map declared_seen c.number_decls.new.decls.items) (map defined_seen c.functions.new.functions.items) (action_seen c.command.new.command)
-    (facts c.args.tree (state_of (record { names = c.no_names.result; entities = c.in_ok-outer_entities.field-0; least = c.bind_items.new.least })) (state_of c.functions.new.self) (state_of c.command.new.self)
-    c.bind_items.new.names.outer (visible c.bind_items.new.names) (visible c.no_names-names.result) c.no_names.result.outer c.no_names.result.own
-    c.deref.result.now c.deref-3.result.now c.deref-2.result.now c.deref-4.result.now
-    (map declared_seen c.number_decls.new.decls.items) (map defined_seen c.functions.new.functions.items) (action_seen c.command.new.command) c.len-count.result
-    c.requires.few c.no_names.ensures.outer c.no_names.ensures.own (no_names_seen c.no_names-names.result.outer c.no_names-names.result.own c.no_names-names.ensures.outer c.no_names-names.ensures.own) refl
-    c.deref.ensures.value c.deref-2.ensures.value c.deref-3.ensures.value c.deref-4.ensures.value (c.len-count.ensures ∙ sym c.deref.ensures.len ∙ ap (λ l. length l) c.deref.ensures.value)
-    c.in_ok-outer_entities.ensures c.in_ok-bind_items.ensures.names c.in_ok-bind_items.ensures.least c.in_ok-functions.ensures c.number_decls.ensures c.in_ok-command.ensures) c.in-Some.breach c.in-Some.is
-
-pub of-requires-clause-names : goal.of-requires-clause-names
-of-requires-clause-names c =
-    tree_keeps (program_seen c.args.tree) (state_of (record { names = c.no_names.result; entities = c.in_ok-outer_entities.field-0; least = c.bind_items.new.least })) (state_of c.functions.new.self) (state_of c.command.new.self)
-    c.bind_items.new.names.outer (visible c.bind_items.new.names) (map declared_seen c.number_decls.new.decls.items) (map defined_seen c.functions.new.functions.items) (action_seen c.command.new.command)
-    (facts c.args.tree (state_of (record { names = c.no_names.result; entities = c.in_ok-outer_entities.field-0; least = c.bind_items.new.least })) (state_of c.functions.new.self) (state_of c.command.new.self)
-    c.bind_items.new.names.outer (visible c.bind_items.new.names) (visible c.no_names-names.result) c.no_names.result.outer c.no_names.result.own
-    c.deref.result.now c.deref-3.result.now c.deref-2.result.now c.deref-4.result.now
-    (map declared_seen c.number_decls.new.decls.items) (map defined_seen c.functions.new.functions.items) (action_seen c.command.new.command) c.len-count.result
-    c.requires.few c.no_names.ensures.outer c.no_names.ensures.own (no_names_seen c.no_names-names.result.outer c.no_names-names.result.own c.no_names-names.ensures.outer c.no_names-names.ensures.own) refl
-    c.deref.ensures.value c.deref-2.ensures.value c.deref-3.ensures.value c.deref-4.ensures.value (c.len-count.ensures ∙ sym c.deref.ensures.len ∙ ap (λ l. length l) c.deref.ensures.value)
-    c.in_ok-outer_entities.ensures c.in_ok-bind_items.ensures.names c.in_ok-bind_items.ensures.least c.in_ok-functions.ensures c.number_decls.ensures c.in_ok-command.ensures) c.in-None.is
-
-pub of-requires-clause-entities : goal.of-requires-clause-entities
-of-requires-clause-entities c =
-    tree_resolved (program_seen c.args.tree) (state_of (record { names = c.no_names.result; entities = c.in_ok-outer_entities.field-0; least = c.bind_items.new.least })) (state_of c.functions.new.self) (state_of c.command.new.self)
-    c.bind_items.new.names.outer (visible c.bind_items.new.names) (map declared_seen c.number_decls.new.decls.items) (map defined_seen c.functions.new.functions.items) (action_seen c.command.new.command)
-    (facts c.args.tree (state_of (record { names = c.no_names.result; entities = c.in_ok-outer_entities.field-0; least = c.bind_items.new.least })) (state_of c.functions.new.self) (state_of c.command.new.self)
-    c.bind_items.new.names.outer (visible c.bind_items.new.names) (visible c.no_names-names.result) c.no_names.result.outer c.no_names.result.own
-    c.deref.result.now c.deref-3.result.now c.deref-2.result.now c.deref-4.result.now
-    (map declared_seen c.number_decls.new.decls.items) (map defined_seen c.functions.new.functions.items) (action_seen c.command.new.command) c.len-count.result
-    c.requires.few c.no_names.ensures.outer c.no_names.ensures.own (no_names_seen c.no_names-names.result.outer c.no_names-names.result.own c.no_names-names.ensures.outer c.no_names-names.ensures.own) refl
-    c.deref.ensures.value c.deref-2.ensures.value c.deref-3.ensures.value c.deref-4.ensures.value (c.len-count.ensures ∙ sym c.deref.ensures.len ∙ ap (λ l. length l) c.deref.ensures.value)
-    c.in_ok-outer_entities.ensures c.in_ok-bind_items.ensures.names c.in_ok-bind_items.ensures.least c.in_ok-functions.ensures c.number_decls.ensures c.in_ok-command.ensures)
+pub named-requires-clause-entities : goal.named-requires-clause-entities
+named-requires-clause-entities c = has_entities (program_seen c.args.tree) c.in_ok-walked.walked c.in_ok-walked.ensures
 
 pub returns : goal.returns
-returns c = (
-  ap (λ t. program_seen t) c.of.ensures ∙ program_tree (program_seen c.args.tree) (state_of (record { names = c.no_names.result; entities = c.in_ok-outer_entities.field-0; least = c.bind_items.new.least })) (state_of c.functions.new.self) (state_of c.command.new.self)
-      c.bind_items.new.names.outer (visible c.bind_items.new.names) (map declared_seen c.number_decls.new.decls.items) (map defined_seen c.functions.new.functions.items) (action_seen c.command.new.command)
-      (facts c.args.tree (state_of (record { names = c.no_names.result; entities = c.in_ok-outer_entities.field-0; least = c.bind_items.new.least })) (state_of c.functions.new.self) (state_of c.command.new.self)
-      c.bind_items.new.names.outer (visible c.bind_items.new.names) (visible c.no_names-names.result) c.no_names.result.outer c.no_names.result.own
-      c.deref.result.now c.deref-3.result.now c.deref-2.result.now c.deref-4.result.now
-      (map declared_seen c.number_decls.new.decls.items) (map defined_seen c.functions.new.functions.items) (action_seen c.command.new.command) c.len-count.result
-      c.requires.few c.no_names.ensures.outer c.no_names.ensures.own (no_names_seen c.no_names-names.result.outer c.no_names-names.result.own c.no_names-names.ensures.outer c.no_names-names.ensures.own) refl
-      c.deref.ensures.value c.deref-2.ensures.value c.deref-3.ensures.value c.deref-4.ensures.value (c.len-count.ensures ∙ sym c.deref.ensures.len ∙ ap (λ l. length l) c.deref.ensures.value)
-      c.in_ok-outer_entities.ensures c.in_ok-bind_items.ensures.names c.in_ok-bind_items.ensures.least c.in_ok-functions.ensures c.number_decls.ensures c.in_ok-command.ensures),
-  program_keeps (program_seen c.args.tree) (state_of (record { names = c.no_names.result; entities = c.in_ok-outer_entities.field-0; least = c.bind_items.new.least })) (state_of c.functions.new.self) (state_of c.command.new.self)
-      c.bind_items.new.names.outer (visible c.bind_items.new.names) (map declared_seen c.number_decls.new.decls.items) (map defined_seen c.functions.new.functions.items) (action_seen c.command.new.command)
-      (facts c.args.tree (state_of (record { names = c.no_names.result; entities = c.in_ok-outer_entities.field-0; least = c.bind_items.new.least })) (state_of c.functions.new.self) (state_of c.command.new.self)
-      c.bind_items.new.names.outer (visible c.bind_items.new.names) (visible c.no_names-names.result) c.no_names.result.outer c.no_names.result.own
-      c.deref.result.now c.deref-3.result.now c.deref-2.result.now c.deref-4.result.now
-      (map declared_seen c.number_decls.new.decls.items) (map defined_seen c.functions.new.functions.items) (action_seen c.command.new.command) c.len-count.result
-      c.requires.few c.no_names.ensures.outer c.no_names.ensures.own (no_names_seen c.no_names-names.result.outer c.no_names-names.result.own c.no_names-names.ensures.outer c.no_names-names.ensures.own) refl
-      c.deref.ensures.value c.deref-2.ensures.value c.deref-3.ensures.value c.deref-4.ensures.value (c.len-count.ensures ∙ sym c.deref.ensures.len ∙ ap (λ l. length l) c.deref.ensures.value)
-      c.in_ok-outer_entities.ensures c.in_ok-bind_items.ensures.names c.in_ok-bind_items.ensures.least c.in_ok-functions.ensures c.number_decls.ensures c.in_ok-command.ensures) c.in-None.is,
-)
+returns c = answered (program_seen c.args.tree) c.in_ok-walked.walked c.named.result c.in_ok-walked.ensures c.named.ensures
 
-pub returns-in_err-bind_items : goal.returns-in_err-bind_items
-returns-in_err-bind_items c = refused (program_seen c.args.tree) _ c.from_residual.ensures (some_items c.args.tree c.deref.result.now c.deref-2.result.now c.deref.ensures.value c.deref-2.ensures.value c.in_err-bind_items.ensures.memory)
-
-pub returns-in_err-outer_entities : goal.returns-in_err-outer_entities
-returns-in_err-outer_entities c = refused (program_seen c.args.tree) _ c.from_residual-in_err-outer_entities.ensures (some_items c.args.tree c.deref-3.result.now c.deref-4.result.now c.deref-3.ensures.value c.deref-4.ensures.value c.in_err-outer_entities.ensures)
-
-pub returns-in_err-functions : goal.returns-in_err-functions
-returns-in_err-functions c = refused (program_seen c.args.tree) _ c.from_residual-in_err-functions.ensures (some_functions c.args.tree c.in_err-functions.ensures)
-
-pub returns-in_err-command : goal.returns-in_err-command
-returns-in_err-command c = refused (program_seen c.args.tree) _ c.from_residual-in_err-command.ensures (some_body c.args.tree c.in_err-command.ensures)
+pub returns-in_err-walked : goal.returns-in_err-walked
+returns-in_err-walked c = refused (program_seen c.args.tree) _ c.from_residual.ensures c.in_err-walked.ensures

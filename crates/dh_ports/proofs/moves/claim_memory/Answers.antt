@@ -98,7 +98,7 @@ claim_all-requires c =
     let is : c.in-Some.entry.now ≡ get_or c.as_slice.result.now c.args.memory c.in-Some.entry.now = search rules in
     let same = c.as_slice.ensures ∙ c.memories.ensures in
     record {
-      few = each_few (keys_on p c.as_slice-dims.result.now (source_of c.loops_round-loops.result.now c.args.claimant.writes c.args.claimant.access.now)) c.bank_count-banks.result c.index-base.result.now c.as_slice-3.result.now (c.as_slice-3.ensures.value ∙ c.in_ok-counts.ensures.counts)
+      few = each_few (keys_on p c.as_slice-dims.result.now (source_of c.loops_round-loops.result.now c.args.claimant.writes c.args.claimant.access.now)) c.bank_count-banks.result c.index-base.result.now c.as_slice-counts.result.now (c.as_slice-counts.ensures.value ∙ c.in_ok-keys_reaching.ensures.counts)
           (slots_few (table_of p) c.args.memory c.in-Some.entry.now (entry_at (table_of p) c.as_slice.result.now c.args.memory c.in-Some.entry.now same within is) c.requires.table c.index-base.result.now c.bank_count-banks.result c.as_slice-dims.result.now c.as_slice-dims.ensures
           (base_at (table_of p) c.as_slice.result.now c.args.layout.now.bases.items c.args.memory c.index-base.result.now same c.requires.layout.bases within c.index-base.ensures) c.bank_count-banks.ensures);
     }
@@ -114,8 +114,8 @@ returns c =
     (number_in (memories_of p) (entity_in (form_seen c.args.claimant.access.now.form))) c.args.memory refl c.requires.named
     c.in-Some.entry.now (entry_at (table_of p) c.as_slice.result.now c.args.memory c.in-Some.entry.now same within is) c.as_slice-dims.result.now c.as_slice-dims.ensures c.index-base.result.now c.bank_count-banks.result
     (base_at (table_of p) c.as_slice.result.now c.args.layout.now.bases.items c.args.memory c.index-base.result.now same c.requires.layout.bases within c.index-base.ensures) c.bank_count-banks.ensures
-    c.as_slice-3.result.now (c.as_slice-3.ensures.value ∙ (c.in_ok-counts.ensures.counts ∙ ap (λ (ls : List Counter). each_below (keys_on p c.as_slice-dims.result.now (source_of ls c.args.claimant.writes c.args.claimant.access.now)) c.bank_count-banks.result) loops_are)) in
+    c.as_slice-counts.result.now (c.as_slice-counts.ensures.value ∙ (c.in_ok-keys_reaching.ensures.counts ∙ ap (λ (ls : List Counter). each_below (keys_on p c.as_slice-dims.result.now (source_of ls c.args.claimant.writes c.args.claimant.access.now)) c.bank_count-banks.result) loops_are)) in
     record {
       claims = on_ok_weaker c.claim_all.result (λ so. so ∙ ap (λ l. moves_in c.args.moves.now.items ++ l) (sym claims)) c.claim_all.ensures;
-      past = on_ok_weaker c.claim_all.result (λ so. c.in_ok-counts.ensures.past) c.claim_all.ensures;
+      past = on_ok_weaker c.claim_all.result (λ so. c.in_ok-keys_reaching.ensures.past) c.claim_all.ensures;
     }

@@ -80,7 +80,7 @@ claim_all-requires c =
     let base = base_through c.args.typed.now c.args.claimant.event (loops_in c.args.layout.now.rounds.items c.args.claimant.round) c.args.claimant.writes c.args.claimant.access.now (way_seen c.args.way.now) c.requires.named c.number_of.result (c.number_of.ensures ∙ ap (number_in (memories_of (program_seen c.args.typed.now))) c.memory-ends_at.ensures) c.requires.leads c.args.carrier.now c.requires.carrier c.in-Some.memory c.in-Some.is
     c.args.layout.now.bases.items c.index-base.result.now c.requires.layout.bases c.index-base.ensures in
     record {
-      few = each_few (charge_through p (way_seen c.args.way.now) (source_of c.loops_round-loops.result.now c.args.claimant.writes c.args.claimant.access.now)) (length c.args.carrier.now.sources.items) c.index-base.result.now c.as_slice-2.result.now (c.as_slice-2.ensures.value ∙ c.in_ok-counts.ensures.counts)
+      few = each_few (charge_through p (way_seen c.args.way.now) (source_of c.loops_round-loops.result.now c.args.claimant.writes c.args.claimant.access.now)) (length c.args.carrier.now.sources.items) c.index-base.result.now c.as_slice-2.result.now (c.as_slice-2.ensures.value ∙ c.in_ok-keys_through.ensures.counts)
           (slots_through c.args.typed.now c.args.claimant.event (loops_in c.args.layout.now.rounds.items c.args.claimant.round) c.args.claimant.writes c.args.claimant.access.now (way_seen c.args.way.now) c.requires.named c.number_of.result (c.number_of.ensures ∙ ap (number_in (memories_of (program_seen c.args.typed.now))) c.memory-ends_at.ensures) c.requires.leads c.args.carrier.now c.requires.carrier c.in-Some.memory c.in-Some.is
           c.requires.table c.index-base.result.now base);
     }
@@ -93,8 +93,8 @@ returns c =
     let loops_are = c.loops_round-loops.ensures ∙ ap (λ rounds. loops_in rounds c.args.claimant.round) c.as_slice.ensures.value in
     let claims = counts_through c.args.typed.now c.args.claimant.event (loops_in c.args.layout.now.rounds.items c.args.claimant.round) c.args.claimant.writes c.args.claimant.access.now (way_seen c.args.way.now) c.requires.named c.number_of.result (c.number_of.ensures ∙ ap (number_in (memories_of (program_seen c.args.typed.now))) c.memory-ends_at.ensures) c.requires.leads c.args.carrier.now c.requires.carrier c.in-Some.memory c.in-Some.is
     c.index-base.result.now c.as_slice-2.result.now base
-    (c.as_slice-2.ensures.value ∙ (c.in_ok-counts.ensures.counts ∙ ap (λ (ls : List Counter). each_below (charge_through p (way_seen c.args.way.now) (source_of ls c.args.claimant.writes c.args.claimant.access.now)) (length c.args.carrier.now.sources.items)) loops_are)) in
+    (c.as_slice-2.ensures.value ∙ (c.in_ok-keys_through.ensures.counts ∙ ap (λ (ls : List Counter). each_below (charge_through p (way_seen c.args.way.now) (source_of ls c.args.claimant.writes c.args.claimant.access.now)) (length c.args.carrier.now.sources.items)) loops_are)) in
     record {
       claims = on_ok_weaker c.claim_all.result (λ so. so ∙ ap (λ l. moves_in c.args.moves.now.items ++ l) (sym claims)) c.claim_all.ensures;
-      past = on_ok_weaker c.claim_all.result (λ so. c.in_ok-counts.ensures.past) c.claim_all.ensures;
+      past = on_ok_weaker c.claim_all.result (λ so. c.in_ok-keys_through.ensures.past) c.claim_all.ensures;
     }

@@ -14,10 +14,10 @@ use Rattle.dh_ports.proofs.moves.layout_of.Goals as goal
 pub carriers_of-requires : goal.carriers_of-requires
 carriers_of-requires c =
     let p = program_seen c.args.typed.now in
-    follow_all (memories_of p) c.in_ok-ways.ways (ways_of p) c.in_ok-ways.ensures c.requires.leads
+    follow_all (memories_of p) c.in_ok-ways.ways (ways_of p) c.in_ok-ways.ensures.0 c.requires.leads
 
 pub scopes_in-requires : goal.scopes_in-requires
-scopes_in-requires c = record { ways = c.in_ok-ways.ensures; few = c.requires.few }
+scopes_in-requires c = record { ways = c.in_ok-ways.ensures.0; hidden = c.as_slice-variables.ensures ∙ c.in_ok-ways.ensures.1 }
 
 pub returns : goal.returns
 returns c =
@@ -26,6 +26,6 @@ returns c =
       bases = subst (λ (table : List MemEntry). AreBases table c.in_ok-bases.bases.items) (c.as_slice.ensures ∙ c.memories.ensures) c.in_ok-bases.ensures;
       rounds = c.in_ok-rounds.ensures;
       scopes = subst (λ (rounds : List (Vec Counter Global)). AreScopesWhere p rounds c.in_ok-scopes.scopes.items) c.as_slice-2.ensures.value c.in_ok-scopes.ensures;
-      ways = c.in_ok-ways.ensures;
+      ways = c.in_ok-ways.ensures.0;
       carriers = c.in_ok-carriers.ensures;
     }

@@ -3,14 +3,10 @@ use Rattle.std.proofs.lemmas.Result.{on_ok_weaker}
 use Rattle.dh_ports.specs.Orders.{AreMarked, AreRead}
 use Rattle.dh_ports.specs.Runs.{moves_in}
 use Rattle.dh_ports.proofs.RunTurns.{keeps_late}
-use Rattle.dh_ports.proofs.UnwrittenEvents.{keeps_unwritten}
 use Rattle.dh_ports.proofs.ordering.keep_late.Goals as goal
 
-pub returns-then-unwritten : goal.returns-then-unwritten
-returns-then-unwritten c = keeps_unwritten c.args.events.now (moves_in c.args.moves.now) c.args.kept.now c.requires.within (c.requires.shared.unwritten c.if-unwritten.true)
-
 pub written_banks-requires-clause-read : goal.written_banks-requires-clause-read
-written_banks-requires-clause-read c = subst (λ (m : List ℕ). AreRead c.args.events.now m) (sym c.as_slice-read.ensures.value) c.requires.shared.read
+written_banks-requires-clause-read c = subst (λ (m : List ℕ). AreRead c.args.events.now m) (sym c.as_slice.ensures.value) c.in_ok-read.ensures
 
 pub keep_all-requires-clause-distinct : goal.keep_all-requires-clause-distinct
 keep_all-requires-clause-distinct c = c.len.ensures.distinct

@@ -1,9 +1,11 @@
--- The first place is found from here among the runs that are left as from the start among all.
-use Rattle.std.proofs.Common.{◌≡◌, drop, length}
+-- What stands behind the runs that are left is found from here as behind all from the start, whatever flags there come
+-- to be.
+use Rattle.std.proofs.Common.{◌≡◌, Bool, List, ◌++◌, drop, length}
 use Rattle.std.specs.List.{AllByRecursion}
 use Rattle.dh_events.specs.Noted.{all_seen}
+use Rattle.dh_ports.specs.declared.moves.Move.{Move}
 use Rattle.dh_ports.specs.Levels.{IsKept}
-use Rattle.dh_ports.specs.Passing.{beyond_from, first_from}
+use Rattle.dh_ports.specs.Passing.{beyond_from}
 use Rattle.dh_ports.specs.Runs.{moves_in}
 use Rattle.dh_ports.specs.Scanned.{IsMoveOf}
 use Rattle.dh_ports.proofs.spending.spend_all.Given as goal
@@ -11,5 +13,5 @@ use Rattle.dh_ports.proofs.spending.spend_all.Given as goal
 abbrev pub invariant-loop-run : goal.invariant-loop-run
 invariant-loop-run l =
     IsKept l.levels
-    × ((beyond_from (all_seen l.events) l.shared l.levels (moves_in (drop l.run-index l.moves)) ≡ first_from (all_seen l.events) l.shared l.fn.starts.items (moves_in l.moves))
-    × AllByRecursion (IsMoveOf (length l.events)) (moves_in (drop l.run-index l.moves)))
+    × (((more : List Bool) (rest : List Move) → beyond_from (all_seen l.events) (l.shared ++ more) l.levels (moves_in (drop l.run-index l.moves) ++ rest) ≡ beyond_from (all_seen l.events) (l.shared ++ more) l.fn.levels (moves_in l.moves ++ rest))
+    × AllByRecursion (IsMoveOf (length l.shared)) (moves_in (drop l.run-index l.moves)))

@@ -1,5 +1,6 @@
--- What stands behind the rest of the row is found from here as behind the whole run from the start.
-use Rattle.std.proofs.Common.{◌≡◌, ◌-◌, List, ◌++◌, length}
+-- What stands behind the rest of the row is found from here as behind the whole run from the start, whatever flags there
+-- come to be.
+use Rattle.std.proofs.Common.{◌≡◌, ◌-◌, Bool, List, ◌++◌, length}
 use Rattle.std.specs.List.{AllByRecursion}
 use Rattle.dh_events.specs.Noted.{all_seen}
 use Rattle.dh_ports.specs.declared.moves.Move.{Move}
@@ -12,5 +13,5 @@ use Rattle.dh_ports.proofs.spending.spend_run.Given as goal
 abbrev pub invariant-loop-slot : goal.invariant-loop-slot
 invariant-loop-slot l =
     IsKept l.levels
-    × (((rest : List Move) → beyond_from (all_seen l.events) l.shared l.levels (row_of l.run.first l.slot (l.run.end - l.slot) ++ rest) ≡ beyond_from (all_seen l.events) l.shared l.fn.levels (moves_of_run l.run ++ rest))
-    × AllByRecursion (IsMoveOf (length l.events)) (row_of l.run.first l.slot (l.run.end - l.slot)))
+    × (((more : List Bool) (rest : List Move) → beyond_from (all_seen l.events) (l.shared ++ more) l.levels (row_of l.run.first l.slot (l.run.end - l.slot) ++ rest) ≡ beyond_from (all_seen l.events) (l.shared ++ more) l.fn.levels (moves_of_run l.run ++ rest))
+    × AllByRecursion (IsMoveOf (length l.shared)) (row_of l.run.first l.slot (l.run.end - l.slot)))

@@ -1,4 +1,4 @@
-use Rattle.std.proofs.Common.{ap, ◌∙◌, option_map}
+use Rattle.std.proofs.Common.{ap, option_map}
 use Rattle.dh_viewing.specs.Finding.{viewing_found}
 use Rattle.dh_viewing.proofs.ViewsFound.{kept_found}
 use Rattle.dh_viewing.proofs.judging.kept_map.Goals as goal

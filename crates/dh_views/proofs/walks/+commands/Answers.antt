@@ -1,9 +1,7 @@
 use Rattle.std.proofs.Common.{refl, ap, ◌+◌, ◌∙◌}
 use Rattle.dh_tree.specs.declared.trees.commands.Command.{Command}
-use Rattle.dh_tree.specs.declared.trees.commands.LoopHeader.{LoopHeader}
 use Rattle.dh_tree.specs.LeastBreach.{least_of}
 use Rattle.dh_tree.proofs.SeenActions.{for_is}
-use Rattle.dh_views.specs.Kept.{header_breaches}
 use Rattle.dh_views.proofs.Turns.{loop_kept}
 use Rattle.dh_tree.specs.Indices.{known_of, action_index_breaches, actions_index_breaches, groups_index_breaches}
 use Rattle.dh_tree.specs.Seen.{action_form_seen, action_seen, maybe_block_seen, program_seen}
@@ -20,8 +18,8 @@ keep_groups-loop-command-preserved t c =
 pub keep_command-returns-in-For : goal.keep_command-returns-in-For
 keep_command-returns-in-For t c =
     loop_kept (known_of (program_seen c.args.typed.now)) c.in-For.header.value (action_seen c.in-For.body.value) (maybe_block_seen c.in-For.combine) (action_form_seen c.args.command.now.form)
-    c.args.kept.now c.keep_turns.new.kept c.keep_command-in-For.new.kept c.keep_other-in-For.new.kept
+    c.args.kept.now c.keep_own.new.kept c.keep_command-in-For.new.kept c.keep_other-in-For.new.kept
     (ap action_form_seen c.in-For.is ∙ for_is c.in-For.header c.in-For.body c.in-For.combine)
-    (c.keep_turns.ensures ∙ ap (λ (h : LoopHeader). least_of c.args.kept.now (header_breaches h)) c.deref-in-For.ensures)
-    (c.keep_command-in-For.ensures ∙ ap (λ (x : Command). least_of c.keep_turns.new.kept (action_index_breaches (known_of (program_seen c.args.typed.now)) (action_seen x))) c.deref-in-For-2.ensures)
+    c.keep_own.ensures
+    (c.keep_command-in-For.ensures ∙ ap (λ (x : Command). least_of c.keep_own.new.kept (action_index_breaches (known_of (program_seen c.args.typed.now)) (action_seen x))) c.deref-in-For.ensures)
     c.keep_other-in-For.ensures

@@ -9,8 +9,11 @@ use Rattle.dh_ways.proofs.tracing.push_way.Goals as goal
 
 pub returns : goal.returns
 returns c = (
-  next_told c.args.first c.entity_behind-next.result c.len.result (stand_seen c.args.view.now) c.in_ok-own.own c.in_ok-own.ensures c.len.ensures c.entity_behind-next.ensures,
-  c.in_ok-push_link.ensures ∙ ap (λ l. map led_seen c.args.ways.now ++ l) (c.in_ok-link.ensures.led c.args.first (own_told c.args.first (stand_seen c.args.view.now) c.in_ok-own.own c.in_ok-own.ensures)),
+  (
+    next_told c.args.first c.entity_behind-next.result c.len.result (stand_seen c.args.view.now) c.in_ok-own.own c.in_ok-own.ensures c.len.ensures c.entity_behind-next.ensures,
+    c.in_ok-push_link.ensures ∙ ap (λ l. map led_seen c.args.ways.now ++ l) (c.in_ok-link.ensures.led c.args.first (own_told c.args.first (stand_seen c.args.view.now) c.in_ok-own.own c.in_ok-own.ensures)),
+  ),
+  c.in_ok-append.ensures ∙ ap (λ l. c.args.hidden.now ++ l) (c.as_slice.ensures ∙ c.in_ok-own.ensures),
 )
 
 pub push_link-requires : goal.push_link-requires

@@ -17,5 +17,5 @@ returns c =
     c.requires.outside
     (subst (λ n. Room (state_of c.args.self.now) (n + declared_in (action_seen c.args.function.now.body))) (sym (length_map formal_seen c.args.function.now.parameters.items)) c.requires.room)
     (λ room. c.in_ok-parameters.ensures)
-    c.in_ok-command.ensures c.truncate.ensures bound)
+    c.in_ok-command.ensures.names c.truncate.ensures bound)
     (bound_ok c.command.new.self.names.outer c.bind.new.self c.args.function.now.name.name c.args.number c.bind.result c.bind.ensures)

@@ -5,6 +5,4 @@ returns c = record {
   flag = c.in_ok-flag.flag;
   next = c.in_ok-flag.ensures;
   more = c.in_ok-push.ensures.items;
-  read = c.in_ok-mark_read.ensures;
-  unwritten = c.stays_unwritten-self.ensures;
 }

@@ -1,0 +1,33 @@
+-- What is answered of a program, from what the walk over it found.
+use Rattle.std.proofs.Common.{◌≡◌, inr, Result, Ok, Err, None, sym, ap, ◌∙◌}
+use Rattle.dh_base.specs.declared.faults.PassFault.{PassFault}
+use Rattle.dh_base.specs.declared.faults.PassFault.TheVariants as fault
+use Rattle.dh_tree.specs.declared.trees.named.Named.{Named}
+use Rattle.dh_tree.specs.PlainTrees.{Program}
+use Rattle.dh_tree.specs.LeastBreach.{breach}
+use Rattle.dh_tree.specs.Seen.{program_seen}
+use Rattle.dh_tree.specs.Breaches.{breaches_of, KeepsNames}
+use Rattle.dh_tree.specs.Forms.{unbuilt_forms}
+use Rattle.dh_tree.specs.Resolved.{resolved, HasEntities}
+use Rattle.dh_names.specs.Programs.{Answers, AnswersBuilt, IsWalked, Settles}
+use Rattle.dh_names.specs.declared.programs.WalkedProgram.{WalkedProgram}
+use Rattle.dh_names.proofs.AgainPrograms.{breaches_again, resolved_again}
+use Rattle.dh_names.proofs.LeastKept.{none_kept, least_kept}
+
+pub keeps_names : (p : Program) (w : WalkedProgram) → IsWalked p w → w.least ≡ None → KeepsNames (program_seen w.tree)
+keeps_names p w walked none = ap (λ q. breaches_of q) walked.tree ∙ breaches_again p ∙ none_kept (breaches_of p) (sym walked.least ∙ none)
+
+pub has_entities : (p : Program) (w : WalkedProgram) → IsWalked p w → HasEntities (program_seen w.tree)
+has_entities p w walked = ap (λ q. resolved q) walked.tree ∙ resolved_again p ∙ sym walked.tree
+
+pub answered : (p : Program) (w : WalkedProgram) (r : Result Named PassFault) → IsWalked p w → Settles w.tree w.least r → Answers p r
+answered p w (Ok n) walked h = (ap (λ t. program_seen t) h.0 ∙ walked.tree, none_kept (breaches_of p) (sym walked.least ∙ h.1))
+answered p w (Err (fault.Refused rule place)) walked h = least_kept (breaches_of p) (breach rule place) (sym walked.least ∙ h)
+answered p w (Err fault.NoMemory) walked h = absurd h
+
+-- the same where all forms are built
+pub answered_built : (p : Program) (w : WalkedProgram) (r : Result Named PassFault) → IsWalked p w → w.unbuilt ≡ None → Settles w.tree w.least r → AnswersBuilt p r
+answered_built p w (Ok n) walked none h = (none_kept (unbuilt_forms p) (sym walked.unbuilt ∙ none), answered p w (Ok n) walked h)
+answered_built p w (Err (fault.Refused rule place)) walked none h =
+    inr (none_kept (unbuilt_forms p) (sym walked.unbuilt ∙ none), answered p w (Err (fault.Refused rule place)) walked h)
+answered_built p w (Err fault.NoMemory) walked none h = absurd h

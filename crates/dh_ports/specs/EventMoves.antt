@@ -1,0 +1,39 @@
+-- What events do to banks, event by event.
+use Rattle.std.specs.Prelude.{ℕ, ◌≤◌, List, [], ◌∷◌, Option, Vec}
+use Rattle.std.specs.Global.{Global}
+use Rattle.dh_tree.specs.declared.trees.counters.Counter.{Counter}
+use Rattle.dh_tree.specs.PlainTrees.{Program}
+use Rattle.dh_events.specs.declared.events.Event.{Event}
+use Rattle.dh_events.specs.declared.events.Event.TheVariants as event
+use Rattle.dh_events.specs.Accesses.{loops_in}
+use Rattle.dh_events.specs.Noted.{all_seen}
+use Rattle.dh_meets.specs.FewCopies.{most_copies}
+use Rattle.dh_ports.specs.declared.moves.Layout.{Layout}
+use Rattle.dh_ports.specs.declared.moves.Move.{Move}
+use Rattle.dh_ports.specs.declared.moves.Move.TheVariants as move
+use Rattle.dh_ports.specs.Claims.{claims_of, moves_from, source_of}
+use Rattle.dh_ports.specs.Copies.{copies_round}
+
+-- what an event at a place does to banks
+abbrev pub moves_of : Program → (loops : Option ℕ → List Counter) → (place : ℕ) → Event → List Move
+moves_of p loops place (event.Touch access writes phase round element newest) = claims_of p place (source_of (loops round) writes access.now)
+moves_of p loops place (event.Assigned entity) = []
+moves_of p loops place event.ArmBegins = []
+moves_of p loops place event.ArmEnds = []
+moves_of p loops place event.Begins = move.Begin ∷ []
+moves_of p loops place event.Next = move.Next ∷ []
+moves_of p loops place event.Ends = move.End ∷ []
+
+-- what all do, where the layout tells the loops round each
+abbrev pub moves_known : Program → Layout → List Event → List Move
+moves_known p layout events = moves_from p (loops_in layout.rounds.items) 0 (all_seen events)
+
+-- an access does not stand in too many copies
+abbrev pub HasFewCopiesAt : List (Vec Counter Global) → Event → Type 0
+HasFewCopiesAt rounds (event.Touch access writes phase round element newest) = copies_round (loops_in rounds round) ≤ most_copies
+HasFewCopiesAt rounds (event.Assigned entity) = Unit {0}
+HasFewCopiesAt rounds event.ArmBegins = Unit {0}
+HasFewCopiesAt rounds event.ArmEnds = Unit {0}
+HasFewCopiesAt rounds event.Begins = Unit {0}
+HasFewCopiesAt rounds event.Next = Unit {0}
+HasFewCopiesAt rounds event.Ends = Unit {0}

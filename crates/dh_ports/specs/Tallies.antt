@@ -1,0 +1,47 @@
+-- What is kept while accesses are counted.
+use Rattle.std.specs.Prelude.{◌≡◌, ℕ}
+use Rattle.dh_ports.specs.declared.carrying.Carrier.{Carrier}
+use Rattle.dh_ports.specs.declared.copies.Reach.{Reach}
+use Rattle.dh_ports.specs.declared.keeping.Counts.{Counts}
+use Rattle.dh_ports.specs.declared.keeping.Sums.{Sums}
+use Rattle.dh_ports.specs.declared.keeping.Tally.{Tally}
+use Rattle.dh_ports.specs.Carriers.{AreGroupSums}
+use Rattle.dh_ports.specs.Copies.{AreCounts, IsPast}
+
+-- two accesses reach the same banks with the same keys at the paths of the same numbers
+pub record ReachAlike (one other : Reach) : Type 0 where
+  pub own : one.own ≡ other.own
+  pub levels : one.paths.levels.items ≡ other.paths.levels.items
+  pub lanes : one.lanes.items ≡ other.lanes.items
+
+-- charges are carried the same way
+pub record CarryAlike (one other : Carrier) : Type 0 where
+  pub banks : one.banks ≡ other.banks
+  pub evenly : one.evenly ≡ other.evenly
+  pub sources : one.sources.items ≡ other.sources.items
+
+-- counts that are kept are those of what is kept with them
+abbrev pub AreCountsKept : Counts → Type 0
+AreCountsKept c = AreCounts c.reach 0 c.many c.banks c.counts.items
+
+-- and that is so many paths that reach so, on so many banks
+pub record AreCountsOf (c : Counts) (reach : Reach) (many banks : ℕ) : Type 0 where
+  pub same_many : c.many ≡ many
+  pub same_banks : c.banks ≡ banks
+  pub reaches : ReachAlike c.reach reach
+
+-- sums that are kept are those of what is kept with them
+abbrev pub AreSums : Sums → Type 0
+AreSums s = AreGroupSums s.reach s.carrier s.stride s.groups s.sums.items
+
+-- and that is so many groups of so many paths that reach so, carried so
+pub record AreSumsOf (s : Sums) (reach : Reach) (carrier : Carrier) (stride groups : ℕ) : Type 0 where
+  pub same_stride : s.stride ≡ stride
+  pub same_groups : s.groups ≡ groups
+  pub reaches : ReachAlike s.reach reach
+  pub carries : CarryAlike s.carrier carrier
+
+pub record IsReady (tally : Tally) : Type 0 where
+  pub past : IsPast tally.seen
+  pub direct : AreCountsKept tally.direct
+  pub kept : AreSums tally.last

@@ -1,0 +1,11 @@
+use Rattle.dh_tree.specs.Seen.{program_seen}
+use Rattle.dh_rules.proofs.Both.{first_shape, no_shape}
+use Rattle.dh_rules.proofs.placements.shapes_and_places.Goals as goal
+
+pub returns-in-Some-clause-breach : goal.returns-in-Some-clause-breach
+returns-in-Some-clause-breach c =
+    first_shape (program_seen c.args.typed.now) c.first_breaches-firsts.result.shapes c.keep_views.new.kept c.in-Some.breach c.first_breaches-firsts.ensures.shapes c.in-Ok.ensures c.in-Some.is
+
+pub returns-in-None-clause-breach : goal.returns-in-None-clause-breach
+returns-in-None-clause-breach c =
+    no_shape (program_seen c.args.typed.now) c.first_breaches-firsts.result.shapes c.keep_views.new.kept c.first_breaches-firsts.ensures.shapes c.in-Ok.ensures c.in-None.is

@@ -1,0 +1,9 @@
+-- The variables of one view, as they are held.
+use Rattle.std.specs.Prelude.{List}
+use Rattle.dh_ways.specs.declared.variables.Held.{Held}
+use Rattle.dh_ways.specs.declared.variables.Held.TheVariants.{Alone, All}
+use Rattle.dh_ways.specs.declared.ways.Hidden.{Hidden}
+
+abbrev pub all_held : Held → List Hidden
+all_held (Alone one) = one
+all_held (All all) = all
