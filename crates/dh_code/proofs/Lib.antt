@@ -18,6 +18,8 @@ pub mod Undoing
 pub mod Making
 pub mod Operating
 pub mod OperandMasks
+pub mod MaskedSums
+pub mod PlainValues
 pub mod MadeParts
 pub mod TargetsMade
 pub mod Declaring
@@ -32,6 +34,7 @@ pub mod KeptValues
 pub mod PathCommands
 pub mod ChoicesDone
 pub mod ListsRun
+pub mod OnePath
 pub mod FlattenedForms
 pub mod CommandForms
 pub mod PathsInOrder

@@ -1,6 +1,6 @@
 -- An `if` at paths, and lists of commands, one after the other.
 use Rattle.std.proofs.Common.{◌≡◌, ℕ, suc, ◌+◌, ◌*◌, ◌<◌, ◌≤◌, Bool, true, false, if◌then◌else◌, List, [], ◌∷◌, length, map, max, get_or, Ok, Err, Some, None, refl, ap, sym, ◌∙◌, subst, arith}
-use Rattle.std.specs.Prelude.{Option, Result, slice_get, slice_index_or}
+use Rattle.std.specs.Prelude.{Option, Result, is_some, not, slice_get, slice_index_or}
 use Rattle.std.proofs.lemmas.Option.{slice_get-get_or, slice_get_past}
 use Rattle.dh_tree.specs.declared.tables.MemEntry.{MemEntry}
 use Rattle.dh_meaning.specs.Paths.{Path}
@@ -20,6 +20,7 @@ use Rattle.dh_code.specs.Scenes.{IsAction, IsEarlier, IsScene, begun_in}
 use Rattle.dh_code.specs.Slots.{Placing}
 use Rattle.dh_code.specs.States.{AreParts, AreRanks, AreRows, CanBeDone, Decides, DoesAll, DoesOne, Ends, IsReady, Keeps, KeepsBack, Runs}
 use Rattle.dh_code.specs.Suited.{CanDoAll, CanEvaluate}
+pub use Rattle.dh_code.specs.Underway.{RunSoFar, list_depth}
 use Rattle.dh_code.proofs.ChoicesDone.{all_nowhere}
 use Rattle.dh_code.proofs.PathLoops.{Grows, commands_grow, ends_later, grows_then, row_at}
 
@@ -30,7 +31,7 @@ arms_run b yes_paths no_paths chosen other e = commands_run b no_paths other (co
 pub arms_grow : (b : Begun) (xs ys : List Path) (chosen other : CoreCommands) (e : Effect) → Grows e (arms_run b xs ys chosen other e)
 arms_grow b xs ys chosen other e = grows_then e (commands_run b xs chosen e) _ (commands_grow b xs chosen e) (commands_grow b ys other (commands_run b xs chosen e))
 
-one_path : (factors : List ℕ) (rows : List (List ℕ)) (n : ℕ) (paths : List Path) → AreRows factors rows (n ∷ []) paths → (path : Path) × (paths ≡ path ∷ [])
+pub one_path : (factors : List ℕ) (rows : List (List ℕ)) (n : ℕ) (paths : List Path) → AreRows factors rows (n ∷ []) paths → (path : Path) × (paths ≡ path ∷ [])
 one_path factors rows n [] are = absurd (never are.are)
   where
     never : slice_index_or rows n [] ∷ [] ≡ [] → ⊥
@@ -128,24 +129,9 @@ module _ (s : Scene) (old : State) (rows : List (List ℕ)) (numbers : List ℕ)
 
 -- Lists of commands.
 
--- how many numbers there are up to the beginning of a list
-abbrev pub list_depth : Option ℕ → ℕ
-list_depth None = 0
-list_depth (Some n) = n + 1
-
 abbrev pub list_rest : CoreCommands → CoreCommands
 list_rest no_commands = no_commands
 list_rest (command_and c cs) = cs
-
--- commands that were done up to one
-pub record RunSoFar (s : Scene) (old : State) (rows : List (List ℕ)) (numbers : List ℕ) (first : Option ℕ) (now : State) (list : Option ℕ) : Type 0 where
-  pub ready : IsReady s now
-  pub back : KeepsBack old now
-  pub low : list_depth list ≤ list_depth first
-  pub ran : (p : Placing) (factors : List ℕ) (paths : List Path) (cs : CoreCommands) → AreRows factors rows numbers paths → AreCoded p.held s.entries.now s.code.now first cs → CanDoAll s.entries.now p factors cs
-      → (e : Effect) → Keeps p s.entries.now e s.step old
-      → (rest : CoreCommands) × ((so_far : Effect) × ((AreCoded p.held s.entries.now s.code.now list rest × CanDoAll s.entries.now p factors rest)
-      × (Keeps p s.entries.now so_far s.step now × (commands_run (begun_in s) paths rest so_far ≡ commands_run (begun_in s) paths cs e))))
 
 pub run_first : (s : Scene) (old : State) (rows : List (List ℕ)) (numbers : List ℕ) (first : Option ℕ) → IsReady s old → RunSoFar s old rows numbers first old first
 run_first s old rows numbers first ready = record {
@@ -228,6 +214,30 @@ module _ (s : Scene) (old : State) (rows : List (List ℕ)) (numbers : List ℕ)
           → Ends {A = B} p s.entries.now (commands_run (begun_in s) paths cs e) s.step (Ok b) now
       by (no_commands, (so_far, ((coded, can), (k, same)))) = subst (λ (y : Effect). Keeps p s.entries.now y s.step now) same k
       by (command_and c rest, (so_far, ((coded, can), (k, same)))) = absurd (subst (λ (l : Option ℕ). AreCoded p.held s.entries.now s.code.now l (command_and c rest)) is coded)
+
+-- one part after the other
+pub run_more : (s : Scene) (old middle now : State) (rows : List (List ℕ)) (numbers : List ℕ) (first list rest : Option ℕ) → RunSoFar s old rows numbers first middle list → RunSoFar s middle rows numbers list now rest → RunSoFar s old rows numbers first now rest
+run_more s old middle now rows numbers first list rest g h = record {
+  ready = h.ready;
+  back = record { long = h.back.long ∙ g.back.long; back = h.back.back ∙ g.back.back };
+  low = under (list_depth rest) (list_depth list) (list_depth first) h.low g.low;
+  ran = λ p factors paths cs are coded can e k.
+      let a = g.ran p factors paths cs are coded can e k in
+      let b = h.ran p factors paths a.0 are a.1.1.0.0 a.1.1.0.1 a.1.0 a.1.1.1.0 in
+      (b.0, (b.1.0, (b.1.1.0, (b.1.1.1.0, b.1.1.1.1 ∙ a.1.1.1.1))));
+}
+  where
+    under : (x y z : ℕ) → x ≤ y → y ≤ z → x ≤ z
+    under x y z a b = omega (arith, a, b)
+
+-- nothing is done where there is no command
+pub run_nothing : {A : Type 0} (s : Scene) (state : State) (rows : List (List ℕ)) (numbers : List ℕ) (a : A) → IsReady s state → DoesAll {A = A} s state (Ok a) state rows numbers None
+run_nothing {A} s state rows numbers a ready = run_end s state rows numbers None state None (run_first s state rows numbers None ready) A a refl
+
+pub none_is : (o : Option ℕ) (t : Bool) → is_some o ≡ not t → t ≡ true → o ≡ None
+none_is None t e f = refl
+none_is (Some n) true e f = absurd cc
+none_is (Some n) false e f = absurd cc
 
 -- Where the commands of a list stand.
 

@@ -14,5 +14,7 @@ pub mod Made
 pub mod Coded
 pub mod Plain
 pub mod Scenes
+pub mod Worths
 pub mod States
+pub mod Underway
 pub mod Flattening

@@ -6,16 +6,17 @@ ghost use Rattle.dh_base.specs.declared.outcomes.FaultKind.TheVariants.{OutOfRan
 ghost use Rattle.dh_base.specs.declared.outcomes.Outcome.TheVariants.{Faulted, Stuck};
 ghost use Rattle.dh_code.specs.declared.evaluating.Stop.TheVariants as stop;
 ghost use Rattle.dh_tree.specs.Elements.{banks_of};
-ghost use Rattle.dh_value.specs.Operations.{Suits, binary_of};
+ghost use Rattle.dh_value.specs.declared.operators.Op.TheVariants as op;
+ghost use Rattle.dh_value.specs.Operations.{AreIntegers, Suits, binary_of};
 ghost use Rattle.dh_value.specs.Words.{IsInteger, IsWord};
 ghost use Rattle.dh_extents.specs.Extents.{AreDims};
 ghost use Rattle.dh_code.specs.Banks.{HasBank, LiesInRow, first_bank, all_banks};
-ghost use Rattle.dh_code.specs.Operated.{IsAccess, IsOperand, IsOperation, combined_word, converted_word, events_after, kind_of_operand, sight, sight_after};
+ghost use Rattle.dh_code.specs.Operated.{IsAccess, IsOperand, IsOperation, combined_word, converted_word, events_after, kind_of_operand, mask_of, sight, sight_after};
 ghost use Rattle.dh_code.specs.Spent.{StayUsed};
 ghost use Rattle.dh_code.specs.Scenes.{IsScene, LeadsTo, SpendsMore, begun_in, events_in, placed, read_at, read_events, read_word, word_in};
 
 use crate::codes::{Access, Code, Operand, Operation, Target};
-use crate::operands::{View, element_of, value_at};
+use crate::operands::{View, element_of, mask_at, value_at};
 use crate::passing::locate_through;
 use crate::spending::{Bank, read_row};
 use crate::spots::{Element, Spread, index_below, locate};
@@ -136,8 +137,9 @@ pub fn element_at(memory: usize, spread: Spread) -> Element
     }
 }
 
-/// Where an access leads; None where it is out of range.
-pub fn reached(
+/// Where an access of any target leads; None where it is out of range.
+#[inline(never)]
+fn reached_otherwise(
     scene: &Scene<'_>,
     slots: &[u64],
     given: &[u64],
@@ -170,6 +172,35 @@ pub fn reached(
             let dims = scene.entries[access.memory].shape.dims.as_slice();
             locate_through(&view, dims, views.as_slice(), *count, operands.as_slice())
         }
+    }
+}
+
+/// Where an access leads; None where it is out of range. (Most are by indices of a memory: what the
+/// others take stands apart.)
+#[inline(always)]
+pub fn reached(
+    scene: &Scene<'_>,
+    slots: &[u64],
+    given: &[u64],
+    ranks: &[u32],
+    access: &Access,
+) -> Option<Spread>
+    requires scene { IsScene scene.now }
+    requires access { IsAccess scene.now.entries.now access.now }
+    ensures { LeadsTo scene.now (sight slots.now given.now ranks.now) access.now result }
+{
+    match &access.target {
+        Target::Indices { operands } => {
+            let view = View {
+                slots,
+                given,
+                ranks,
+            };
+            let dims = scene.entries[access.memory].shape.dims.as_slice();
+            locate(&view, dims, operands.as_slice())
+        }
+        Target::Row { .. } => reached_otherwise(scene, slots, given, ranks, access),
+        Target::Through { .. } => reached_otherwise(scene, slots, given, ranks, access),
     }
 }
 
@@ -223,27 +254,59 @@ fn read(
     Ok(())
 }
 
+/// 1 where the left word is the smaller, else 0. (Words of kinds without a sign compare as their
+/// bits do.)
+fn smaller(left: Word, right: Word) -> u64
+    requires left { IsWord left }
+    requires right { IsWord right }
+    requires alike { AreIntegers left.kind right.kind }
+    ensures { result ≡ (binary_of op.Lt left right).bits }
+{
+    match left.kind {
+        Kind::Bool => binary(Op::Lt, left, right).bits,
+        Kind::Unsigned(_) => u64::from(left.bits < right.bits),
+        Kind::Signed(_) => binary(Op::Lt, left, right).bits,
+    }
+}
+
+/// 1 where the left word is not the greater, else 0.
+fn at_most(left: Word, right: Word) -> u64
+    requires left { IsWord left }
+    requires right { IsWord right }
+    requires alike { AreIntegers left.kind right.kind }
+    ensures { result ≡ (binary_of op.Le left right).bits }
+{
+    match left.kind {
+        Kind::Bool => binary(Op::Le, left, right).bits,
+        Kind::Unsigned(_) => u64::from(left.bits <= right.bits),
+        Kind::Signed(_) => binary(Op::Le, left, right).bits,
+    }
+}
+
 /// The bits that an operator gives. Each operator stands in an arm of its own, so that the code of
-/// its operation can be put there.
-fn operated(op: Op, left: Word, right: Word) -> u64
+/// its operation can be put there. (The mask is that of the left operand's kind, with which the
+/// lowest bits are found in one step.)
+#[inline(always)]
+pub fn operated(op: Op, left: Word, right: Word, mask: u64) -> u64
     requires left { IsWord left }
     requires right { IsWord right }
     requires suits { Suits op left.kind right.kind }
+    requires mask { mask ≡ mask_of left.kind }
     ensures { result ≡ (binary_of op left right).bits }
 {
     match op {
-        Op::Add => binary(Op::Add, left, right).bits,
-        Op::Sub => binary(Op::Sub, left, right).bits,
-        Op::Mul => binary(Op::Mul, left, right).bits,
+        Op::Add => left.bits.wrapping_add(right.bits) & mask,
+        Op::Sub => left.bits.wrapping_sub(right.bits) & mask,
+        Op::Mul => left.bits.wrapping_mul(right.bits) & mask,
         Op::And => binary(Op::And, left, right).bits,
         Op::Or => binary(Op::Or, left, right).bits,
         Op::Xor => binary(Op::Xor, left, right).bits,
         Op::Shl => binary(Op::Shl, left, right).bits,
         Op::Shr => binary(Op::Shr, left, right).bits,
-        Op::Lt => binary(Op::Lt, left, right).bits,
-        Op::Gt => binary(Op::Gt, left, right).bits,
-        Op::Le => binary(Op::Le, left, right).bits,
-        Op::Ge => binary(Op::Ge, left, right).bits,
+        Op::Lt => smaller(left, right),
+        Op::Gt => smaller(right, left),
+        Op::Le => at_most(left, right),
+        Op::Ge => at_most(right, left),
         Op::Eq => binary(Op::Eq, left, right).bits,
         Op::Ne => binary(Op::Ne, left, right).bits,
         Op::Both => binary(Op::Both, left, right).bits,
@@ -251,7 +314,35 @@ fn operated(op: Op, left: Word, right: Word) -> u64
     }
 }
 
-/// The bits of what an operator gives on two operands.
+/// The bits of what any operator gives on two operands.
+#[inline(never)]
+pub fn combined_otherwise(
+    slots: &[u64],
+    given: &[u64],
+    ranks: &[u32],
+    op: Op,
+    left: &Operand,
+    right: &Operand,
+) -> u64
+    requires left { IsOperand left.now }
+    requires right { IsOperand right.now }
+    requires suits { Suits op (kind_of_operand left.now) (kind_of_operand right.now) }
+    ensures { result ≡
+        (combined_word (sight slots.now given.now ranks.now) op left.now right.now).bits }
+{
+    let view = View {
+        slots,
+        given,
+        ranks,
+    };
+    let a = value_at(&view, left);
+    let b = value_at(&view, right);
+    operated(op, a, b, mask_at(left))
+}
+
+/// The bits of what an operator gives on two operands. (Operators that look at signs and widths stand
+/// apart, so that few registers are needed.)
+#[inline(always)]
 fn combined(
     slots: &[u64],
     given: &[u64],
@@ -273,7 +364,25 @@ fn combined(
     };
     let a = value_at(&view, left);
     let b = value_at(&view, right);
-    operated(op, a, b)
+    let mask = mask_at(left);
+    match op {
+        Op::Add => operated(Op::Add, a, b, mask),
+        Op::Sub => operated(Op::Sub, a, b, mask),
+        Op::Mul => operated(Op::Mul, a, b, mask),
+        Op::And => operated(Op::And, a, b, mask),
+        Op::Or => operated(Op::Or, a, b, mask),
+        Op::Xor => operated(Op::Xor, a, b, mask),
+        Op::Eq => operated(Op::Eq, a, b, mask),
+        Op::Ne => operated(Op::Ne, a, b, mask),
+        Op::Both => operated(Op::Both, a, b, mask),
+        Op::Either => operated(Op::Either, a, b, mask),
+        Op::Shl => combined_otherwise(slots, given, ranks, op, left, right),
+        Op::Shr => combined_otherwise(slots, given, ranks, op, left, right),
+        Op::Lt => combined_otherwise(slots, given, ranks, op, left, right),
+        Op::Gt => combined_otherwise(slots, given, ranks, op, left, right),
+        Op::Le => combined_otherwise(slots, given, ranks, op, left, right),
+        Op::Ge => combined_otherwise(slots, given, ranks, op, left, right),
+    }
 }
 
 /// The bits of an operand in an integer kind.

@@ -13,6 +13,8 @@ mod places;
 mod running;
 mod spending;
 mod spots;
+mod straight;
+mod worths;
 
 pub use codes::{Code, Flat};
 pub use evaluating::{Scene, Stop};

@@ -162,7 +162,23 @@ pub fn whole(word: Word) -> u64
     requires { IsWord word }
     ensures { result ≡ residue (2 ^ 64) (value_of word) }
 {
-    cast(word, Kind::Unsigned(64)).bits
+    match word.kind {
+        Kind::Bool => word.bits,
+        Kind::Unsigned(_) => word.bits,
+        Kind::Signed(_) => cast(word, Kind::Unsigned(64)).bits,
+    }
+}
+
+/// The bits that a value of an operand's kind can have.
+pub fn mask_at(operand: &Operand) -> u64
+    requires { IsOperand operand.now }
+    ensures { result ≡ mask_of (kind_of_operand operand.now) }
+{
+    match operand {
+        Operand::Constant { word } => kind_mask(word.kind),
+        Operand::Variable { mask, .. } => *mask,
+        Operand::Given { mask, .. } => *mask,
+    }
 }
 
 /// The value of an operand.

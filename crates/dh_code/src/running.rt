@@ -1,11 +1,11 @@
 //! What commands do in a logical step.
 
-ghost use Rattle.std.specs.Prelude.{◌≡◌, ◌∷◌, ◌++◌, [], if◌then◌else◌, IfOk, OnOk, length, slice_set, slice_index_or};
+ghost use Rattle.std.specs.Prelude.{◌≡◌, ◌∷◌, ◌++◌, [], if◌then◌else◌, is_ok, IfErr, IfOk, OnOk, length, slice_set, slice_index_or};
 ghost use Rattle.std.specs.List.{AllByRecursion};
 ghost use Rattle.dh_value.specs.Words.{IsWord};
 ghost use Rattle.dh_code.specs.declared.codes.Action.TheVariants.{Assign, Choose, Keep, Store};
 ghost use Rattle.dh_code.specs.Banks.{HasBank, all_banks};
-ghost use Rattle.dh_code.specs.Operated.{IsAccess, IsOperand, operand_word};
+ghost use Rattle.dh_code.specs.Operated.{IsAccess, IsOperand};
 ghost use Rattle.dh_code.specs.Rows.{contents_of};
 ghost use Rattle.dh_code.specs.Scenes.{AreHeld, IsHeld, IsScene, LeadsTo, SpendsWrite, flat_sight};
 ghost use Rattle.dh_code.specs.Spent.{StayUsed};
@@ -15,9 +15,11 @@ use crate::codes::{Access, Action, Flat, Kept, Operand};
 use crate::evaluating::{
     Scene, Stop, bank_at, element_at, operate, out_of_range, reached, set_number, stuck,
 };
-use crate::operands::{View, number_at, slot, truth, value_at, whole};
+use crate::operands::{number_at, slot, truth, whole};
 use crate::spending::{Bank, write_row};
 use crate::spots::{Element, Spread};
+use crate::straight::assign_on;
+use crate::worths::{plain_value, value_in};
 use dh_base::{NoMemory, Place};
 use dh_value::{Word, cast};
 use std::alloc::AllocFailed;
@@ -72,6 +74,50 @@ pub fn set(state: &mut State, slot: usize, bits: u64) -> Result<(), AllocFailed<
     Ok(())
 }
 
+/// Notes a change where there is no room for it yet.
+#[inline(never)]
+fn note_further(changes: &mut Vec<Change>, change: Change) -> Result<(), NoMemory>
+    ensures { changes.new.items
+        ≡ (if is_ok result then changes.old.items ++ change ∷ [] else changes.old.items) }
+{
+    match changes.push(change) {
+        Ok(()) => Ok(()),
+        Err(_) => Err(NoMemory),
+    }
+}
+
+/// Notes a change. (Mostly there is room for it: what makes room stands apart.)
+#[inline(always)]
+fn note(changes: &mut Vec<Change>, change: Change) -> Result<(), NoMemory>
+    ensures { changes.new.items
+        ≡ (if is_ok result then changes.old.items ++ change ∷ [] else changes.old.items) }
+{
+    if changes.len() >= changes.capacity() {
+        return note_further(changes, change);
+    }
+    match changes.push(change) {
+        Ok(()) => Ok(()),
+        Err(_) => Err(NoMemory),
+    }
+}
+
+/// Sets a slot, as `set` does, with an answer that fits a register.
+#[inline(always)]
+pub fn set_slot(state: &mut State, slot: usize, bits: u64) -> Result<(), NoMemory>
+    ensures banks { state.new.banks ≡ state.old.banks }
+    ensures given { state.new.given ≡ state.old.given }
+    ensures writes { state.new.writes ≡ state.old.writes }
+    ensures kept { length state.new.variables.items ≡ length state.old.variables.items }
+    ensures set { IfOk result (λ _. IsAssigned state.old state.new slot bits) }
+    ensures unset { IfErr result (λ _. state.new.variables ≡ state.old.variables) }
+    ensures back { GoBackAlike state.old state.new }
+{
+    let before = number_at(state.variables.as_slice(), slot);
+    note(&mut state.changes, Change { slot, before })?;
+    set_number(state.variables.as_mut_slice(), slot, bits);
+    Ok(())
+}
+
 /// Does the operations of an expression at a path of these ranks.
 fn evaluate(scene: &Scene<'_>, state: &mut State, ranks: &[u32], value: &Flat) -> Result<(), Stop>
     requires scene { IsScene scene.now }
@@ -95,18 +141,27 @@ fn evaluate(scene: &Scene<'_>, state: &mut State, ranks: &[u32], value: &Flat) -
     )
 }
 
-/// The value of an operand, as a state sees it at a path of these ranks.
-fn value_in(state: &State, ranks: &[u32], operand: &Operand) -> Word
-    requires { IsOperand operand.now }
-    ensures value { result ≡ operand_word (sight_in state.now ranks.now) operand.now }
-    ensures word { IsWord result }
+/// Evaluates a right side of any operations at a path and sets a variable to it.
+#[inline(always)]
+fn assign_any(
+    scene: &Scene<'_>,
+    state: &mut State,
+    ranks: &[u32],
+    value: &Flat,
+    first: u32,
+    depth: u32,
+) -> Result<(), Stop>
+    requires scene { IsScene scene.now }
+    requires ready { IsReady scene.now state.old }
+    requires held { IsHeld scene.now.code.now.operations value.now }
+    ensures ready { IsReady scene.now state.new }
+    ensures back { KeepsBack state.old state.new }
+    ensures ran { Assigns scene.now state.old result state.new ranks.now value.now first depth }
 {
-    let view = View {
-        slots: state.variables.as_slice(),
-        given: state.given.as_slice(),
-        ranks,
-    };
-    value_at(&view, operand)
+    evaluate(scene, state, ranks, value)?;
+    let word = value_in(state, ranks, &value.value);
+    set_slot(state, slot(first, depth, ranks), whole(word))?;
+    Ok(())
 }
 
 /// Evaluates a right side at a path and sets a variable to it.
@@ -125,10 +180,13 @@ fn assign(
     ensures back { KeepsBack state.old state.new }
     ensures ran { Assigns scene.now state.old result state.new ranks.now value.now first depth }
 {
-    evaluate(scene, state, ranks, value)?;
-    let word = value_in(state, ranks, &value.value);
-    set(state, slot(first, depth, ranks), whole(word))?;
-    Ok(())
+    match plain_value(scene, state, ranks, value) {
+        Some(word) => {
+            set_slot(state, slot(first, depth, ranks), whole(word))?;
+            Ok(())
+        }
+        None => assign_any(scene, state, ranks, value, first, depth),
+    }
 }
 
 /// Adds what operands show, modulo 2^64, as a state sees them at a path of these ranks.
@@ -289,8 +347,9 @@ fn store(
     )
 }
 
-/// Evaluates a test at a path of these ranks.
-pub fn decide(
+/// Evaluates a test of any operations at a path of these ranks.
+#[inline(never)]
+fn decide_any(
     scene: &Scene<'_>,
     state: &mut State,
     ranks: &[u32],
@@ -308,8 +367,28 @@ pub fn decide(
     Ok(word.bits == 1)
 }
 
+/// Evaluates a test at a path of these ranks.
+pub fn decide(
+    scene: &Scene<'_>,
+    state: &mut State,
+    ranks: &[u32],
+    test: &Flat,
+) -> Result<bool, Stop>
+    requires scene { IsScene scene.now }
+    requires ready { IsReady scene.now state.old }
+    requires held { IsHeld scene.now.code.now.operations test.now }
+    ensures ready { IsReady scene.now state.new }
+    ensures back { KeepsBack state.old state.new }
+    ensures decides { Decides scene.now state.old result state.new ranks.now test.now }
+{
+    match plain_value(scene, state, ranks, test) {
+        Some(word) => Ok(word.bits == 1),
+        None => decide_any(scene, state, ranks, test),
+    }
+}
+
 /// The ranks of the path of a number; none where there is no such path.
-fn ranks_at(rows: &[Vec<u32>], path: usize) -> &[u32]
+pub fn ranks_at(rows: &[Vec<u32>], path: usize) -> &[u32]
     ensures { result.now ≡ slice_index_or (contents_of rows.now) path [] }
 {
     match rows.get(path) {
@@ -318,7 +397,32 @@ fn ranks_at(rows: &[Vec<u32>], path: usize) -> &[u32]
     }
 }
 
+/// Evaluates a right side at the one path and sets a variable to it. (Most of those of one operator
+/// are done by `assign_on`.)
+#[inline(always)]
+fn assign_at(
+    scene: &Scene<'_>,
+    state: &mut State,
+    rows: &[Vec<u32>],
+    paths: &[usize],
+    value: &Flat,
+    first: u32,
+    depth: u32,
+) -> Result<(), Stop>
+    requires scene { IsScene scene.now }
+    requires ready { IsReady scene.now state.old }
+    requires held { IsHeld scene.now.code.now.operations value.now }
+    requires one { length paths.now ≡ 1 }
+    ensures ready { IsReady scene.now state.new }
+    ensures back { KeepsBack state.old state.new }
+    ensures ran { DoesOne scene.now state.old result state.new (contents_of rows.now) paths.now
+        (Assign value.now first depth) }
+{
+    assign_any(scene, state, ranks_at(rows, paths[0]), value, first, depth)
+}
+
 /// Evaluates a right side at each path in order and sets a variable to it.
+#[inline(never)]
 fn assign_all(
     scene: &Scene<'_>,
     state: &mut State,
@@ -343,6 +447,7 @@ fn assign_all(
 }
 
 /// Evaluates values at each path in order and keeps them in variables.
+#[inline(never)]
 fn keep_all(
     scene: &Scene<'_>,
     state: &mut State,
@@ -375,7 +480,31 @@ fn keep_all(
     Ok(())
 }
 
+/// Stores a value at the one path.
+#[inline(always)]
+fn store_at(
+    scene: &Scene<'_>,
+    state: &mut State,
+    rows: &[Vec<u32>],
+    paths: &[usize],
+    value: &Flat,
+    access: &Access,
+) -> Result<(), Stop>
+    requires scene { IsScene scene.now }
+    requires ready { IsReady scene.now state.old }
+    requires held { IsHeld scene.now.code.now.operations value.now }
+    requires access { IsAccess scene.now.entries.now access.now }
+    requires one { length paths.now ≡ 1 }
+    ensures ready { IsReady scene.now state.new }
+    ensures back { KeepsBack state.old state.new }
+    ensures ran { DoesOne scene.now state.old result state.new (contents_of rows.now) paths.now
+        (Store value.now access.now) }
+{
+    store(scene, state, ranks_at(rows, paths[0]), value, access)
+}
+
 /// Stores a value at each path in order.
+#[inline(never)]
 fn store_all(
     scene: &Scene<'_>,
     state: &mut State,
@@ -470,7 +599,11 @@ fn choose_at(
         (Choose test.now chosen other) }
 {
     let holds = decide(scene, state, ranks_at(rows, paths[0]), test)?;
-    run(scene, state, rows, paths, either(holds, chosen, other))
+    let arm = either(holds, chosen, other);
+    if arm.is_none() {
+        return Ok(());
+    }
+    run(scene, state, rows, paths, arm)
 }
 
 /// Does an `if` at paths: its test at each, then the one arm where it holds, then the other.
@@ -515,12 +648,24 @@ fn run_one(
         action.now }
 {
     match action {
-        Action::Store { value, access } => store_all(scene, state, rows, paths, value, access),
+        Action::Store { value, access } => {
+            if paths.len() == 1 {
+                store_at(scene, state, rows, paths, value, access)
+            } else {
+                store_all(scene, state, rows, paths, value, access)
+            }
+        }
         Action::Assign {
             value,
             first,
             depth,
-        } => assign_all(scene, state, rows, paths, value, *first, *depth),
+        } => {
+            if paths.len() == 1 {
+                assign_at(scene, state, rows, paths, value, *first, *depth)
+            } else {
+                assign_all(scene, state, rows, paths, value, *first, *depth)
+            }
+        }
         Action::Keep {
             from,
             to,
@@ -565,12 +710,13 @@ pub fn run(
     ensures ran { DoesAll scene.now state.old result state.new (contents_of rows.now) paths.now
         list }
 {
+    list = assign_on(scene, state, rows, paths, list);
     while let Some(at) = list {
         let Some(step) = scene.code.steps.as_slice().get(at) else {
             return Ok(());
         };
         run_one(scene, state, rows, paths, &step.action)?;
-        list = step.next;
+        list = assign_on(scene, state, rows, paths, step.next);
     }
     Ok(())
 }

@@ -1,8 +1,8 @@
 //! Where an element of a memory lies.
 
-ghost use Rattle.std.specs.Prelude.{◌≡◌, ℕ, ◌<◌, ◌≤◌, ◌*◌, ◌/◌, ◌%◌, ◌^◌, Some, pos};
+ghost use Rattle.std.specs.Prelude.{◌≡◌, ℕ, ◌<◌, ◌≤◌, ◌-◌, ◌*◌, ◌/◌, ◌%◌, ◌^◌, ◌↔◌, IsTrue, Some, pos};
 ghost use Rattle.std.specs.List.{AllByRecursion};
-ghost use Rattle.dh_value.specs.Words.{IsWord, value_of};
+ghost use Rattle.dh_value.specs.Words.{IsWidth, IsWord, value_of};
 ghost use Rattle.dh_extents.specs.Extents.{AreDims};
 ghost use Rattle.dh_code.specs.Banks.{HasRoom, IsSpread, Spreads, index_within, spread_behind};
 ghost use Rattle.dh_code.specs.Operated.{IsOperand, index_values, view_seen};
@@ -57,8 +57,17 @@ fn number_below(number: u64, size: u64) -> Option<u64>
     if number < size { Some(number) } else { None }
 }
 
-/// The index that a word is, where it is one below a size. (Most indices have no sign, and are their
-/// bits.)
+/// Whether a number has fewer than so many bits, from 1 to 64: in two's complement of so many bits,
+/// whether it is not negative.
+fn is_natural(bits: u64, width: u8) -> bool
+    requires { IsWidth width }
+    ensures { IsTrue result ↔ (bits < 2 ^ (width - 1)) }
+{
+    bits >> (width - 1) == 0
+}
+
+/// The index that a word is, where it is one below a size. (Most indices are not negative, and are
+/// their bits.)
 fn index_of(word: Word, size: u64) -> Option<u64>
     requires { IsWord word }
     ensures is { result ≡ index_within size (value_of word) }
@@ -67,7 +76,13 @@ fn index_of(word: Word, size: u64) -> Option<u64>
     match word.kind {
         Kind::Bool => number_below(word.bits, size),
         Kind::Unsigned(_) => number_below(word.bits, size),
-        Kind::Signed(_) => index_below(number(word), size),
+        Kind::Signed(width) => {
+            if is_natural(word.bits, width) {
+                number_below(word.bits, size)
+            } else {
+                index_below(number(word), size)
+            }
+        }
     }
 }
 
@@ -117,6 +132,7 @@ pub fn next_spread(spread: Spread, dim: &Dim, index: u64) -> Spread
 }
 
 /// Where the element of these indices lies; None where there is none.
+#[inline(always)]
 pub fn locate(view: &View<'_>, dims: &[Dim], indices: &[Operand]) -> Option<Spread>
     requires dims { AreDims dims.now }
     requires operands { AllByRecursion IsOperand indices.now }

@@ -1,4 +1,4 @@
-use Rattle.std.proofs.Common.{◌<◌, ◌≤◌, ◌+◌, ◌*◌, ℕ, List, true, false, ap, sym, subst, ◌∙◌, length, Bool, Err, Ok, if◌then◌else◌, rules}
+use Rattle.std.proofs.Common.{◌<◌, ◌≤◌, ◌+◌, ◌*◌, ℕ, List, [], ◌∷◌, true, false, ap, sym, subst, ◌∙◌, length, Bool, Err, Ok, if◌then◌else◌, rules}
 use Rattle.std.specs.Prelude.{Option, Vec, slice_index}
 use Rattle.std.specs.Global.{Global}
 use Rattle.std.proofs.lemmas.Bool.{ltb-true}
@@ -10,11 +10,11 @@ use Rattle.dh_code.specs.Rows.{contents_of}
 use Rattle.dh_meaning.specs.Effects.{holds_at, paths_where}
 use Rattle.dh_code.specs.Scenes.{AreHeld, begun_in}
 use Rattle.dh_code.specs.States.{AreRows, CanBeDone, DoesAll, DoesOne}
-use Rattle.dh_code.proofs.ListsRun.{action_depth, action_lower, can_be_done, choose_both, choose_one, choose_stop, choose_stop_first, choose_stop_one, found_step, lost_step, next_low, only_path, run_end, run_first, run_lost, run_stop, run_turn}
+use Rattle.dh_code.proofs.ListsRun.{action_depth, action_lower, can_be_done, choose_both, choose_one, choose_stop, choose_stop_first, choose_stop_one, found_step, lost_step, next_low, none_is, only_path, run_end, run_lost, run_more, run_nothing, run_stop, run_turn}
 use Rattle.dh_code.proofs.running.+run.Goals as goal
 
 pub run-loop-list-init : goal.run-loop-list-init
-run-loop-list-init t c = run_first c.args.scene.now c.args.state.now (contents_of c.args.rows.now) c.args.paths.now c.args.list c.requires.ready
+run-loop-list-init t c = c.assign_on-list.ensures
 
 pub run-run_one-requires : goal.run-run_one-requires
 run-run_one-requires t c =
@@ -36,8 +36,10 @@ pub run-loop-list-preserved : goal.run-loop-list-preserved
 run-loop-list-preserved t c =
     let within = ltb-true c.in-Some.at (length c.as_slice.result.now) (sym c.in-Some-get.ensures.lookup.0) in
     let get = found_step c.args.scene.now.code.now.steps c.as_slice.result.now c.in-Some.at c.in-Some-get.step.now c.as_slice.ensures within c.in-Some-get.ensures.lookup.1 in
-    run_turn c.args.scene.now c.args.state.now (contents_of c.args.rows.now) c.args.paths.now c.args.list c.loop-list.state c.loop-list.list c.loop-list.invariant
-    c.in-Some.at c.in-Some-get.step.now c.in-Some.is get (Unit {0}) tt c.run_one.new.state c.run_one.ensures.ready c.run_one.ensures.back (next_low c.args.scene.now c.requires.scene c.in-Some.at c.in-Some-get.step.now get) c.in_ok-run_one.ensures.ran
+    run_more c.args.scene.now c.args.state.now c.run_one.new.state c.assign_on-list-in-Some.new.state (contents_of c.args.rows.now) c.args.paths.now c.args.list c.in-Some-get.step.now.next c.assign_on-list-in-Some.result
+    (run_turn c.args.scene.now c.args.state.now (contents_of c.args.rows.now) c.args.paths.now c.args.list c.loop-list.state c.loop-list.list c.loop-list.invariant
+    c.in-Some.at c.in-Some-get.step.now c.in-Some.is get (Unit {0}) tt c.run_one.new.state c.run_one.ensures.ready c.run_one.ensures.back (next_low c.args.scene.now c.requires.scene c.in-Some.at c.in-Some-get.step.now get) c.in_ok-run_one.ensures.ran)
+    c.assign_on-list-in-Some.ensures
 
 pub run-returns-in_default-get-clause-ran : goal.run-returns-in_default-get-clause-ran
 run-returns-in_default-get-clause-ran t c =
@@ -88,10 +90,19 @@ choose_at-returns-in_err-holds-clause-ran t c =
     (choose_stop_one c.args.scene.now c.args.state.now (contents_of c.args.rows.now) (slice_index c.args.paths.now 0) c.args.test.now c.args.chosen c.args.other c.ranks_at.result.now c.ranks_at.ensures
     Bool (Unit {0}) c.in_err-holds.field-0.0 c.decide.new.state c.decide.new.state c.from_residual.result (u.1 ∙ ap (λ x. Err x) u.2) (λ p factors path t at flat can. (c.in_err-holds.ensures.decides p factors path t at flat can).0))
 
+pub choose_at-returns-then-is_none-clause-ran : goal.choose_at-returns-then-is_none-clause-ran
+choose_at-returns-then-is_none-clause-ran t c =
+    let n = slice_index c.args.paths.now 0 in
+    let none = sym c.either-arm.ensures ∙ none_is c.either-arm.result c.is_none.result c.is_none.ensures c.if-is_none.true in
+    subst (λ (l : List ℕ). DoesOne {A = Unit {0}} c.args.scene.now c.args.state.now (Ok tt) c.decide.new.state (contents_of c.args.rows.now) l (Choose c.args.test.now c.args.chosen c.args.other)) (sym (only_path c.args.paths.now c.requires.one))
+    (choose_one c.args.scene.now c.args.state.now (contents_of c.args.rows.now) n c.args.test.now c.args.chosen c.args.other c.ranks_at.result.now c.ranks_at.ensures {A = Unit {0}} c.in_ok-holds.holds c.decide.new.state c.decide.new.state (Ok tt) c.in_ok-holds.ensures.decides
+    (subst (λ (o : Option ℕ). DoesAll {A = Unit {0}} c.args.scene.now c.decide.new.state (Ok tt) c.decide.new.state (contents_of c.args.rows.now) (n ∷ []) o) (sym none)
+    (run_nothing {A = Unit {0}} c.args.scene.now c.decide.new.state (contents_of c.args.rows.now) (n ∷ []) tt c.decide.ensures.ready)))
+
 pub choose_at-returns-clause-ran : goal.choose_at-returns-clause-ran
 choose_at-returns-clause-ran t c =
     let n = slice_index c.args.paths.now 0 in
     subst (λ (l : List ℕ). DoesOne c.args.scene.now c.args.state.now c.run.result c.run.new.state (contents_of c.args.rows.now) l (Choose c.args.test.now c.args.chosen c.args.other)) (sym (only_path c.args.paths.now c.requires.one))
     (choose_one c.args.scene.now c.args.state.now (contents_of c.args.rows.now) n c.args.test.now c.args.chosen c.args.other c.ranks_at.result.now c.ranks_at.ensures c.in_ok-holds.holds c.decide.new.state c.run.new.state c.run.result c.in_ok-holds.ensures.decides
     (subst (λ (l : List ℕ). DoesAll c.args.scene.now c.decide.new.state c.run.result c.run.new.state (contents_of c.args.rows.now) l (if c.in_ok-holds.holds then c.args.chosen else c.args.other)) (only_path c.args.paths.now c.requires.one)
-    (subst (λ (o : Option ℕ). DoesAll c.args.scene.now c.decide.new.state c.run.result c.run.new.state (contents_of c.args.rows.now) c.args.paths.now o) c.either.ensures c.run.ensures.ran)))
+    (subst (λ (o : Option ℕ). DoesAll c.args.scene.now c.decide.new.state c.run.result c.run.new.state (contents_of c.args.rows.now) c.args.paths.now o) c.either-arm.ensures c.run.ensures.ran)))
