@@ -14,6 +14,7 @@ use dh_app::{NetEngine, run};
 use dh_base::{NoMemory, Status};
 use files::RealFiles;
 use output::StdSink;
+use std::alloc::Global;
 use std::io::ErrorKind;
 use std::process::ExitCode;
 use std::rt::{Env, Files};
@@ -28,6 +29,7 @@ fn answer<R: Env + Files + Print + AllocGlobal>(rt: &R) -> Status {
     let Ok(words) = words_after_name(rt) else {
         return Status::NoMemory;
     };
+    keep_what_lists_give_back(rt.alloc());
     let mut files = RealFiles::new(rt);
     let mut out = StdSink::new(io::writer(rt));
     let mut engine = NetEngine::new(rt.alloc());
@@ -38,6 +40,17 @@ fn answer<R: Env + Files + Print + AllocGlobal>(rt: &R) -> Status {
         &mut out,
         &mut engine,
     )
+}
+
+/// A little less than the greatest threshold of malloc, in bytes: the list and its header lie below it.
+const LONGEST_KEPT: usize = 32 * 1024 * 1024 - 64 * 1024;
+
+/// Has malloc keep what lists give back, so that later lists are made of pages that were touched before.
+/// Malloc of the GNU C library asks the system for each list above a threshold and gives its pages back
+/// behind it. A list that was given back raises the threshold to its length, so one is, untouched. That
+/// there is no room for it changes nothing.
+fn keep_what_lists_give_back(alloc: Global) {
+    let _longest: Result<Vec<u8>, _> = Vec::with_capacity(alloc, LONGEST_KEPT);
 }
 
 /// The words that follow the program's name, or none where one of them is not UTF-8: such words
