@@ -47,8 +47,8 @@ module _ (old new : List Structure) (more : Extends old new) where
   is_element_still clocks e o moment i = record { number = number_still o e i.number; newest = i.newest }
 
   read_still : (clocks : ℕ → ℕ) (e : Event) → IsRead old clocks e → IsRead new clocks e
-  read_still clocks (event.Touch a true phase round element newest) i = i
-  read_still clocks (event.Touch a false phase round element newest) i = is_element_still clocks _ element newest i
+  read_still clocks (event.Touch true phase round a element newest) i = i
+  read_still clocks (event.Touch false phase round a element newest) i = is_element_still clocks _ element newest i
   read_still clocks (event.Assigned entity) i = i
   read_still clocks event.ArmBegins i = i
   read_still clocks event.ArmEnds i = i

@@ -10,3 +10,4 @@ pub mod StructureFacts
 pub mod StructureEqual
 pub mod ScopeFacts
 pub mod ReadFacts
+pub mod NestFacts

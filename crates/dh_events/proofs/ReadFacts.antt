@@ -55,7 +55,7 @@ stays_more old known more = stays_extended old known more
 
 -- one event more
 step_clocks : (clocks : ℕ → ℕ) (place : ℕ) (e : Event) → IsStep e → clocks_after clocks place e ≡ clocks
-step_clocks clocks place (event.Touch access writes phase round element newest) s = absurd s
+step_clocks clocks place (event.Touch writes phase round access element newest) s = absurd s
 step_clocks clocks place (event.Assigned entity) s = absurd s
 step_clocks clocks place event.ArmBegins s = refl
 step_clocks clocks place event.ArmEnds s = refl
@@ -64,7 +64,7 @@ step_clocks clocks place event.Next s = refl
 step_clocks clocks place event.Ends s = refl
 
 step_read : (known : List Structure) (clocks : ℕ → ℕ) (e : Event) → IsStep e → IsRead known clocks e
-step_read known clocks (event.Touch access writes phase round element newest) s = absurd s
+step_read known clocks (event.Touch writes phase round access element newest) s = absurd s
 step_read known clocks (event.Assigned entity) s = absurd s
 step_read known clocks event.ArmBegins s = tt
 step_read known clocks event.ArmEnds s = tt
@@ -87,7 +87,7 @@ pub step_noted : (old : Notes) (events : Vec Event Global) (e : Event) → event
 step_noted old events e is s = quiet old events e (λ clocks place. step_clocks clocks place e s) (step_read old.structures (numbered old.clocks.items) e s) is
 
 pub touch_noted : (old : Notes) (events : Vec Event Global) (e : Event) → events.items ≡ old.events.items ++ e ∷ [] → IsTouch old e → StaysRead old (with_events old events)
-touch_noted old events (event.Touch access writes phase round element newest) is r = quiet old events (event.Touch access writes phase round element newest) (λ clocks place. refl) r is
+touch_noted old events (event.Touch writes phase round access element newest) is r = quiet old events (event.Touch writes phase round access element newest) (λ clocks place. refl) r is
 touch_noted old events (event.Assigned entity) is r = absurd r
 touch_noted old events event.ArmBegins is r = absurd r
 touch_noted old events event.ArmEnds is r = absurd r

@@ -27,7 +27,7 @@ assigned_at clocks moment (Some e) = with_number clocks e moment
 
 -- after an event at a place
 abbrev pub clocks_after : (clocks : ℕ → ℕ) → (place : ℕ) → Event → ℕ → ℕ
-clocks_after clocks place (event.Touch access writes phase round element newest) = clocks
+clocks_after clocks place (event.Touch writes phase round access element newest) = clocks
 clocks_after clocks place (event.Assigned entity) = assigned_at clocks (place + 1) entity
 clocks_after clocks place event.ArmBegins = clocks
 clocks_after clocks place event.ArmEnds = clocks
@@ -65,8 +65,8 @@ element_of (term place kind form) = element_in form
 
 -- an event that is a read has the number and the moment of its indices
 abbrev pub IsRead : (known : List Structure) → (clocks : ℕ → ℕ) → Event → Type 0
-IsRead known clocks (event.Touch access true phase round element newest) = Unit {0}
-IsRead known clocks (event.Touch access false phase round element newest) = IsElement known clocks (element_of (term_seen access.now)) element newest
+IsRead known clocks (event.Touch true phase round access element newest) = Unit {0}
+IsRead known clocks (event.Touch false phase round access element newest) = IsElement known clocks (element_of (term_seen access.now)) element newest
 IsRead known clocks (event.Assigned entity) = Unit {0}
 IsRead known clocks event.ArmBegins = Unit {0}
 IsRead known clocks event.ArmEnds = Unit {0}
@@ -100,7 +100,7 @@ pub record StaysRead (old new : Notes) : Type 0 where
 
 -- an event that is no access and no assignment
 abbrev pub IsStep : Event → Type 0
-IsStep (event.Touch access writes phase round element newest) = ⊥
+IsStep (event.Touch writes phase round access element newest) = ⊥
 IsStep (event.Assigned entity) = ⊥
 IsStep event.ArmBegins = Unit {0}
 IsStep event.ArmEnds = Unit {0}
@@ -110,7 +110,7 @@ IsStep event.Ends = Unit {0}
 
 -- an event that is an access, and of a read the number and the moment of its indices
 abbrev pub IsTouch : Notes → Event → Type 0
-IsTouch notes (event.Touch access writes phase round element newest) = IsRead notes.structures (numbered notes.clocks.items) (event.Touch access writes phase round element newest)
+IsTouch notes (event.Touch writes phase round access element newest) = IsRead notes.structures (numbered notes.clocks.items) (event.Touch writes phase round access element newest)
 IsTouch notes (event.Assigned entity) = ⊥
 IsTouch notes event.ArmBegins = ⊥
 IsTouch notes event.ArmEnds = ⊥

@@ -18,7 +18,7 @@ use Rattle.dh_events.specs.Incidents.{Incident, touches, assigned, arm_begins, a
 use Rattle.dh_events.specs.Tables.{numbered}
 
 abbrev pub event_seen : Event → Incident
-event_seen (event.Touch access writes phase round element newest) = touches (term_seen access.now) writes (site_at phase round)
+event_seen (event.Touch writes phase round access element newest) = touches (term_seen access.now) writes (site_at phase round)
 event_seen (event.Assigned entity) = assigned entity
 event_seen event.ArmBegins = arm_begins
 event_seen event.ArmEnds = arm_ends

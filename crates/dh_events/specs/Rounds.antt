@@ -2,6 +2,8 @@
 use Rattle.std.specs.Prelude.{◌≡◌, ℕ, ◌==◌, if◌then◌else◌, nat_lt, List, [], ◌∷◌, ◌++◌, Some, Vec}
 use Rattle.std.specs.Global.{Global}
 use Rattle.dh_tree.specs.declared.trees.counters.Counter.{Counter}
+use Rattle.dh_tree.specs.declared.trees.commands.LoopHeader.{LoopHeader}
+use Rattle.dh_tree.specs.Seen.{low_seen, high_seen, unroll_seen}
 use Rattle.dh_tree.specs.PlainTrees.{Action, action, ActionForm, lets, lets_memory, views, assigns, stores, reduces, calls, blocks, decides, repeats, counts, MaybeAction, no_action, one_action, Actions, no_actions, action_then, Groups, no_groups, group_then}
 use Rattle.dh_meaning.specs.Sites.{loop_of}
 use Rattle.dh_events.specs.Accesses.{loops_in}
@@ -25,6 +27,14 @@ inside_loop outer c = if nat_lt 1 c.factor then outer ++ c ∷ [] else outer
 -- what is noted of an unrolled loop
 abbrev pub noted_loop : (outer : List Counter) → (id : ℕ) → Counter → (ℕ → List Counter) → ℕ → List Counter
 noted_loop outer id c f = if nat_lt 1 c.factor then with_round f id (outer ++ c ∷ []) else f
+
+-- the loop with a header
+abbrev pub header_loop : LoopHeader → Counter
+header_loop h = loop_of h.iterator (low_seen h) (high_seen h) (unroll_seen h)
+
+-- of an unrolled loop those round it and itself, of another none
+abbrev pub own_loops : (outer : List Counter) → Counter → List Counter
+own_loops outer c = if nat_lt 1 c.factor then outer ++ c ∷ [] else []
 
 abbrev mutual
   pub rounds_in : (outer : List Counter) → Action → (ℕ → List Counter) → ℕ → List Counter

@@ -1,6 +1,7 @@
 //! On the copies of which loops the value of an expression depends.
 
-ghost use Rattle.std.specs.Prelude.{◌≡◌, ◌||◌, ◌+◌, ◌++◌, ◌<◌, ◌≤◌, ℕ, List, Some, IfOk, OnOk, length, map, min, option_map};
+ghost use Rattle.std.specs.Prelude.{◌≡◌, [], ◌||◌, ◌+◌, ◌++◌, ◌<◌, ◌≤◌, ℕ, List, Some, IfOk, OnOk, length, map, min, option_map};
+ghost use Rattle.dh_tree.specs.PlainTrees.{Action};
 ghost use Rattle.dh_tree.specs.Seen.{action_seen, form_seen, part_seen, groups, maybe_seen, term_seen, terms};
 ghost use Rattle.dh_meaning.specs.Bindings.{bindings, Binding};
 ghost use Rattle.dh_meaning.specs.Ways.{hidden_binding, led_binding};
@@ -62,7 +63,11 @@ fn declare_entity(
 }
 
 /// Notes where a variable is declared, where that is its first declaration.
-fn declare(scopes: &mut Vec<Option<Scope>>, name: &Ref, scope: Scope) -> Result<(), NoMemory>
+pub(crate) fn declare(
+    scopes: &mut Vec<Option<Scope>>,
+    name: &Ref,
+    scope: Scope,
+) -> Result<(), NoMemory>
     ensures { OnOk result (MakeScopes scopes.old scopes.new
         (λ f. with_scope f name.now.entity scope)) }
 {
@@ -127,7 +132,7 @@ fn depth_inside(depth: usize, factor: u64) -> usize
 
 /// Notes where the iterator of a loop is declared that stands so many unrolled loops deep, and
 /// answers the depth inside it.
-fn declare_iterator(
+pub(crate) fn declare_iterator(
     scopes: &mut Vec<Option<Scope>>,
     depth: usize,
     iterator: &Ref,
@@ -222,6 +227,23 @@ fn note_parts(
     Ok(())
 }
 
+/// Notes behind the variables of a body, which are noted, where each of these views is declared and of
+/// each variable that keeps their offsets.
+pub fn note_ways(
+    scopes: &mut Vec<Option<Scope>>,
+    ways: &WayTable,
+    hidden: &[Hidden],
+) -> Result<(), NoMemory>
+    ensures { OnOk result ((body : Action) → scope_at scopes.old.items
+        ≡ scopes_in 0 body (scope_at []) → AreScopes (bindings 0 body
+        ++ (map led_binding (map led_seen ways.now)
+        ++ map hidden_binding (map hidden_seen hidden.now))) scopes.new.items) }
+{
+    note_led(scopes, ways)?;
+    note_hidden(scopes, hidden)?;
+    Ok(())
+}
+
 /// By its entity where each variable of a program's body is declared, and behind them each of
 /// these views and of the variables that keep their offsets.
 pub fn scopes_of(
@@ -236,8 +258,7 @@ pub fn scopes_of(
 {
     let mut scopes = Vec::new(alloc);
     note_scopes(&mut scopes, 0, body)?;
-    note_led(&mut scopes, ways)?;
-    note_hidden(&mut scopes, hidden)?;
+    note_ways(&mut scopes, ways, hidden)?;
     Ok(scopes)
 }
 

@@ -16,16 +16,16 @@ use std::alloc::Global;
 /// What happens at a moment.
 #[derive(Clone, Copy)]
 pub enum Event<'a> {
-    /// An access of an element.
+    /// An access of an element. Small fields stand first, beside the tag.
     Touch {
-        /// The access.
-        access: &'a Expr,
         /// Whether it writes.
         writes: bool,
         /// The Straight phase in which it stands, by the number of the phase's first command.
         phase: u32,
         /// The innermost unrolled loop round it, by its number.
         round: Option<u32>,
+        /// The access.
+        access: &'a Expr,
         /// The structure of its indices, of a read; none where they name what stands for nothing.
         element: Option<usize>,
         /// The moment behind the last assignment to a variable in its indices, of a read; 0 before
@@ -116,10 +116,10 @@ impl<'a> Notes<'a> {
             → StaysRead self.old self.new) }
     {
         self.note(Event::Touch {
-            access,
             writes: false,
             phase: site.phase,
             round: site.round,
+            access,
             element: element.structure,
             newest: element.newest,
         })
@@ -132,10 +132,10 @@ impl<'a> Notes<'a> {
         ensures noted { OnOk result (StaysRead self.old self.new) }
     {
         self.note(Event::Touch {
-            access,
             writes: true,
             phase: site.phase,
             round: site.round,
+            access,
             element: None,
             newest: 0,
         })

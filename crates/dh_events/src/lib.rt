@@ -5,7 +5,7 @@
 //!
 //! `note_stages` counts the phases of commands, and `note_body` notes the events of a body with
 //! them, in one walk. `note_rounds` and `scopes_of` tell which loops stand round what, and where
-//! variables are declared.
+//! variables are declared; `note_nests` counts phases and tells both in one walk.
 #![tactic(auto)]
 
 mod classes;
@@ -13,6 +13,7 @@ mod dependence;
 mod digests;
 mod events;
 mod known;
+mod nests;
 mod noting;
 mod rounds;
 mod stages;
@@ -20,9 +21,10 @@ mod structures;
 mod tables;
 
 pub use classes::{Classes, Key};
-pub use dependence::{Scope, access_depends, scopes_of};
+pub use dependence::{Scope, access_depends, note_ways, scopes_of};
 pub use events::{Event, Notes, Site};
 pub use known::Known;
+pub use nests::{Nests, note_nests};
 pub use noting::{Around, Open, note_body};
 pub use rounds::{loops_round, note_rounds};
 pub use stages::note_stages;

@@ -21,7 +21,7 @@ fn grow(alloc: Global, rounds: &mut Vec<Vec<Counter>>, to: usize) -> Result<(), 
 }
 
 /// Puts a list at a place.
-fn set_round(
+pub(crate) fn set_round(
     alloc: Global,
     rounds: &mut Vec<Vec<Counter>>,
     place: u32,
@@ -37,10 +37,16 @@ fn set_round(
 }
 
 /// Loops and one more inside them.
-fn inside(alloc: Global, outer: &[Counter], counter: Counter) -> Result<Vec<Counter>, NoMemory>
+pub(crate) fn inside(
+    alloc: Global,
+    outer: &[Counter],
+    counter: Counter,
+) -> Result<Vec<Counter>, NoMemory>
     ensures { IfOk result (λ loops. loops.items ≡ outer.now ++ counter ∷ []) }
 {
-    let mut loops = Vec::from_slice(alloc, outer)?;
+    // no list of loops grows once it is made
+    let mut loops = Vec::with_capacity(alloc, outer.len().saturating_add(1))?;
+    loops.extend_from_slice(outer)?;
     loops.push(counter)?;
     Ok(loops)
 }

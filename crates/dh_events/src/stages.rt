@@ -14,7 +14,7 @@ use dh_viewing::moves;
 
 /// How many phases a loop has, by those of its body and of the block that joins its copies: none,
 /// where it has no turn or its turns none; else its turns are one that is not Straight (2).
-fn loop_stages(turns: u64, body: usize, combine: usize) -> usize
+pub(crate) fn loop_stages(turns: u64, body: usize, combine: usize) -> usize
     ensures { result ≡ loop_stage turns body combine }
 {
     if turns == 0 || (body == 0 && combine == 0) {
@@ -25,21 +25,21 @@ fn loop_stages(turns: u64, body: usize, combine: usize) -> usize
 }
 
 /// How many phases an `if` has: it is straight where its arms are.
-fn choice_stages(chosen: usize, other: usize) -> usize
+pub(crate) fn choice_stages(chosen: usize, other: usize) -> usize
     ensures { result ≡ choice_stage chosen other }
 {
     if chosen.max(other) >= 2 { 2 } else { 1 }
 }
 
 /// How many phases a view has: one where it moves.
-fn view_stages(form: &ViewForm) -> usize
+pub(crate) fn view_stages(form: &ViewForm) -> usize
     ensures { result ≡ (if offsets.moves (plan_seen form.now) then 1 else 0) }
 {
     if moves(form) { 1 } else { 0 }
 }
 
 /// How many phases there are with those of a part behind others (2 for more).
-fn stages_behind(before: usize, part: usize) -> usize
+pub(crate) fn stages_behind(before: usize, part: usize) -> usize
     ensures { result ≡ min 2 (before + part) }
 {
     if before >= 2 || part >= 2 {

@@ -26,7 +26,7 @@ key_later old new None m e h = h
 key_later old new (Some k) m e (class, (there, is)) = (class, (e class k there, is))
 
 met_later : (old new : List Key) (x : Event) (m : Met) → Extends old new → IsMet old x m → IsMet new x m
-met_later old new (event.Touch access writes phase round element newest) m e h = key_later old new (read_key (event.Touch access writes phase round element newest)) m e h
+met_later old new (event.Touch writes phase round access element newest) m e h = key_later old new (read_key (event.Touch writes phase round access element newest)) m e h
 met_later old new (event.Assigned entity) m e h = h
 met_later old new event.ArmBegins m e h = h
 met_later old new event.ArmEnds m e h = h
@@ -59,7 +59,7 @@ key_within known None m h = subst (λ (n : Met). IsWithin (length known) n) (sym
 key_within known (Some k) m (class, (there, is)) = subst (λ (n : Met). IsWithin (length known) n) (sym is) (slice_get_within known class k there)
 
 met_within : (known : List Key) (x : Event) (m : Met) → IsMet known x m → IsWithin (length known) m
-met_within known (event.Touch access writes phase round element newest) m h = key_within known (read_key (event.Touch access writes phase round element newest)) m h
+met_within known (event.Touch writes phase round access element newest) m h = key_within known (read_key (event.Touch writes phase round access element newest)) m h
 met_within known (event.Assigned entity) m h = subst (λ (n : Met). IsWithin (length known) n) (sym h) tt
 met_within known event.ArmBegins m h = subst (λ (n : Met). IsWithin (length known) n) (sym h) tt
 met_within known event.ArmEnds m h = subst (λ (n : Met). IsWithin (length known) n) (sym h) tt

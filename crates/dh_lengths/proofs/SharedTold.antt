@@ -452,9 +452,9 @@ module _ (w : Walk) where
   writing v t site a m e = record { key = None; is = e; none = λ f. refl; class = λ f. absurd (untrue true refl f) }
 
   goes : (v : ℕ → ℕ) (place : ℕ) (h : Happens) (e : Event) (m : Met) → event_seen e ≡ incident_of h → IsMet w.keys e m → IsRead w.structures v e → Goes v h m × (clocks_after v place e ≡ moments_after v place h)
-  goes v place (touch_of t writes site a) (event.Touch access true phase round element newest) m e i r =
+  goes v place (touch_of t writes site a) (event.Touch true phase round access element newest) m e i r =
       (subst (λ (x : Bool). Meeting v t x site a m) (touch_writes _ _ _ _ _ _ e) (writing v t site a m i), refl)
-  goes v place (touch_of t writes site a) (event.Touch access false phase round element newest) m e i r = (
+  goes v place (touch_of t writes site a) (event.Touch false phase round access element newest) m e i r = (
     subst (λ (x : Bool). Meeting v t x site a m) (touch_writes _ _ _ _ _ _ e)
         (subst (λ (x : Term). Meeting v x false site a m) (touch_term _ _ _ _ _ _ e)
         (subst (λ (x : Site). Meeting v (term_seen access.now) false x a m) (touch_site _ _ _ _ _ _ e) (reading v (term_seen access.now) (site_at phase round) a m element newest r i))),

@@ -34,7 +34,7 @@ IsKeyMet known None m = m ≡ met.Alone
 IsKeyMet known (Some k) m = (class : ℕ) × ((slice_get known class ≡ Some k) × (m ≡ met.Read class))
 
 abbrev pub IsMet : List Key → Event → Met → Type 0
-IsMet known (event.Touch access writes phase round element newest) m = IsKeyMet known (read_key (event.Touch access writes phase round element newest)) m
+IsMet known (event.Touch writes phase round access element newest) m = IsKeyMet known (read_key (event.Touch writes phase round access element newest)) m
 IsMet known (event.Assigned entity) m = m ≡ met.Other
 IsMet known event.ArmBegins m = m ≡ met.Begins
 IsMet known event.ArmEnds m = m ≡ met.Ends

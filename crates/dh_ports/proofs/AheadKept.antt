@@ -34,8 +34,8 @@ some_same x y e = cc
 
 abbrev key_at : Option Event → (bank : ℕ) → Option Key
 key_at None bank = None
-key_at (Some (event.Touch access true phase round element newest)) bank = Some (bank_key phase bank)
-key_at (Some (event.Touch access false phase round element newest)) bank = None
+key_at (Some (event.Touch true phase round access element newest)) bank = Some (bank_key phase bank)
+key_at (Some (event.Touch false phase round access element newest)) bank = None
 key_at (Some (event.Assigned entity)) bank = None
 key_at (Some event.ArmBegins) bank = None
 key_at (Some event.ArmEnds) bank = None
@@ -113,8 +113,8 @@ event_there (x ∷ es) (suc i) inside e = event_there es i (less i (length es) i
 
 noted_at : (known : List Key) (bank : ℕ) (o : Option Event) → (o ≡ None → ⊥) → ((k : Key) → key_at o bank ≡ Some k → Has known k) → IsWritten known o bank
 noted_at known bank None there has = there refl
-noted_at known bank (Some (event.Touch access true phase round element newest)) there has = has (bank_key phase bank) refl
-noted_at known bank (Some (event.Touch access false phase round element newest)) there has = tt
+noted_at known bank (Some (event.Touch true phase round access element newest)) there has = has (bank_key phase bank) refl
+noted_at known bank (Some (event.Touch false phase round access element newest)) there has = tt
 noted_at known bank (Some (event.Assigned entity)) there has = tt
 noted_at known bank (Some event.ArmBegins) there has = tt
 noted_at known bank (Some event.ArmEnds) there has = tt
@@ -205,12 +205,12 @@ module _ (events : List Event) (known : List Key) where
 
     not_late_at : (e bank keys : ℕ) → m ≡ move.Claim e bank keys → (o : Option Event) → slice_get events e ≡ o → is_late (order_of known o bank) (left_before (order_of known o bank) levels) ≡ false
     not_late_at e bank keys is None at = refl
-    not_late_at e bank keys is (Some (event.Touch access true phase round element newest)) at = by_slot (slot_in known (bank_key phase bank))
+    not_late_at e bank keys is (Some (event.Touch true phase round access element newest)) at = by_slot (slot_in known (bank_key phase bank))
       where
         by_slot : (o : Option ℕ) → is_late (step_in o (take_of true)) (left_before (step_in o (take_of true)) levels) ≡ false
         by_slot None = refl
         by_slot (Some slot) = refl
-    not_late_at e bank keys is (Some (event.Touch access false phase round element newest)) at = by_slot (slot_in known (bank_key phase bank)) refl
+    not_late_at e bank keys is (Some (event.Touch false phase round access element newest)) at = by_slot (slot_in known (bank_key phase bank)) refl
       where
         reads : NoneReads events phase bank (m ∷ ms) → ⊥
         reads none = (subst (λ (x : Move). NoneReads events phase bank (x ∷ ms)) is none).0 (subst (λ (o : Option Event). IsReadAt o phase) (sym at) refl, refl)
@@ -248,7 +248,7 @@ module _ (events : List Event) (known : List Key) where
 
       stays_at : (e bank keys : ℕ) → m ≡ move.Claim e bank keys → (o : Option Event) → slice_get events e ≡ o → Stays (order_of known o bank)
       stays_at e bank keys is None at = inl is_free
-      stays_at e bank keys is (Some (event.Touch access true phase round element newest)) at = by_slot (slot_in known (bank_key phase bank)) refl
+      stays_at e bank keys is (Some (event.Touch true phase round access element newest)) at = by_slot (slot_in known (bank_key phase bank)) refl
         where
           none : NoneReads events phase bank ms
           none = (subst (λ (x : Move). AreAhead events (x ∷ ms)) is ahead).0 phase bank (subst (λ (o : Option Event). IsWriteAt o phase) (sym at) refl, refl)
@@ -256,7 +256,7 @@ module _ (events : List Event) (known : List Key) where
           by_slot : (o : Option ℕ) → slot_in known (bank_key phase bank) ≡ o → Stays (step_in o (take_of true))
           by_slot None f = inl is_free
           by_slot (Some other) f = stays_written e bank keys phase other is (slot_found known (bank_key phase bank) other f) none
-      stays_at e bank keys is (Some (event.Touch access false phase round element newest)) at = by_slot (slot_in known (bank_key phase bank))
+      stays_at e bank keys is (Some (event.Touch false phase round access element newest)) at = by_slot (slot_in known (bank_key phase bank))
         where
           by_slot : (o : Option ℕ) → Stays (step_in o (take_of false))
           by_slot None = inl is_free

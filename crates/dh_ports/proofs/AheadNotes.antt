@@ -98,12 +98,12 @@ module _ (events : List Event) (old new : LastWrites) where
 
     of_event : (o : Option Event) → slice_get events e ≡ o → NotesAt old new o bank → NotesMoves events old (move.Claim e bank keys ∷ []) new
     of_event None is h = absurd h
-    of_event (Some (event.Touch access true phase round element newest)) is h = λ before so. record {
+    of_event (Some (event.Touch true phase round access element newest)) is h = λ before so. record {
       covers = all_both (λ x. (p b : ℕ) → ClaimsWrite events p b x → p ≤ slice_index new.phases.items b) before (move.Claim e bank keys ∷ []) (covers_raised events old.phases.items new.phases.items h.0.keeps before so.covers)
           (λ p b w. subst (λ (n : ℕ). n ≤ slice_index new.phases.items b) (subst (λ (x : Option Event). IsWriteAt x p) is w.0) (subst (λ (n : ℕ). phase ≤ slice_index new.phases.items n) w.1 h.0.covers), tt);
       ahead = λ t. ahead_more events before (move.Claim e bank keys) (so.ahead (sym h.1 ∙ t)) (λ p b r. absurd (subst (λ (x : Option Event). IsReadAt x p) is r.0));
     }
-    of_event (Some (event.Touch access false phase round element newest)) is h = λ before so. record {
+    of_event (Some (event.Touch false phase round access element newest)) is h = λ before so. record {
       covers = all_both (λ x. (p b : ℕ) → ClaimsWrite events p b x → p ≤ slice_index new.phases.items b) before (move.Claim e bank keys ∷ []) (subst (λ (ns : List ℕ). Covers events ns before) (sym h.0) so.covers)
           (λ p b w. absurd (subst (λ (x : Option Event). IsWriteAt x p) is w.0), tt);
       ahead = λ t.

@@ -234,7 +234,7 @@ seen_at (e ∷ es) (suc i) = seen_at es i
 -- the step of a claim of an access, by its phase and whether it writes
 ordered : (known : List Key) (o : Option Event) (t : Term) (writes : Bool) (site : Site) (bank : ℕ) → option_map event_seen o ≡ Some (touches t writes site) → order_of known o bank ≡ step_in (slot_in known (bank_key site.phase bank)) (take_of writes)
 ordered known None t writes site bank e = cc
-ordered known (Some (event.Touch access w phase round element newest)) t writes site bank e =
+ordered known (Some (event.Touch w phase round access element newest)) t writes site bank e =
     ap (λ b. step_in (slot_in known (bank_key phase bank)) (take_of b)) (touch_writes _ _ _ _ _ _ (some_same _ _ e))
     ∙ ap (λ (s : Site). step_in (slot_in known (bank_key s.phase bank)) (take_of writes)) (touch_site _ _ _ _ _ _ (some_same _ _ e))
 ordered known (Some (event.Assigned entity)) t writes site bank e = cc
@@ -247,7 +247,7 @@ ordered known (Some event.Ends) t writes site bank e = cc
 -- the phase of an access, and a read in its own
 phase_is : (o : Option Event) (t : Term) (writes : Bool) (site : Site) → option_map event_seen o ≡ Some (touches t writes site) → phase_at o ≡ site.phase
 phase_is None t writes site e = cc
-phase_is (Some (event.Touch access w phase round element newest)) t writes site e = ap (λ (s : Site). s.phase) (touch_site _ _ _ _ _ _ (some_same _ _ e))
+phase_is (Some (event.Touch w phase round access element newest)) t writes site e = ap (λ (s : Site). s.phase) (touch_site _ _ _ _ _ _ (some_same _ _ e))
 phase_is (Some (event.Assigned entity)) t writes site e = cc
 phase_is (Some event.ArmBegins) t writes site e = cc
 phase_is (Some event.ArmEnds) t writes site e = cc
@@ -257,11 +257,11 @@ phase_is (Some event.Ends) t writes site e = cc
 
 read_at : (o : Option Event) (t : Term) (site : Site) → option_map event_seen o ≡ Some (touches t false site) → IsReadAt o site.phase
 read_at None t site e = cc
-read_at (Some (event.Touch access true phase round element newest)) t site e = absurd (untrue (touch_writes _ _ _ _ _ _ (some_same _ _ e)))
+read_at (Some (event.Touch true phase round access element newest)) t site e = absurd (untrue (touch_writes _ _ _ _ _ _ (some_same _ _ e)))
   where
     untrue : true ≡ false → ⊥
     untrue e = cc
-read_at (Some (event.Touch access false phase round element newest)) t site e = ap (λ (s : Site). s.phase) (touch_site _ _ _ _ _ _ (some_same _ _ e))
+read_at (Some (event.Touch false phase round access element newest)) t site e = ap (λ (s : Site). s.phase) (touch_site _ _ _ _ _ _ (some_same _ _ e))
 read_at (Some (event.Assigned entity)) t site e = cc
 read_at (Some event.ArmBegins) t site e = cc
 read_at (Some event.ArmEnds) t site e = cc
@@ -272,8 +272,8 @@ read_at (Some event.Ends) t site e = cc
 -- a write's key of its bank is known
 written_key : (known : List Key) (o : Option Event) (t : Term) (site : Site) (bank : ℕ) → option_map event_seen o ≡ Some (touches t true site) → IsWritten known o bank → (slot : ℕ) × (slice_get known slot ≡ Some (bank_key site.phase bank))
 written_key known None t site bank e h = absurd h
-written_key known (Some (event.Touch access true phase round element newest)) t site bank e h = (h.0, h.1 ∙ ap (λ (s : Site). Some (bank_key s.phase bank)) (touch_site _ _ _ _ _ _ (some_same _ _ e)))
-written_key known (Some (event.Touch access false phase round element newest)) t site bank e h = absurd (untrue (touch_writes _ _ _ _ _ _ (some_same _ _ e)))
+written_key known (Some (event.Touch true phase round access element newest)) t site bank e h = (h.0, h.1 ∙ ap (λ (s : Site). Some (bank_key s.phase bank)) (touch_site _ _ _ _ _ _ (some_same _ _ e)))
+written_key known (Some (event.Touch false phase round access element newest)) t site bank e h = absurd (untrue (touch_writes _ _ _ _ _ _ (some_same _ _ e)))
   where
     untrue : false ≡ true → ⊥
     untrue e = cc

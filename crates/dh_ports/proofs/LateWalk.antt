@@ -99,7 +99,7 @@ module _ (known : List Key) (distinct : AreDistinct known) (events : List Event)
     where
       of_event : (o : Option Event) → ClaimOrdersAt known o bank s → s ≡ order_of known o bank
       of_event None h = absurd h
-      of_event (Some (event.Touch access writes phase round element newest)) h = steps_at known distinct (bank_key phase bank) (take_of writes) s h
+      of_event (Some (event.Touch writes phase round access element newest)) h = steps_at known distinct (bank_key phase bank) (take_of writes) s h
       of_event (Some (event.Assigned entity)) h = h
       of_event (Some event.ArmBegins) h = h
       of_event (Some event.ArmEnds) h = h
@@ -364,7 +364,7 @@ module _ (known : List Key) (events : List Event) (p : Program) (loops : Option 
 
   look_one : (o : Option Event) (t : Term) (site : Site) (bank : ℕ) → option_map event_seen o ≡ Some (touches t false site) → IsLook (order_of known o bank)
   look_one None t site bank e = tt
-  look_one (Some (event.Touch access writes phase round element newest)) t site bank e = by_slot (slot_in known (bank_key phase bank))
+  look_one (Some (event.Touch writes phase round access element newest)) t site bank e = by_slot (slot_in known (bank_key phase bank))
     where
       reads : writes ≡ false
       reads = touch_false _ _ _ _ _ _ (some_same _ _ e)
@@ -381,7 +381,7 @@ module _ (known : List Key) (events : List Event) (p : Program) (loops : Option 
 
   take_one : (o : Option Event) (t : Term) (site : Site) (bank : ℕ) → option_map event_seen o ≡ Some (touches t true site) → IsTake (order_of known o bank)
   take_one None t site bank e = tt
-  take_one (Some (event.Touch access writes phase round element newest)) t site bank e = by_slot (slot_in known (bank_key phase bank))
+  take_one (Some (event.Touch writes phase round access element newest)) t site bank e = by_slot (slot_in known (bank_key phase bank))
     where
       takes : writes ≡ true
       takes = touch_false _ _ _ _ _ _ (some_same _ _ e)

@@ -21,9 +21,11 @@ use Rattle.dh_ways.specs.Stands.{hidden_of_program}
 use Rattle.dh_ways.proofs.StandsFound.{hidden_are}
 use Rattle.dh_events.specs.declared.dependence.Scope.{Scope}
 use Rattle.dh_ports.specs.Carriers.{Follow}
-use Rattle.dh_ports.specs.Layouts.{AreRoundsOf, no_rounds}
+use Rattle.dh_ports.specs.Layouts.{no_rounds, AreRoundsOf, AreScopesNoted}
 use Rattle.dh_events.specs.Rounds.{rounds_in, rounds_of, AreRounds}
-use Rattle.dh_events.specs.Scopes.{AreScopes}
+use Rattle.dh_events.specs.Scopes.{scope_at, scopes_in, AreScopes}
+use Rattle.dh_events.specs.Stages.{stages_in}
+use Rattle.dh_events.specs.Tables.{numbered}
 use Rattle.dh_ports.proofs.SingleRounds.{single_rounds}
 
 absurd : {A : Type 0} → ⊥ → A
@@ -46,6 +48,14 @@ pub rounds_none : (p : Program) (rounds : List (Vec Counter Global)) → rounds 
 rounds_none p rounds empty single =
     ap (λ (l : List (Vec Counter Global)). rounds_of l) empty ∙ (fun_ext no_round ∙ sym (single_rounds [] p.body no_rounds single))
 
+-- phases that were counted from nothing on
+pub stages_noted : (p : Program) (body : Action) → body ≡ p.body → (old new : List ℕ) → old ≡ [] → numbered new ≡ stages_in body (numbered old) → numbered new ≡ stages_in p.body (numbered [])
+stages_noted p body same old new empty noted = noted ∙ (ap (λ (l : List ℕ). stages_in body (numbered l)) empty ∙ ap (λ (a : Action). stages_in a (numbered [])) same)
+
+-- variables that were noted from nothing on
+pub scopes_noted : (p : Program) (body : Action) → body ≡ p.body → (old new : List (Option Scope)) → old ≡ [] → scope_at new ≡ scopes_in 0 body (scope_at old) → scope_at new ≡ scopes_in 0 p.body (scope_at [])
+scopes_noted p body same old new empty noted = noted ∙ (ap (λ (l : List (Option Scope)). scopes_in 0 body (scope_at l)) empty ∙ ap (λ (a : Action). scopes_in 0 a (scope_at [])) same)
+
 -- variables of a body that is the program's
 pub scopes_told : (p : Program) (body : Action) → body ≡ p.body → (behind : List Binding) → behind ≡ view_bindings p → (scopes : List (Option Scope)) → AreScopes (bindings 0 body ++ behind) scopes → AreScopes (all_bindings_of p) scopes
 scopes_told p body same behind is scopes h = subst (λ (bs : List Binding). AreScopes (bindings 0 p.body ++ bs) scopes) is (subst (λ (a : Action). AreScopes (bindings 0 a ++ behind) scopes) same h)
@@ -57,6 +67,9 @@ no_loops (r ∷ rounds) e id = absurd (some (length rounds) e)
   where
     some : (n : ℕ) → suc n ≡ 0 → ⊥
     some n e = omega (arith, e)
+
+pub no_scopes_noted : (p : Program) (rounds : List (Vec Counter Global)) (scopes : List (Option Scope)) → rounds ≡ [] → AreScopesNoted p rounds scopes
+no_scopes_noted p rounds scopes e id h = absurd (h (no_loops rounds (ap (λ (l : List (Vec Counter Global)). length l) e) id))
 
 pub no_scopes : (p : Program) (rounds : List (Vec Counter Global)) (scopes : List (Option Scope)) → length rounds ≡ 0 → (id : ℕ) → (rounds_of rounds id ≡ [] → ⊥) → AreScopes (all_bindings_of p) scopes
 no_scopes p rounds scopes e id h = absurd (h (no_loops rounds e id))

@@ -55,7 +55,7 @@ module _ (event base i : ℕ) (counts : List ℕ) (inside : i < length counts) w
 -- What an event does to banks.
 
 moves_so : (p : Program) (loops : Option ℕ → List Counter) (place : ℕ) (e : Event) (es : List Event) → moves_from p loops place (all_seen (e ∷ es)) ≡ moves_of p loops place e ++ moves_from p loops (place + 1) (all_seen es)
-moves_so p loops place (event.Touch access writes phase round element newest) es = refl
+moves_so p loops place (event.Touch writes phase round access element newest) es = refl
 moves_so p loops place (event.Assigned entity) es = refl
 moves_so p loops place event.ArmBegins es = refl
 moves_so p loops place event.ArmEnds es = refl
@@ -85,7 +85,7 @@ claims_within n event (move.Next ∷ ms) l h = absurd h.0
 claims_within n event (move.End ∷ ms) l h = absurd h.0
 
 pub moves_within : (p : Program) (loops : Option ℕ → List Counter) (n i : ℕ) (e : Event) → i < n → AllByRecursion (IsMoveOf n) (moves_of p loops i e)
-moves_within p loops n i (event.Touch access writes phase round element newest) l = claims_within n i _ l (all_claims p i (source_of (loops round) writes access.now))
+moves_within p loops n i (event.Touch writes phase round access element newest) l = claims_within n i _ l (all_claims p i (source_of (loops round) writes access.now))
 moves_within p loops n i (event.Assigned entity) l = tt
 moves_within p loops n i event.ArmBegins l = tt
 moves_within p loops n i event.ArmEnds l = tt
@@ -119,7 +119,7 @@ nothing_of p loops place e (inr (inl is)) = ap (λ x. moves_of p loops place x) 
 nothing_of p loops place e (inr (inr is)) = ap (λ x. moves_of p loops place x) is
 
 pub few_at : (rounds : List (Vec Counter Global)) (es : List Event) (i : ℕ) (e : Event) → HaveFewCopies rounds es → i < length es → e ≡ get_or es i e → HasFewCopiesAt rounds e
-few_at rounds es i (event.Touch access writes phase round element newest) few inside is = few i access writes phase round element newest (event_found es i _ _ inside (sym is))
+few_at rounds es i (event.Touch writes phase round access element newest) few inside is = few i access writes phase round element newest (event_found es i _ _ inside (sym is))
 few_at rounds es i (event.Assigned entity) few inside is = tt
 few_at rounds es i event.ArmBegins few inside is = tt
 few_at rounds es i event.ArmEnds few inside is = tt

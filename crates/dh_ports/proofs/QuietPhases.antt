@@ -80,7 +80,7 @@ module _ (known : List Key) (marked : List ℕ) (events : List Event) (are : Are
 
   quiet_event : (o : Option Event) (bank : ℕ) → is_quiet_at marked o ≡ true → order_of known o bank ≡ step.Other
   quiet_event None bank e = refl
-  quiet_event (Some (event.Touch access writes phase round element newest)) bank e = ap (λ o. step_in o (take_of writes)) (none_known phase bank e)
+  quiet_event (Some (event.Touch writes phase round access element newest)) bank e = ap (λ o. step_in o (take_of writes)) (none_known phase bank e)
   quiet_event (Some (event.Assigned entity)) bank e = refl
   quiet_event (Some event.ArmBegins) bank e = refl
   quiet_event (Some event.ArmEnds) bank e = refl

@@ -241,7 +241,7 @@ one_told known events (move.Claim e bank keys) h = of_event (slice_get events e)
 
     of_event : (o : Option Event) → (o ≡ None → ⊥) → ClaimOrdersAt known o bank (order_of known o bank)
     of_event None given = given refl
-    of_event (Some (event.Touch access writes phase round element newest)) given = steps_told known (bank_key phase bank) (take_of writes)
+    of_event (Some (event.Touch writes phase round access element newest)) given = steps_told known (bank_key phase bank) (take_of writes)
     of_event (Some (event.Assigned entity)) given = refl
     of_event (Some event.ArmBegins) given = refl
     of_event (Some event.ArmEnds) given = refl

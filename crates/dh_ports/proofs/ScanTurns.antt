@@ -25,8 +25,8 @@ lefts_of_long levels (s ∷ ss) = ap suc (lefts_of_long (λ slot. advance slot s
 
 written_still : (old new : List Key) → Extends old new → (o : Option Event) (bank : ℕ) → IsWritten old o bank → IsWritten new o bank
 written_still old new more None bank h = h
-written_still old new more (Some (event.Touch access true phase round element newest)) bank (slot, e) = (slot, more slot _ e)
-written_still old new more (Some (event.Touch access false phase round element newest)) bank h = h
+written_still old new more (Some (event.Touch true phase round access element newest)) bank (slot, e) = (slot, more slot _ e)
+written_still old new more (Some (event.Touch false phase round access element newest)) bank h = h
 written_still old new more (Some (event.Assigned entity)) bank h = h
 written_still old new more (Some event.ArmBegins) bank h = h
 written_still old new more (Some event.ArmEnds) bank h = h
@@ -47,7 +47,7 @@ takes_still old new more None s h = h
 takes_still old new more (Some k) s (slot, (e, f)) = (slot, (more slot k e, f))
 
 sharing_still : (old new : List Key) → Extends old new → (e : Event) (s : Step) → IsSharing old e s → IsSharing new e s
-sharing_still old new more (event.Touch access writes phase round element newest) s h = takes_still old new more (read_key (event.Touch access writes phase round element newest)) s h
+sharing_still old new more (event.Touch writes phase round access element newest) s h = takes_still old new more (read_key (event.Touch writes phase round access element newest)) s h
 sharing_still old new more (event.Assigned entity) s h = h
 sharing_still old new more event.ArmBegins s h = h
 sharing_still old new more event.ArmEnds s h = h

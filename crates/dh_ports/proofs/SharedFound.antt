@@ -148,9 +148,9 @@ module _ (w : Walk) where
 
   -- what happens, and the event that it is
   goes : (v : ℕ → ℕ) (place : ℕ) (h : Happens) (e : Event) (s : Step) → event_seen e ≡ incident_of h → IsSharing w.keys e s → IsRead w.structures v e → Goes v h s × (clocks_after v place e ≡ moments_after v place h)
-  goes v place (touch_of t writes site a) (event.Touch access true phase round element newest) s e i r =
+  goes v place (touch_of t writes site a) (event.Touch true phase round access element newest) s e i r =
       (subst (λ (x : Bool). Touching v t x site a s) (touch_writes _ _ _ _ _ _ e) (writing v t site a s i), refl)
-  goes v place (touch_of t writes site a) (event.Touch access false phase round element newest) s e i r = (
+  goes v place (touch_of t writes site a) (event.Touch false phase round access element newest) s e i r = (
     subst (λ (x : Bool). Touching v t x site a s) (touch_writes _ _ _ _ _ _ e)
         (subst (λ (x : Term). Touching v x false site a s) (touch_term _ _ _ _ _ _ e)
         (subst (λ (x : Site). Touching v (term_seen access.now) false x a s) (touch_site _ _ _ _ _ _ e) (reading v (term_seen access.now) (site_at phase round) a s element newest r i))),

@@ -79,7 +79,7 @@ takes_within known None s h = subst (λ (x : Step). StepWithin (length known) x)
 takes_within known (Some k) s (slot, (e, f)) = subst (λ (x : Step). StepWithin (length known) x) (sym f) (slice_get_within known slot k e)
 
 step_within : (known : List Key) (e : Event) (s : Step) → IsSharing known e s → StepWithin (length known) s
-step_within known (event.Touch access writes phase round element newest) s h = takes_within known (read_key (event.Touch access writes phase round element newest)) s h
+step_within known (event.Touch writes phase round access element newest) s h = takes_within known (read_key (event.Touch writes phase round access element newest)) s h
 step_within known (event.Assigned entity) s h = subst (λ (x : Step). StepWithin (length known) x) (sym h) tt
 step_within known event.ArmBegins s h = subst (λ (x : Step). StepWithin (length known) x) (sym h) tt
 step_within known event.ArmEnds s h = subst (λ (x : Step). StepWithin (length known) x) (sym h) tt

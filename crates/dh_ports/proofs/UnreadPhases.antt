@@ -28,8 +28,8 @@ never e = cc
 -- Marks.
 
 marks_kept : (old new : List ℕ) (e : Event) → MarksRead old new e → (phase : ℕ) → slice_index old phase ≡ 1 → slice_index new phase ≡ 1
-marks_kept old new (event.Touch access true phase round element newest) m p h = ap (λ (f : ℕ → ℕ). f p) m ∙ h
-marks_kept old new (event.Touch access false phase round element newest) m p h = ap (λ (f : ℕ → ℕ). f p) m ∙ either (phase == p)
+marks_kept old new (event.Touch true phase round access element newest) m p h = ap (λ (f : ℕ → ℕ). f p) m ∙ h
+marks_kept old new (event.Touch false phase round access element newest) m p h = ap (λ (f : ℕ → ℕ). f p) m ∙ either (phase == p)
   where
     either : (b : Bool) → (if b then 1 else numbered old p) ≡ 1
     either true = refl
@@ -42,8 +42,8 @@ marks_kept old new event.Next m p h = ap (λ (f : ℕ → ℕ). f p) m ∙ h
 marks_kept old new event.Ends m p h = ap (λ (f : ℕ → ℕ). f p) m ∙ h
 
 marks_read : (old new : List ℕ) (e : Event) → MarksRead old new e → (phase : ℕ) → IsReadAt (Some e) phase → slice_index new phase ≡ 1
-marks_read old new (event.Touch access true phase round element newest) m p h = absurd h
-marks_read old new (event.Touch access false phase round element newest) m p h = ap (λ (f : ℕ → ℕ). f p) m ∙ ap (λ b. if b then 1 else numbered old p) (eq-eqb phase p h)
+marks_read old new (event.Touch true phase round access element newest) m p h = absurd h
+marks_read old new (event.Touch false phase round access element newest) m p h = ap (λ (f : ℕ → ℕ). f p) m ∙ ap (λ b. if b then 1 else numbered old p) (eq-eqb phase p h)
 marks_read old new (event.Assigned entity) m p h = absurd h
 marks_read old new event.ArmBegins m p h = absurd h
 marks_read old new event.ArmEnds m p h = absurd h
@@ -83,7 +83,7 @@ read_done events i marked past so = λ phase has. by phase (so phase has)
 module _ (events : List Event) (marked : List ℕ) (are : AreRead events marked) where
   none_read : (o : Option Event) → is_quiet_at marked o ≡ true → HasRead events (phase_at o) → ⊥
   none_read None quiet has = never quiet
-  none_read (Some (event.Touch access writes phase round element newest)) quiet has = apart (slice_index marked phase) (are phase has) (eqb-true (slice_index marked phase) 0 quiet)
+  none_read (Some (event.Touch writes phase round access element newest)) quiet has = apart (slice_index marked phase) (are phase has) (eqb-true (slice_index marked phase) 0 quiet)
     where
       apart : (n : ℕ) → n ≡ 1 → n ≡ 0 → ⊥
       apart n e f = omega (arith, e, f)

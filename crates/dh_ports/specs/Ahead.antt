@@ -11,8 +11,8 @@ use Rattle.dh_ports.specs.Scanned.{IsReadAt}
 -- a write stands in a phase
 abbrev pub IsWriteAt : Option Event → (phase : ℕ) → Type 0
 IsWriteAt None phase = ⊥
-IsWriteAt (Some (event.Touch access true other round element newest)) phase = other ≡ phase
-IsWriteAt (Some (event.Touch access false other round element newest)) phase = ⊥
+IsWriteAt (Some (event.Touch true other round access element newest)) phase = other ≡ phase
+IsWriteAt (Some (event.Touch false other round access element newest)) phase = ⊥
 IsWriteAt (Some (event.Assigned entity)) phase = ⊥
 IsWriteAt (Some event.ArmBegins) phase = ⊥
 IsWriteAt (Some event.ArmEnds) phase = ⊥
@@ -58,8 +58,8 @@ pub record Raises (old new : List ℕ) (bank phase : ℕ) : Type 0 where
 
 -- what the claim of a bank by an event notes
 abbrev pub NotesEvent : (old new : LastWrites) → Event → (bank : ℕ) → Type 0
-NotesEvent old new (event.Touch access true phase round element newest) bank = Raises old.phases.items new.phases.items bank phase × (new.ahead ≡ old.ahead)
-NotesEvent old new (event.Touch access false phase round element newest) bank = (new.phases.items ≡ old.phases.items) × (new.ahead ≡ (old.ahead && nat_lt (slice_index old.phases.items bank) phase))
+NotesEvent old new (event.Touch true phase round access element newest) bank = Raises old.phases.items new.phases.items bank phase × (new.ahead ≡ old.ahead)
+NotesEvent old new (event.Touch false phase round access element newest) bank = (new.phases.items ≡ old.phases.items) × (new.ahead ≡ (old.ahead && nat_lt (slice_index old.phases.items bank) phase))
 NotesEvent old new (event.Assigned entity) bank = new ≡ old
 NotesEvent old new event.ArmBegins bank = new ≡ old
 NotesEvent old new event.ArmEnds bank = new ≡ old

@@ -16,7 +16,7 @@ use Rattle.dh_ports.specs.Copies.{copies_round}
 
 -- what an event at a place does to banks
 abbrev pub moves_of : Program → (loops : Option ℕ → List Counter) → (place : ℕ) → Event → List Move
-moves_of p loops place (event.Touch access writes phase round element newest) = claims_of p place (source_of (loops round) writes access.now)
+moves_of p loops place (event.Touch writes phase round access element newest) = claims_of p place (source_of (loops round) writes access.now)
 moves_of p loops place (event.Assigned entity) = []
 moves_of p loops place event.ArmBegins = []
 moves_of p loops place event.ArmEnds = []
@@ -30,7 +30,7 @@ moves_known p layout events = moves_from p (loops_in layout.rounds.items) 0 (all
 
 -- an access does not stand in too many copies
 abbrev pub HasFewCopiesAt : List (Vec Counter Global) → Event → Type 0
-HasFewCopiesAt rounds (event.Touch access writes phase round element newest) = copies_round (loops_in rounds round) ≤ most_copies
+HasFewCopiesAt rounds (event.Touch writes phase round access element newest) = copies_round (loops_in rounds round) ≤ most_copies
 HasFewCopiesAt rounds (event.Assigned entity) = Unit {0}
 HasFewCopiesAt rounds event.ArmBegins = Unit {0}
 HasFewCopiesAt rounds event.ArmEnds = Unit {0}

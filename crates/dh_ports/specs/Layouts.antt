@@ -15,7 +15,7 @@ use Rattle.dh_ports.specs.Carriers.{AreEach}
 use Rattle.dh_ports.specs.Claims.{AreBases}
 use Rattle.dh_ports.specs.Copies.{copies_round}
 use Rattle.dh_events.specs.Rounds.{rounds_in, rounds_of}
-use Rattle.dh_events.specs.Scopes.{AreScopes}
+use Rattle.dh_events.specs.Scopes.{scope_at, scopes_in, AreScopes}
 use Rattle.dh_meets.specs.FewCopies.{most_copies}
 
 -- no loop is known
@@ -25,6 +25,10 @@ no_rounds id = []
 -- the unrolled loops of a program are noted so
 abbrev pub AreRoundsOf : Program → List (Vec Counter Global) → Type 0
 AreRoundsOf p rounds = rounds_of rounds ≡ rounds_in [] p.body no_rounds
+
+-- where loops are unrolled, it is noted where the variables of the body are declared
+abbrev pub AreScopesNoted : Program → (rounds : List (Vec Counter Global)) → (scopes : List (Option Scope)) → Type 0
+AreScopesNoted p rounds scopes = (id : ℕ) → (rounds_of rounds id ≡ [] → ⊥) → scope_at scopes ≡ scopes_in 0 p.body (scope_at [])
 
 -- where loops are unrolled, it is known where variables are declared
 abbrev pub AreScopesWhere : Program → (rounds : List (Vec Counter Global)) → (scopes : List (Option Scope)) → Type 0
@@ -40,4 +44,4 @@ pub record IsLayout (p : Program) (layout : Layout) : Type 0 where
 -- no access stands in too many copies
 abbrev pub HaveFewCopies : List (Vec Counter Global) → List Event → Type 0
 HaveFewCopies rounds events =
-    (i : ℕ) (access : _) (writes : Bool) (phase : ℕ) (round : Option ℕ) (element : Option ℕ) (newest : ℕ) → slice_get events i ≡ Some (event.Touch access writes phase round element newest) → copies_round (loops_in rounds round) ≤ most_copies
+    (i : ℕ) (access : _) (writes : Bool) (phase : ℕ) (round : Option ℕ) (element : Option ℕ) (newest : ℕ) → slice_get events i ≡ Some (event.Touch writes phase round access element newest) → copies_round (loops_in rounds round) ≤ most_copies

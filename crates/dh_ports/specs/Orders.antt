@@ -25,7 +25,7 @@ step_in (Some slot) takes = step.Access slot takes
 -- the step of the claim of a bank by an event
 abbrev pub order_of : List Key → Option Event → (bank : ℕ) → Step
 order_of known None bank = step.Other
-order_of known (Some (event.Touch access writes phase round element newest)) bank = step_in (slot_in known (bank_key phase bank)) (take_of writes)
+order_of known (Some (event.Touch writes phase round access element newest)) bank = step_in (slot_in known (bank_key phase bank)) (take_of writes)
 order_of known (Some (event.Assigned entity)) bank = step.Other
 order_of known (Some event.ArmBegins) bank = step.Other
 order_of known (Some event.ArmEnds) bank = step.Other
@@ -47,7 +47,7 @@ AreMarked known marked = (n : ℕ) (k : Key) → slice_get known n ≡ Some k �
 
 -- an event is an access in a phase that is not
 abbrev pub is_quiet : (marked : List ℕ) → Event → Bool
-is_quiet marked (event.Touch access writes phase round element newest) = slice_index marked phase == 0
+is_quiet marked (event.Touch writes phase round access element newest) = slice_index marked phase == 0
 is_quiet marked (event.Assigned entity) = false
 is_quiet marked event.ArmBegins = false
 is_quiet marked event.ArmEnds = false
@@ -75,8 +75,8 @@ ReadSoFar events left marked = (phase : ℕ) → HasRead events phase → (slice
 
 -- an event marks its phase, where it is a read
 abbrev pub MarksRead : (old new : List ℕ) → Event → Type 0
-MarksRead old new (event.Touch access true phase round element newest) = numbered new ≡ numbered old
-MarksRead old new (event.Touch access false phase round element newest) = numbered new ≡ with_number (numbered old) phase 1
+MarksRead old new (event.Touch true phase round access element newest) = numbered new ≡ numbered old
+MarksRead old new (event.Touch false phase round access element newest) = numbered new ≡ with_number (numbered old) phase 1
 MarksRead old new (event.Assigned entity) = numbered new ≡ numbered old
 MarksRead old new event.ArmBegins = numbered new ≡ numbered old
 MarksRead old new event.ArmEnds = numbered new ≡ numbered old

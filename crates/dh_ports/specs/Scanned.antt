@@ -118,8 +118,8 @@ key_with phase (Some e) None newest = None
 key_with phase (Some e) (Some n) newest = Some (record { phase = phase; entity = e; element = n; newest = newest })
 
 abbrev pub read_key : Event → Option Key
-read_key (event.Touch access true phase round element newest) = None
-read_key (event.Touch access false phase round element newest) = key_with phase (entity_in (form_seen access.now.form)) element newest
+read_key (event.Touch true phase round access element newest) = None
+read_key (event.Touch false phase round access element newest) = key_with phase (entity_in (form_seen access.now.form)) element newest
 read_key (event.Assigned entity) = None
 read_key event.ArmBegins = None
 read_key event.ArmEnds = None
@@ -134,7 +134,7 @@ TakesOf known takes (Some k) s = (slot : ℕ) × ((slice_get known slot ≡ Some
 
 -- the step that an event is for the sharing of reads: of a class one is to take
 abbrev pub IsSharing : List Key → Event → Step → Type 0
-IsSharing known (event.Touch access writes phase round element newest) s = TakesOf known 1 (read_key (event.Touch access writes phase round element newest)) s
+IsSharing known (event.Touch writes phase round access element newest) s = TakesOf known 1 (read_key (event.Touch writes phase round access element newest)) s
 IsSharing known (event.Assigned entity) s = s ≡ step.Other
 IsSharing known event.ArmBegins s = s ≡ step.Begin
 IsSharing known event.ArmEnds s = s ≡ step.Back
@@ -168,7 +168,7 @@ take_of writes = if writes then 1 else 0
 -- The step that the claim of a bank is for the order of writes and reads: a write takes what is left of the bank
 -- in its phase, a read only looks.
 abbrev pub ClaimOrders : List Key → Event → (bank : ℕ) → Step → Type 0
-ClaimOrders known (event.Touch access writes phase round element newest) bank s = StepsAt known (bank_key phase bank) (take_of writes) s
+ClaimOrders known (event.Touch writes phase round access element newest) bank s = StepsAt known (bank_key phase bank) (take_of writes) s
 ClaimOrders known (event.Assigned entity) bank s = s ≡ step.Other
 ClaimOrders known event.ArmBegins bank s = s ≡ step.Other
 ClaimOrders known event.ArmEnds bank s = s ≡ step.Other
@@ -184,8 +184,8 @@ ClaimOrdersAt known (Some e) bank s = ClaimOrders known e bank s
 -- where an event is a write, the key of a bank in its phase has a number
 abbrev pub IsWritten : List Key → Option Event → (bank : ℕ) → Type 0
 IsWritten known None bank = ⊥
-IsWritten known (Some (event.Touch access true phase round element newest)) bank = (slot : ℕ) × (slice_get known slot ≡ Some (bank_key phase bank))
-IsWritten known (Some (event.Touch access false phase round element newest)) bank = Unit {0}
+IsWritten known (Some (event.Touch true phase round access element newest)) bank = (slot : ℕ) × (slice_get known slot ≡ Some (bank_key phase bank))
+IsWritten known (Some (event.Touch false phase round access element newest)) bank = Unit {0}
 IsWritten known (Some (event.Assigned entity)) bank = Unit {0}
 IsWritten known (Some event.ArmBegins) bank = Unit {0}
 IsWritten known (Some event.ArmEnds) bank = Unit {0}
@@ -202,7 +202,7 @@ IsNoted known events move.End = Unit {0}
 -- the phase of an event that is an access, and of the claim of one
 abbrev pub phase_at : Option Event → ℕ
 phase_at None = 0
-phase_at (Some (event.Touch access writes phase round element newest)) = phase
+phase_at (Some (event.Touch writes phase round access element newest)) = phase
 phase_at (Some (event.Assigned entity)) = 0
 phase_at (Some event.ArmBegins) = 0
 phase_at (Some event.ArmEnds) = 0
@@ -219,8 +219,8 @@ move_phase events move.End = 0
 -- a read stands in a phase
 abbrev pub IsReadAt : Option Event → (phase : ℕ) → Type 0
 IsReadAt None phase = ⊥
-IsReadAt (Some (event.Touch access true other round element newest)) phase = ⊥
-IsReadAt (Some (event.Touch access false other round element newest)) phase = other ≡ phase
+IsReadAt (Some (event.Touch true other round access element newest)) phase = ⊥
+IsReadAt (Some (event.Touch false other round access element newest)) phase = other ≡ phase
 IsReadAt (Some (event.Assigned entity)) phase = ⊥
 IsReadAt (Some event.ArmBegins) phase = ⊥
 IsReadAt (Some event.ArmEnds) phase = ⊥

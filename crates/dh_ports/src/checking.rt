@@ -10,7 +10,7 @@ ghost use Rattle.dh_ways.specs.Leading.{LeadsTo};
 ghost use Rattle.dh_events.specs.Noted.{all_seen};
 ghost use Rattle.dh_ports.specs.Ahead.{IsAhead};
 ghost use Rattle.dh_ports.specs.EventMoves.{moves_known};
-ghost use Rattle.dh_ports.specs.Layouts.{HaveFewCopies, IsLayout};
+ghost use Rattle.dh_ports.specs.Layouts.{AreRoundsOf, AreScopesNoted, HaveFewCopies, IsLayout};
 ghost use Rattle.dh_ports.specs.Scanned as scanned;
 ghost use Rattle.dh_ports.specs.Scanned.{IsMoveOf};
 ghost use Rattle.dh_ports.specs.Told.{IsToldBefore, JudgesPorts, TellsFirst, TellsPorts};
@@ -22,12 +22,13 @@ use crate::laws::{
     incidents_tell_sites, late_reads_are_told, shared_reads_are_found, spent_ports_are_told,
 };
 use crate::moves::{Layout, all_moves, layout_of};
+use crate::nesting::nests_of;
 use crate::ordering::keep_late;
 use crate::sharing::Sharing;
 use crate::spending::place_walked;
 use crate::walking::walk;
 use dh_base::{NoMemory, PassFault, Place, Rule};
-use dh_events::{Event, Notes, note_body, note_stages};
+use dh_events::{Event, Nests, Notes, note_body};
 use dh_tree::{Breach, Typed};
 use std::alloc::Global;
 
@@ -74,13 +75,18 @@ fn keep_behind(
     keep_late(alloc, kept, events, moves.as_slice())
 }
 
-/// The first breach of the rules on ports, if there is one, by what happens in a program's body.
+/// The first breach of the rules on ports, if there is one, by what is noted of a program's commands and by what
+/// happens in them.
 fn first_among(
     alloc: Global,
     typed: &Typed,
+    nests: Nests,
     events: &[Event<'_>],
 ) -> Result<Option<Breach>, NoMemory>
     requires told { IsToldBefore (program_seen typed.now) }
+    requires rounds { AreRoundsOf (program_seen typed.now) nests.rounds.items }
+    requires scopes { AreScopesNoted (program_seen typed.now) nests.rounds.items
+        nests.scopes.items }
     requires seen { all_seen events.now ≡ happenings_of (program_seen typed.now) }
     ensures { IfOk result (λ first. AreEventsOf (program_seen typed.now) events.now
         → TellsFirst (program_seen typed.now) first) }
@@ -91,7 +97,7 @@ fn first_among(
     late_reads_are_told();
     let mut sharing = Sharing::new(alloc, events.len())?;
     let mut lasts = LastWrites::new(alloc);
-    let layout = layout_of(alloc, typed)?;
+    let layout = layout_of(alloc, typed, nests)?;
     let walked = walk(alloc, typed, &layout, &mut sharing, &mut lasts, events)?;
     let mut kept = spent_at(place_walked(walked));
     keep_behind(alloc, typed, &layout, &mut kept, events, &lasts)?;
@@ -104,12 +110,11 @@ fn first_breach(alloc: Global, typed: &Typed) -> Result<Option<Breach>, NoMemory
     ensures { IfOk result (λ first. TellsFirst (program_seen typed.now) first) }
 {
     let body = &typed.tree().body;
-    let mut stages = Vec::new(alloc);
-    note_stages(&mut stages, body)?;
-    let mut notes = Notes::for_commands(alloc, stages.len())?;
-    note_body(&mut notes, stages.as_slice(), body)?;
+    let nests = nests_of(alloc, typed)?;
+    let mut notes = Notes::for_commands(alloc, nests.stages.len())?;
+    note_body(&mut notes, nests.stages.as_slice(), body)?;
     // the notes are dropped at one place: what comes of them is found in a function of its own
-    first_among(alloc, typed, notes.events.as_slice())
+    first_among(alloc, typed, nests, notes.events.as_slice())
 }
 
 /// The answer for a program, by the first breach of the rules on ports, if there is one.

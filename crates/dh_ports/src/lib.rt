@@ -22,6 +22,7 @@ mod leading;
 mod levels;
 mod marks;
 mod moves;
+mod nesting;
 mod ordering;
 mod sharing;
 mod spending;

@@ -3,6 +3,7 @@
 ghost use Rattle.std.specs.Prelude.{◌≡◌, ◌++◌, ◌≤◌, ◌<◌, ◌+◌, ℕ, true, nat_lt, Some, None, IfOk, OnOk, length, map};
 ghost use Rattle.std.specs.List.{AllByRecursion};
 ghost use Rattle.dh_tree.specs.Memories.{memories_of, number_in, table_of};
+ghost use Rattle.dh_tree.specs.PlainTrees.{Program};
 ghost use Rattle.dh_tree.specs.Seen.{form_seen, program_seen};
 ghost use Rattle.dh_tree.specs.Shapes.{IsProgramTable};
 ghost use Rattle.dh_meaning.specs.Ways.{way_to, ways_of};
@@ -16,7 +17,7 @@ ghost use Rattle.dh_ports.specs.Carriers.{carried_to, one_at, IsCarrier};
 ghost use Rattle.dh_ports.specs.Claims.{claim_in, claims_from, claims_of, source_of};
 ghost use Rattle.dh_ports.specs.Copies.{copies_round};
 ghost use Rattle.dh_ports.specs.EventMoves.{moves_known, moves_of, HasFewCopiesAt};
-ghost use Rattle.dh_ports.specs.Layouts.{AreRoundsOf, AreScopesWhere, HaveFewCopies, IsLayout};
+ghost use Rattle.dh_ports.specs.Layouts.{AreRoundsOf, AreScopesNoted, AreScopesWhere, HaveFewCopies, IsLayout};
 ghost use Rattle.dh_ports.specs.Runs as definitions;
 ghost use Rattle.dh_ports.specs.Runs.{moves_in, moves_of_run, one_claim, row_to};
 ghost use Rattle.dh_ports.specs.Tallies.{IsReady};
@@ -30,7 +31,7 @@ use crate::grouping::keys_through;
 use crate::keeping::Tally;
 use crate::leading::carriers_of;
 use dh_base::NoMemory;
-use dh_events::{Event, Scope, loops_round, note_rounds, scopes_of};
+use dh_events::{Event, Nests, Scope, loops_round, note_ways};
 use dh_tree::{Counter, Dim, Expr, Typed};
 use dh_ways::{Hidden, WayRef, WayTable, ways_and_hidden};
 use std::alloc::Global;
@@ -80,62 +81,46 @@ pub struct Layout {
     pub carriers: Vec<Carrier>,
 }
 
-/// The unrolled loops of a program, as they are noted.
-fn noted_rounds(alloc: Global, typed: &Typed) -> Result<Vec<Vec<Counter>>, NoMemory>
-    ensures { IfOk result (λ rounds. AreRoundsOf (program_seen typed.now) rounds.items) }
-{
-    let mut rounds = Vec::new(alloc);
-    note_rounds(alloc, &mut rounds, &[], &typed.tree().body)?;
-    Ok(rounds)
-}
-
-/// By the number of each unrolled loop the unrolled loops round it, and itself: nothing is walked over where
-/// each loop has one copy.
-fn rounds_of_program(alloc: Global, typed: &Typed) -> Result<Vec<Vec<Counter>>, NoMemory>
-    ensures { IfOk result (λ rounds. AreRoundsOf (program_seen typed.now) rounds.items) }
-{
-    if typed.has_single_loops() {
-        Ok(Vec::new(alloc))
-    } else {
-        noted_rounds(alloc, typed)
-    }
-}
-
-/// Where variables are declared, of a program of which these are the views with their ways, and the
-/// variables that keep their offsets; none where no loop is unrolled.
-fn scopes_in(
-    alloc: Global,
-    typed: &Typed,
+/// Notes behind the variables of a body where its views and what they keep are declared; nothing where no loop is
+/// unrolled.
+fn declare_views(
     rounds: &[Vec<Counter>],
+    scopes: &mut Vec<Option<Scope>>,
     ways: &WayTable,
     hidden: &[Hidden],
-) -> Result<Vec<Option<Scope>>, NoMemory>
-    requires ways { map led_seen ways.now ≡ ways_of (program_seen typed.now) }
-    requires hidden { hidden.now ≡ hidden_of_program (program_seen typed.now) }
-    ensures { IfOk result (λ scopes. AreScopesWhere (program_seen typed.now) rounds.now
-        scopes.items) }
+) -> Result<(), NoMemory>
+    ensures { OnOk result ((p : Program) → map led_seen ways.now ≡ ways_of p
+        → hidden.now ≡ hidden_of_program p → AreScopesNoted p rounds.now scopes.old.items
+        → AreScopesWhere p rounds.now scopes.new.items) }
 {
     if rounds.is_empty() {
-        return Ok(Vec::new(alloc));
+        return Ok(());
     }
-    let scopes = scopes_of(alloc, &typed.tree().body, ways, hidden)?;
-    Ok(scopes)
+    note_ways(scopes, ways, hidden)?;
+    Ok(())
 }
 
-/// The layout of a program.
-pub fn layout_of(alloc: Global, typed: &Typed) -> Result<Layout, NoMemory>
+/// The layout of a program of which this is noted.
+pub fn layout_of(alloc: Global, typed: &Typed, nests: Nests) -> Result<Layout, NoMemory>
     requires table { IsProgramTable (table_of (program_seen typed.now)) }
     requires leads { AllByRecursion (λ l. LeadsTo (memories_of (program_seen typed.now)) l.way)
         (ways_of (program_seen typed.now)) }
     requires few { HasFewWays (program_seen typed.now) }
+    requires rounds { AreRoundsOf (program_seen typed.now) nests.rounds.items }
+    requires scopes { AreScopesNoted (program_seen typed.now) nests.rounds.items
+        nests.scopes.items }
     ensures { IfOk result (λ l. IsLayout (program_seen typed.now) l) }
 {
+    let Nests {
+        stages: _stages,
+        rounds,
+        mut scopes,
+    } = nests;
     let bases = bank_bases(alloc, typed.memories().as_slice())?;
-    let rounds = rounds_of_program(alloc, typed)?;
     let (ways, hidden) = ways_and_hidden(alloc, typed)?;
     let carriers = carriers_of(alloc, &ways)?;
     let variables = hidden.as_slice();
-    let scopes = scopes_in(alloc, typed, rounds.as_slice(), &ways, variables)?;
+    declare_views(rounds.as_slice(), &mut scopes, &ways, variables)?;
     Ok(Layout {
         bases,
         rounds,

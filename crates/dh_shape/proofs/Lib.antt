@@ -2,4 +2,3 @@ pub mod Spots
 pub mod Counts
 pub mod Loops
 pub mod CopiesWalked
-pub mod SingleCopies

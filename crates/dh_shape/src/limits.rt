@@ -110,12 +110,11 @@ fn table_excess(entries: &[MemEntry], copies: Option<Excess>) -> Option<Excess>
     excess(Limit::Elements, all_elements(entries))
 }
 
-/// The first excess of copies of a program: where each loop has one there is none, and nothing is walked
-/// over.
+/// The first excess of copies of a program. Where it is told that there is none, nothing is walked over.
 fn program_copies(typed: &Typed) -> Option<Excess>
     ensures { result ≡ copies_excess 1 (program_seen typed.now).body }
 {
-    if typed.has_single_loops() {
+    if typed.has_few_copies() {
         None
     } else {
         copies_above(1, &typed.tree().body)

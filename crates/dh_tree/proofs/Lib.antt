@@ -17,11 +17,13 @@ pub mod NumbersKept
 pub mod KeptMemories
 pub mod ProgramTables
 pub mod Collecting
+pub mod FewCopies
 pub mod EntitiesGrow
 pub mod LoopsAmong
 pub mod SortsDeclared
 pub mod ViewsDeclared
 pub mod SingleLoops
+pub mod SingleCopies
 pub mod ShapeRules
 pub mod BankElements
 pub mod BankSpread

@@ -1,5 +1,5 @@
 -- What is kept of the memories of a program: their table, and their numbers by entity.
-use Rattle.std.specs.Prelude.{◌≡◌, ℕ, ◌<◌, IsTrue, List, [], ◌∷◌, ◌++◌, length, map, get_or, Option, Some, None, Result, OnOk, Vec}
+use Rattle.std.specs.Prelude.{◌≡◌, ℕ, ◌*◌, ◌<◌, Bool, IsTrue, List, [], ◌∷◌, ◌++◌, length, map, get_or, Option, Some, None, Result, OnOk, Vec}
 use Rattle.std.specs.Global.{Global}
 use Rattle.dh_tree.specs.declared.tables.MemEntry.{MemEntry}
 use Rattle.dh_tree.specs.declared.trees.commands.LoopHeader.{LoopHeader}
@@ -9,7 +9,10 @@ use Rattle.dh_tree.specs.declared.trees.memories.Collected.{Collected}
 use Rattle.dh_tree.specs.declared.trees.memories.Found.{Found}
 use Rattle.dh_tree.specs.declared.trees.programs.Decl.{Decl}
 use Rattle.dh_tree.specs.declared.trees.programs.Tree.{Tree}
+use Rattle.dh_base.specs.declared.limits.Excess.{Excess}
+use Rattle.dh_base.specs.declared.limits.Limit.TheVariants as limit
 use Rattle.dh_tree.specs.Counters.{counters, counter_in, AreSingle}
+use Rattle.dh_tree.specs.Excesses.{excess_at, copies_excess}
 use Rattle.dh_tree.specs.Memories.{Memory, outside_memory, memories_of, number_in, entry_of}
 use Rattle.dh_tree.specs.Seen.{declared_seen, action_seen, program_seen}
 
@@ -30,6 +33,17 @@ FindsMemories result old new memories = OnOk result (all_found new.items ≡ all
 -- and so these loops
 abbrev pub FindsLoops : {E : Type 0} → Result (Unit {0}) E → (old new : Vec Counter Global) → List Counter → Type 0
 FindsLoops result old new loops = OnOk result (new.items ≡ old.items ++ loops)
+
+-- where it is told that copies were few so far and are here, they were, and here is no excess of copies
+abbrev pub StaysFew : (old new : Bool) → Option Excess → Type 0
+StaysFew old new excess = IsTrue new → IsTrue old × (excess ≡ None)
+
+abbrev pub FindsFew : {E : Type 0} → Result (Unit {0}) E → (old new : Bool) → Option Excess → Type 0
+FindsFew result old new excess = OnOk result (StaysFew old new excess)
+
+-- so many copies are inside a loop of this factor round which there are so many, where it is told that they are few
+abbrev pub GoesInside : (round factor : ℕ) → (old new : Bool) → (inside : ℕ) → Type 0
+GoesInside round factor old new inside = IsTrue new → IsTrue old × ((inside ≡ round * factor) × (excess_at limit.Copies (round * factor) ≡ None))
 
 -- the memories from outside that are declared so
 abbrev pub outside_memories : List Decl → List Memory
@@ -63,9 +77,10 @@ abbrev pub AreLoopsAmong : List Counter → (entities : ℕ) → Loops → Type 
 AreLoopsAmong cs entities l =
     ((cs ≡ [] → ⊥) → length l.by_entity.items ≡ entities) × (AreCounted cs l.by_entity.items × (IsTrue l.single → AreSingle cs))
 
--- the loops of a tree
+-- the loops of a tree; and where it is told, no place has more copies than the limit allows
 abbrev pub AreLoopsOf : Tree → Loops → Type 0
-AreLoopsOf t l = AreLoopsAmong (counters (action_seen t.body)) (length t.entities.items) l
+AreLoopsOf t l =
+    AreLoopsAmong (counters (action_seen t.body)) (length t.entities.items) l × (IsTrue l.few → copies_excess 1 (action_seen t.body) ≡ None)
 
 -- where an entity is the next memory behind those that are numbered, and this is its number, it is numbered too
 abbrev pub NumbersNext : (entity : Option ℕ) → (number : ℕ) → (old new : List (Option ℕ)) → Type 0

@@ -15,6 +15,7 @@ pub mod KeptAll
 pub mod NoViews
 pub mod ViewsFound
 pub mod PlacedViews
-pub mod TablesOutlined
+pub mod SharedTables
 pub mod SmallOffsets
 pub mod PairedFactors
+pub mod SharedMaps

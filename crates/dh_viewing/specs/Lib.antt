@@ -3,6 +3,7 @@ pub mod Moved
 pub mod ReachedBanks
 pub mod Carried
 pub mod Placed
+pub mod Shared
 pub mod Finding
-pub mod Outlined
+pub mod Tables
 pub mod Judged

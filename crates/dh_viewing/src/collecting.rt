@@ -98,7 +98,7 @@ fn shrunk_dim(factors: &[u64], place: usize, dim: &Dim) -> Dim
 }
 
 /// The dimensions of a shrunk view: the same sizes in fewer banks.
-pub(crate) fn shrunk(alloc: Global, factors: &[u64], dims: &[Dim]) -> Result<Items<Dim>, NoMemory>
+fn shrunk(alloc: Global, factors: &[u64], dims: &[Dim]) -> Result<Items<Dim>, NoMemory>
     ensures { IfOk result (λ ds. ds ≡ shrunk_dims factors.now dims.now) }
 {
     let mut all = Items::with_room(alloc, dims.len())?;
@@ -109,7 +109,7 @@ pub(crate) fn shrunk(alloc: Global, factors: &[u64], dims: &[Dim]) -> Result<Ite
 }
 
 /// The dimensions of a split: so many copies, and what each of them has.
-pub(crate) fn split(alloc: Global, factors: &[u64], dims: &[Dim]) -> Result<Items<Dim>, NoMemory>
+fn split(alloc: Global, factors: &[u64], dims: &[Dim]) -> Result<Items<Dim>, NoMemory>
     ensures { IfOk result (λ ds. ds ≡ split_dims factors.now dims.now) }
 {
     let mut all = Items::new(alloc);
@@ -166,7 +166,7 @@ fn factors(alloc: Global, form: &ViewForm) -> Result<Items<u64>, NoMemory>
 }
 
 /// The sort of a view.
-fn sort(form: &ViewForm) -> ViewSort
+pub(crate) fn sort(form: &ViewForm) -> ViewSort
     ensures { result ≡ sort_of (plan_seen form.now) }
 {
     match form {
@@ -182,7 +182,7 @@ fn sort(form: &ViewForm) -> ViewSort
 /// # Errors
 ///
 /// `NoMemory`, the one error; no clause tells when.
-pub fn map_to(alloc: Global, form: &ViewForm, parent: &Shape) -> Result<ViewMap, NoMemory>
+pub(crate) fn map_to(alloc: Global, form: &ViewForm, parent: &Shape) -> Result<ViewMap, NoMemory>
     ensures { IfOk result (λ m. m ≡ map_of (plan_seen form.now) parent.now) }
 {
     let own = Shape {

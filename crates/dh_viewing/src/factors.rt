@@ -1,6 +1,6 @@
 //! The rule on the factors and the brackets of views.
 
-ghost use Rattle.std.specs.Prelude.{◌≡◌, [], ◌∷◌, ◌++◌, Some, OnOk, map, slice_get, true};
+ghost use Rattle.std.specs.Prelude.{◌≡◌, [], ◌∷◌, ◌++◌, Some, IfOk, OnOk, map, option_map, slice_get, true};
 ghost use Rattle.dh_base.specs.declared.rules.Rule.TheVariants as rules;
 ghost use Rattle.dh_tree.specs.Kinds.{when};
 ghost use Rattle.dh_tree.specs.LeastBreach.{breach, least_of};
@@ -10,11 +10,11 @@ ghost use Rattle.dh_tree.specs.Told.{MayTellLeast};
 ghost use Rattle.dh_tree.specs.ViewFactors as definitions;
 ghost use Rattle.dh_tree.specs.ViewFactors.{factor_breaches_of, factors_breaches, plan_breaches, viewing_breaches, viewings_breaches};
 ghost use Rattle.dh_tree.specs.Views.{shape_in, viewed_behind, viewed_of};
-ghost use Rattle.dh_viewing.specs.Finding.{all_found, factor_broken_at, factors_paired, place_or, viewing_found};
-ghost use Rattle.dh_viewing.specs.Outlined.{above_seen};
+ghost use Rattle.dh_viewing.specs.Finding.{all_found, factor_broken_at, factors_paired, map_through, place_or, viewed_as, viewing_found};
 
-use crate::collecting::{Found, found_in};
-use crate::outlines::{Above, Outlines, above_of, outline_of, shape_above};
+use crate::collecting::{Found, found_in, shape_of_memory};
+use crate::sharing::{LastMaps, SharedMap};
+use crate::tables::{SharedView, SharedViews};
 use dh_base::{NoMemory, PassFault, Place, Rule};
 use dh_tree::{Breach, Dim, Expr, Shape, Typed, ViewForm, keep_least};
 use std::alloc::Global;
@@ -176,31 +176,68 @@ pub(crate) fn keep_found(kept: &mut Option<Breach>, found: &Found<'_>, parent: &
     keep_view(kept, dims, found.parent.place, found.form);
 }
 
-/// Those of a view of what has this shape, which is added behind others.
-fn keep_of<'a>(
-    alloc: Global,
-    kept: &mut Option<Breach>,
-    views: &mut Outlines<'a>,
-    found: &Found<'a>,
-    above: Above<'a>,
-) -> Result<(), NoMemory>
-    ensures breaches { OnOk result (kept.new ≡ least_of kept.old
-        (viewing_breaches (viewing_found found.now) (Some (above_seen above.entry)))) }
-    ensures views { OnOk result (views.new
-        ≡ views.old ++ viewed_of (viewing_found found.now) (Some (above_seen above.entry))) }
+/// The shape of the memory, or else of the view, that an entity is.
+fn shape_of<'a>(typed: &'a Typed, views: &'a SharedViews, entity: Option<u32>) -> Option<&'a Shape>
+    ensures { option_map (λ s. s.now) result
+        ≡ shape_in (memories_of (program_seen typed.now)) views.now entity }
 {
-    keep_found(kept, found, shape_above(&above));
-    let view = outline_of(alloc, found, above)?;
-    views.push(view)
+    match shape_of_memory(typed, entity) {
+        Some(shape) => Some(shape),
+        None => match views.get(entity) {
+            Some(view) => Some(&view.shape),
+            None => None,
+        },
+    }
 }
 
-/// Those of a view behind others, to which it is added; one that has no parent, as in no typed program, is none.
-fn keep_behind<'a>(
+/// Those of a view behind others, and what it is; one that has no parent, as in no typed program, is none.
+fn keep_map(
     alloc: Global,
-    typed: &'a Typed,
+    typed: &Typed,
+    maps: &mut LastMaps,
     kept: &mut Option<Breach>,
-    views: &mut Outlines<'a>,
-    found: &Found<'a>,
+    views: &SharedViews,
+    found: &Found<'_>,
+) -> Result<Option<SharedMap>, NoMemory>
+    ensures breaches { OnOk result (kept.new
+        ≡ least_of kept.old (viewing_breaches (viewing_found found.now)
+        (shape_in (memories_of (program_seen typed.now)) views.now
+        found.now.parent.now.entity))) }
+    ensures map { IfOk result (λ m. m ≡ map_through (viewing_found found.now)
+        (shape_in (memories_of (program_seen typed.now)) views.now found.now.parent.now.entity)) }
+{
+    match shape_of(typed, views, found.parent.entity) {
+        Some(parent) => {
+            keep_found(kept, found, parent);
+            Ok(Some(maps.map_to(alloc, found.form, parent)?))
+        }
+        None => Ok(None),
+    }
+}
+
+/// Adds the view that an entity is behind others, where there is one.
+#[tactic(auto, using(dh_tree::proofs::Collecting::found_none))]
+fn push_map(
+    views: &mut SharedViews,
+    entity: Option<u32>,
+    is: Option<SharedMap>,
+) -> Result<(), NoMemory>
+    ensures { OnOk result (views.new ≡ views.old ++ viewed_as entity is) }
+{
+    match is {
+        Some(is) => views.push(SharedView { entity, is }),
+        None => Ok(()),
+    }
+}
+
+/// Those of a view behind others, to which it is added.
+fn keep_behind(
+    alloc: Global,
+    typed: &Typed,
+    maps: &mut LastMaps,
+    kept: &mut Option<Breach>,
+    views: &mut SharedViews,
+    found: &Found<'_>,
 ) -> Result<(), NoMemory>
     ensures breaches { OnOk result (kept.new
         ≡ least_of kept.old (viewing_breaches (viewing_found found.now)
@@ -210,20 +247,17 @@ fn keep_behind<'a>(
         (shape_in (memories_of (program_seen typed.now)) views.old
         found.now.parent.now.entity)) }
 {
-    let above = above_of(alloc, typed, views, found.parent.entity)?;
-    match above {
-        Some(above) => keep_of(alloc, kept, views, found, above),
-        None => Ok(()),
-    }
+    let is = keep_map(alloc, typed, maps, kept, views, found)?;
+    push_map(views, found.name.entity, is)
 }
 
 /// Those of these views behind others, which are added.
-pub(crate) fn keep_all<'a>(
+pub(crate) fn keep_all(
     alloc: Global,
-    typed: &'a Typed,
+    typed: &Typed,
     kept: &mut Option<Breach>,
-    views: &mut Outlines<'a>,
-    found: &[Found<'a>],
+    views: &mut SharedViews,
+    found: &[Found<'_>],
 ) -> Result<(), NoMemory>
     ensures breaches { OnOk result (kept.new ≡ least_of kept.old
         (viewings_breaches (memories_of (program_seen typed.now)) views.old
@@ -231,8 +265,9 @@ pub(crate) fn keep_all<'a>(
     ensures views { OnOk result (views.new
         ≡ viewed_behind (memories_of (program_seen typed.now)) views.old (all_found found.now)) }
 {
+    let mut maps = LastMaps::new();
     for view in found {
-        keep_behind(alloc, typed, kept, views, view)?;
+        keep_behind(alloc, typed, &mut maps, kept, views, view)?;
     }
     Ok(())
 }
@@ -252,7 +287,7 @@ pub fn keep_view_factors(
 {
     let found = found_in(alloc, typed)?;
     let entities = typed.tree().entities.len();
-    let mut views = Outlines::with_room(alloc, found.len(), entities)?;
+    let mut views = SharedViews::with_room(alloc, found.len(), entities)?;
     keep_all(alloc, typed, kept, &mut views, found.as_slice())
 }
 

@@ -14,8 +14,8 @@ ghost use Rattle.dh_viewing.specs.Judged.{JudgesViews, kept_or};
 use crate::collecting::{Found, found_in, map_to, push_map, shape_of_memory};
 use crate::factors::{keep_all, keep_found};
 use crate::keeping::shape_keeps;
-use crate::outlines::{Outlines, dims_outlined};
 use crate::placing::ViewTable;
+use crate::tables::SharedViews;
 use dh_base::NoMemory;
 use dh_tree::{Breach, Dim, MemEntry, Shape, Typed, ViewMap};
 use std::alloc::Global;
@@ -24,13 +24,13 @@ use std::marker::Model;
 /// The views of a program: all, and those that keep the rules, and of which all on the way to their memory do.
 /// A contract sees both as lists.
 #[derive(Debug, Drop)]
-pub struct JudgedViews<'a> {
-    all: Outlines<'a>,
+pub struct JudgedViews {
+    all: SharedViews,
     // those that keep the rules, where a rule is broken; else they are all
     apart: Option<ViewTable>,
 }
 
-impl<'a> Model for JudgedViews<'a> {
+impl Model for JudgedViews {
     ghost use Rattle.dh_viewing.specs.Judged.{ViewsJudged, kept_or};
 
     ghost Value = { ViewsJudged };
@@ -38,7 +38,7 @@ impl<'a> Model for JudgedViews<'a> {
     ghost view = { λ v. record { all = v.all; kept = kept_or v.all v.apart } };
 }
 
-impl<'a> JudgedViews<'a> {
+impl JudgedViews {
     /// Whether an entity is a view.
     pub fn has_view(&self, entity: Option<u32>) -> bool
         ensures { result ≡ is_some (view_in self.now.all entity) }
@@ -52,7 +52,7 @@ impl<'a> JudgedViews<'a> {
     {
         match &self.apart {
             Some(kept) => dims_viewed(kept.get(entity)),
-            None => dims_in(&self.all, entity),
+            None => dims_viewed(self.all.get(entity)),
         }
     }
 }
@@ -63,16 +63,6 @@ fn dims_viewed(view: Option<&ViewMap>) -> Option<&[Dim]>
 {
     match view {
         Some(view) => Some(view.shape.dims.as_slice()),
-        None => None,
-    }
-}
-
-/// The dimensions of the view that an entity is, if it is one of these.
-fn dims_in<'b>(views: &'b Outlines<'_>, entity: Option<u32>) -> Option<&'b [Dim]>
-    ensures { option_map (λ ds. ds.now) result ≡ dims_through (view_in views.now entity) }
-{
-    match views.get(entity) {
-        Some(view) => Some(dims_outlined(view)),
         None => None,
     }
 }
@@ -211,11 +201,11 @@ fn kept_apart(
 /// # Errors
 ///
 /// `NoMemory`, the one error; no clause tells when.
-pub fn judge_views<'a>(
+pub fn judge_views(
     alloc: Global,
-    typed: &'a Typed,
+    typed: &Typed,
     kept: &mut Option<Breach>,
-) -> Result<Option<JudgedViews<'a>>, NoMemory>
+) -> Result<Option<JudgedViews>, NoMemory>
     ensures { JudgesViews (program_seen typed.now) result kept.old kept.new }
 {
     let found = found_in(alloc, typed)?;
@@ -224,7 +214,7 @@ pub fn judge_views<'a>(
     }
     let views = found.as_slice();
     let entities = typed.tree().entities.len();
-    let mut all = Outlines::with_room(alloc, found.len(), entities)?;
+    let mut all = SharedViews::with_room(alloc, found.len(), entities)?;
     keep_all(alloc, typed, kept, &mut all, views)?;
     let apart = kept_apart(alloc, typed, kept.is_none(), views)?;
     Ok(Some(JudgedViews { all, apart }))

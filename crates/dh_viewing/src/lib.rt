@@ -13,11 +13,12 @@ mod keeping;
 mod laws;
 mod numbers;
 mod offsets;
-mod outlines;
 mod placing;
+mod sharing;
+mod tables;
 
 pub use bank_sets::{BankSet, banks_of};
-pub use collecting::{map_to, shape_of_memory, view_map, views_in};
+pub use collecting::{shape_of_memory, view_map, views_in};
 pub use elements::through;
 pub use factors::{keep_view_factors, view_factors};
 pub use judging::{JudgedViews, judge_views};
@@ -26,3 +27,4 @@ pub use laws::{kept_views_are_all, kept_views_have_shapes, offsets_in_range_are_
 pub use numbers::{Index, MAX_DIMS, listed, no_numbers, with_number};
 pub use offsets::moves;
 pub use placing::{ViewTable, make_room, place_at};
+pub use sharing::{LastMaps, SharedMap};

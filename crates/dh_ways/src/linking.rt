@@ -9,6 +9,7 @@ use crate::variables::Own;
 use crate::ways::Hidden;
 use dh_base::{Items, NoMemory};
 use dh_tree::ViewMap;
+use dh_viewing::SharedMap;
 use std::alloc::Global;
 use std::marker::Model;
 
@@ -18,7 +19,7 @@ pub(crate) struct Link {
     /// The number of the view's entity, if it has one.
     pub(crate) entity: Option<u32>,
     /// The view.
-    pub(crate) view: ViewMap,
+    pub(crate) view: SharedMap,
     /// Where its own offsets are kept.
     pub(crate) own: Own,
     /// The place of its parent's link, before its own; None of a view of a memory.
@@ -83,7 +84,7 @@ fn views_from(alloc: Global, links: &[Link], place: usize) -> Result<Vec<&ViewMa
     let mut next = Some(place);
     while let Some(at) = next {
         let link = &links[at];
-        views.push(&link.view)?;
+        views.push(link.view.as_map())?;
         next = link.parent;
     }
     Ok(views)
@@ -131,7 +132,7 @@ impl<'a> WayRef<'a> {
     pub fn view(&self) -> &'a ViewMap
         ensures { result.now ≡ self.now.view }
     {
-        &self.link.view
+        self.link.view.as_map()
     }
 
     /// The number of the memory's entity.

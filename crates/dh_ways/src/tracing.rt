@@ -22,8 +22,8 @@ use crate::standing::{Stood, standing_in};
 use crate::variables::Own;
 use crate::ways::Hidden;
 use dh_base::{Items, NoMemory};
-use dh_tree::{Shape, Typed, ViewForm, ViewMap};
-use dh_viewing::{map_to, moves, shape_of_memory};
+use dh_tree::{Shape, Typed, ViewForm};
+use dh_viewing::{LastMaps, SharedMap, moves, shape_of_memory};
 use std::alloc::Global;
 
 /// Whether a view is a shift.
@@ -74,7 +74,7 @@ fn first_or(hidden: &[Hidden], behind: Option<Hidden>) -> Option<Hidden>
 }
 
 /// The link of a view of a memory, whose offsets are kept in these variables.
-fn link_from(view: &Stood<'_>, made: ViewMap, own: Own) -> Link
+fn link_from(view: &Stood<'_>, made: SharedMap, own: Own) -> Link
     ensures { (before : List Led) → IsLinkOf before (standing_seen view.now) own made None result }
 {
     let first = first_or(own.as_slice(), None);
@@ -93,7 +93,13 @@ fn link_from(view: &Stood<'_>, made: ViewMap, own: Own) -> Link
 }
 
 /// The link of a view of one that has this way and stands at this place.
-fn link_behind(view: &Stood<'_>, made: ViewMap, own: Own, parent: &WayRef<'_>, place: usize) -> Link
+fn link_behind(
+    view: &Stood<'_>,
+    made: SharedMap,
+    own: Own,
+    parent: &WayRef<'_>,
+    place: usize,
+) -> Link
     ensures { (before : List Led) → place < length before
         → Some parent.now ≡ way_there before (Some place)
         → IsLinkOf before (standing_seen view.now) own made (Some (way_seen parent.now)) result }
@@ -119,6 +125,7 @@ fn link_behind(view: &Stood<'_>, made: ViewMap, own: Own, parent: &WayRef<'_>, p
 /// The link of a view of a memory of this shape.
 fn lead_memory(
     alloc: Global,
+    maps: &mut LastMaps,
     view: &Stood<'_>,
     own: Own,
     shape: &Shape,
@@ -126,13 +133,14 @@ fn lead_memory(
     ensures { IfOk result (λ link. (before : List Led) → IsLinked before (standing_seen view.now)
         own (λ first. led_of first (standing_seen view.now) (Some shape.now) None) link) }
 {
-    let made = map_to(alloc, view.form, shape)?;
+    let made = maps.map_to(alloc, view.form, shape)?;
     Ok(Some(link_from(view, made, own)))
 }
 
 /// The link of a view of one that has this way and stands at this place.
 fn lead_on(
     alloc: Global,
+    maps: &mut LastMaps,
     view: &Stood<'_>,
     own: Own,
     parent: &WayRef<'_>,
@@ -145,13 +153,14 @@ fn lead_on(
         (Some (way_seen parent.now))) link) }
 {
     let above = parent.view();
-    let made = map_to(alloc, view.form, &above.shape)?;
+    let made = maps.map_to(alloc, view.form, &above.shape)?;
     Ok(Some(link_behind(view, made, own, parent, place)))
 }
 
 /// The link of a view of one that is among these; None where its parent is none of them.
 fn lead_behind(
     alloc: Global,
+    maps: &mut LastMaps,
     ways: &WayTable,
     view: &Stood<'_>,
     own: Own,
@@ -162,7 +171,7 @@ fn lead_behind(
     match ways.place_of(view.parent.entity) {
         Some(place) => {
             let parent = ways.at(place);
-            lead_on(alloc, view, own, &parent, place)
+            lead_on(alloc, maps, view, own, &parent, place)
         }
         None => Ok(None),
     }
@@ -172,6 +181,7 @@ fn lead_behind(
 fn link_of_view(
     alloc: Global,
     typed: &Typed,
+    maps: &mut LastMaps,
     ways: &WayTable,
     view: &Stood<'_>,
     own: Own,
@@ -181,8 +191,8 @@ fn link_of_view(
         (standing_seen view.now)) link) }
 {
     match shape_of_memory(typed, view.parent.entity) {
-        Some(shape) => lead_memory(alloc, view, own, shape),
-        None => lead_behind(alloc, ways, view, own),
+        Some(shape) => lead_memory(alloc, maps, view, own, shape),
+        None => lead_behind(alloc, maps, ways, view, own),
     }
 }
 
@@ -203,6 +213,7 @@ fn push_link(ways: &mut WayTable, link: Option<Link>) -> Result<(), NoMemory>
 fn push_way(
     alloc: Global,
     typed: &Typed,
+    maps: &mut LastMaps,
     ways: &mut WayTable,
     hidden: &mut Items<Hidden>,
     first: u32,
@@ -216,7 +227,7 @@ fn push_way(
     let own = own_hidden(alloc, first, view)?;
     append(hidden, own.as_slice())?;
     let next = entity_behind(first, own.len());
-    let link = link_of_view(alloc, typed, ways, view, own)?;
+    let link = link_of_view(alloc, typed, maps, ways, view, own)?;
     push_link(ways, link)?;
     Ok(next)
 }
@@ -236,9 +247,10 @@ fn push_ways(
         (map led_seen ways.old) (map standing_seen stood.now))
         × (hidden.new ≡ hidden.old ++ all_own first (map stand_seen stood.now))) }
 {
+    let mut maps = LastMaps::new();
     let mut next = first;
     for view in stood {
-        next = push_way(alloc, typed, ways, hidden, next, view)?;
+        next = push_way(alloc, typed, &mut maps, ways, hidden, next, view)?;
     }
     Ok(())
 }

@@ -3,12 +3,13 @@
 ghost use Rattle.std.specs.Prelude.{◌≡◌, ◌↔◌, IsTrue, [], None, length, replicate, IfOk};
 ghost use Rattle.dh_tree.specs.Seen.{action_seen, all_parts_seen, maybe_block_seen, program_seen};
 ghost use Rattle.dh_tree.specs.Counters.{counters, other_counters, groups_counters, AreSingle};
+ghost use Rattle.dh_tree.specs.Excesses.{copies_excess, other_copies_excess, groups_copies_excess};
 ghost use Rattle.dh_tree.specs.Resolved.{HasEntities};
-ghost use Rattle.dh_tree.specs.Collected.{AreCounted, AreLoopsOf, CountsNext, FindsLoops, counter_of};
+ghost use Rattle.dh_tree.specs.Collected.{AreCounted, AreLoopsOf, CountsNext, FindsFew, FindsLoops, GoesInside, counter_of};
 
 use crate::trees::sorts::declare_no_loop;
 use crate::trees::{Command, CommandForm, LoopHeader, Tree};
-use dh_base::NoMemory;
+use dh_base::{Limit, NoMemory};
 use std::alloc::Global;
 
 /// The iterator of a `for`: its values are those from `low` on below `high`, and `factor` copies of the
@@ -32,6 +33,8 @@ pub struct Loops {
     pub by_entity: Vec<Option<Counter>>,
     /// Whether each has one copy of its body at most.
     pub single: bool,
+    /// Whether no place has more copies than the limit allows.
+    pub few: bool,
 }
 
 /// The loop with this header.
@@ -46,27 +49,49 @@ fn counted(header: &LoopHeader) -> Counter
     }
 }
 
-/// Finds the loops of a command, in the order of the tree, a loop before those inside it.
+/// How many copies there are of a place inside a loop of this factor round which there are so many. Notes
+/// where these are more than the limit allows: then the number tells nothing.
+fn copies_inside(few: &mut bool, round: u64, factor: u64) -> u64
+    ensures { GoesInside round factor few.old few.new result }
+{
+    let inside = round.saturating_mul(factor);
+    if inside > Limit::Copies.greatest() {
+        *few = false;
+    }
+    inside
+}
+
+/// Finds the loops of a command, in the order of the tree, a loop before those inside it; and whether each
+/// place in it has few copies, where there are so many of the command.
 #[cycle(finding_loops)]
-#[tactic(auto, using(crate::proofs::SeenActions::actions_are, crate::proofs::Collecting::found_none, crate::proofs::Collecting::found_both))]
-fn find_loops(found: &mut Vec<Counter>, command: &Command) -> Result<(), NoMemory>
-    ensures { FindsLoops result found.old found.new (counters (action_seen command.now)) }
+#[tactic(auto, using(crate::proofs::SeenActions::actions_are, crate::proofs::Collecting::found_none, crate::proofs::Collecting::found_both, crate::proofs::FewCopies::few_none, crate::proofs::FewCopies::few_both))]
+fn find_loops(
+    found: &mut Vec<Counter>,
+    few: &mut bool,
+    round: u64,
+    command: &Command,
+) -> Result<(), NoMemory>
+    ensures found { FindsLoops result found.old found.new (counters (action_seen command.now)) }
+    ensures few { FindsFew result few.old few.new
+        (copies_excess round (action_seen command.now)) }
 {
     match &command.form {
-        CommandForm::Block { body } => find_loops_in_parts(found, body.as_slice()),
+        CommandForm::Block { body } => find_loops_in_parts(found, few, round, body.as_slice()),
         CommandForm::If { then, other, .. } => {
-            find_loops(found, then)?;
-            find_loops_in_other(found, other)
+            find_loops(found, few, round, then)?;
+            find_loops_in_other(found, few, round, other)
         }
-        CommandForm::While { body, .. } => find_loops(found, body),
+        CommandForm::While { body, .. } => find_loops(found, few, round, body),
         CommandForm::For {
             header,
             body,
             combine,
         } => {
+            let header = header.as_ref();
             found.push(counted(header))?;
-            find_loops(found, body)?;
-            find_loops_in_other(found, combine)
+            let inside = copies_inside(few, round, header.factor);
+            find_loops(found, few, inside, body)?;
+            find_loops_in_other(found, few, inside, combine)
         }
         CommandForm::Let { .. }
         | CommandForm::LetMemory { .. }
@@ -82,24 +107,37 @@ fn find_loops(found: &mut Vec<Counter>, command: &Command) -> Result<(), NoMemor
 #[cycle(finding_loops)]
 fn find_loops_in_other(
     found: &mut Vec<Counter>,
+    few: &mut bool,
+    round: u64,
     other: &Option<Box<Command>>,
 ) -> Result<(), NoMemory>
-    ensures { FindsLoops result found.old found.new (other_counters (maybe_block_seen other.now)) }
+    ensures found { FindsLoops result found.old found.new
+        (other_counters (maybe_block_seen other.now)) }
+    ensures few { FindsFew result few.old few.new
+        (other_copies_excess round (maybe_block_seen other.now)) }
 {
     match other {
-        Some(block) => find_loops(found, block),
+        Some(block) => find_loops(found, few, round, block),
         None => Ok(()),
     }
 }
 
 /// Finds those of parts.
 #[cycle(finding_loops)]
-fn find_loops_in_parts(found: &mut Vec<Counter>, parts: &[Vec<Command>]) -> Result<(), NoMemory>
-    ensures { FindsLoops result found.old found.new (groups_counters (all_parts_seen parts.now)) }
+fn find_loops_in_parts(
+    found: &mut Vec<Counter>,
+    few: &mut bool,
+    round: u64,
+    parts: &[Vec<Command>],
+) -> Result<(), NoMemory>
+    ensures found { FindsLoops result found.old found.new
+        (groups_counters (all_parts_seen parts.now)) }
+    ensures few { FindsFew result few.old few.new
+        (groups_copies_excess round (all_parts_seen parts.now)) }
 {
     for part in parts {
         for command in part {
-            find_loops(found, command)?;
+            find_loops(found, few, round, command)?;
         }
     }
     Ok(())
@@ -122,7 +160,7 @@ fn note_loop(slots: &mut [Option<Counter>], counter: Counter)
 fn no_loops(alloc: Global, count: usize) -> Result<Vec<Option<Counter>>, NoMemory>
     ensures { IfOk result (λ slots. slots.items ≡ replicate count None) }
 {
-    let mut slots = Vec::new(alloc);
+    let mut slots = Vec::with_capacity(alloc, count)?;
     for _ in 0..count {
         slots.push(None)?;
     }
@@ -139,18 +177,22 @@ fn note_loops(slots: &mut [Option<Counter>], found: &[Counter])
     }
 }
 
-/// Finds the loops of a tree. There is none where no entity is an iterator: then nothing is walked over.
-fn loops_in(alloc: Global, tree: &Tree) -> Result<Vec<Counter>, NoMemory>
+/// Finds the loops of a tree, and whether no place has more copies than the limit allows. There is no loop
+/// where no entity is an iterator: then nothing is walked over.
+fn loops_in(alloc: Global, tree: &Tree) -> Result<(Vec<Counter>, bool), NoMemory>
     requires { HasEntities (program_seen tree.now) }
-    ensures { IfOk result (λ found. found.items ≡ counters (action_seen tree.now.body)) }
+    ensures found { IfOk result (λ f. f.0.items ≡ counters (action_seen tree.now.body)) }
+    ensures few { IfOk result (λ f. IsTrue f.1
+        → copies_excess 1 (action_seen tree.now.body) ≡ None) }
 {
     let entities = tree.entities.as_slice();
     let mut found = Vec::new(alloc);
+    let mut few = true;
     if declare_no_loop(entities) {
-        return Ok(found);
+        return Ok((found, few));
     }
-    find_loops(&mut found, &tree.body)?;
-    Ok(found)
+    find_loops(&mut found, &mut few, 1, &tree.body)?;
+    Ok((found, few))
 }
 
 /// Whether each of these loops has one copy of its body at most.
@@ -170,12 +212,13 @@ pub fn loops_of(alloc: Global, tree: &Tree) -> Result<Loops, NoMemory>
     requires { HasEntities (program_seen tree.now) }
     ensures { IfOk result (λ loops. AreLoopsOf tree.now loops) }
 {
-    let found = loops_in(alloc, tree)?;
+    let (found, few) = loops_in(alloc, tree)?;
     let list = found.as_slice();
     if list.is_empty() {
         return Ok(Loops {
             by_entity: Vec::new(alloc),
             single: true,
+            few,
         });
     }
     let mut by_entity = no_loops(alloc, tree.entities.len())?;
@@ -183,5 +226,6 @@ pub fn loops_of(alloc: Global, tree: &Tree) -> Result<Loops, NoMemory>
     Ok(Loops {
         by_entity,
         single: are_single(found.as_slice()),
+        few,
     })
 }

@@ -1,9 +1,10 @@
 //! Trees whose expressions have their kinds.
 
-ghost use Rattle.std.specs.Prelude.{◌≡◌, IsTrue, Some, [], IfOk};
+ghost use Rattle.std.specs.Prelude.{◌≡◌, IsTrue, Some, None, [], IfOk};
 ghost use Rattle.dh_tree.specs.Seen.{program_seen};
 ghost use Rattle.dh_tree.specs.Collected.{AreLoopsOf, IsCollected};
 ghost use Rattle.dh_tree.specs.Counters.{counters_of, counter_in, AreSingle};
+ghost use Rattle.dh_tree.specs.Excesses.{copies_excess};
 ghost use Rattle.dh_tree.specs.Breaches.{KeepsNames};
 ghost use Rattle.dh_tree.specs.Resolved.{HasEntities};
 ghost use Rattle.dh_tree.specs.Kinds.{HasKinds};
@@ -132,6 +133,13 @@ impl Typed {
         ensures { IsTrue result → AreSingle (counters_of (program_seen self.now)) }
     {
         self.loops.single
+    }
+
+    /// Whether it is told at once that no place in it has more copies than the limit allows.
+    pub fn has_few_copies(&self) -> bool
+        ensures { IsTrue result → copies_excess 1 (program_seen self.now).body ≡ None }
+    {
+        self.loops.few
     }
 
     /// Whether it is told at once that it declares no view: none of its entities is one.

@@ -1,8 +1,9 @@
+use Rattle.std.proofs.Common.{List, Option, ap, ◌∙◌}
 use Rattle.dh_tree.specs.Seen.{action_seen}
-use Rattle.dh_events.proofs.ScopeFacts.{are_scopes}
+use Rattle.dh_events.specs.declared.dependence.Scope.{Scope}
+use Rattle.dh_events.specs.Scopes.{scope_at, scopes_in}
 use Rattle.dh_events.proofs.dependence.scopes_of.Goals as goal
 
 pub returns : goal.returns
 returns c =
-    are_scopes (action_seen c.args.body.now) c.args.ways.now c.args.hidden.now c.new-scopes.result.items c.note_scopes.new.scopes.items c.note_led.new.scopes.items c.note_hidden.new.scopes.items c.new-scopes.ensures.items
-    c.in_ok-note_scopes.ensures c.in_ok-note_led.ensures c.in_ok-note_hidden.ensures
+    c.in_ok-note_ways.ensures (action_seen c.args.body.now) (c.in_ok-note_scopes.ensures ∙ ap (λ (l : List (Option Scope)). scopes_in 0 (action_seen c.args.body.now) (scope_at l)) c.new-scopes.ensures.items)

@@ -18,7 +18,7 @@ pub walk-requires-clause-begins : goal.walk-requires-clause-begins
 walk-requires-clause-begins c = c.in_ok-sharing.ensures c.args.events.now refl
 
 pub layout_of-requires : goal.layout_of-requires
-layout_of-requires c = record { table = c.requires.told.table; leads = ways_follow (program_seen c.args.typed.now) c.requires.told.ready.views c.requires.told.table; few = ready_few (program_seen c.args.typed.now) c.requires.told.ready }
+layout_of-requires c = record { table = c.requires.told.table; leads = ways_follow (program_seen c.args.typed.now) c.requires.told.ready.views c.requires.told.table; few = ready_few (program_seen c.args.typed.now) c.requires.told.ready; rounds = c.requires.rounds; scopes = c.requires.scopes }
 
 pub keep_behind-requires-clause-copies : goal.keep_behind-requires-clause-copies
 keep_behind-requires-clause-copies c =

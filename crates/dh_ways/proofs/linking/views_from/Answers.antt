@@ -1,4 +1,4 @@
-use Rattle.std.proofs.Common.{ℕ, ◌<◌, List, length, map, ap, refl, subst, sym}
+use Rattle.std.proofs.Common.{ℕ, ◌<◌, List, length, map, ap, subst, sym}
 use Rattle.std.specs.Prelude.{Option}
 use denote.Ref.{Bor}
 use Rattle.dh_tree.specs.declared.viewing.ViewMap.{ViewMap}
@@ -17,7 +17,7 @@ loop-next-preserved c =
     let before = subst (λ (o : Option ℕ). ViewsSoFar c.args.links.now c.args.place (map (λ (v : Bor ViewMap). v.now) c.loop-next.views.items) o) c.in-Some.is c.loop-next.invariant in
     views_more c.args.links.now c.args.place c.in-Some.at c.index-links-at.result c.requires.linked before.inside c.index-links-at.is
     (map (λ (v : Bor ViewMap). v.now) c.loop-next.views.items) (map (λ (v : Bor ViewMap). v.now) c.push.new.self.items)
-    (view_pushed c.loop-next.views.items c.push.new.self.items _ c.index-links-at.result.view c.in_ok-push.ensures.items refl) before
+    (view_pushed c.loop-next.views.items c.push.new.self.items _ c.index-links-at.result.view c.in_ok-push.ensures.items c.as_map.ensures) before
 
 pub loop-next-smaller : goal.loop-next-smaller
 loop-next-smaller c =

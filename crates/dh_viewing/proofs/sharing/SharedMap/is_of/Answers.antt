@@ -1,0 +1,11 @@
+use Rattle.std.proofs.Common.{sym, ◌∙◌, subst}
+use Rattle.dh_tree.specs.Seen.{plan_seen}
+use Rattle.dh_viewing.specs.Shared.{IsMade}
+use Rattle.dh_viewing.proofs.SharedMaps.{alike_same}
+use Rattle.dh_viewing.proofs.sharing.SharedMap.is_of.Goals as goal
+
+pub returns : goal.returns
+returns c t =
+    sym c.self.view_is
+    ∙ (sym c.as_ref-map.ensures
+    ∙ alike_same c.as_ref-map.result.now (plan_seen c.args.form.now) c.args.parent.now (subst IsMade (sym c.as_ref-map.ensures) c.self.invariant) (c.is_alike.ensures t))
