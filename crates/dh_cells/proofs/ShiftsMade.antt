@@ -1,7 +1,7 @@
 -- Shifts by constants of at least the width.
 -- To the left nothing is left of a word; to the right a quotient by a number above it, which is 0, or for a negative
 -- word -1: that of the shift by all bits but the sign.
-use Rattle.std.proofs.Common.{◌≡◌, ℕ, ◌+◌, ◌<◌, ◌≤◌, ◌-◌, ◌/◌, ◌^◌, ◌⊎◌, inl, inr, Bool, true, false, if◌then◌else◌, Some, ℤ, pos, negsuc, ◌-ℤ◌, int_lt, nat_lt, length, refl, sym, ap, subst, ◌∙◌, arith}
+use Rattle.std.proofs.Common.{◌≡◌, ℕ, ◌+◌, ◌<◌, ◌≤◌, ◌-◌, ◌^◌, ◌⊎◌, inl, inr, Bool, true, false, if◌then◌else◌, ℤ, pos, negsuc, ◌-ℤ◌, int_lt, nat_lt, refl, sym, ap, subst, ◌∙◌, arith}
 use Rattle.std.specs.Prelude.{Option, IfSome}
 use Rattle.std.specs.Int.{int_div_euclid}
 use Rattle.std.proofs.lemmas.Bool.Decides.{nat_tests}

@@ -6,7 +6,6 @@ use Rattle.std.proofs.lemmas.Option.{slice_get_within, slice_get_read}
 use Rattle.dh_net.specs.declared.nets.Register.{Register}
 use Rattle.dh_net.specs.declared.nets.Cell.{Cell}
 use Rattle.dh_net.specs.declared.nets.CellForm.{CellForm}
-use Rattle.dh_net.specs.declared.nets.CellForm.TheVariants.{Const}
 use Rattle.dh_net.specs.declared.nets.Net.{Net}
 use Rattle.dh_net.specs.Clock.{State}
 use Rattle.dh_net.specs.Laws.{FitsNet}
@@ -14,7 +13,7 @@ use Rattle.dh_net.proofs.Valuations.{FitBelow, form_fits, below_suc}
 use Rattle.dh_tree.specs.declared.tables.MemEntry.{MemEntry}
 use Rattle.dh_cells.specs.PlainCircuits.{PlainCircuit, circuit_of, one_cell, with_cell, blank_register, blank_registers, AreCells, IsCircuit, IsMade, IsNext}
 use Rattle.dh_cells.specs.Settled.{Signals, IsSettled, Adds}
-use Rattle.dh_cells.specs.ShownValues.{form_shown, number_shown}
+use Rattle.dh_cells.specs.ShownValues.{form_shown}
 use Rattle.dh_cells.proofs.CellsAppended.{get_last, measured_by_fit, measured_later, value_later, cells_more, grows_one, grows_none}
 use Rattle.dh_cells.proofs.NarrowCells.{circuit_more}
 

@@ -3,3 +3,4 @@ pub mod PlainCircuits
 pub mod Settled
 pub mod ShownValues
 pub mod FirstTests
+pub mod SoughtCells

@@ -6,8 +6,10 @@ ghost use Rattle.dh_value.specs.Words.{IsWidth};
 ghost use Rattle.dh_cells.specs.NarrowShifts.{HasNarrowShifts, IsBelow, constant_at, form_bits};
 ghost use Rattle.dh_cells.specs.PlainCircuits.{IsMade, IsNext, SuitRegisters, circuit_of};
 ghost use Rattle.dh_cells.specs.Settled.{Adds, IsSettled, IsWire, Signals, ValuationSettles, WireAdded, shown};
+ghost use Rattle.dh_cells.specs.SoughtCells.{IfMade};
 ghost use Rattle.dh_cells.specs.ShownValues.{form_shown, held_shown, number_shown, register_shown, signs_shown};
 
+use crate::chaining::{Chains, Sought, greatest_taken, other_taken};
 use dh_base::{Items, NoMemory};
 use dh_net::{Cell, CellForm};
 use dh_tree::MemTable;
@@ -22,7 +24,9 @@ pub struct Circuit {
     table: MemTable,
     widths: Items<u8>,
     cells: Items<Cell>,
-    // The wires of cells that were made.
+    // The first few cells over each wire that they take: the greatest one, or else another.
+    chains: Chains,
+    // The wires of all other cells.
     made: IndexMap<Cell, u64>,
 }
 
@@ -38,6 +42,9 @@ impl Model for Circuit {
 
 // The bits of an amount by which the widest word is shifted.
 const AMOUNT_WIDTH: u8 = 6;
+
+// The most cells of a chain.
+const LONGEST_CHAIN: usize = 8;
 
 // The bits of a constant.
 fn bits_of(form: CellForm) -> Option<u64>
@@ -82,6 +89,7 @@ impl Circuit {
             table,
             widths,
             cells: Items::new(alloc),
+            chains: Chains::new(alloc),
             made: IndexMap::new(alloc),
         }
     }
@@ -92,35 +100,124 @@ impl Circuit {
         ensures shows { WireAdded result self.old self.new width (form_shown self.old width form) }
         ensures made { IfOk result (λ wire. IsMade self.new wire width form) }
     {
-        match self.find(Cell { width, form }) {
-            Some(wire) => Ok(wire),
-            None => self.add(width, form),
+        let cell = Cell { width, form };
+        match greatest_taken(form) {
+            Some(taken) => self.push_over(taken, cell),
+            None => self.push_alone(cell),
         }
     }
 
-    // The wire that was made for a cell. The cell is looked at, so that nothing has to be known of the table.
+    // The wire of a cell that takes this wire, and none that is greater.
+    fn push_over(&mut self, taken: u64, cell: Cell) -> Result<u64, NoMemory>
+        requires { IsNext self.old cell.width cell.form }
+        ensures shows { WireAdded result self.old self.new cell.width
+            (form_shown self.old cell.width cell.form) }
+        ensures made { IfOk result (λ wire. IsMade self.new wire cell.width cell.form) }
+    {
+        match self.seek(taken, cell) {
+            Sought::Made(wire) => Ok(wire),
+            Sought::New => self.add_over(taken, cell),
+            Sought::Untold => self.push_other(cell),
+        }
+    }
+
+    // The wire of a cell of which many more take the greatest wire that it takes.
+    fn push_other(&mut self, cell: Cell) -> Result<u64, NoMemory>
+        requires { IsNext self.old cell.width cell.form }
+        ensures shows { WireAdded result self.old self.new cell.width
+            (form_shown self.old cell.width cell.form) }
+        ensures made { IfOk result (λ wire. IsMade self.new wire cell.width cell.form) }
+    {
+        let Some(taken) = other_taken(cell.form) else {
+            return self.push_alone(cell);
+        };
+        match self.seek(taken, cell) {
+            Sought::Made(wire) => Ok(wire),
+            Sought::New => self.add_over(taken, cell),
+            Sought::Untold => self.push_alone(cell),
+        }
+    }
+
+    // The wire of a cell that is in no chain.
+    fn push_alone(&mut self, cell: Cell) -> Result<u64, NoMemory>
+        requires { IsNext self.old cell.width cell.form }
+        ensures shows { WireAdded result self.old self.new cell.width
+            (form_shown self.old cell.width cell.form) }
+        ensures made { IfOk result (λ wire. IsMade self.new wire cell.width cell.form) }
+    {
+        match self.find(cell) {
+            Some(wire) => Ok(wire),
+            None => self.add(cell),
+        }
+    }
+
+    // Whether the wire is that of this cell.
+    fn is_at(&self, wire: u64, cell: Cell) -> bool
+        ensures shows { IsTrue result → Adds self.now self.now wire cell.width
+            (form_shown self.now cell.width cell.form) }
+        ensures made { IsTrue result → IsMade self.now wire cell.width cell.form }
+    {
+        let Some(found) = self.cells.as_slice().get(wire as usize) else {
+            return false;
+        };
+        is_same(*found, cell)
+    }
+
+    // The wire of a cell in the chain over a wire that it takes.
+    fn seek(&self, taken: u64, cell: Cell) -> Sought
+        ensures shows { IfMade result (λ wire. Adds self.now self.now wire cell.width
+            (form_shown self.now cell.width cell.form)) }
+        ensures made { IfMade result (λ wire. IsMade self.now wire cell.width cell.form) }
+    {
+        let mut next = self.chains.latest(taken);
+        for _ in 0..LONGEST_CHAIN {
+            let Some(wire) = next else {
+                return Sought::New;
+            };
+            if self.is_at(wire, cell) {
+                return Sought::Made(wire);
+            }
+            next = self.chains.before(wire);
+        }
+        Sought::Untold
+    }
+
+    // The wire of a cell in the table. The cell is looked at, so that nothing has to be known of the table.
     fn find(&self, cell: Cell) -> Option<u64>
         ensures shows { IfSome result (λ wire. Adds self.now self.now wire cell.width
             (form_shown self.now cell.width cell.form)) }
         ensures made { IfSome result (λ wire. IsMade self.now wire cell.width cell.form) }
     {
-        let wire = self.made.get(&cell)?;
-        let found = self.cells.as_slice().get(*wire as usize)?;
-        if is_same(*found, cell) {
-            Some(*wire)
+        let wire = *self.made.get(&cell)?;
+        if self.is_at(wire, cell) {
+            Some(wire)
         } else {
             None
         }
     }
 
-    // Adds a cell, and answers the wire that it drives.
-    fn add(&mut self, width: u8, form: CellForm) -> Result<u64, NoMemory>
-        requires { IsNext self.old width form }
-        ensures shows { WireAdded result self.old self.new width (form_shown self.old width form) }
-        ensures made { IfOk result (λ wire. IsMade self.new wire width form) }
+    // Adds a cell to the chain over a wire, and answers the wire that it drives.
+    fn add_over(&mut self, taken: u64, cell: Cell) -> Result<u64, NoMemory>
+        requires { IsNext self.old cell.width cell.form }
+        ensures shows { WireAdded result self.old self.new cell.width
+            (form_shown self.old cell.width cell.form) }
+        ensures made { IfOk result (λ wire. IsMade self.new wire cell.width cell.form) }
     {
         let wire = self.cells.len() as u64;
-        let cell = Cell { width, form };
+        self.chains.add_over(taken)?;
+        self.cells.push(cell)?;
+        Ok(wire)
+    }
+
+    // Adds a cell to the table, and answers the wire that it drives.
+    fn add(&mut self, cell: Cell) -> Result<u64, NoMemory>
+        requires { IsNext self.old cell.width cell.form }
+        ensures shows { WireAdded result self.old self.new cell.width
+            (form_shown self.old cell.width cell.form) }
+        ensures made { IfOk result (λ wire. IsMade self.new wire cell.width cell.form) }
+    {
+        let wire = self.cells.len() as u64;
+        self.chains.add()?;
         self.cells.push(cell)?;
         self.made.insert(cell, wire)?;
         Ok(wire)

@@ -4,6 +4,7 @@
 //! Stands on `dh_net`.
 #![tactic(auto)]
 
+mod chaining;
 mod choices;
 mod circuits;
 mod operators;

@@ -7,9 +7,10 @@ ghost use Rattle.dh_net.specs.Valid.{IsValid};
 ghost use Rattle.dh_plan.specs.DoneProgram.{IsPlanOf};
 ghost use Rattle.dh_plan.specs.Passes.{IsToCompile, uses_seen};
 ghost use Rattle.dh_plan.specs.SeenPlans.{plan_seen};
-ghost use Rattle.dh_backend.specs.NetParts.{times_seen};
+ghost use Rattle.dh_backend.specs.NetParts.{ArePartsOf, times_seen};
 ghost use Rattle.dh_backend.specs.SuitedPlans.{IsCompiled};
 ghost use Rattle.dh_build.specs.BuiltPlans.{CanBuild, IsBuiltNet};
+ghost use Rattle.dh_join.specs.JoinedNets.{IsJoined};
 ghost use Rattle.dh_compile.specs.Compiled.{Compiles, IsNetOfProgram};
 ghost use Rattle.dh_compile.specs.JoinedSwept.{IsJoinedSwept};
 
@@ -39,12 +40,20 @@ pub enum CompileFault {
     NoMemory,
 }
 
-/// The net of what it is made of, with a driver for each operation that has a port.
-fn whole_net(alloc: Global, parts: &NetParts) -> Result<Net, NoMemory>
-    requires { CanBuild (plan_seen parts.now.plan) parts.now.passed.graph
-        (times_seen parts.now.passed.times) (uses_seen parts.now.passed.binding) }
-    ensures { IfOk result (λ net. IsBuiltNet (plan_seen parts.now.plan)
-        parts.now.passed.times.lengths net) }
+/// What the net of a plan is made of. The plan is let go, and its memory serves what is made then.
+fn parts_of_plan(alloc: Global, plan: Plan) -> Result<NetParts, NoMemory>
+    requires { IsCompiled (plan_seen plan) }
+    ensures { IfOk result (ArePartsOf (plan_seen plan)) }
+{
+    parts_of(alloc, &plan)
+}
+
+/// The net of what it is made of, with a driver for each operation that has a port. The parts are let go.
+fn whole_net(alloc: Global, parts: NetParts) -> Result<Net, NoMemory>
+    requires { CanBuild (plan_seen parts.plan) parts.passed.graph
+        (times_seen parts.passed.times) (uses_seen parts.passed.binding) }
+    ensures { IfOk result (λ net. IsBuiltNet (plan_seen parts.plan)
+        parts.passed.times.lengths net) }
 {
     let passed = &parts.passed;
     let (clocks, lengths) = (&passed.times.clocks, &passed.times.lengths);
@@ -58,38 +67,46 @@ fn whole_net(alloc: Global, parts: &NetParts) -> Result<Net, NoMemory>
     )
 }
 
-/// The net with few drivers for each port, and without the cells that are not needed then.
-fn joined_net(alloc: Global, net: &Net) -> Result<Net, NoMemory>
-    requires { IsValid net.now }
-    ensures { IfOk result (IsJoinedSwept net.now) }
+/// The net with few drivers for each port. The net before is let go.
+fn driven_net(alloc: Global, net: Net) -> Result<Net, NoMemory>
+    requires { IsValid net }
+    ensures { IfOk result (IsJoined net) }
 {
-    match join_drivers(alloc, net) {
+    join_drivers(alloc, &net)
+}
+
+/// The net with few drivers for each port, and without the cells that are not needed then.
+fn joined_net(alloc: Global, net: Net) -> Result<Net, NoMemory>
+    requires { IsValid net }
+    ensures { IfOk result (IsJoinedSwept net) }
+{
+    match driven_net(alloc, net) {
         Ok(joined) => sweep(alloc, joined),
         Err(fault) => Err(fault),
     }
 }
 
 /// The net of what it is made of, with few drivers for each port.
-fn net_of_parts(alloc: Global, parts: &NetParts) -> Result<Net, NoMemory>
-    requires { CanBuild (plan_seen parts.now.plan) parts.now.passed.graph
-        (times_seen parts.now.passed.times) (uses_seen parts.now.passed.binding) }
-    ensures { IfOk result (λ net. IsBuiltNet (plan_seen parts.now.plan)
-        parts.now.passed.times.lengths net) }
+fn net_of_parts(alloc: Global, parts: NetParts) -> Result<Net, NoMemory>
+    requires { CanBuild (plan_seen parts.plan) parts.passed.graph
+        (times_seen parts.passed.times) (uses_seen parts.passed.binding) }
+    ensures { IfOk result (λ net. IsBuiltNet (plan_seen parts.plan)
+        parts.passed.times.lengths net) }
 {
     match whole_net(alloc, parts) {
-        Ok(net) => joined_net(alloc, &net),
+        Ok(net) => joined_net(alloc, net),
         Err(fault) => Err(fault),
     }
 }
 
 /// The net of a program's plan.
-fn net_of_plan(alloc: Global, plan: &Plan) -> Result<Net, NoMemory>
-    requires { IsCompiled (plan_seen plan.now) }
-    ensures { (p : Program) → IsToCompile p → IsPlanOf p (plan_seen plan.now)
+fn net_of_plan(alloc: Global, plan: Plan) -> Result<Net, NoMemory>
+    requires { IsCompiled (plan_seen plan) }
+    ensures { (p : Program) → IsToCompile p → IsPlanOf p (plan_seen plan)
         → IfOk result (IsNetOfProgram p) }
 {
-    let parts = parts_of(alloc, plan)?;
-    net_of_parts(alloc, &parts)
+    let parts = parts_of_plan(alloc, plan)?;
+    net_of_parts(alloc, parts)
 }
 
 /// The net of a flat program that is to be compiled.
@@ -98,7 +115,7 @@ fn net_of_flat(alloc: Global, flat: &Flat) -> Result<Net, NoMemory>
     ensures { IfOk result (IsNetOfProgram (program_seen flat.now.program.now)) }
 {
     let plan = unroll(alloc, flat)?;
-    net_of_plan(alloc, &plan)
+    net_of_plan(alloc, plan)
 }
 
 /// The net of a program that is to be compiled.

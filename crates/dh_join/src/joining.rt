@@ -59,6 +59,24 @@ fn joined_net(
     }
 }
 
+/// Room for the cells of a net and for those that join its drivers, three at most for each.
+fn room_of(net: &Net) -> usize {
+    let mut room = net.cells.len();
+    for drivers in net.drivers.as_slice() {
+        room = room.saturating_add(drivers.len().saturating_mul(3));
+    }
+    room
+}
+
+/// The cells of a net, with room for those that are added.
+fn copied_cells(alloc: Global, net: &Net) -> Result<Items<Cell>, NoMemory>
+    ensures { IfOk result (λ cells. cells ≡ net.now.cells) }
+{
+    let mut cells = Vec::with_capacity(alloc, room_of(net))?;
+    cells.extend_from_slice(net.cells.as_slice())?;
+    Ok(Items::from_vec(cells))
+}
+
 /// A net that does what this one does, whose ports have few drivers: the drivers of a port that has more than four are
 /// joined to one that reads and one that writes. New cells, balanced trees, choose the first active one. As long as
 /// no port of the given net has clashed, both nets show the same and keep the same, and what is new clashes or strays
@@ -74,8 +92,7 @@ pub fn join_drivers(alloc: Global, net: &Net) -> Result<Net, NoMemory>
     let table = copy_table(alloc, net.table.as_slice())?;
     let faults = Vec::from_slice(alloc, net.faults.as_slice())?;
     let registers = Vec::from_slice(alloc, net.registers.as_slice())?;
-    let copies = Vec::from_slice(alloc, net.cells.as_slice())?;
-    let mut cells = Items::from_vec(copies);
+    let mut cells = copied_cells(alloc, net)?;
     let drivers = drive_net(alloc, &mut cells, net)?;
     let (faults, registers) = (Items::from_vec(faults), Items::from_vec(registers));
     Ok(joined_net(net, table, faults, registers, cells, drivers))

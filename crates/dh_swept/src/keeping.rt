@@ -130,8 +130,8 @@ pub fn keep_cells(alloc: Global, cells: &[Cell], flags: &[bool]) -> Result<Kept,
     ensures { IfOk result
         (λ kept. KeptBelow (length cells.now) cells.now flags.now kept.cells kept.to) }
 {
-    let mut kept = Items::new(alloc);
-    let mut to = Items::new(alloc);
+    let mut kept = Items::with_room(alloc, cells.len())?;
+    let mut to = Items::with_room(alloc, cells.len())?;
     for i in 0..cells.len() {
         let number = kept.len() as u64;
         keep_cell(to.as_slice(), flags[i], cells[i], &mut kept)?;
@@ -149,7 +149,7 @@ pub fn rename_registers(
     ensures { IfOk result (λ renamed. renamed
         ≡ map (renamed_register (number_in to.now)) registers.now) }
 {
-    let mut renamed = Items::new(alloc);
+    let mut renamed = Items::with_room(alloc, registers.len())?;
     for register in registers {
         renamed.push(Register {
             width: register.width,
@@ -182,7 +182,7 @@ fn rename_list(alloc: Global, to: &[u64], drivers: &[Driver]) -> Result<Items<Dr
     ensures { IfOk result (λ renamed. renamed
         ≡ map (renamed_driver (number_in to.now)) drivers.now) }
 {
-    let mut renamed = Items::new(alloc);
+    let mut renamed = Items::with_room(alloc, drivers.len())?;
     for driver in drivers {
         renamed.push(rename_driver(to, *driver))?;
     }
@@ -198,7 +198,7 @@ pub fn rename_drivers(
     ensures { IfOk result (λ renamed. renamed
         ≡ map (λ (ds : List Driver). map (renamed_driver (number_in to.now)) ds) lists.now) }
 {
-    let mut renamed = Items::new(alloc);
+    let mut renamed = Items::with_room(alloc, lists.len())?;
     for list in lists {
         let drivers = rename_list(alloc, to, list.as_slice())?;
         renamed.push(drivers)?;

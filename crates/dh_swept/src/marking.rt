@@ -103,7 +103,7 @@ fn mark_taken(flags: &mut [bool], cells: &[Cell])
 fn no_marks(alloc: Global, count: usize) -> Result<Vec<bool>, NoMemory>
     ensures { IfOk result (λ flags. flags.items ≡ replicate count false) }
 {
-    let mut flags = Vec::new(alloc);
+    let mut flags = Vec::with_capacity(alloc, count)?;
     for i in 0..count {
         flags.push(false)?;
     }

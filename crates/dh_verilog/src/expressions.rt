@@ -23,7 +23,9 @@ fn width_at(cells: &[Cell], wire: u64) -> u8
 fn write_binary(out: &mut String, a: u64, sign: &str, b: u64) -> Result<(), AllocError>
     ensures { Adds result out.old out.new (binary_text a sign.now b) }
 {
-    write!(out, "w{a}{sign}w{b}")
+    write!(out, "w{a}")?;
+    out.push_str(sign)?;
+    write!(out, "w{b}")
 }
 
 // Writes a shift of a number in two's complement to the right.

@@ -25,11 +25,8 @@ pub enum Signal {
 pub fn write_pin(out: &mut String, port: Port, ending: &str) -> Result<(), AllocError>
     ensures { Adds result out.old out.new (pin port ending.now) }
 {
-    write!(
-        out,
-        "m{}_b{}_p{}{}",
-        port.memory, port.bank, port.port, ending
-    )
+    write!(out, "m{}_b{}_p{}", port.memory, port.bank, port.port)?;
+    out.push_str(ending)
 }
 
 // Writes the line of an output of one bit, after the comma of the line before.

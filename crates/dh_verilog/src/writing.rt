@@ -151,6 +151,11 @@ fn write_net(out: &mut String, net: &Net, ports: &[Port]) -> Result<(), AllocErr
     write_clock(out, registers, ports)
 }
 
+// Room for the text of most nets, so that it is seldom moved: of a cell the line takes some fifty bytes.
+fn room_of(net: &Net) -> usize {
+    net.cells.len().saturating_mul(64)
+}
+
 /// The text of a valid net, in time linear in its length. Where the net's reads have data 0, no other
 /// such net has this text. Fails only where memory is refused.
 #[tactic(auto, using(dh_net::proofs::PortWalks::small_memories))]
@@ -161,7 +166,7 @@ pub fn write(alloc: Global, net: &Net) -> Result<Vec<u8>, NoMemory>
     ensures alone { HasReadsZero net.now → IfOk result (λ bytes. IsAlone bytes.items net.now) }
 {
     let ports = list_ports(alloc, net.table.as_slice())?;
-    let mut out = String::new(alloc);
+    let mut out = String::with_capacity(alloc, room_of(net))?;
     write_net(&mut out, net, &ports)?;
     Ok(out.into_bytes())
 }

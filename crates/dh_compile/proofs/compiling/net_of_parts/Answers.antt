@@ -8,5 +8,5 @@ joined_net-requires c = c.in-Ok.ensures.plays.valid
 
 pub returns-in-Ok : goal.returns-in-Ok
 returns-in-Ok c =
-    IfOk-weaker c.joined_net.result _ _ (λ net joined. joined_built (plan_seen c.args.parts.now.plan) c.args.parts.now.passed.times.lengths c.in-Ok.net net c.in-Ok.ensures joined)
+    IfOk-weaker c.joined_net.result _ _ (λ net joined. joined_built (plan_seen c.args.parts.plan) c.args.parts.passed.times.lengths c.in-Ok.net net c.in-Ok.ensures joined)
     c.joined_net.ensures

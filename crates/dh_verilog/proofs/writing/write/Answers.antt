@@ -8,4 +8,4 @@ pub returns-clause-alone : goal.returns-clause-alone
 returns-clause-alone c zero other valid range zeros same =
     let wrote = c.in_ok-write_net.ensures in
     let net = c.args.net.now in
-    text_tells other net valid c.requires range wrote.range zeros zero (same ∙ (ap (λ (v : Vec ℕ). v.items) c.into_bytes.ensures.value ∙ (wrote.text ∙ ap (λ t. t ++ text_of net) c.new-out.ensures.bytes)))
+    text_tells other net valid c.requires range wrote.range zeros zero (same ∙ (ap (λ (v : Vec ℕ). v.items) c.into_bytes.ensures.value ∙ (wrote.text ∙ ap (λ t. t ++ text_of net) c.in_ok-out.ensures.bytes)))
