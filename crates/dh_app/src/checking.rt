@@ -6,11 +6,10 @@ ghost use Rattle.dh_app.specs.Inputs.{WithAnyEngine};
 ghost use Rattle.dh_app.specs.Replies.{Says, reply_seen};
 
 use crate::lines::ok_line;
-use crate::replies::{Reply, reply_with};
+use crate::replies::{Reply, leave, reply_with};
 use crate::sources::read_program;
 use dh_base::{Files, Status};
 use std::alloc::Global;
-use std::mem::forget;
 
 /// Says whether the program of a file breaks a rule or exceeds a limit, and which and where.
 pub fn check_file<F: Files>(alloc: Global, file: &str, files: &mut F) -> Reply
@@ -20,8 +19,7 @@ pub fn check_file<F: Files>(alloc: Global, file: &str, files: &mut F) -> Reply
 {
     match read_program(alloc, file, files) {
         Ok(program) => {
-            // The process ends with the reply: to free each part of a tree before that takes its time.
-            forget(program);
+            leave(program);
             ok_reply(alloc)
         }
         Err(reply) => reply,

@@ -12,7 +12,7 @@ ghost use Rattle.dh_app.specs.Inputs.{HasBegun, OverInputs, WithAnyEngine};
 ghost use Rattle.dh_app.specs.InterpretJob.{IsStandingReport, InterpretsData, InterpretsFiles};
 ghost use Rattle.dh_app.specs.Replies.{Says, reply_seen};
 
-use crate::replies::Reply;
+use crate::replies::{Reply, leave};
 use crate::reporting::report_ending;
 use crate::sources::{read_memories, read_program, read_typed};
 use dh_base::{Files, NoMemory, Outcome};
@@ -40,12 +40,20 @@ pub fn interpret<F: Files>(
 {
     if unchecked {
         match read_typed(alloc, file, files) {
-            Ok(typed) => interpret_typed(alloc, &typed, data_, steps, files),
+            Ok(typed) => {
+                let reply = interpret_typed(alloc, &typed, data_, steps, files);
+                leave(typed);
+                reply
+            }
             Err(reply) => reply,
         }
     } else {
         match read_program(alloc, file, files) {
-            Ok(accepted) => interpret_typed(alloc, accepted.typed(), data_, steps, files),
+            Ok(accepted) => {
+                let reply = interpret_typed(alloc, accepted.typed(), data_, steps, files);
+                leave(accepted);
+                reply
+            }
             Err(reply) => reply,
         }
     }
@@ -87,7 +95,9 @@ fn report_standing(alloc: Global, typed: &Typed, memories: Memories, steps: u64)
         steps: interp.steps(),
         clocks: None,
     };
-    report_ending(alloc, typed.memories(), interp.memories(), &ending)
+    let reply = report_ending(alloc, typed.memories(), interp.memories(), &ending);
+    leave(interp);
+    reply
 }
 
 /// The run of a program from these memories after so many steps, or where it ended before.

@@ -8,7 +8,7 @@ ghost use Rattle.dh_app.specs.LowerJob.{IsNetText, LowersFile, LowersOnceRead};
 ghost use Rattle.dh_app.specs.Replies.{Says, reply_seen};
 
 use crate::compiling::net_of;
-use crate::replies::{Answer, Reply};
+use crate::replies::{Answer, Reply, leave};
 use crate::sources::read_program;
 use dh_base::{Files, NoMemory, Status};
 use dh_check::Accepted;
@@ -22,7 +22,11 @@ pub fn lower<F: Files>(alloc: Global, file: &str, files: &mut F) -> Reply
         LowersFile old new file.now (reply_seen result)) }
 {
     match read_program(alloc, file, files) {
-        Ok(accepted) => lower_program(alloc, &accepted),
+        Ok(accepted) => {
+            let reply = lower_program(alloc, &accepted);
+            leave(accepted);
+            reply
+        }
         Err(reply) => reply,
     }
 }
@@ -32,7 +36,11 @@ fn lower_program(alloc: Global, accepted: &Accepted) -> Reply
     ensures { LowersOnceRead (program_seen accepted.now) (reply_seen result) }
 {
     match net_of(alloc, accepted) {
-        Ok(net) => net_text(alloc, &net),
+        Ok(net) => {
+            let reply = net_text(alloc, &net);
+            leave(net);
+            reply
+        }
         Err(reply) => reply,
     }
 }

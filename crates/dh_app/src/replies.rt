@@ -8,6 +8,7 @@ ghost use Rattle.dh_app.specs.Replies.{Says, reply_seen};
 use crate::lines::too_large_line;
 use dh_base::{Excess, Limit, NoMemory, Status};
 use std::alloc::Global;
+use std::mem::forget;
 
 /// What is to be written, and the status once it is.
 #[derive(Debug, Drop)]
@@ -27,6 +28,12 @@ pub enum Reply {
     ReadFault,
     /// Memory was refused.
     NoMemory,
+}
+
+/// Leaves what a job made where it is. The process ends with the reply: to free each part of a tree before that
+/// takes its time.
+pub fn leave<T: Drop>(made: T) {
+    forget(made);
 }
 
 /// A reply with a line, where memory for it was had.

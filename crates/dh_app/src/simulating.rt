@@ -13,7 +13,7 @@ ghost use Rattle.dh_app.specs.SimulateJob.{SimulatesProgram, SimulatesFiles};
 
 use crate::compiling::net_of;
 use crate::engine::{Engine, Finish};
-use crate::replies::Reply;
+use crate::replies::{Reply, leave};
 use crate::reporting::report_ending;
 use crate::sources::{read_memories, read_program};
 use dh_base::{Files, NoMemory};
@@ -39,7 +39,11 @@ pub fn simulate<F: Files, E: Engine>(
         (λ old new. SimulatesFiles old new file.now data_.now clocks (reply_seen result)) }
 {
     match read_program(alloc, file, files) {
-        Ok(accepted) => simulate_program(alloc, &accepted, data_, clocks, files, engine),
+        Ok(accepted) => {
+            let reply = simulate_program(alloc, &accepted, data_, clocks, files, engine);
+            leave(accepted);
+            reply
+        }
         Err(reply) => reply,
     }
 }

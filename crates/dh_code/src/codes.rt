@@ -4,6 +4,7 @@
 ghost use Rattle.std.specs.Prelude.{◌≡◌};
 ghost use Rattle.dh_code.specs.Operated.{kind_of_operand};
 
+use crate::keeping::Apart;
 use dh_base::{Items, Place};
 use dh_tree::ViewMap;
 use dh_value::{Kind, Op, Word};
@@ -38,7 +39,8 @@ pub enum Operand {
     },
 }
 
-/// Which element of a memory.
+/// Which element of a memory. (Most are named by indices of the memory: what the others take stands
+/// apart, so that operations and commands stay small.)
 #[derive(Drop)]
 pub enum Target {
     /// That of indices.
@@ -51,16 +53,16 @@ pub enum Target {
         /// The number of the bank.
         bank: u64,
         /// The row.
-        row: Operand,
+        row: Apart<Operand>,
     },
     /// That of indices of a view, through the views on the way to the memory.
     Through {
         /// The views, the named one first.
-        views: Items<ViewMap>,
+        views: Apart<Items<ViewMap>>,
         /// How many of the operands are indices, in order.
         count: usize,
         /// The indices, and behind them the offsets of the views in the same order.
-        operands: Items<Operand>,
+        operands: Apart<Items<Operand>>,
     },
 }
 

@@ -162,7 +162,7 @@ fn reached_otherwise(
         }
         Target::Row { bank, row } => {
             let dims = scene.entries[access.memory].shape.dims.as_slice();
-            in_row(dims, *bank, number(value_at(&view, row)))
+            in_row(dims, *bank, number(value_at(&view, row.content())))
         }
         Target::Through {
             views,
@@ -170,7 +170,9 @@ fn reached_otherwise(
             operands,
         } => {
             let dims = scene.entries[access.memory].shape.dims.as_slice();
-            locate_through(&view, dims, views.as_slice(), *count, operands.as_slice())
+            let links = views.content().as_slice();
+            let operands = operands.content().as_slice();
+            locate_through(&view, dims, links, *count, operands)
         }
     }
 }

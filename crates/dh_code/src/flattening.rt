@@ -9,12 +9,14 @@ ghost use Rattle.dh_meaning.specs.Ways.{hidden_in};
 ghost use Rattle.dh_ways.specs.Seen.{hidden_seen, way_seen};
 ghost use Rattle.dh_meaning.specs.Effects.{kind_in};
 ghost use Rattle.dh_code.specs.declared.codes.Operation.TheVariants.{Read};
+ghost use Rattle.dh_code.specs.declared.codes.Target.TheVariants.{Row, Through};
 ghost use Rattle.dh_code.specs.Flattening.{Aims, FlattensOffsets, IsKeptIn, kept_from, offsets_by, AddsBinary, AddsNothing, ConvertsTo, ExtendsTo, Flattens, FlattensAll, FlattensCommand, FlattensCommands, FlattensOther, HoldsFirst, HoldsFlat, IsAimedAt, IsAssignedIn, IsOneMore, IsReducedIn, IsStillAt, IsStoredIn, AddsStep, is_aimed, known_in, table_in};
 ghost use Rattle.dh_code.specs.Made.{aimed_target, hidden_operand, same_kind, variable_operand};
 
 use crate::codes::{
     Access, Action, Code, Flat, Kept, Operand, Operation, Step, Target, operand_kind,
 };
+use crate::keeping::Apart;
 use crate::operands::{extension, kind_found, kind_mask, literal, result_kind, truth};
 use crate::places::{Held, place_at, place_behind, place_of};
 use dh_base::{Items, NoMemory};
@@ -124,6 +126,32 @@ fn copied_views(alloc: Global, views: &[&ViewMap]) -> Result<Items<ViewMap>, NoM
     Ok(copies)
 }
 
+/// The element in a row of a bank.
+fn row_of(alloc: Global, bank: u64, row: Operand) -> Result<Target, NoMemory>
+    ensures { IfOk result (λ t. t ≡ Row bank row) }
+{
+    let row = Apart::new(alloc, row)?;
+    Ok(Target::Row { bank, row })
+}
+
+/// The element that so many indices name, with the offsets behind them, through views.
+fn passing(
+    alloc: Global,
+    views: Items<ViewMap>,
+    count: usize,
+    operands: Items<Operand>,
+) -> Result<Target, NoMemory>
+    ensures { IfOk result (λ t. t ≡ Through views count operands) }
+{
+    let views = Apart::new(alloc, views)?;
+    let operands = Apart::new(alloc, operands)?;
+    Ok(Target::Through {
+        views,
+        count,
+        operands,
+    })
+}
+
 /// The element that these operands name as indices, through the views on a way.
 fn through(
     names: &Names<'_>,
@@ -138,11 +166,7 @@ fn through(
     let operands = with_offsets(names, operands, hidden.as_slice())?;
     let kept = way.views(names.alloc)?;
     let views = copied_views(names.alloc, kept.as_slice())?;
-    Ok(Target::Through {
-        views,
-        count,
-        operands,
-    })
+    passing(names.alloc, views, count, operands)
 }
 
 /// The element that these operands name as indices.
@@ -273,9 +297,9 @@ fn flatten(names: &Names<'_>, code: &mut Code, value: &Expr) -> Result<Operand, 
         }
         ExprForm::Physical { of, bank, row, .. } => {
             let row = flatten(names, code, row)?;
+            let target = row_of(names.alloc, *bank, row)?;
             let memory = memory_of(names, of);
             let place = value.place;
-            let target = Target::Row { bank: *bank, row };
             add_read(
                 names,
                 code,
@@ -436,10 +460,11 @@ fn element(names: &Names<'_>, code: &mut Code, target: &Expr) -> Result<Option<A
         }
         ExprForm::Physical { of, bank, row, .. } => {
             let row = flatten(names, code, row)?;
+            let aimed = row_of(names.alloc, *bank, row)?;
             Ok(Some(Access {
                 place: target.place,
                 memory: memory_of(names, of),
-                target: Target::Row { bank: *bank, row },
+                target: aimed,
             }))
         }
         ExprForm::Number { .. } => Ok(None),

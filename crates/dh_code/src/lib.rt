@@ -7,6 +7,7 @@
 mod codes;
 mod evaluating;
 mod flattening;
+mod keeping;
 mod operands;
 mod passing;
 mod places;
@@ -22,5 +23,5 @@ pub use flattening::{Names, first_hidden, flat, flatten_commands, memory_of, way
 pub use operands::slot;
 pub use passing::offsets_taken;
 pub use places::{Held, Places, place_all, place_at, place_behind, place_of};
-pub use running::{Change, State, Write, decide, run, set, undo, write_all};
+pub use running::{Change, State, Write, decide, run, set, set_slot, undo, write_all};
 pub use spending::{Bank, release, unused};

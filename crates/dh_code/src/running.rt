@@ -119,7 +119,13 @@ pub fn set_slot(state: &mut State, slot: usize, bits: u64) -> Result<(), NoMemor
 }
 
 /// Does the operations of an expression at a path of these ranks.
-fn evaluate(scene: &Scene<'_>, state: &mut State, ranks: &[u32], value: &Flat) -> Result<(), Stop>
+#[inline(never)]
+fn evaluate_all(
+    scene: &Scene<'_>,
+    state: &mut State,
+    ranks: &[u32],
+    value: &Flat,
+) -> Result<(), Stop>
     requires scene { IsScene scene.now }
     requires ready { IsReady scene.now state.old }
     requires held { IsHeld scene.now.code.now.operations value.now }
@@ -139,6 +145,24 @@ fn evaluate(scene: &Scene<'_>, state: &mut State, ranks: &[u32], value: &Flat) -
         value.from,
         operations,
     )
+}
+
+/// Does the operations of an expression at a path of these ranks, where it has any.
+#[inline(always)]
+fn evaluate(scene: &Scene<'_>, state: &mut State, ranks: &[u32], value: &Flat) -> Result<(), Stop>
+    requires scene { IsScene scene.now }
+    requires ready { IsReady scene.now state.old }
+    requires held { IsHeld scene.now.code.now.operations value.now }
+    ensures ready { IsReady scene.now state.new }
+    ensures kept { KeepsVariables state.old state.new }
+    ensures seen { IfOk result (λ _. sight_in state.new ranks.now
+        ≡ flat_sight scene.now (sight_in state.old ranks.now) value.now) }
+    ensures spends { SpendsFlat scene.now state.old result state.new ranks.now value.now }
+{
+    if value.from == value.to {
+        return Ok(());
+    }
+    evaluate_all(scene, state, ranks, value)
 }
 
 /// Evaluates a right side of any operations at a path and sets a variable to it.

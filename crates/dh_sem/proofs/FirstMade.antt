@@ -7,7 +7,7 @@ use Rattle.dh_tree.specs.Memories.{memories_of, table_of}
 use Rattle.dh_tree.specs.PlainTrees.{Action, Program}
 use Rattle.dh_tree.specs.Seen.{action_seen, program_seen}
 use Rattle.dh_tree.specs.Shapes.{IsProgramTable}
-use Rattle.dh_meaning.specs.CoreOf.{Known, core_of, core_phases, known_of}
+use Rattle.dh_meaning.specs.CoreOf.{Known, core_phases, known_of}
 use Rattle.dh_meaning.specs.Ways.{Led, all_bindings_of, all_entities_of, ways_of}
 use Rattle.dh_ways.specs.declared.ways.Hidden.{Hidden}
 use Rattle.dh_ways.specs.CutStands.{HasFewWays}
@@ -26,7 +26,7 @@ use Rattle.dh_code.proofs.KindsHeld.{length_held}
 use Rattle.dh_sem.specs.declared.gathering.Made.{Made}
 use Rattle.dh_sem.specs.Gathered.{CanRunList, HoldsAll, HoldsProgram, IsSoundMade, course_made}
 use Rattle.dh_sem.specs.Lanes.{AreFirstLanes}
-use Rattle.dh_sem.specs.Phased.{ArePhases, IsEarlier}
+use Rattle.dh_sem.specs.Phased.{ArePhases}
 use Rattle.dh_sem.specs.Runnable.{CanRunAll, IsRunnable}
 
 -- the numbers of the ways of a program that can be run have room

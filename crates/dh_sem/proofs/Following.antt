@@ -1,6 +1,7 @@
 -- From a frame to the next block behind it.
-use Rattle.std.proofs.Common.{◌≡◌, ℕ, suc, ◌+◌, ◌<◌, ◌≤◌, nat_lt, Bool, true, false, if◌then◌else◌, List, [], ◌∷◌, ◌++◌, reverse, Some, None, Ok, Err, refl, ap, sym, ◌∙◌, subst, arith}
+use Rattle.std.proofs.Common.{◌≡◌, ℕ, suc, ◌+◌, ◌<◌, ◌≤◌, nat_lt, Bool, true, false, if◌then◌else◌, List, [], ◌∷◌, ◌++◌, length, reverse, Some, None, Ok, Err, refl, ap, sym, ◌∙◌, subst, arith}
 use Rattle.std.specs.Prelude.{Option, Result, IfOk, slice_get}
+use Rattle.std.specs.List.{AllByRecursion}
 use Rattle.std.proofs.lemmas.Bool.Decides.{nat_tests}
 use Rattle.std.proofs.lemmas.List.{reverse-append}
 use Rattle.dh_tree.specs.declared.tables.MemEntry.{MemEntry}
@@ -22,9 +23,10 @@ use Rattle.dh_sem.specs.declared.phases.Turns as turns
 use Rattle.dh_sem.specs.declared.stepping.Course as code
 use Rattle.dh_sem.specs.Frames.{AreToCome, IsFirst, IsSettled, StandsFor}
 use Rattle.dh_sem.specs.Lanes.{AreLanes}
-use Rattle.dh_sem.specs.Phased.{ArePhases, Course, IsPhase, IsSome, arm_of, turns_in}
-use Rattle.dh_sem.specs.Steps.{Arrives, BeginsTurn, Descends, DescendsTo, Follows, FollowsTo, GoesOn, HoldsFirst, Lightens, NowhereIfNone, course_of, frame_weight, weight_of}
+use Rattle.dh_sem.specs.Phased.{ArePhases, Course, IsPhase, IsSome, IsSoundFrame, arm_of, turns_in}
+use Rattle.dh_sem.specs.Steps.{Arrives, BeginsTurn, Descends, DescendsTo, Follows, FollowsTo, GoesOn, HoldsFirst, Lightens, NowhereIfNone, OnlyVariables, course_of, frame_weight, weight_of}
 use Rattle.dh_sem.proofs.Going.{come_more, inner_is, nothing_of}
+use Rattle.dh_sem.proofs.TurnsBegun.{only_none, only_then}
 
 some_same : {A : Type 0} (a b : A) → Some a ≡ Some b → a ≡ b
 some_same a b e = cc
@@ -394,3 +396,33 @@ weight_last (g ∷ fs) f = ap (λ n. frame_weight g + n) (weight_last fs f) ∙ 
   where
     by : (a b c : ℕ) → a + (b + c) ≡ b + (a + c)
     by a b c = omega arith
+
+-- where no frame is left the run is at its end
+nothing_goes : (x : code.Course) (holds : Bool) (now : State) (fs ks : List Frame) → fs ≡ [] → GoesOn x None now now fs ks holds
+nothing_goes x holds now fs ks none table p made b v k come h hf =
+    let is_over : k ≡ over = subst (λ (l : List Frame). AreToCome table p (course_of made x) (reverse l) k) none come in
+    subst (λ (t : Todo). Arrives table p (course_of made x) (next_of b t v) now None ks) (sym is_over) (record { variables = h; place = tt })
+
+-- the frames so far led to no block
+pub record GoneSoFar (x : code.Course) (holds : Bool) (old : State) (before : List Frame) (now : State) (frames : List Frame) : Type 0 where
+  pub only : OnlyVariables old now
+  pub sound : AllByRecursion (IsSoundFrame (length x.phases.now)) frames
+  pub goes : (found : Option ℕ) (new : State) (ks : List Frame) → GoesOn x found now new frames ks holds → GoesOn x found old new before ks holds
+
+pub gone_first : (x : code.Course) (holds : Bool) (old : State) (fs : List Frame) → AllByRecursion (IsSoundFrame (length x.phases.now)) fs → GoneSoFar x holds old fs old fs
+gone_first x holds old fs sound = record { only = only_none old; sound = sound; goes = λ found new ks g. g }
+
+module _ (x : code.Course) (holds : Bool) (old now : State) (before fs : List Frame) (so : GoneSoFar x holds old before now fs) where
+  pub gone_more : (frame : Frame) (mid : State) (gs hs : List Frame) → fs ≡ gs ++ frame ∷ [] → mid ≡ now → OnlyVariables now mid → AllByRecursion (IsSoundFrame (length x.phases.now)) hs → Follows x frame holds None now mid gs hs
+      → GoneSoFar x holds old before mid hs
+  gone_more frame mid gs hs is same only sound follows = record {
+    only = only_then old now mid so.only only;
+    sound = sound;
+    goes = λ found new ks g. so.goes found new ks (further_goes x holds found frame now mid new fs gs hs ks is same follows g);
+  }
+
+  pub gone_to : (number : ℕ) (frame : Frame) (new : State) (gs hs : List Frame) → fs ≡ gs ++ frame ∷ [] → Follows x frame holds (Some number) now new gs hs → GoesOn x (Some number) old new before hs holds
+  gone_to number frame new gs hs is follows = so.goes (Some number) new hs (some_goes x holds number frame now new fs gs hs is follows)
+
+  pub gone_over : (ks : List Frame) → fs ≡ [] → GoesOn x None old now before ks holds
+  gone_over ks none = so.goes None now ks (nothing_goes x holds now fs ks none)

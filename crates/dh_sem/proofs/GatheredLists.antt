@@ -4,6 +4,8 @@ use Rattle.std.proofs.Common.{◌≡◌, ℕ, ◌+◌, ◌<◌, List, [], ◌∷
 use Rattle.std.specs.Prelude.{Vec}
 use Rattle.std.specs.Global.{Global}
 use Rattle.std.specs.List.{AllByRecursion}
+use Rattle.std.proofs.lemmas.List.{map-append}
+use denote.Ref.{Bor}
 use Rattle.dh_base.proofs.ListItems.{at_item}
 use Rattle.dh_tree.specs.declared.trees.commands.Command.{Command}
 use Rattle.dh_tree.specs.PlainTrees.{Action}
@@ -18,7 +20,7 @@ use Rattle.dh_code.specs.Flattening.{IsPlacingOf, known_in, table_in}
 use Rattle.dh_code.specs.Slots.{Placing}
 use Rattle.dh_sem.specs.declared.gathering.Made.{Made}
 use Rattle.dh_sem.specs.declared.phases.Form.{Form}
-use Rattle.dh_sem.specs.Gathered.{AllOthers, Anything, AreOf, CanBeHeld, CanRunList, Gathers, GathersAll, GathersOf, IsHeldAs, IsSoundMade, Kept, MoreMade, ended_at, folded_with, joined_at, joined_with}
+use Rattle.dh_sem.specs.Gathered.{AllOthers, Anything, AreOf, CanBeHeld, CanRunList, Gathers, GathersAll, GathersOf, IsHeldAs, IsSoundMade, Kept, MoreMade, commands_seen, ended_at, folded_with, joined_at, joined_with}
 use Rattle.dh_sem.specs.Lanes.{LeadsInto}
 use Rattle.dh_sem.proofs.CanRunLists.{can_split, folded_can, next_can}
 use Rattle.dh_sem.proofs.KeptLists.{are_append, are_weaker, commands_at, ended_are, far_after, folded_are, joined_are, joined_is, joined_open, open_after, others_append, others_ended, others_folded, others_joined, others_weaker}
@@ -190,3 +192,7 @@ module _ (names : Names) (paths : ℕ) where
     where
       all : whole r n parts ≡ h.far
       all = h.is ∙ (ap (λ l. h.far ++ whole r h.number l) none ∙ append-nil h.far)
+
+-- one more command stands in the open phase
+pub seen_more : (cs ds : List (Bor Command)) (b : Bor Command) → ds ≡ cs ++ b ∷ [] → commands_seen ds ≡ commands_seen cs ++ action_seen b.now ∷ []
+seen_more cs ds b e = ap commands_seen e ∙ map-append (λ (x : Bor Command). action_seen x.now) cs (b ∷ [])

@@ -160,6 +160,10 @@ GathersAll names paths old new forms qs =
 abbrev pub GathersOf : Names → (paths : ℕ) → (old new : Made) → (forms : List Kept) → ((r : Around) → (n : ℕ) → List source.Phase) → Type 0
 GathersOf names paths old new forms qs = (r : Around) (n : ℕ) → GathersAll names paths old new forms (qs r n)
 
+-- a command is done at once by itself, whatever was made
+abbrev pub IsAlone : Command → Type 0
+IsAlone c = (names : Names) (paths : ℕ) (m : Made) → GathersOf names paths m m (done_at_once (action_seen c ∷ []) ∷ []) (λ r n. phases r n (action_seen c))
+
 -- a phase has its code
 pub record Fixes (names : Names) (p : Placing) (factors : List ℕ) (old new : Made) (kept : Kept) (form : Form) (q : source.Phase) : Type 0 where
   pub more : MoreMade old new

@@ -1,9 +1,9 @@
 //! The phases of a command: what it does in each of its steps.
 
-ghost use Rattle.std.specs.Prelude.{◌≡◌, ◌<◌, ◌++◌, ◌∷◌, [], IfOk, length};
+ghost use Rattle.std.specs.Prelude.{◌≡◌, ◌<◌, ◌++◌, ◌∷◌, [], IfOk, length, true};
 ghost use Rattle.dh_tree.specs.Seen.{action_seen, plan_seen};
 ghost use Rattle.dh_tree.specs.ViewOffsets.{moves as moves_so};
-ghost use Rattle.dh_sem.specs.Gathered.{FixesForm, GathersGroups, GathersOf, HoldsAll, HoldsList, all_kept, at_once, commands_seen, ended_at, folded_with, joined_at, joined_with, kept_of, view_kept};
+ghost use Rattle.dh_sem.specs.Gathered.{FixesForm, GathersGroups, GathersOf, HoldsAll, HoldsList, IsAlone, all_kept, at_once, commands_seen, ended_at, folded_with, joined_at, joined_with, kept_of, view_kept};
 ghost use Rattle.dh_sem.specs.Gathered.{BeginsIf, Chooses, Counts, Repeats, done_at_once};
 ghost use Rattle.dh_sem.specs.Lanes.{LanesInside, MoreLanes};
 ghost use Rattle.dh_meaning.specs.Phases.{phases};
@@ -297,6 +297,26 @@ fn repeat<'a>(
     one(names.alloc, Loose::Other(Form::Loop { test, body }))
 }
 
+/// Whether a command is done in one step by itself, so that no phase has to be made to join it to
+/// those before it.
+fn stands_alone(command: &Command) -> bool
+    ensures { result ≡ true → IsAlone command.now }
+{
+    match &command.form {
+        CommandForm::Let { .. } => true,
+        CommandForm::Assign { .. } => true,
+        CommandForm::Store { .. } => true,
+        CommandForm::Reduce { .. } => true,
+        CommandForm::If { .. } => false,
+        CommandForm::While { .. } => false,
+        CommandForm::For { .. } => false,
+        CommandForm::Block { .. } => false,
+        CommandForm::LetMemory { .. } => false,
+        CommandForm::View { .. } => false,
+        CommandForm::Call { .. } => false,
+    }
+}
+
 /// The phases of a command that is done at these paths.
 #[cycle(gathering)]
 pub fn phases_in<'a>(
@@ -375,6 +395,10 @@ fn phases_in_parts<'a>(
     let mut current = Vec::new(names.alloc);
     for part in parts {
         for command in part {
+            if stands_alone(command) {
+                current.push(command)?;
+                continue;
+            }
             let next = phases_in(names, made, paths, command)?;
             join(names.alloc, &mut done, &mut current, next)?;
         }

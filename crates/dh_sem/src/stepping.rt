@@ -11,7 +11,9 @@ ghost use Rattle.dh_sem.specs.Steps.{Advances, BackIfStopped, BeginsTurn, Descen
 use crate::lanes::Lanes;
 use crate::phases::{Form, Frame, Phase, Turns};
 use dh_base::NoMemory;
-use dh_code::{Flat, Scene, State, Stop, Write, decide, release, run, set, slot, undo, write_all};
+use dh_code::{
+    Flat, Scene, State, Stop, Write, decide, release, run, set_slot, slot, undo, write_all,
+};
 use dh_tree::Memories;
 use std::alloc::Global;
 use std::mem;
@@ -97,7 +99,7 @@ fn set_copy(state: &mut State, ranks: &[u32], turns: &Turns, value: u64) -> Resu
     ensures sets { IfOk result (λ _. SetsCopy state.old state.new ranks.now turns.now value) }
 {
     if ranks.len() == turns.depth as usize + 1 {
-        set(state, slot(turns.first, turns.depth, ranks), value)?;
+        set_slot(state, slot(turns.first, turns.depth, ranks), value)?;
     }
     Ok(())
 }
@@ -191,6 +193,33 @@ fn descend(
     }
 }
 
+/// Goes into a list of phases, as `descend` does. (Often nothing is left of it, which takes no call.)
+#[inline(always)]
+fn go_into(
+    course: &Course<'_>,
+    state: &mut State,
+    frames: &mut Vec<Frame>,
+    list: Option<usize>,
+) -> Result<Option<usize>, NoMemory>
+    requires course { AreLinked course.now.phases.now course.now.lanes.now }
+    requires list { IsEarlier (length course.now.phases.now) list }
+    requires frames { AllByRecursion (IsSoundFrame (length course.now.phases.now))
+        frames.old.items }
+    ensures only { OnlyVariables state.old state.new }
+    ensures frames { IfOk result
+        (λ _. AllByRecursion (IsSoundFrame (length course.now.phases.now)) frames.new.items) }
+    ensures place { IfOk result (λ at. IsEarlier (length course.now.phases.now) at) }
+    ensures none { IfOk result (λ at.
+        NowhereIfNone list at state.old state.new frames.old.items frames.new.items) }
+    ensures descends { IfOk result (λ at.
+        Descends course.now list at state.old state.new frames.old.items frames.new.items) }
+{
+    if list.is_none() {
+        return Ok(None);
+    }
+    descend(course, state, frames, list)
+}
+
 /// The body of a phase that is a `while`, or the arm of an `if` by its test.
 fn arm(phase: &Phase, holds: bool) -> Option<usize>
     ensures { result ≡ arm_of phase.now.form holds }
@@ -272,7 +301,7 @@ fn follow(
         next state.old state.new frames.old.items frames.new.items) }
 {
     match frame {
-        Frame::List { list } => descend(course, state, frames, list),
+        Frame::List { list } => go_into(course, state, frames, list),
         Frame::Turn { at, turn } => next_turn(course, state, frames, at, turn),
         Frame::Test { at } => {
             if !holds {
@@ -310,13 +339,13 @@ pub fn go_on(
     ensures goes { IfOk result (λ at. GoesOn course.now at state.old state.new
         frames.old.items frames.new.items holds) }
 {
-    let Some(frame) = frames.pop() else {
-        return Ok(None);
-    };
-    match follow(course, state, frames, frame, holds)? {
-        Some(at) => Ok(Some(at)),
-        None => go_on(course, state, frames, holds),
+    while let Some(frame) = frames.pop() {
+        match follow(course, state, frames, frame, holds)? {
+            Some(at) => return Ok(Some(at)),
+            None => {}
+        }
     }
+    Ok(None)
 }
 
 /// Does the block of a phase, and goes on to the next one. Gives the phase of that, if there is one,

@@ -12,7 +12,7 @@ returns-in-Ok-clause-comes g c =
     λ engine.
     let read = c.in-Ok.ensures.read in
     let P : Bool → Type 0 = λ u. IsProgram (g.F.Files.seen c.args.files.now) (interpreted u) c.args.file.now (program_seen c.in-Ok.typed) in
-    inr (program_seen c.in-Ok.typed, (subst P (sym c.if-unchecked.true) read.0, c.interpret_typed.ensures.comes (g.F.Files.seen c.args.files.now) engine (record { keeps = c.in-Ok.ensures.files; read = read.1.0 })))
+    inr (program_seen c.in-Ok.typed, (subst P (sym c.if-unchecked.true) read.0, c.interpret_typed-reply.ensures.comes (g.F.Files.seen c.args.files.now) engine (record { keeps = c.in-Ok.ensures.files; read = read.1.0 })))
 
 pub returns-in-Err-clause-comes : goal.returns-in-Err-clause-comes
 returns-in-Err-clause-comes g c =
@@ -30,7 +30,7 @@ returns-in-Ok-read_program-clause-comes g c =
       program_seen c.typed.result.now,
       (
         subst Q (sym c.typed.ensures.typed) (subst P (sym c.if-unchecked.false) read.0),
-        c.interpret_typed-in-Ok-read_program.ensures.comes (g.F.Files.seen c.args.files.now) engine (record { keeps = c.in-Ok-read_program.ensures.files; read = read.1 }),
+        c.interpret_typed-reply-in-Ok-read_program.ensures.comes (g.F.Files.seen c.args.files.now) engine (record { keeps = c.in-Ok-read_program.ensures.files; read = read.1 }),
       ),
     )
 

@@ -10,8 +10,8 @@ use Rattle.dh_app.specs.Replies.{reply_seen}
 use Rattle.dh_app.proofs.Reported.{standing_reported}
 use Rattle.dh_app.proofs.interpreting.report_standing.Goals as goal
 
-pub report_ending-requires : goal.report_ending-requires
-report_ending-requires c =
+pub report_ending-reply-requires : goal.report_ending-reply-requires
+report_ending-reply-requires c =
     let p = program_seen c.args.typed.now in
     let T : List MemEntry → Type 0 = IsProgramTable in
     let P : List MemEntry → Type 0 = λ t. Fits t c.memories-2.result.now in
@@ -24,7 +24,7 @@ report_ending-requires c =
 pub returns : goal.returns
 returns c =
     let p = program_seen c.args.typed.now in
-    standing_reported p c.args.memories c.args.steps c.memories.result.now c.memories-2.result.now _ (reply_seen c.report_ending.result) c.memories.ensures
+    standing_reported p c.args.memories c.args.steps c.memories.result.now c.memories-2.result.now _ (reply_seen c.report_ending-reply.result) c.memories.ensures
     (c.memories-2.ensures ∙ memories_are p c.args.memories c.args.steps c.in-Ok.interp c.in-Ok.ensures)
     (ending_is p c.args.memories c.args.steps c.in-Ok.interp c.outcome.result c.steps.result c.outcome.ensures c.steps.ensures c.in-Ok.ensures)
-    c.report_ending.ensures
+    c.report_ending-reply.ensures

@@ -8,7 +8,7 @@ pub returns-in-Ok-clause-comes : goal.returns-in-Ok-clause-comes
 returns-in-Ok-clause-comes g c =
     λ engine.
     let read = c.in-Ok.ensures.read in
-    inr (program_seen c.in-Ok.accepted, (read.0, c.lower_program.ensures (inputs_of (g.F.Files.seen c.args.files.now) engine) (inputs_of (g.F.Files.seen c.read_program.new.files) engine) (record { read = read.1; idle = refl })))
+    inr (program_seen c.in-Ok.accepted, (read.0, c.lower_program-reply.ensures (inputs_of (g.F.Files.seen c.args.files.now) engine) (inputs_of (g.F.Files.seen c.read_program.new.files) engine) (record { read = read.1; idle = refl })))
 
 pub returns-in-Err-clause-comes : goal.returns-in-Err-clause-comes
 returns-in-Err-clause-comes g c = λ engine. inl (c.in-Err.ensures.read, refl)

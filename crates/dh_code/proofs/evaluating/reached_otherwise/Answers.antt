@@ -13,7 +13,7 @@ use Rattle.dh_code.specs.declared.codes.Target.{Target}
 use Rattle.dh_code.specs.declared.codes.Operand.{Operand}
 use Rattle.dh_extents.specs.Extents.{AreDims}
 use Rattle.dh_code.specs.Banks.{Spreads}
-use Rattle.dh_code.specs.Operated.{IsOperand, IsTarget, index_values, sight}
+use Rattle.dh_code.specs.Operated.{IsOperand, IsTarget, index_values, operand_word, sight}
 use Rattle.dh_code.proofs.Entries.{dims_is, dims_of, entry_at}
 use Rattle.dh_code.proofs.FoundSpots.{by_indices_leads, by_row_leads, by_views_leads}
 use Rattle.dh_code.proofs.evaluating.reached_otherwise.Goals as goal
@@ -46,7 +46,7 @@ returns-in-Row c =
     let has = subst (λ (t : Target). IsTarget c.args.scene.now.entries.now c.args.access.now.memory t) c.in-Row.is c.requires.access in
     by_row_leads c.args.scene.now (sight c.args.slots.now c.args.given.now c.args.ranks.now) c.args.access.now c.as_slice-dims-in-Row.result.now
     (c.as_slice-dims-in-Row.ensures ∙ sym (dims_is c.args.scene.now.entries.now c.args.access.now.memory c.index-scene-access-in-Row.result has.0.0)) has.0.0
-    c.in-Row.bank c.in-Row.row (to_z w128 (of_z w128 c.number.result)) c.in_row.result c.in-Row.is (to_z-of_z w128 c.number.result (sfits_lit (yes_ltb c.number.type_inv)) ∙ (c.number.ensures ∙ ap (λ w. words.value_of w) c.value_at.ensures.value)) has.0 c.in_row.ensures
+    c.in-Row.bank c.in-Row.row (to_z w128 (of_z w128 c.number.result)) c.in_row.result c.in-Row.is (to_z-of_z w128 c.number.result (sfits_lit (yes_ltb c.number.type_inv)) ∙ (c.number.ensures ∙ ap (λ w. words.value_of w) (c.value_at.ensures.value ∙ ap (λ (o : Operand). operand_word (sight c.args.slots.now c.args.given.now c.args.ranks.now) o) c.content.ensures))) has.0 c.in_row.ensures
 
 pub locate_through-requires-clause-dims : goal.locate_through-requires-clause-dims
 locate_through-requires-clause-dims c =
@@ -62,14 +62,14 @@ pub locate_through-requires-clause-fits : goal.locate_through-requires-clause-fi
 locate_through-requires-clause-fits c =
     let has = subst (λ (t : Target). IsTarget c.args.scene.now.entries.now c.args.access.now.memory t) c.in-Through.is c.requires.access in
     let same = c.as_slice-dims-in-Through.ensures ∙ sym (dims_is c.args.scene.now.entries.now c.args.access.now.memory c.index-scene-access-in-Through.result has.0) in
-    subst (λ (ds : List Dim). StepsFit ds (steps_of c.as_slice-in-Through.result.now) c.in-Through.count (length c.as_slice-in-Through-2.result.now)) (sym same)
-    (subst (λ (vs : List ViewMap). StepsFit (dims_at c.args.scene.now.entries.now c.args.access.now.memory) (steps_of vs) c.in-Through.count (length c.as_slice-in-Through-2.result.now)) (sym c.as_slice-in-Through.ensures)
-    (subst (λ (os : List Operand). StepsFit (dims_at c.args.scene.now.entries.now c.args.access.now.memory) (steps_of c.in-Through.views) c.in-Through.count (length os)) (sym c.as_slice-in-Through-2.ensures) has.1.0))
+    subst (λ (ds : List Dim). StepsFit ds (steps_of c.as_slice-links.result.now) c.in-Through.count (length c.as_slice-operands.result.now)) (sym same)
+    (subst (λ (vs : List ViewMap). StepsFit (dims_at c.args.scene.now.entries.now c.args.access.now.memory) (steps_of vs) c.in-Through.count (length c.as_slice-operands.result.now)) (sym (c.as_slice-links.ensures ∙ c.content-in-Through.ensures))
+    (subst (λ (os : List Operand). StepsFit (dims_at c.args.scene.now.entries.now c.args.access.now.memory) (steps_of c.in-Through.views) c.in-Through.count (length os)) (sym (c.as_slice-operands.ensures ∙ c.content-in-Through-2.ensures)) has.1.0))
 
 pub locate_through-requires-clause-operands : goal.locate_through-requires-clause-operands
 locate_through-requires-clause-operands c =
     let has = subst (λ (t : Target). IsTarget c.args.scene.now.entries.now c.args.access.now.memory t) c.in-Through.is c.requires.access in
-    subst (λ (os : List Operand). AllByRecursion IsOperand os) (sym c.as_slice-in-Through-2.ensures) has.1.1
+    subst (λ (os : List Operand). AllByRecursion IsOperand os) (sym (c.as_slice-operands.ensures ∙ c.content-in-Through-2.ensures)) has.1.1
 
 pub returns-in-Through : goal.returns-in-Through
 returns-in-Through c =
@@ -80,5 +80,5 @@ returns-in-Through c =
     by_views_leads c.args.scene.now w c.args.access.now ds
     (c.as_slice-dims-in-Through.ensures ∙ sym (dims_is c.args.scene.now.entries.now c.args.access.now.memory c.index-scene-access-in-Through.result has.0)) has.0
     c.in-Through.views n c.in-Through.operands c.in-Through.is c.locate_through.result
-    (subst (λ (vs : List ViewMap). SpreadsBehind ds (indices_through (steps_of vs) (take n (index_values w c.in-Through.operands)) (drop n (index_values w c.in-Through.operands))) c.locate_through.result) c.as_slice-in-Through.ensures
-    (subst (λ (os : List Operand). SpreadsBehind ds (indices_through (steps_of c.as_slice-in-Through.result.now) (take n (index_values w os)) (drop n (index_values w os))) c.locate_through.result) c.as_slice-in-Through-2.ensures c.locate_through.ensures.spreads)) c.locate_through.ensures.within
+    (subst (λ (vs : List ViewMap). SpreadsBehind ds (indices_through (steps_of vs) (take n (index_values w c.in-Through.operands)) (drop n (index_values w c.in-Through.operands))) c.locate_through.result) (c.as_slice-links.ensures ∙ c.content-in-Through.ensures)
+    (subst (λ (os : List Operand). SpreadsBehind ds (indices_through (steps_of c.as_slice-links.result.now) (take n (index_values w os)) (drop n (index_values w os))) c.locate_through.result) (c.as_slice-operands.ensures ∙ c.content-in-Through-2.ensures) c.locate_through.ensures.spreads)) c.locate_through.ensures.within

@@ -1,4 +1,4 @@
-use Rattle.std.proofs.Common.{ap, sym, ◌∙◌, map, add-one}
+use Rattle.std.proofs.Common.{ap, sym, ◌∙◌, map, add-one, subst}
 use Rattle.std.proofs.lemmas.Result.{IfOk-weaker}
 use Rattle.dh_tree.specs.PlainTrees.{accessed}
 use Rattle.dh_tree.specs.Seen.{form_seen, term_seen, terms}
@@ -6,7 +6,10 @@ use Rattle.dh_tree.proofs.SeenTerms.{access_is, number_is, truth_is, variable_is
 use Rattle.dh_tree.specs.declared.trees.expressions.Expr.{Expr}
 use Rattle.dh_meaning.specs.Bindings.{kind_found, kind_or_first}
 use Rattle.dh_code.specs.Extended.{extension_of}
-use Rattle.dh_code.specs.Flattening.{known_in, table_in}
+use Rattle.dh_meaning.specs.Effects.{kind_in}
+use Rattle.dh_code.specs.declared.codes.Operation.TheVariants.{Read}
+use Rattle.dh_code.specs.declared.codes.Target.{Target}
+use Rattle.dh_code.specs.Flattening.{IsOneMore, known_in, table_in}
 use Rattle.dh_code.proofs.FlattenedForms.{access_flat, bank_flat, bank_form, binary_form, cast_flat, cast_form, number_flat, operation_flat, truth_flat, variable_flat}
 use Rattle.dh_code.proofs.Flattened.{indices_end, indices_turn}
 use Rattle.dh_code.proofs.Ranges.{drop_past}
@@ -31,12 +34,14 @@ flatten-returns-in_ok-target-in-Access t c =
     (ap form_seen c.in-Access.is ∙ (access_is c.in-Access.of c.in-Access.indices ∙ ap (λ l. accessed c.in-Access.of (terms (map term_seen l))) (sym c.as_slice.ensures.value)))
     c.memory_of-memory.ensures c.in_ok-operands-in-Access.ensures c.in_ok-target-in-Access.ensures more) c.add_read.ensures
 
-pub flatten-returns-in_ok-row-in-Physical : goal.flatten-returns-in_ok-row-in-Physical
-flatten-returns-in_ok-row-in-Physical t c =
+pub flatten-returns-in_ok-target-in-Physical : goal.flatten-returns-in_ok-target-in-Physical
+flatten-returns-in_ok-target-in-Physical t c =
     IfOk-weaker c.add_read-in-Physical.result _ _ (λ o more n. bank_flat (known_in c.args.names.now) c.args.names.now.places.now (table_in c.args.names.now) c.args.value.now.place (kind_or_first c.args.value.now.kind) c.kind_found-kind.result c.kind_found-kind.ensures (form_seen c.args.value.now.form)
     c.args.code.now c.flatten.new.code c.add_read-in-Physical.new.code n c.in-Physical.of c.in-Physical.bank c.in-Physical.bank_place (term_seen c.deref.result.now) c.memory_of-memory-in-Physical.result c.in_ok-row-in-Physical.row o
     (bank_form c.args.value.now.form c.in-Physical.of c.in-Physical.bank c.in-Physical.bank_place c.in-Physical.row c.in-Physical.is c.deref.result.now c.deref.ensures)
-    c.memory_of-memory-in-Physical.ensures c.in_ok-row-in-Physical.ensures more) c.add_read-in-Physical.ensures
+    c.memory_of-memory-in-Physical.ensures c.in_ok-row-in-Physical.ensures
+    (subst (λ (x : Target). IsOneMore c.flatten.new.code c.add_read-in-Physical.new.code (Read (record { place = c.args.value.now.place; memory = c.memory_of-memory-in-Physical.result; target = x })) (kind_in (table_in c.args.names.now) c.memory_of-memory-in-Physical.result) o)
+    c.in_ok-target-in-Physical.ensures more)) c.add_read-in-Physical.ensures
 
 pub flatten-returns-in_ok-b-in-Binary-2 : goal.flatten-returns-in_ok-b-in-Binary-2
 flatten-returns-in_ok-b-in-Binary-2 t c =

@@ -1,13 +1,14 @@
-use Rattle.std.proofs.Common.{List, option_map, refl, ap, sym, ◌∙◌, subst}
+use Rattle.std.proofs.Common.{List, [], ◌∷◌, option_map, refl, ap, sym, ◌∙◌, subst}
 use Rattle.std.proofs.lemmas.List.{drop_all}
 use Rattle.std.proofs.lemmas.Result.{IfOk-weaker}
 use Rattle.dh_tree.proofs.SeenActions as known
 use Rattle.dh_tree.specs.Seen.{action_seen, action_form_seen, low_seen, high_seen, maybe_seen, plan_seen, unroll_seen}
 use Rattle.dh_meaning.specs.Phases.{other_phases}
-use Rattle.dh_sem.specs.Gathered.{GathersGroups, GathersOf, Kept, all_kept, commands_seen}
+use Rattle.dh_tree.specs.PlainTrees.{Action}
+use Rattle.dh_sem.specs.Gathered.{GathersGroups, GathersOf, Kept, all_kept, commands_seen, done_at_once, joined_at}
 use Rattle.dh_sem.proofs.GatheredCommands.{alone_as, choice_as, loop_as, nothing_as, view_as}
 use Rattle.dh_sem.proofs.GatheredLoops.{block_as, found_as, idle_as, lacks_as, turns_as}
-use Rattle.dh_sem.proofs.GatheredLists.{PartsAt, command_turn, commands_begin, part_end, parts_begin, parts_end}
+use Rattle.dh_sem.proofs.GatheredLists.{PartsAt, command_turn, commands_begin, part_end, parts_begin, parts_end, seen_more}
 use Rattle.dh_sem.proofs.gathering.+gathering.Goals.{phases_in-in-Some+in_ok-other-in-Some, phases_in-in-None, phases_in-in-Some-combine+in_ok-folds-in-Some-combine, phases_in-in-None-combine}
 use Rattle.dh_sem.proofs.gathering.+gathering.Goals as goal
 
@@ -76,6 +77,13 @@ pub phases_in_parts-loop-command-init : goal.phases_in_parts-loop-command-init
 phases_in_parts-loop-command-init t c r n =
     commands_begin c.args.names.now c.args.paths c.args.made.now c.loop-part.made (all_kept c.loop-part.done.items) (commands_seen c.loop-part.current.items) c.args.parts.now c.loop-part.part-index c.part-item.result c.deref-command-items.result.now r n
     c.loop-part-test.true c.part-item.is c.deref-command-items.ensures.value (ap commands_seen c.loop-part.invariant.0) (c.loop-part.invariant.1 r n)
+
+pub phases_in_parts-loop-command-preserved-then-stands_alone : goal.phases_in_parts-loop-command-preserved-then-stands_alone
+phases_in_parts-loop-command-preserved-then-stands_alone t c r n =
+    command_turn c.args.names.now c.args.paths c.args.made.now c.loop-command.made c.loop-command.made (all_kept c.loop-command.done.items) (all_kept c.loop-command.done.items) (commands_seen c.loop-command.current.items) (commands_seen c.push.new.self.items) (done_at_once (action_seen c.command-item.result ∷ []) ∷ [])
+    c.args.parts.now c.loop-part.part-index c.deref-command-items.result.now c.loop-command.command-index c.command-item.result r n
+    c.loop-command-test.true c.command-item.is (c.stands_alone.ensures c.if-stands_alone.true c.args.names.now c.args.paths c.loop-command.made)
+    (ap (λ (l : List Action). joined_at (all_kept c.loop-command.done.items) l) (seen_more c.loop-command.current.items c.push.new.self.items _ c.in_ok-push.ensures.items)) (c.loop-command.invariant r n)
 
 pub phases_in_parts-loop-command-preserved : goal.phases_in_parts-loop-command-preserved
 phases_in_parts-loop-command-preserved t c r n =

@@ -9,9 +9,9 @@ use Rattle.dh_sem.proofs.stepping.follow.Goals as goal
 
 pub returns-in-List-clause-follows : goal.returns-in-List-clause-follows
 returns-in-List-clause-follows c =
-    IfOk-weaker c.descend.result _ _ (λ found h. subst (λ (f : Frame). Follows c.args.course.now f c.args.holds found c.args.state.now c.descend.new.state c.args.frames.now.items c.descend.new.frames.items) (sym c.in-List.is)
-    (list_follows c.args.course.now c.in-List.list found c.args.holds c.args.state.now c.descend.new.state c.args.frames.now.items c.descend.new.frames.items h.0 h.1))
-    (ok_both c.descend.result _ _ c.descend.ensures.none c.descend.ensures.descends)
+    IfOk-weaker c.go_into.result _ _ (λ found h. subst (λ (f : Frame). Follows c.args.course.now f c.args.holds found c.args.state.now c.go_into.new.state c.args.frames.now.items c.go_into.new.frames.items) (sym c.in-List.is)
+    (list_follows c.args.course.now c.in-List.list found c.args.holds c.args.state.now c.go_into.new.state c.args.frames.now.items c.go_into.new.frames.items h.0 h.1))
+    (ok_both c.go_into.result _ _ c.go_into.ensures.none c.go_into.ensures.descends)
 
 pub returns-in-Turn-clause-follows : goal.returns-in-Turn-clause-follows
 returns-in-Turn-clause-follows c =
@@ -20,19 +20,19 @@ returns-in-Turn-clause-follows c =
 
 pub returns-in_ok-push-in-Test-clause-light : goal.returns-in_ok-push-in-Test-clause-light
 returns-in_ok-push-in-Test-clause-light c =
-    IfOk-weaker c.descend-in-Test.result _ _ (λ found h. subst (λ (f : Frame). Lightens found f c.args.state.now c.descend-in-Test.new.state c.args.frames.now.items c.descend-in-Test.new.frames.items) (sym c.in-Test.is)
-    (test_light c.args.course.now c.in-Test.at c.arm.result found c.args.state.now c.descend-in-Test.new.state c.args.frames.now.items c.push.new.self.items c.descend-in-Test.new.frames.items c.in_ok-push-in-Test.ensures.items h))
-    c.descend-in-Test.ensures.none
+    IfOk-weaker c.descend.result _ _ (λ found h. subst (λ (f : Frame). Lightens found f c.args.state.now c.descend.new.state c.args.frames.now.items c.descend.new.frames.items) (sym c.in-Test.is)
+    (test_light c.args.course.now c.in-Test.at c.arm.result found c.args.state.now c.descend.new.state c.args.frames.now.items c.push.new.self.items c.descend.new.frames.items c.in_ok-push-in-Test.ensures.items h))
+    c.descend.ensures.none
 
 pub returns-in_ok-push-in-Test-clause-follows : goal.returns-in_ok-push-in-Test-clause-follows
 returns-in_ok-push-in-Test-clause-follows c =
-    IfOk-weaker c.descend-in-Test.result _ _ (λ found h.
-    subst (λ (f : Frame). Follows c.args.course.now f c.args.holds found c.args.state.now c.descend-in-Test.new.state c.args.frames.now.items c.descend-in-Test.new.frames.items) (sym c.in-Test.is)
-    (subst (λ (b : Bool). Follows c.args.course.now (Test c.in-Test.at) b found c.args.state.now c.descend-in-Test.new.state c.args.frames.now.items c.descend-in-Test.new.frames.items) (sym c.if-not-holds.false)
-    (test_follows c.args.course.now c.in-Test.at c.phase_at-phase.result.now found c.args.state.now c.descend-in-Test.new.state c.args.frames.now.items c.push.new.self.items c.descend-in-Test.new.frames.items c.phase_at-phase.ensures c.in_ok-push-in-Test.ensures.items
-    (subst (λ (l : Option ℕ). NowhereIfNone l found c.args.state.now c.descend-in-Test.new.state c.push.new.self.items c.descend-in-Test.new.frames.items) c.arm.ensures h.0)
-    (subst (λ (l : Option ℕ). Descends c.args.course.now l found c.args.state.now c.descend-in-Test.new.state c.push.new.self.items c.descend-in-Test.new.frames.items) c.arm.ensures h.1))))
-    (ok_both c.descend-in-Test.result _ _ c.descend-in-Test.ensures.none c.descend-in-Test.ensures.descends)
+    IfOk-weaker c.descend.result _ _ (λ found h.
+    subst (λ (f : Frame). Follows c.args.course.now f c.args.holds found c.args.state.now c.descend.new.state c.args.frames.now.items c.descend.new.frames.items) (sym c.in-Test.is)
+    (subst (λ (b : Bool). Follows c.args.course.now (Test c.in-Test.at) b found c.args.state.now c.descend.new.state c.args.frames.now.items c.descend.new.frames.items) (sym c.if-not-holds.false)
+    (test_follows c.args.course.now c.in-Test.at c.phase_at-phase.result.now found c.args.state.now c.descend.new.state c.args.frames.now.items c.push.new.self.items c.descend.new.frames.items c.phase_at-phase.ensures c.in_ok-push-in-Test.ensures.items
+    (subst (λ (l : Option ℕ). NowhereIfNone l found c.args.state.now c.descend.new.state c.push.new.self.items c.descend.new.frames.items) c.arm.ensures h.0)
+    (subst (λ (l : Option ℕ). Descends c.args.course.now l found c.args.state.now c.descend.new.state c.push.new.self.items c.descend.new.frames.items) c.arm.ensures h.1))))
+    (ok_both c.descend.result _ _ c.descend.ensures.none c.descend.ensures.descends)
 
 pub returns-in_ok-push-in-Again-clause-follows : goal.returns-in_ok-push-in-Again-clause-follows
 returns-in_ok-push-in-Again-clause-follows c =

@@ -1,5 +1,5 @@
 -- What a run begins with can go on, and stands as the checked semantics says before the first step.
-use Rattle.std.proofs.Common.{ℕ, ◌≤◌, [], ◌∷◌, ◌++◌, length, replicate, ap, sym, subst, ◌∙◌}
+use Rattle.std.proofs.Common.{[], ◌∷◌, ◌++◌, length, replicate, ap, sym, subst, ◌∙◌}
 use Rattle.dh_tree.specs.declared.trees.programs.Tree.{Tree}
 use Rattle.dh_tree.specs.PlainTrees.{Action}
 use Rattle.dh_tree.specs.Seen.{action_seen, program_seen}
