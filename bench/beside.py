@@ -9,6 +9,8 @@ import time
 
 # What ./dahlia sets: malloc of the GNU C library asks the kernel for huge pages.
 HUGE_PAGES = 'glibc.malloc.hugetlb=1'
+# The program that tells how much memory another takes.
+TIME = '/usr/bin/time'
 
 
 def peer_and_rest(arguments):
@@ -27,18 +29,44 @@ def without(word, arguments):
 
 
 def measured(words, folder):
-    """The seconds of a call, the most memory that it held in KiB, and what it wrote."""
+    """The seconds of a call, and what it wrote."""
     began = time.perf_counter()
-    with subprocess.Popen(words, cwd=folder, stdin=subprocess.DEVNULL, stdout=subprocess.PIPE, stderr=subprocess.DEVNULL) as call:
-        written = call.stdout.read()
-        _, status, usage = os.wait4(call.pid, 0)
-        call.returncode = os.waitstatus_to_exitcode(status)
-    return time.perf_counter() - began, usage.ru_maxrss, written
+    written = subprocess.run(words, cwd=folder, stdin=subprocess.DEVNULL, stdout=subprocess.PIPE,
+                             stderr=subprocess.DEVNULL, check=False).stdout
+    return time.perf_counter() - began, written
 
 
-def ratios(program, peer, words, folder, rounds):
-    """How many times as long, and how many times as much memory, the program takes as the peer, by medians of
-    calls made in turn; and whether both wrote the same."""
-    calls = [(measured([program] + words, folder), measured([peer] + words, folder)) for _ in range(rounds)]
-    ours, theirs = ([statistics.median(pair[side][what] for pair in calls) for what in (0, 1)] for side in (0, 1))
-    return ours[0] / theirs[0], ours[1] / theirs[1], calls[0][0][2] == calls[0][1][2]
+def in_turn(calls, folder, rounds):
+    """What `measured` tells of each of these calls, of as many rounds, made in turn: so all of them meet what else
+    runs on the machine alike."""
+    told = [[] for _ in calls]
+    for _ in range(rounds):
+        for words, of_call in zip(calls, told):
+            of_call.append(measured(words, folder))
+    return told
+
+
+def least(told):
+    """The least time of a call. What else runs on a machine only adds to the time of a call, so the least of many tells
+    most of the call itself."""
+    return min(time_ for time_, _ in told)
+
+
+def median(told):
+    """The median time of a call."""
+    return statistics.median(time_ for time_, _ in told)
+
+
+def are_same(*told):
+    """Whether these calls wrote the same."""
+    return len({of_call[0][1] for of_call in told}) == 1
+
+
+def memory(words, folder):
+    """The most memory in KiB that a call holds. (What Python tells of a call that it makes itself is at least what
+    Python holds.)"""
+    if not os.path.exists(TIME):
+        raise SystemExit(f'bench: {TIME} is not installed (Debian: apt-get install time)')
+    told = subprocess.run([TIME, '--format=%M'] + words, cwd=folder, stdin=subprocess.DEVNULL, stdout=subprocess.DEVNULL,
+                          stderr=subprocess.PIPE, check=False).stderr
+    return int(told.split()[-1])
