@@ -52,9 +52,12 @@ def least(told):
     return min(time_ for time_, _ in told)
 
 
-def median(told):
-    """The median time of a call."""
-    return statistics.median(time_ for time_, _ in told)
+def paired(told, others, start=0.0, other_start=0.0):
+    """How many times as long one call takes as another, without the starts of their processes: the median over the
+    rounds, in each of which both were made one soon after the other, so that what slows the machine for a while slows
+    both."""
+    return statistics.median(max(one - start, 1e-9) / max(other - other_start, 1e-9)
+                             for (one, _), (other, _) in zip(told, others))
 
 
 def are_same(*told):
