@@ -1,4 +1,3 @@
-pub mod PlanForms
 pub mod BlockEquations
 pub mod ImageReadings
 pub mod TestedRanges

@@ -11,15 +11,17 @@ ghost use Rattle.dh_address.specs.Images.{IsImage};
 ghost use Rattle.dh_address.specs.SeenPlan.{AreImages};
 
 use crate::blocks::push_block;
-use crate::copying::{copy_meets, copy_nodes};
 use crate::cutting::cut_blocks;
 use crate::probing::any_takes_probe;
 use crate::ranging::OldBlock;
 use dh_base::{Items, NoMemory};
 use dh_plan::{Plan, PlanBlock};
 use dh_rows::OperationList;
-use dh_tree::copy_table;
 use std::alloc::Global;
+
+/// Mostly at most so many operations come in place of one, so that their list is not moved while it grows; room that is
+/// not used is never touched.
+const MOSTLY_FOR_ONE: usize = 2;
 
 /// The blocks of the plan with banks and rows in place of indices.
 fn address_blocks(alloc: Global, plan: &Plan) -> Result<Items<PlanBlock>, NoMemory>
@@ -27,7 +29,8 @@ fn address_blocks(alloc: Global, plan: &Plan) -> Result<Items<PlanBlock>, NoMemo
     requires views { AllByRecursion IsViewMap plan.now.views }
     ensures { IfOk result (AreImages (plan_seen plan.now)) }
 {
-    let mut list = OperationList::new(alloc);
+    let room = plan.operation_count().saturating_mul(MOSTLY_FOR_ONE);
+    let mut list = OperationList::with_room(alloc, room)?;
     let mut starts = Vec::new(alloc);
     let mut first = 0u128;
     for block in plan.blocks.as_slice() {
@@ -46,20 +49,30 @@ fn address_blocks(alloc: Global, plan: &Plan) -> Result<Items<PlanBlock>, NoMemo
     cut_blocks(alloc, list.into_vec(), starts.as_slice())
 }
 
-/// The plan with banks and rows in place of indices, made block by block.
-fn made_of_pieces(alloc: Global, plan: &Plan) -> Result<Plan, NoMemory>
-    requires table { IsProgramTable plan.now.table }
-    requires views { AllByRecursion IsViewMap plan.now.views }
-    ensures { IfOk result (λ q. IsImage (plan_seen plan.now) (plan_seen q)) }
+/// The plan with banks and rows in place of indices, made block by block; all else of it is kept as it is.
+fn made_of_pieces(alloc: Global, plan: Plan) -> Result<Plan, NoMemory>
+    requires table { IsProgramTable plan.table }
+    requires views { AllByRecursion IsViewMap plan.views }
+    ensures { IfOk result (λ q. IsImage (plan_seen plan) (plan_seen q)) }
 {
+    let made = address_blocks(alloc, &plan)?;
+    let Plan {
+        table,
+        views: _views,
+        registers,
+        blocks: _blocks,
+        body,
+        meets,
+        faults,
+    } = plan;
     Ok(Plan {
-        table: copy_table(alloc, plan.table.as_slice())?,
+        table,
         views: Items::new(alloc),
-        registers: Items::from_vec(Vec::from_slice(alloc, plan.registers.as_slice())?),
-        blocks: address_blocks(alloc, plan)?,
-        body: copy_nodes(alloc, plan.body.as_slice())?,
-        meets: copy_meets(alloc, &plan.meets)?,
-        faults: Items::from_vec(Vec::from_slice(alloc, plan.faults.as_slice())?),
+        registers,
+        blocks: made,
+        body,
+        meets,
+        faults,
     })
 }
 
@@ -69,9 +82,9 @@ fn made_of_pieces(alloc: Global, plan: &Plan) -> Result<Plan, NoMemory>
 /// # Errors
 ///
 /// `NoMemory` where an allocation was refused.
-pub fn addresses(alloc: Global, plan: &Plan) -> Result<Plan, NoMemory>
-    requires { IsSound (plan_seen plan.now) }
-    ensures { IfOk result (λ q. IsAddressingOf (plan_seen plan.now) (plan_seen q)) }
+pub fn addresses(alloc: Global, plan: Plan) -> Result<Plan, NoMemory>
+    requires { IsSound (plan_seen plan) }
+    ensures { IfOk result (λ q. IsAddressingOf (plan_seen plan) (plan_seen q)) }
 {
     made_of_pieces(alloc, plan)
 }

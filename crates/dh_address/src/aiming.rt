@@ -13,7 +13,7 @@ use crate::operands::{Operand, values_of};
 use crate::ranging::{OldBlock, bank_total, dims_in, element_total};
 use crate::renumbering::Renumbering;
 use dh_base::{Items, NoMemory};
-use dh_plan::Reach;
+use dh_plan::{ApartReach, Reach};
 use dh_rows::{OperationList, bit_length, push_constant, push_convert, push_or_zero, spread};
 use dh_tree::Dim;
 
@@ -130,10 +130,10 @@ fn aimed(
     reach: &Reach,
     indices: Items<u64>,
     aim: Aim,
-) -> Result<Reach, NoMemory>
+) -> Result<ApartReach, NoMemory>
     ensures { IfOk result (λ t. t ≡ aimed reach.now indices aim.row aim.select) }
 {
-    Ok(Reach {
+    let aimed = Reach {
         access: reach.access,
         memory: reach.memory,
         indices,
@@ -141,7 +141,8 @@ fn aimed(
         banks: Items::from_vec(Vec::from_slice(old.alloc, reach.banks.as_slice())?),
         select: aim.select,
         row: Some(aim.row),
-    })
+    };
+    ApartReach::new(old.alloc, aimed)
 }
 
 /// The access of a row, which an access by a row stays.
@@ -150,7 +151,7 @@ fn aim_row(
     known: &Renumbering,
     reach: &Reach,
     row: u64,
-) -> Result<Reach, NoMemory>
+) -> Result<ApartReach, NoMemory>
     ensures { IfOk result (λ t. t ≡ aimed reach.now
         (all_taken (around_seen old.now known.now) reach.now)
         (new_number (around_seen old.now known.now) row)
@@ -169,7 +170,7 @@ fn aim_indices(
     known: &Renumbering,
     reach: &Reach,
     indices: &[Operand],
-) -> Result<Reach, NoMemory>
+) -> Result<ApartReach, NoMemory>
     requires { IsProgramTable old.now.table.now }
     ensures { IfOk result (IsAimedByIndices (around_seen old.now known.now) reach.now indices.now
         list.old list.new) }
@@ -189,7 +190,7 @@ pub fn aim_reach(
     known: &Renumbering,
     reach: &Reach,
     indices: &[Operand],
-) -> Result<Reach, NoMemory>
+) -> Result<ApartReach, NoMemory>
     requires { IsProgramTable old.now.table.now }
     ensures { IfOk result (IsAimed (around_seen old.now known.now) reach.now reach.now.row
         indices.now list.old list.new) }

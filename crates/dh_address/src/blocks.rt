@@ -192,13 +192,13 @@ fn push_piece(
             let ok = known.number(*ok);
             list.push(guard, OperationForm::Check { ok, fault: *fault })
         }
-        OperationForm::Probe { access, fault } => push_probe(
-            list, old, known, guard, access, *fault,
-        ),
-        OperationForm::Read { access } => push_read(list, old, known, guard, access),
-        OperationForm::Write { access, value } => push_write(
-            list, old, known, guard, access, *value,
-        ),
+        OperationForm::Probe { access, fault } => {
+            push_probe(list, old, known, guard, access.content(), *fault)
+        }
+        OperationForm::Read { access } => push_read(list, old, known, guard, access.content()),
+        OperationForm::Write { access, value } => {
+            push_write(list, old, known, guard, access.content(), *value)
+        }
         OperationForm::Set { register, value } => {
             let value = known.number(*value);
             list.push(

@@ -8,7 +8,6 @@
 mod addressing;
 mod aiming;
 mod blocks;
-mod copying;
 mod cutting;
 mod dealing;
 mod literals;

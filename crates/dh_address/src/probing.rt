@@ -81,10 +81,11 @@ fn form_of_probe(operations: &[Operation], first: u128, form: &OperationForm) ->
                 || is_of_probe(operations, first, *no)
         }
         OperationForm::Check { ok, .. } => is_of_probe(operations, first, *ok),
-        OperationForm::Probe { access, .. } => reach_of_probe(operations, first, access),
-        OperationForm::Read { access } => reach_of_probe(operations, first, access),
+        OperationForm::Probe { access, .. } => reach_of_probe(operations, first, access.content()),
+        OperationForm::Read { access } => reach_of_probe(operations, first, access.content()),
         OperationForm::Write { access, value } => {
-            is_of_probe(operations, first, *value) || reach_of_probe(operations, first, access)
+            is_of_probe(operations, first, *value)
+                || reach_of_probe(operations, first, access.content())
         }
         OperationForm::Set { value, .. } => is_of_probe(operations, first, *value),
     }

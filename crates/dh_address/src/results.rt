@@ -59,7 +59,7 @@ pub fn kind_given(
         OperationForm::Select { yes, .. } => known.kind(*yes),
         OperationForm::Check { .. } => Kind::Bool,
         OperationForm::Probe { .. } => Kind::Bool,
-        OperationForm::Read { access } => element_kind(table, access.memory),
+        OperationForm::Read { access } => element_kind(table, access.content().memory),
         OperationForm::Write { .. } => Kind::Bool,
         OperationForm::Set { .. } => Kind::Bool,
     }

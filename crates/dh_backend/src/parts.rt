@@ -61,9 +61,9 @@ fn pass(alloc: Global, plan: &Plan) -> Result<Passed, NoMemory>
 /// # Errors
 ///
 /// `NoMemory` where an allocation was refused.
-pub fn parts_of(alloc: Global, plan: &Plan) -> Result<NetParts, NoMemory>
-    requires { IsCompiled (plan_seen plan.now) }
-    ensures { IfOk result (ArePartsOf (plan_seen plan.now)) }
+pub fn parts_of(alloc: Global, plan: Plan) -> Result<NetParts, NoMemory>
+    requires { IsCompiled (plan_seen plan) }
+    ensures { IfOk result (ArePartsOf (plan_seen plan)) }
 {
     let plan = addresses(alloc, plan)?;
     match pass(alloc, &plan) {

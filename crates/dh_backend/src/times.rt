@@ -29,7 +29,7 @@ fn narrow(alloc: Global, numbers: &[u128]) -> Result<Items<u64>, NoMemory>
     ensures low { IfOk result (λ words. words ≡ low_words numbers.now) }
     ensures few { IfOk result (λ words. length words < 2 ^ 63) }
 {
-    let mut words = Vec::new(alloc);
+    let mut words = Vec::with_capacity(alloc, numbers.len())?;
     for number in numbers {
         words.push((*number % WORD) as u64)?;
     }

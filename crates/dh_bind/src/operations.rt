@@ -11,8 +11,8 @@ pub fn use_of(operation: &Operation) -> Option<&Reach>
     ensures { option_copied result ≡ use_in operation.now.form }
 {
     match &operation.form {
-        OperationForm::Read { access } => Some(access),
-        OperationForm::Write { access, value: _ } => Some(access),
+        OperationForm::Read { access } => Some(access.content()),
+        OperationForm::Write { access, value: _ } => Some(access.content()),
         OperationForm::Constant { word: _ } => None,
         OperationForm::Old { register: _ } => None,
         OperationForm::Compute {

@@ -26,6 +26,10 @@ use dh_plan::{Binding, Decision, Plan, State};
 use dh_tree::copy_table;
 use std::alloc::Global;
 
+/// Mostly an operation takes at most so many cells, so that their list is not moved while it grows; room that is not
+/// used is never touched.
+const CELLS_FOR_AN_OPERATION: usize = 4;
+
 /// A circuit over the memories of a plan and the registers of its net, without a cell.
 pub fn start_circuit(alloc: Global, plan: &Plan, sizes: &Sizes) -> Result<Circuit, NoMemory>
     ensures { IfOk result (λ circuit. IsOver circuit (plan_seen plan.now) sizes.now) }
@@ -33,7 +37,8 @@ pub fn start_circuit(alloc: Global, plan: &Plan, sizes: &Sizes) -> Result<Circui
     let further = sizes.widths.as_slice();
     let table = copy_table(alloc, plan.table.as_slice())?;
     let widths = all_widths(alloc, sizes.clock_width, sizes.state_width, further)?;
-    Ok(Circuit::new(alloc, table, widths))
+    let room = plan.operation_count().saturating_mul(CELLS_FOR_AN_OPERATION);
+    Circuit::with_room(alloc, table, widths, room)
 }
 
 /// The registers of the net of a plan whose thread begins by a decision, by the wires of its control.

@@ -6,7 +6,7 @@ use dh_net::CellForm;
 use std::alloc::Global;
 
 // No wire.
-const NONE: u64 = u64::MAX;
+const NONE: u32 = u32::MAX;
 
 /// What is told of a cell that is sought.
 #[derive(Clone, Copy, Debug)]
@@ -19,13 +19,13 @@ pub enum Sought {
     Untold,
 }
 
-/// What is kept of a wire.
+/// What is kept of a wire. A wire that has no number of 32 bits is in no chain.
 #[derive(Clone, Copy, Debug)]
 struct Link {
     // The latest cell of the chain over it.
-    latest: u64,
+    latest: u32,
     // The cell before its own one, in the chain of that.
-    before: u64,
+    before: u32,
 }
 
 /// For each wire a chain of cells that take it, from the latest to the first. No contract tells which cells are in it,
@@ -82,12 +82,25 @@ pub fn other_taken(form: CellForm) -> Option<u64> {
 }
 
 // The wire, where it is one.
-fn wire_of(number: u64) -> Option<u64> {
-    if number == NONE { None } else { Some(number) }
+fn wire_of(number: u32) -> Option<u64> {
+    if number == NONE {
+        None
+    } else {
+        Some(number as u64)
+    }
+}
+
+// The wire in 32 bits, where it has such a number.
+fn short(wire: usize) -> u32 {
+    if wire < NONE as usize {
+        wire as u32
+    } else {
+        NONE
+    }
 }
 
 // Makes the cell the latest one over a wire, and answers the one before it.
-fn lead(links: &mut [Link], taken: u64, cell: u64) -> u64 {
+fn lead(links: &mut [Link], taken: u64, cell: u32) -> u32 {
     let at = taken as usize;
     if at < links.len() {
         let Link { latest, before } = links[at];
@@ -102,11 +115,10 @@ fn lead(links: &mut [Link], taken: u64, cell: u64) -> u64 {
 }
 
 impl Chains {
-    /// No chain, of no wire.
-    pub fn new(alloc: Global) -> Chains {
-        Chains {
-            links: Vec::new(alloc),
-        }
+    /// No chain, of no wire, with room for so many wires.
+    pub fn with_room(alloc: Global, count: usize) -> Result<Chains, NoMemory> {
+        let links = Vec::with_capacity(alloc, count)?;
+        Ok(Chains { links })
     }
 
     /// The latest cell of the chain over a wire.
@@ -132,7 +144,7 @@ impl Chains {
 
     /// Adds the next wire, whose cell is the latest one over another.
     pub fn add_over(&mut self, taken: u64) -> Result<(), NoMemory> {
-        let cell = self.links.len() as u64;
+        let cell = short(self.links.len());
         let before = lead(self.links.as_mut_slice(), taken, cell);
         self.links.push(Link {
             latest: NONE,

@@ -81,17 +81,28 @@ fn is_same(found: Cell, cell: Cell) -> bool
 }
 
 impl Circuit {
-    /// The circuit over these memories and registers of these widths, without a cell.
-    pub fn new(alloc: Global, table: MemTable, widths: Items<u8>) -> Circuit
-        ensures { result ≡ circuit_of table widths [] }
+    /// The circuit over these memories and registers of these widths, without a cell, with room for so many.
+    ///
+    /// # Errors
+    ///
+    /// `NoMemory` where an allocation was refused.
+    pub fn with_room(
+        alloc: Global,
+        table: MemTable,
+        widths: Items<u8>,
+        count: usize,
+    ) -> Result<Circuit, NoMemory>
+        ensures { IfOk result (λ circuit. circuit ≡ circuit_of table widths []) }
     {
-        Circuit {
+        let cells = Items::with_room(alloc, count)?;
+        let chains = Chains::with_room(alloc, count)?;
+        Ok(Circuit {
             table,
             widths,
-            cells: Items::new(alloc),
-            chains: Chains::new(alloc),
+            cells,
+            chains,
             made: IndexMap::new(alloc),
-        }
+        })
     }
 
     /// The wire of a cell: the one that was made, or a new one.

@@ -40,14 +40,6 @@ pub enum CompileFault {
     NoMemory,
 }
 
-/// What the net of a plan is made of. The plan is let go, and its memory serves what is made then.
-fn parts_of_plan(alloc: Global, plan: Plan) -> Result<NetParts, NoMemory>
-    requires { IsCompiled (plan_seen plan) }
-    ensures { IfOk result (ArePartsOf (plan_seen plan)) }
-{
-    parts_of(alloc, &plan)
-}
-
 /// The net of what it is made of, with a driver for each operation that has a port. The parts are let go.
 fn whole_net(alloc: Global, parts: NetParts) -> Result<Net, NoMemory>
     requires { CanBuild (plan_seen parts.plan) parts.passed.graph
@@ -105,7 +97,7 @@ fn net_of_plan(alloc: Global, plan: Plan) -> Result<Net, NoMemory>
     ensures { (p : Program) → IsToCompile p → IsPlanOf p (plan_seen plan)
         → IfOk result (IsNetOfProgram p) }
 {
-    let parts = parts_of_plan(alloc, plan)?;
+    let parts = parts_of(alloc, plan)?;
     net_of_parts(alloc, parts)
 }
 

@@ -209,6 +209,7 @@ pub fn push_use(
         OperationForm::Read { access } => {
             let now = push_both(circuit, times.active, times.own)?;
             let test = push_guard(circuit, now, wires, operation.guard)?;
+            let access = access.content();
             let memory = memories[access.memory as usize];
             push_reach(
                 circuit, kinds, wires, access, test, false, 0, memory, pairs, drivers,
@@ -217,6 +218,7 @@ pub fn push_use(
         }
         OperationForm::Write { access, value } => {
             let test = push_guard(circuit, times.commit, wires, operation.guard)?;
+            let access = access.content();
             let memory = memories[access.memory as usize];
             let data = wires[*value as usize];
             push_reach(

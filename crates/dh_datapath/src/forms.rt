@@ -76,7 +76,9 @@ pub fn kind_given(plan: &Plan, first: u64, kinds: &[Kind], form: &OperationForm)
             yes,
             no: _,
         } => kind_before(first, kinds, *yes),
-        OperationForm::Read { access } => element_kind(plan.table.as_slice(), access.memory),
+        OperationForm::Read { access } => {
+            element_kind(plan.table.as_slice(), access.content().memory)
+        }
         OperationForm::Check { ok: _, fault: _ } => Kind::Bool,
         OperationForm::Probe {
             access: _,
@@ -128,6 +130,7 @@ pub fn push_form(
             push_selected(circuit, first, kinds, wires, *test, *yes, *no)
         }
         OperationForm::Read { access } => {
+            let access = access.content();
             let element = width(element_kind(plan.table.as_slice(), access.memory));
             push_read(circuit, element, ports, first, kinds, wires, access)
         }

@@ -22,7 +22,7 @@ use crate::kinds::narrow;
 use crate::naming::{banks_behind, way_in};
 use crate::scenes::{Lane, Scene, guard_at};
 use dh_base::{Items, NoMemory};
-use dh_plan::{OperationForm, Reach, ReachStep};
+use dh_plan::{ApartReach, OperationForm, Reach, ReachStep};
 use dh_tree::{Expr, ExprForm, Ref};
 use dh_viewing::BankSet;
 use std::alloc::Global;
@@ -157,12 +157,12 @@ fn reach_of(
     memory: usize,
     aim: &Aim,
     banks: Items<(u32, u32)>,
-) -> Result<Reach, NoMemory>
+) -> Result<ApartReach, NoMemory>
     ensures { IfOk result (λ r. r ≡ reach_told memory aim.now banks) }
 {
     let indices = Items::from_vec(Vec::from_slice(scene.alloc, aim.indices.as_slice())?);
     let steps = copy_steps(scene.alloc, aim.steps.as_slice())?;
-    Ok(Reach {
+    let reach = Reach {
         access: aim.number,
         memory: narrow(memory as u64),
         indices,
@@ -170,7 +170,8 @@ fn reach_of(
         banks,
         select: None,
         row: aim.row,
-    })
+    };
+    ApartReach::new(scene.alloc, reach)
 }
 
 /// Adds the fault of an access at a path, where it is out of range there.

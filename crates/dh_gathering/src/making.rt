@@ -27,14 +27,20 @@ pub struct Phased {
     pub faults: Items<(FaultKind, Place)>,
 }
 
+/// Mostly an access comes with so many operations, so that the list of all operations is not moved while it grows; room
+/// that is not used is never touched.
+const OPERATIONS_FOR_AN_ACCESS: usize = 4;
+
 /// Nothing is made yet of a program with these registers.
 fn nothing_made(scene: &Scene<'_>, registers: Items<Kind>) -> Result<Made, NoMemory>
     ensures { IfOk result (λ made. Begins registers (length scene.now.shares.now) made) }
 {
     let accesses = untouched(scene)?;
     let values = no_values(scene.alloc, registers.len())?;
+    let room = scene.shares.len().saturating_mul(OPERATIONS_FOR_AN_ACCESS);
+    let operations = Vec::with_capacity(scene.alloc, room)?;
     let draft = Draft {
-        operations: Vec::new(scene.alloc),
+        operations,
         faults: Items::new(scene.alloc),
     };
     Ok(Made {

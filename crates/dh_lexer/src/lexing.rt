@@ -12,10 +12,6 @@ use crate::tokens::{Token, TokenKind};
 use dh_base::{NoMemory, PassFault, Place, Rule};
 use std::alloc::Global;
 
-/// Of texts with spaces a token takes this many bytes or more, so that the list of tokens is not moved while it
-/// grows; room that is not used is never touched.
-const BYTES_FOR_A_TOKEN: usize = 2;
-
 /// The tokens of a text of at most 1,048,576 bytes, each with its place; the last is `End`. A text
 /// that is not made of tokens, spaces and comments alone is refused by the rule `Lex` at the first
 /// place where none of them begins. Linear in the text.
@@ -24,7 +20,8 @@ pub fn lex(alloc: Global, text: &[u8]) -> Result<Vec<Token>, PassFault>
     ensures lexed { Lexed text.now result }
     ensures ready { IfOk result (λ v. AreReady text.now v.items) }
 {
-    let mut tokens = Vec::with_capacity(alloc, text.len() / BYTES_FOR_A_TOKEN)?;
+    // each token but the last has a byte of its own, and room that is not used is never touched
+    let mut tokens = Vec::with_capacity(alloc, text.len())?;
     let mut names = KnownNames::new(alloc)?;
     let mut place = Place { line: 1, column: 1 };
     let mut at = 0;

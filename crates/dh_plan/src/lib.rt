@@ -24,6 +24,6 @@ pub use laws::{
     passes_compose, phases_make_runs, pieces_come_in_order, plans_play_programs, plans_run_alike,
     runs_make_steps, ways_are_passed,
 };
-pub use operations::{Operation, OperationForm, PlanBlock, Reach, ReachStep};
+pub use operations::{ApartReach, Operation, OperationForm, PlanBlock, Reach, ReachStep};
 pub use plans::{Meets, Node, Plan};
 pub use schedules::{Binding, Limits, Schedule};

@@ -2,8 +2,12 @@
 //! Operations are numbered over the whole plan, and a value goes by the number of the operation that gives it: in
 //! a block always an earlier one of the same block.
 
-use dh_base::Items;
+ghost use Rattle.std.specs.Prelude.{◌≡◌, IfOk};
+
+use dh_base::{Items, NoMemory};
 use dh_value::{Kind, Op, Word};
+use std::alloc::Global;
+use std::marker::Model;
 
 /// A view on the way of an access to its memory.
 #[derive(Debug, Drop)]
@@ -33,6 +37,42 @@ pub struct Reach {
     pub row: Option<u64>,
 }
 
+/// An access in memory of its own, so that an operation stays small: most operations have none. Unlike a `Box`,
+/// which a clause sees with its pointer and its allocator, it is for a contract the access and nothing more.
+#[derive(Debug, Drop)]
+pub struct ApartReach {
+    inner: Box<Reach>,
+}
+
+impl Model for ApartReach {
+    ghost use Rattle.dh_plan.specs.declared.operations.Reach.{Reach};
+
+    ghost Value = { Reach };
+
+    ghost view = { λ a. a.inner.value };
+}
+
+impl ApartReach {
+    /// The access in memory of its own.
+    ///
+    /// # Errors
+    ///
+    /// `NoMemory` where an allocation was refused.
+    pub fn new(alloc: Global, reach: Reach) -> Result<ApartReach, NoMemory>
+        ensures { IfOk result (λ kept. kept ≡ reach) }
+    {
+        let inner = Box::new(alloc, reach)?;
+        Ok(ApartReach { inner })
+    }
+
+    /// The access.
+    pub fn content(&self) -> &Reach
+        ensures { result.now ≡ self.now }
+    {
+        self.inner.as_ref()
+    }
+}
+
 /// What an operation does. Values are the numbers of earlier operations of the block.
 #[derive(Debug, Drop)]
 pub enum OperationForm {
@@ -49,11 +89,11 @@ pub enum OperationForm {
     /// Has this fault where the value is false.
     Check { ok: u64, fault: u32 },
     /// Has this fault where the access is out of range.
-    Probe { access: Reach, fault: u32 },
+    Probe { access: ApartReach, fault: u32 },
     /// Gives the element as it was when the step began.
-    Read { access: Reach },
+    Read { access: ApartReach },
     /// Has the element be this value after the step.
-    Write { access: Reach, value: u64 },
+    Write { access: ApartReach, value: u64 },
     /// Has the register be this value after the step.
     Set { register: u64, value: u64 },
 }

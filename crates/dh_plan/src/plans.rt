@@ -66,3 +66,14 @@ pub struct Plan {
     /// What operations with a fault name.
     pub faults: Items<(FaultKind, Place)>,
 }
+
+impl Plan {
+    /// How many operations all blocks have, for a list that is to have its room at once: no clause tells.
+    pub fn operation_count(&self) -> usize {
+        let mut count = 0usize;
+        for block in self.blocks.as_slice() {
+            count = count.saturating_add(block.operations.len());
+        }
+        count
+    }
+}

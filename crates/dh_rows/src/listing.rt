@@ -25,13 +25,16 @@ impl Model for OperationList {
 }
 
 impl OperationList {
-    /// No operation. Takes no memory.
-    pub fn new(alloc: Global) -> OperationList
-        ensures { result ≡ [] }
+    /// No operation, with room for so many.
+    ///
+    /// # Errors
+    ///
+    /// `NoMemory` where an allocation was refused.
+    pub fn with_room(alloc: Global, count: usize) -> Result<OperationList, NoMemory>
+        ensures { IfOk result (λ list. list ≡ []) }
     {
-        OperationList {
-            inner: Vec::new(alloc),
-        }
+        let inner = Vec::with_capacity(alloc, count)?;
+        Ok(OperationList { inner })
     }
 
     /// How many there are: the number of the next one.

@@ -28,11 +28,11 @@ fn add_form(taken: &mut Vec<u64>, form: &OperationForm) -> Result<(), NoMemory>
             add_two(taken, *yes, *no)
         }
         OperationForm::Check { ok, .. } => add(taken, *ok),
-        OperationForm::Probe { access, .. } => add_reach(taken, access),
-        OperationForm::Read { access } => add_reach(taken, access),
+        OperationForm::Probe { access, .. } => add_reach(taken, access.content()),
+        OperationForm::Read { access } => add_reach(taken, access.content()),
         OperationForm::Write { access, value } => {
             add(taken, *value)?;
-            add_reach(taken, access)
+            add_reach(taken, access.content())
         }
         OperationForm::Set { value, .. } => add(taken, *value),
     }

@@ -5,7 +5,7 @@ use Rattle.dh_address.proofs.PlanBlocks.{laid_first, laid_turn, laid_end}
 use Rattle.dh_address.proofs.addressing.address_blocks.Goals as goal
 
 pub loop-block-init : goal.loop-block-init
-loop-block-init c = laid_first (plan_seen c.args.plan.now) c.new-list.result c.new-starts.result.items c.new-list.ensures c.new-starts.ensures.items
+loop-block-init c = laid_first (plan_seen c.args.plan.now) c.in_ok-list.list c.new-starts.result.items c.in_ok-list.ensures c.new-starts.ensures.items
 
 pub loop-block-preserved : goal.loop-block-preserved
 loop-block-preserved c =

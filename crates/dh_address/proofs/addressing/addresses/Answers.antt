@@ -10,4 +10,4 @@ pub made_of_pieces-requires-clause-views : goal.made_of_pieces-requires-clause-v
 made_of_pieces-requires-clause-views c = c.requires.formed.views
 
 pub returns : goal.returns
-returns c = IfOk-weaker c.made_of_pieces.result _ _ (λ q h. is_addressing_of (plan_seen c.args.plan.now) (plan_seen q) h c.requires) c.made_of_pieces.ensures
+returns c = IfOk-weaker c.made_of_pieces.result _ _ (λ q h. is_addressing_of (plan_seen c.args.plan) (plan_seen q) h c.requires) c.made_of_pieces.ensures

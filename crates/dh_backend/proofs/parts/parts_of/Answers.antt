@@ -6,7 +6,7 @@ pub addresses-requires : goal.addresses-requires
 addresses-requires c = c.requires.is_plan.sound
 
 pub pass-requires : goal.pass-requires
-pass-requires c = may_bind (plan_seen c.args.plan.now) (plan_seen c.in_ok-plan.plan) c.requires c.in_ok-plan.ensures
+pass-requires c = may_bind (plan_seen c.args.plan) (plan_seen c.in_ok-plan.plan) c.requires c.in_ok-plan.ensures
 
 pub returns-in-Ok : goal.returns-in-Ok
-returns-in-Ok c = are_parts (plan_seen c.args.plan.now) _ c.requires c.in_ok-plan.ensures c.in-Ok.ensures
+returns-in-Ok c = are_parts (plan_seen c.args.plan) _ c.requires c.in_ok-plan.ensures c.in-Ok.ensures
