@@ -37,7 +37,9 @@ pub fn start_circuit(alloc: Global, plan: &Plan, sizes: &Sizes) -> Result<Circui
     let further = sizes.widths.as_slice();
     let table = copy_table(alloc, plan.table.as_slice())?;
     let widths = all_widths(alloc, sizes.clock_width, sizes.state_width, further)?;
-    let room = plan.operation_count().saturating_mul(CELLS_FOR_AN_OPERATION);
+    let room = plan
+        .operation_count()
+        .saturating_mul(CELLS_FOR_AN_OPERATION);
     Circuit::with_room(alloc, table, widths, room)
 }
 
