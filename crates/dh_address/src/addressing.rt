@@ -15,13 +15,48 @@ use crate::cutting::cut_blocks;
 use crate::probing::any_takes_probe;
 use crate::ranging::OldBlock;
 use dh_base::{Items, NoMemory};
-use dh_plan::{Plan, PlanBlock};
+use dh_plan::{Operation, OperationForm, Plan, PlanBlock};
 use dh_rows::OperationList;
 use std::alloc::Global;
 
-/// Mostly at most so many operations come in place of one, so that their list is not moved while it grows; room that is
-/// not used is never touched.
-const MOSTLY_FOR_ONE: usize = 2;
+/// Mostly an access comes with at most so many operations for each view on its way and for its memory, so that the list
+/// of all operations is not moved while it grows; room that is not used is never touched.
+const OPERATIONS_FOR_A_VIEW: usize = 8;
+
+/// The most operations for which there is room at once. They take less than 32 MiB, so that malloc gives the list pages
+/// that others gave back; and where accesses through many views have literal indices, few operations come in their place.
+const MOST_ROOM: usize = 600_000;
+
+/// Room for what comes in place of an operation.
+fn room_for(operation: &Operation) -> usize {
+    let access = match &operation.form {
+        OperationForm::Probe { access, .. } => access,
+        OperationForm::Read { access } => access,
+        OperationForm::Write { access, .. } => access,
+        OperationForm::Constant { .. }
+        | OperationForm::Old { .. }
+        | OperationForm::Compute { .. }
+        | OperationForm::Convert { .. }
+        | OperationForm::Select { .. }
+        | OperationForm::Check { .. }
+        | OperationForm::Set { .. } => return 1,
+    };
+    let views = access.content().steps.len();
+    views
+        .saturating_add(1)
+        .saturating_mul(OPERATIONS_FOR_A_VIEW)
+}
+
+/// Room for what comes in place of all operations of a plan.
+fn room_of(plan: &Plan) -> usize {
+    let mut room = 0usize;
+    for block in plan.blocks.as_slice() {
+        for operation in block.operations.as_slice() {
+            room = room.saturating_add(room_for(operation));
+        }
+    }
+    room.min(MOST_ROOM)
+}
 
 /// The blocks of the plan with banks and rows in place of indices.
 fn address_blocks(alloc: Global, plan: &Plan) -> Result<Items<PlanBlock>, NoMemory>
@@ -29,8 +64,7 @@ fn address_blocks(alloc: Global, plan: &Plan) -> Result<Items<PlanBlock>, NoMemo
     requires views { AllByRecursion IsViewMap plan.now.views }
     ensures { IfOk result (AreImages (plan_seen plan.now)) }
 {
-    let room = plan.operation_count().saturating_mul(MOSTLY_FOR_ONE);
-    let mut list = OperationList::with_room(alloc, room)?;
+    let mut list = OperationList::with_room(alloc, room_of(plan))?;
     let mut starts = Vec::new(alloc);
     let mut first = 0u128;
     for block in plan.blocks.as_slice() {
