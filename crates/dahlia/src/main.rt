@@ -1,19 +1,15 @@
 //! The program: the words it is called with, the system's files, the standard output and the engine
-//! of nets, put round the top call of `dh_app`, whose contract says what the program does. Here
-//! stands only what meets the system. docs/ARCHITECTURE.md has the map.
+//! of nets, put round the top call of `dh_app`, whose contract says what the program does. The files and
+//! the output are those of `dh_system`. docs/ARCHITECTURE.md has the map.
 #![tactic(auto)]
 
 ghost use Rattle.std.specs.Prelude.{◌≡◌};
 ghost use Rattle.std.specs.Process.{exit_status};
 ghost use Rattle.dh_base.specs.Statuses.{code_of};
 
-mod files;
-mod output;
-
 use dh_app::{NetEngine, run};
 use dh_base::{NoMemory, Status};
-use files::RealFiles;
-use output::StdSink;
+use dh_system::{RealFiles, StdSink};
 use std::alloc::Global;
 use std::io::ErrorKind;
 use std::process::ExitCode;

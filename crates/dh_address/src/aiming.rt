@@ -18,7 +18,7 @@ use dh_rows::{OperationList, bit_length, push_constant, push_convert, push_or_ze
 use dh_tree::Dim;
 
 /// The values of a row, and of its bank where there are several.
-#[derive(Clone, Copy, Debug)]
+#[derive(Clone, Copy)]
 pub struct Aim {
     /// The row.
     pub row: u64,

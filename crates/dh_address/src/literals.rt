@@ -11,7 +11,7 @@ use dh_tree::Dim;
 use dh_value::{Kind, Word};
 
 /// A row of a bank, by their numbers.
-#[derive(Clone, Copy, Debug)]
+#[derive(Clone, Copy)]
 pub struct LiteralPlace {
     /// The row.
     pub row: u64,

@@ -14,7 +14,7 @@ use dh_value::Kind;
 use std::alloc::Global;
 
 /// A value of the new block.
-#[derive(Clone, Copy, Debug)]
+#[derive(Clone, Copy)]
 pub struct Operand {
     /// Its number, if it is a constant from 0 on.
     pub literal: Option<u64>,
@@ -27,7 +27,7 @@ pub struct Operand {
 }
 
 /// A value that is to be from 0 on and below a size.
-#[derive(Clone, Copy, Debug)]
+#[derive(Clone, Copy)]
 pub struct Ranged {
     /// The value.
     pub operand: Operand,

@@ -19,7 +19,7 @@ use dh_tree::{ViewMap, ViewSort};
 use std::alloc::Global;
 
 /// What an access needs to be in range, and the indices of its memory; none where it is of a row.
-#[derive(Debug, Drop)]
+#[derive(Drop)]
 pub struct Passed {
     /// What is to be in range.
     pub ranges: Items<Ranged>,

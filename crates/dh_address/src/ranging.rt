@@ -18,7 +18,7 @@ use dh_value::Op;
 use std::alloc::Global;
 
 /// A block of the old plan, and what there is around it.
-#[derive(Clone, Copy, Debug)]
+#[derive(Clone, Copy)]
 pub struct OldBlock<'a> {
     /// Where lists are made.
     pub alloc: Global,

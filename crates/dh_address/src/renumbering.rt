@@ -18,7 +18,7 @@ pub fn place_from(first: u128, value: u64) -> usize
 }
 
 /// What is known of the operations of a block so far, in order.
-#[derive(Debug, Drop)]
+#[derive(Drop)]
 pub struct Renumbering {
     /// The number of the block's first operation in the old plan, whatever the plan's size.
     pub first: u128,

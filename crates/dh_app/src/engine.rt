@@ -15,7 +15,7 @@ use std::alloc::Global;
 use std::marker::Model;
 
 /// How the run of a net ended.
-#[derive(Debug, Drop)]
+#[derive(Drop)]
 pub struct Finish {
     /// Whether it ended, or in which fault, or was going on by the limit.
     pub outcome: Outcome,
@@ -52,7 +52,7 @@ pub trait Engine {
 
 /// The engine of the program: runs nets by the simulator, one set of memories after the other. It is
 /// exact. Its count of calls stays at 2^64 - 1 once it is there.
-#[derive(Debug, Drop)]
+#[derive(Drop)]
 pub struct NetEngine {
     alloc: Global,
     asked: u64,

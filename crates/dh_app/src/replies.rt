@@ -11,7 +11,7 @@ use std::alloc::Global;
 use std::mem::forget;
 
 /// What is to be written, and the status once it is.
-#[derive(Debug, Drop)]
+#[derive(Drop)]
 pub struct Answer {
     /// How the call ends once the text is written.
     pub status: Status,
@@ -20,7 +20,7 @@ pub struct Answer {
 }
 
 /// What the words, the files and the engine come to before anything is written.
-#[derive(Debug, Drop)]
+#[derive(Drop)]
 pub enum Reply {
     /// A text to write.
     Answer(Answer),

@@ -6,7 +6,7 @@ ghost use Rattle.dh_app.specs.Words as words;
 ghost use Rattle.dh_app.specs.Words.{job_of, is_file_word, words_seen};
 
 /// What a call of the program is to do. A file goes by the position of its word, from 0.
-#[derive(Clone, Copy, Debug, PartialEq, Eq)]
+#[derive(Clone, Copy, PartialEq, Eq)]
 pub enum Job {
     /// Check the program of a file.
     Check {

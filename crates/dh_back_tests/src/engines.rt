@@ -11,7 +11,7 @@ use dh_tree::Memories;
 use std::alloc::Global;
 
 /// An engine that is not exact: it runs no clock.
-#[derive(Debug, Drop)]
+#[derive(Drop)]
 pub struct Idle {
     inner: NetEngine,
 }

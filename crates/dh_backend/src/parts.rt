@@ -16,7 +16,7 @@ use dh_sched::schedule;
 use std::alloc::Global;
 
 /// What is made of an addressed plan.
-#[derive(Debug, Drop)]
+#[derive(Drop)]
 pub struct Passed {
     /// Its graph of states.
     pub graph: Graph,
@@ -27,7 +27,7 @@ pub struct Passed {
 }
 
 /// What the netlist of a plan is made of.
-#[derive(Debug, Drop)]
+#[derive(Drop)]
 pub struct NetParts {
     /// The plan with banks and rows in place of indices.
     pub plan: Plan,

@@ -13,7 +13,7 @@ use dh_plan::{Plan, Schedule};
 use std::alloc::Global;
 
 /// When each operation is done, in clocks of its step from 0, and how long each block is.
-#[derive(Debug, Drop)]
+#[derive(Drop)]
 pub struct Times {
     /// A clock for each operation of the plan.
     pub clocks: Items<u64>,

@@ -23,7 +23,7 @@ impl<T: Drop> From<AllocFailed<T>> for NoMemory {
 
 /// A growing list of plain data. Unlike a `Vec`, which a clause sees with its room and its
 /// allocator, it is for a contract the list of its items and nothing more.
-#[derive(Debug, Drop)]
+#[derive(Drop)]
 pub struct Items<T> {
     inner: Vec<T>,
 }

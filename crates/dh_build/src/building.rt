@@ -18,7 +18,7 @@ use dh_plan::{Binding, Plan, State};
 use std::alloc::Global;
 
 /// The sizes of a net.
-#[derive(Debug, Drop)]
+#[derive(Drop)]
 pub struct Sizes {
     /// The clocks of the plan's operations.
     pub clocks: Items<u64>,
@@ -35,7 +35,7 @@ pub struct Sizes {
 }
 
 /// Wires of registers and values.
-#[derive(Debug, Drop)]
+#[derive(Drop)]
 pub struct Shown {
     /// The registers of the net's own.
     pub own: Own,
@@ -44,7 +44,7 @@ pub struct Shown {
 }
 
 /// The parts of a net.
-#[derive(Debug, Drop)]
+#[derive(Drop)]
 pub struct Parts {
     /// The wires of its registers and values.
     pub shown: Shown,

@@ -84,7 +84,7 @@ pub fn net_drivers(
 }
 
 /// What a net has beside the cells of its circuit.
-#[derive(Debug, Drop)]
+#[derive(Drop)]
 pub struct Joints {
     /// Its registers.
     pub registers: Items<Register>,

@@ -9,7 +9,7 @@ use std::alloc::Global;
 const NONE: u32 = u32::MAX;
 
 /// What is told of a cell that is sought.
-#[derive(Clone, Copy, Debug)]
+#[derive(Clone, Copy)]
 pub enum Sought {
     /// It drives this wire.
     Made(u64),
@@ -20,7 +20,7 @@ pub enum Sought {
 }
 
 /// What is kept of a wire. A wire that has no number of 32 bits is in no chain.
-#[derive(Clone, Copy, Debug)]
+#[derive(Clone, Copy)]
 struct Link {
     // The latest cell of the chain over it.
     latest: u32,
@@ -30,7 +30,7 @@ struct Link {
 
 /// For each wire a chain of cells that take it, from the latest to the first. No contract tells which cells are in it,
 /// so what is found is to be looked at.
-#[derive(Debug, Drop)]
+#[derive(Drop)]
 pub struct Chains {
     links: Vec<Link>,
 }

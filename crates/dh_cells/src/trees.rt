@@ -12,7 +12,7 @@ use crate::truths::push_either;
 use dh_base::NoMemory;
 
 /// A test, and the value that counts where it is 1. Both go by their wires.
-#[derive(Clone, Copy, Debug, PartialEq, Eq)]
+#[derive(Clone, Copy, PartialEq, Eq)]
 pub struct Tested {
     /// The test, of one bit.
     pub test: u64,

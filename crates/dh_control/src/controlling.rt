@@ -23,7 +23,7 @@ use dh_plan::{PlanBlock, State};
 use std::alloc::Global;
 
 /// Where the graph stands, by wires.
-#[derive(Debug, Drop)]
+#[derive(Drop)]
 pub struct Activity {
     /// For each state a wire that is 1 where the graph stands there, under the number of its block.
     pub stands: Items<Keyed<u64>>,
@@ -32,7 +32,7 @@ pub struct Activity {
 }
 
 /// What becomes of a step, by wires.
-#[derive(Debug, Drop)]
+#[derive(Drop)]
 pub struct Outcome {
     /// Whether it ends in this clock.
     pub pace: Pace,
@@ -43,7 +43,7 @@ pub struct Outcome {
 }
 
 /// What the registers are after a clock, by wires.
-#[derive(Debug, Drop)]
+#[derive(Drop)]
 pub struct Results {
     /// Those of the plan.
     pub news: Items<u64>,
@@ -171,7 +171,7 @@ pub fn push_results(
 }
 
 /// The registers of the control's own, by wires that show them, with their widths.
-#[derive(Clone, Copy, Debug)]
+#[derive(Clone, Copy)]
 pub struct Own {
     /// Bits of the clock of the step.
     pub clock_width: u8,
@@ -188,7 +188,7 @@ pub struct Own {
 }
 
 /// The control of one thread, by wires.
-#[derive(Debug, Drop)]
+#[derive(Drop)]
 pub struct Control {
     /// Where the graph stands.
     pub activity: Activity,

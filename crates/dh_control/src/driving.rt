@@ -21,7 +21,7 @@ use dh_plan::{Operation, OperationForm, Reach};
 use dh_value::{Kind, width};
 
 /// What an operation asks of a port, by wires.
-#[derive(Clone, Copy, Debug)]
+#[derive(Clone, Copy)]
 pub struct Asking {
     /// Whether it asks, of whichever bank it picks.
     pub test: u64,
@@ -128,7 +128,7 @@ pub fn push_drivers(
 }
 
 /// Where the ports of a memory stand among those of all memories.
-#[derive(Clone, Copy, Debug)]
+#[derive(Clone, Copy)]
 pub struct MemoryPorts {
     /// The number of its first one.
     pub first: u64,
@@ -139,7 +139,7 @@ pub struct MemoryPorts {
 }
 
 /// When an operation asks, by wires of one bit.
-#[derive(Clone, Copy, Debug)]
+#[derive(Clone, Copy)]
 pub struct Times {
     /// Its block is active.
     pub active: u64,

@@ -7,7 +7,7 @@ use dh_base::NoMemory;
 use std::alloc::Global;
 
 /// An item that belongs to a number.
-#[derive(Clone, Copy, Debug)]
+#[derive(Clone, Copy)]
 pub struct Keyed<T> {
     /// The number.
     pub key: u64,

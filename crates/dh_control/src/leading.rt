@@ -13,7 +13,7 @@ use dh_cells::{Circuit, Tested, push_both, push_more, push_not};
 use dh_plan::Decision;
 
 /// Two wires, of which one at most is 1.
-#[derive(Clone, Copy, Debug)]
+#[derive(Clone, Copy)]
 pub struct Branch {
     /// Where a thread goes on, and a test holds.
     pub chosen: u64,
@@ -22,7 +22,7 @@ pub struct Branch {
 }
 
 /// The next values of a counter.
-#[derive(Clone, Copy, Debug)]
+#[derive(Clone, Copy)]
 pub struct Counted {
     /// 0.
     pub none: u64,

@@ -15,7 +15,7 @@ use dh_cells::{
 use std::alloc::Global;
 
 /// Wires that tell whether the step ends in this clock.
-#[derive(Clone, Copy, Debug)]
+#[derive(Clone, Copy)]
 pub struct Pace {
     /// A block is active.
     pub going: u64,
@@ -26,7 +26,7 @@ pub struct Pace {
 }
 
 /// Wires that tell what comes of the pace.
-#[derive(Clone, Copy, Debug)]
+#[derive(Clone, Copy)]
 pub struct Verdict {
     /// The number of the first fault from 1, 0 where there is none. It means something where the step ends.
     pub failed: u64,
@@ -37,7 +37,7 @@ pub struct Verdict {
 }
 
 /// Wires for the next clock, and for the outputs of a net.
-#[derive(Clone, Copy, Debug)]
+#[derive(Clone, Copy)]
 pub struct Nexts {
     /// The next clock of the pace.
     pub clock: u64,

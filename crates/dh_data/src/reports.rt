@@ -18,7 +18,7 @@ use serde_json::{Map, Value, json};
 use std::alloc::{AllocError, Global};
 
 /// How a run stood when it was left.
-#[derive(Clone, Copy, Debug, PartialEq, Eq)]
+#[derive(Clone, Copy, PartialEq, Eq)]
 pub struct Ending {
     /// Whether it had ended, and how.
     pub outcome: Outcome,

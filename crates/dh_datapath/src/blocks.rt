@@ -18,7 +18,7 @@ use dh_value::Kind;
 use std::alloc::Global;
 
 /// The wires of a plan. Operations go by their numbers over the whole plan.
-#[derive(Debug, Drop)]
+#[derive(Drop)]
 pub struct PlanWires {
     /// Those of its registers.
     pub registers: RegisterWires,

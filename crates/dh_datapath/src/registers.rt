@@ -9,7 +9,7 @@ use dh_value::{Kind, width};
 use std::alloc::Global;
 
 /// The wires of a plan's registers.
-#[derive(Debug, Drop)]
+#[derive(Drop)]
 pub struct RegisterWires {
     /// The number of the plan's first register among those of the circuit.
     pub offset: u32,

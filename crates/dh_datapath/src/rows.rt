@@ -14,7 +14,7 @@ use dh_value::Kind;
 use std::alloc::Global;
 
 /// The kinds of values in a row, and the wires that show them.
-#[derive(Debug, Drop)]
+#[derive(Drop)]
 pub struct RowWires {
     /// The kinds.
     pub kinds: Items<Kind>,

@@ -8,7 +8,7 @@ ghost use Rattle.dh_extents.specs.Extents.{AreDims, IsExtent};
 use dh_tree::Dim;
 
 /// How many banks, rows of a bank, and elements a memory has.
-#[derive(Clone, Copy, Debug, PartialEq, Eq)]
+#[derive(Clone, Copy, PartialEq, Eq)]
 pub struct Extent {
     /// The banks.
     pub banks: u64,

@@ -11,7 +11,7 @@ use dh_base::NoMemory;
 use dh_plan::Node;
 
 /// How nodes begin.
-#[derive(Clone, Copy, Debug, PartialEq, Eq)]
+#[derive(Clone, Copy, PartialEq, Eq)]
 pub enum Entry {
     /// They do no block.
     Nothing,
@@ -22,7 +22,7 @@ pub enum Entry {
 }
 
 /// What nodes take of the graph.
-#[derive(Clone, Copy, Debug)]
+#[derive(Clone, Copy)]
 pub struct Footprint {
     /// How many states.
     pub states: u64,
@@ -33,7 +33,7 @@ pub struct Footprint {
 }
 
 /// What the second walk is told of a node.
-#[derive(Clone, Copy, Debug)]
+#[derive(Clone, Copy)]
 pub struct NodeMark {
     /// The node.
     pub own: Footprint,

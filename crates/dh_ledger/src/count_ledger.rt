@@ -11,7 +11,7 @@ use std::marker::Model;
 const MAX_BANKS: usize = 64;
 
 /// A ledger that keeps one number for each bank. It is its own mark.
-#[derive(Clone, Copy, Debug)]
+#[derive(Clone, Copy)]
 pub struct CountLedger {
     // a byte each, since no bank has more than 8 ports; past the last bank they are 0
     counts: [u8; MAX_BANKS],

@@ -10,7 +10,6 @@ use std::marker::Model;
 
 /// So many ports of one bank of a memory, spent in a ledger. Clauses see its memory, its bank, the
 /// first of its ports and their count.
-#[derive(Debug)]
 pub struct Token {
     memory: u32,
     bank: u32,

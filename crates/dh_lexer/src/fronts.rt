@@ -17,7 +17,7 @@ use dh_tree::Name;
 use std::alloc::Global;
 
 /// What a text begins with.
-#[derive(Debug, Drop)]
+#[derive(Drop)]
 pub enum Front {
     /// A space or a comment.
     Gap,

@@ -14,7 +14,7 @@ const MOST: usize = 1024;
 /// Names, each at a place that its letters tell, where the last one with that place stands. An equal name
 /// is shared where it is there and made where it is not, so that what is kept changes no token. None is a
 /// word of the language: what is found here needs no look among the words.
-#[derive(Debug, Drop)]
+#[derive(Drop)]
 pub(crate) struct KnownNames {
     names: Vec<Option<Name>>,
 }

@@ -152,7 +152,7 @@ pub enum TokenKind {
 }
 
 /// A token and where its first byte stands.
-#[derive(Debug, Drop)]
+#[derive(Drop)]
 pub struct Token {
     /// What it is.
     pub kind: TokenKind,

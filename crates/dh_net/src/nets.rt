@@ -5,7 +5,7 @@ use dh_base::{FaultKind, Items, Place};
 use dh_tree::MemTable;
 
 /// A register. With each clock it takes the value of its next wire.
-#[derive(Clone, Copy, Debug, PartialEq, Eq)]
+#[derive(Clone, Copy, PartialEq, Eq)]
 pub struct Register {
     /// Bits, from 1 to 64.
     pub width: u8,
@@ -17,7 +17,7 @@ pub struct Register {
 
 /// What a cell computes. `a`, `b` and `c` are wires of earlier cells, of the cell's width where nothing
 /// else is said.
-#[derive(Clone, Copy, Debug, PartialEq, Eq, Hash)]
+#[derive(Clone, Copy, PartialEq, Eq, Hash)]
 pub enum CellForm {
     /// These bits.
     Const { bits: u64 },
@@ -60,7 +60,7 @@ pub enum CellForm {
 }
 
 /// A cell. It drives the wire of its own number.
-#[derive(Clone, Copy, Debug, PartialEq, Eq, Hash)]
+#[derive(Clone, Copy, PartialEq, Eq, Hash)]
 pub struct Cell {
     /// Bits of its wire, from 1 to 64.
     pub width: u8,
@@ -69,7 +69,7 @@ pub struct Cell {
 }
 
 /// A driver of a port. In a clock in which its enable wire is 1 it has the port read or write a row.
-#[derive(Clone, Copy, Debug, PartialEq, Eq)]
+#[derive(Clone, Copy, PartialEq, Eq)]
 pub struct Driver {
     /// The wire that enables it, of width 1.
     pub enable: u64,
@@ -82,7 +82,7 @@ pub struct Driver {
 }
 
 /// A netlist.
-#[derive(Debug, Drop)]
+#[derive(Drop)]
 pub struct Net {
     /// The memories.
     pub table: MemTable,

@@ -13,7 +13,7 @@ use dh_tree::MemEntry;
 use std::alloc::Global;
 
 /// A port of a bank of a memory.
-#[derive(Clone, Copy, Debug, PartialEq, Eq)]
+#[derive(Clone, Copy, PartialEq, Eq)]
 pub struct Port {
     /// The number of its memory, from 0.
     pub memory: u64,

@@ -3,7 +3,7 @@
 use dh_base::Items;
 
 /// Where a thread goes on, by the registers after the step.
-#[derive(Debug, Drop)]
+#[derive(Drop)]
 pub enum Decision {
     /// To a state.
     Go {
@@ -32,7 +32,7 @@ pub enum Decision {
 }
 
 /// A state: a block, and where to go when it is done.
-#[derive(Debug, Drop)]
+#[derive(Drop)]
 pub struct State {
     /// The block.
     pub block: u64,
@@ -43,7 +43,7 @@ pub struct State {
 }
 
 /// A thread: a group of states of which one at most is active.
-#[derive(Debug, Drop)]
+#[derive(Drop)]
 pub struct Group {
     /// The group that forks it; None of the program's own.
     pub parent: Option<u64>,
@@ -54,7 +54,7 @@ pub struct Group {
 }
 
 /// A graph of states. Group 0 is the program's own.
-#[derive(Debug, Drop)]
+#[derive(Drop)]
 pub struct Graph {
     /// The states.
     pub states: Vec<State>,

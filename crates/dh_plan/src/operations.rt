@@ -10,7 +10,7 @@ use std::alloc::Global;
 use std::marker::Model;
 
 /// A view on the way of an access to its memory.
-#[derive(Debug, Drop)]
+#[derive(Drop)]
 pub struct ReachStep {
     /// Its number in the plan's views.
     pub view: u32,
@@ -19,7 +19,7 @@ pub struct ReachStep {
 }
 
 /// What an operation accesses: the element of its indices, through its views, or a row of a bank.
-#[derive(Debug, Drop)]
+#[derive(Drop)]
 pub struct Reach {
     /// The access of the program of which this is a copy, by its number in order of evaluation.
     pub access: u32,
@@ -39,7 +39,7 @@ pub struct Reach {
 
 /// An access in memory of its own, so that an operation stays small: most operations have none. Unlike a `Box`,
 /// which a clause sees with its pointer and its allocator, it is for a contract the access and nothing more.
-#[derive(Debug, Drop)]
+#[derive(Drop)]
 pub struct ApartReach {
     inner: Box<Reach>,
 }
@@ -74,7 +74,7 @@ impl ApartReach {
 }
 
 /// What an operation does. Values are the numbers of earlier operations of the block.
-#[derive(Debug, Drop)]
+#[derive(Drop)]
 pub enum OperationForm {
     /// Gives this word.
     Constant { word: Word },
@@ -99,7 +99,7 @@ pub enum OperationForm {
 }
 
 /// An operation. Where its guard is false it does nothing, and its value is 0 or false.
-#[derive(Debug, Drop)]
+#[derive(Drop)]
 pub struct Operation {
     /// The value on which it depends whether it is done; None where it always is.
     pub guard: Option<u64>,
@@ -108,7 +108,7 @@ pub struct Operation {
 }
 
 /// What one straight phase does: its operations in order.
-#[derive(Debug, Drop)]
+#[derive(Drop)]
 pub struct PlanBlock {
     /// The operations, numbered on from those of the blocks before.
     pub operations: Items<Operation>,

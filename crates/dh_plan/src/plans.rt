@@ -6,7 +6,7 @@ use dh_tree::{MemTable, ViewMap};
 use dh_value::Kind;
 
 /// A phase of the plan. Blocks and registers go by their numbers.
-#[derive(Debug, Drop)]
+#[derive(Drop)]
 pub enum Node {
     /// A block that is done in one logical step.
     Step {
@@ -38,7 +38,7 @@ pub enum Node {
 }
 
 /// Which accesses may meet: two may unless their lowest common node is a One.
-#[derive(Debug, Drop)]
+#[derive(Drop)]
 pub enum Meets {
     /// An access, by its number.
     Access { access: u32 },
@@ -49,7 +49,7 @@ pub enum Meets {
 }
 
 /// A plan of a program.
-#[derive(Debug, Drop)]
+#[derive(Drop)]
 pub struct Plan {
     /// The memories.
     pub table: MemTable,

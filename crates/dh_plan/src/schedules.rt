@@ -3,7 +3,7 @@
 use dh_base::Items;
 
 /// What a schedule is limited to; 0 is no limit.
-#[derive(Clone, Copy, Debug, PartialEq, Eq)]
+#[derive(Clone, Copy, PartialEq, Eq)]
 pub struct Limits {
     /// Multiplications in one clock of one block.
     pub multipliers: u32,
@@ -12,7 +12,7 @@ pub struct Limits {
 }
 
 /// When each operation is done, in clocks of its step from 0, and how long each block is.
-#[derive(Debug, Drop)]
+#[derive(Drop)]
 pub struct Schedule {
     /// A clock for each operation of the plan.
     pub clock_of: Items<u128>,
@@ -21,7 +21,7 @@ pub struct Schedule {
 }
 
 /// Which ports and which multiplier each operation of the plan uses.
-#[derive(Debug, Drop)]
+#[derive(Drop)]
 pub struct Binding {
     /// For each operation, a port of each bank that it can reach: bank and port.
     pub ports: Items<Items<(u32, u32)>>,

@@ -10,7 +10,7 @@ use std::marker::Model;
 
 /// A program that breaks no rule and exceeds no limit, each of its names with what it stands for and
 /// each of its expressions with its kind. A contract sees its tree.
-#[derive(Debug, Drop)]
+#[derive(Drop)]
 pub struct Accepted {
     typed: Typed,
 }

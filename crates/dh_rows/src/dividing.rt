@@ -12,7 +12,7 @@ use dh_tree::Dim;
 use dh_value::Op;
 
 /// The values of a quotient and a remainder; None is 0. The remainder is there only if it was asked for.
-#[derive(Clone, Copy, Debug)]
+#[derive(Clone, Copy)]
 pub struct Division {
     /// How often the divisor is in the number.
     pub quotient: Option<u64>,
@@ -21,7 +21,7 @@ pub struct Division {
 }
 
 /// The quotient so far, and what is still to divide.
-#[derive(Clone, Copy, Debug)]
+#[derive(Clone, Copy)]
 pub(crate) struct Taking {
     pub quotient: Option<u64>,
     pub rest: u64,

@@ -9,7 +9,7 @@ use dh_base::NoMemory;
 use dh_value::{Kind, Op};
 
 /// A value of a kind that is from 0 on and below a size exactly where an offset is small.
-#[derive(Clone, Copy, Debug)]
+#[derive(Clone, Copy)]
 pub struct Span {
     /// The kind of the value.
     pub kind: Kind,

@@ -14,7 +14,7 @@ use dh_base::NoMemory;
 use dh_tree::Dim;
 
 /// The values of a row and a bank; None is 0. The bank is there only if it was asked for.
-#[derive(Clone, Copy, Debug)]
+#[derive(Clone, Copy)]
 pub struct RowAndBank {
     /// The row of the element in its bank.
     pub row: Option<u64>,

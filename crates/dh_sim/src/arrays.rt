@@ -15,7 +15,7 @@ use dh_net::Net;
 use std::alloc::Global;
 
 /// What a net shows in a state.
-#[derive(Clone, Copy, Debug, PartialEq, Eq)]
+#[derive(Clone, Copy, PartialEq, Eq)]
 pub struct Shown {
     /// Whether the last clock ended a logical step without fault.
     pub tick: bool,

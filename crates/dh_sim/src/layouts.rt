@@ -12,7 +12,7 @@ use std::alloc::Global;
 
 /// Where the ports of a net stand in flat arrays: a port's place is its number in order of memory, bank and
 /// port.
-#[derive(Debug, Drop)]
+#[derive(Drop)]
 pub struct Layout {
     /// The ports, in this order.
     pub ports: Vec<Port>,

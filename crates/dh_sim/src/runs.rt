@@ -14,7 +14,7 @@ use dh_tree::Memories;
 use std::alloc::Global;
 
 /// How a run under a limit of clocks ended.
-#[derive(Clone, Copy, Debug, PartialEq, Eq)]
+#[derive(Clone, Copy, PartialEq, Eq)]
 pub struct RunEnd {
     /// How the run stands: `Going` where the limit came first.
     pub outcome: Outcome,

@@ -12,7 +12,7 @@ use dh_net::{Cell, CellForm, Driver, Register};
 use std::alloc::Global;
 
 /// Cells that were kept.
-#[derive(Debug, Drop)]
+#[derive(Drop)]
 pub struct Kept {
     /// The cells.
     pub cells: Items<Cell>,

@@ -12,7 +12,7 @@ use dh_net::{Cell, Driver, Net, Register};
 use std::alloc::Global;
 
 /// What is new of a net without the cells that it does not need.
-#[derive(Debug, Drop)]
+#[derive(Drop)]
 pub struct Swept {
     /// Its registers.
     pub registers: Items<Register>,

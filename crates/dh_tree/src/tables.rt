@@ -62,7 +62,7 @@ pub struct Dim {
 
 /// The shape of a memory: the kind of its elements, the read/write ports of each bank, and its
 /// dimensions from the outside.
-#[derive(Debug, Drop)]
+#[derive(Drop)]
 pub struct Shape {
     /// The kind of an element.
     pub kind: Kind,
@@ -87,7 +87,7 @@ impl Shape {
 }
 
 /// A memory of a program.
-#[derive(Debug, Drop)]
+#[derive(Drop)]
 pub struct MemEntry {
     /// Its name.
     pub name: Name,

@@ -20,7 +20,7 @@ pub enum ViewSort {
 }
 
 /// A view: its shape, that of what it is a view of, and its factors.
-#[derive(Debug, Drop)]
+#[derive(Drop)]
 pub struct ViewMap {
     /// Its own shape.
     pub shape: Shape,
@@ -33,7 +33,7 @@ pub struct ViewMap {
 }
 
 /// A view of a program, with the number of its entity.
-#[derive(Debug, Drop)]
+#[derive(Drop)]
 pub struct Viewed {
     /// The number of its entity; every name of a resolved program has one.
     pub entity: Option<u32>,

@@ -11,7 +11,7 @@ use dh_tree::{Expr, Function, Kind, Parameter, Ref, Shape, ViewForm};
 use std::alloc::Global;
 
 /// What is known of an entity.
-#[derive(Debug, Drop)]
+#[derive(Drop)]
 pub enum Fact {
     /// A variable or a scalar parameter.
     Variable {

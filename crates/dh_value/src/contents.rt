@@ -6,7 +6,7 @@ use std::marker::Model;
 
 /// The contents of memories: one list per memory of a table, its elements in row-major order, each
 /// as its bits. A contract sees a list of lists.
-#[derive(Debug, Drop)]
+#[derive(Drop)]
 pub struct Memories {
     values: Vec<Vec<u64>>,
 }

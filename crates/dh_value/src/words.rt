@@ -8,7 +8,7 @@ use crate::kinds::{Kind, width};
 
 /// A value of a kind. Contracts say `IsWord` where the kind has from 1 to 64 bits and no bit from
 /// its width upwards is set.
-#[derive(Clone, Copy, Debug, PartialEq, Eq)]
+#[derive(Clone, Copy, PartialEq, Eq)]
 pub struct Word {
     /// What it is a value of.
     pub kind: Kind,

@@ -11,7 +11,7 @@ use std::alloc::AllocError;
 use std::fmt::Write;
 
 /// What the net tells a port beside whether it is enabled.
-#[derive(Clone, Copy, Debug, PartialEq, Eq)]
+#[derive(Clone, Copy, PartialEq, Eq)]
 pub enum Signal {
     /// Whether it writes.
     Write,

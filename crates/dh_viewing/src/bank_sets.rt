@@ -10,7 +10,7 @@ ghost use Rattle.dh_tree.specs.ViewShapes.{IsViewMap};
 use dh_tree::{Dim, ViewMap, ViewSort};
 
 /// Banks of a memory or a view, of which there are at most 64: one bit for each.
-#[derive(Clone, Copy, Debug, PartialEq, Eq)]
+#[derive(Clone, Copy, PartialEq, Eq)]
 pub struct BankSet {
     /// The bit of bank b is set where it is one of them.
     pub bits: u64,

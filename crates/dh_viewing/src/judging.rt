@@ -23,7 +23,7 @@ use std::marker::Model;
 
 /// The views of a program: all, and those that keep the rules, and of which all on the way to their memory do.
 /// A contract sees both as lists.
-#[derive(Debug, Drop)]
+#[derive(Drop)]
 pub struct JudgedViews {
     all: SharedViews,
     // those that keep the rules, where a rule is broken; else they are all

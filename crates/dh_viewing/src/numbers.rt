@@ -7,7 +7,7 @@ ghost use Rattle.dh_viewing.specs.Numbers.{numbers_in};
 pub const MAX_DIMS: usize = 6;
 
 /// Whole numbers, one for each dimension of a memory or a view: the indices of an element, or offsets.
-#[derive(Clone, Copy, Debug)]
+#[derive(Clone, Copy)]
 pub struct Index {
     /// How many there are, at most 6.
     pub len: u8,

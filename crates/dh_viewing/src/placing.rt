@@ -115,7 +115,7 @@ fn view_of<'a>(
 }
 
 /// Views in an order, each of which is found by its entity without a search. A contract sees them as a list.
-#[derive(Debug, Drop)]
+#[derive(Drop)]
 pub struct ViewTable {
     views: Items<Viewed>,
     // by the number of an entity the place of its view, of each entity that is one

@@ -99,7 +99,7 @@ fn is_alike(map: &ViewMap, form: &ViewForm, parent: &Shape) -> bool
 }
 
 /// A view, which all that are the same may share. A contract sees it as the view.
-#[derive(Debug, Drop)]
+#[derive(Drop)]
 pub struct SharedMap {
     map: Rc<ViewMap>,
 }
@@ -190,7 +190,7 @@ fn shared(
 }
 
 /// The last view of each sort, which the next one mostly is again.
-#[derive(Debug, Drop)]
+#[derive(Drop)]
 pub struct LastMaps {
     shrink: Option<SharedMap>,
     split: Option<SharedMap>,

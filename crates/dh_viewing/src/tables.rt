@@ -14,7 +14,7 @@ use std::alloc::Global;
 use std::marker::Model;
 
 /// A view with the number of its entity.
-#[derive(Debug, Drop)]
+#[derive(Drop)]
 pub(crate) struct SharedView {
     pub(crate) entity: Option<u32>,
     pub(crate) is: SharedMap,
@@ -93,7 +93,7 @@ fn view_of<'a>(
 }
 
 /// Views in an order, each of which is found by its entity without a search. A contract sees them as a list of views.
-#[derive(Debug, Drop)]
+#[derive(Drop)]
 pub(crate) struct SharedViews {
     views: Items<SharedView>,
     // by the number of an entity the place of its view, of each entity that is one

@@ -3,7 +3,7 @@
 use dh_value::Kind;
 
 /// A variable that keeps an offset of a view.
-#[derive(Clone, Copy, Debug)]
+#[derive(Clone, Copy)]
 pub struct Hidden {
     /// The number of its entity, behind those of the program.
     pub entity: u32,

@@ -18,7 +18,7 @@ use dh_tree::{Command, CommandForm, Expr, LoopHeader};
 use std::alloc::Global;
 
 /// What begins at a token, among the commands of a part.
-#[derive(Clone, Copy, Debug, PartialEq, Eq)]
+#[derive(Clone, Copy, PartialEq, Eq)]
 pub(crate) enum Beginning {
     /// A command that a `;` or the end of its part follows.
     Simple,

@@ -25,7 +25,7 @@ pub(crate) struct Reader<'a> {
 }
 
 /// Why a parser gave no tree.
-#[derive(Clone, Copy, Debug, PartialEq, Eq)]
+#[derive(Clone, Copy, PartialEq, Eq)]
 pub(crate) enum Stop {
     /// No program has the token that comes next after those before it.
     Here,
@@ -58,7 +58,7 @@ impl<T: Drop> From<AllocFailed<T>> for Stop {
 }
 
 /// A word or a sign that has its own place in a form.
-#[derive(Clone, Copy, Debug, PartialEq, Eq)]
+#[derive(Clone, Copy, PartialEq, Eq)]
 pub(crate) enum Mark {
     /// `let`
     Let,
@@ -154,7 +154,7 @@ pub(crate) fn is_mark(kind: &TokenKind, mark: Mark) -> bool
 }
 
 /// A number where it stands.
-#[derive(Clone, Copy, Debug, PartialEq, Eq)]
+#[derive(Clone, Copy, PartialEq, Eq)]
 pub(crate) struct Numeral {
     /// The number.
     pub value: u64,

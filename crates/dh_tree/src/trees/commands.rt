@@ -7,7 +7,7 @@ use dh_value::{Kind, Op};
 
 /// A command.
 #[cycle(commands)]
-#[derive(Debug, Drop)]
+#[derive(Drop)]
 pub struct Command {
     /// Its number in the tree, from 0 in text order, a command before those inside it.
     pub id: u32,
@@ -18,7 +18,7 @@ pub struct Command {
 }
 
 /// Both sides of a store.
-#[derive(Debug, Drop)]
+#[derive(Drop)]
 pub struct Sides {
     /// An access.
     pub target: Expr,
@@ -28,7 +28,7 @@ pub struct Sides {
 
 /// What stands before the body of a loop: its iterator and its numbers, and where these and its words
 /// stand.
-#[derive(Debug, Drop)]
+#[derive(Drop)]
 pub struct LoopHeader {
     /// The iterator.
     pub iterator: Ref,
@@ -55,7 +55,7 @@ pub struct LoopHeader {
 /// What a command is. Blocks hold their commands side by side, so that each takes the room of the
 /// largest form: what is larger than a list is in a box. Small fields stand first, beside the tag.
 #[cycle(commands)]
-#[derive(Debug, Drop)]
+#[derive(Drop)]
 pub enum CommandForm {
     /// `let name: declared = value`, of which one may lack.
     Let {
@@ -153,7 +153,7 @@ impl CommandForm {
 }
 
 /// How a view shows its parent: a bracket for each dimension.
-#[derive(Debug, Drop)]
+#[derive(Drop)]
 pub enum ViewForm {
     /// `shrink parent[by number]..`
     Shrink {

@@ -14,7 +14,7 @@ use std::alloc::Global;
 
 /// The iterator of a `for`: its values are those from `low` on below `high`, and `factor` copies of the
 /// body take one each at a time.
-#[derive(Clone, Copy, Debug, PartialEq, Eq)]
+#[derive(Clone, Copy, PartialEq, Eq)]
 pub struct Counter {
     /// The number of its entity.
     pub entity: Option<u32>,
@@ -27,7 +27,7 @@ pub struct Counter {
 }
 
 /// The loops of a program.
-#[derive(Debug, Drop)]
+#[derive(Drop)]
 pub struct Loops {
     /// By the number of an entity the loop of which it is the iterator; empty where there is no loop.
     pub by_entity: Vec<Option<Counter>>,

@@ -5,7 +5,7 @@ use dh_base::Place;
 use dh_value::{Kind, Op};
 
 /// A name where it stands in the text.
-#[derive(Debug, Drop)]
+#[derive(Drop)]
 pub struct Ref {
     /// The name.
     pub name: Name,
@@ -17,7 +17,7 @@ pub struct Ref {
 
 /// An expression. Parentheses leave none.
 #[cycle(expressions)]
-#[derive(Debug, Drop)]
+#[derive(Drop)]
 pub struct Expr {
     /// The place of its first token, that of the left operand for an operator. Around parentheses
     /// it is that of what they hold.
@@ -30,7 +30,7 @@ pub struct Expr {
 
 /// What an expression is.
 #[cycle(expressions)]
-#[derive(Debug, Drop)]
+#[derive(Drop)]
 pub enum ExprForm {
     /// `value`, or `- value`.
     Number {

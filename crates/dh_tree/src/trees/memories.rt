@@ -22,7 +22,7 @@ struct Found<'a> {
 }
 
 /// The memories of a tree.
-#[derive(Debug, Drop)]
+#[derive(Drop)]
 pub struct Collected {
     /// Their table, in order.
     pub table: MemTable,

@@ -11,7 +11,7 @@ use std::marker::Model;
 /// A tree whose every name has the number of what it stands for, and that breaks no rule on names: no
 /// name is used where it is not visible, and none is declared where it is visible already. A contract
 /// sees its tree.
-#[derive(Debug, Drop)]
+#[derive(Drop)]
 pub struct Named {
     tree: Tree,
 }

@@ -6,7 +6,7 @@ use dh_base::{Items, Place};
 use dh_value::Kind;
 
 /// Where the parts of a type stand.
-#[derive(Debug, Drop)]
+#[derive(Drop)]
 pub struct ShapePlaces {
     /// Where its kind begins.
     pub kind_place: Place,
@@ -19,7 +19,7 @@ pub struct ShapePlaces {
 }
 
 /// Where the parts of a dimension stand.
-#[derive(Clone, Copy, Debug, PartialEq, Eq)]
+#[derive(Clone, Copy, PartialEq, Eq)]
 pub struct DimPlaces {
     /// Where its `[` stands.
     pub open_place: Place,
@@ -32,7 +32,7 @@ pub struct DimPlaces {
 }
 
 /// `decl name: shape;`, a memory from outside.
-#[derive(Debug, Drop)]
+#[derive(Drop)]
 pub struct Decl {
     /// The memory.
     pub name: Ref,
@@ -43,7 +43,7 @@ pub struct Decl {
 }
 
 /// A parameter of a function.
-#[derive(Debug, Drop)]
+#[derive(Drop)]
 pub struct Parameter {
     /// The parameter.
     pub name: Ref,
@@ -56,7 +56,7 @@ pub struct Parameter {
 }
 
 /// `def name(parameters) = body`
-#[derive(Debug, Drop)]
+#[derive(Drop)]
 pub struct Function {
     /// Where its word `def` stands.
     pub place: Place,
@@ -69,7 +69,7 @@ pub struct Function {
 }
 
 /// The sorts of what a name can stand for.
-#[derive(Clone, Copy, Debug, PartialEq, Eq)]
+#[derive(Clone, Copy, PartialEq, Eq)]
 pub enum Sort {
     /// A variable or a scalar parameter.
     Variable,
@@ -84,7 +84,7 @@ pub enum Sort {
 }
 
 /// What a name stands for.
-#[derive(Debug, Drop)]
+#[derive(Drop)]
 pub struct Entity {
     /// The name.
     pub name: Name,
@@ -95,7 +95,7 @@ pub struct Entity {
 }
 
 /// A program.
-#[derive(Debug, Drop)]
+#[derive(Drop)]
 pub struct Tree {
     /// The memories from outside, in text order.
     pub decls: Vec<Decl>,

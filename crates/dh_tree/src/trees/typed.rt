@@ -34,7 +34,6 @@ fn tables_of(alloc: Global, tree: &Tree) -> Result<(Collected, Loops), NoMemory>
 
 /// A tree whose every name has the number of what it stands for and whose every expression has its kind,
 /// and that breaks no rule on names or kinds; with the table of its memories. A contract sees its tree.
-#[derive(Debug)]
 pub struct Typed {
     tree: Tree,
     memories: Collected,

@@ -1,8 +1,8 @@
 -- A file that can't be opened, and one that is read.
 use Rattle.std.proofs.Common.{[], refl}
 use Rattle.dh_base.specs.Outside.{Untold}
-use Rattle.dahlia.proofs.Readings.{met_ends, untold}
-use Rattle.dahlia.proofs.files.RealFiles.read_named.Goals as goal
+use Rattle.dh_system.proofs.Readings.{met_ends, untold}
+use Rattle.dh_system.proofs.files.RealFiles.read_named.Goals as goal
 
 pub returns-in-Err-clause-answer : goal.returns-in-Err-clause-answer
 returns-in-Err-clause-answer g c = met_ends Untold c.args.name.now c.args.limit c.args.self.now c.args.self.now c.met.new.self c.met.result refl c.met.ensures.answer

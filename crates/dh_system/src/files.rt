@@ -3,7 +3,7 @@
 ghost use Rattle.std.specs.Prelude.{◌≡◌, []};
 ghost use Rattle.std.specs.IoError.{error_kind};
 ghost use Rattle.dh_base.specs.Outside.{Untold, KeepsFiles};
-ghost use Rattle.dahlia.specs.Counted.{Counts, CountsOpened, Meets, NoMemoryMeansOutOfMemory, ReadsTold, files_with, told_of};
+ghost use Rattle.dh_system.specs.Counted.{Counts, CountsOpened, Meets, NoMemoryMeansOutOfMemory, ReadsTold, files_with, told_of};
 
 use dh_base::{FileFault, Files};
 use std::alloc::Global;
@@ -23,7 +23,7 @@ pub struct RealFiles<'a, R: std::rt::Files> {
 }
 
 impl<'a, R: std::rt::Files> Model for RealFiles<'a, R> {
-    ghost use Rattle.dahlia.specs.Counted.{Counts};
+    ghost use Rattle.dh_system.specs.Counted.{Counts};
 
     ghost Value = { Counts };
 

@@ -1,7 +1,7 @@
 -- An error after some bytes, more bytes than the limit, and the whole file.
 use Rattle.std.proofs.Common.{◌∙◌, [], ap, arith}
-use Rattle.dahlia.proofs.Readings.{met_ends, too_long, whole}
-use Rattle.dahlia.proofs.files.RealFiles.read_open.Goals as goal
+use Rattle.dh_system.proofs.Readings.{met_ends, too_long, whole}
+use Rattle.dh_system.proofs.files.RealFiles.read_open.Goals as goal
 
 pub returns-in-Err-clause-answer : goal.returns-in-Err-clause-answer
 returns-in-Err-clause-answer g c = met_ends _ [] c.args.limit c.args.self.now _ c.met.new.self c.met.result (ap (λ s. s.faults) c.self.view_is) c.met.ensures.answer

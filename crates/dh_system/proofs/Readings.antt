@@ -7,7 +7,7 @@ use Rattle.dh_base.specs.declared.outside.FileFault.{FileFault}
 use Rattle.dh_base.specs.declared.outside.FileFault.TheVariants as file
 use Rattle.std.specs.declared.alloc.Global.{Global}
 use Rattle.dh_base.specs.Outside.{Told, Untold, Reads, CountsRead, Rose, RoseBy, MayBe, MayExceed, risen}
-use Rattle.dahlia.specs.Counted.{Counts, CountsOpened, Meets, files_with, told_of}
+use Rattle.dh_system.specs.Counted.{Counts, CountsOpened, Meets, files_with, told_of}
 
 -- an error ends the read, whatever is told of the file; no fault was counted before it
 pub met_ends : (told : Told) (name : List ℕ) (limit : ℕ) (old now new : Counts) (fault : FileFault) → now.faults ≡ old.faults

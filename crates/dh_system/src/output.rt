@@ -2,7 +2,7 @@
 
 ghost use Rattle.std.specs.Prelude.{◌≡◌, OnErr};
 ghost use Rattle.dh_base.specs.Outside.{Rose, KeepsSink};
-ghost use Rattle.dahlia.specs.Counted.{CountsUntoldWrite, HoldsWhole, WritesUntold, sink_with};
+ghost use Rattle.dh_system.specs.Counted.{CountsUntoldWrite, HoldsWhole, WritesUntold, sink_with};
 
 use dh_base::{Sink, SinkFault};
 use std::io;
