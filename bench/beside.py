@@ -1,14 +1,18 @@
-"""What bench/check and bench/interpret share: a peer beside the program.
+"""What bench/check, bench/interpret and bench/lower share: how the program is run, and a peer beside it.
+
+Programs are run as ./dahlia runs its own: with what that script sets for malloc of the GNU C library, or, where the
+word `--as-found` is given, with nothing set.
 
 A peer is another program for the same jobs with the same words, named by `--peer PATH`: a plain one, without
 contracts, shows what the jobs cost by themselves."""
 import os
+import re
 import statistics
 import subprocess
 import time
 
-# What ./dahlia sets: malloc of the GNU C library asks the kernel for huge pages.
-HUGE_PAGES = 'glibc.malloc.hugetlb=1'
+# The script that runs the program for its users.
+SCRIPT = os.path.join(os.path.dirname(os.path.abspath(__file__)), '..', 'dahlia')
 # The program that tells how much memory another takes.
 TIME = '/usr/bin/time'
 
@@ -23,9 +27,14 @@ def peer_and_rest(arguments):
     return os.path.abspath(arguments[at + 1]), arguments[:at] + arguments[at + 2:]
 
 
-def without(word, arguments):
-    """Whether the word is among the arguments, and they without it."""
-    return word in arguments, [argument for argument in arguments if argument != word]
+def set_as_run(arguments):
+    """Sets for all programs that are run from here what ./dahlia sets for its own, or nothing where `--as-found` is among
+    the arguments. Gives what was set, and the arguments without that word."""
+    with open(SCRIPT, encoding='utf-8') as file:
+        of_script = re.search(r'GLIBC_TUNABLES-([^}]*)}', file.read())[1]
+    taken = '' if '--as-found' in arguments else of_script
+    os.environ['GLIBC_TUNABLES'] = taken
+    return taken or 'nothing', [argument for argument in arguments if argument != '--as-found']
 
 
 def measured(words, folder):

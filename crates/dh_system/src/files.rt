@@ -43,6 +43,20 @@ impl<'a, R: std::rt::Files> RealFiles<'a, R> {
         }
     }
 
+    /// The faults met so far.
+    pub fn faults(&self) -> u64
+        ensures { result ≡ self.now.faults }
+    {
+        self.faults
+    }
+
+    /// The bytes taken so far.
+    pub fn taken(&self) -> u64
+        ensures { result ≡ self.now.taken }
+    {
+        self.taken
+    }
+
     /// The bytes of a file by its name, if they are no longer than the limit.
     fn read_named(&mut self, alloc: Global, name: &str, limit: u64) -> Result<Vec<u8>, FileFault>
         ensures keeps { KeepsFiles (files_with Untold self.old) (files_with Untold self.new) }
@@ -99,43 +113,5 @@ impl<'a, R: std::rt::Files> Files for RealFiles<'a, R> {
     fn read(&mut self, alloc: Global, name: &str, limit: u64) -> Result<Vec<u8>, FileFault> {
         self.reads = self.reads.saturating_add(1);
         self.read_named(alloc, name, limit)
-    }
-}
-
-#[cfg(test)]
-mod tests {
-    use super::*;
-    use std::test::Fail;
-
-    const FOUR_BYTES: &str = "dahlia_real_files_test";
-
-    #[test]
-    fn reads_within_limits(rt: HostRuntime) -> Result<(), Fail> {
-        fs::write(&rt, FOUR_BYTES, "four")?;
-        let mut files = RealFiles::new(&rt);
-        let reads = [
-            (FOUR_BYTES, 5, Ok("four"), 0, 4),
-            (FOUR_BYTES, 4, Ok("four"), 0, 8),
-            (FOUR_BYTES, 3, Err(FileFault::TooLong), 0, 12),
-            (FOUR_BYTES, 0, Err(FileFault::TooLong), 0, 13),
-            ("dahlia_absent", 4, Err(FileFault::Failed), 1, 13),
-            (".", 4, Err(FileFault::Failed), 2, 13),
-            ("/dev/zero", 9, Err(FileFault::TooLong), 2, 23),
-        ];
-        for (name, limit, want, faults, taken) in reads {
-            match (files.read(rt.alloc(), name, limit), want) {
-                (Ok(bytes), Ok(held)) => assert_eq!(rt;
-                    bytes.as_slice(),
-                    held.as_bytes(),
-                    "{name}"
-                ),
-                (Err(fault), Err(told)) => assert_eq!(rt; fault, told, "{name}"),
-                _ => panic!(rt; "{name} at {limit}"),
-            }
-            assert_eq!(rt; files.faults, faults, "faults at {name}");
-            assert_eq!(rt; files.taken, taken, "taken at {name}");
-        }
-        fs::remove_file(&rt, FOUR_BYTES)?;
-        Ok(())
     }
 }

@@ -24,6 +24,13 @@ impl<W: Write> StdSink<W> {
     {
         StdSink { writer, faults: 0 }
     }
+
+    /// The writes that failed so far.
+    pub fn faults(&self) -> u64
+        ensures { result ≡ self.now.faults }
+    {
+        self.faults
+    }
 }
 
 impl<W: Write> Sink for StdSink<W> {
@@ -54,34 +61,4 @@ fn write_out<W: Write>(writer: &mut W, piece: &[u8]) -> io::Result<()>
 {
     writer.write_all(piece)?;
     writer.flush()
-}
-
-#[cfg(test)]
-mod tests {
-    use super::*;
-
-    #[test]
-    fn writes_to_standard_output(rt: HostRuntime) {
-        let mut out = StdSink::new(io::writer(&rt));
-        for piece in ["a line\n", "", "another\n"] {
-            assert_eq!(rt; out.write(piece.as_bytes()), Ok(()), "{piece}");
-            assert_eq!(rt; out.faults, 0, "faults at {piece}");
-        }
-    }
-
-    #[test]
-    fn fails_where_nothing_is_taken(rt: HostRuntime) {
-        let mut room = [0; 4];
-        let mut out = StdSink::new(room.as_mut_slice());
-        let writes = [
-            ("abc", Ok(()), 0),
-            ("de", Err(SinkFault::Failed), 1),
-            ("", Ok(()), 1),
-            ("f", Err(SinkFault::Failed), 2),
-        ];
-        for (piece, want, faults) in writes {
-            assert_eq!(rt; out.write(piece.as_bytes()), want, "{piece}");
-            assert_eq!(rt; out.faults, faults, "faults at {piece}");
-        }
-    }
 }
