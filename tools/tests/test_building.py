@@ -210,13 +210,14 @@ class Building(unittest.TestCase):
         self.play([])
         self.assertEqual(2, self.run_piped()[0])
 
-    def test_huge_pages_are_asked_for(self):
+    def test_malloc_is_set(self):
         """The script sets how malloc asks for memory where the caller has set nothing; what the caller has set stays."""
         self.write('settings', '#!/bin/sh\necho "$GLIBC_TUNABLES"\n')
         os.chmod(os.path.join(self.room, 'settings'), 0o755)
         self.environment['PROGRAM_TO_BUILD'] = os.path.join(self.room, 'settings')
         self.play([])
-        for given, taken in ((None, 'glibc.malloc.hugetlb=1'), ('', ''), ('glibc.malloc.top_pad=65536', 'glibc.malloc.top_pad=65536')):
+        set_here = 'glibc.malloc.hugetlb=1:glibc.malloc.mmap_threshold=33554432:glibc.malloc.trim_threshold=8589934592'
+        for given, taken in ((None, set_here), ('', ''), ('glibc.malloc.top_pad=65536', 'glibc.malloc.top_pad=65536')):
             self.environment.pop('GLIBC_TUNABLES', None)
             if given is not None:
                 self.environment['GLIBC_TUNABLES'] = given
