@@ -10,7 +10,6 @@ ghost use Rattle.dh_plan.specs.SeenPlans.{plan_seen};
 ghost use Rattle.dh_backend.specs.NetParts.{ArePartsOf, times_seen};
 ghost use Rattle.dh_backend.specs.SuitedPlans.{IsCompiled};
 ghost use Rattle.dh_build.specs.BuiltPlans.{CanBuild, IsBuiltNet};
-ghost use Rattle.dh_join.specs.JoinedNets.{IsJoined};
 ghost use Rattle.dh_compile.specs.Compiled.{Compiles, IsNetOfProgram};
 ghost use Rattle.dh_compile.specs.JoinedSwept.{IsJoinedSwept};
 
@@ -59,20 +58,12 @@ fn whole_net(alloc: Global, parts: NetParts) -> Result<Net, NoMemory>
     )
 }
 
-/// The net with few drivers for each port. The net before is let go.
-fn driven_net(alloc: Global, net: Net) -> Result<Net, NoMemory>
-    requires { IsValid net }
-    ensures { IfOk result (IsJoined net) }
-{
-    join_drivers(alloc, &net)
-}
-
 /// The net with few drivers for each port, and without the cells that are not needed then.
 fn joined_net(alloc: Global, net: Net) -> Result<Net, NoMemory>
     requires { IsValid net }
     ensures { IfOk result (IsJoinedSwept net) }
 {
-    match driven_net(alloc, net) {
+    match join_drivers(alloc, net) {
         Ok(joined) => sweep(alloc, joined),
         Err(fault) => Err(fault),
     }

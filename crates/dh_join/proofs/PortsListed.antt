@@ -227,27 +227,41 @@ joining_ends old new ports dss joined left i h past long = record {
   each = h.each;
 }
 
+-- The ports of a table, as they are listed.
+
+module _ (table : List MemEntry) (ports listed : List Port) (lists : List (List Driver)) (ports_are : ports ≡ ports_of table) (listed_are : listed ≡ ports) where
+  listed_is : listed ≡ ports_of table
+  listed_is = listed_are ∙ ports_are
+
+  pub lists_long : length lists ≡ length (ports_of table) → length lists ≡ length listed
+  lists_long long = long ∙ ap (λ (l : List Port). length l) (sym listed_is)
+
+  pub lists_drive : (cells : List Cell) → DriveAll cells (ports_of table) lists → DriveAll cells listed lists
+  lists_drive cells h = subst (λ (l : List Port). DriveAll cells l lists) (sym listed_is) h
+
+  pub lists_joined : (cells new : List Cell) (joined : List (List Driver)) → PortsJoined cells new listed lists joined → PortsJoined cells new (ports_of table) lists joined
+  lists_joined cells new joined h = subst (λ (l : List Port). PortsJoined cells new l lists joined) listed_is h
+
 -- The ports of a net.
 
-module _ (net : Net) (valid : IsValid net) (table : List MemEntry) (ports listed : List Port) (lists : List (List Driver)) (table_is : table ≡ net.table)
-    (ports_are : ports ≡ ports_of table) (listed_are : listed ≡ ports) (lists_are : lists ≡ net.drivers) where
-  listed_is : listed ≡ ports_of net.table
-  listed_is = listed_are ∙ (ports_are ∙ ap (λ (t : List MemEntry). ports_of t) table_is)
+module _ (net : Net) (valid : IsValid net) (table : List MemEntry) (lists : List (List Driver)) (table_is : table ≡ net.table) (lists_are : lists ≡ net.drivers) where
+  ports_are : ports_of table ≡ ports_of net.table
+  ports_are = ap (λ (t : List MemEntry). ports_of t) table_is
 
-  pub lists_long : length lists ≡ length listed
-  lists_long = ap (λ (l : List (List Driver)). length l) lists_are ∙ (valid.ports ∙ ap (λ (l : List Port). length l) (sym listed_is))
+  pub net_long : length lists ≡ length (ports_of table)
+  net_long = ap (λ (l : List (List Driver)). length l) lists_are ∙ (valid.ports ∙ ap (λ (l : List Port). length l) (sym ports_are))
 
-  pub lists_drive : (cells : List Cell) → cells ≡ net.cells → DriveAll cells listed lists
-  lists_drive cells is q p ds port_at list_at k d at =
+  pub net_drives : (cells : List Cell) → cells ≡ net.cells → DriveAll cells (ports_of table) lists
+  net_drives cells is q p ds port_at list_at k d at =
       subst (λ (l : List Cell). IsDriver l p d) (sym is)
-      (valid.drivers q ds p (ap (λ (l : List (List Driver)). slice_get l q) (sym lists_are) ∙ list_at) (ap (λ (l : List Port). slice_get l q) (sym listed_is) ∙ port_at) k d at)
+      (valid.drivers q ds p (ap (λ (l : List (List Driver)). slice_get l q) (sym lists_are) ∙ list_at) (ap (λ (l : List Port). slice_get l q) (sym ports_are) ∙ port_at) k d at)
 
-  pub net_driven : (cells new : List Cell) (joined : List (List Driver)) → cells ≡ net.cells → PortsJoined cells new listed lists joined
+  pub net_driven : (cells new : List Cell) (joined : List (List Driver)) → cells ≡ net.cells → PortsJoined cells new (ports_of table) lists joined
       → PortsJoined net.cells new (ports_of net.table) net.drivers joined
   net_driven cells new joined is h =
       subst (λ (l : List Cell). PortsJoined l new (ports_of net.table) net.drivers joined) is
-      (subst (λ (l : List Port). PortsJoined cells new l net.drivers joined) listed_is
-      (subst (λ (l : List (List Driver)). PortsJoined cells new listed l joined) lists_are h))
+      (subst (λ (l : List Port). PortsJoined cells new l net.drivers joined) ports_are
+      (subst (λ (l : List (List Driver)). PortsJoined cells new (ports_of table) l joined) lists_are h))
 
 pub small_as : (table now : List MemEntry) → now ≡ table → IsProgramTable table → AllByRecursion IsSmallMemory now
 small_as table now is h = subst (λ (l : List MemEntry). AllByRecursion IsSmallMemory l) (sym is) (small_memories table h)
