@@ -70,13 +70,13 @@ IsRefusal (accepts p) = ⊥
 IsRefusal (refuses rule place) = Unit {0}
 IsRefusal (exceeds excess) = Unit {0}
 
--- by what is ports of it, the text of the file comes to this verdict, and to no other
+-- by what is asked of it, the text of the file comes to this verdict, and to no other
 pub record ComesTo (files : FilesSeen) (ports : Bool) (file : List ℕ) (v : Verdict) : Type 0 where
   pub text : List ℕ
   pub read : MayRead files file limit.Source text
   pub verdict : IsVerdict ports text v
 
--- the file is the text of this program, accepted by what is ports of it
+-- the file is the text of this program, accepted by what is asked of it
 abbrev pub IsProgram : FilesSeen → Bool → (file : List ℕ) → Program → Type 0
 IsProgram files ports file p = ComesTo files ports file (accepts p)
 
@@ -99,7 +99,7 @@ NotAccepted old new ports file no_memory = HasRead old new 1
 abbrev pub NoProgram : (old new : FilesSeen) → Bool → (file : List ℕ) → ReplySeen → Type 0
 NoProgram old new ports file r = NoFile old new file limit.Source 1 r ⊎ NotAccepted old new ports file r
 
--- a job reads the file of its program first: it gives none, and no other file is read and no engine ports;
+-- a job reads the file of its program first: it gives none, and no other file is read and no engine is asked;
 -- or it gives one, and the rest of the job follows
 abbrev pub ProgramStage : (old new : InputsSeen) → Bool → (file : List ℕ) → (rest : Program → ReplySeen → Type 0) → ReplySeen → Type 0
 ProgramStage old new ports file rest r =
@@ -141,7 +141,7 @@ NotTaken old new data_ table count no_memory = HasRead old new count
 abbrev pub NoData : (old new : FilesSeen) → (data_ : List ℕ) → List MemEntry → (count : ℕ) → ReplySeen → Type 0
 NoData old new data_ table count r = NoFile old new data_ limit.Data count r ⊎ NotTaken old new data_ table count r
 
--- a job reads the file of its data second: it gives no memories of the table, and no engine is ports; or
+-- a job reads the file of its data second: it gives no memories of the table, and no engine is asked; or
 -- it gives memories, and the rest of the job follows
 abbrev pub DataStage : (old new : InputsSeen) → (data_ : List ℕ) → List MemEntry → (rest : List (List ℕ) → ReplySeen → Type 0) → ReplySeen → Type 0
 DataStage old new data_ table rest r =

@@ -344,9 +344,9 @@ fn find_in_parts(parts: &[Vec<Command>], number: u32) -> Option<&Command>
     None
 }
 
-/// The phases of the command of a number, their commands by their numbers. Declarations of memories, views and
-/// calls have no phase. The commands of `combine` are done at the end of the last phase of a turn where both are
-/// straight.
+/// The phases of the command of a number, their commands by their numbers. Declarations of memories, of views that
+/// keep no offset (`shrink`, `split`) and calls have no phase. The commands of `combine` are done at the end of the
+/// last phase of a turn where both are straight.
 ///
 /// # Errors
 ///

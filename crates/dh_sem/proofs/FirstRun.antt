@@ -35,12 +35,14 @@ use Rattle.dh_sem.specs.declared.phases.Phase.{Phase}
 use Rattle.dh_sem.specs.declared.gathering.Made.{Made}
 use Rattle.dh_sem.specs.declared.stepping.Course as code
 use Rattle.dh_sem.specs.Frames.{AreToCome}
-use Rattle.dh_sem.specs.Gathered.{IsSoundMade, course_made}
+use Rattle.dh_sem.specs.declared.starting.Begun as starting
+use Rattle.dh_sem.specs.Gathered.{HoldsProgram, IsSoundMade, course_made}
 use Rattle.dh_sem.specs.Phased.{AreLinked, ArePhases, Course, IsEarlier, IsSoundFrame}
 use Rattle.dh_sem.specs.Runs.{IsSteady, StandsAt, place_outcome}
+use Rattle.dh_sem.specs.Starts.{IsBegun, IsUnused, StandsFirst, run_begun}
 use Rattle.dh_sem.specs.Steps.{Arrives, GoesOn, OnlyVariables, course_of}
 use Rattle.dh_sem.proofs.SmallMemories.{fits_small}
-use Rattle.dh_sem.proofs.Stepped.{run_at, stands_placed}
+use Rattle.dh_sem.proofs.Stepped.{coursed_as, run_at, stands_placed}
 
 abbrev copies_at : List Declaration → ℕ → ℕ
 copies_at ds entity = copies_in (factors_of (declaration_in ds entity))
@@ -223,3 +225,27 @@ linked_as phases kept lanes held e f h = subst (λ (l : List Phase). AreLinked l
 pub framed_as : (phases kept : List Phase) (first : Option ℕ) (frames : List Frame) → phases ≡ kept → frames ≡ Rest first ∷ [] → IsEarlier (length kept) first → AllByRecursion (IsSoundFrame (length phases)) frames
 framed_as phases kept first frames same is earlier =
     subst (λ (l : List Phase). AllByRecursion (IsSoundFrame (length l)) frames) (sym same) (first_sound (length kept) first frames [] refl is earlier)
+
+pub earlier_as : (phases kept : List Phase) (first : Option ℕ) → phases ≡ kept → IsEarlier (length kept) first → IsEarlier (length phases) first
+earlier_as phases kept first same earlier = subst (λ (l : List Phase). IsEarlier (length l) first) (sym same) earlier
+
+pub unused_as : (slots slots' operations operations' banks banks' : ℕ) (state : State) → slots ≡ slots' → operations ≡ operations' → banks ≡ banks' → IsUnused slots operations banks state → IsUnused slots' operations' banks' state
+unused_as slots slots' operations operations' banks banks' state s o b h = record {
+  variables_are = h.variables_are ∙ ap (λ n. replicate n 0) s;
+  given_long = h.given_long ∙ o;
+  banks_long = h.banks_long ∙ b;
+  unspent = h.unspent;
+}
+
+-- what a run begins with that goes to the first block of what was made of its program
+pub begun_as : (p : Program) (table : List MemEntry) (b : starting.Begun) (first : Option ℕ) (old : State) (cc : code.Course) → table ≡ table_of p → IsProgramTable (table_of p) → HoldsProgram p b.made first → AreFirsts table b.firsts.items
+    → IsUnused (slots_of p) (length b.made.code.operations) (all_banks table) old → cc.phases.now ≡ b.made.phases.items → cc.lanes.now ≡ b.made.lanes.items → StandsFirst cc first b.place old b.state b.frames.items → IsBegun p b
+begun_as p table b first old cc tabled t holds firsts unused phases lanes stands = record {
+  steady = λ outcome memories fits.
+      subst (λ (x : List MemEntry). IsSteady (run_begun x b outcome memories) b.state.given.items b.state.banks.items b.firsts.items) tabled
+      (first_steady p table b.made outcome memories old b.state b.place b.frames.items cc.phases.now b.firsts.items tabled t holds.0 fits firsts unused.given_long unused.banks_long unused.unspent stands.only phases stands.sound stands.earlier);
+  stands = λ outcome memories leads.
+      subst (λ (x : List MemEntry). StandsAt p memories 0 (run_begun x b outcome memories)) tabled
+      (stands_as p table b.made.code cc (course_made b.made) first b.place old b.state (Rest first ∷ []) b.frames.items memories outcome
+      (coursed_as b.made.code cc.phases.now b.made.phases.items cc.lanes.now b.made.lanes.items phases lanes) tabled refl holds.1.1 (holds_unset p old.variables.items unused.variables_are) stands.goes leads);
+}

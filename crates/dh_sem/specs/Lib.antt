@@ -5,3 +5,4 @@ pub mod Steps
 pub mod Runnable
 pub mod Gathered
 pub mod Runs
+pub mod Starts

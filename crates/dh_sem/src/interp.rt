@@ -1,30 +1,21 @@
 //! A run of a typed program, step by step.
 
-ghost use Rattle.std.specs.Prelude.{◌≡◌, ◌+◌, ◌-◌, ◌<◌, ◌≤◌, ◌^◌, [], IfOk, length, map, replicate};
-ghost use Rattle.std.specs.List.{AllByRecursion};
+ghost use Rattle.std.specs.Prelude.{◌≡◌, ◌-◌, ◌<◌, ◌^◌, IfOk};
 ghost use Rattle.dh_tree.specs.Memories.{table_of};
 ghost use Rattle.dh_tree.specs.Seen.{program_seen};
-ghost use Rattle.dh_tree.specs.Shapes.{IsProgramTable, IsMemory};
-ghost use Rattle.dh_tree.specs.Tables.{Fits, elements_in, most_elements};
-ghost use Rattle.dh_code.specs.Banks.{AreFirsts, all_banks};
-ghost use Rattle.dh_meaning.specs.Ways.{ways_of};
-ghost use Rattle.dh_ways.specs.Seen.{led_seen};
-ghost use Rattle.dh_code.specs.Declarations.{placing_of};
-ghost use Rattle.dh_sem.specs.Gathered.{HoldsProgram, IsSoundMade};
-ghost use Rattle.dh_sem.specs.Lanes.{AreFirstLanes};
+ghost use Rattle.dh_tree.specs.Shapes.{IsProgramTable};
+ghost use Rattle.dh_tree.specs.Tables.{Fits};
 ghost use Rattle.dh_sem.specs.Runnable.{IsRunnable};
 ghost use Rattle.dh_sem.specs.Runs.{StandsAt, StepsOn, place_outcome};
 ghost use Rattle.dh_sem.specs.Steps.{stop_outcome};
 
-use crate::gathering::{Made, hold_all};
-use crate::lanes::first_lanes;
+use crate::gathering::Made;
 use crate::phases::Frame;
-use crate::stepping::{Course, advance, go_on, make_writes};
-use dh_base::{Items, NoMemory, Outcome};
-use dh_code::{Code, Held, Names, Scene, State, Stop, place_all, unused};
-use dh_extents::measure;
+use crate::starting::begin;
+use crate::stepping::{Course, advance, make_writes};
+use dh_base::{NoMemory, Outcome};
+use dh_code::{Scene, State, Stop};
 use dh_tree::{MemEntry, Memories, Typed};
-use dh_ways::{WayTable, hidden_in, ways_in};
 use std::alloc::Global;
 use std::marker::Model;
 use std::mem;
@@ -87,45 +78,6 @@ impl<'a> Model for Interp<'a> {
         i.state.given.items i.state.banks.items i.firsts.items };
 }
 
-/// The number of the first bank of each memory.
-fn first_banks(alloc: Global, entries: &[MemEntry]) -> Result<Vec<usize>, NoMemory>
-    requires table { AllByRecursion IsMemory entries.now }
-    requires few { elements_in entries.now ≤ most_elements }
-    ensures { IfOk result (λ firsts. AreFirsts entries.now firsts.items) }
-{
-    let mut firsts = Vec::new(alloc);
-    let mut banks = 0;
-    for entry in entries {
-        firsts.push(banks)?;
-        banks += measure(entry.shape.dims.as_slice()).banks as usize;
-    }
-    Ok(firsts)
-}
-
-/// How many banks all memories have.
-fn count_banks(entries: &[MemEntry]) -> usize
-    requires table { AllByRecursion IsMemory entries.now }
-    requires few { elements_in entries.now ≤ most_elements }
-    ensures { result ≡ all_banks entries.now }
-{
-    let mut banks = 0;
-    for entry in entries {
-        banks += measure(entry.shape.dims.as_slice()).banks as usize;
-    }
-    banks
-}
-
-/// So many zeros.
-fn zeros(alloc: Global, count: usize) -> Result<Vec<u64>, NoMemory>
-    ensures { IfOk result (λ list. list.items ≡ replicate count 0) }
-{
-    let mut list = Vec::new(alloc);
-    for _ in 0..count {
-        list.push(0)?;
-    }
-    Ok(list)
-}
-
 /// The outcome where there is a next block, or none.
 fn outcome_at(place: Option<usize>) -> Outcome
     ensures { result ≡ place_outcome place }
@@ -146,32 +98,6 @@ fn stopped_at(stop: Stop) -> Option<Outcome>
     }
 }
 
-/// Makes the phases of a program of which these are the ways and the slots.
-fn hold_program(
-    alloc: Global,
-    program: &Typed,
-    ways: &WayTable,
-    places: &[Held],
-    made: &mut Made,
-) -> Result<Option<usize>, NoMemory>
-    requires table { IsProgramTable (table_of (program_seen program.now)) }
-    requires runnable { IsRunnable (program_seen program.now) }
-    requires ways { map led_seen ways.now ≡ ways_of (program_seen program.now) }
-    requires places { places.now ≡ (placing_of (program_seen program.now)).held }
-    requires lanes { AreFirstLanes made.old.lanes.items }
-    requires sound { IsSoundMade (table_of (program_seen program.now)) made.old }
-    ensures { IfOk result (λ first. HoldsProgram (program_seen program.now) made.new first) }
-{
-    let tree = program.tree();
-    let names = Names {
-        alloc,
-        program,
-        ways,
-        places,
-    };
-    hold_all(&names, made, &tree.body)
-}
-
 impl<'a> Interp<'a> {
     /// The program before its first step, with these memories.
     ///
@@ -189,47 +115,22 @@ impl<'a> Interp<'a> {
         ensures { IfOk result (λ i. StandsAt (program_seen program.now) memories 0 i) }
     {
         let entries = program.memories().as_slice();
-        let tree = program.tree();
-        let ways = ways_in(alloc, program)?;
-        let hidden = hidden_in(alloc, program)?;
-        let kept = hidden.as_slice();
-        let held = place_all(alloc, &tree.body, kept, tree.entities.len())?;
-        let mut made = Made {
-            code: Code {
-                operations: Items::new(alloc),
-                steps: Items::new(alloc),
-            },
-            phases: Vec::new(alloc),
-            lanes: first_lanes(alloc)?,
-        };
-        let first = hold_program(alloc, program, &ways, held.held.as_slice(), &mut made)?;
-        let mut state = State {
-            variables: zeros(alloc, held.count as usize)?,
-            given: zeros(alloc, made.code.operations.len())?,
-            banks: unused(alloc, count_banks(entries))?,
-            writes: Vec::new(alloc),
-            changes: Vec::new(alloc),
-        };
-        let mut frames = Vec::new(alloc);
-        frames.push(Frame::List { list: first })?;
-        let course = Course {
-            phases: made.phases.as_slice(),
-            lanes: made.lanes.as_slice(),
-        };
-        let place = go_on(&course, &mut state, &mut frames, false)?;
-        Ok(Interp {
-            alloc,
-            entries,
-            firsts: first_banks(alloc, entries)?,
-            made,
-            frames,
-            spare: Vec::new(alloc),
-            state,
-            memories,
-            steps: 0,
-            place,
-            outcome: outcome_at(place),
-        })
+        match begin(alloc, program) {
+            Ok(begun) => Ok(Interp {
+                alloc,
+                entries,
+                firsts: begun.firsts,
+                made: begun.made,
+                frames: begun.frames,
+                spare: Vec::new(alloc),
+                state: begun.state,
+                memories,
+                steps: 0,
+                place: begun.place,
+                outcome: outcome_at(begun.place),
+            }),
+            Err(fault) => Err(fault),
+        }
     }
 
     /// Does the next logical step, where there is one, and tells the outcome then. After want of

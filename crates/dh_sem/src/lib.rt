@@ -7,6 +7,7 @@ mod gathering;
 mod interp;
 mod lanes;
 mod phases;
+mod starting;
 mod stepping;
 
 pub use interp::Interp;

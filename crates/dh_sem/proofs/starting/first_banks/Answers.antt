@@ -1,6 +1,6 @@
 use Rattle.std.proofs.Common.{subst, sym, List, ℕ}
 use Rattle.dh_code.proofs.BankLists.{FirstsTo, first_none, firsts_none, firsts_more, next_dims, next_word, next_first, fits_word}
-use Rattle.dh_sem.proofs.interp.first_banks.Goals as goal
+use Rattle.dh_sem.proofs.starting.first_banks.Goals as goal
 
 pub loop-entry-init : goal.loop-entry-init
 loop-entry-init c = (first_none c.args.entries.now, subst (λ (l : List ℕ). FirstsTo c.args.entries.now l 0) (sym c.new-firsts.ensures.items) (firsts_none c.args.entries.now))

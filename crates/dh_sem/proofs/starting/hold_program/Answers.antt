@@ -3,7 +3,7 @@ use Rattle.std.proofs.lemmas.Result.{IfOk-weaker}
 use Rattle.dh_tree.specs.declared.trees.programs.Tree.{Tree}
 use Rattle.dh_tree.specs.Seen.{action_seen}
 use Rattle.dh_sem.proofs.FirstMade.{made_first}
-use Rattle.dh_sem.proofs.interp.hold_program.Goals as goal
+use Rattle.dh_sem.proofs.starting.hold_program.Goals as goal
 
 pub returns : goal.returns
 returns c =

@@ -1,6 +1,6 @@
 use Rattle.std.proofs.Common.{◌∙◌}
 use Rattle.dh_code.proofs.BankLists.{first_none, first_end, next_dims, next_word, next_first, fits_word}
-use Rattle.dh_sem.proofs.interp.count_banks.Goals as goal
+use Rattle.dh_sem.proofs.starting.count_banks.Goals as goal
 
 pub loop-entry-init : goal.loop-entry-init
 loop-entry-init c = first_none c.args.entries.now
