@@ -1,6 +1,8 @@
 -- A walk over a whole program.
-use Rattle.std.proofs.Common.{◌≡◌, ℕ, ◌+◌, List, [], ◌∷◌, ◌++◌, length, map, None, sym, ap, subst, ◌∙◌, arith}
+use Rattle.std.proofs.Common.{◌≡◌, ℕ, ◌+◌, List, [], ◌∷◌, ◌++◌, length, map, Option, None, sym, ap, subst, ◌∙◌, arith}
 use Rattle.std.proofs.lemmas.List.{length-append, append-nil}
+use Rattle.dh_tree.specs.declared.breaches.Breach.{Breach}
+use Rattle.dh_tree.specs.declared.trees.commands.Command.{Command}
 use Rattle.dh_tree.specs.declared.trees.programs.Decl.{Decl}
 use Rattle.dh_tree.specs.declared.trees.programs.Entity.{Entity}
 use Rattle.dh_tree.specs.declared.trees.programs.Tree.{Tree}
@@ -14,7 +16,7 @@ use Rattle.dh_tree.specs.Breaches.{breaches, functions_breaches, items_breaches,
 use Rattle.dh_tree.specs.Resolved.{resolved_action, resolved_decls, resolved_functions, resolved}
 use Rattle.dh_tree.specs.NameCounts.{declared_in, declared_in_functions, HasFewNames}
 use Rattle.dh_names.specs.Walks.{State, Room, Resolves}
-use Rattle.dh_names.specs.Programs.{ResolvesFunctions, left}
+use Rattle.dh_names.specs.Programs.{ResolvesFunctions, ResolvesItems, left}
 use Rattle.dh_tree.proofs.Leasts.{least_append}
 use Rattle.dh_names.proofs.FunctionsDone.{length_map, function_counted}
 
@@ -49,16 +51,6 @@ program ds fs b es = record { decls = ds; functions = fs; body = b; entities = e
 abbrev pub before_body : List Binding → List Binding → State → State
 before_body outer top s = record { outer = outer; scope = record { visible = top; entities = s.scope.entities }; least = s.least }
 
--- what the calls of the walk did
-pub record Facts (p : Program) (s0 s1 s3 : State) (outer top : List Binding) (ds' : List Declared) (fs' : List Defined) (b' : Action) : Type 0 where
-  pub few : HasFewNames p
-  pub scope : s0.scope ≡ first_scope p
-  pub items : s0.least ≡ least_of None (items_breaches [] (items_of p))
-  pub functions : ResolvesFunctions (length p.decls) s0 s1 p.functions fs'
-  pub decls : ds' ≡ resolved_decls 0 p.decls
-  pub names : top ≡ after_items [] (items_of p)
-  pub body : Room (before_body outer top s1) (declared_in p.body) → Resolves (before_body outer top s1) s3 p.body b'
-
 pub scope_is : (p : Program) (o w : List Binding) (es : List Entity) → o ≡ [] → w ≡ [] → es ≡ outer_entities p → record { visible = o ++ w; entities = es } ≡ first_scope p
 scope_is p o w es o_is w_is es_is =
     ap (λ x. record { visible = x ++ w; entities = es }) o_is ∙ ap (λ x. record { visible = x; entities = es }) w_is ∙ ap (λ x. record { visible = []; entities = x }) es_is
@@ -79,61 +71,66 @@ start_scope tree o w es ds2 fs2 o_is w_is d2 f2 listed =
     scope_is (program_seen tree) o w es o_is w_is (listed ∙ ap (λ x. map (λ d. entity d.name Memory) (map declared_seen x) ++ map (λ f. entity f.name Function) (map defined_seen fs2)) d2
     ∙ ap (λ x. map (λ d. entity d.name Memory) (map declared_seen tree.decls.items) ++ map (λ f. entity f.name Function) (map defined_seen x)) f2)
 
-pub facts : (tree : Tree) (s0 s1 s3 : State) (outer top vis : List Binding) (o w : List Binding) (ds1 ds2 : List Decl) (fs1 fs2 : List code.Function) (ds' : List Declared) (fs' : List Defined) (b' : Action) (n : ℕ)
-    → HasFewNames (program_seen tree) → o ≡ [] → w ≡ [] → vis ≡ [] → s0.scope.visible ≡ o ++ w
+-- the walk over memories from outside and functions, whose calls saw lists that are those of the tree
+pub items_done : (tree : Tree) (s0 s1 : State) (first : Option Breach) (top vis : List Binding) (o w : List Binding) (ds1 ds2 : List Decl) (fs1 fs2 : List code.Function) (ds' : List Declared) (fs' : List Defined) (n : ℕ)
+    → o ≡ [] → w ≡ [] → first ≡ None → vis ≡ [] → s0.scope.visible ≡ o ++ w
     → ds1 ≡ tree.decls.items → fs1 ≡ tree.functions.items → ds2 ≡ tree.decls.items → fs2 ≡ tree.functions.items → n ≡ length tree.decls.items
     → s0.scope.entities ≡ map (λ d. entity d.name Memory) (map declared_seen ds2) ++ map (λ f. entity f.name Function) (map defined_seen fs2)
-    → top ≡ after_items vis (left ds1 fs1 (0, 0)) → s0.least ≡ least_of None (items_breaches vis (left ds1 fs1 (0, 0)))
+    → top ≡ after_items vis (left ds1 fs1 (0, 0)) → s0.least ≡ least_of first (items_breaches vis (left ds1 fs1 (0, 0)))
     → ResolvesFunctions n s0 s1 (map defined_seen tree.functions.items) fs' → ds' ≡ resolved_decls 0 (map declared_seen tree.decls.items)
-    → (Room (before_body outer top s1) (declared_in (action_seen tree.body)) → Resolves (before_body outer top s1) s3 (action_seen tree.body) b')
-    → Facts (program_seen tree) s0 s1 s3 outer top ds' fs' b'
-facts tree s0 s1 s3 outer top vis o w ds1 ds2 fs1 fs2 ds' fs' b' n few o_is w_is vis_is seen d1 f1 d2 f2 count listed names items functions decls body =
+    → ResolvesItems (program_seen tree) s1 top ds' fs'
+items_done tree s0 s1 first top vis o w ds1 ds2 fs1 fs2 ds' fs' n o_is w_is none_is vis_is seen d1 f1 d2 f2 count listed names items functions decls =
     let p = program_seen tree in
     let all = left_is ds1 tree.decls.items fs1 tree.functions.items d1 f1 in
+    let scope : s0.scope ≡ first_scope p =
+    ap (λ x. record { visible = x; entities = s0.scope.entities }) seen ∙ start_scope tree o w s0.scope.entities ds2 fs2 o_is w_is d2 f2 listed in
+    let start : s0.least ≡ least_of None (items_breaches [] (items_of p)) =
+    items ∙ ap (λ k. least_of k (items_breaches vis (left ds1 fs1 (0, 0)))) none_is ∙ ap (λ x. least_of None (items_breaches x (left ds1 fs1 (0, 0)))) vis_is ∙ ap (λ x. least_of None (items_breaches [] x)) all in
+    let walked : ResolvesFunctions (length p.decls) s0 s1 p.functions fs' =
+    subst (λ k. ResolvesFunctions k s0 s1 p.functions fs') (count ∙ sym (length_map declared_seen tree.decls.items)) functions in
     record {
-      few = few;
-      scope = ap (λ x. record { visible = x; entities = s0.scope.entities }) seen ∙ start_scope tree o w s0.scope.entities ds2 fs2 o_is w_is d2 f2 listed;
-      items = items ∙ ap (λ x. least_of None (items_breaches x (left ds1 fs1 (0, 0)))) vis_is ∙ ap (λ x. least_of None (items_breaches [] x)) all;
-      functions = subst (λ k. ResolvesFunctions k s0 s1 p.functions fs') (count ∙ sym (length_map declared_seen tree.decls.items)) functions;
       decls = decls;
+      functions = walked.tree ∙ ap (λ y. resolved_functions (length p.decls) y p.functions) scope;
       names = names ∙ ap (λ x. after_items x (left ds1 fs1 (0, 0))) vis_is ∙ ap (λ x. after_items [] x) all;
-      body = body;
+      entities = ap (λ s. s.scope.entities) walked.state ∙ ap (λ y. (after_functions (length p.decls) y p.functions).entities) scope;
+      least = ap (λ s. s.least) walked.state ∙ ap (λ y. least_of s0.least (functions_breaches (length p.decls) y p.functions)) scope
+          ∙ ap (λ k. least_of k (functions_breaches (length p.decls) (first_scope p) p.functions)) start;
     }
 
-module _ (p : Program) (s0 s1 s3 : State) (outer top : List Binding) (ds' : List Declared) (fs' : List Defined) (b' : Action) (x : Facts p s0 s1 s3 outer top ds' fs' b') where
-  abbrev count : ℕ
-  count = length p.decls
+-- a walk over a body that is another one
+pub body_at : (s s' : State) (x y : Command) (b : Action) → x ≡ y → (Room s (declared_in (action_seen x)) → Resolves s s' (action_seen x) b)
+    → Room s (declared_in (action_seen y)) → Resolves s s' (action_seen y) b
+body_at s s' x y b is walked = subst (λ (z : Command). Room s (declared_in (action_seen z)) → Resolves s s' (action_seen z) b) is walked
 
-  entities_then : s1.scope.entities ≡ (after_functions count (first_scope p) p.functions).entities
-  entities_then = ap (λ s. s.scope.entities) x.functions.state ∙ ap (λ y. (after_functions count y p.functions).entities) x.scope
-
+module _ (p : Program) (s1 s3 : State) (outer top : List Binding) (ds' : List Declared) (fs' : List Defined) (b' : Action) (few : HasFewNames p) (items : ResolvesItems p s1 top ds' fs')
+    (body : Room (before_body outer top s1) (declared_in p.body) → Resolves (before_body outer top s1) s3 p.body b') where
   room : Room (before_body outer top s1) (declared_in p.body)
   room =
-      let e : length s1.scope.entities ≡ length (after_functions count (first_scope p) p.functions).entities = ap (λ l. length l) entities_then in
-      let f = functions_counted count (first_scope p) p.functions in
-      let d = outer_counted p in omega (arith, x.few, e, f, d)
+      let e : length s1.scope.entities ≡ length (after_functions (length p.decls) (first_scope p) p.functions).entities = ap (λ l. length l) items.entities in
+      let f = functions_counted (length p.decls) (first_scope p) p.functions in
+      let d = outer_counted p in omega (arith, few, e, f, d)
 
   body_then : (before_body outer top s1).scope ≡ body_scope p
   body_then =
-      ap (λ l. record { visible = l; entities = s1.scope.entities }) x.names ∙ ap (λ l. record { visible = after_items [] (items_of p); entities = l }) entities_then
+      ap (λ l. record { visible = l; entities = s1.scope.entities }) items.names ∙ ap (λ l. record { visible = after_items [] (items_of p); entities = l }) items.entities
 
   done : Resolves (before_body outer top s1) s3 p.body b'
-  done = x.body room
+  done = body room
 
   pub program_tree : program ds' fs' b' s3.scope.entities ≡ resolved p
   program_tree =
-      ap (λ y. program y fs' b' s3.scope.entities) x.decls
-      ∙ ap (λ y. program (resolved_decls 0 p.decls) y b' s3.scope.entities) (x.functions.tree ∙ ap (λ y. resolved_functions count y p.functions) x.scope)
+      ap (λ y. program y fs' b' s3.scope.entities) items.decls
+      ∙ ap (λ y. program (resolved_decls 0 p.decls) y b' s3.scope.entities) items.functions
       ∙ ap (λ y. program (resolved_decls 0 p.decls) (resolved p).functions y s3.scope.entities) (done.tree ∙ ap (λ y. resolved_action y p.body) body_then)
       ∙ ap (λ y. program (resolved_decls 0 p.decls) (resolved p).functions (resolved p).body y) (ap (λ s. s.scope.entities) done.state ∙ ap (λ y. (at_end y p.body).entities) body_then)
 
   pub program_least : s3.least ≡ least_of None (breaches_of p)
   program_least =
-      let f = functions_breaches count (first_scope p) p.functions in
+      let i = items_breaches [] (items_of p) in
+      let f = functions_breaches (length p.decls) (first_scope p) p.functions in
       let b = breaches (body_scope p) p.body in
       ap (λ s. s.least) done.state
       ∙ ap (λ y. least_of s1.least (breaches y p.body)) body_then
-      ∙ ap (λ k. least_of k b) (ap (λ s. s.least) x.functions.state ∙ ap (λ y. least_of s0.least (functions_breaches count y p.functions)) x.scope)
-      ∙ sym (least_append s0.least f b)
-      ∙ ap (λ k. least_of k (f ++ b)) x.items
-      ∙ sym (least_append None (items_breaches [] (items_of p)) (f ++ b))
+      ∙ ap (λ k. least_of k b) items.least
+      ∙ sym (least_append (least_of None i) f b)
+      ∙ sym (least_append None i (f ++ b))

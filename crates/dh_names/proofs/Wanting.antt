@@ -1,34 +1,20 @@
 -- Want of memory: where a part of a tree declares a name, the whole does, so that what the part answers holds
 -- of the whole.
-use Rattle.std.proofs.Common.{◌≡◌, ℕ, ◌+◌, ◌<◌, List, length, Result, Ok, Err, IsErr, sym, ap, ◌∙◌, arith}
-use Rattle.std.specs.Result.{IsErrAnd, OnOk}
+use Rattle.std.proofs.Common.{◌≡◌, ℕ, ◌+◌, ◌<◌, List, length, Result, Ok, Err, sym, ap, ◌∙◌, arith}
+use Rattle.std.specs.Result.{OnOk}
 use Rattle.dh_base.specs.declared.lists.NoMemory.{NoMemory}
-use Rattle.dh_base.specs.declared.faults.PassFault.{PassFault}
-use Rattle.dh_base.specs.declared.faults.PassFault.TheVariants as fault
 use Rattle.dh_tree.specs.declared.trees.programs.Decl.{Decl}
 use Rattle.dh_tree.specs.declared.trees.programs.Function.{Function}
 use Rattle.dh_tree.specs.declared.trees.programs.Tree.{Tree}
-use Rattle.dh_tree.specs.declared.trees.named.Named.{Named}
-use Rattle.dh_tree.specs.PlainTrees.{Program}
 use Rattle.dh_tree.specs.Seen.{action_seen, declared_seen, defined_seen, program_seen}
 use Rattle.dh_tree.specs.Scopes.{Binding, bind}
 use Rattle.dh_tree.specs.NameCounts.{declared_in, names_declared}
-use Rattle.dh_names.specs.Programs.{Answers, AnswersBuilt}
 use Rattle.dh_names.specs.Visible.{Binds}
 use Rattle.dh_names.proofs.FunctionsDone.{length_map}
 
 pub bound_ok : (old new : List Binding) (name : List ℕ) (n : ℕ) (r : Result (Unit {0}) NoMemory) → Binds old new name n r → OnOk r (new ≡ bind old name n)
 bound_ok old new name n (Ok u) h = h
 bound_ok old new name n (Err e) h = tt
-
--- a program that declares a name may have no answer for want of memory
-pub refused : (p : Program) (r : Result Named PassFault) → IsErr r × IsErrAnd r (λ e. e ≡ fault.NoMemory) → 0 < names_declared p → Answers p r
-refused p (Ok n) h k = absurd (cc h.0)
-refused p (Err e) h k = rw h.1 k
-
-pub refused_built : (p : Program) (r : Result Named PassFault) → IsErr r × IsErrAnd r (λ e. e ≡ fault.NoMemory) → 0 < names_declared p → AnswersBuilt p r
-refused_built p (Ok n) h k = absurd (cc h.0)
-refused_built p (Err e) h k = rw h.1 k
 
 pub some_items : (tree : Tree) (ds : List Decl) (fs : List Function) → ds ≡ tree.decls.items → fs ≡ tree.functions.items → 0 < length ds + length fs → 0 < names_declared (program_seen tree)
 some_items tree ds fs a b h =

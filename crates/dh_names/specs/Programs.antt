@@ -14,7 +14,7 @@ use Rattle.dh_tree.specs.declared.trees.named.Named.{Named}
 use Rattle.dh_tree.specs.PlainTrees.{Declared, Formal, Defined, Program}
 use Rattle.dh_tree.specs.Seen.{action_seen, declared_seen, formal_seen, defined_seen, program_seen}
 use Rattle.dh_tree.specs.LeastBreach.{is_before, breach, least_of, IsLeast}
-use Rattle.dh_tree.specs.Scopes.{Binding, entity_of, bind, entity, Item, memory_items, function_items, merged, after_items, Scope, after_formals, after_function, after_functions}
+use Rattle.dh_tree.specs.Scopes.{Binding, entity_of, bind, entity, Item, memory_items, function_items, merged, items_of, after_items, Scope, first_scope, after_formals, after_function, after_functions}
 use Rattle.dh_tree.specs.Breaches.{breaches_of, KeepsNames, twice, items_breaches, formals_breaches, function_breaches, functions_breaches}
 use Rattle.dh_tree.specs.Resolved.{resolved, resolved_decls, resolved_formals, resolved_function, resolved_functions}
 use Rattle.dh_tree.specs.NameCounts.{declared_in, declared_in_functions, names_declared}
@@ -23,7 +23,7 @@ use Rattle.dh_names.specs.Visible.{visible, LeastBy}
 use Rattle.dh_names.specs.Walks.{State, state_of, walked}
 use Rattle.dh_names.specs.declared.scopes.Names.{Names}
 use Rattle.dh_names.specs.declared.walks.Walk.{Walk}
-use Rattle.dh_names.specs.declared.programs.WalkedProgram.{WalkedProgram}
+use Rattle.dh_names.specs.declared.programs.Found.{Found}
 
 -- a walk over the parameters of a function
 pub record ResolvesFormals (old new : State) (a b : List Formal) : Type 0 where
@@ -143,12 +143,34 @@ AnswersBuilt p (Ok named) = (unbuilt_forms p ≡ []) × ((program_seen named ≡
 AnswersBuilt p (Err (fault.Refused rule place)) = IsLeast (unbuilt_forms p) (breach rule place) ⊎ ((unbuilt_forms p ≡ []) × IsLeast (breaches_of p) (breach rule place))
 AnswersBuilt p (Err fault.NoMemory) = 0 < names_declared p
 
--- what a walk over a program finds: its tree with entities, the breach of its names that stands first, and the
+-- where a walk over a program starts: no name is visible, nothing is listed and nothing found, and no name is
+-- kept for the program's body
+pub record IsStart (w : Walk) (top : Names) : Type 0 where
+  pub outer : w.names.outer ≡ []
+  pub own : w.names.own ≡ []
+  pub entities : w.entities.items ≡ []
+  pub least : w.least ≡ None
+  pub names : visible top ≡ []
+
+-- a walk over the memories from outside and the functions of a program from there on, with the names that are
+-- visible behind them
+pub record ResolvesItems (p : Program) (new : State) (top : List Binding) (ds : List Declared) (fs : List Defined) : Type 0 where
+  pub decls : ds ≡ resolved_decls 0 p.decls
+  pub functions : fs ≡ resolved_functions (length p.decls) (first_scope p) p.functions
+  pub names : top ≡ after_items [] (items_of p)
+  pub entities : new.scope.entities ≡ (after_functions (length p.decls) (first_scope p) p.functions).entities
+  pub least : new.least ≡ least_of (least_of None (items_breaches [] (items_of p))) (functions_breaches (length p.decls) (first_scope p) p.functions)
+
+abbrev pub NumbersItems : (old new : Tree) → Walk → Names → Type 0
+NumbersItems old new walk names =
+    ResolvesItems (program_seen old) (state_of walk) (visible names) (map declared_seen new.decls.items) (map defined_seen new.functions.items)
+
+-- what a walk over a program comes to: its tree with entities, the breach of its names that stands first, and the
 -- form that does of those that are not built
-pub record IsWalked (p : Program) (w : WalkedProgram) : Type 0 where
-  pub tree : program_seen w.tree ≡ resolved p
-  pub least : w.least ≡ least_of None (breaches_of p)
-  pub unbuilt : w.unbuilt ≡ least_of None (unbuilt_forms p)
+pub record IsWalked (p : Program) (new : Tree) (found : Found) : Type 0 where
+  pub tree : program_seen new ≡ resolved p
+  pub least : found.least ≡ least_of None (breaches_of p)
+  pub unbuilt : found.unbuilt ≡ least_of None (unbuilt_forms p)
 
 -- a tree whose names are resolved is answered, where there is no breach of them, and else the breach is
 abbrev pub Settles : Tree → Option Breach → Result Named PassFault → Type 0

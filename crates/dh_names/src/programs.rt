@@ -6,41 +6,35 @@ ghost use Rattle.dh_base.specs.declared.faults.PassFault.TheVariants as fault;
 ghost use Rattle.dh_tree.specs.Breaches.{KeepsNames};
 ghost use Rattle.dh_tree.specs.Resolved.{HasEntities};
 ghost use Rattle.dh_tree.specs.NameCounts.{HasFewNames, names_declared};
-ghost use Rattle.dh_names.specs.Programs.{Answers, AnswersBuilt, IsWalked, Settles, entities_outside, NumbersMemories, is_function_first, AreLeft, BindsItem, LacksItem, BindsItems, FindsTwice};
+ghost use Rattle.dh_names.specs.Programs.{Answers, AnswersBuilt, IsStart, NumbersItems, IsWalked, Settles, entities_outside, NumbersMemories, is_function_first, AreLeft, BindsItem, LacksItem, BindsItems, FindsTwice};
 
 use crate::bindings::Bindings;
 use crate::forms::keep_functions;
-use crate::scopes::{Names, bind_name};
+use crate::scopes::{Names, bind_name, list_entity};
 use crate::walks::Walk;
 use dh_base::{NoMemory, PassFault};
 use dh_tree::{Breach, Decl, Entity, Function, Named, Sort, Tree, is_before};
 use std::alloc::Global;
 
-// The entities of memories from outside and of functions.
-fn outer_entities(
+// Lists the entities of memories from outside and of functions, where none is listed yet.
+fn list_outer(
     alloc: Global,
+    entities: &mut Vec<Entity>,
     decls: &[Decl],
     functions: &[Function],
-) -> Result<Vec<Entity>, NoMemory>
-    ensures { MatchResult result (λ all. all.items ≡ entities_outside decls.now functions.now)
+) -> Result<(), NoMemory>
+    requires { entities.old.items ≡ [] }
+    ensures { MatchResult result
+        (λ _. entities.new.items ≡ entities_outside decls.now functions.now)
         (λ _. 0 < length decls.now + length functions.now) }
 {
-    let mut entities = Vec::new(alloc);
     for decl in decls {
-        entities.push(Entity {
-            name: decl.name.name.try_clone(alloc)?,
-            place: decl.name.place,
-            sort: Sort::Memory,
-        })?;
+        list_entity(alloc, entities, &decl.name, Sort::Memory)?;
     }
     for function in functions {
-        entities.push(Entity {
-            name: function.name.name.try_clone(alloc)?,
-            place: function.name.place,
-            sort: Sort::Function,
-        })?;
+        list_entity(alloc, entities, &function.name, Sort::Function)?;
     }
-    Ok(entities)
+    Ok(())
 }
 
 // Numbers memories from outside, from 0.
@@ -128,49 +122,54 @@ fn no_names(alloc: Global) -> Names
 
 /// What a walk over a program finds.
 #[derive(Drop)]
-struct WalkedProgram {
-    /// The tree with the numbers of its names, and its entities.
-    tree: Tree,
+struct Found {
     /// The breach of the rules on names that stands first.
     least: Option<Breach>,
     /// The form that stands first of those that are not built.
     unbuilt: Option<Breach>,
 }
 
-// The walk over a program: functions first, then its body.
-fn walk_program(alloc: Global, tree: Tree) -> Result<WalkedProgram, NoMemory>
-    requires few { HasFewNames (program_seen tree) }
-    ensures { MatchResult result (λ walked. IsWalked (program_seen tree) walked)
-        (λ _. 0 < names_declared (program_seen tree)) }
+// The walk over memories from outside and functions, which is the first one. Lists their entities, and
+// makes their names visible in `names`, of which functions see those of earlier functions alone.
+fn walk_items(
+    alloc: Global,
+    walk: &mut Walk,
+    names: &mut Names,
+    tree: &mut Tree,
+) -> Result<(), NoMemory>
+    requires few { HasFewNames (program_seen tree.old) }
+    requires start { IsStart walk.old names.old }
+    ensures body { tree.new.body ≡ tree.old.body }
+    ensures items { MatchResult result (λ _. NumbersItems tree.old tree.new walk.new names.new)
+        (λ _. 0 < names_declared (program_seen tree.old)) }
 {
-    let Tree {
-        mut decls,
-        mut functions,
-        mut body,
-        entities: _,
-    } = tree;
-    let count = decls.len() as u32;
+    let count = tree.decls.len() as u32;
+    bind_items(alloc, names, &mut walk.least, &tree.decls, &tree.functions)?;
+    list_outer(alloc, &mut walk.entities, &tree.decls, &tree.functions)?;
+    number_decls(&mut tree.decls);
+    walk.functions(alloc, &mut tree.functions, count)
+}
+
+// The walk over a program, whose tree takes its numbers and entities where it stands: functions first,
+// then its body.
+fn walk_program(alloc: Global, tree: &mut Tree) -> Result<Found, NoMemory>
+    requires few { HasFewNames (program_seen tree.old) }
+    ensures { MatchResult result (λ found. IsWalked (program_seen tree.old) tree.new found)
+        (λ _. 0 < names_declared (program_seen tree.old)) }
+{
     let mut names = no_names(alloc);
-    let mut least = None;
-    bind_items(alloc, &mut names, &mut least, &decls, &functions)?;
     let mut walk = Walk {
         names: no_names(alloc),
-        entities: outer_entities(alloc, &decls, &functions)?,
-        least,
+        entities: Vec::new(alloc),
+        least: None,
     };
-    number_decls(&mut decls);
     let mut unbuilt = None;
-    keep_functions(&mut unbuilt, functions.as_slice());
-    walk.functions(alloc, &mut functions, count)?;
+    keep_functions(&mut unbuilt, tree.functions.as_slice());
+    walk_items(alloc, &mut walk, &mut names, tree)?;
     walk.names = names;
-    walk.command(alloc, &mut unbuilt, &mut body)?;
-    Ok(WalkedProgram {
-        tree: Tree {
-            decls,
-            functions,
-            body,
-            entities: walk.entities,
-        },
+    walk.command(alloc, &mut unbuilt, &mut tree.body)?;
+    tree.entities = walk.entities;
+    Ok(Found {
         least: walk.least,
         unbuilt,
     })
@@ -185,6 +184,14 @@ fn refused(tree: Tree, breach: Breach) -> PassFault
         rule: breach.rule,
         place: breach.place,
     }
+}
+
+// The fault of a program for which memory was wanting, whose tree is let go.
+fn starved(tree: Tree) -> PassFault
+    ensures { result ≡ fault.NoMemory }
+{
+    tree.let_go();
+    PassFault::NoMemory
 }
 
 // The tree that is resolved, unless a rule on names is broken.
@@ -211,8 +218,11 @@ pub fn resolve(alloc: Global, tree: Tree) -> Result<Named, PassFault>
     requires few { HasFewNames (program_seen tree) }
     ensures { Answers (program_seen tree) result }
 {
-    let walked = walk_program(alloc, tree)?;
-    named(walked.tree, walked.least)
+    let mut tree = tree;
+    match walk_program(alloc, &mut tree) {
+        Ok(found) => named(tree, found.least),
+        Err(_) => Err(starved(tree)),
+    }
 }
 
 /// As `resolve`, of a tree whose forms are all built. Refuses any other with the form that stands first
@@ -225,9 +235,12 @@ pub fn resolve_built(alloc: Global, tree: Tree) -> Result<Named, PassFault>
     requires few { HasFewNames (program_seen tree) }
     ensures { AnswersBuilt (program_seen tree) result }
 {
-    let walked = walk_program(alloc, tree)?;
-    match walked.unbuilt {
-        Some(form) => Err(refused(walked.tree, form)),
-        None => named(walked.tree, walked.least),
+    let mut tree = tree;
+    match walk_program(alloc, &mut tree) {
+        Ok(found) => match found.unbuilt {
+            Some(form) => Err(refused(tree, form)),
+            None => named(tree, found.least),
+        },
+        Err(_) => Err(starved(tree)),
     }
 }

@@ -1,14 +1,14 @@
 //! Names where they are used and declared.
 
-ghost use Rattle.std.specs.Prelude.{◌≡◌};
-ghost use Rattle.dh_tree.specs.Scopes.{entity_of};
+ghost use Rattle.std.specs.Prelude.{◌≡◌, ◌++◌, ◌∷◌, [], OnOk};
+ghost use Rattle.dh_tree.specs.Scopes.{entity_of, entity};
 ghost use Rattle.dh_tree.specs.Breaches.{unknown, twice};
 ghost use Rattle.dh_tree.specs.Resolved.{used};
 ghost use Rattle.dh_names.specs.Visible.{visible, Binds, LeastBy};
 
 use crate::bindings::Bindings;
 use dh_base::{NoMemory, Rule};
-use dh_tree::{Breach, Name, Ref, keep_least};
+use dh_tree::{Breach, Entity, Name, Ref, Sort, keep_least};
 use std::alloc::Global;
 
 /// The names that are visible: those that a function sees of the program, none in the program's body,
@@ -85,4 +85,21 @@ pub fn bind_name(
         return Ok(());
     }
     names.own.add(alloc, &name.name, entity)
+}
+
+/// Lists what a name stands for that is declared, behind the others.
+pub fn list_entity(
+    alloc: Global,
+    entities: &mut Vec<Entity>,
+    name: &Ref,
+    sort: Sort,
+) -> Result<(), NoMemory>
+    ensures { OnOk result (entities.new.items ≡ entities.old.items ++ entity name.now sort ∷ []) }
+{
+    entities.push(Entity {
+        name: name.name.try_clone(alloc)?,
+        place: name.place,
+        sort,
+    })?;
+    Ok(())
 }

@@ -5,22 +5,18 @@ use Rattle.dh_tree.specs.Seen.{program_seen}
 use Rattle.dh_names.specs.Programs.{AnswersBuilt}
 use Rattle.dh_names.proofs.LeastKept.{least_kept}
 use Rattle.dh_names.proofs.ProgramsAnswered.{keeps_names, has_entities, answered_built}
-use Rattle.dh_names.proofs.Wanting.{refused_built}
 use Rattle.dh_names.proofs.programs.resolve_built.Goals as goal
 
 pub named-requires-clause-names : goal.named-requires-clause-names
-named-requires-clause-names c = keeps_names (program_seen c.args.tree) c.in_ok-walked.walked c.in_ok-walked.ensures
+named-requires-clause-names c = keeps_names (program_seen c.args.tree) c.walk_program.new.tree c.in-Ok.found c.in-Ok.ensures
 
 pub named-requires-clause-entities : goal.named-requires-clause-entities
-named-requires-clause-entities c = has_entities (program_seen c.args.tree) c.in_ok-walked.walked c.in_ok-walked.ensures
+named-requires-clause-entities c = has_entities (program_seen c.args.tree) c.walk_program.new.tree c.in-Ok.found c.in-Ok.ensures
 
 pub returns-in-Some : goal.returns-in-Some
 returns-in-Some c =
     subst (λ (e : PassFault). AnswersBuilt (program_seen c.args.tree) (Err e)) (sym c.refused.ensures)
-    (inl (least_kept (unbuilt_forms (program_seen c.args.tree)) c.in-Some.form (sym c.in_ok-walked.ensures.unbuilt ∙ c.in-Some.is)))
+    (inl (least_kept (unbuilt_forms (program_seen c.args.tree)) c.in-Some.form (sym c.in-Ok.ensures.unbuilt ∙ c.in-Some.is)))
 
 pub returns-in-None : goal.returns-in-None
-returns-in-None c = answered_built (program_seen c.args.tree) c.in_ok-walked.walked c.named.result c.in_ok-walked.ensures c.in-None.is c.named.ensures
-
-pub returns-in_err-walked : goal.returns-in_err-walked
-returns-in_err-walked c = refused_built (program_seen c.args.tree) _ c.from_residual.ensures c.in_err-walked.ensures
+returns-in-None c = answered_built (program_seen c.args.tree) c.walk_program.new.tree c.in-Ok.found c.named.result c.in-Ok.ensures c.in-None.is c.named.ensures

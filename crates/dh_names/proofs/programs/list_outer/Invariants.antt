@@ -2,7 +2,7 @@ use Rattle.std.specs.Prelude.{◌≡◌, ◌++◌, map, drop}
 use Rattle.dh_tree.specs.declared.trees.programs.Sort.TheVariants as sort
 use Rattle.dh_tree.specs.Seen.{declared_seen, defined_seen}
 use Rattle.dh_tree.specs.Scopes.{entity}
-use Rattle.dh_names.proofs.programs.outer_entities.Given as goal
+use Rattle.dh_names.proofs.programs.list_outer.Given as goal
 
 abbrev pub invariant-loop-decl : goal.invariant-loop-decl
 invariant-loop-decl l =
