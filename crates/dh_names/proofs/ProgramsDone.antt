@@ -2,14 +2,13 @@
 use Rattle.std.proofs.Common.{◌≡◌, ℕ, ◌+◌, List, [], ◌∷◌, ◌++◌, length, map, Option, None, sym, ap, subst, ◌∙◌, arith}
 use Rattle.std.proofs.lemmas.List.{length-append, append-nil}
 use Rattle.dh_tree.specs.declared.breaches.Breach.{Breach}
-use Rattle.dh_tree.specs.declared.trees.commands.Command.{Command}
 use Rattle.dh_tree.specs.declared.trees.programs.Decl.{Decl}
 use Rattle.dh_tree.specs.declared.trees.programs.Entity.{Entity}
 use Rattle.dh_tree.specs.declared.trees.programs.Tree.{Tree}
 use Rattle.dh_tree.specs.declared.trees.programs.Function as code
 use Rattle.dh_tree.specs.declared.trees.programs.Sort.TheVariants.{Memory, Function}
 use Rattle.dh_tree.specs.PlainTrees.{Action, Declared, Defined, Program}
-use Rattle.dh_tree.specs.Seen.{declared_seen, defined_seen, action_seen, program_seen}
+use Rattle.dh_tree.specs.Seen.{declared_seen, defined_seen, program_seen}
 use Rattle.dh_tree.specs.LeastBreach.{least_of}
 use Rattle.dh_tree.specs.Scopes.{Binding, Scope, at_end, after_function, after_functions, memory_items, function_items, merged, items_of, after_items, entity, outer_entities, first_scope, body_scope}
 use Rattle.dh_tree.specs.Breaches.{breaches, functions_breaches, items_breaches, breaches_of}
@@ -96,11 +95,6 @@ items_done tree s0 s1 first top vis o w ds1 ds2 fs1 fs2 ds' fs' n o_is w_is none
       least = ap (λ s. s.least) walked.state ∙ ap (λ y. least_of s0.least (functions_breaches (length p.decls) y p.functions)) scope
           ∙ ap (λ k. least_of k (functions_breaches (length p.decls) (first_scope p) p.functions)) start;
     }
-
--- a walk over a body that is another one
-pub body_at : (s s' : State) (x y : Command) (b : Action) → x ≡ y → (Room s (declared_in (action_seen x)) → Resolves s s' (action_seen x) b)
-    → Room s (declared_in (action_seen y)) → Resolves s s' (action_seen y) b
-body_at s s' x y b is walked = subst (λ (z : Command). Room s (declared_in (action_seen z)) → Resolves s s' (action_seen z) b) is walked
 
 module _ (p : Program) (s1 s3 : State) (outer top : List Binding) (ds' : List Declared) (fs' : List Defined) (b' : Action) (few : HasFewNames p) (items : ResolvesItems p s1 top ds' fs')
     (body : Room (before_body outer top s1) (declared_in p.body) → Resolves (before_body outer top s1) s3 p.body b') where

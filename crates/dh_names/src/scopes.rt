@@ -13,12 +13,22 @@ use std::alloc::Global;
 
 /// The names that are visible: those that a function sees of the program, none in the program's body,
 /// and those of the function or the program's body.
-#[derive(Drop)]
 pub struct Names {
     /// Those seen of the program.
     pub outer: Bindings,
     /// Those of the function or the program's body.
     pub own: Bindings,
+}
+
+/// A call, and not the drop of each map where names are dropped: that is long, and would stand in the
+/// proof of each such function.
+impl Drop for Names {
+    fn drop(self) {
+        let Names {
+            outer: _outer,
+            own: _own,
+        } = self;
+    }
 }
 
 impl Names {

@@ -9,7 +9,7 @@ ghost use Rattle.dh_names.specs.InTrees.{ResolvesTerm, ResolvesTerms, ResolvesVa
 ghost use Rattle.dh_names.specs.Walks.{state_of, cut, FindsBy, NumbersName, NumbersHeader, NumbersSides, DeclaresName, DeclaresIterator};
 
 use crate::expressions::{resolve_term, resolve_terms};
-use crate::scopes::{Names, bind_name, resolve_use};
+use crate::scopes::{Names, bind_name, list_entity, resolve_use};
 use dh_base::NoMemory;
 use dh_tree::{Breach, Entity, Expr, LoopHeader, Ref, Sides, Sort};
 use std::alloc::Global;
@@ -76,11 +76,7 @@ impl Walk {
     {
         let number = numbered(self.entities.len());
         bind_name(alloc, &mut self.names, &mut self.least, name, number)?;
-        self.entities.push(Entity {
-            name: name.name.try_clone(alloc)?,
-            place: name.place,
-            sort,
-        })?;
+        list_entity(alloc, &mut self.entities, name, sort)?;
         name.entity = Some(number);
         Ok(())
     }

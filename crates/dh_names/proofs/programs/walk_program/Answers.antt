@@ -1,4 +1,4 @@
-use Rattle.std.proofs.Common.{◌≡◌, ◌∙◌, ◌<◌, ap, refl, map, subst}
+use Rattle.std.proofs.Common.{◌∙◌, ◌<◌, ap, refl, map, subst}
 use Rattle.dh_tree.specs.declared.trees.commands.Command.{Command}
 use Rattle.dh_tree.specs.LeastBreach.{least_of}
 use Rattle.dh_tree.specs.Forms.{unbuilt_action}
@@ -7,8 +7,9 @@ use Rattle.dh_tree.specs.Seen.{declared_seen, defined_seen, action_seen, program
 use Rattle.dh_tree.proofs.DeclaringParts.{wanting}
 use Rattle.dh_names.specs.Visible.{visible}
 use Rattle.dh_names.specs.Walks.{state_of}
+use Rattle.dh_names.proofs.FormsDone.{resolves_at}
 use Rattle.dh_names.proofs.FormsKept.{forms_found}
-use Rattle.dh_names.proofs.ProgramsDone.{no_names_seen, body_at, before_body, program_tree, program_least}
+use Rattle.dh_names.proofs.ProgramsDone.{no_names_seen, before_body, program_tree, program_least}
 use Rattle.dh_names.proofs.Wanting.{some_body}
 use Rattle.dh_names.proofs.programs.walk_program.Goals as goal
 
@@ -31,7 +32,7 @@ returns c =
     let ds = map declared_seen c.walk_items.new.tree.decls.items in
     let fs = map defined_seen c.walk_items.new.tree.functions.items in
     let b = action_seen c.command.new.command in
-    let body = body_at (before_body outer top s1) s3 c.walk_items.new.tree.body c.args.tree.now.body b c.in_ok-walk_items.ensures.body c.in_ok-command.ensures.names in
+    let body = resolves_at (before_body outer top s1) s3 c.walk_items.new.tree.body c.args.tree.now.body b c.in_ok-walk_items.ensures.body c.in_ok-command.ensures.names in
     record {
       tree = program_tree p s1 s3 outer top ds fs b c.requires.few c.in_ok-walk_items.ensures.items body;
       least = program_least p s1 s3 outer top ds fs b c.requires.few c.in_ok-walk_items.ensures.items body;
