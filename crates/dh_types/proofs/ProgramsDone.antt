@@ -1,12 +1,15 @@
 -- A walk over a whole program.
-use Rattle.std.proofs.Common.{◌≡◌, List, [], ◌∷◌, ◌++◌, map, Option, Some, None, refl, sym, ap, subst, ◌∙◌}
+use Rattle.std.proofs.Common.{◌≡◌, List, [], ◌∷◌, ◌++◌, map, Option, None, Result, Ok, Err, inr, refl, sym, ap, subst, ◌∙◌}
+use Rattle.dh_base.specs.declared.faults.PassFault.{PassFault}
+use Rattle.dh_base.specs.declared.faults.PassFault.TheVariants as fault
 use Rattle.dh_tree.specs.declared.breaches.Breach.{Breach}
 use Rattle.dh_tree.specs.declared.trees.programs.Decl.{Decl}
 use Rattle.dh_tree.specs.declared.trees.programs.Function as code
 use Rattle.dh_tree.specs.declared.trees.programs.Tree.{Tree}
+use Rattle.dh_tree.specs.declared.trees.typed.Typed.{Typed}
 use Rattle.dh_tree.specs.PlainTrees.{Action, Defined, Program}
 use Rattle.dh_tree.specs.Seen.{declared_seen, defined_seen, action_seen, program_seen}
-use Rattle.dh_tree.specs.LeastBreach.{IsLeast, least_of}
+use Rattle.dh_tree.specs.LeastBreach.{breach, least_of}
 use Rattle.dh_tree.specs.Breaches.{KeepsNames}
 use Rattle.dh_tree.specs.Resolved.{HasEntities}
 use Rattle.dh_tree.specs.Kinds.{Facts, declared_facts, function_fact, first_facts, facts_after, facts_after_function, facts_after_functions, typed_action, typed_function, typed_functions, typed, HasKinds}
@@ -15,7 +18,8 @@ use Rattle.dh_tree.proofs.TypedAgain.{typed_again}
 use Rattle.dh_tree.proofs.TypedNames.{names_kept}
 use Rattle.dh_tree.proofs.TypedEntities.{entities_kept}
 use Rattle.dh_tree.proofs.FirstBreaches.{none_is_kept, least_is_kept}
-use Rattle.dh_types.specs.Walks.{State, knows, Types, TypesFunctions}
+use Rattle.dh_types.specs.Walks.{State, nothing_known, knows, Types, TypesFunctions}
+use Rattle.dh_types.specs.Programs.{FindsKinds, IsWalked, Settles, Answers}
 use Rattle.dh_types.proofs.FormsDone.{next_step}
 
 -- the kinds of parameters stay
@@ -56,7 +60,7 @@ module _ (p : Program) (s2 s3 s4 : State) (fs' : List Defined) (b' : Action) (st
       ∙ ap (λ q. least_of None (kind_breaches q)) program_is
 
 -- what is known before the first function
-pub known_first : (t : Tree) (s0 s1 s2 : State) (ds : List Decl) (fs : List code.Function) → s0 ≡ state [] None → ds ≡ t.decls.items → fs ≡ t.functions.items
+known_first : (t : Tree) (s0 s1 s2 : State) (ds : List Decl) (fs : List code.Function) → s0 ≡ nothing_known → ds ≡ t.decls.items → fs ≡ t.functions.items
     → s1 ≡ knows s0 (declared_facts (map declared_seen ds)) → s2 ≡ knows s1 (map function_fact (map defined_seen fs))
     → s2 ≡ state (first_facts (program_seen t)) None
 known_first t s0 s1 s2 ds fs start d f one two =
@@ -64,34 +68,33 @@ known_first t s0 s1 s2 ds fs start d f one two =
     ∙ ap (λ l. state (declared_facts (map declared_seen l) ++ map function_fact (map defined_seen fs)) None) d
     ∙ ap (λ l. state (declared_facts (map declared_seen t.decls.items) ++ map function_fact (map defined_seen l)) None) f
 
--- what the calls of the walk over a program did
-pub record Walked (t : Tree) (fs' : List Defined) (b' : Action) (least : Option Breach) : Type 0 where
-  pub program_is : program (program_seen t) fs' b' ≡ typed (program_seen t)
-  pub least_kept : least ≡ least_of None (kind_breaches (typed (program_seen t)))
-
-pub walk_done : (t : Tree) (s0 s1 s2 s3 s4 : State) (ds : List Decl) (fs : List code.Function) (fs' : List Defined) (b' : Action) → s0 ≡ state [] None → ds ≡ t.decls.items → fs ≡ t.functions.items
+-- the walk over a program, from what its calls did
+pub walk_done : (t : Tree) (s0 s1 s2 s3 s4 : State) (ds : List Decl) (fs : List code.Function) (fs' : List Defined) (b' : Action) → s0 ≡ nothing_known → ds ≡ t.decls.items → fs ≡ t.functions.items
     → s1 ≡ knows s0 (declared_facts (map declared_seen ds)) → s2 ≡ knows s1 (map function_fact (map defined_seen fs))
-    → TypesFunctions s2 s3 (map defined_seen t.functions.items) fs' → Types s3 s4 (action_seen t.body) b' → Walked t fs' b' s4.least
+    → TypesFunctions s2 s3 (map defined_seen t.functions.items) fs' → Types s3 s4 (action_seen t.body) b' → FindsKinds (program_seen t) (program (program_seen t) fs' b') s4.least
 walk_done t s0 s1 s2 s3 s4 ds fs fs' b' start d f one two functions body =
     let known = known_first t s0 s1 s2 ds fs start d f one two in
-    record { program_is = program_is (program_seen t) s2 s3 s4 fs' b' known functions body; least_kept = least_is (program_seen t) s2 s3 s4 fs' b' known functions body }
+    record { tree = program_is (program_seen t) s2 s3 s4 fs' b' known functions body; least_kept = least_is (program_seen t) s2 s3 s4 fs' b' known functions body }
 
--- the answers, by what stands in the tree that names were resolved in
-module _ (n t : Tree) (same : t ≡ n) (fs' : List Defined) (b' : Action) (least : Option Breach) (done : Walked t fs' b' least) where
-  pub refused : (b : Breach) → least ≡ Some b → IsLeast (kind_breaches (typed (program_seen n))) b
-  refused b is = subst (λ x. IsLeast (kind_breaches (typed (program_seen x))) b) same (least_is_kept (kind_breaches (typed (program_seen t))) b (sym done.least_kept ∙ is))
+-- a walk over the tree of a program is one over the program
+pub walked_as : (n t u : Tree) (least : Option Breach) → t ≡ n → IsWalked t u least → IsWalked n u least
+walked_as n t u least same walked = subst (λ x. IsWalked x u least) same walked
 
-  pub suits : least ≡ None → KeepsKinds (program (program_seen t) fs' b')
-  suits is = subst KeepsKinds (sym done.program_is) (none_is_kept (kind_breaches (typed (program_seen t))) (sym done.least_kept ∙ is))
+-- what holds of the tree behind the walk, and what is answered
+module _ (n u : Tree) (least : Option Breach) (walked : IsWalked n u least) where
+  pub suits : least ≡ None → KeepsKinds (program_seen u)
+  suits is = subst KeepsKinds (sym walked.tree) (none_is_kept (kind_breaches (typed (program_seen n))) (sym walked.least_kept ∙ is))
 
-  pub has_names : KeepsNames (program_seen n) → KeepsNames (program (program_seen t) fs' b')
-  has_names names = subst KeepsNames (sym done.program_is) (names_kept (program_seen t) (subst (λ x. KeepsNames (program_seen x)) (sym same) names))
+  pub has_names : KeepsNames (program_seen n) → KeepsNames (program_seen u)
+  has_names names = subst KeepsNames (sym walked.tree) (names_kept (program_seen n) names)
 
-  pub has_entities : HasEntities (program_seen n) → HasEntities (program (program_seen t) fs' b')
-  has_entities entities = subst HasEntities (sym done.program_is) (entities_kept (program_seen t) (subst (λ x. HasEntities (program_seen x)) (sym same) entities))
+  pub has_entities : HasEntities (program_seen n) → HasEntities (program_seen u)
+  has_entities entities = subst HasEntities (sym walked.tree) (entities_kept (program_seen n) entities)
 
-  pub has_kinds : HasKinds (program (program_seen t) fs' b')
-  has_kinds = subst HasKinds (sym done.program_is) (typed_again (program_seen t))
+  pub has_kinds : HasKinds (program_seen u)
+  has_kinds = subst HasKinds (sym walked.tree) (typed_again (program_seen n))
 
-  pub typed_is : program (program_seen t) fs' b' ≡ typed (program_seen n)
-  typed_is = done.program_is ∙ ap (λ x. typed (program_seen x)) same
+  pub answered : (r : Result Typed PassFault) → Settles u least r → Answers (program_seen n) r
+  answered (Ok t) is = ap (λ x. program_seen x) is ∙ walked.tree
+  answered (Err (fault.Refused rule place)) is = least_is_kept (kind_breaches (typed (program_seen n))) (breach rule place) (sym walked.least_kept ∙ is)
+  answered (Err fault.NoMemory) is = inr (none_is_kept (kind_breaches (typed (program_seen n))) (sym walked.least_kept ∙ is))

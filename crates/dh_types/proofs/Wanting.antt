@@ -1,18 +1,19 @@
 -- Want of memory: where a part of a tree declares a name, the whole does, so that what the part answers holds
 -- of the whole.
-use Rattle.std.proofs.Common.{◌≡◌, ℕ, zero, suc, ◌+◌, ◌<◌, List, [], ◌∷◌, length, map, get_or, Result, Ok, Err, IsErr, Vec, inl, sym, ap, subst, refl, ◌∙◌, arith}
+use Rattle.std.proofs.Common.{◌≡◌, ℕ, zero, suc, ◌+◌, ◌<◌, List, [], ◌∷◌, length, map, get_or, Option, None, Result, Ok, Err, IsErr, Vec, sym, ap, subst, refl, ◌∙◌, arith}
 use Rattle.std.specs.Global.{Global}
-use Rattle.std.specs.Result.{IsErrAnd}
+use Rattle.std.specs.Result.{IsErrAnd, OnOk, MatchResult}
+use Rattle.dh_base.specs.declared.lists.NoMemory.{NoMemory}
 use Rattle.dh_base.specs.declared.faults.PassFault.{PassFault}
 use Rattle.dh_base.specs.declared.faults.PassFault.TheVariants as fault
+use Rattle.dh_tree.specs.declared.breaches.Breach.{Breach}
 use Rattle.dh_tree.specs.declared.trees.programs.Decl.{Decl}
 use Rattle.dh_tree.specs.declared.trees.programs.Function.{Function}
 use Rattle.dh_tree.specs.declared.trees.programs.Tree.{Tree}
 use Rattle.dh_tree.specs.declared.trees.typed.Typed.{Typed}
-use Rattle.dh_tree.specs.PlainTrees.{Program}
 use Rattle.dh_tree.specs.Seen.{action_seen, declared_seen, formal_seen, defined_seen, program_seen}
 use Rattle.dh_tree.specs.NameCounts.{declared_in, declared_in_functions, names_declared}
-use Rattle.dh_types.specs.Programs.{Answers, TakesMemory}
+use Rattle.dh_types.specs.Programs.{Settles}
 use Rattle.dh_base.proofs.InPlace.{Unvisited}
 use Rattle.dh_tree.proofs.DeclaringParts.{in_left, in_right}
 
@@ -34,27 +35,29 @@ some_function v before now i x value within u h =
     subst (λ l. 0 < declared_in_functions (map defined_seen l)) value
     (some_functions before i x (omega (arith, within, u.0)) (subst (λ (z : Function). 0 < length z.parameters.items + declared_in (action_seen z.body)) (u.1 i x (omega arith)) h))
 
--- a program that takes memory may have no answer for want of it
-pub lacking : (p : Program) (r : Result Typed PassFault) → IsErr r × IsErrAnd r (λ e. e ≡ fault.NoMemory) → TakesMemory p → Answers p r
-lacking p (Ok t) h k = absurd (cc h.0)
-lacking p (Err e) h k = rw h.1 k
+-- a last call that promises something where memory is not wanting, and else this is so
+pub last_learns : {A P P' Q : Type 0} (r : Result A NoMemory) → OnOk r P → (P → P') → Q → MatchResult r (λ _. P') (λ _. Q)
+last_learns (Ok a) h p q = p h
+last_learns (Err e) h p q = q
 
-module _ (n t : Tree) (same : t ≡ n) where
-  at_tree : 0 < names_declared (program_seen t) → TakesMemory (program_seen n)
-  at_tree h = inl (subst (λ x. 0 < names_declared (program_seen x)) same h)
+-- a tree that is settled, but for want of memory
+pub unsettled : (t : Tree) (least : Option Breach) (r : Result Typed PassFault) → IsErr r × IsErrAnd r (λ e. e ≡ fault.NoMemory) → least ≡ None → Settles t least r
+unsettled t least (Ok a) h k = absurd (cc h.0)
+unsettled t least (Err e) h k = rw h.1 k
 
-  pub some_memories : (ds : List Decl) → ds ≡ t.decls.items → 0 < length ds → TakesMemory (program_seen n)
+module _ (t : Tree) where
+  pub some_memories : (ds : List Decl) → ds ≡ t.decls.items → 0 < length ds → 0 < names_declared (program_seen t)
   some_memories ds a h =
       let d = ap (λ l. length l) a ∙ sym (length_map declared_seen t.decls.items) in
-      at_tree (omega (arith, h, d))
+      omega (arith, h, d)
 
-  pub some_learned : (fs : List Function) → fs ≡ t.functions.items → 0 < length fs → TakesMemory (program_seen n)
+  pub some_learned : (fs : List Function) → fs ≡ t.functions.items → 0 < length fs → 0 < names_declared (program_seen t)
   some_learned fs a h =
       let f = ap (λ l. length l) a ∙ sym (length_map defined_seen t.functions.items) in
-      at_tree (omega (arith, h, f))
+      omega (arith, h, f)
 
-  pub some_walked : 0 < declared_in_functions (map defined_seen t.functions.items) → TakesMemory (program_seen n)
-  some_walked h = at_tree (omega (arith, h))
+  pub some_walked : 0 < declared_in_functions (map defined_seen t.functions.items) → 0 < names_declared (program_seen t)
+  some_walked h = omega (arith, h)
 
-  pub some_body : 0 < declared_in (action_seen t.body) → TakesMemory (program_seen n)
-  some_body h = at_tree (omega (arith, h))
+  pub some_body : 0 < declared_in (action_seen t.body) → 0 < names_declared (program_seen t)
+  some_body h = omega (arith, h)

@@ -36,6 +36,10 @@ pub record State : Type 0 where
 abbrev pub state_of : Walk → State
 state_of w = record { facts = facts_seen w.facts.items; least = w.least }
 
+-- the state before anything is known
+abbrev pub nothing_known : State
+nothing_known = record { facts = []; least = None }
+
 -- the state with these breaches found on the way to a point where this is known
 abbrev pub walked : State → List Breach → Facts → State
 walked s found to = record { facts = to; least = least_of s.least found }

@@ -31,18 +31,9 @@ impl Walk {
                 declared,
                 value,
                 ..
-            } => {
-                self.variable(*declared, value)?;
-                Ok(())
-            }
-            CommandForm::LetMemory { shape, value, .. } => {
-                self.memory(shape, value)?;
-                Ok(())
-            }
-            CommandForm::View { parent, form, .. } => {
-                self.viewed(parent, form)?;
-                Ok(())
-            }
+            } => self.variable(*declared, value),
+            CommandForm::LetMemory { shape, value, .. } => self.memory(shape, value),
+            CommandForm::View { parent, form, .. } => self.viewed(parent, form),
             CommandForm::Assign { target, value } => {
                 self.assignment(target, value);
                 Ok(())
@@ -71,13 +62,11 @@ impl Walk {
             CommandForm::If { test, then, other } => {
                 self.condition(test);
                 self.command(alloc, then)?;
-                self.optional(alloc, other)?;
-                Ok(())
+                self.optional(alloc, other)
             }
             CommandForm::While { test, body } => {
                 self.condition(test);
-                self.command(alloc, body)?;
-                Ok(())
+                self.command(alloc, body)
             }
             CommandForm::For {
                 header,
@@ -86,8 +75,7 @@ impl Walk {
             } => {
                 self.header(header)?;
                 self.command(alloc, body)?;
-                self.optional(alloc, combine)?;
-                Ok(())
+                self.optional(alloc, combine)
             }
         }
     }
@@ -99,10 +87,7 @@ impl Walk {
             (λ _. 0 < declared_in_other (maybe_block_seen block.old)) }
     {
         match block {
-            Some(command) => {
-                self.command(alloc, command)?;
-                Ok(())
-            }
+            Some(command) => self.command(alloc, command),
             None => Ok(()),
         }
     }

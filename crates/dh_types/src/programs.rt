@@ -1,12 +1,53 @@
 //! The kinds of whole programs.
 
+ghost use Rattle.std.specs.Prelude.{◌≡◌, ◌<◌, None, MatchResult};
 ghost use Rattle.dh_tree.specs.Seen.{program_seen};
-ghost use Rattle.dh_types.specs.Programs.{Answers};
+ghost use Rattle.dh_tree.specs.Breaches.{KeepsNames};
+ghost use Rattle.dh_tree.specs.Resolved.{HasEntities};
+ghost use Rattle.dh_tree.specs.Kinds.{HasKinds};
+ghost use Rattle.dh_tree.specs.KindBreaches.{KeepsKinds};
+ghost use Rattle.dh_tree.specs.NameCounts.{names_declared};
+ghost use Rattle.dh_types.specs.Walks.{state_of, nothing_known};
+ghost use Rattle.dh_types.specs.Programs.{Answers, IsWalked, Settles};
 
 use crate::walks::Walk;
-use dh_base::PassFault;
-use dh_tree::{Named, Tree, Typed};
+use dh_base::{NoMemory, PassFault};
+use dh_tree::{Breach, Named, Tree, Typed};
 use std::alloc::Global;
+
+// The walk over a program where it stands. What owns it drops it, so that no drop of a tree is
+// written out at each of these calls.
+fn walk_tree(alloc: Global, walk: &mut Walk, tree: &mut Tree) -> Result<(), NoMemory>
+    requires start { state_of walk.old ≡ nothing_known }
+    ensures { MatchResult result (λ _. IsWalked tree.old tree.new walk.new.least)
+        (λ _. 0 < names_declared (program_seen tree.old)) }
+{
+    walk.learn_memories(&tree.decls)?;
+    walk.learn_functions(alloc, &tree.functions)?;
+    walk.functions(alloc, &mut tree.functions)?;
+    walk.command(alloc, &mut tree.body)?;
+    Ok(())
+}
+
+// The tree with the kinds of its expressions, unless a rule on kinds is broken.
+fn settled(alloc: Global, tree: Tree, least: Option<Breach>) -> Result<Typed, PassFault>
+    requires names { KeepsNames (program_seen tree) }
+    requires entities { HasEntities (program_seen tree) }
+    requires kinds { HasKinds (program_seen tree) }
+    requires suits { least ≡ None → KeepsKinds (program_seen tree) }
+    ensures { Settles tree least result }
+{
+    match least {
+        Some(breach) => {
+            tree.let_go();
+            Err(PassFault::Refused {
+                rule: breach.rule,
+                place: breach.place,
+            })
+        }
+        None => Ok(Typed::of(alloc, tree)?),
+    }
+}
 
 /// Gives each expression of a program its kind, and refuses a program that breaks a rule on kinds, with
 /// the breach that stands first.
@@ -20,33 +61,16 @@ use std::alloc::Global;
 pub fn type_program(alloc: Global, named: Named) -> Result<Typed, PassFault>
     ensures { Answers (program_seen named) result }
 {
-    let Tree {
-        decls,
-        mut functions,
-        mut body,
-        entities,
-    } = named.into_tree();
+    let mut tree = named.into_tree();
     let mut walk = Walk {
         facts: Vec::new(alloc),
         least: None,
     };
-    walk.learn_memories(&decls)?;
-    walk.learn_functions(alloc, &functions)?;
-    walk.functions(alloc, &mut functions)?;
-    walk.command(alloc, &mut body)?;
-    match walk.least {
-        Some(breach) => Err(PassFault::Refused {
-            rule: breach.rule,
-            place: breach.place,
-        }),
-        None => {
-            let tree = Tree {
-                decls,
-                functions,
-                body,
-                entities,
-            };
-            Ok(Typed::of(alloc, tree)?)
+    match walk_tree(alloc, &mut walk, &mut tree) {
+        Ok(()) => settled(alloc, tree, walk.least),
+        Err(NoMemory) => {
+            tree.let_go();
+            Err(PassFault::NoMemory)
         }
     }
 }
