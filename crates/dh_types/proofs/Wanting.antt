@@ -1,6 +1,6 @@
 -- Want of memory: where a part of a tree declares a name, the whole does, so that what the part answers holds
 -- of the whole.
-use Rattle.std.proofs.Common.{◌≡◌, ℕ, zero, suc, ◌+◌, ◌<◌, List, [], ◌∷◌, length, map, get_or, Option, None, Result, Ok, Err, IsErr, Vec, sym, ap, subst, refl, ◌∙◌, arith}
+use Rattle.std.proofs.Common.{◌≡◌, ℕ, zero, suc, ◌+◌, ◌<◌, List, [], ◌∷◌, length, map, get_or, Option, None, Result, Ok, Err, IsErr, is_ok, if◌then◌else◌, Vec, sym, ap, subst, refl, ◌∙◌, arith}
 use Rattle.std.specs.Global.{Global}
 use Rattle.std.specs.Result.{IsErrAnd, OnOk, MatchResult}
 use Rattle.dh_base.specs.declared.lists.NoMemory.{NoMemory}
@@ -13,6 +13,7 @@ use Rattle.dh_tree.specs.declared.trees.programs.Tree.{Tree}
 use Rattle.dh_tree.specs.declared.trees.typed.Typed.{Typed}
 use Rattle.dh_tree.specs.Seen.{action_seen, declared_seen, formal_seen, defined_seen, program_seen}
 use Rattle.dh_tree.specs.NameCounts.{declared_in, declared_in_functions, names_declared}
+use Rattle.dh_types.specs.Walks.{State}
 use Rattle.dh_types.specs.Programs.{Settles}
 use Rattle.dh_base.proofs.InPlace.{Unvisited}
 use Rattle.dh_tree.proofs.DeclaringParts.{in_left, in_right}
@@ -39,6 +40,11 @@ some_function v before now i x value within u h =
 pub last_learns : {A P P' Q : Type 0} (r : Result A NoMemory) → OnOk r P → (P → P') → Q → MatchResult r (λ _. P') (λ _. Q)
 last_learns (Ok a) h p q = p h
 last_learns (Err e) h p q = q
+
+-- a last call that learns a fact
+pub last_fact : {P : Type 0} {s a : State} (b : State) (r : Result (Unit {0}) NoMemory) → s ≡ (if is_ok r then a else b) → (s ≡ a → P) → OnOk r P
+last_fact b (Ok x) learns p = p learns
+last_fact b (Err e) learns p = tt
 
 -- a tree that is settled, but for want of memory
 pub unsettled : (t : Tree) (least : Option Breach) (r : Result Typed PassFault) → IsErr r × IsErrAnd r (λ e. e ≡ fault.NoMemory) → least ≡ None → Settles t least r

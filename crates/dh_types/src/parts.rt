@@ -29,8 +29,7 @@ impl Walk {
         ensures { OnOk result (TypesVariable self.old self.new declared value.old value.new) }
     {
         self.value(declared, value);
-        self.learn(variable_fact(declared, value))?;
-        Ok(())
+        self.learn(variable_fact(declared, value))
     }
 
     /// Gives the right side of a memory its kinds, and learns what is known of it.
@@ -38,8 +37,7 @@ impl Walk {
         ensures { OnOk result (TypesMemory self.old self.new shape.now value.old value.new) }
     {
         self.value(Some(shape.kind), value);
-        self.learn(memory_fact(shape))?;
-        Ok(())
+        self.learn(memory_fact(shape))
     }
 
     /// Gives the offsets of a view of this parent their kinds, and learns what is known of it.
@@ -48,8 +46,7 @@ impl Walk {
     {
         self.parent(parent);
         self.plan(form);
-        self.learn(self.view(parent, form))?;
-        Ok(())
+        self.learn(self.view(parent, form))
     }
 
     /// Gives both sides of a store their kinds.
@@ -71,7 +68,6 @@ impl Walk {
             (header.low, header.low_place),
             (header.high, header.high_place),
         );
-        self.learn(Fact::Iterator { kind })?;
-        Ok(())
+        self.learn(Fact::Iterator { kind })
     }
 }

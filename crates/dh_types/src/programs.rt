@@ -25,8 +25,7 @@ fn walk_tree(alloc: Global, walk: &mut Walk, tree: &mut Tree) -> Result<(), NoMe
     walk.learn_memories(&tree.decls)?;
     walk.learn_functions(alloc, &tree.functions)?;
     walk.functions(alloc, &mut tree.functions)?;
-    walk.command(alloc, &mut tree.body)?;
-    Ok(())
+    walk.command(alloc, &mut tree.body)
 }
 
 // The tree with the kinds of its expressions, unless a rule on kinds is broken.
