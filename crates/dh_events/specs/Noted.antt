@@ -6,7 +6,7 @@ use Rattle.dh_tree.specs.declared.trees.expressions.Expr.{Expr}
 use Rattle.dh_tree.specs.declared.trees.expressions.Ref.{Ref}
 use Rattle.dh_tree.specs.declared.trees.commands.ViewForm.{ViewForm}
 use Rattle.dh_tree.specs.PlainTrees.{TermForm, number, truth_value, named, accessed, in_bank, applied, converted, blocks}
-use Rattle.dh_tree.specs.Seen.{term_seen, terms, factor_seen, plan_seen, action_seen, part_seen, groups, maybe_seen}
+use Rattle.dh_tree.specs.Seen.{term_seen, terms, factor_seen, plan_seen, action_seen, part_seen, groups, maybe_block_seen}
 use Rattle.dh_tree.specs.ViewOffsets.{moves, offsets_of}
 use Rattle.dh_events.specs.declared.events.Event.{Event}
 use Rattle.dh_events.specs.declared.events.Event.TheVariants as event
@@ -14,7 +14,7 @@ use Rattle.dh_events.specs.declared.events.Notes.{Notes}
 use Rattle.dh_events.specs.declared.events.Site.{Site}
 use Rattle.dh_events.specs.declared.noting.Around.{Around}
 use Rattle.dh_events.specs.declared.noting.Open.{Open}
-use Rattle.dh_events.specs.Incidents.{Incident, touches, assigned, arm_begins, arm_ends, begins, next, ends, site_at, term_incidents, terms_incidents, maybe_incidents, target_incidents, incidents, command_incidents, open_after, form_open, other_incidents, combine_incidents, open_combine, groups_incidents, groups_open, closed, open_at}
+use Rattle.dh_events.specs.Incidents.{Incident, touches, assigned, arm_begins, arm_ends, begins, next, ends, site_at, is_stepped, tested, inside_choice, when_parted, has_other, arms_part, term_incidents, terms_incidents, maybe_incidents, target_incidents, incidents, command_incidents, open_after, form_open, combine_incidents, open_combine, groups_incidents, groups_open, closed, open_at}
 use Rattle.dh_events.specs.Tables.{numbered}
 
 abbrev pub event_seen : Event → Incident
@@ -70,6 +70,10 @@ assigned_by site target value = read_by site value ++ assigned target.entity ∷
 abbrev pub stored_by : Site → (target value : Expr) → List Incident
 stored_by site target value = read_by site value ++ written_by site target
 
+-- which phases are open after a command that stands here
+abbrev pub left_open : Site → Open
+left_open site = open_at (Some site.phase)
+
 -- what the offsets of a suffix and of any view read
 abbrev pub suffixes_read_by : Site → List (ℕ × Expr) → List Incident
 suffixes_read_by site by = terms_incidents site (terms (map (λ s. s.offset) (map factor_seen by)))
@@ -91,13 +95,34 @@ done_by around behind c = incidents (stages_known around) around.round behind (a
 abbrev pub opened_by : Around → Open → Command → Open
 opened_by around behind c = open_after (stages_known around) behind (action_seen c)
 
-abbrev pub other_done_by : Around → Open → Option (Box Command) → List Incident
-other_done_by around behind block = other_incidents (stages_known around) around.round behind (maybe_seen (option_map (λ b. action_seen b.value) block))
+-- what happens in a command that may lack
+abbrev pub given_done_by : Around → Open → Option (Box Command) → List Incident
+given_done_by around behind command = combine_incidents (stages_known around) around.round behind (maybe_block_seen command)
 
--- a block that joins copies, behind a body that leaves these phases behind
-abbrev pub combine_done_by : Around → (behind : Open) → Option (Box Command) → List Incident
-combine_done_by around behind block =
-    combine_incidents (stages_known around) around.round (open_combine (stages_known around) behind (maybe_seen (option_map (λ b. action_seen b.value) block))) (maybe_seen (option_map (λ b. action_seen b.value) block))
+-- what is told before the first arm of an `if`, between its arms and behind them; and what is open in the arms
+abbrev pub arms_begun_by : Around → Open → (id : ℕ) → Expr → Option (Box Command) → List Incident
+arms_begun_by around behind id test other =
+    read_by (site_at (tested (is_stepped (stages_known around) id) behind id) around.round) test ++ (when_parted (arms_part around.round (maybe_block_seen other)) begins ++ arm_begins ∷ [])
+
+abbrev pub arms_opened_by : Around → Open → (id : ℕ) → Open
+arms_opened_by around behind id = inside_choice (is_stepped (stages_known around) id) (tested (is_stepped (stages_known around) id) behind id)
+
+abbrev pub other_begun_by : (round : Option ℕ) → Option (Box Command) → List Incident
+other_begun_by round other = arm_ends ∷ (when_parted (arms_part round (maybe_block_seen other)) next ++ when_parted (has_other (maybe_block_seen other)) arm_begins)
+
+abbrev pub arms_ended_by : (round : Option ℕ) → Option (Box Command) → List Incident
+arms_ended_by round other = when_parted (has_other (maybe_block_seen other)) arm_ends ++ when_parted (arms_part round (maybe_block_seen other)) ends
+
+-- what is told before the body of a `while`, and behind it
+abbrev pub turns_begun_by : Site → Expr → List Incident
+turns_begun_by site test = begins ∷ (read_by site test ++ next ∷ [])
+
+abbrev pub turns_ended_by : List Incident
+turns_ended_by = ends ∷ []
+
+-- what is open into a block that joins copies, behind a turn that leaves these phases behind
+abbrev pub combine_opened_by : Around → (turn : Open) → Option (Box Command) → Open
+combine_opened_by around turn combine = open_combine (stages_known around) turn (maybe_block_seen combine)
 
 -- what happens in a block of these parts, by its number, and which phases are open after it
 abbrev pub block_done_by : Around → Open → (id : ℕ) → List (Vec Command Global) → List Incident

@@ -5,7 +5,7 @@ ghost use Rattle.dh_tree.specs.Seen.{action_seen, form_seen, groups, maybe_seen,
 ghost use Rattle.dh_events.specs.Elements.{AreKnown, IsKnown, IsStep, StaysNoted, StaysRead};
 ghost use Rattle.dh_events.specs.Incidents as incidents;
 ghost use Rattle.dh_events.specs.Incidents.{is_stepped, phase_of as phase_of_open, released, when_parted};
-ghost use Rattle.dh_events.specs.Noted.{all_read_by, assigned_by, block_done_by, block_opened_by, body_done_by, combine_done_by, done_by, event_seen, let_by, maybe_read_by, offsets_read_by, opened_by, other_done_by, parts_done_by, parts_opened_by, read_by, reads_none, stages_known, stored_by, suffixes_read_by, view_opened_by, written_by, Adds};
+ghost use Rattle.dh_events.specs.Noted.{all_read_by, arms_begun_by, arms_ended_by, arms_opened_by, assigned_by, block_done_by, block_opened_by, body_done_by, combine_opened_by, done_by, event_seen, given_done_by, left_open, let_by, maybe_read_by, offsets_read_by, opened_by, other_begun_by, parts_done_by, parts_opened_by, read_by, reads_none, stages_known, stored_by, suffixes_read_by, turns_begun_by, turns_ended_by, view_opened_by, written_by, Adds};
 ghost use Rattle.dh_events.specs.Tables.{numbered};
 
 use crate::events::{Event, Notes, Site};
@@ -191,51 +191,6 @@ fn note_maybe<'a>(
     }
 }
 
-/// Notes what a `let` reads, and its assignment.
-#[tactic(auto, using(dh_tree::proofs::Collecting::found_both))]
-fn note_let<'a>(
-    notes: &mut Notes<'a>,
-    site: Site,
-    name: &Ref,
-    value: &'a Option<Expr>,
-) -> Result<(), NoMemory>
-    ensures adds { OnOk result (Adds notes.old notes.new (let_by site name.now value.now)) }
-    ensures noted { OnOk result (StaysNoted notes.old notes.new) }
-{
-    note_maybe(notes, site, value)?;
-    notes.assign(name.entity)
-}
-
-/// Notes what an assignment or a reducer reads, and the assignment.
-#[tactic(auto, using(dh_tree::proofs::Collecting::found_both))]
-fn note_assign<'a>(
-    notes: &mut Notes<'a>,
-    site: Site,
-    target: &Ref,
-    value: &'a Expr,
-) -> Result<(), NoMemory>
-    ensures adds { OnOk result (Adds notes.old notes.new (assigned_by site target.now value.now)) }
-    ensures noted { OnOk result (StaysNoted notes.old notes.new) }
-{
-    note_value(notes, site, value)?;
-    notes.assign(target.entity)
-}
-
-/// Notes what a store reads, and its write.
-#[tactic(auto, using(dh_tree::proofs::Collecting::found_both))]
-fn note_store<'a>(
-    notes: &mut Notes<'a>,
-    site: Site,
-    target: &'a Expr,
-    value: &'a Expr,
-) -> Result<(), NoMemory>
-    ensures adds { OnOk result (Adds notes.old notes.new (stored_by site target.now value.now)) }
-    ensures noted { OnOk result (StaysRead notes.old notes.new) }
-{
-    note_value(notes, site, value)?;
-    note_write(notes, site, target)
-}
-
 /// Notes what the offsets of a suffix read.
 fn note_suffixes<'a>(
     notes: &mut Notes<'a>,
@@ -378,7 +333,7 @@ fn are_parts(parts: &[Vec<Command>]) -> bool
     parts.len() > 1
 }
 
-/// Notes an event where parts of which no two accesses meet are more than one.
+/// Notes an event where there are the parts or the arm that it tells of.
 fn note_parted<'a>(notes: &mut Notes<'a>, parted: bool, event: Event<'a>) -> Result<(), NoMemory>
     requires step { IsStep event }
     ensures adds { OnOk result (Adds notes.old notes.new
@@ -386,6 +341,174 @@ fn note_parted<'a>(notes: &mut Notes<'a>, parted: bool, event: Event<'a>) -> Res
     ensures noted { OnOk result (StaysRead notes.old notes.new) }
 {
     if parted { notes.note(event) } else { Ok(()) }
+}
+
+/// Notes what a `let` reads, and its assignment. Answers that its phase is open after it.
+#[tactic(auto, using(dh_tree::proofs::Collecting::found_both))]
+fn note_let<'a>(
+    notes: &mut Notes<'a>,
+    site: Site,
+    name: &Ref,
+    value: &'a Option<Expr>,
+) -> Result<Open, NoMemory>
+    ensures adds { OnOk result (Adds notes.old notes.new (let_by site name.now value.now)) }
+    ensures after { IfOk result (λ after. after ≡ left_open site) }
+    ensures noted { OnOk result (StaysNoted notes.old notes.new) }
+{
+    note_maybe(notes, site, value)?;
+    notes.assign(name.entity)?;
+    Ok(open_at(Some(site.phase)))
+}
+
+/// Notes what an assignment or a reducer reads, and the assignment. Answers as `note_let`.
+#[tactic(auto, using(dh_tree::proofs::Collecting::found_both))]
+fn note_assign<'a>(
+    notes: &mut Notes<'a>,
+    site: Site,
+    target: &Ref,
+    value: &'a Expr,
+) -> Result<Open, NoMemory>
+    ensures adds { OnOk result (Adds notes.old notes.new (assigned_by site target.now value.now)) }
+    ensures after { IfOk result (λ after. after ≡ left_open site) }
+    ensures noted { OnOk result (StaysNoted notes.old notes.new) }
+{
+    note_value(notes, site, value)?;
+    notes.assign(target.entity)?;
+    Ok(open_at(Some(site.phase)))
+}
+
+/// Notes what a store reads, and its write. Answers as `note_let`.
+#[tactic(auto, using(dh_tree::proofs::Collecting::found_both))]
+fn note_store<'a>(
+    notes: &mut Notes<'a>,
+    site: Site,
+    target: &'a Expr,
+    value: &'a Expr,
+) -> Result<Open, NoMemory>
+    ensures adds { OnOk result (Adds notes.old notes.new (stored_by site target.now value.now)) }
+    ensures after { IfOk result (λ after. after ≡ left_open site) }
+    ensures noted { OnOk result (StaysRead notes.old notes.new) }
+{
+    note_value(notes, site, value)?;
+    note_write(notes, site, target)?;
+    Ok(open_at(Some(site.phase)))
+}
+
+/// Notes what the offsets of a view read, and answers which phases are open after it.
+fn note_view<'a>(
+    notes: &mut Notes<'a>,
+    site: Site,
+    behind: Open,
+    form: &'a ViewForm,
+) -> Result<Open, NoMemory>
+    ensures adds { OnOk result (Adds notes.old notes.new (offsets_read_by site form.now)) }
+    ensures after { IfOk result (λ after. after ≡ view_opened_by behind site.phase form.now) }
+    ensures noted { OnOk result (StaysRead notes.old notes.new) }
+{
+    note_offsets(notes, site, form)?;
+    Ok(behind_view(behind, site.phase, form))
+}
+
+/// Notes what stands before the first arm of an `if`: what its test reads, and where parts and the
+/// arm begin. Answers what is open in the arms and behind them.
+fn begin_arms<'a>(
+    notes: &mut Notes<'a>,
+    around: Around<'_>,
+    behind: Open,
+    id: u32,
+    test: &'a Expr,
+    other: &Option<Box<Command>>,
+) -> Result<Open, NoMemory>
+    ensures adds { OnOk result (Adds notes.old notes.new
+        (arms_begun_by around.entry behind id test.now other.now)) }
+    ensures inside { IfOk result (λ inside. inside ≡ arms_opened_by around.entry behind id) }
+    ensures noted { OnOk result (StaysRead notes.old notes.new) }
+{
+    let stepped = around.is_stepped(id);
+    let phase = phase_of(into(stepped, behind), id);
+    let round = around.round;
+    note_reads(notes, Site { phase, round }, test)?;
+    note_parted(notes, are_arms_parted(round, other), Event::Begins)?;
+    notes.note(Event::ArmBegins)?;
+    Ok(inside_choice(stepped, phase))
+}
+
+/// Notes what stands between the arms of an `if`, of which the other may lack.
+#[tactic(auto, using(crate::proofs::NotedFacts::some_other, dh_tree::proofs::Collecting::found_both))]
+fn begin_other<'a>(
+    notes: &mut Notes<'a>,
+    round: Option<u32>,
+    other: &Option<Box<Command>>,
+) -> Result<(), NoMemory>
+    ensures adds { OnOk result (Adds notes.old notes.new (other_begun_by round other.now)) }
+    ensures noted { OnOk result (StaysRead notes.old notes.new) }
+{
+    notes.note(Event::ArmEnds)?;
+    note_parted(notes, are_arms_parted(round, other), Event::Next)?;
+    note_parted(notes, other.is_some(), Event::ArmBegins)
+}
+
+/// Notes what stands behind the arms of an `if`, and answers what is open there.
+#[tactic(auto, using(crate::proofs::NotedFacts::some_other, dh_tree::proofs::Collecting::found_both))]
+fn end_arms<'a>(
+    notes: &mut Notes<'a>,
+    round: Option<u32>,
+    inside: Open,
+    other: &Option<Box<Command>>,
+) -> Result<Open, NoMemory>
+    ensures adds { OnOk result (Adds notes.old notes.new (arms_ended_by round other.now)) }
+    ensures after { IfOk result (λ after. after ≡ inside) }
+    ensures noted { OnOk result (StaysRead notes.old notes.new) }
+{
+    note_parted(notes, other.is_some(), Event::ArmEnds)?;
+    note_parted(notes, are_arms_parted(round, other), Event::Ends)?;
+    Ok(inside)
+}
+
+/// Notes what stands before the body of a `while`: parts begin, its test reads, and the next
+/// part begins.
+#[tactic(auto, using(dh_tree::proofs::Collecting::found_both))]
+fn begin_turns<'a>(notes: &mut Notes<'a>, site: Site, test: &'a Expr) -> Result<(), NoMemory>
+    ensures adds { OnOk result (Adds notes.old notes.new (turns_begun_by site test.now)) }
+    ensures noted { OnOk result (StaysRead notes.old notes.new) }
+{
+    notes.note(Event::Begins)?;
+    note_reads(notes, site, test)?;
+    notes.note(Event::Next)
+}
+
+/// Notes that the parts of a `while` end. Answers that nothing is open behind them.
+fn end_turns(notes: &mut Notes<'_>) -> Result<Open, NoMemory>
+    ensures adds { OnOk result (Adds notes.old notes.new turns_ended_by) }
+    ensures after { IfOk result (λ after. after ≡ incidents.closed) }
+    ensures noted { OnOk result (StaysRead notes.old notes.new) }
+{
+    notes.note(Event::Ends)?;
+    Ok(closed())
+}
+
+/// What is open into a block that joins copies: where it is straight, it goes on with the last
+/// phase of the turn.
+fn into_combine(around: Around<'_>, turn: Open, combine: &Option<Box<Command>>) -> Open
+    ensures { result ≡ combine_opened_by around.entry turn combine.now }
+{
+    match combine {
+        Some(block) => {
+            if around.is_stepped(block.id) {
+                closed()
+            } else {
+                open_at(turn.last)
+            }
+        }
+        None => closed(),
+    }
+}
+
+/// What is open behind a loop: nothing, where it has more than one phase.
+fn behind_loop(stepped: bool, behind: Open) -> Open
+    ensures { result ≡ incidents.behind_loop stepped behind }
+{
+    if stepped { closed() } else { behind }
 }
 
 /// Notes what happens in a command behind open phases, and answers which are open after it.
@@ -409,41 +532,25 @@ fn note_command<'a>(
         round,
     };
     match &command.form {
-        CommandForm::Let { name, value, .. } => {
-            note_let(notes, site, name, value)?;
-            Ok(open_at(Some(site.phase)))
-        }
+        CommandForm::Let { name, value, .. } => note_let(notes, site, name, value),
         CommandForm::Assign { target, value } | CommandForm::Reduce { target, value, .. } => {
-            note_assign(notes, site, target, value)?;
-            Ok(open_at(Some(site.phase)))
+            note_assign(notes, site, target, value)
         }
         CommandForm::Store { sides } => {
             let sides = sides.as_ref();
-            note_store(notes, site, &sides.target, &sides.value)?;
-            Ok(open_at(Some(site.phase)))
+            note_store(notes, site, &sides.target, &sides.value)
         }
         CommandForm::If { test, then, other } => {
-            let stepped = around.is_stepped(id);
-            let phase = phase_of(into(stepped, behind), id);
-            note_reads(notes, Site { phase, round }, test)?;
-            let inside = inside_choice(stepped, phase);
-            let parted = are_arms_parted(round, other);
-            note_parted(notes, parted, Event::Begins)?;
-            notes.note(Event::ArmBegins)?;
+            let inside = begin_arms(notes, around, behind, id, test, other)?;
             note_inside(notes, around, inside, then)?;
-            notes.note(Event::ArmEnds)?;
-            note_parted(notes, parted, Event::Next)?;
-            note_other(notes, around, inside, other)?;
-            note_parted(notes, parted, Event::Ends)?;
-            Ok(inside)
+            begin_other(notes, round, other)?;
+            note_given(notes, around, inside, other)?;
+            end_arms(notes, round, inside, other)
         }
         CommandForm::While { test, body } => {
-            notes.note(Event::Begins)?;
-            note_reads(notes, Site { phase: id, round }, test)?;
-            notes.note(Event::Next)?;
+            begin_turns(notes, Site { phase: id, round }, test)?;
             note_inside(notes, around, closed(), body)?;
-            notes.note(Event::Ends)?;
-            Ok(closed())
+            end_turns(notes)
         }
         CommandForm::For {
             header,
@@ -457,68 +564,31 @@ fn note_command<'a>(
                 round: round_inside(round, id, header.factor),
             };
             let turn = note_inside(notes, inside, closed(), body)?;
-            note_combine(notes, inside, turn, combine)?;
-            if around.is_stepped(id) {
-                Ok(closed())
-            } else {
-                Ok(behind)
-            }
+            let joins = into_combine(inside, turn, combine);
+            note_given(notes, inside, joins, combine)?;
+            Ok(behind_loop(around.is_stepped(id), behind))
         }
         CommandForm::Block { body } => note_block(notes, around, behind, id, body.as_slice()),
-        CommandForm::View { form, .. } => {
-            note_offsets(notes, site, form)?;
-            Ok(behind_view(behind, site.phase, form))
-        }
+        CommandForm::View { form, .. } => note_view(notes, site, behind, form),
         CommandForm::LetMemory { .. } | CommandForm::Call { .. } => Ok(behind),
     }
 }
 
-/// Notes what happens in an arm that may lack.
+/// Notes what happens in a command that may lack, and answers which phases are open after it.
 #[cycle(noting)]
-fn note_other<'a>(
+fn note_given<'a>(
     notes: &mut Notes<'a>,
     around: Around<'_>,
     behind: Open,
-    other: &'a Option<Box<Command>>,
-) -> Result<(), NoMemory>
+    command: &'a Option<Box<Command>>,
+) -> Result<Open, NoMemory>
     ensures adds { OnOk result
-        (Adds notes.old notes.new (other_done_by around.entry behind other.now)) }
+        (Adds notes.old notes.new (given_done_by around.entry behind command.now)) }
     ensures noted { OnOk result (StaysNoted notes.old notes.new) }
 {
-    match other {
-        Some(block) => {
-            notes.note(Event::ArmBegins)?;
-            note_inside(notes, around, behind, block)?;
-            notes.note(Event::ArmEnds)
-        }
-        None => Ok(()),
-    }
-}
-
-/// Notes what happens in a block that joins copies: where it is straight, it goes on with the last
-/// phase of the turn.
-#[cycle(noting)]
-fn note_combine<'a>(
-    notes: &mut Notes<'a>,
-    around: Around<'_>,
-    body: Open,
-    combine: &'a Option<Box<Command>>,
-) -> Result<(), NoMemory>
-    ensures adds { OnOk result (Adds notes.old notes.new
-        (combine_done_by around.entry body combine.now)) }
-    ensures noted { OnOk result (StaysNoted notes.old notes.new) }
-{
-    match combine {
-        Some(block) => {
-            let behind = if around.is_stepped(block.id) {
-                closed()
-            } else {
-                open_at(body.last)
-            };
-            note_inside(notes, around, behind, block)?;
-            Ok(())
-        }
-        None => Ok(()),
+    match command {
+        Some(command) => note_inside(notes, around, behind, command),
+        None => Ok(behind),
     }
 }
 
@@ -561,20 +631,10 @@ fn note_inside<'a>(
     ensures after { IfOk result (λ after. after ≡ opened_by around.entry behind command.now) }
     ensures noted { OnOk result (StaysNoted notes.old notes.new) }
 {
-    match &command.form {
-        CommandForm::Block { body } => {
-            note_block(notes, around, behind, command.id, body.as_slice())
-        }
-        CommandForm::Let { .. }
-        | CommandForm::LetMemory { .. }
-        | CommandForm::View { .. }
-        | CommandForm::Assign { .. }
-        | CommandForm::Store { .. }
-        | CommandForm::Reduce { .. }
-        | CommandForm::Call { .. }
-        | CommandForm::If { .. }
-        | CommandForm::While { .. }
-        | CommandForm::For { .. } => note_command(notes, around, behind, command),
+    if let CommandForm::Block { body } = &command.form {
+        note_block(notes, around, behind, command.id, body.as_slice())
+    } else {
+        note_command(notes, around, behind, command)
     }
 }
 
