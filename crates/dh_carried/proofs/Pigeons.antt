@@ -1,5 +1,6 @@
 -- Lists without repeats: such a list is no longer than any list that has all its members. By induction: the
--- first member is taken out of the other list, and the rest goes on.
+-- first member is taken out of the other list, and the rest goes on. Shared by dh_sound, dh_charged,
+-- dh_typed_blocks and dh_used.
 use Rattle.std.proofs.Common.{◌≡◌, suc, ◌≤◌, ◌⊎◌, inl, inr, Bool, true, false, ◌||◌, cond, List, [], ◌∷◌, ◌++◌, length, map, refl, sym, ◌∙◌, ap, subst, arith}
 use Rattle.std.specs.List.{list_any}
 use Rattle.std.specs.Set.{unique_keys, is_member}

@@ -41,6 +41,5 @@ pub mod PathsInOrder
 pub mod SmallWrites
 pub mod CommandsFlattened
 pub mod ViewsFlattened
-pub mod NamesLed
 pub mod KindsHeld
 pub mod HiddenPlaced

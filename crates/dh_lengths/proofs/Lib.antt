@@ -11,5 +11,4 @@ pub mod StraightCores
 pub mod PhaseWalking
 pub mod PhasesTold
 pub mod KeptViews
-pub mod NamesLed
 pub mod WaysLeveled

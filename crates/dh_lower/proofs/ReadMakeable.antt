@@ -5,7 +5,6 @@ use Rattle.std.specs.Prelude.{[], ◌∷◌, slice_get, slice_index}
 use Rattle.dh_tree.specs.Elements.{Spot, dims_at, ports_at, position_in_bank}
 use Rattle.dh_plan.specs.declared.operations.Operation.{Operation}
 use Rattle.dh_plan.specs.declared.operations.Reach.{Reach}
-use Rattle.dh_plan.specs.declared.schedules.Limits.{Limits}
 use Rattle.dh_plan.specs.Blocks.{spot_of_reach}
 use Rattle.dh_plan.specs.BoundPorts.{ArePorts, port_used}
 use Rattle.dh_plan.specs.LegalSchedules.{IsLegal, IsLegalBlock, needed_clock, clocks_in}
@@ -14,6 +13,7 @@ use Rattle.dh_plan.specs.PlainPlans.{no_nodes, first_in, operations_in}
 use Rattle.dh_plan.specs.PlanKinds.{IsFormedBlock, OperationSuits, kinds_of}
 use Rattle.dh_plan.specs.PlanRuns.{Todo, over, nodes_then, next_of, start_at, block_values}
 use Rattle.dh_plan.specs.PlayedPlans.{PlaysPlan}
+use Rattle.dh_plan.specs.ScheduleLaws.{without_limits}
 use Rattle.dh_plan.specs.SoundPlans.{access_in, use_in, writes_memory, HasAccess, HasUse, IsListed, WritesAt, Reaches, KeepsBanks, StepsKeepBanks, IsFormed, FormAddressed, IsInRange, IsAddressed}
 use Rattle.dh_plan.specs.Ways.{FlowsAs, leads_to, resolve, way_of_stop}
 use Rattle.dh_plan.proofs.StoringSound.{zero_between, one_between}
@@ -181,10 +181,7 @@ read_flows = record { behind = behind_state; after = λ fork. over; first = λ r
     each_state zero registers = refl
     each_state (suc state) registers = refl
 
-abbrev no_limits : Limits
-no_limits = record { multipliers = 0; chain = 0 }
-
-read_legal : IsLegal read_plan no_limits read_making.timing
+read_legal : IsLegal read_plan without_limits read_making.timing
 read_legal = record { all_clocks = refl; all_lengths = refl; blocks = legal_block }
   where
     needs : (i : ℕ) (o : Operation) → slice_get read_operations i ≡ Some o → needed_clock 0 read_operations (clocks_in read_plan read_making.timing 0) o ≤ slice_index (clocks_in read_plan read_making.timing 0) i
@@ -192,7 +189,7 @@ read_legal = record { all_clocks = refl; all_lengths = refl; blocks = legal_bloc
         each_place (λ n x. needed_clock 0 read_operations (clocks_in read_plan read_making.timing 0) x ≤ slice_index (clocks_in read_plan read_making.timing 0) n) read_operations
         ((let s : 0 ≤ 0 = omega arith in s), ((let s : 0 ≤ 0 = omega arith in s), ((let s : 0 ≤ 0 = omega arith in s), ((let s : 1 ≤ 1 = omega arith in s), tt)))) i o e
 
-    legal_block : (block : ℕ) → block < 1 → IsLegalBlock no_limits (first_in read_plan block) (operations_in read_plan block) (clocks_in read_plan read_making.timing block) (slice_index (2 ∷ []) block)
+    legal_block : (block : ℕ) → block < 1 → IsLegalBlock without_limits (first_in read_plan block) (operations_in read_plan block) (clocks_in read_plan read_making.timing block) (slice_index (2 ∷ []) block)
     legal_block zero h = record { needs = needs; products = λ clock. tt; chains = (tt, (tt, (tt, (tt, tt)))); ends = refl }
     legal_block (suc block) h = absurd (omega (arith, h))
 
@@ -222,8 +219,8 @@ read_ports =
       rising = λ b i c j bank m n p q r t h write_first write_second first second later. absurd (no_write b i write_first);
     }
 
-read_makeable : IsMakeable read_making no_limits
+read_makeable : IsMakeable read_making without_limits
 read_makeable = record { sound = record { formed = read_formed; steps = read_keeps_banks }; addressed = read_addressed; flows = read_flows; legal = read_legal; ports = read_ports }
 
 pub read_plays : PlaysPlan read_plan (2 ∷ []) read_net
-read_plays = net_plays read_making no_limits read_net read_holds read_makeable read_net_made
+read_plays = net_plays read_making without_limits read_net read_holds read_makeable read_net_made

@@ -4,7 +4,6 @@ use Rattle.std.specs.Prelude.{[], ◌∷◌, slice_get, slice_index}
 use Rattle.dh_tree.specs.Elements.{Spot, ports_at}
 use Rattle.dh_plan.specs.declared.operations.Operation.{Operation}
 use Rattle.dh_plan.specs.declared.operations.Reach.{Reach}
-use Rattle.dh_plan.specs.declared.schedules.Limits.{Limits}
 use Rattle.dh_plan.specs.Blocks.{spot_of_reach}
 use Rattle.dh_plan.specs.BoundPorts.{ArePorts, BothList, port_used}
 use Rattle.dh_plan.specs.LegalSchedules.{IsLegal, IsLegalBlock, needed_clock, clocks_in}
@@ -13,6 +12,7 @@ use Rattle.dh_plan.specs.PlainPlans.{no_nodes, first_in, operations_in}
 use Rattle.dh_plan.specs.PlanKinds.{IsFormedBlock, OperationSuits, kinds_of}
 use Rattle.dh_plan.specs.PlanRuns.{Todo, over, nodes_then, next_of, start_at, block_values}
 use Rattle.dh_plan.specs.PlayedPlans.{PlaysPlan}
+use Rattle.dh_plan.specs.ScheduleLaws.{without_limits}
 use Rattle.dh_plan.specs.SoundPlans.{access_in, use_in, HasAccess, HasUse, IsListed, Reaches, KeepsBanks, StepsKeepBanks, IsFormed, FormAddressed, IsInRange, IsAddressed}
 use Rattle.dh_plan.specs.Ways.{FlowsAs, leads_to, resolve, way_of_stop}
 use Rattle.dh_plan.proofs.StoringSound.{storing_table, one_listed, zero_between, one_between}
@@ -169,16 +169,13 @@ store_flows = record { behind = behind_state; after = λ fork. over; first = λ 
     each_state zero registers = refl
     each_state (suc state) registers = refl
 
-abbrev pub no_limits : Limits
-no_limits = record { multipliers = 0; chain = 0 }
-
 store_needs : (i : ℕ) (o : Operation) → slice_get (operations_in store_plan 0) i ≡ Some o → needed_clock 0 (operations_in store_plan 0) (clocks_in store_plan store_making.timing 0) o ≡ 0
 store_needs i o e = by_three (λ (n : ℕ) (x : Operation). needed_clock 0 (operations_in store_plan 0) (clocks_in store_plan store_making.timing 0) x ≡ 0) _ _ _ refl refl refl i o e
 
-store_legal : IsLegal store_plan no_limits store_making.timing
+store_legal : IsLegal store_plan without_limits store_making.timing
 store_legal = record { all_clocks = refl; all_lengths = refl; blocks = legal_block }
   where
-    legal_block : (block : ℕ) → block < 1 → IsLegalBlock no_limits (first_in store_plan block) (operations_in store_plan block) (clocks_in store_plan store_making.timing block) (slice_index (1 ∷ []) block)
+    legal_block : (block : ℕ) → block < 1 → IsLegalBlock without_limits (first_in store_plan block) (operations_in store_plan block) (clocks_in store_plan store_making.timing block) (slice_index (1 ∷ []) block)
     legal_block zero h = record { needs = λ i o e. (let none = store_needs i o e in omega (arith, none)); products = λ clock. tt; chains = (tt, (tt, (tt, tt))); ends = refl }
     legal_block (suc block) h = absurd (omega (arith, h))
 
@@ -216,8 +213,8 @@ store_ports =
           ]);
     }
 
-store_makeable : IsMakeable store_making no_limits
+store_makeable : IsMakeable store_making without_limits
 store_makeable = record { sound = record { formed = store_formed; steps = store_keeps_banks }; addressed = store_addressed; flows = store_flows; legal = store_legal; ports = store_ports }
 
 pub store_plays : PlaysPlan store_plan (1 ∷ []) store_net
-store_plays = net_plays store_making no_limits store_net store_holds store_makeable store_net_made
+store_plays = net_plays store_making without_limits store_net store_holds store_makeable store_net_made

@@ -39,9 +39,6 @@ timing_seen s = record { clocks = s.clock_of; lengths = s.length }
 abbrev pub uses_seen : Binding → Uses
 uses_seen b = record { ports = b.ports; units = b.unit }
 
-abbrev pub no_limits : Limits
-no_limits = record { multipliers = 0; chain = 0 }
-
 -- `legal` is true exactly where the schedule is
 abbrev pub DecidesLegal : PlainPlan → Limits → Schedule → Bool → Type 0
 DecidesLegal plan limits s answer = IsTrue answer ↔ IsLegal plan limits (timing_seen s)

@@ -11,7 +11,7 @@ use Rattle.dh_sound.proofs.Counting.{same_list}
 use Rattle.dh_sound.proofs.Lockstep.{path_of, events_at, AreCopies, own_commands}
 use Rattle.dh_sound.proofs.OnePath.{all_made_by}
 use Rattle.dh_sound.proofs.PathsOfEvents.{at_its_path, AscendAtPaths, AreOnce, are_once, commands_stay}
-use Rattle.dh_sound.proofs.Pigeons.{Has}
+use Rattle.dh_carried.proofs.Pigeons.{Has}
 use Rattle.dh_sound.specs.Deep.{AreDeep}
 
 -- a block as commands

@@ -34,7 +34,7 @@ use Rattle.dh_sound.proofs.IteratorsAt.{turns_at}
 use Rattle.dh_sound.proofs.LocatedSites.{straight_loops, test_stands_there}
 use Rattle.dh_sound.proofs.OneElement.{turned_name}
 use Rattle.dh_sound.proofs.Folds.{first_assigned}
-use Rattle.dh_sound.proofs.Pigeons.{Has, has_left}
+use Rattle.dh_carried.proofs.Pigeons.{Has, has_left}
 use Rattle.dh_sound.proofs.ReadyKeeps.{ready_keeps, ready_deep}
 use Rattle.dh_sound.proofs.RoundPrograms.{loops_round}
 use Rattle.dh_sound.proofs.SamePhase.{either}

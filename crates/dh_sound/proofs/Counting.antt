@@ -9,7 +9,7 @@ use Rattle.std.proofs.lemmas.Cmp.{nat_list_eq_equiv, nat_eq_equiv}
 use Rattle.std.proofs.lemmas.Bool.{cases_lt}
 use Rattle.std.proofs.lemmas.Bool.Decides.{nat_tests}
 use Rattle.std.proofs.lemmas.List.{length-append, length-map}
-use Rattle.dh_sound.proofs.Pigeons.{Has, NoTwice, no_longer, has_left, has_right, has_either, once_both, has_mapped, member_has, unique_has, has_unique, unique_once}
+use Rattle.dh_carried.proofs.Pigeons.{Has, NoTwice, no_longer, has_left, has_right, has_either, once_both, has_mapped, member_has, unique_has, has_unique, unique_once}
 
 -- an access that was made in a bank: its number, its key, its row, and whether it writes
 pub record Made : Type 0 where

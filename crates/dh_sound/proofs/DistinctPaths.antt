@@ -7,7 +7,7 @@ use Rattle.dh_meaning.specs.Effects.{Begun}
 use Rattle.dh_meaning.specs.Paths.{Path, outer_paths, copies_of, all_copies, paths_from, paths_in}
 use Rattle.dh_sound.specs.Blocks.{factors, paths_inside}
 use Rattle.dh_sound.proofs.Lockstep.{AreCopies, AllLong}
-use Rattle.dh_sound.proofs.Pigeons.{Has, NoTwice, once_both, has_either}
+use Rattle.dh_carried.proofs.Pigeons.{Has, NoTwice, once_both, has_either}
 use Rattle.dh_sound.proofs.SettledNames.{inside_long}
 
 never_empty : (q : Path) (b : ℕ) → [] ≡ q ++ b ∷ [] → ⊥

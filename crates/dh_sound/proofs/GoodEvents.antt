@@ -19,7 +19,7 @@ use Rattle.dh_sound.proofs.BlockWalks.{walk_located, walk_test}
 use Rattle.dh_sound.proofs.Folds.{makes_more, makes_less}
 use Rattle.dh_sound.proofs.KnownReads.{knows_none}
 use Rattle.dh_sound.proofs.OnePath.{all_made_by}
-use Rattle.dh_sound.proofs.Pigeons.{Has}
+use Rattle.dh_carried.proofs.Pigeons.{Has}
 use Rattle.dh_sound.proofs.SamePhase.{straight_has_both, test_has_both}
 use Rattle.dh_sound.proofs.Slices.{straight_either, test_either}
 use Rattle.dh_sound.proofs.StraightWalks.{Done}

@@ -8,7 +8,7 @@ use Rattle.dh_meaning.specs.Paths.{Path}
 use Rattle.dh_meaning.specs.Sites.{Around}
 use Rattle.dh_meets.specs.SourceEvents.{SourceAccess, SourceEvent, accesses, assigned}
 use Rattle.dh_sound.proofs.KnownReads.{Knows, reach_at}
-use Rattle.dh_sound.proofs.Pigeons.{Has}
+use Rattle.dh_carried.proofs.Pigeons.{Has}
 use Rattle.dh_sound.proofs.SourceValues.{spot_alike}
 use Rattle.dh_sound.proofs.ValuesBelow.{AgreeBelow, spot_behind}
 use Rattle.dh_sound.specs.BehindViews.{AccessBehind}

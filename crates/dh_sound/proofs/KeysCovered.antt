@@ -28,7 +28,7 @@ use Rattle.dh_sound.specs.SameKeys.{IsNearTo}
 use Rattle.dh_sound.specs.ViewsBound.{ViewsBound}
 use Rattle.dh_sound.proofs.CopiesThrough.{Passes, all_lead, bank_here, banks_along, behind_step}
 use Rattle.dh_sound.proofs.Counting.{same_list, whole_list}
-use Rattle.dh_sound.proofs.Pigeons.{Has, NoTwice, has_mapped, has_unique, unique_has, unique_once}
+use Rattle.dh_carried.proofs.Pigeons.{Has, NoTwice, has_mapped, has_unique, unique_has, unique_once}
 use Rattle.dh_sound.proofs.SettledNames.{long_part}
 use Rattle.dh_sound.proofs.ShiftsOnWays.{HoldsShifts, shifts_same}
 

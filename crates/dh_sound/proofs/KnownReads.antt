@@ -14,7 +14,7 @@ use Rattle.dh_meaning.specs.Paths.{Path}
 use Rattle.dh_meaning.specs.Sites.{Arm, Around, in_arm}
 use Rattle.dh_meets.specs.SourceEvents.{Element, SourceAccess, SourceEvent, accesses, assigned, accesses_in, trace}
 use Rattle.dh_meets.specs.Sharing.{same_truth, alike_elements, element_mentions, reassigned, same_arm, all_arms_of, shares_with, share_among, share_in, shared}
-use Rattle.dh_sound.proofs.Pigeons.{Has, has_left}
+use Rattle.dh_carried.proofs.Pigeons.{Has, has_left}
 use Rattle.dh_sound.proofs.SourceValues.{SameOffsets, memory_at, source_spot, AgreeBut, IsNamedElement, spot_unmentioned, spot_alike}
 use Rattle.dh_sound.specs.Trails.{count}
 

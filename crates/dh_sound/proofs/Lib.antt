@@ -1,4 +1,3 @@
-pub mod Pigeons
 pub mod SourceValues
 pub mod OnePath
 pub mod Lockstep

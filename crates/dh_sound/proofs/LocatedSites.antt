@@ -8,7 +8,7 @@ use Rattle.dh_meaning.specs.Phases.{Located, phases_of, idle_phases_of}
 use Rattle.dh_meaning.specs.OnePhase.{makes, tests_make, test_makes}
 use Rattle.dh_meets.specs.SourceEvents.{SourceAccess, SourceEvent, accesses_in, site_of, term_events, events, trace}
 use Rattle.dh_sound.specs.PhaseFacts.{HasStraight, HasTest, StandsAmong}
-use Rattle.dh_sound.proofs.Pigeons.{Has}
+use Rattle.dh_carried.proofs.Pigeons.{Has}
 use Rattle.dh_sound.proofs.EventCounts.{term_counted, events_counted}
 use Rattle.dh_sound.proofs.Sums.{Within}
 use Rattle.dh_sound.proofs.Slices.{straight_stands, test_stands}

@@ -13,7 +13,7 @@ use Rattle.dh_tree.specs.Elements.{Spot}
 use Rattle.dh_meaning.specs.Core.{Reach, CoreTerm, literal, truth_literal, variable, read, binary, convert, Target, by_indices, by_row, CoreTerms, no_terms, term_and, CoreCommand, store, assign, choose, CoreCommands, no_commands, command_and}
 use Rattle.dh_meaning.specs.Effects.{Begun, Variables, set_variable, value_of, values_of, spot_reached, spot_by_indices, spot_by_row, bits_at, kind_in, kept_bits, term_events, target_events, terms_events, read_made, write_made, Effect, Event, reads, writes, faults, with_events, store_events, at_each, stored_at, assigned_at, tested_at, paths_where, holds_at, command_run, commands_run}
 use Rattle.dh_meaning.specs.Paths.{Path, same_path}
-use Rattle.dh_sound.proofs.Pigeons.{Has, NoTwice}
+use Rattle.dh_carried.proofs.Pigeons.{Has, NoTwice}
 use Rattle.dh_sound.proofs.Counting.{same_list}
 use Rattle.dh_sound.proofs.OnePath.{left_by, all_left_by, made_by, all_made_by}
 use Rattle.dh_sound.specs.Deep.{IsDeep, AreDeep}

@@ -7,7 +7,7 @@ use Rattle.dh_tree.specs.Elements.{Spot}
 use Rattle.dh_meaning.specs.Effects.{Event, reads, writes, faults, is_at, rows_read, writes_made, spent}
 use Rattle.dh_meaning.specs.Paths.{Path}
 use Rattle.dh_sound.proofs.Counting.{Made, Among, rows_of, writes_of}
-use Rattle.dh_sound.proofs.Pigeons.{Has}
+use Rattle.dh_carried.proofs.Pigeons.{Has}
 
 module _ (key : ℕ → Path → List ℕ) (memory bank : ℕ) where
   abbrev pub read_there : (number : ℕ) → Path → Spot → Made

@@ -33,7 +33,7 @@ use Rattle.dh_sound.proofs.NamesOfEvents.{made_names, tested_names}
 use Rattle.dh_sound.proofs.NamesScoped.{AllPast, AreVisible, plain_in, bind_in, all_from, all_less, none_past, past_both, scoped, two_past}
 use Rattle.dh_sound.proofs.Sited.{makes_within}
 use Rattle.dh_sound.proofs.Slices.{straight_stands, test_stands, straight_either, test_either}
-use Rattle.dh_sound.proofs.Pigeons.{Has}
+use Rattle.dh_carried.proofs.Pigeons.{Has}
 use Rattle.dh_meaning.specs.Ways.{Hidden, Led, Standing, all_bindings_of, behind_hidden, hidden_binding, hidden_bindings, hidden_of, led_binding, standings, view_bindings, ways_of}
 
 -- Phases.

@@ -19,7 +19,7 @@ use Rattle.dh_meaning.specs.Runs as run
 use Rattle.dh_meaning.specs.Runs.{RunState, step_effect, state_after, step_from, run_state}
 use Rattle.dh_sound.specs.Standing.{KeepsIterators, IsStanding, StepsKeepPorts, BlocksKeepPorts}
 use Rattle.dh_sound.proofs.Standing.{run_stands}
-use Rattle.dh_sound.proofs.Pigeons.{no_longer, has_left, unique_has, has_unique, unique_once}
+use Rattle.dh_carried.proofs.Pigeons.{no_longer, has_left, unique_has, has_unique, unique_once}
 
 -- What a beginning has spent.
 

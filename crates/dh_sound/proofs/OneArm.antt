@@ -24,7 +24,7 @@ use Rattle.dh_sound.specs.PhaseFacts.{HasArm, arm_of, AreOpposite}
 use Rattle.dh_sound.proofs.ArmsOnce.{arms_once}
 use Rattle.dh_sound.proofs.EventCounts.{count_in, count_joined, term_counted, events_counted, command_counted, other_counted, groups_counted, part_counted}
 use Rattle.dh_sound.proofs.OnePath.{left_by, all_left_by, made_by, all_made_by}
-use Rattle.dh_sound.proofs.Pigeons.{Has}
+use Rattle.dh_carried.proofs.Pigeons.{Has}
 use Rattle.dh_sound.proofs.Sites.{each_both, each_so, StandsWithin, action_stands, other_stands, groups_stand, part_stands, term_stands, maybe_stands, write_stands}
 use Rattle.dh_sound.proofs.Ascending.{number_of, Ascends, action_ascends, form_ascends, other_ascends, groups_ascend, part_ascends, term_ascends}
 use Rattle.dh_sound.specs.Trails.{EachAccess, ArmsWithin, Below, AllBelow, StandsBehind, of_located, Follows}

@@ -7,7 +7,7 @@ use Rattle.dh_meaning.specs.Effects.{Begun, Event, Effect, term_events, store_ev
 use Rattle.dh_meaning.specs.Paths.{Path, same_path}
 use Rattle.dh_sound.proofs.Ascending.{number_of, Ascends}
 use Rattle.dh_sound.proofs.Lockstep.{path_of, events_at, AllAt, term_at, store_at}
-use Rattle.dh_sound.proofs.Pigeons.{Has, has_either}
+use Rattle.dh_carried.proofs.Pigeons.{Has, has_either}
 use Rattle.dh_meaning.specs.Core.{keep}
 use Rattle.dh_meaning.specs.Effects.{kept_at, terms_events}
 use Rattle.dh_sound.proofs.Lockstep.{terms_at}

@@ -19,7 +19,7 @@ use Rattle.dh_meaning.specs.Levels.{assigns_to, any_assigns}
 use Rattle.dh_sound.specs.Blocks.{StandsIn, StandsInPhase}
 use Rattle.dh_sound.specs.Standing.{Spares, IsFresh, AreApart, IsApart, KeepsIterators}
 use Rattle.dh_sound.specs.IteratorsKept.{IsOther, also, Leaves, FormLeaves, OtherLeaves, GroupsLeave, PartLeaves, LeavesIterators}
-use Rattle.dh_sound.proofs.Pigeons.{Has}
+use Rattle.dh_carried.proofs.Pigeons.{Has}
 use Rattle.dh_sound.proofs.PhasesHold.{Facts, AllHold, PhaseHolds, PhasesHold, ListHolds, PartsHold, of_list_hold, both_hold, joined_hold, folded_hold, turn_hold, choice_hold}
 use Rattle.dh_sound.proofs.OwnVariables.{hidden_behind}
 use Rattle.dh_tree.specs.Seen.{terms}

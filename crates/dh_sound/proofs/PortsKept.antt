@@ -41,7 +41,7 @@ use Rattle.dh_sound.proofs.Lockstep.{path_of}
 use Rattle.dh_sound.proofs.OneArm.{one_arm}
 use Rattle.dh_sound.proofs.OnePath.{all_made_by}
 use Rattle.dh_sound.proofs.Opposite.{apart_opposite}
-use Rattle.dh_sound.proofs.Pigeons.{Has}
+use Rattle.dh_carried.proofs.Pigeons.{Has}
 use Rattle.dh_sound.proofs.PortsOfBlocks.{bank_covered, block_keeps}
 use Rattle.dh_sound.proofs.SourceValues.{source_spot}
 use Rattle.dh_sound.proofs.TermWalks.{IsGood, IsMadeOf, as_read, as_write}

@@ -48,7 +48,7 @@ use Rattle.dh_sound.proofs.MadeEvents.{made_there, made_by_event, IsMadeThere, b
 use Rattle.dh_sound.proofs.OneElement.{one_element, same_length}
 use Rattle.dh_sound.proofs.OnePath.{all_made_by}
 use Rattle.dh_sound.proofs.PathsOfEvents.{AreOnce}
-use Rattle.dh_sound.proofs.Pigeons.{Has, has_mapped}
+use Rattle.dh_carried.proofs.Pigeons.{Has, has_mapped}
 use Rattle.dh_sound.proofs.SettledNames.{inside_long}
 use Rattle.dh_sound.proofs.ShiftsOnWays.{HoldsShifts}
 use Rattle.dh_sound.proofs.SourceValues.{memory_at, source_spot}

@@ -10,7 +10,7 @@ use Rattle.dh_meaning.specs.Sites.{Around, nothing_around, in_arm, in_loop, loop
 use Rattle.dh_meaning.specs.Phases.{Located, Phase, straight, turns, repeated, decided, Phases, no_phases, phase, of_list, one_straight, joined, are_straight, one_command, folded, turn_phases, choice_phases, located, phases, form_phases, other_phases, groups_phases, parts_phases, phases_of, unless_turns, idle_phases, idle_form_phases, idle_other_phases, idle_groups_phases, idle_part_phases, idle_phases_of}
 use Rattle.dh_meets.specs.SourceEvents.{Site, SourceEvent, assigned, accesses_in, term_events, site_of, events, other_events, groups_events, part_events, trace}
 use Rattle.dh_sound.specs.PhaseFacts.{HasStraightIn, HaveStraight, HasStraight, HasTestIn, HaveTest, HasTest, StandsAmong}
-use Rattle.dh_sound.proofs.Pigeons.{Has}
+use Rattle.dh_carried.proofs.Pigeons.{Has}
 use Rattle.dh_sound.proofs.EventCounts.{count_in, count_joined, term_counted, events_counted, part_counted}
 
 -- What holds of each located command of Straight phases and of tests.

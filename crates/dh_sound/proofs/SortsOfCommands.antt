@@ -31,7 +31,7 @@ use Rattle.dh_sound.specs.Trails.{EachAccess}
 use Rattle.dh_sound.proofs.DepthsNamed.{size, Deep, FormDeep, OtherDeep, GroupsDeep, PartDeep}
 use Rattle.dh_sound.proofs.FactsGrow.{appended, grows, form_grows, InStep, next_in_step, past_in_step, in_step, part_in_step}
 use Rattle.dh_sound.proofs.NamedPrograms.{used_stands}
-use Rattle.dh_sound.proofs.Pigeons.{Has, has_left, has_right}
+use Rattle.dh_carried.proofs.Pigeons.{Has, has_left, has_right}
 use Rattle.dh_sound.proofs.Sites.{each_both}
 use Rattle.dh_sound.proofs.SortsOfNames.{memory_found, IsDeepFrom, memory_is, variable_is, iterator_is, AreSorted, later_sorted, all_later, inner_sorted, bind_sorted, next_fact, declared_sorted, past_sorted, let_is, target_inside, term_told, write_told, maybe_told, fact_there, parent_of, terms_told, view_is}
 use Rattle.std.proofs.lemmas.Option.{slice_get_within}

@@ -34,7 +34,7 @@ use Rattle.dh_sound.proofs.FactsGrow.{Extends, appended, added_last, InStep}
 use Rattle.dh_sound.proofs.IteratorsNamed.{none_when}
 use Rattle.dh_sound.proofs.KindsOfCommands.{added_found}
 use Rattle.dh_sound.proofs.NamedPrograms.{used_stands}
-use Rattle.dh_sound.proofs.Pigeons.{Has}
+use Rattle.dh_carried.proofs.Pigeons.{Has}
 use Rattle.dh_sound.proofs.Sites.{each_both}
 use Rattle.dh_meaning.specs.Ways.{Way, all_bindings_of, base_of, way_to}
 use Rattle.dh_ways.specs.Leading.{LeadsTo}

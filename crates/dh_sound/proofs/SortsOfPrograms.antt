@@ -26,7 +26,7 @@ use Rattle.dh_sound.proofs.DepthsNamed.{deep}
 use Rattle.dh_sound.proofs.FactsGrow.{appended}
 use Rattle.dh_sound.proofs.JoinsKept.{joins_kept}
 use Rattle.dh_sound.proofs.KindsOfPrograms.{functions_grow, body_in_step, mapped_at, behind_at, map_long, resolved_body, next_number}
-use Rattle.dh_sound.proofs.Pigeons.{Has, has_right, has_left, has_mapped}
+use Rattle.dh_carried.proofs.Pigeons.{Has, has_right, has_left, has_mapped}
 use Rattle.dh_sound.proofs.PlacementsSplit.{folds_none, outer_none}
 use Rattle.dh_sound.proofs.SortsOfCommands.{CommandTold, told}
 use Rattle.dh_sound.proofs.SortsOfNames.{memory_found, IsSorted, memory_is, function_is, AreSorted, all_later, bind_sorted}

@@ -24,7 +24,7 @@ use Rattle.dh_sound.proofs.Counting.{Made, Among, IsMadeBy, WritesApart, WriteAp
 use Rattle.dh_sound.proofs.EventCounts.{events_counted}
 use Rattle.dh_sound.proofs.MadeEvents.{read_there, write_there, made_there, spent_there, IsMadeThere, by_read, by_write, made_by_event, event_made}
 use Rattle.dh_sound.proofs.PathsOfEvents.{AreOnce, IsOnce}
-use Rattle.dh_sound.proofs.Pigeons.{Has, has_member}
+use Rattle.dh_carried.proofs.Pigeons.{Has, has_member}
 use Rattle.dh_sound.specs.Trails.{count}
 use Rattle.dh_meaning.specs.Ways.{all_bindings_of}
 

@@ -26,7 +26,7 @@ use Rattle.dh_meets.specs.SourceEvents.{Element, with_indices, in_row, Site, Sou
 use Rattle.dh_meets.specs.SourceEvents as source
 use Rattle.dh_meets.specs.Sharing.{alike_elements, reassigned, all_arms_of, shares_with, shared}
 use Rattle.dh_sound.specs.Straight.{IsNamedTerm, AreNamedTerms}
-use Rattle.dh_sound.proofs.Pigeons.{Has, has_left, has_right, has_either}
+use Rattle.dh_carried.proofs.Pigeons.{Has, has_left, has_right, has_either}
 use Rattle.dh_sound.proofs.SourceValues.{spot_named, memory_at, source_spot, IsNamedElement, numbers_aside, all_numbers_aside, entity_is}
 use Rattle.dh_sound.proofs.KnownReads.{count_joined, reach_at, Knows, knows_on, knows_access, shared_found}
 use Rattle.dh_sound.specs.Trails.{count}

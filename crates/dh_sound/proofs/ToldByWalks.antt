@@ -17,7 +17,7 @@ use Rattle.dh_sound.proofs.BlockEvents.{block_events, made_at, made_there_too}
 use Rattle.dh_sound.proofs.KnownReads.{reach_at}
 use Rattle.dh_sound.proofs.Lockstep.{AreCopies}
 use Rattle.dh_sound.proofs.OnePath.{all_made_by}
-use Rattle.dh_sound.proofs.Pigeons.{Has}
+use Rattle.dh_carried.proofs.Pigeons.{Has}
 use Rattle.dh_sound.proofs.SourceValues.{source_spot}
 use Rattle.dh_sound.proofs.TermWalks.{IsGood, IsMadeOf, as_read, as_write, IsNear}
 use Rattle.dh_sound.specs.Deep.{AreDeep}

@@ -25,7 +25,7 @@ use Rattle.dh_sound.specs.AssignsInside.{KeepsInside}
 use Rattle.dh_sound.proofs.DepthsNamed.{size}
 use Rattle.dh_sound.proofs.IteratorsNamed.{declared_on, goes_on, groups_on, on_long, other_on, part_on, past_on}
 use Rattle.dh_sound.proofs.NamesInScope.{body_long}
-use Rattle.dh_sound.proofs.Pigeons.{Has}
+use Rattle.dh_carried.proofs.Pigeons.{Has}
 use Rattle.dh_sound.proofs.SortedNames.{AllStored, body_sorted, is_stored, is_viewed, sort_at, stands_as}
 use Rattle.dh_sound.proofs.ViewedWays.{led_to}
 use Rattle.dh_sound.proofs.ViewsBefore.{AllFrom, AllLedBelow, later_kept, led_both_below, led_more, not_below, one_below, passed_over, there}

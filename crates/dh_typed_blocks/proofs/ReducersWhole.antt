@@ -37,7 +37,7 @@ use Rattle.dh_sound.proofs.IteratorsNamed.{none_when, on_long, past_on, goes_on,
 use Rattle.dh_sound.proofs.JoinsKept.{joins_kept}
 use Rattle.dh_sound.proofs.KindsOfPrograms.{body_in_step, resolved_body}
 use Rattle.dh_sound.proofs.NamedPrograms.{used_stands}
-use Rattle.dh_sound.proofs.Pigeons.{Has, has_left, has_right}
+use Rattle.dh_carried.proofs.Pigeons.{Has, has_left, has_right}
 use Rattle.dh_sound.proofs.PlacementsSplit.{folds_none, outer_none}
 use Rattle.dh_sound.proofs.SortsOfCommands.{told}
 use Rattle.dh_sound.proofs.SortsOfNames.{IsDeepFrom, IsSorted, memory_is, variable_is, view_is, iterator_is, function_is, AreSorted, later_sorted, all_later, inner_sorted, bind_sorted, next_fact, past_sorted}

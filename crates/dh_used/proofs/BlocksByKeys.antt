@@ -22,7 +22,7 @@ use Rattle.dh_plan.specs.DoneProgram.{keys_of, operations_using, probes_among, u
 use Rattle.dh_plan.specs.PlainPlans.{PlainPlan, operations_in}
 use Rattle.dh_sound.specs.PhaseFacts.{HasStraight, HasTest, StandsAmong}
 use Rattle.dh_sound.specs.ToldEvents.{access_at}
-use Rattle.dh_sound.proofs.Pigeons.{Has}
+use Rattle.dh_carried.proofs.Pigeons.{Has}
 use Rattle.dh_sound.proofs.SamePhase.{straight_has_both, test_has_both}
 use Rattle.dh_sound.proofs.Slices.{straight_either, straight_stands, test_either, test_stands}
 use Rattle.dh_events.specs.Accesses.{element_in, entity_in}

@@ -29,7 +29,7 @@ use Rattle.dh_sound.proofs.LoopsMatch.{AreInside, EachInside, IsInside, ListInsi
 use Rattle.dh_sound.proofs.KeptPrograms.{kept_named}
 use Rattle.dh_sound.proofs.Makes.{makes_within}
 use Rattle.dh_sound.proofs.PhasesHold.{AllHold, ListHolds, PhaseHolds, PhasesHold}
-use Rattle.dh_sound.proofs.Pigeons.{Has}
+use Rattle.dh_carried.proofs.Pigeons.{Has}
 use Rattle.dh_sound.proofs.Slices.{straight_either, test_either}
 use Rattle.dh_expressions.specs.declared.accesses.Accesses.{Accesses}
 use Rattle.dh_expressions.specs.declared.drafts.Draft.{Draft}

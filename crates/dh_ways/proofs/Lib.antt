@@ -12,3 +12,4 @@ pub mod WaysMade
 pub mod LinksTold
 pub mod PlacedWays
 pub mod WaysKept
+pub mod NamesLed

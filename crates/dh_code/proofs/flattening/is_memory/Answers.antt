@@ -2,7 +2,7 @@ use Rattle.std.proofs.Common.{Some, ap, sym, ◌∙◌}
 use Rattle.std.specs.Option.{is_some}
 use Rattle.dh_tree.specs.Memories.{memory_in}
 use Rattle.dh_code.specs.Flattening.{known_in}
-use Rattle.dh_code.proofs.NamesLed.{nothing_stands, numbered_same}
+use Rattle.dh_ways.proofs.NamesLed.{nothing_stands, numbered_same}
 use Rattle.dh_code.proofs.flattening.is_memory.Goals as goal
 
 pub returns-in_default : goal.returns-in_default

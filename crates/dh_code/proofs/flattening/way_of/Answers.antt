@@ -2,7 +2,7 @@ use Rattle.std.proofs.Common.{sym, ◌∙◌}
 use Rattle.dh_tree.specs.Memories.{memory_in}
 use Rattle.dh_meaning.specs.Ways.{way_in}
 use Rattle.dh_code.specs.Flattening.{known_in}
-use Rattle.dh_code.proofs.NamesLed.{unless_memory, unless_none}
+use Rattle.dh_ways.proofs.NamesLed.{unless_memory, unless_none}
 use Rattle.dh_code.proofs.flattening.way_of.Goals as goal
 
 pub returns-then-is_memory : goal.returns-then-is_memory

@@ -2,7 +2,7 @@ use Rattle.std.proofs.Common.{Some, ap, sym, ◌∙◌}
 use Rattle.std.specs.Option.{is_some}
 use Rattle.dh_tree.specs.Memories.{memories_of, memory_in}
 use Rattle.dh_tree.specs.Seen.{program_seen}
-use Rattle.dh_lengths.proofs.NamesLed.{nothing_stands, numbered_same}
+use Rattle.dh_ways.proofs.NamesLed.{nothing_stands, numbered_same}
 use Rattle.dh_lengths.proofs.leads.is_memory.Goals as goal
 
 pub returns-in_default : goal.returns-in_default

@@ -3,7 +3,7 @@ use Rattle.dh_tree.specs.Memories.{memories_of, memory_in}
 use Rattle.dh_tree.specs.Seen.{program_seen}
 use Rattle.dh_meaning.specs.Ways.{way_in}
 use Rattle.dh_ways.specs.Seen.{led_seen}
-use Rattle.dh_lengths.proofs.NamesLed.{unless_memory, unless_none}
+use Rattle.dh_ways.proofs.NamesLed.{unless_memory, unless_none}
 use Rattle.dh_lengths.proofs.leads.way_of.Goals as goal
 
 pub returns-then-is_memory : goal.returns-then-is_memory

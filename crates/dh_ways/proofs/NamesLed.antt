@@ -1,4 +1,4 @@
--- Names that stand for memories, and others.
+-- Names that stand for memories, and others. Shared by dh_code and dh_lengths.
 use Rattle.std.proofs.Common.{◌≡◌, ℕ, suc, Bool, true, false, if◌then◌else◌, List, [], ◌∷◌, Some, None, refl, ◌∙◌}
 use Rattle.std.specs.Prelude.{Option, option_map}
 use Rattle.std.specs.Option.{is_some}
