@@ -3,6 +3,7 @@
 //! programs to compile by the tests of `dh_app`, and `check_without_ports` beside the phases.
 //! Programs that are refused are tried by `conformance/` too.
 
+use crate::comparing::{holds, same_number};
 use crate::texts::{repeated, typed_of};
 use dh_shape::within;
 use dh_views::shapes;
@@ -15,11 +16,15 @@ fn names_and_kinds_of_a_long_text(rt: HostRuntime) -> Result<(), Fail> {
     let line = "{ let m: ubit<8>[3]; for (let i = 0..3) { let x = m[i] } } ---\n";
     let text = repeated(alloc, "", line, 10_000)?;
     let typed = typed_of(alloc, text.as_str())?;
-    assert_eq!(rt; typed.tree().entities.len(), 30_000);
-    assert_eq!(rt; typed.memories().len(), 10_000);
-    assert_eq!(rt; typed.memory_number(29_997), Some(9_999));
-    assert!(rt; typed.counter(29_998).is_some());
-    assert!(rt; shapes(alloc, &typed).is_ok());
-    assert!(rt; within(&typed).is_ok());
+    same_number(&rt, typed.tree().entities.len() as u64, 30_000, "entities");
+    same_number(&rt, typed.memories().len() as u64, 10_000, "memories");
+    holds(
+        &rt,
+        typed.memory_number(29_997) == Some(9_999),
+        "the last memory",
+    );
+    holds(&rt, typed.counter(29_998).is_some(), "the last counter");
+    holds(&rt, shapes(alloc, &typed).is_ok(), "shapes");
+    holds(&rt, within(&typed).is_ok(), "limits");
     Ok(())
 }

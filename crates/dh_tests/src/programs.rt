@@ -1,5 +1,6 @@
 //! Programs of any length, and what the passes make of them.
 
+use crate::texts::repeated;
 use std::alloc::{AllocError, Global};
 
 /// The second part reads what the first wrote.
@@ -42,13 +43,8 @@ pub fn zeros(alloc: Global, count: u64) -> Result<String, AllocError> {
 
 /// A program of 256 copies of so many assignments to a variable: its plan has the size 514 + 512 * count.
 pub fn copied(alloc: Global, count: u64) -> Result<String, AllocError> {
-    let mut text = String::from_str(
-        alloc,
-        "for (let i = 0..256) unroll 256 { let v: ubit<32> = 0;",
-    )?;
-    for _ in 0..count {
-        text.push_str(" v := v + 1;")?;
-    }
+    let head = "for (let i = 0..256) unroll 256 { let v: ubit<32> = 0;";
+    let mut text = repeated(alloc, head, " v := v + 1;", count)?;
     text.push_str(" }")?;
     Ok(text)
 }
