@@ -12,6 +12,8 @@ mod engines;
 #[cfg(test)]
 mod lexing;
 #[cfg(test)]
+mod nets;
+#[cfg(test)]
 mod outside;
 #[cfg(test)]
 mod passes;
