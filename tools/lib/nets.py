@@ -19,8 +19,10 @@ FORMS = [
     ('zero', re.compile(r"\{\d+'d0, w(\d+)\}$")), ('sign', re.compile(r'\{\{\d+\{w\d+\[\d+\]\}\}, w(\d+)\}$')),
     ('low', re.compile(r'w(\d+)\[\d+:0\]$')),
 ]
-# The registers of every net: the clock of the step, that a step has ended, the fault, the state.
+# The registers of every net that has a step: the clock of the step, that a step has ended, the fault, the state.
 CLOCK, TICK, FAULT, STATE = range(4)
+# One of no step has two of them, by their numbers in its text.
+STILL = {0: TICK, 1: FAULT}
 DEEP = 200
 
 
@@ -55,6 +57,11 @@ def form_of(text, width):
     raise Trouble(f'the text has a cell of a form that is none: {text[:60]}')
 
 
+def numbered(register, moves):
+    """The number of a register of a text, as that of one whose net has a step."""
+    return int(register) if moves else STILL.get(int(register), int(register))
+
+
 def computed(sign, width, left, right):
     """What an operator gives of two known words; None for one that is left to be shown."""
     if sign in ('&', '|', '^', '+', '-', '*'):
@@ -69,19 +76,25 @@ class Net:
 
     def __init__(self, text):
         self.memories, self.faults = memories_of(text), faults_of(text)
-        self.initial = {int(number): int(value) for number, value in REGISTER.findall(text)}
+        registers = REGISTER.findall(text)
+        moves = len(registers) != len(STILL)
+        self.initial = {CLOCK: 0, STATE: 0} if not moves else {}
+        self.initial.update({numbered(number, moves): int(value) for number, value in registers})
         self.cells, self.first, seen = {}, {}, {}
         for high, number, right in WIRE.findall(text):
             cell = form_of(right, int(high) + 1)
             if any(operand not in self.first for operand in cell.operands):
                 raise Trouble('the text has a wire before those that it takes')
             cell.operands = tuple(self.first[operand] for operand in cell.operands)
+            if cell.form == 'reg':
+                cell.detail = numbered(cell.detail, moves)
             key = (cell.form, cell.width, cell.operands, cell.detail)
             self.first[int(number)] = seen.setdefault(key, int(number))
             self.cells[int(number)] = cell
-        self.next = {int(register): self.first.get(int(wire)) for register, wire in NEXT.findall(text)}
-        if not set(range(4)) <= set(self.next) or None in self.next.values():
-            raise Trouble('the text has not the four registers of a net')
+        self.next = {numbered(register, moves): self.first.get(int(wire)) for register, wire in NEXT.findall(text)}
+        own = set(range(4)) if moves else set(STILL.values())
+        if not own <= set(self.next) or None in self.next.values():
+            raise Trouble('the text has not the registers of a net')
         assigned = dict(ASSIGNED.findall(text))
         self.done = self.first.get(int(assigned['done'][1:])) if 'done' in assigned else None
         self.ports = {tuple(map(int, PORT.match(pin).groups())): self.drivers(pin[:-3], assigned)

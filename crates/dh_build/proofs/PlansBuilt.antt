@@ -88,7 +88,7 @@ module _ (plan : PlainPlan) (g : Graph) (t : Timing) (u : Uses) (can : CanBuild 
 pub built_shifts : (plan : PlainPlan) (u : Uses) (states : List State) (first : Decision) (s : Sizes) (net : Net) → IsBuilt plan u states first s net → HasNarrowShifts net.cells
 built_shifts plan u states first s net built = subst (λ (l : List Cell). HasNarrowShifts l) (sym built.cells_are) built.shifts
 
--- Without the cells that nothing needs the net plays it, too.
+-- Without the cells and registers that nothing needs the net plays it, too.
 pub built_swept : (plan : PlainPlan) (lengths : List ℕ) (whole net : Net) → PlaysPlan plan lengths whole → HasNarrowShifts whole.cells → IsSweptOf whole net
     → IsBuiltNet plan lengths net
 built_swept plan lengths whole net h narrow swept = record {

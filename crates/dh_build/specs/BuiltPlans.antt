@@ -42,7 +42,7 @@ pub record CanBuild (plan : PlainPlan) (g : Graph) (t : Timing) (u : Uses) : Typ
   pub alone : length g.groups.items ≡ 1
 
 -- What is promised of the net: it plays the plan, its reads have data 0, no cell shifts by a constant of at least its
--- width, and each cell is needed.
+-- width, and each cell and each register is needed.
 pub record IsBuiltNet (plan : PlainPlan) (lengths : List ℕ) (net : Net) : Type 0 where
   pub plays : PlaysPlan plan lengths net
   pub zero_reads : HasReadsZero net

@@ -2,6 +2,7 @@ pub mod MemoryTables
 pub mod DrivenUsers
 pub mod DriverLaws
 pub mod BuiltParts
+pub mod ThreadBegins
 pub mod BuiltNets
 pub mod GraphFlows
 pub mod BuiltThreads

@@ -1,6 +1,7 @@
 //! The registers of the net of a plan: their widths, where they stand first, and the wires that they take.
 
-ghost use Rattle.std.specs.Prelude.{◌≡◌, ◌∷◌, [], length, IfOk, slice_index};
+ghost use Rattle.std.specs.Prelude.{◌≡◌, length, IfOk};
+ghost use Rattle.dh_build.specs.BuiltNets.{nexts_of};
 ghost use Rattle.dh_build.specs.BuiltParts.{AreRegisters};
 
 use dh_base::{Items, NoMemory};
@@ -33,9 +34,7 @@ pub fn list_registers(
 /// The wires that the registers of a net take, by its control.
 pub fn list_nexts(alloc: Global, control: &Control) -> Result<Vec<u64>, NoMemory>
     requires { length control.now.results.state ≡ 1 }
-    ensures { IfOk result (λ nexts. nexts.items ≡ control.now.nexts.clock
-        ∷ control.now.outcome.verdict.commit ∷ control.now.nexts.fault
-        ∷ slice_index control.now.results.state 0 ∷ control.now.results.news) }
+    ensures { IfOk result (λ nexts. nexts.items ≡ nexts_of control.now) }
 {
     let state = control.results.state.as_slice()[0];
     let own = [

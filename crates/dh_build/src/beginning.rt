@@ -1,12 +1,10 @@
 //! Where a plan begins: the state of its thread, and its registers.
 
-ghost use Rattle.std.specs.Prelude.{◌≡◌, ◌+◌, ◌%◌, ◌^◌, ◌≤◌, ◌∷◌, length, replicate, slice_index, slice_set, IfOk};
+ghost use Rattle.std.specs.Prelude.{◌≡◌, ◌+◌, ◌%◌, ◌^◌, ◌≤◌, replicate, slice_index, slice_set, IfOk};
 ghost use Rattle.std.specs.List.{AllByRecursion};
 ghost use Rattle.dh_value.specs.Words.{IsKind};
 ghost use Rattle.dh_plan.specs.Blocks.{kind_at};
-ghost use Rattle.dh_plan.specs.PlanRuns.{counted_up};
-ghost use Rattle.dh_plan.specs.Ways.{resolve};
-ghost use Rattle.dh_control.specs.WayMoves.{number_of, way_of_decision};
+ghost use Rattle.dh_build.specs.ThreadBegins.{IsCountedUp, LeadsTo, LeavesThese, begun_by};
 
 use dh_base::NoMemory;
 use dh_plan::Decision;
@@ -57,8 +55,7 @@ fn one_more(width: u8, number: u64) -> u64
 
 /// Has a counter be one more.
 fn count_up(kinds: &[Kind], registers: &mut Vec<u64>, counter: u64)
-    ensures { AllByRecursion IsKind kinds.now
-        → registers.new.items ≡ counted_up kinds.now counter registers.old.items }
+    ensures { IsCountedUp kinds.now counter registers.old.items registers.new.items }
 {
     let value = value_at(registers.as_slice(), counter);
     let next = one_more(width(kind_of_register(kinds, counter)), value);
@@ -69,11 +66,9 @@ fn count_up(kinds: &[Kind], registers: &mut Vec<u64>, counter: u64)
 /// the thread ends.
 #[tactic(auto, using(dh_control::proofs::DecisionForms::decisions_are))]
 pub fn begin(decision: &Decision, kinds: &[Kind], over: u64, registers: &mut Vec<u64>) -> u64
-    ensures state { AllByRecursion IsKind kinds.now → result
-        ≡ number_of over
-        (resolve kinds.now (way_of_decision decision.now) registers.old.items).spot }
-    ensures registers { AllByRecursion IsKind kinds.now → registers.new.items
-        ≡ (resolve kinds.now (way_of_decision decision.now) registers.old.items).registers }
+    ensures state { LeadsTo kinds.now over decision.now registers.old.items result }
+    ensures registers { LeavesThese kinds.now decision.now registers.old.items
+        registers.new.items }
 {
     match decision {
         Decision::Go { state } => *state,
@@ -122,11 +117,7 @@ pub fn list_initials(
     first: &Decision,
 ) -> Result<Vec<u64>, NoMemory>
     requires kinds { AllByRecursion IsKind kinds.now }
-    ensures { IfOk result (λ values. values.items ≡ 0 ∷ 0 ∷ 0
-        ∷ number_of over (resolve kinds.now (way_of_decision first.now)
-        (replicate (length kinds.now) 0)).spot
-        ∷ (resolve kinds.now (way_of_decision first.now)
-        (replicate (length kinds.now) 0)).registers) }
+    ensures { IfOk result (λ values. values.items ≡ begun_by kinds.now over first.now) }
 {
     let mut registers = zeros(alloc, kinds.len())?;
     let state = begin(first, kinds, over, &mut registers);

@@ -36,7 +36,8 @@ fn whole_net(
 }
 
 /// Makes the net of a plan of one thread by what the passes before make of it: its graph, the ports of its operations,
-/// and its schedule, a clock for each operation and a length for each block. It has no cell that nothing needs.
+/// and its schedule, a clock for each operation and a length for each block. It has no cell and no
+/// register that nothing needs.
 ///
 /// # Errors
 ///

@@ -11,7 +11,7 @@ use Rattle.dh_net.specs.Clock.{State}
 use Rattle.dh_net.specs.Laws.{FitsNet}
 use Rattle.dh_net.proofs.Valuations.{FitBelow, form_fits, below_suc}
 use Rattle.dh_tree.specs.declared.tables.MemEntry.{MemEntry}
-use Rattle.dh_cells.specs.PlainCircuits.{PlainCircuit, circuit_of, one_cell, with_cell, blank_register, blank_registers, AreCells, IsCircuit, IsMade, IsNext}
+use Rattle.dh_cells.specs.PlainCircuits.{AddsAtMost, PlainCircuit, circuit_of, one_cell, with_cell, blank_register, blank_registers, AreCells, IsCircuit, IsMade, IsNext}
 use Rattle.dh_cells.specs.Settled.{Signals, IsSettled, Adds}
 use Rattle.dh_cells.specs.ShownValues.{form_shown}
 use Rattle.dh_cells.proofs.CellsAppended.{get_last, measured_by_fit, measured_later, value_later, cells_more, grows_one, grows_none}
@@ -140,3 +140,10 @@ pub made_push : (table : List MemEntry) (widths : List ℕ) (cells new : List Ce
     → IsMade (circuit_of table widths new) wire width form
 made_push table widths cells new wire width form more last =
     ap (λ (n : ℕ). slice_get new n) last ∙ (ap (λ (l : List Cell). slice_get l (length cells)) more ∙ get_last cells (one_cell width form))
+
+-- and nothing else
+pub adds_one : (d : PlainCircuit) (table : List MemEntry) (widths : List ℕ) (cells new : List Cell) (width : ℕ) (form : CellForm)
+    → circuit_of table widths cells ≡ d → new ≡ cells ++ one_cell width form ∷ [] → AddsAtMost d (circuit_of table widths new) width form
+adds_one d table widths cells new width form view more =
+    subst (λ (y : PlainCircuit). AddsAtMost y (circuit_of table widths new) width form) view
+    (record { either = inr (ap (λ (l : List Cell). circuit_of table widths l) more) })

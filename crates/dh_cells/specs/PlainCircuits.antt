@@ -1,6 +1,6 @@
 -- Circuits: the cells of a net that is being built, over its memories and over registers of which only the widths
 -- are known yet. (Circuits are this project's; after netlists of hardware.)
-use Rattle.std.specs.Prelude.{◌≡◌, ℕ, ◌≤◌, List, [], ◌∷◌, ◌++◌, length, map, slice_get, Some}
+use Rattle.std.specs.Prelude.{◌≡◌, ◌⊎◌, ℕ, ◌≤◌, List, [], ◌∷◌, ◌++◌, length, map, slice_get, Some}
 use Rattle.dh_tree.specs.declared.tables.MemEntry.{MemEntry}
 use Rattle.dh_net.specs.Valid.{FormFits, IsCell}
 use Rattle.dh_net.specs.declared.nets.Cell.{Cell}
@@ -38,6 +38,10 @@ AreCells d = (i : ℕ) (c : Cell) → slice_get d.cells i ≡ Some c → IsCell 
 -- the wire is that of a cell of this width and form
 abbrev pub IsMade : PlainCircuit → (wire width : ℕ) → CellForm → Type 0
 IsMade d wire width form = slice_get d.cells wire ≡ Some (one_cell width form)
+
+-- the circuit is as it was, or has a cell of this width and form more, and nothing else
+pub record AddsAtMost (old new : PlainCircuit) (width : ℕ) (form : CellForm) : Type 0 where
+  pub either : (new ≡ old) ⊎ (new ≡ with_cell old (one_cell width form))
 
 -- what always holds of a circuit
 pub record IsCircuit (d : PlainCircuit) : Type 0 where

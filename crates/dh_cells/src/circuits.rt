@@ -1,10 +1,10 @@
 //! A circuit: the cells of a net that is being built. Each cell that is added drives a new wire.
 
-ghost use Rattle.std.specs.Prelude.{◌≡◌, [], ◌^◌, ◌<◌, ◌≤◌, ◌↔◌, false, slice_get, Some, IfOk, IfSome, IsTrue};
+ghost use Rattle.std.specs.Prelude.{◌≡◌, [], ◌^◌, ◌<◌, ◌≤◌, ◌↔◌, false, slice_get, Some, IfOk, IfSome, IsTrue, OnOk};
 ghost use Rattle.dh_net.specs.Valid.{IsPort};
 ghost use Rattle.dh_value.specs.Words.{IsWidth};
 ghost use Rattle.dh_cells.specs.NarrowShifts.{HasNarrowShifts, IsBelow, constant_at, form_bits};
-ghost use Rattle.dh_cells.specs.PlainCircuits.{IsMade, IsNext, SuitRegisters, circuit_of};
+ghost use Rattle.dh_cells.specs.PlainCircuits.{AddsAtMost, IsMade, IsNext, SuitRegisters, circuit_of};
 ghost use Rattle.dh_cells.specs.Settled.{Adds, IsSettled, IsWire, Signals, ValuationSettles, WireAdded, shown};
 ghost use Rattle.dh_cells.specs.SoughtCells.{IfMade};
 ghost use Rattle.dh_cells.specs.ShownValues.{form_shown, held_shown, number_shown, register_shown, signs_shown};
@@ -110,6 +110,7 @@ impl Circuit {
         requires { IsNext self.old width form }
         ensures shows { WireAdded result self.old self.new width (form_shown self.old width form) }
         ensures made { IfOk result (λ wire. IsMade self.new wire width form) }
+        ensures adds { OnOk result (AddsAtMost self.old self.new width form) }
     {
         let cell = Cell { width, form };
         match greatest_taken(form) {
@@ -124,6 +125,7 @@ impl Circuit {
         ensures shows { WireAdded result self.old self.new cell.width
             (form_shown self.old cell.width cell.form) }
         ensures made { IfOk result (λ wire. IsMade self.new wire cell.width cell.form) }
+        ensures adds { OnOk result (AddsAtMost self.old self.new cell.width cell.form) }
     {
         match self.seek(taken, cell) {
             Sought::Made(wire) => Ok(wire),
@@ -138,6 +140,7 @@ impl Circuit {
         ensures shows { WireAdded result self.old self.new cell.width
             (form_shown self.old cell.width cell.form) }
         ensures made { IfOk result (λ wire. IsMade self.new wire cell.width cell.form) }
+        ensures adds { OnOk result (AddsAtMost self.old self.new cell.width cell.form) }
     {
         let Some(taken) = other_taken(cell.form) else {
             return self.push_alone(cell);
@@ -155,6 +158,7 @@ impl Circuit {
         ensures shows { WireAdded result self.old self.new cell.width
             (form_shown self.old cell.width cell.form) }
         ensures made { IfOk result (λ wire. IsMade self.new wire cell.width cell.form) }
+        ensures adds { OnOk result (AddsAtMost self.old self.new cell.width cell.form) }
     {
         match self.find(cell) {
             Some(wire) => Ok(wire),
@@ -213,6 +217,7 @@ impl Circuit {
         ensures shows { WireAdded result self.old self.new cell.width
             (form_shown self.old cell.width cell.form) }
         ensures made { IfOk result (λ wire. IsMade self.new wire cell.width cell.form) }
+        ensures adds { OnOk result (AddsAtMost self.old self.new cell.width cell.form) }
     {
         let wire = self.cells.len() as u64;
         self.chains.add_over(taken)?;
@@ -226,6 +231,7 @@ impl Circuit {
         ensures shows { WireAdded result self.old self.new cell.width
             (form_shown self.old cell.width cell.form) }
         ensures made { IfOk result (λ wire. IsMade self.new wire cell.width cell.form) }
+        ensures adds { OnOk result (AddsAtMost self.old self.new cell.width cell.form) }
     {
         let wire = self.cells.len() as u64;
         self.chains.add()?;

@@ -15,7 +15,7 @@ use Rattle.dh_compile.specs.declared.compiling.CompileFault.TheVariants as fault
 
 -- A net of a program whose plan is within the limit: valid, with its table, it plays the checked run from all fitting
 -- memories; its reads have data 0, a driver that writes is active only in the last clock of a step without fault,
--- no cell shifts by a constant of at least its width, and each cell is needed.
+-- no cell shifts by a constant of at least its width, and each cell and each register is needed.
 pub record IsNetOfProgram (p : Program) (net : Net) : Type 0 where
   pub small : plan_size_of p ≤ most_plan
   pub plays : PlaysItsProgram p net

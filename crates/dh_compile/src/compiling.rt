@@ -58,7 +58,7 @@ fn whole_net(alloc: Global, parts: NetParts) -> Result<Net, NoMemory>
     )
 }
 
-/// The net with few drivers for each port, and without the cells that are not needed then.
+/// The net with few drivers for each port, and without the cells and registers that are not needed then.
 fn joined_net(alloc: Global, net: Net) -> Result<Net, NoMemory>
     requires { IsValid net }
     ensures { IfOk result (IsJoinedSwept net) }
@@ -114,7 +114,7 @@ fn net_of(alloc: Global, program: &Typed) -> Result<Net, NoMemory>
 /// the checked run of the program: no clock drives a bank beyond its ports, at its nth tick it holds the memories
 /// after n steps, and it shows done, or a fault with its place, exactly once the run has ended so. A driver that
 /// writes is active only in the last clock of a step without fault. No cell shifts by a constant of at least its width,
-/// and each cell is needed.
+/// and each cell and each register is needed.
 ///
 /// # Errors
 ///

@@ -1,5 +1,5 @@
 -- Drivers of what an operation reads or writes: a read asks in its own clock, a write where its block's writes are made.
-use Rattle.std.specs.Prelude.{◌≡◌, ℕ, ◌<◌, ◌^◌, ◌&&◌, Bool, true, false, List, [], ◌∷◌, ◌++◌, length, slice_index, slice_index_or, Option, Some, None}
+use Rattle.std.specs.Prelude.{◌≡◌, ℕ, ◌<◌, ◌^◌, ◌&&◌, Bool, true, false, List, [], ◌∷◌, ◌++◌, length, slice_get, slice_index, slice_index_or, Option, Some, None}
 use Rattle.std.specs.List.{AllByRecursion}
 use Rattle.dh_value.specs.Words.{IsWidth}
 use Rattle.dh_value.specs.declared.kinds.Kind.{Kind}
@@ -91,6 +91,10 @@ FormUseSuits d kinds wires ms pairs f = Unit {0}
 pub record UseSuits (d : PlainCircuit) (kinds : List Kind) (wires : List ℕ) (ms : List MemoryPorts) (pairs : List (ℕ × ℕ)) (o : Operation) : Type 0 where
   pub guard : GuardHasWire d wires o.guard
   pub form : FormUseSuits d kinds wires ms pairs o.form
+
+-- so do all operations of a block, each with its own pairs
+abbrev pub AllUsesSuit : PlainCircuit → List Kind → (wires : List ℕ) → List MemoryPorts → (pairs : List (List (ℕ × ℕ))) → List Operation → Type 0
+AllUsesSuit d kinds wires ms pairs os = (i : ℕ) (o : Operation) → slice_get os i ≡ Some o → UseSuits d kinds wires ms (slice_index_or pairs i []) o
 
 pub record TimesThere (d : PlainCircuit) (t : Times) : Type 0 where
   pub active : IsWire d t.active 1

@@ -1,15 +1,14 @@
 //! Drivers of ports: an operation drives, of each bank that it lists, the port that it uses.
 
-ghost use Rattle.std.specs.Prelude.{◌≡◌, ◌<◌, ◌^◌, [], ℕ, Some, length, slice_get, slice_index_or, IfOk, OnOk};
+ghost use Rattle.std.specs.Prelude.{◌≡◌, ◌<◌, ◌^◌, length, IfOk, OnOk};
 ghost use Rattle.std.specs.List.{AllByRecursion};
 ghost use Rattle.dh_value.specs.Words.{IsWidth};
 ghost use Rattle.dh_plan.specs.BoundPorts.{port_among};
-ghost use Rattle.dh_plan.specs.declared.operations.Operation.{Operation};
 ghost use Rattle.dh_cells.specs.Settled.{AreWires, IsWire};
 ghost use Rattle.dh_lower.specs.ShownWords.{port_or_first};
 ghost use Rattle.dh_control.specs.BlockUses.{BlockDriven, times_at};
 ghost use Rattle.dh_control.specs.DriverWires.{BanksDriven, MayHaveValue, PickMade, RowMade, port_key};
-ghost use Rattle.dh_control.specs.UseWires.{ReachAsked, ReachSuits, TimesThere, UseDriven, UseSuits};
+ghost use Rattle.dh_control.specs.UseWires.{AllUsesSuit, ReachAsked, ReachSuits, TimesThere, UseDriven, UseSuits};
 
 use crate::gathering::Keyed;
 use crate::setting::push_guard;
@@ -258,8 +257,8 @@ pub fn push_block_uses(
     requires clocks { length clocks.now ≡ length operations.now }
     requires early { AllByRecursion (λ c. c < length at.now) clocks.now }
     requires pairs { length pairs.now ≡ length operations.now }
-    requires suits { (i : ℕ) (o : Operation) → slice_get operations.now i ≡ Some o
-        → UseSuits circuit.old kinds.now wires.now memories.now (slice_index_or pairs.now i []) o }
+    requires suits { AllUsesSuit circuit.old kinds.now wires.now memories.now pairs.now
+        operations.now }
     ensures { OnOk result (BlockDriven circuit.old circuit.new kinds.now wires.now
         (times_at active commit at.now clocks.now) memories.now pairs.now operations.now
         drivers.old drivers.new) }

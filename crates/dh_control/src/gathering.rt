@@ -1,7 +1,7 @@
 //! Items that belong to numbers, gathered by number in one pass.
 
-ghost use Rattle.std.specs.Prelude.{◌≡◌, ◌∷◌, ◌++◌, [], IfOk, OnOk, length, replicate, set, slice_get, slice_index_or, ◌<◌, Some, ℕ};
-ghost use Rattle.dh_control.specs.KeyedItems.{items_of, picked};
+ghost use Rattle.std.specs.Prelude.{◌≡◌, [], IfOk, OnOk, length, replicate};
+ghost use Rattle.dh_control.specs.KeyedItems.{AreGathered, PutsBehind, items_of};
 
 use dh_base::NoMemory;
 use std::alloc::Global;
@@ -32,8 +32,7 @@ where
 fn put<T>(lists: &mut [Vec<T>], at: usize, item: T) -> Result<(), NoMemory>
 where
     T: Drop,
-    ensures { OnOk result (items_of lists.new ≡ set (items_of lists.old) at
-        (slice_index_or (items_of lists.old) at [] ++ item ∷ [])) }
+    ensures { OnOk result (PutsBehind lists.old lists.new at item) }
 {
     if at < lists.len() {
         lists[at].push(item)?;
@@ -47,8 +46,7 @@ pub fn gather<T: Copy>(
     count: usize,
     entries: &[Keyed<T>],
 ) -> Result<Vec<Vec<T>>, NoMemory>
-    ensures each { IfOk result (λ lists. (key : ℕ) → key < count
-        → slice_get (items_of lists.items) key ≡ Some (picked key entries.now)) }
+    ensures each { IfOk result (λ lists. AreGathered count entries.now lists.items) }
     ensures long { IfOk result (λ lists. length (items_of lists.items) ≡ count) }
 {
     let mut lists = empty_lists(alloc, count)?;

@@ -3,6 +3,8 @@ pub mod SweptValid
 pub mod SweptShifts
 pub mod SweptRuns
 pub mod MarksSet
-pub mod CellsKept
+pub mod WiresFound
+pub mod NumbersGiven
+pub mod ItemsKept
 pub mod NetSwept
 pub mod NeededKept

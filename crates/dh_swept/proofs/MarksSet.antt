@@ -1,22 +1,20 @@
--- Marks that are set.
-use Rattle.std.proofs.Common.{◌≡◌, ℕ, zero, suc, ◌+◌, ◌-◌, ◌<◌, ◌≤◌, Bool, true, false, inl, inr, List, [], ◌∷◌, ◌++◌, length, drop, get_or, replicate, refl, sym, ap, subst, ◌∙◌, arith}
-use Rattle.std.specs.Prelude.{set, slice_get, Some}
+-- Marks that are set, and the wires that are found by that.
+use Rattle.std.proofs.Common.{◌≡◌, ℕ, zero, suc, ◌<◌, ◌≤◌, Bool, true, false, if◌then◌else◌, inl, inr, Some, None, List, [], ◌∷◌, ◌++◌, length, get_or, replicate, refl, sym, ap, subst, ◌∙◌, arith, length-append}
+use Rattle.std.specs.Prelude.{Option, set, slice_get}
 use Rattle.std.specs.List.{AllByRecursion}
 use Rattle.std.proofs.lemmas.Bool.{cases_eq, cases_lt}
 use Rattle.std.proofs.lemmas.List.{get_or_past, get_or-set_same, get_or-set_other, length-set}
-use Rattle.std.proofs.lemmas.Option.{slice_get_within, slice_get-get_or, get_or_from_slice_get}
-use Rattle.dh_base.proofs.ListItems.{at_item}
+use Rattle.std.proofs.lemmas.Option.{slice_get-get_or, get_or_from_slice_get}
+use Rattle.dh_cells.proofs.CellsAppended.{get_longer, get_last, get_either}
 use Rattle.dh_net.specs.declared.nets.Register.{Register}
-use Rattle.dh_net.specs.declared.nets.Cell.{Cell}
-use Rattle.dh_net.specs.declared.nets.Driver.{Driver}
-use Rattle.dh_net.specs.declared.nets.Net.{Net}
-use Rattle.dh_swept.specs.NeededCells.{IsMarked, marked, next_wires, drivers_wires, all_drivers_wires, root_wires, TakeEarlier, ClosedFrom, CanMark, HasTaken, HasNeeded, MarksOnly, MarksNeeded}
-use Rattle.dh_swept.specs.RenamedWires.{operands_of}
+use Rattle.dh_swept.specs.FoundWires.{first_marked, with_mark, with_marks, with_register, with_registers, with_next, next_wires}
+use Rattle.dh_swept.specs.NeededCells.{IsMarked, MarksOnly}
+use Rattle.dh_swept.specs.declared.marking.Marks.{Marks}
 
--- one mark
+-- A flag that is set.
 
-mark_keeps : (flags : List Bool) (w a : ℕ) → IsMarked flags a → IsMarked (set flags w true) a
-mark_keeps flags w a h =
+flag_keeps : (flags : List Bool) (w a : ℕ) → IsMarked flags a → IsMarked (set flags w true) a
+flag_keeps flags w a h =
     elim (cases_eq a w) [
       | inl same ↦
           elim (cases_lt a (length flags)) [
@@ -26,139 +24,196 @@ mark_keeps flags w a h =
       | inr other ↦ get_or-set_other flags w a true false other ∙ h
     ]
 
--- several
-
-pub marked_long : (ws : List ℕ) (flags : List Bool) → length (marked ws flags) ≡ length flags
-marked_long [] flags = refl
-marked_long (w ∷ ws) flags = marked_long ws (set flags w true) ∙ length-set flags w true
-
-pub marked_keeps : (ws : List ℕ) (flags : List Bool) (a : ℕ) → IsMarked flags a → IsMarked (marked ws flags) a
-marked_keeps [] flags a h = h
-marked_keeps (w ∷ ws) flags a h = marked_keeps ws (set flags w true) a (mark_keeps flags w a h)
-
-pub marked_has : (ws : List ℕ) (flags : List Bool) → AllByRecursion (λ (a : ℕ). a < length flags) ws → AllByRecursion (IsMarked (marked ws flags)) ws
-marked_has [] flags h = tt
-marked_has (w ∷ ws) flags h = (
-  marked_keeps ws (set flags w true) w (get_or-set_same flags w true false h.0),
-  marked_has ws (set flags w true) (subst (λ (n : ℕ). AllByRecursion (λ (a : ℕ). a < n) ws) (sym (length-set flags w true)) h.1),
-)
-
-pub marked_both : (ws vs : List ℕ) (flags : List Bool) → marked (ws ++ vs) flags ≡ marked vs (marked ws flags)
-marked_both [] vs flags = refl
-marked_both (w ∷ ws) vs flags = marked_both ws vs (set flags w true)
-
--- none from a number on is changed where all are below it
-marked_before : (ws : List ℕ) (flags : List Bool) (n a : ℕ) → AllByRecursion (λ (w : ℕ). w < n) ws → n ≤ a → get_or (marked ws flags) a false ≡ get_or flags a false
-marked_before [] flags n a h past = refl
-marked_before (w ∷ ws) flags n a h past =
-    marked_before ws (set flags w true) n a h.1 past ∙ get_or-set_other flags w a true false (λ same. let less = h.0 in (let no : a < a = omega (arith, less, past, same) in omega (arith, no)))
-
-pub all_so : {A : Type 0} (P Q : A → Type 0) (xs : List A) → ((x : A) → P x → Q x) → AllByRecursion P xs → AllByRecursion Q xs
-all_so P Q [] so h = tt
-all_so P Q (x ∷ xs) so h = (so x h.0, all_so P Q xs so h.1)
-
--- no mark is set outside of a set that has all of these
-
-set_only : (flags : List Bool) (w : ℕ) (needed : ℕ → Bool) → MarksOnly flags needed → needed w ≡ true → MarksOnly (set flags w true) needed
-set_only flags w needed only on a h =
+flag_only : (flags : List Bool) (w : ℕ) (needed : ℕ → Bool) → MarksOnly flags needed → needed w ≡ true → MarksOnly (set flags w true) needed
+flag_only flags w needed only on a h =
     elim (cases_eq a w) [
       | inl same ↦ ap needed same ∙ on
       | inr other ↦ only a (sym (get_or-set_other flags w a true false other) ∙ h)
     ]
 
-marked_only : (ws : List ℕ) (flags : List Bool) (needed : ℕ → Bool) → MarksOnly flags needed → AllByRecursion (λ (a : ℕ). needed a ≡ true) ws → MarksOnly (marked ws flags) needed
-marked_only [] flags needed only h = only
-marked_only (w ∷ ws) flags needed only h = marked_only ws (set flags w true) needed (set_only flags w needed only h.0) h.1
+-- one that is not there counts as set, so one that is not set is there
+is_there : (flags : List Bool) (w : ℕ) → get_or flags w true ≡ false → w < length flags
+is_there flags w off =
+    elim (cases_lt w (length flags)) [
+      | inl inside ↦ inside
+      | inr past ↦ absurd (let no : true ≡ false = sym (get_or_past flags w true past) ∙ off in cc)
+    ]
 
-none_marked : (n a : ℕ) → get_or (replicate n false) a false ≡ false
+is_set : (flags : List Bool) (w : ℕ) → get_or flags w true ≡ true → w < length flags → IsMarked flags w
+is_set flags w on inside = get_or_from_slice_get flags w true false (slice_get-get_or flags w true inside ∙ ap (λ (t : Bool). Some t) on)
+
+pub none_marked : (n a : ℕ) → get_or (replicate n false) a false ≡ false
 none_marked zero a = refl
 none_marked (suc n) zero = refl
 none_marked (suc n) (suc a) = none_marked n a
 
--- What marked cells take.
+-- how many are set
+abbrev pub trues : List Bool → ℕ
+trues [] = 0
+trues (true ∷ fs) = suc (trues fs)
+trues (false ∷ fs) = trues fs
 
-pub closing_starts : (n : ℕ) (cells : List Cell) (flags : List Bool) → length cells ≤ n → length flags ≡ length cells → ClosedFrom n cells flags flags
-closing_starts n cells flags past long = record {
-  long = long;
-  keeps = λ wire h. h;
-  takes = λ i c from at h. absurd (let inside = slice_get_within cells i c at in omega (arith, past, from, inside));
-  only = λ needed taken base. base;
+pub trues_most : (flags : List Bool) → trues flags ≤ length flags
+trues_most [] = omega arith
+trues_most (true ∷ fs) = (let most = trues_most fs in omega (arith, most))
+trues_most (false ∷ fs) = (let most = trues_most fs in omega (arith, most))
+
+trues_more : (flags : List Bool) (w : ℕ) → get_or flags w true ≡ false → trues (set flags w true) ≡ suc (trues flags)
+trues_more [] w off = absurd (let no : true ≡ false = off in cc)
+trues_more (true ∷ fs) zero off = absurd (let no : true ≡ false = off in cc)
+trues_more (false ∷ fs) zero off = refl
+trues_more (true ∷ fs) (suc w) off = ap (λ (n : ℕ). suc n) (trues_more fs w off)
+trues_more (false ∷ fs) (suc w) off = trues_more fs w off
+
+pub trues_none : (n : ℕ) → trues (replicate n false) ≡ 0
+trues_none zero = refl
+trues_none (suc n) = trues_none n
+
+-- What is known of marks.
+
+pub all_so : {A : Type 0} (P Q : A → Type 0) (xs : List A) → ((x : A) → P x → Q x) → AllByRecursion P xs → AllByRecursion Q xs
+all_so P Q [] so h = tt
+all_so P Q (x ∷ xs) so h = (so x h.0, all_so P Q xs so h.1)
+
+-- the wires that are found are those that are marked, each once
+pub record AreFound (wires : List Bool) (found : List ℕ) : Type 0 where
+  pub count : trues wires ≡ length found
+  pub has : (w : ℕ) → IsMarked wires w → (k : ℕ) × (slice_get found k ≡ Some w)
+  pub are : (k w : ℕ) → slice_get found k ≡ Some w → IsMarked wires w
+
+-- of wires nothing is taken back, and of registers nothing changes
+pub record StaysMarked (old new : Marks) : Type 0 where
+  pub long : length new.wires ≡ length old.wires
+  pub keeps : (w : ℕ) → IsMarked old.wires w → IsMarked new.wires w
+  pub found : (k w : ℕ) → slice_get old.found k ≡ Some w → slice_get new.found k ≡ Some w
+  pub registers : new.registers ≡ old.registers
+
+same_stays : (m : Marks) → StaysMarked m m
+same_stays m = record { long = refl; keeps = λ w h. h; found = λ k w at. at; registers = refl }
+
+both_stay : (a b c : Marks) → StaysMarked a b → StaysMarked b c → StaysMarked a c
+both_stay a b c h g = record {
+  long = g.long ∙ h.long;
+  keeps = λ w on. g.keeps w (h.keeps w on);
+  found = λ k w at. g.found k w (h.found k w at);
+  registers = g.registers ∙ h.registers;
 }
 
-module _ (n m : ℕ) (cells : List Cell) (old now : List Bool) (c : Cell) (here : slice_get cells m ≡ Some c) (next : n ≡ suc m) (earlier : TakeEarlier cells) (h : ClosedFrom n cells old now) where
-  -- the cell is not marked
-  pub closing_passes : get_or now m false ≡ false → ClosedFrom m cells old now
-  closing_passes off = record {
-    long = h.long;
-    keeps = h.keeps;
-    takes = λ i d from at on. elim (cases_eq i m) [
-      | inl same ↦ absurd (let no : false ≡ true = sym off ∙ (ap (λ (k : ℕ). get_or now k false) (sym same) ∙ on) in cc)
-      | inr other ↦ h.takes i d (omega (arith, from, other, next)) at on
-    ];
-    only = h.only;
-  }
+-- One wire.
 
-  -- it is
-  pub closing_marks : get_or now m false ≡ true → ClosedFrom m cells old (marked (operands_of c.form) now)
-  closing_marks on_here =
-      let before = earlier m c here in
-      let inside = slice_get_within cells m c here in
-      let long = h.long in
-      record {
-        long = marked_long (operands_of c.form) now ∙ h.long;
-        keeps = λ wire on. marked_keeps (operands_of c.form) now wire (h.keeps wire on);
-        takes = λ i d from at on. elim (cases_eq i m) [
-          | inl same ↦
-              let both : Some d ≡ Some c = sym at ∙ (ap (λ (k : ℕ). slice_get cells k) same ∙ here) in
-              let is : d ≡ c = cc in
-              subst (λ (x : Cell). AllByRecursion (IsMarked (marked (operands_of c.form) now)) (operands_of x.form)) (sym is)
-              (marked_has (operands_of c.form) now (all_so (λ (a : ℕ). a < m) (λ (a : ℕ). a < length now) (operands_of c.form) (λ a less. omega (arith, less, inside, long)) before))
-          | inr other ↦
-              all_so (IsMarked now) (IsMarked (marked (operands_of c.form) now)) (operands_of d.form) (λ a k. marked_keeps (operands_of c.form) now a k)
-              (h.takes i d (omega (arith, from, other, next)) at (sym (marked_before (operands_of c.form) now m i before from) ∙ on))
-        ];
-        only = λ needed taken base.
-            let so_far = h.only needed taken base in
-            marked_only (operands_of c.form) now needed so_far (taken m c here (so_far m on_here));
-      }
+-- by whether the wire had a mark
+by_mark : (P : Marks → Type 0) (w : ℕ) (m : Marks) → (get_or m.wires w true ≡ true → P m) → (get_or m.wires w true ≡ false → P (first_marked w m)) → P (with_mark w m)
+by_mark P w m old new = by (get_or m.wires w true) refl
+  where
+    by : (t : Bool) → get_or m.wires w true ≡ t → P (if t then m else first_marked w m)
+    by true is = old is
+    by false is = new is
 
--- by the index of a loop
-pub closing_at : (n : ℕ) (cells : List Cell) (old now new : List Bool) (other : Cell) (default : Bool) → 0 < n → n ≤ length cells → TakeEarlier cells → ClosedFrom n cells old now
-    → get_or now (n - 1) default ≡ true → new ≡ marked (operands_of (get_or cells (n - 1) other).form) now
-    → ClosedFrom (n - 1) cells old new
-closing_at n cells old now new other default some most earlier h on is =
-    subst (λ (l : List Bool). ClosedFrom (n - 1) cells old l) (sym is)
-    (closing_marks n (n - 1) cells old now (get_or cells (n - 1) other) (slice_get-get_or cells (n - 1) other (omega (arith, some, most))) (let next : n ≡ suc (n - 1) = omega (arith, some) in next) earlier h
-    (let long = h.long in let less : n - 1 < length now = omega (arith, some, most, long) in get_or_from_slice_get now (n - 1) true false (slice_get-get_or now (n - 1) default less ∙ ap (λ (t : Bool). Some t) on)))
+mark_stays : (w : ℕ) (m : Marks) → StaysMarked m (with_mark w m)
+mark_stays w m =
+    by_mark (λ (n : Marks). StaysMarked m n) w m (λ on. same_stays m)
+    (λ off. record { long = length-set m.wires w true; keeps = λ a h. flag_keeps m.wires w a h; found = λ k a at. get_longer m.found w k a at; registers = refl })
 
--- The drivers of ports, one after the other.
-pub ports_turn : (i : ℕ) (lists : List (List Driver)) (list slice : List Driver) (first now new : List Bool) → i < length lists → list ≡ get_or lists i list → slice ≡ list
-    → marked (all_drivers_wires (drop i lists)) now ≡ marked (all_drivers_wires lists) first → new ≡ marked (drivers_wires slice) now
-    → marked (all_drivers_wires (drop (i + 1) lists)) new ≡ marked (all_drivers_wires lists) first
-ports_turn i lists list slice first now new less is same so put =
-    ap (λ (l : List Bool). marked (all_drivers_wires (drop (i + 1) lists)) l) (put ∙ ap (λ (ds : List Driver). marked (drivers_wires ds) now) same)
-    ∙ (sym (marked_both (drivers_wires list) (all_drivers_wires (drop (i + 1) lists)) now)
-    ∙ (ap (λ (dss : List (List Driver)). marked (all_drivers_wires dss) now) (sym (at_item lists i list less is)) ∙ so))
-
--- The whole net.
-
-pub rooted_is : (net : Net) (rs : List Register) (dss : List (List Driver)) (f a b c n p : List Bool) → rs ≡ net.registers → dss ≡ net.drivers → a ≡ set f net.tick true → b ≡ set a net.done true → c ≡ set b net.fault true
-    → n ≡ marked (next_wires rs) c → p ≡ marked (all_drivers_wires dss) n → p ≡ marked (root_wires net) f
-rooted_is net rs dss f a b c n p rs_are dss_are ta tb tc tn tp =
-    tp
-    ∙ ((λ i. marked (all_drivers_wires (dss_are i)) (tn i))
-    ∙ ((λ i. marked (all_drivers_wires net.drivers) (marked (next_wires (rs_are i)) ((tc ∙ ap (λ (l : List Bool). set l net.fault true) (tb ∙ ap (λ (l : List Bool). set l net.done true) ta)) i)))
-    ∙ sym (marked_both (next_wires net.registers) (all_drivers_wires net.drivers) (set (set (set f net.tick true) net.done true) net.fault true))))
-
-pub net_marked : (net : Net) (flags rooted now : List Bool) → length flags ≡ length net.cells → flags ≡ replicate (length net.cells) false → CanMark net → rooted ≡ marked (root_wires net) flags → ClosedFrom 0 net.cells rooted now → MarksNeeded net now
-net_marked net flags rooted now long none can is h = record {
-  long = h.long;
-  roots = all_so (IsMarked rooted) (IsMarked now) (root_wires net) h.keeps
-      (subst (λ (l : List Bool). AllByRecursion (IsMarked l) (root_wires net)) (sym is) (marked_has (root_wires net) flags (subst (λ (n : ℕ). AllByRecursion (λ (a : ℕ). a < n) (root_wires net)) (sym long) can.there)));
-  takes = λ i c at on. h.takes i c (omega arith) at on;
-  only = λ needed holds.
-      h.only needed holds.takes
-      (subst (λ (l : List Bool). MarksOnly l needed) (sym is)
-      (marked_only (root_wires net) flags needed
-      (λ a on. absurd (let no : false ≡ true = sym (none_marked (length net.cells) a) ∙ (ap (λ (l : List Bool). get_or l a false) (sym none) ∙ on) in cc)) holds.roots));
+first_found : (w : ℕ) (wires : List Bool) (found : List ℕ) → get_or wires w true ≡ false → AreFound wires found → AreFound (set wires w true) (found ++ w ∷ [])
+first_found w wires found off h = record {
+  count = (let more = trues_more wires w off in let so_far = h.count in let longer = length-append found (w ∷ []) in omega (arith, more, so_far, longer));
+  has = λ a on. elim (cases_eq a w) [
+    | inl same ↦ (length found, subst (λ (x : ℕ). slice_get (found ++ w ∷ []) (length found) ≡ Some x) (sym same) (get_last found w))
+    | inr other ↦ (let before = h.has a (sym (get_or-set_other wires w a true false other) ∙ on) in (before.0, get_longer found w before.0 a before.1))
+  ];
+  are = λ k a at. elim (get_either found w k a at) [
+    | inl old ↦ flag_keeps wires w a (h.are k a old)
+    | inr new ↦ subst (λ (x : ℕ). IsMarked (set wires w true) x) new.1 (get_or-set_same wires w true false (is_there wires w off))
+  ];
 }
+
+mark_found : (w : ℕ) (m : Marks) → AreFound m.wires m.found → AreFound (with_mark w m).wires (with_mark w m).found
+mark_found w m h = by_mark (λ (n : Marks). AreFound n.wires n.found) w m (λ on. h) (λ off. first_found w m.wires m.found off h)
+
+mark_has : (w : ℕ) (m : Marks) → w < length m.wires → IsMarked (with_mark w m).wires w
+mark_has w m inside = by_mark (λ (n : Marks). IsMarked n.wires w) w m (λ on. is_set m.wires w on inside) (λ off. get_or-set_same m.wires w true false inside)
+
+mark_only : (w : ℕ) (m : Marks) (needed : ℕ → Bool) → MarksOnly m.wires needed → needed w ≡ true → MarksOnly (with_mark w m).wires needed
+mark_only w m needed only is = by_mark (λ (n : Marks). MarksOnly n.wires needed) w m (λ on. only) (λ off. flag_only m.wires w needed only is)
+
+-- Several wires.
+
+pub marks_stay : (ws : List ℕ) (m : Marks) → StaysMarked m (with_marks ws m)
+marks_stay [] m = same_stays m
+marks_stay (w ∷ ws) m = both_stay m (with_mark w m) (with_marks ws (with_mark w m)) (mark_stays w m) (marks_stay ws (with_mark w m))
+
+pub marks_found : (ws : List ℕ) (m : Marks) → AreFound m.wires m.found → AreFound (with_marks ws m).wires (with_marks ws m).found
+marks_found [] m h = h
+marks_found (w ∷ ws) m h = marks_found ws (with_mark w m) (mark_found w m h)
+
+pub marks_have : (ws : List ℕ) (m : Marks) → AllByRecursion (λ (a : ℕ). a < length m.wires) ws → AllByRecursion (IsMarked (with_marks ws m).wires) ws
+marks_have [] m h = tt
+marks_have (w ∷ ws) m h = (
+  (marks_stay ws (with_mark w m)).keeps w (mark_has w m h.0),
+  marks_have ws (with_mark w m) (subst (λ (n : ℕ). AllByRecursion (λ (a : ℕ). a < n) ws) (sym (mark_stays w m).long) h.1),
+)
+
+pub marks_only : (ws : List ℕ) (m : Marks) (needed : ℕ → Bool) → MarksOnly m.wires needed → AllByRecursion (λ (a : ℕ). needed a ≡ true) ws → MarksOnly (with_marks ws m).wires needed
+marks_only [] m needed only h = only
+marks_only (w ∷ ws) m needed only h = marks_only ws (with_mark w m) needed (mark_only w m needed only h.0) h.1
+
+pub marks_both : (ws vs : List ℕ) (m : Marks) → with_marks (ws ++ vs) m ≡ with_marks vs (with_marks ws m)
+marks_both [] vs m = refl
+marks_both (w ∷ ws) vs m = marks_both ws vs (with_mark w m)
+
+-- Registers.
+
+-- of registers nothing is taken back, and of wires nothing changes
+pub record StaysHeld (old new : Marks) : Type 0 where
+  pub wires : new.wires ≡ old.wires
+  pub found : new.found ≡ old.found
+  pub long : length new.registers ≡ length old.registers
+  pub keeps : (k : ℕ) → IsMarked old.registers k → IsMarked new.registers k
+
+pub registers_stay : (ks : List ℕ) (m : Marks) → StaysHeld m (with_registers ks m)
+registers_stay [] m = record { wires = refl; found = refl; long = refl; keeps = λ k h. h }
+registers_stay (x ∷ ks) m =
+    let rest = registers_stay ks (with_register x m) in
+    record { wires = rest.wires; found = rest.found; long = rest.long ∙ length-set m.registers x true; keeps = λ k h. rest.keeps k (flag_keeps m.registers x k h) }
+
+pub registers_have : (ks : List ℕ) (m : Marks) → AllByRecursion (λ (k : ℕ). k < length m.registers) ks → AllByRecursion (IsMarked (with_registers ks m).registers) ks
+registers_have [] m h = tt
+registers_have (x ∷ ks) m h = (
+  (registers_stay ks (with_register x m)).keeps x (get_or-set_same m.registers x true false h.0),
+  registers_have ks (with_register x m) (subst (λ (n : ℕ). AllByRecursion (λ (k : ℕ). k < n) ks) (sym (length-set m.registers x true)) h.1),
+)
+
+pub registers_only : (ks : List ℕ) (m : Marks) (held : ℕ → Bool) → MarksOnly m.registers held → AllByRecursion (λ (k : ℕ). held k ≡ true) ks → MarksOnly (with_registers ks m).registers held
+registers_only [] m held only h = only
+registers_only (x ∷ ks) m held only h = registers_only ks (with_register x m) held (flag_only m.registers x held only h.0) h.1
+
+-- The wires that registers take.
+
+next_all : (rs : List Register) (P Q : ℕ → Type 0) (k : ℕ) (ws : List ℕ) → ((k : ℕ) (r : Register) → slice_get rs k ≡ Some r → Q k → P r.next) → Q k → (o : Option Register) → slice_get rs k ≡ o → AllByRecursion P ws → AllByRecursion P (with_next o ws)
+next_all rs P Q k ws so holds None is rest = rest
+next_all rs P Q k ws so holds (Some r) is rest = (so k r is holds, rest)
+
+pub nexts_all : (rs : List Register) (P Q : ℕ → Type 0) (ks : List ℕ) → ((k : ℕ) (r : Register) → slice_get rs k ≡ Some r → Q k → P r.next) → AllByRecursion Q ks → AllByRecursion P (next_wires rs ks)
+nexts_all rs P Q [] so h = tt
+nexts_all rs P Q (k ∷ ks) so h = next_all rs P Q k (next_wires rs ks) so h.0 (slice_get rs k) refl (nexts_all rs P Q ks so h.1)
+
+next_first : (P : ℕ → Type 0) (o : Option Register) (ws : List ℕ) (r : Register) → o ≡ Some r → AllByRecursion P (with_next o ws) → P r.next
+next_first P None ws r is h = absurd (cc)
+next_first P (Some e) ws r is h = (let same : e ≡ r = cc in subst (λ (x : Register). P x.next) same h.0)
+
+next_rest : (P : ℕ → Type 0) (o : Option Register) (ws : List ℕ) → AllByRecursion P (with_next o ws) → AllByRecursion P ws
+next_rest P None ws h = h
+next_rest P (Some e) ws h = h.1
+
+-- a register that is marked now was marked before or is one of these
+pub nexts_more : (rs : List Register) (P : ℕ → Type 0) (ks : List ℕ) (m : Marks) → ((k : ℕ) (r : Register) → slice_get rs k ≡ Some r → IsMarked m.registers k → P r.next) → AllByRecursion P (next_wires rs ks)
+    → (k : ℕ) (r : Register) → slice_get rs k ≡ Some r → IsMarked (with_registers ks m).registers k → P r.next
+nexts_more rs P [] m before h k r at on = before k r at on
+nexts_more rs P (x ∷ ks) m before h k r at on = nexts_more rs P ks (with_register x m) with_it (next_rest P (slice_get rs x) (next_wires rs ks) h) k r at on
+  where
+    with_it : (a : ℕ) (e : Register) → slice_get rs a ≡ Some e → IsMarked (set m.registers x true) a → P e.next
+    with_it a e there marked =
+        elim (cases_eq a x) [
+          | inl same ↦ next_first P (slice_get rs x) (next_wires rs ks) e (ap (λ (n : ℕ). slice_get rs n) (sym same) ∙ there) h
+          | inr other ↦ before a e there (sym (get_or-set_other m.registers x a true false other) ∙ marked)
+        ]

@@ -1,7 +1,7 @@
--- Of the cells that are kept each is needed.
--- A set of new wires that has all that the new net needs, taken back to the old numbers of marked wires, has all that the
--- whole net needs; so it has what is marked, which is what is kept.
-use Rattle.std.proofs.Common.{◌≡◌, ℕ, ◌<◌, ◌&&◌, Bool, true, false, if◌then◌else◌, Some, List, [], ◌∷◌, ◌++◌, length, map, get_or, refl, sym, ap, subst, ◌∙◌, arith}
+-- Of the cells and registers that are kept each is needed.
+-- Sets that have all that the new net needs, taken back to the old numbers of what is marked, have all that the whole net
+-- needs; so they have what is marked, which is what is kept.
+use Rattle.std.proofs.Common.{◌≡◌, ℕ, ◌<◌, ◌&&◌, Bool, true, false, if◌then◌else◌, Some, List, [], ◌∷◌, length, map, get_or, refl, sym, ap, subst, ◌∙◌, arith}
 use Rattle.std.specs.Prelude.{slice_get}
 use Rattle.std.specs.List.{AllByRecursion}
 use Rattle.std.proofs.lemmas.Option.{slice_get-get_or}
@@ -12,11 +12,12 @@ use Rattle.dh_net.specs.declared.nets.Driver.{Driver}
 use Rattle.dh_net.specs.declared.nets.Net.{Net}
 use Rattle.dh_net.specs.declared.nets.Register.{Register}
 use Rattle.dh_swept.specs.KeptCells.{number_in}
-use Rattle.dh_swept.specs.NeededCells.{IsMarked, next_wires, driver_wires, drivers_wires, all_drivers_wires, HasNeeded, NeedsAll}
-use Rattle.dh_swept.specs.RenamedWires.{operands_of, renamed_form, renamed_cell, renamed_register, renamed_driver}
+use Rattle.dh_swept.specs.NeededCells.{IsMarked, driver_wires, drivers_wires, all_drivers_wires, HasNeeded, NeedsAll}
+use Rattle.dh_swept.specs.RenamedWires.{operands_of, registers_of, renamed_form, renamed_cell, renamed_register, renamed_driver}
 use Rattle.dh_swept.specs.SweptParts.{ArePartsOf}
 use Rattle.dh_swept.specs.declared.sweeping.Swept.{Swept}
-use Rattle.dh_swept.proofs.NetSwept.{all_front, all_back, all_both, marked_there}
+use Rattle.dh_swept.proofs.WiresFound.{all_front, all_back, all_both}
+use Rattle.dh_swept.proofs.NetSwept.{wire_kept, register_kept, new_cell, new_register}
 
 both_true : (a b : Bool) → a ≡ true → b ≡ true → (a && b) ≡ true
 both_true true b h g = g
@@ -30,26 +31,48 @@ second_true : (a b : Bool) → (a && b) ≡ true → b ≡ true
 second_true true b h = h
 second_true false b h = absurd (let no : false ≡ true = h in cc)
 
-operands_renamed : (to : ℕ → ℕ) (f : CellForm) → operands_of (renamed_form to f) ≡ map to (operands_of f)
-operands_renamed to (Const bits) = refl
-operands_renamed to (Reg register) = refl
-operands_renamed to (Data memory bank port) = refl
-operands_renamed to (Add a b) = refl
-operands_renamed to (Sub a b) = refl
-operands_renamed to (Mul a b) = refl
-operands_renamed to (And a b) = refl
-operands_renamed to (Or a b) = refl
-operands_renamed to (Xor a b) = refl
-operands_renamed to (Shl a b) = refl
-operands_renamed to (ShrU a b) = refl
-operands_renamed to (ShrS a b) = refl
-operands_renamed to (LtU a b) = refl
-operands_renamed to (LtS a b) = refl
-operands_renamed to (Eq a b) = refl
-operands_renamed to (Mux c a b) = refl
-operands_renamed to (Zero a) = refl
-operands_renamed to (Sign a) = refl
-operands_renamed to (Low a) = refl
+-- what a renamed form takes and shows
+operands_renamed : (to to_register : ℕ → ℕ) (f : CellForm) → operands_of (renamed_form to to_register f) ≡ map to (operands_of f)
+operands_renamed to to_register (Const bits) = refl
+operands_renamed to to_register (Reg register) = refl
+operands_renamed to to_register (Data memory bank port) = refl
+operands_renamed to to_register (Add a b) = refl
+operands_renamed to to_register (Sub a b) = refl
+operands_renamed to to_register (Mul a b) = refl
+operands_renamed to to_register (And a b) = refl
+operands_renamed to to_register (Or a b) = refl
+operands_renamed to to_register (Xor a b) = refl
+operands_renamed to to_register (Shl a b) = refl
+operands_renamed to to_register (ShrU a b) = refl
+operands_renamed to to_register (ShrS a b) = refl
+operands_renamed to to_register (LtU a b) = refl
+operands_renamed to to_register (LtS a b) = refl
+operands_renamed to to_register (Eq a b) = refl
+operands_renamed to to_register (Mux c a b) = refl
+operands_renamed to to_register (Zero a) = refl
+operands_renamed to to_register (Sign a) = refl
+operands_renamed to to_register (Low a) = refl
+
+registers_renamed : (to to_register : ℕ → ℕ) (f : CellForm) → registers_of (renamed_form to to_register f) ≡ map to_register (registers_of f)
+registers_renamed to to_register (Const bits) = refl
+registers_renamed to to_register (Reg register) = refl
+registers_renamed to to_register (Data memory bank port) = refl
+registers_renamed to to_register (Add a b) = refl
+registers_renamed to to_register (Sub a b) = refl
+registers_renamed to to_register (Mul a b) = refl
+registers_renamed to to_register (And a b) = refl
+registers_renamed to to_register (Or a b) = refl
+registers_renamed to to_register (Xor a b) = refl
+registers_renamed to to_register (Shl a b) = refl
+registers_renamed to to_register (ShrU a b) = refl
+registers_renamed to to_register (ShrS a b) = refl
+registers_renamed to to_register (LtU a b) = refl
+registers_renamed to to_register (LtS a b) = refl
+registers_renamed to to_register (Eq a b) = refl
+registers_renamed to to_register (Mux c a b) = refl
+registers_renamed to to_register (Zero a) = refl
+registers_renamed to to_register (Sign a) = refl
+registers_renamed to to_register (Low a) = refl
 
 -- A set of new wires, by the old numbers of the marked ones.
 
@@ -69,10 +92,6 @@ module _ (flags : List Bool) (to : ℕ → ℕ) (needed : ℕ → Bool) where
   wires_back : (ws : List ℕ) → AllByRecursion (IsMarked flags) ws → AllByRecursion Has (map to ws) → AllByRecursion HasBack ws
   wires_back [] m h = tt
   wires_back (w ∷ ws) m h = (back w m.0 h.0, wires_back ws m.1 h.1)
-
-  nexts_back : (rs : List Register) → AllByRecursion (IsMarked flags) (next_wires rs) → AllByRecursion Has (next_wires (map (renamed_register to) rs)) → AllByRecursion HasBack (next_wires rs)
-  nexts_back [] m h = tt
-  nexts_back (r ∷ rs) m h = (back r.next m.0 h.0, nexts_back rs m.1 h.1)
 
   data_back : (d : Driver) (t : Bool) → AllByRecursion (IsMarked flags) (if t then d.data_ ∷ [] else []) → AllByRecursion Has (if t then (if t then to d.data_ else 0) ∷ [] else [])
       → AllByRecursion HasBack (if t then d.data_ ∷ [] else [])
@@ -100,16 +119,29 @@ module _ (flags : List Bool) (to : ℕ → ℕ) (needed : ℕ → Bool) where
 
 module _ (net : Net) (s : Swept) (h : ArePartsOf net s) (new : Net) (registers : new.registers ≡ s.registers) (cells : new.cells ≡ s.cells) (drivers : new.drivers ≡ s.drivers) (tick : new.tick ≡ s.tick) (done : new.done ≡ s.done)
     (fault : new.fault ≡ s.fault) where
-  module _ (needed : ℕ → Bool) (holds : HasNeeded new needed) where
-    out_back : (n a : ℕ) → n ≡ number_in h.to a → IsMarked h.flags a → needed n ≡ true → taken_back h.flags (number_in h.to) needed a ≡ true
-    out_back n a is m on = back h.flags (number_in h.to) needed a m (ap needed (sym is) ∙ on)
+  module _ (needed held : ℕ → Bool) (holds : HasNeeded new needed held) where
+    abbrev old_needed : ℕ → Bool
+    old_needed = taken_back h.marks.wires (number_in h.to) needed
 
-    holds_back : HasNeeded net (taken_back h.flags (number_in h.to) needed)
+    abbrev old_held : ℕ → Bool
+    old_held = taken_back h.marks.registers (number_in h.to_register) held
+
+    out_back : (n a : ℕ) → n ≡ number_in h.to a → IsMarked h.marks.wires a → needed n ≡ true → taken_back h.marks.wires (number_in h.to) needed a ≡ true
+    out_back n a is m on = back h.marks.wires (number_in h.to) needed a m (ap needed (sym is) ∙ on)
+
+    -- the new cell of one that is taken back
+    cell_there : (i : ℕ) (c : Cell) → IsMarked h.marks.wires i → slice_get net.cells i ≡ Some c → slice_get new.cells (number_in h.to i) ≡ Some (renamed_cell (number_in h.to) (number_in h.to_register) c)
+    cell_there i c m at =
+        ap (λ (l : List Cell). slice_get l (number_in h.to i)) cells ∙ new_cell net s h (number_in h.to i) i c (wire_kept net s h i m) at
+
+    register_there : (k : ℕ) (r : Register) → IsMarked h.marks.registers k → slice_get net.registers k ≡ Some r → slice_get new.registers (number_in h.to_register k) ≡ Some (renamed_register (number_in h.to) r)
+    register_there k r m at =
+        ap (λ (l : List Register). slice_get l (number_in h.to_register k)) registers ∙ new_register net s h (number_in h.to_register k) k r (register_kept net s h k m) at
+
+    holds_back : HasNeeded net old_needed old_held
     holds_back =
         let marks = h.needed.roots in
         let has = holds.roots in
-        let rest = marks.1.1.1 in
-        let others = has.1.1.1 in
         record {
           roots = (
             out_back new.tick net.tick (tick ∙ h.tick) marks.0 has.0,
@@ -117,31 +149,47 @@ module _ (net : Net) (s : Swept) (h : ArePartsOf net s) (new : Net) (registers :
               out_back new.done net.done (done ∙ h.done) marks.1.0 has.1.0,
               (
                 out_back new.fault net.fault (fault ∙ h.fault) marks.1.1.0 has.1.1.0,
-                all_both (λ (a : ℕ). taken_back h.flags (number_in h.to) needed a ≡ true) (next_wires net.registers) (all_drivers_wires net.drivers)
-                    (nexts_back h.flags (number_in h.to) needed net.registers (all_front (IsMarked h.flags) (next_wires net.registers) (all_drivers_wires net.drivers) rest)
-                    (subst (λ (rs : List Register). AllByRecursion (λ (a : ℕ). needed a ≡ true) (next_wires rs)) (registers ∙ h.registers)
-                    (all_front (λ (a : ℕ). needed a ≡ true) (next_wires new.registers) (all_drivers_wires new.drivers) others)))
-                    (ports_back h.flags (number_in h.to) needed net.drivers (all_back (IsMarked h.flags) (next_wires net.registers) (all_drivers_wires net.drivers) rest)
-                    (subst (λ (dss : List (List Driver)). AllByRecursion (λ (a : ℕ). needed a ≡ true) (all_drivers_wires dss)) (drivers ∙ h.drivers)
-                    (all_back (λ (a : ℕ). needed a ≡ true) (next_wires new.registers) (all_drivers_wires new.drivers) others))),
+                ports_back h.marks.wires (number_in h.to) needed net.drivers marks.1.1.1
+                    (subst (λ (dss : List (List Driver)). AllByRecursion (λ (a : ℕ). needed a ≡ true) (all_drivers_wires dss)) (drivers ∙ h.drivers) has.1.1.1),
               ),
             ),
           );
-          takes = λ i c at on.
-              let m : IsMarked h.flags i = first_true (get_or h.flags i false) (needed (number_in h.to i)) on in
-              let has_new : needed (number_in h.to i) ≡ true = second_true (get_or h.flags i false) (needed (number_in h.to i)) on in
-              let there : slice_get new.cells (number_in h.to i) ≡ Some (renamed_cell (number_in h.to) c) =
-              ap (λ (l : List Cell). slice_get l (number_in h.to i)) cells ∙ h.kept.cells_are (number_in h.to i) i c (h.kept.kept i (marked_there net s h i m) m) at in
-              wires_back h.flags (number_in h.to) needed (operands_of c.form) (h.needed.takes i c at m)
-              (subst (λ (ws : List ℕ). AllByRecursion (λ (a : ℕ). needed a ≡ true) ws) (operands_renamed (number_in h.to) c.form)
-              (holds.takes (number_in h.to i) (renamed_cell (number_in h.to) c) there has_new));
+          operands = λ i c at on.
+              let m : IsMarked h.marks.wires i = first_true (get_or h.marks.wires i false) (needed (number_in h.to i)) on in
+              let has_new : needed (number_in h.to i) ≡ true = second_true (get_or h.marks.wires i false) (needed (number_in h.to i)) on in
+              wires_back h.marks.wires (number_in h.to) needed (operands_of c.form) (h.needed.operands i c at m)
+              (subst (λ (ws : List ℕ). AllByRecursion (λ (a : ℕ). needed a ≡ true) ws) (operands_renamed (number_in h.to) (number_in h.to_register) c.form)
+              (holds.operands (number_in h.to i) (renamed_cell (number_in h.to) (number_in h.to_register) c) (cell_there i c m at) has_new));
+          shown = λ i c at on.
+              let m : IsMarked h.marks.wires i = first_true (get_or h.marks.wires i false) (needed (number_in h.to i)) on in
+              let has_new : needed (number_in h.to i) ≡ true = second_true (get_or h.marks.wires i false) (needed (number_in h.to i)) on in
+              wires_back h.marks.registers (number_in h.to_register) held (registers_of c.form) (h.needed.shown i c at m)
+              (subst (λ (ks : List ℕ). AllByRecursion (λ (k : ℕ). held k ≡ true) ks) (registers_renamed (number_in h.to) (number_in h.to_register) c.form)
+              (holds.shown (number_in h.to i) (renamed_cell (number_in h.to) (number_in h.to_register) c) (cell_there i c m at) has_new));
+          nexts = λ k r at on.
+              let m : IsMarked h.marks.registers k = first_true (get_or h.marks.registers k false) (held (number_in h.to_register k)) on in
+              let has_new : held (number_in h.to_register k) ≡ true = second_true (get_or h.marks.registers k false) (held (number_in h.to_register k)) on in
+              back h.marks.wires (number_in h.to) needed r.next (h.needed.nexts k r at m)
+              (holds.nexts (number_in h.to_register k) (renamed_register (number_in h.to) r) (register_there k r m at) has_new);
         }
 
-  pub needs_all : NeedsAll new
-  needs_all needed holds j less =
-      let long = h.kept.long in
+  each_kept : (needed held : ℕ → Bool) → HasNeeded new needed held → (wire : ℕ) → wire < length new.cells → needed wire ≡ true
+  each_kept needed held holds j less =
+      let long = h.cells.long in
       let same = ap (λ (l : List Cell). length l) cells in
-      let here : slice_get h.kept.at j ≡ Some (get_or h.kept.at j 0) = slice_get-get_or h.kept.at j 0 (omega (arith, less, long, same)) in
-      let i = get_or h.kept.at j 0 in
-      let on = h.needed.only (taken_back h.flags (number_in h.to) needed) (holds_back needed holds) i (h.kept.marked_ones j i here) in
-      ap needed (sym (h.kept.back j i here)) ∙ second_true (get_or h.flags i false) (needed (number_in h.to i)) on
+      let i = get_or h.at j 0 in
+      let here : slice_get h.at j ≡ Some (get_or h.at j 0) = slice_get-get_or h.at j 0 (omega (arith, less, long, same)) in
+      let on = h.needed.only (taken_back h.marks.wires (number_in h.to) needed) (taken_back h.marks.registers (number_in h.to_register) held) (holds_back needed held holds) i (h.wires.marked_ones j i here) in
+      ap needed (sym (h.wires.back j i here)) ∙ second_true (get_or h.marks.wires i false) (needed (number_in h.to i)) on
+
+  each_register_kept : (needed held : ℕ → Bool) → HasNeeded new needed held → (register : ℕ) → register < length new.registers → held register ≡ true
+  each_register_kept needed held holds j less =
+      let long = h.registers.long in
+      let same = ap (λ (l : List Register). length l) registers in
+      let i = get_or h.at_register j 0 in
+      let here : slice_get h.at_register j ≡ Some (get_or h.at_register j 0) = slice_get-get_or h.at_register j 0 (omega (arith, less, long, same)) in
+      let on = h.needed.only_held (taken_back h.marks.wires (number_in h.to) needed) (taken_back h.marks.registers (number_in h.to_register) held) (holds_back needed held holds) i (h.held.marked_ones j i here) in
+      ap held (sym (h.held.back j i here)) ∙ second_true (get_or h.marks.registers i false) (held (number_in h.to_register i)) on
+
+  pub needs_all : NeedsAll new
+  needs_all = record { each_cell = each_kept; each_register = each_register_kept }

@@ -1,6 +1,6 @@
--- A net and what is new of it without the cells that it does not need.
-use Rattle.std.proofs.Common.{◌≡◌, ℕ, suc, ◌<◌, Bool, true, false, if◌then◌else◌, Some, inl, inr, List, [], ◌∷◌, ◌++◌, length, refl, sym, ap, ◌∙◌, arith}
-use Rattle.std.specs.Prelude.{slice_get}
+-- A net and what is new of it without the cells and registers that it does not need.
+use Rattle.std.proofs.Common.{◌≡◌, ℕ, suc, ◌<◌, Bool, true, false, if◌then◌else◌, Some, None, inl, inr, List, [], ◌∷◌, length, refl, sym, ap, ◌∙◌, arith}
+use Rattle.std.specs.Prelude.{Option, slice_get, option_map}
 use Rattle.std.specs.List.{AllByRecursion}
 use Rattle.std.proofs.lemmas.Option.{slice_get_cases, slice_get_within}
 use Rattle.std.proofs.lemmas.Bool.{cases_lt}
@@ -16,12 +16,13 @@ use Rattle.dh_net.specs.declared.nets.Register.{Register}
 use Rattle.dh_net.specs.declared.ports.Port.{Port}
 use Rattle.dh_net.proofs.Valuations.{cell_of}
 use Rattle.dh_swept.specs.KeptCells.{number_in}
-use Rattle.dh_swept.specs.NeededCells.{IsMarked, next_wires, driver_wires, drivers_wires, all_drivers_wires, CanMark}
-use Rattle.dh_swept.specs.RenamedWires.{operands_of}
+use Rattle.dh_swept.specs.NeededCells.{IsMarked, driver_wires, drivers_wires, all_drivers_wires, CanMark}
+use Rattle.dh_swept.specs.RenamedWires.{operands_of, registers_of, renamed_cell, renamed_register}
 use Rattle.dh_swept.specs.SweptNets.{IsKept, KeepsDriver, IsSwept}
 use Rattle.dh_swept.specs.SweptParts.{ArePartsOf}
 use Rattle.dh_swept.specs.declared.sweeping.Swept.{Swept}
 use Rattle.dh_swept.proofs.MarksSet.{all_so}
+use Rattle.dh_swept.proofs.WiresFound.{all_front, all_back, all_both}
 
 -- What a valid net needs is there.
 
@@ -46,25 +47,35 @@ takes_earlier table rs cells i width (Zero a) h = (h.1.0.earlier, tt)
 takes_earlier table rs cells i width (Sign a) h = (h.1.0.earlier, tt)
 takes_earlier table rs cells i width (Low a) h = (h.1.0.earlier, tt)
 
-pub all_front : {A : Type 0} (P : A → Type 0) (xs ys : List A) → AllByRecursion P (xs ++ ys) → AllByRecursion P xs
-all_front P [] ys h = tt
-all_front P (x ∷ xs) ys h = (h.0, all_front P xs ys h.1)
+-- a register that a form shows is there
+register_there : (rs : List Register) (k width : ℕ) → (o : Option Register) → slice_get rs k ≡ o → option_map (λ (r : Register). r.width) o ≡ Some width → k < length rs
+register_there rs k width None is wide = absurd (cc)
+register_there rs k width (Some r) is wide = slice_get_within rs k r is
 
-pub all_back : {A : Type 0} (P : A → Type 0) (xs ys : List A) → AllByRecursion P (xs ++ ys) → AllByRecursion P ys
-all_back P [] ys h = h
-all_back P (x ∷ xs) ys h = all_back P xs ys h.1
-
-pub all_both : {A : Type 0} (P : A → Type 0) (xs ys : List A) → AllByRecursion P xs → AllByRecursion P ys → AllByRecursion P (xs ++ ys)
-all_both P [] ys h g = g
-all_both P (x ∷ xs) ys h g = (h.0, all_both P xs ys h.1 g)
+shows_register : (table : _) (rs : List Register) (cells : List Cell) (i width : ℕ) (f : CellForm) → FormFits table rs cells i width f → AllByRecursion (λ (k : ℕ). k < length rs) (registers_of f)
+shows_register table rs cells i width (Const bits) h = tt
+shows_register table rs cells i width (Reg register) h = (register_there rs register width (slice_get rs register) refl h, tt)
+shows_register table rs cells i width (Data memory bank port) h = tt
+shows_register table rs cells i width (Add a b) h = tt
+shows_register table rs cells i width (Sub a b) h = tt
+shows_register table rs cells i width (Mul a b) h = tt
+shows_register table rs cells i width (And a b) h = tt
+shows_register table rs cells i width (Or a b) h = tt
+shows_register table rs cells i width (Xor a b) h = tt
+shows_register table rs cells i width (Shl a b) h = tt
+shows_register table rs cells i width (ShrU a b) h = tt
+shows_register table rs cells i width (ShrS a b) h = tt
+shows_register table rs cells i width (LtU a b) h = tt
+shows_register table rs cells i width (LtS a b) h = tt
+shows_register table rs cells i width (Eq a b) h = tt
+shows_register table rs cells i width (Mux c a b) h = tt
+shows_register table rs cells i width (Zero a) h = tt
+shows_register table rs cells i width (Sign a) h = tt
+shows_register table rs cells i width (Low a) h = tt
 
 module _ (net : Net) (valid : IsValid net) where
   wire_there : (a width : ℕ) → HasWidth net.cells a width → a < length net.cells
   wire_there a width wide = let c = cell_of net.cells a width wide in slice_get_within net.cells a c.0 c.1.0
-
-  nexts_there : (rs : List Register) → ((i : ℕ) (r : Register) → slice_get rs i ≡ Some r → HasWidth net.cells r.next r.width) → AllByRecursion (λ (a : ℕ). a < length net.cells) (next_wires rs)
-  nexts_there [] h = tt
-  nexts_there (r ∷ rs) h = (wire_there r.next r.width (h 0 r refl), nexts_there rs (λ i q at. h (suc i) q at))
 
   data_there : (p : Port) (d : Driver) → IsDriver net.cells p d → (t : Bool) → d.write ≡ t → AllByRecursion (λ (a : ℕ). a < length net.cells) (if t then d.data_ ∷ [] else [])
   data_there p d h true is = (wire_there d.data_ p.width (h.out is), tt)
@@ -88,78 +99,92 @@ module _ (net : Net) (valid : IsValid net) where
         | inr past ↦ absurd (let beyond = past.0 in let inside = slice_get_within net.drivers q ds at in let same = valid.ports in omega (arith, beyond, inside, same))
       ]
 
+  earlier_there : (i : ℕ) (c : Cell) → slice_get net.cells i ≡ Some c → AllByRecursion (λ (a : ℕ). a < length net.cells) (operands_of c.form)
+  earlier_there i c at =
+      let inside = slice_get_within net.cells i c at in
+      all_so (λ (a : ℕ). a < i) (λ (a : ℕ). a < length net.cells) (operands_of c.form) (λ a small. omega (arith, small, inside))
+      (takes_earlier net.table net.registers net.cells i c.width c.form (valid.cells i c at).form)
+
   pub can_mark : CanMark net
   can_mark = record {
-    earlier = λ i c at. takes_earlier net.table net.registers net.cells i c.width c.form (valid.cells i c at).form;
-    there = (
-      wire_there net.tick 1 valid.tick,
-      (
-        wire_there net.done 1 valid.done,
-        (
-          wire_there net.fault 32 valid.fault,
-          all_both (λ (a : ℕ). a < length net.cells) (next_wires net.registers) (all_drivers_wires net.drivers) (nexts_there net.registers (λ i r at. (valid.registers i r at).next)) (all_there net.drivers port_there),
-        ),
-      ),
-    );
+    roots = (wire_there net.tick 1 valid.tick, (wire_there net.done 1 valid.done, (wire_there net.fault 32 valid.fault, all_there net.drivers port_there)));
+    operands = earlier_there;
+    shown = λ i c at. shows_register net.table net.registers net.cells i c.width c.form (valid.cells i c at).form;
+    nexts = λ k r at. wire_there r.next r.width (valid.registers k r at).next;
   }
 
 -- What is marked is kept.
 
+pub flag_inside : (flags : List Bool) (k : ℕ) → IsMarked flags k → k < length flags
+flag_inside flags k on =
+    elim (cases_lt k (length flags)) [
+      | inl inside ↦ inside
+      | inr past ↦ absurd (let no : false ≡ true = sym (get_or_past flags k false past) ∙ on in cc)
+    ]
+
 module _ (net : Net) (s : Swept) (h : ArePartsOf net s) where
-  abbrev to : ℕ → ℕ
-  to = number_in h.to
+  pub wire_kept : (wire : ℕ) → IsMarked h.marks.wires wire → IsKept h.at (number_in h.to) wire
+  wire_kept wire on = h.wires.kept wire (flag_inside h.marks.wires wire on) on
 
-  pub marked_there : (wire : ℕ) → IsMarked h.flags wire → wire < length net.cells
-  marked_there wire on =
-      elim (cases_lt wire (length h.flags)) [
-        | inl inside ↦ (let long = h.needed.long in omega (arith, inside, long))
-        | inr past ↦ absurd (let no : false ≡ true = sym (get_or_past h.flags wire false past) ∙ on in cc)
-      ]
+  pub register_kept : (k : ℕ) → IsMarked h.marks.registers k → IsKept h.at_register (number_in h.to_register) k
+  register_kept k on = h.held.kept k (flag_inside h.marks.registers k on) on
 
-  marked_kept : (wire : ℕ) → IsMarked h.flags wire → IsKept h.kept.at (number_in h.to) wire
-  marked_kept wire on = h.kept.kept wire (marked_there wire on) on
+  -- new items stand where kept ones are
+  pub new_cell : (j i : ℕ) (c : Cell) → slice_get h.at j ≡ Some i → slice_get net.cells i ≡ Some c → slice_get s.cells j ≡ Some (renamed_cell (number_in h.to) (number_in h.to_register) c)
+  new_cell j i c at there = h.cells.each j i c (slice_get_within h.at j i at) at there
 
-  nexts_kept : (rs : List Register) → AllByRecursion (IsMarked h.flags) (next_wires rs) → AllByRecursion (λ (r : Register). IsKept h.kept.at (number_in h.to) r.next) rs
-  nexts_kept [] m = tt
-  nexts_kept (r ∷ rs) m = (marked_kept r.next m.0, nexts_kept rs m.1)
+  pub new_register : (j i : ℕ) (r : Register) → slice_get h.at_register j ≡ Some i → slice_get net.registers i ≡ Some r → slice_get s.registers j ≡ Some (renamed_register (number_in h.to) r)
+  new_register j i r at there = h.registers.each j i r (slice_get_within h.at_register j i at) at there
 
-  data_kept : (d : Driver) (t : Bool) → d.write ≡ t → AllByRecursion (IsMarked h.flags) (if t then d.data_ ∷ [] else []) → d.write ≡ true → IsKept h.kept.at (number_in h.to) d.data_
-  data_kept d true is m on = marked_kept d.data_ m.0
+  data_kept : (d : Driver) (t : Bool) → d.write ≡ t → AllByRecursion (IsMarked h.marks.wires) (if t then d.data_ ∷ [] else []) → d.write ≡ true → IsKept h.at (number_in h.to) d.data_
+  data_kept d true is m on = wire_kept d.data_ m.0
   data_kept d false is m on = absurd (let no : false ≡ true = sym is ∙ on in cc)
 
-  drivers_kept : (ds : List Driver) → AllByRecursion (IsMarked h.flags) (drivers_wires ds) → AllByRecursion (KeepsDriver h.kept.at (number_in h.to)) ds
+  drivers_kept : (ds : List Driver) → AllByRecursion (IsMarked h.marks.wires) (drivers_wires ds) → AllByRecursion (KeepsDriver h.at (number_in h.to)) ds
   drivers_kept [] m = tt
   drivers_kept (d ∷ ds) m =
-      let own = all_front (IsMarked h.flags) (driver_wires d) (drivers_wires ds) m in
-      (record { enable = marked_kept d.enable own.0; row = marked_kept d.row own.1.0; out = data_kept d d.write refl own.1.1 }, drivers_kept ds (all_back (IsMarked h.flags) (driver_wires d) (drivers_wires ds) m))
+      let own = all_front (IsMarked h.marks.wires) (driver_wires d) (drivers_wires ds) m in (
+        record { enable = wire_kept d.enable own.0; row = wire_kept d.row own.1.0; out = data_kept d d.write refl own.1.1 },
+        drivers_kept ds (all_back (IsMarked h.marks.wires) (driver_wires d) (drivers_wires ds) m),
+      )
 
-  ports_kept : (dss : List (List Driver)) → AllByRecursion (IsMarked h.flags) (all_drivers_wires dss) → AllByRecursion (λ (ds : List Driver). AllByRecursion (KeepsDriver h.kept.at (number_in h.to)) ds) dss
+  ports_kept : (dss : List (List Driver)) → AllByRecursion (IsMarked h.marks.wires) (all_drivers_wires dss) → AllByRecursion (λ (ds : List Driver). AllByRecursion (KeepsDriver h.at (number_in h.to)) ds) dss
   ports_kept [] m = tt
-  ports_kept (ds ∷ dss) m =
-      (drivers_kept ds (all_front (IsMarked h.flags) (drivers_wires ds) (all_drivers_wires dss) m), ports_kept dss (all_back (IsMarked h.flags) (drivers_wires ds) (all_drivers_wires dss) m))
+  ports_kept (ds ∷ dss) m = (
+    drivers_kept ds (all_front (IsMarked h.marks.wires) (drivers_wires ds) (all_drivers_wires dss) m),
+    ports_kept dss (all_back (IsMarked h.marks.wires) (drivers_wires ds) (all_drivers_wires dss) m),
+  )
 
   pub parts_sweep : (new : Net) → new.table ≡ net.table → new.faults ≡ net.faults → new.registers ≡ s.registers → new.cells ≡ s.cells → new.drivers ≡ s.drivers → new.tick ≡ s.tick → new.done ≡ s.done → new.fault ≡ s.fault → IsSwept net new
   parts_sweep new table faults registers cells drivers tick done fault =
       let roots = h.needed.roots in
+      let wires_long = h.needed.long in
+      let registers_long = h.needed.registers_long in
       record {
-        at = h.kept.at;
+        at = h.at;
         to = number_in h.to;
-        long = h.kept.long ∙ ap (λ (l : List Cell). length l) (sym cells);
-        there = h.kept.there;
-        rises = h.kept.rises;
-        cells = λ j i c at there. ap (λ (l : List Cell). slice_get l j) cells ∙ h.kept.cells_are j i c at there;
+        at_register = h.at_register;
+        to_register = number_in h.to_register;
+        long = sym (ap (λ (l : List Cell). length l) cells ∙ h.cells.long);
+        registers_long = sym (ap (λ (l : List Register). length l) registers ∙ h.registers.long);
+        there = λ j i at. (let inside = h.wires.there j i at in omega (arith, inside, wires_long));
+        rises = h.wires.rises;
+        cells = λ j i c at there. ap (λ (l : List Cell). slice_get l j) cells ∙ new_cell j i c at there;
         takes = λ j i c at there.
-            all_so (IsMarked h.flags) (IsKept h.kept.at (number_in h.to)) (operands_of c.form) marked_kept (h.needed.takes i c there (h.kept.marked_ones j i at));
-        registers = registers ∙ h.registers;
-        nexts = nexts_kept net.registers (all_front (IsMarked h.flags) (next_wires net.registers) (all_drivers_wires net.drivers) roots.1.1.1);
+            all_so (IsMarked h.marks.wires) (IsKept h.at (number_in h.to)) (operands_of c.form) wire_kept (h.needed.operands i c there (h.wires.marked_ones j i at));
+        shows = λ j i c at there.
+            all_so (IsMarked h.marks.registers) (IsKept h.at_register (number_in h.to_register)) (registers_of c.form) register_kept (h.needed.shown i c there (h.wires.marked_ones j i at));
+        registers_there = λ j i at. (let inside = h.held.there j i at in omega (arith, inside, registers_long));
+        registers = λ j i r at there. ap (λ (l : List Register). slice_get l j) registers ∙ new_register j i r at there;
+        nexts = λ j i r at there. wire_kept r.next (h.needed.nexts i r there (h.held.marked_ones j i at));
         drivers = drivers ∙ h.drivers;
-        driven = ports_kept net.drivers (all_back (IsMarked h.flags) (next_wires net.registers) (all_drivers_wires net.drivers) roots.1.1.1);
+        driven = ports_kept net.drivers roots.1.1.1;
         table = table;
         faults = faults;
         tick = tick ∙ h.tick;
-        tick_kept = marked_kept net.tick roots.0;
+        tick_kept = wire_kept net.tick roots.0;
         done = done ∙ h.done;
-        done_kept = marked_kept net.done roots.1.0;
+        done_kept = wire_kept net.done roots.1.0;
         fault = fault ∙ h.fault;
-        fault_kept = marked_kept net.fault roots.1.1.0;
+        fault_kept = wire_kept net.fault roots.1.1.0;
       }

@@ -1,4 +1,4 @@
--- A net that keeps all cells that are needed shifts by the constants by which the whole net does.
+-- A net that keeps all cells and registers that are needed shifts by the constants by which the whole net does.
 use Rattle.std.proofs.Common.{◌≡◌, ℕ, ◌<◌, refl, sym, ap, subst, ◌∙◌}
 use Rattle.std.specs.Prelude.{Option, IfSome}
 use Rattle.std.specs.List.{AllByRecursion}
@@ -12,35 +12,35 @@ use Rattle.dh_swept.specs.SweptNets.{IsKept, IsSwept}
 use Rattle.dh_swept.proofs.SweptValues.{cell_at, old_cell}
 
 -- a constant takes no wire
-same_bits : (to : ℕ → ℕ) (f : CellForm) → form_bits (renamed_form to f) ≡ form_bits f
-same_bits to (Const bits) = refl
-same_bits to (Reg register) = refl
-same_bits to (Data memory bank port) = refl
-same_bits to (Add a b) = refl
-same_bits to (Sub a b) = refl
-same_bits to (Mul a b) = refl
-same_bits to (And a b) = refl
-same_bits to (Or a b) = refl
-same_bits to (Xor a b) = refl
-same_bits to (Shl a b) = refl
-same_bits to (ShrU a b) = refl
-same_bits to (ShrS a b) = refl
-same_bits to (LtU a b) = refl
-same_bits to (LtS a b) = refl
-same_bits to (Eq a b) = refl
-same_bits to (Mux c a b) = refl
-same_bits to (Zero a) = refl
-same_bits to (Sign a) = refl
-same_bits to (Low a) = refl
+same_bits : (to to_register : ℕ → ℕ) (f : CellForm) → form_bits (renamed_form to to_register f) ≡ form_bits f
+same_bits to to_register (Const bits) = refl
+same_bits to to_register (Reg register) = refl
+same_bits to to_register (Data memory bank port) = refl
+same_bits to to_register (Add a b) = refl
+same_bits to to_register (Sub a b) = refl
+same_bits to to_register (Mul a b) = refl
+same_bits to to_register (And a b) = refl
+same_bits to to_register (Or a b) = refl
+same_bits to to_register (Xor a b) = refl
+same_bits to to_register (Shl a b) = refl
+same_bits to to_register (ShrU a b) = refl
+same_bits to to_register (ShrS a b) = refl
+same_bits to to_register (LtU a b) = refl
+same_bits to to_register (LtS a b) = refl
+same_bits to to_register (Eq a b) = refl
+same_bits to to_register (Mux c a b) = refl
+same_bits to to_register (Zero a) = refl
+same_bits to to_register (Sign a) = refl
+same_bits to to_register (Low a) = refl
 
 module _ (old new : Net) (h : IsSwept old new) where
   same_constant : (a : ℕ) → IsKept h.at h.to a → constant_at new.cells (h.to a) ≡ constant_at old.cells a
-  same_constant a kept = let c = cell_at old new h a kept in ap cell_bits c.1.1 ∙ (same_bits h.to c.0.form ∙ sym (ap cell_bits c.1.0))
+  same_constant a kept = let c = cell_at old new h a kept in ap cell_bits c.1.1 ∙ (same_bits h.to h.to_register c.0.form ∙ sym (ap cell_bits c.1.0))
 
   below_still : (a bound : ℕ) → IsKept h.at h.to a → IsBelow old.cells a bound → IsBelow new.cells (h.to a) bound
   below_still a bound kept below = subst (λ (o : Option ℕ). IfSome o (λ (bits : ℕ). bits < bound)) (sym (same_constant a kept)) below
 
-  shifts_still : (width : ℕ) (f : CellForm) → AllByRecursion (IsKept h.at h.to) (operands_of f) → ShiftsLess old.cells width f → ShiftsLess new.cells width (renamed_form h.to f)
+  shifts_still : (width : ℕ) (f : CellForm) → AllByRecursion (IsKept h.at h.to) (operands_of f) → ShiftsLess old.cells width f → ShiftsLess new.cells width (renamed_form h.to h.to_register f)
   shifts_still width (Const bits) k s = tt
   shifts_still width (Reg register) k s = tt
   shifts_still width (Data memory bank port) k s = tt

@@ -1,4 +1,4 @@
--- A net that keeps all cells that are needed is valid where the whole net is.
+-- A net that keeps all cells and registers that are needed is valid where the whole net is.
 use Rattle.std.proofs.Common.{◌≡◌, ℕ, zero, suc, Bool, true, false, if◌then◌else◌, Some, None, List, [], ◌∷◌, length, map, refl, sym, ap, subst, ◌∙◌}
 use Rattle.std.specs.Prelude.{Option, slice_get, option_map}
 use Rattle.std.specs.List.{AllByRecursion}
@@ -15,9 +15,9 @@ use Rattle.dh_net.specs.declared.nets.Driver.{Driver}
 use Rattle.dh_net.specs.declared.nets.Net.{Net}
 use Rattle.dh_net.specs.declared.nets.Register.{Register}
 use Rattle.dh_net.specs.declared.ports.Port.{Port}
-use Rattle.dh_swept.specs.RenamedWires.{operands_of, renamed_form, renamed_cell, renamed_register, renamed_driver}
+use Rattle.dh_swept.specs.RenamedWires.{operands_of, registers_of, renamed_form, renamed_cell, renamed_driver}
 use Rattle.dh_swept.specs.SweptNets.{IsKept, KeepsDriver, IsSwept}
-use Rattle.dh_swept.proofs.SweptValues.{cell_at, old_cell}
+use Rattle.dh_swept.proofs.SweptValues.{cell_at, register_at, old_cell, old_register}
 
 -- an item of a list that was mapped is of one of the list
 pub of_mapped : {A B : Type 0} (f : A → B) (xs : List A) (i : ℕ) (y : B) → slice_get (map f xs) i ≡ Some y → (x : A) × ((slice_get xs i ≡ Some x) × (y ≡ f x))
@@ -38,6 +38,12 @@ module _ (old new : Net) (h : IsSwept old new) where
       let c = cell_at old new h a kept in
       ap (λ (o : Option Cell). option_map (λ (m : Cell). m.width) o) c.1.1 ∙ (sym (ap (λ (o : Option Cell). option_map (λ (m : Cell). m.width) o) c.1.0) ∙ wide)
 
+  kept_register_width : (k width : ℕ) → IsKept h.at_register h.to_register k → option_map (λ (r : Register). r.width) (slice_get old.registers k) ≡ Some width
+      → option_map (λ (r : Register). r.width) (slice_get new.registers (h.to_register k)) ≡ Some width
+  kept_register_width k width kept wide =
+      let r = register_at old new h k kept in
+      ap (λ (o : Option Register). option_map (λ (q : Register). q.width) o) r.1.1 ∙ (sym (ap (λ (o : Option Register). option_map (λ (q : Register). q.width) o) r.1.0) ∙ wide)
+
   module _ (i j : ℕ) (here : slice_get h.at j ≡ Some i) where
     kept_operand : (a width : ℕ) → IsKept h.at h.to a → IsOperand old.cells i a width → IsOperand new.cells j (h.to a) width
     kept_operand a width kept o = record { earlier = h.rises (h.to a) j a i kept here o.earlier; wide = kept_width a width kept o.wide }
@@ -45,55 +51,27 @@ module _ (old new : Net) (h : IsSwept old new) where
     kept_operands : (a b width : ℕ) → IsKept h.at h.to a → IsKept h.at h.to b → AreOperands old.cells i a b width → AreOperands new.cells j (h.to a) (h.to b) width
     kept_operands a b width ka kb o = record { left = kept_operand a width ka o.left; right = kept_operand b width kb o.right }
 
-    kept_fits : (rs : _) (width : ℕ) (f : CellForm) → AllByRecursion (IsKept h.at h.to) (operands_of f) → FormFits old.table rs old.cells i width f → FormFits old.table rs new.cells j width (renamed_form h.to f)
-    kept_fits rs width (Const bits) k o = o
-    kept_fits rs width (Reg register) k o = o
-    kept_fits rs width (Data memory bank port) k o = o
-    kept_fits rs width (Add a b) k o = kept_operands a b width k.0 k.1.0 o
-    kept_fits rs width (Sub a b) k o = kept_operands a b width k.0 k.1.0 o
-    kept_fits rs width (Mul a b) k o = kept_operands a b width k.0 k.1.0 o
-    kept_fits rs width (And a b) k o = kept_operands a b width k.0 k.1.0 o
-    kept_fits rs width (Or a b) k o = kept_operands a b width k.0 k.1.0 o
-    kept_fits rs width (Xor a b) k o = kept_operands a b width k.0 k.1.0 o
-    kept_fits rs width (Shl a b) k o = (kept_operand a width k.0 o.0, (o.1.0, kept_operand b o.1.0 k.1.0 o.1.1))
-    kept_fits rs width (ShrU a b) k o = (kept_operand a width k.0 o.0, (o.1.0, kept_operand b o.1.0 k.1.0 o.1.1))
-    kept_fits rs width (ShrS a b) k o = (kept_operand a width k.0 o.0, (o.1.0, kept_operand b o.1.0 k.1.0 o.1.1))
-    kept_fits rs width (LtU a b) k o = (o.0, (o.1.0, kept_operands a b o.1.0 k.0 k.1.0 o.1.1))
-    kept_fits rs width (LtS a b) k o = (o.0, (o.1.0, kept_operands a b o.1.0 k.0 k.1.0 o.1.1))
-    kept_fits rs width (Eq a b) k o = (o.0, (o.1.0, kept_operands a b o.1.0 k.0 k.1.0 o.1.1))
-    kept_fits rs width (Mux c a b) k o = (kept_operand c 1 k.0 o.0, kept_operands a b width k.1.0 k.1.1.0 o.1)
-    kept_fits rs width (Zero a) k o = (o.0, (kept_operand a o.0 k.0 o.1.0, o.1.1))
-    kept_fits rs width (Sign a) k o = (o.0, (kept_operand a o.0 k.0 o.1.0, o.1.1))
-    kept_fits rs width (Low a) k o = (o.0, (kept_operand a o.0 k.0 o.1.0, o.1.1))
-
-  -- of registers a cell asks for the width alone
-  same_widths : (rs : List Register) → map (λ (r : Register). r.width) (map (renamed_register h.to) rs) ≡ map (λ (r : Register). r.width) rs
-  same_widths [] = refl
-  same_widths (r ∷ rs) = ap (λ (l : List ℕ). r.width ∷ l) (same_widths rs)
-
-  by_widths : (table : List MemEntry) (rs qs : List Register) → map (λ (r : Register). r.width) rs ≡ map (λ (r : Register). r.width) qs → (cells : List Cell) (i width : ℕ) (f : CellForm) → FormFits table rs cells i width f → FormFits table qs cells i width f
-  by_widths table rs qs e cells i width (Const bits) o = o
-  by_widths table rs qs e cells i width (Reg register) o = sym (slice_get-map (λ (r : Register). r.width) qs register) ∙ (ap (λ (l : List ℕ). slice_get l register) (sym e) ∙ (slice_get-map (λ (r : Register). r.width) rs register ∙ o))
-  by_widths table rs qs e cells i width (Data memory bank port) o = o
-  by_widths table rs qs e cells i width (Add a b) o = o
-  by_widths table rs qs e cells i width (Sub a b) o = o
-  by_widths table rs qs e cells i width (Mul a b) o = o
-  by_widths table rs qs e cells i width (And a b) o = o
-  by_widths table rs qs e cells i width (Or a b) o = o
-  by_widths table rs qs e cells i width (Xor a b) o = o
-  by_widths table rs qs e cells i width (Shl a b) o = o
-  by_widths table rs qs e cells i width (ShrU a b) o = o
-  by_widths table rs qs e cells i width (ShrS a b) o = o
-  by_widths table rs qs e cells i width (LtU a b) o = o
-  by_widths table rs qs e cells i width (LtS a b) o = o
-  by_widths table rs qs e cells i width (Eq a b) o = o
-  by_widths table rs qs e cells i width (Mux c a b) o = o
-  by_widths table rs qs e cells i width (Zero a) o = o
-  by_widths table rs qs e cells i width (Sign a) o = o
-  by_widths table rs qs e cells i width (Low a) o = o
-
-  widths_are : map (λ (r : Register). r.width) old.registers ≡ map (λ (r : Register). r.width) new.registers
-  widths_are = sym (ap (λ (l : List Register). map (λ (r : Register). r.width) l) h.registers ∙ same_widths old.registers)
+    kept_fits : (width : ℕ) (f : CellForm) → AllByRecursion (IsKept h.at h.to) (operands_of f) → AllByRecursion (IsKept h.at_register h.to_register) (registers_of f) → FormFits old.table old.registers old.cells i width f
+        → FormFits old.table new.registers new.cells j width (renamed_form h.to h.to_register f)
+    kept_fits width (Const bits) k g o = o
+    kept_fits width (Reg register) k g o = kept_register_width register width g.0 o
+    kept_fits width (Data memory bank port) k g o = o
+    kept_fits width (Add a b) k g o = kept_operands a b width k.0 k.1.0 o
+    kept_fits width (Sub a b) k g o = kept_operands a b width k.0 k.1.0 o
+    kept_fits width (Mul a b) k g o = kept_operands a b width k.0 k.1.0 o
+    kept_fits width (And a b) k g o = kept_operands a b width k.0 k.1.0 o
+    kept_fits width (Or a b) k g o = kept_operands a b width k.0 k.1.0 o
+    kept_fits width (Xor a b) k g o = kept_operands a b width k.0 k.1.0 o
+    kept_fits width (Shl a b) k g o = (kept_operand a width k.0 o.0, (o.1.0, kept_operand b o.1.0 k.1.0 o.1.1))
+    kept_fits width (ShrU a b) k g o = (kept_operand a width k.0 o.0, (o.1.0, kept_operand b o.1.0 k.1.0 o.1.1))
+    kept_fits width (ShrS a b) k g o = (kept_operand a width k.0 o.0, (o.1.0, kept_operand b o.1.0 k.1.0 o.1.1))
+    kept_fits width (LtU a b) k g o = (o.0, (o.1.0, kept_operands a b o.1.0 k.0 k.1.0 o.1.1))
+    kept_fits width (LtS a b) k g o = (o.0, (o.1.0, kept_operands a b o.1.0 k.0 k.1.0 o.1.1))
+    kept_fits width (Eq a b) k g o = (o.0, (o.1.0, kept_operands a b o.1.0 k.0 k.1.0 o.1.1))
+    kept_fits width (Mux c a b) k g o = (kept_operand c 1 k.0 o.0, kept_operands a b width k.1.0 k.1.1.0 o.1)
+    kept_fits width (Zero a) k g o = (o.0, (kept_operand a o.0 k.0 o.1.0, o.1.1))
+    kept_fits width (Sign a) k g o = (o.0, (kept_operand a o.0 k.0 o.1.0, o.1.1))
+    kept_fits width (Low a) k g o = (o.0, (kept_operand a o.0 k.0 o.1.0, o.1.1))
 
   module _ (valid : IsValid old) where
     swept_cell : (j : ℕ) (n : Cell) → slice_get new.cells j ≡ Some n → IsCell new.table new.registers new.cells j n
@@ -103,24 +81,24 @@ module _ (old new : Net) (h : IsSwept old new) where
         let c = o.1.0 in
         let good = valid.cells i c o.1.1.1.0 in
         subst (λ (m : Cell). IsCell new.table new.registers new.cells j m) (sym o.1.1.1.1)
-        (subst (λ (t : List MemEntry). IsCell t new.registers new.cells j (renamed_cell h.to c)) (sym h.table)
+        (subst (λ (t : List MemEntry). IsCell t new.registers new.cells j (renamed_cell h.to h.to_register c)) (sym h.table)
         (record {
           least = good.least;
           greatest = good.greatest;
-          form = by_widths old.table old.registers new.registers widths_are new.cells j c.width (renamed_form h.to c.form)
-              (kept_fits i j o.1.1.0 old.registers c.width c.form (h.takes j i c o.1.1.0 o.1.1.1.0) good.form);
+          form = kept_fits i j o.1.1.0 c.width c.form (h.takes j i c o.1.1.0 o.1.1.1.0) (h.shows j i c o.1.1.0 o.1.1.1.0) good.form;
         }))
 
-    swept_register : (i : ℕ) (r : Register) → slice_get new.registers i ≡ Some r → IsRegister new.cells r
-    swept_register i r at =
-        let o = of_mapped (renamed_register h.to) old.registers i r (ap (λ (l : List Register). slice_get l i) (sym h.registers) ∙ at) in
-        let good = valid.registers i o.0 o.1.0 in
-        subst (λ (q : Register). IsRegister new.cells q) (sym o.1.1)
+    swept_register : (j : ℕ) (n : Register) → slice_get new.registers j ≡ Some n → IsRegister new.cells n
+    swept_register j n at =
+        let o = old_register old new h j n at in
+        let r = o.1.0 in
+        let good = valid.registers o.0 r o.1.1.1.0 in
+        subst (λ (q : Register). IsRegister new.cells q) (sym o.1.1.1.1)
         (record {
           least = good.least;
           greatest = good.greatest;
           initial = good.initial;
-          next = kept_width o.0.next o.0.width (all_get (λ (q : Register). IsKept h.at h.to q.next) old.registers i o.0 h.nexts o.1.0) good.next;
+          next = kept_width r.next r.width (h.nexts j o.0 r o.1.1.0 o.1.1.1.0) good.next;
         })
 
     data_kept : (p : Port) (d : Driver) → KeepsDriver h.at h.to d → IsDriver old.cells p d → (t : Bool) → d.write ≡ t → (if t then h.to d.data_ else 0) ≡ (renamed_driver h.to d).data_ → d.write ≡ true → HasWidth new.cells (renamed_driver h.to d).data_ p.width

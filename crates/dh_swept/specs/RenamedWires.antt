@@ -1,5 +1,5 @@
--- Wires by other numbers.
-use Rattle.std.specs.Prelude.{ℕ, if◌then◌else◌, List, [], ◌∷◌}
+-- Wires and registers by other numbers.
+use Rattle.std.specs.Prelude.{ℕ, if◌then◌else◌, List, [], ◌∷◌, map}
 use Rattle.dh_net.specs.declared.nets.Cell.{Cell}
 use Rattle.dh_net.specs.declared.nets.CellForm.{CellForm}
 use Rattle.dh_net.specs.declared.nets.CellForm.TheVariants.{Const, Reg, Data, Add, Sub, Mul, And, Or, Xor, Shl, ShrU, ShrS, LtU, LtS, Eq, Mux, Zero, Sign, Low}
@@ -28,30 +28,35 @@ operands_of (Zero a) = a ∷ []
 operands_of (Sign a) = a ∷ []
 operands_of (Low a) = a ∷ []
 
--- the form that takes them by other numbers
-abbrev pub renamed_form : (to : ℕ → ℕ) → CellForm → CellForm
-renamed_form to (Const bits) = Const bits
-renamed_form to (Reg register) = Reg register
-renamed_form to (Data memory bank port) = Data memory bank port
-renamed_form to (Add a b) = Add (to a) (to b)
-renamed_form to (Sub a b) = Sub (to a) (to b)
-renamed_form to (Mul a b) = Mul (to a) (to b)
-renamed_form to (And a b) = And (to a) (to b)
-renamed_form to (Or a b) = Or (to a) (to b)
-renamed_form to (Xor a b) = Xor (to a) (to b)
-renamed_form to (Shl a b) = Shl (to a) (to b)
-renamed_form to (ShrU a b) = ShrU (to a) (to b)
-renamed_form to (ShrS a b) = ShrS (to a) (to b)
-renamed_form to (LtU a b) = LtU (to a) (to b)
-renamed_form to (LtS a b) = LtS (to a) (to b)
-renamed_form to (Eq a b) = Eq (to a) (to b)
-renamed_form to (Mux c a b) = Mux (to c) (to a) (to b)
-renamed_form to (Zero a) = Zero (to a)
-renamed_form to (Sign a) = Sign (to a)
-renamed_form to (Low a) = Low (to a)
+-- the register that a form shows
+abbrev pub registers_of : CellForm → List ℕ
+registers_of (Reg register) = register ∷ []
+registers_of form = []
 
-abbrev pub renamed_cell : (to : ℕ → ℕ) → Cell → Cell
-renamed_cell to c = record { width = c.width; form = renamed_form to c.form }
+-- the form that takes wires and shows a register by other numbers
+abbrev pub renamed_form : (to to_register : ℕ → ℕ) → CellForm → CellForm
+renamed_form to to_register (Const bits) = Const bits
+renamed_form to to_register (Reg register) = Reg (to_register register)
+renamed_form to to_register (Data memory bank port) = Data memory bank port
+renamed_form to to_register (Add a b) = Add (to a) (to b)
+renamed_form to to_register (Sub a b) = Sub (to a) (to b)
+renamed_form to to_register (Mul a b) = Mul (to a) (to b)
+renamed_form to to_register (And a b) = And (to a) (to b)
+renamed_form to to_register (Or a b) = Or (to a) (to b)
+renamed_form to to_register (Xor a b) = Xor (to a) (to b)
+renamed_form to to_register (Shl a b) = Shl (to a) (to b)
+renamed_form to to_register (ShrU a b) = ShrU (to a) (to b)
+renamed_form to to_register (ShrS a b) = ShrS (to a) (to b)
+renamed_form to to_register (LtU a b) = LtU (to a) (to b)
+renamed_form to to_register (LtS a b) = LtS (to a) (to b)
+renamed_form to to_register (Eq a b) = Eq (to a) (to b)
+renamed_form to to_register (Mux c a b) = Mux (to c) (to a) (to b)
+renamed_form to to_register (Zero a) = Zero (to a)
+renamed_form to to_register (Sign a) = Sign (to a)
+renamed_form to to_register (Low a) = Low (to a)
+
+abbrev pub renamed_cell : (to to_register : ℕ → ℕ) → Cell → Cell
+renamed_cell to to_register c = record { width = c.width; form = renamed_form to to_register c.form }
 
 abbrev pub renamed_register : (to : ℕ → ℕ) → Register → Register
 renamed_register to r = record { width = r.width; initial = r.initial; next = to r.next }
@@ -59,3 +64,6 @@ renamed_register to r = record { width = r.width; initial = r.initial; next = to
 -- a read takes no data
 abbrev pub renamed_driver : (to : ℕ → ℕ) → Driver → Driver
 renamed_driver to d = record { enable = to d.enable; write = d.write; row = to d.row; data_ = if d.write then to d.data_ else 0 }
+
+abbrev pub renamed_drivers : (to : ℕ → ℕ) → List Driver → List Driver
+renamed_drivers to ds = map (renamed_driver to) ds

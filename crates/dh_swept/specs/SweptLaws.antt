@@ -1,4 +1,4 @@
--- What a net does of which some cells are kept: what the whole net does.
+-- What a net does of which some cells and registers are kept: what the whole net does.
 use Rattle.std.specs.Prelude.{◌≡◌, List, ℕ}
 use Rattle.dh_net.specs.declared.nets.Net.{Net}
 use Rattle.dh_net.specs.Plays.{Run, Plays}
@@ -17,7 +17,7 @@ pub record DoesTheSame (old new : Net) : Type 0 where
   pub plays : (r : Run) (start : List (List ℕ)) → Plays old r start → Plays new r start
   pub writes : (r : Run) (start : List (List ℕ)) → WritesLast old r start → WritesLast new r start
 
--- what a net becomes without the cells that it does not need
+-- what a net becomes without the cells and registers that it does not need
 pub record IsSweptOf (old new : Net) : Type 0 where
   pub same : DoesTheSame old new
   pub needed : NeedsAll new

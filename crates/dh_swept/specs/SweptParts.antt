@@ -1,19 +1,23 @@
--- What is new of a net without the cells that it does not need.
-use Rattle.std.specs.Prelude.{◌≡◌, Bool, List, ℕ, length, map}
-use Rattle.dh_net.specs.declared.nets.Driver.{Driver}
+-- What is new of a net without the cells and registers that it does not need.
+use Rattle.std.specs.Prelude.{◌≡◌, List, ℕ}
 use Rattle.dh_net.specs.declared.nets.Net.{Net}
+use Rattle.dh_swept.specs.declared.marking.Marks.{Marks}
 use Rattle.dh_swept.specs.declared.sweeping.Swept.{Swept}
-use Rattle.dh_swept.specs.KeptCells.{KeptBelow, number_in}
+use Rattle.dh_swept.specs.KeptCells.{NumbersAll, KeepsCells, KeepsRegisters, KeepsDrivers, number_in}
 use Rattle.dh_swept.specs.NeededCells.{MarksNeeded}
-use Rattle.dh_swept.specs.RenamedWires.{renamed_driver, renamed_register}
 
 pub record ArePartsOf (net : Net) (s : Swept) : Type 0 where
-  pub flags : List Bool
+  pub marks : Marks
+  pub at : List ℕ
   pub to : List ℕ
-  pub needed : MarksNeeded net flags
-  pub kept : KeptBelow (length net.cells) net.cells flags s.cells to
-  pub registers : s.registers ≡ map (renamed_register (number_in to)) net.registers
-  pub drivers : s.drivers ≡ map (λ (ds : List Driver). map (renamed_driver (number_in to)) ds) net.drivers
+  pub at_register : List ℕ
+  pub to_register : List ℕ
+  pub needed : MarksNeeded net marks
+  pub wires : NumbersAll marks.wires at to
+  pub held : NumbersAll marks.registers at_register to_register
+  pub cells : KeepsCells at to to_register net.cells s.cells
+  pub registers : KeepsRegisters at_register to net.registers s.registers
+  pub drivers : KeepsDrivers to net.drivers s.drivers
   pub tick : s.tick ≡ number_in to net.tick
   pub done : s.done ≡ number_in to net.done
   pub fault : s.fault ≡ number_in to net.fault

@@ -1,42 +1,23 @@
-//! The needed cells of a net by new numbers, and what takes them.
+//! Cells, registers and drivers by new numbers of what they take.
 
-ghost use Rattle.std.specs.Prelude.{◌≡◌, ◌++◌, ◌∷◌, [], if◌then◌else◌, length, map, IfOk, OnOk};
-ghost use Rattle.std.specs.Prelude.{List};
-ghost use Rattle.dh_net.specs.declared.nets.Driver.{Driver};
-ghost use Rattle.dh_swept.specs.KeptCells.{KeptBelow, number_in};
-ghost use Rattle.dh_swept.specs.NeededCells.{TakeEarlier};
-ghost use Rattle.dh_swept.specs.RenamedWires.{renamed_cell, renamed_driver, renamed_form, renamed_register};
+ghost use Rattle.std.specs.Prelude.{◌≡◌, length, IfOk};
+ghost use Rattle.dh_swept.specs.KeptCells.{AreBelow, KeepsCells, KeepsDrivers, KeepsRegisters, number_in};
+ghost use Rattle.dh_swept.specs.RenamedWires.{renamed_cell, renamed_driver, renamed_drivers, renamed_form, renamed_register};
 
+use crate::numbering::number_of;
 use dh_base::{Items, NoMemory};
 use dh_net::{Cell, CellForm, Driver, Register};
 use std::alloc::Global;
 
-/// Cells that were kept.
-#[derive(Drop)]
-pub struct Kept {
-    /// The cells.
-    pub cells: Items<Cell>,
-    /// For each wire its new number; that of the next one that is kept, where it isn't.
-    pub to: Items<u64>,
-}
-
-/// The new number of a wire, 0 where there is none.
-pub fn number_of(to: &[u64], wire: u64) -> u64
-    ensures { result ≡ number_in to.now wire }
-{
-    match to.get(wire as usize) {
-        Some(number) => *number,
-        None => 0,
-    }
-}
-
 /// A form by new numbers.
-fn rename_form(to: &[u64], form: CellForm) -> CellForm
-    ensures { result ≡ renamed_form (number_in to.now) form }
+fn rename_form(to: &[u64], to_register: &[u64], form: CellForm) -> CellForm
+    ensures { result ≡ renamed_form (number_in to.now) (number_in to_register.now) form }
 {
     match form {
         CellForm::Const { bits } => CellForm::Const { bits },
-        CellForm::Reg { register } => CellForm::Reg { register },
+        CellForm::Reg { register } => CellForm::Reg {
+            register: number_of(to_register, register),
+        },
         CellForm::Data { memory, bank, port } => CellForm::Data { memory, bank, port },
         CellForm::Add { a, b } => CellForm::Add {
             a: number_of(to, a),
@@ -103,61 +84,62 @@ fn rename_form(to: &[u64], form: CellForm) -> CellForm
     }
 }
 
-/// Keeps a cell, by new numbers of what it takes, where it is marked.
-fn keep_cell(
-    to: &[u64],
-    is_marked: bool,
-    cell: Cell,
-    kept: &mut Items<Cell>,
-) -> Result<(), NoMemory>
-    ensures { OnOk result (kept.new ≡ (if is_marked
-        then kept.old ++ renamed_cell (number_in to.now) cell ∷ [] else kept.old)) }
+/// A cell by new numbers of what it takes.
+fn rename_cell(to: &[u64], to_register: &[u64], cell: Cell) -> Cell
+    ensures { result ≡ renamed_cell (number_in to.now) (number_in to_register.now) cell }
 {
-    if is_marked {
-        let form = rename_form(to, cell.form);
-        kept.push(Cell {
-            width: cell.width,
-            form,
-        })?;
+    Cell {
+        width: cell.width,
+        form: rename_form(to, to_register, cell.form),
     }
-    Ok(())
 }
 
-/// The marked ones of these cells, by new numbers.
-pub fn keep_cells(alloc: Global, cells: &[Cell], flags: &[bool]) -> Result<Kept, NoMemory>
-    requires long { length flags.now ≡ length cells.now }
-    requires earlier { TakeEarlier cells.now }
-    ensures { IfOk result
-        (λ kept. KeptBelow (length cells.now) cells.now flags.now kept.cells kept.to) }
-{
-    let mut kept = Items::with_room(alloc, cells.len())?;
-    let mut to = Items::with_room(alloc, cells.len())?;
-    for i in 0..cells.len() {
-        let number = kept.len() as u64;
-        keep_cell(to.as_slice(), flags[i], cells[i], &mut kept)?;
-        to.push(number)?;
-    }
-    Ok(Kept { cells: kept, to })
-}
-
-/// Registers that take wires by new numbers.
-pub fn rename_registers(
+/// The cells with these old numbers.
+pub fn keep_cells(
     alloc: Global,
+    at: &[u64],
+    to: &[u64],
+    to_register: &[u64],
+    cells: &[Cell],
+) -> Result<Items<Cell>, NoMemory>
+    requires { AreBelow (length cells.now) at.now }
+    ensures { IfOk result (λ kept. KeepsCells at.now to.now to_register.now cells.now kept) }
+{
+    let mut kept = Items::with_room(alloc, at.len())?;
+    for j in 0..at.len() {
+        let old = at[j] as usize;
+        kept.push(rename_cell(to, to_register, cells[old]))?;
+    }
+    Ok(kept)
+}
+
+/// A register that takes its wire by the new number.
+fn rename_register(to: &[u64], register: Register) -> Register
+    ensures { result ≡ renamed_register (number_in to.now) register }
+{
+    Register {
+        width: register.width,
+        initial: register.initial,
+        next: number_of(to, register.next),
+    }
+}
+
+/// The registers with these old numbers.
+pub fn keep_registers(
+    alloc: Global,
+    at: &[u64],
     to: &[u64],
     registers: &[Register],
 ) -> Result<Items<Register>, NoMemory>
-    ensures { IfOk result (λ renamed. renamed
-        ≡ map (renamed_register (number_in to.now)) registers.now) }
+    requires { AreBelow (length registers.now) at.now }
+    ensures { IfOk result (λ kept. KeepsRegisters at.now to.now registers.now kept) }
 {
-    let mut renamed = Items::with_room(alloc, registers.len())?;
-    for register in registers {
-        renamed.push(Register {
-            width: register.width,
-            initial: register.initial,
-            next: number_of(to, register.next),
-        })?;
+    let mut kept = Items::with_room(alloc, at.len())?;
+    for j in 0..at.len() {
+        let old = at[j] as usize;
+        kept.push(rename_register(to, registers[old]))?;
     }
-    Ok(renamed)
+    Ok(kept)
 }
 
 /// A driver that takes wires by new numbers; a read takes no data.
@@ -179,8 +161,7 @@ fn rename_driver(to: &[u64], driver: Driver) -> Driver
 
 /// The drivers of a port.
 fn rename_list(alloc: Global, to: &[u64], drivers: &[Driver]) -> Result<Items<Driver>, NoMemory>
-    ensures { IfOk result (λ renamed. renamed
-        ≡ map (renamed_driver (number_in to.now)) drivers.now) }
+    ensures { IfOk result (λ renamed. renamed ≡ renamed_drivers (number_in to.now) drivers.now) }
 {
     let mut renamed = Items::with_room(alloc, drivers.len())?;
     for driver in drivers {
@@ -195,8 +176,7 @@ pub fn rename_drivers(
     to: &[u64],
     lists: &[Items<Driver>],
 ) -> Result<Items<Items<Driver>>, NoMemory>
-    ensures { IfOk result (λ renamed. renamed
-        ≡ map (λ (ds : List Driver). map (renamed_driver (number_in to.now)) ds) lists.now) }
+    ensures { IfOk result (λ renamed. KeepsDrivers to.now lists.now renamed) }
 {
     let mut renamed = Items::with_room(alloc, lists.len())?;
     for list in lists {

@@ -1,17 +1,18 @@
-//! A net without the cells that it does not need.
+//! A net without the cells and registers that it does not need.
 
 ghost use Rattle.std.specs.Prelude.{IfOk};
 ghost use Rattle.dh_net.specs.Valid.{IsValid};
 ghost use Rattle.dh_swept.specs.SweptParts.{ArePartsOf};
 ghost use Rattle.dh_swept.specs.SweptLaws.{IsSweptOf};
 
-use crate::keeping::{keep_cells, number_of, rename_drivers, rename_registers};
-use crate::marking::needed_cells;
+use crate::keeping::{keep_cells, keep_registers, rename_drivers};
+use crate::marking::mark_needed;
+use crate::numbering::{number_marked, number_of};
 use dh_base::{Items, NoMemory};
 use dh_net::{Cell, Driver, Net, Register};
 use std::alloc::Global;
 
-/// What is new of a net without the cells that it does not need.
+/// What is new of a net without the cells and registers that it does not need.
 #[derive(Drop)]
 pub struct Swept {
     /// Its registers.
@@ -26,16 +27,17 @@ pub struct Swept {
     pub fault: u64,
 }
 
-/// What is new of a net without the cells that it does not need.
+/// What is new of a net without the cells and registers that it does not need.
 fn sweep_parts(alloc: Global, net: &Net) -> Result<Swept, NoMemory>
     requires { IsValid net.now }
     ensures { IfOk result (λ swept. ArePartsOf net.now swept) }
 {
-    let cells = net.cells.as_slice();
-    let flags = needed_cells(alloc, net)?;
-    let kept = keep_cells(alloc, cells, flags.as_slice())?;
-    let to = kept.to.as_slice();
-    let registers = rename_registers(alloc, to, net.registers.as_slice())?;
+    let marks = mark_needed(alloc, net)?;
+    let wires = number_marked(alloc, marks.wires.as_slice())?;
+    let held = number_marked(alloc, marks.registers.as_slice())?;
+    let (at, to) = (wires.at.as_slice(), wires.to.as_slice());
+    let cells = keep_cells(alloc, at, to, held.to.as_slice(), net.cells.as_slice())?;
+    let registers = keep_registers(alloc, held.at.as_slice(), to, net.registers.as_slice())?;
     let drivers = rename_drivers(alloc, to, net.drivers.as_slice())?;
     let (tick, done, fault) = (
         number_of(to, net.tick),
@@ -44,7 +46,7 @@ fn sweep_parts(alloc: Global, net: &Net) -> Result<Swept, NoMemory>
     );
     Ok(Swept {
         registers,
-        cells: kept.cells,
+        cells,
         drivers,
         tick,
         done,
@@ -70,8 +72,8 @@ fn join_swept(net: Net, swept: Swept) -> Net
     }
 }
 
-/// The net without the cells that no register, driver or output needs, and with all others. It does the same: it is
-/// valid, and plays what the net plays. Time is linear.
+/// The net with the cells and the registers that its outputs and the drivers of its ports need, and without all others.
+/// It does the same: it is valid, and plays what the net plays. Time is linear.
 ///
 /// # Errors
 ///
