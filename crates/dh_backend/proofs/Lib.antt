@@ -8,3 +8,4 @@ pub mod OneThreads
 pub mod SmallTimes
 pub mod WaysWithin
 pub mod PartsPlay
+pub mod LiteralsUnchecked

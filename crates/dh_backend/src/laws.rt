@@ -2,7 +2,8 @@
 
 ghost use Rattle.dh_tree.specs.PlainTrees.{Program};
 ghost use Rattle.dh_plan.specs.PlainPlans.{PlainPlan};
-ghost use Rattle.dh_backend.specs.PlanLaws.{PlansKeepPorts, AddressesKeepPorts, AcceptedNeverStuck};
+ghost use Rattle.dh_backend.specs.PlanLaws.{AcceptedNeverStuck, AddressesKeepPorts};
+ghost use Rattle.dh_backend.specs.PlanLaws.{LiteralsAreUnchecked, PlansKeepPorts};
 ghost use Rattle.dh_backend.specs.NetParts.{PartsPlayPrograms};
 ghost use Rattle.dh_backend.specs.OneThread.{PlansAreOneThread};
 ghost use Rattle.dh_backend.specs.SuitedPlans.{BlocksAreShort, FaultsAreFew, TimesAreSmall};
@@ -25,6 +26,12 @@ pub fn plans_are_small()
 /// No run of a program that is accepted is stuck.
 pub fn accepted_runs_go_on()
     ensures { (p : Program) → AcceptedNeverStuck p }
+{}
+
+/// An access of a program whose indices are literals, and which passes through no view that moves, has no check in the
+/// plan with banks and rows, and its bank and row are constants there.
+pub fn literal_accesses_are_unchecked()
+    ensures { (p : Program) → LiteralsAreUnchecked p }
 {}
 
 /// A net that plays the parts of a program's plan plays the program, in the lengths of its phases.

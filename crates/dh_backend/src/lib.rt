@@ -8,6 +8,9 @@ mod parts;
 mod times;
 
 pub use examples::storing_plan_suits_nets;
-pub use laws::{accepted_runs_go_on, parts_play_programs, plans_are_small, plans_keep_ports};
+pub use laws::{
+    accepted_runs_go_on, literal_accesses_are_unchecked, parts_play_programs, plans_are_small,
+    plans_keep_ports,
+};
 pub use parts::{NetParts, Passed, parts_of};
 pub use times::{Times, times_of};

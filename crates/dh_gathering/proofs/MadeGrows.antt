@@ -13,7 +13,7 @@ use Rattle.dh_expressions.proofs.Pushing.{extends_again, extends_self}
 use Rattle.dh_commands.specs.declared.buildings.Building.{Building}
 use Rattle.dh_laid.specs.LaidAccesses.{touched_count}
 use Rattle.dh_gathering.specs.declared.blocks.Made.{Made}
-use Rattle.dh_gathering.specs.Growing.{AreAllLaid, Grows, IsAtRest, IsClear, NamesFew, place_in, registers_given}
+use Rattle.dh_gathering.specs.Growing.{AreAllLaid, AreOwned, Grows, IsAtRest, IsClear, NamesFew, place_in, registers_given}
 use Rattle.dh_gathering.specs.MadeBlocks.{StandsAt}
 
 not_more : (a b c : ℕ) → a ≤ b → b ≤ c → a ≤ c
@@ -63,6 +63,7 @@ pub record AddsBlock (old new : Made) : Type 0 where
   pub few : NamesFew old.building new.building
   pub clear : IsClear new.building.values
   pub laid : AreAllLaid new.building
+  pub owned : AreOwned new.building
   pub counts : AreNone new.building.accesses.counts.items
 
 module _ (old new : Made) (h : AddsBlock old new) where
@@ -137,6 +138,7 @@ module _ (old new : Made) (h : AddsBlock old new) where
   block_rests rest = record {
     clear = h.clear;
     laid = h.laid;
+    owned = h.owned;
     counts = h.counts;
     first = places_same 0 (least (length old.starts.items)) ∙ rest.first;
     rising = rising;

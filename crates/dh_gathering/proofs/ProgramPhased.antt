@@ -54,6 +54,12 @@ begins_made m registers count many no_operation no_fault no_start untouched none
   rest = record {
     clear = none_clear m.building.values count none;
     laid = λ named holds short number t at. absurd (never (sym (untouched_in m.building.accesses many number untouched) ∙ at));
+    owned = λ few. record {
+      probes = λ n fault guard r at within. absurd (never (sym (none_at n) ∙ at));
+      unchecked = λ n ok fault guard at. never (sym (none_at n) ∙ at);
+      named = λ number t at. absurd (never (sym (untouched_in m.building.accesses many number untouched) ∙ at));
+      apart = λ i j t u at au e. absurd (never (sym (untouched_in m.building.accesses many i untouched) ∙ at));
+    };
     counts = λ b. ap (λ (l : List ℕ). slice_index l b) untouched.counts;
     first = place 0;
     rising = λ block. subst (λ (n : ℕ). n ≤ place_in m (suc block)) (sym (place block)) (least (place_in m (suc block)));
@@ -72,6 +78,9 @@ begins_made m registers count many no_operation no_fault no_start untouched none
   where
     never : {A : Type 0} {x : A} → None ≡ Some x → ⊥
     never e = cc
+
+    none_at : (n : ℕ) → slice_get m.building.draft.operations.items n ≡ None
+    none_at n = ap (λ (os : List Operation). slice_get os n) no_operation
 
     least : (n : ℕ) → 0 ≤ n
     least n = omega arith
@@ -106,6 +115,8 @@ makes_phased scene count body begun final variables paths blocks p registers beg
       all_few (length p.faults) (length final.building.draft.faults) (length begun.building.draft.faults) (touched_count begun.building.accesses.touched.items) (touched_count final.building.accesses.touched.items) (length scene.shares.now)
       (ap (λ (fs : List (FaultKind × Place)). length fs) faults_are) (ap (λ (fs : List (FaultKind × Place)). length fs) begins.faults) made.0.grows.few.1
       (subst (λ (n : ℕ). touched_count final.building.accesses.touched.items ≤ n) (made.0.grows.few.0 ∙ begins.accesses) (count_within final.building.accesses.touched.items));
+  accesses = made.0.grows.few.0 ∙ begins.accesses;
+  owned = made.0.rest.owned;
   flags = λ register k from at. flag register k from (made.0.grows.flags register k (ap (λ (l : List Kind). slice_get l register) (sym registers_are) ∙ at));
   given = made.0.grows.variables ∙ (begins.given ∙ (kinds.long ∙ all_behind scene.held.now count));
   kinds = λ entity register within from to.

@@ -32,16 +32,18 @@ use Rattle.dh_commands.proofs.ChangesBack.{changes_again, changes_none, ready_af
 use Rattle.dh_laid.specs.BareCommands.{AreRising, IsBare, IsBareFrom}
 use Rattle.dh_laid.specs.BlockSites.{MadeEach}
 use Rattle.dh_laid.specs.LaidAccesses.{Lays}
+use Rattle.dh_laid.specs.LaidFaults.{IsFaultless}
 use Rattle.dh_laid.specs.LaidNumbers.{StoresReach}
 use Rattle.dh_laid.specs.LaidQuiet.{StandsIn}
 use Rattle.dh_laid.proofs.AccessesLaid.{commands_lay, each_lays, lays_again, lays_quiet}
 use Rattle.dh_laid.proofs.CommandsNumbered.{reaching_number}
+use Rattle.dh_laid.proofs.FaultsOwn.{faults_grow}
 use Rattle.dh_gathering.specs.declared.blocks.Made.{Made}
 use Rattle.dh_gathering.specs.KeptPhases.{AreBeside}
-use Rattle.dh_gathering.specs.Growing.{AreAllLaid, IsAtRest, IsClear, NamesFew}
+use Rattle.dh_gathering.specs.Growing.{AreAllLaid, AreOwned, IsAtRest, IsClear, NamesFew}
 use Rattle.dh_gathering.specs.MadeBlocks.{AreFew, AreInside, ArePathsOf, DoesCommands, SetsGiven, StandsAt}
 use Rattle.dh_gathering.specs.OpenAccesses.{AreOpen, AreUntouched, Numbered, TouchesWithin}
-use Rattle.dh_gathering.specs.PushedSets.{SetsLogged}
+use Rattle.dh_gathering.specs.PushedSets.{SetsLogged, settings}
 use Rattle.dh_gathering.specs.Gathered.{DoesNumbered, IsLocated, MakesStraight, MakesStraightIn}
 use Rattle.dh_gathering.proofs.AccessesOpen.{open_later, open_within, within_more, within_none, within_then}
 use Rattle.dh_gathering.proofs.LoggedSets.{cleared_all, cleared_long, sets_logged}
@@ -218,6 +220,18 @@ reach_numbered (c ∷ cs) (l ∷ ls) (is, beside) h = (subst (λ (a : Action). S
 pub laid_later : (old new : Building) → Lays old.draft new.draft old.accesses new.accesses → AreAllLaid old → AreNone old.accesses.counts.items → AreAllLaid new
 laid_later old new lays laid counts named holds short = lays.laid named holds short (laid named (λ n f at. holds n f (lays.extends.faults n f at)) short) counts
 
+-- and each access has a fault of its own
+pub owned_later : (old new : Building) → Lays old.draft new.draft old.accesses new.accesses → AreOwned old → AreOwned new
+owned_later old new lays owned few = lays.own few (owned (within (length old.draft.faults) (length new.draft.faults) (faults_grow old.draft new.draft lays.extends) few))
+  where
+    within : (m n : ℕ) → m ≤ n → n ≤ 2 ^ 32 → m ≤ 2 ^ 32
+    within m n l few = omega (arith, l, few)
+
+-- registers that are set can have no fault
+settings_faultless : (ss : List (ℕ × ℕ)) → AllByRecursion (λ (o : Operation). IsFaultless o.form) (settings ss)
+settings_faultless [] = tt
+settings_faultless (s ∷ ss) = (tt, settings_faultless ss)
+
 pub few_located : (items : List Numbered) (ls : List source.Located) → AreBeside IsLocated items ls → AllByRecursion AreFew ls
 few_located [] [] beside = tt
 few_located [] (l ∷ ls) beside = absurd beside
@@ -291,7 +305,8 @@ module _ (scene : Scene) (paths : Paths) (old new : Made) (between after : Build
     lays =
         lays_again old.building.draft between.draft after.draft old.building.accesses between.accesses after.accesses
         (each_lays scene around (located_alone items) old.building between stands_in (made_located scene around items (located_alone items) old.building between (beside_alone items few) does))
-        (lays_quiet between.draft after.draft between.accesses after.accesses (more_operations between.draft after.draft _ given_sets.operations given_sets.faults) given_sets.faults given_sets.accesses)
+        (lays_quiet between.draft after.draft between.accesses after.accesses (more_operations between.draft after.draft _ given_sets.operations given_sets.faults) given_sets.faults
+        (record { more = settings given_sets.sets; adds = given_sets.operations; each = settings_faultless given_sets.sets }) given_sets.accesses)
 
     touches : TouchesWithin old.building.accesses after.accesses first last
     touches =
@@ -310,6 +325,7 @@ module _ (scene : Scene) (paths : Paths) (old new : Made) (between after : Build
       few = subst (λ (b : Building). NamesFew old.building b) (sym building) (lays.long, lays.few);
       clear = subst (λ (b : Building). IsClear b.values) (sym building) clear_after;
       laid = subst (λ (b : Building). AreAllLaid b) (sym building) (laid_later old.building after lays rest.laid rest.counts);
+      owned = subst (λ (b : Building). AreOwned b) (sym building) (owned_later old.building after lays rest.owned);
       counts = subst (λ (b : Building). AreNone b.accesses.counts.items) (sym building) (lays.none rest.counts);
     }
 

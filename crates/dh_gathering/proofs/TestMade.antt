@@ -5,10 +5,11 @@ use Rattle.std.specs.List.{AllByRecursion}
 use Rattle.std.proofs.lemmas.List.{append-nil, length-append}
 use Rattle.dh_value.specs.declared.kinds.Kind.{Kind}
 use Rattle.dh_value.specs.declared.kinds.Kind.TheVariants as kind
+use Rattle.dh_value.specs.declared.operators.Op.TheVariants.{Both}
 use Rattle.dh_tree.specs.PlainTrees as tree
 use Rattle.dh_meaning.specs.AccessNumbers.{term_accesses}
 use Rattle.dh_plan.specs.Correspondence.{Round}
-use Rattle.dh_plan.specs.declared.operations.OperationForm.TheVariants.{Set}
+use Rattle.dh_plan.specs.declared.operations.OperationForm.TheVariants.{Compute, Set}
 use Rattle.dh_expressions.specs.declared.accesses.Accesses.{Accesses}
 use Rattle.dh_expressions.specs.declared.drafts.Draft.{Draft}
 use Rattle.dh_expressions.specs.declared.paths.Paths.{Paths}
@@ -26,16 +27,18 @@ use Rattle.dh_commands.specs.MadeCommands.{MadeTests}
 use Rattle.dh_commands.specs.Setting.{NoVariable, TestsAll}
 use Rattle.dh_commands.specs.Undone.{Changes, IsChange, given_at, undone}
 use Rattle.dh_laid.specs.LaidAccesses.{Lays}
+use Rattle.dh_laid.specs.LaidFaults.{AddsFaultless}
 use Rattle.dh_laid.specs.LaidQuiet.{StandsIn}
 use Rattle.dh_laid.proofs.AccessesLaid.{lays_again, lays_quiet, tests_lay}
 use Rattle.dh_laid.proofs.CommandsNumbered.{tests_number}
+use Rattle.dh_laid.proofs.FaultsOwn.{faultless_again, faultless_pushed}
 use Rattle.dh_gathering.specs.declared.blocks.Made.{Made}
 use Rattle.dh_gathering.specs.Growing.{Grows, IsAtRest, IsClear, registers_given}
 use Rattle.dh_gathering.specs.MadeBlocks.{AddsFlag, AreInside, ArePathsOf, IsFlagOf, PutsFlag, SetsFlag, StandsAt}
 use Rattle.dh_gathering.specs.OpenAccesses.{AreUntouched, TouchesWithin}
 use Rattle.dh_gathering.specs.Gathered.{MakesTest, MakesTestIn, SetsFirst}
 use Rattle.dh_gathering.proofs.MadeGrows.{AddsBlock, block_grows, block_rests, block_stands}
-use Rattle.dh_gathering.proofs.StraightMade.{bare_from, few_counted, laid_later, some_counted}
+use Rattle.dh_gathering.proofs.StraightMade.{bare_from, few_counted, laid_later, owned_later, some_counted}
 
 module _ (scene : Scene) (around : Around) where
   none_changed : (cs : List Change) → AllByRecursion (IsChange scene around NoVariable) cs → cs ≡ []
@@ -66,6 +69,12 @@ flag_extends old new t value flag h = extends_again old h.mid new h.gives.extend
 flag_faults : (read : Bool) (old new : Draft) (value flag : ℕ) → AddsFlag read old new value flag → new.faults ≡ old.faults
 flag_faults true old new value flag (mid, (made, (number, (both, set)))) = set.faults ∙ both.faults
 flag_faults false old new value flag (number, set) = set.faults
+
+-- and can have none
+flag_faultless : (read : Bool) (old new : Draft) (value flag : ℕ) → AddsFlag read old new value flag → AddsFaultless old new
+flag_faultless true old new value flag (mid, (made, (number, (both, set)))) =
+    faultless_again old mid new (faultless_pushed old mid made None (Compute Both value value) both tt) (faultless_pushed mid new number None (Set flag made) set tt)
+flag_faultless false old new value flag (number, set) = faultless_pushed old new number None (Set flag value) set tt
 
 -- a flag behind these registers
 one_flag : (old : List Kind) (register : ℕ) (k : Kind) → slice_get (old ++ kind.Bool ∷ []) register ≡ Some k → (slice_get old register ≡ Some k) ⊎ (k ≡ kind.Bool)
@@ -112,7 +121,8 @@ module _ (scene : Scene) (paths : Paths) (old new : Made) (between : Building) (
           lays_again old.building.draft between.draft new.building.draft old.building.accesses between.accesses new.building.accesses
           (tests_lay scene around n t (paths_counted around) old.building between next tests stands_in made)
           (lays_quiet between.draft new.building.draft between.accesses new.building.accesses (subst (λ (d : Draft). Extends between.draft d) (sym draft_is) (flag_extends between.draft draft t value flag puts.0))
-          (ap (λ (d : Draft). d.faults) draft_is ∙ flag_faults (is_read_term t) between.draft draft value flag puts.1) accesses_are)
+          (ap (λ (d : Draft). d.faults) draft_is ∙ flag_faults (is_read_term t) between.draft draft value flag puts.1)
+          (subst (λ (d : Draft). AddsFaultless between.draft d) (sym draft_is) (flag_faultless (is_read_term t) between.draft draft value flag puts.1)) accesses_are)
 
       touches : TouchesWithin old.building.accesses new.building.accesses n (n + term_accesses t)
       touches = record {
@@ -138,6 +148,7 @@ module _ (scene : Scene) (paths : Paths) (old new : Made) (between : Building) (
         few = (lays.long, lays.few);
         clear = subst (λ (v : Values). IsClear v) (sym values_are) (clear_still scene around old.building.values between.values changes rest.clear);
         laid = laid_later old.building new.building lays rest.laid rest.counts;
+        owned = owned_later old.building new.building lays rest.owned;
         counts = lays.none rest.counts;
       }
 

@@ -3,10 +3,12 @@ use Rattle.std.specs.Prelude.{◌≡◌, ℕ, ◌+◌, ◌<◌, ◌^◌, ◌&&�
 use Rattle.std.specs.Global.{Global}
 use Rattle.std.specs.List.{AllByRecursion}
 use Rattle.dh_tree.specs.declared.trees.commands.Command.{Command}
+use Rattle.dh_tree.specs.declared.trees.commands.ViewForm.{ViewForm}
 use Rattle.dh_tree.specs.declared.trees.expressions.Ref.{Ref}
 use Rattle.dh_tree.specs.PlainTrees as tree
 use Rattle.dh_tree.specs.PlainTrees.{Action}
-use Rattle.dh_tree.specs.Seen.{action_seen, all_parts_seen, program_seen}
+use Rattle.dh_tree.specs.Seen.{action_seen, all_parts_seen, plan_seen, program_seen}
+use Rattle.dh_tree.specs.ViewOffsets.{moves}
 use Rattle.dh_meaning.specs.AccessNumbers.{accesses_of, groups_accesses, term_accesses}
 use Rattle.dh_meaning.specs.CoreOf.{core_phase, core_phases, entity_number}
 use Rattle.dh_meaning.specs.Phases as source
@@ -31,7 +33,7 @@ use Rattle.dh_gathering.specs.declared.blocks.Made.{Made}
 use Rattle.dh_gathering.specs.declared.joining.Located.{Located}
 use Rattle.dh_gathering.specs.declared.joining.Loose.{Loose}
 use Rattle.dh_gathering.specs.declared.joining.Loose.TheVariants as loose
-use Rattle.dh_gathering.specs.KeptPhases.{AreBeside, AreOf, KeepNoOther, Kept, another, at_once, commands_kept, done_at_once}
+use Rattle.dh_gathering.specs.KeptPhases.{AreBeside, AreOf, KeepNoOther, Kept, another, at_once, commands_kept, done_at_once, ended_at, folded_with, joined_at, joined_with}
 use Rattle.dh_gathering.specs.Growing.{Grows, IsAtRest}
 use Rattle.dh_gathering.specs.OpenAccesses.{AreOpen, AreUntouched, Numbered, TouchesWithin, numbered}
 use Rattle.dh_gathering.specs.PlacedPhases.{AreInner, ArePlaced, loops_round}
@@ -53,6 +55,28 @@ all_kept forms = map kept_of forms
 abbrev pub view_kept : Bool → Numbered → List (Kept Numbered Node)
 view_kept true c = done_at_once (c ∷ []) ∷ []
 view_kept false c = []
+
+-- a command is kept alone, with its accesses numbered from there on
+abbrev pub KeepsAlone : Command → (first : ℕ) → (forms : Vec Loose Global) → Type 0
+KeepsAlone c first forms = all_kept forms.items ≡ done_at_once (numbered (action_seen c) first ∷ []) ∷ []
+
+-- a view of this form is, where it moves; of another nothing is kept
+abbrev pub KeepsView : ViewForm → Command → (first : ℕ) → (forms : Vec Loose Global) → Type 0
+KeepsView form c first forms = all_kept forms.items ≡ view_kept (moves (plan_seen form)) (numbered (action_seen c) first)
+
+-- the open phase is put behind those that are done, where it has a command, and has none then
+abbrev pub EndsPhase : (done : Vec Loose Global) → (current : Vec Located Global) → (done_after : Vec Loose Global) → (current_after : Vec Located Global) → Type 0
+EndsPhase done current done_after current_after =
+    (all_kept done_after.items ≡ all_kept done.items ++ ended_at (all_numbered current.items)) × (current_after.items ≡ [])
+
+-- the phases of a further command are put behind the open one
+abbrev pub JoinsPhases : (done : Vec Loose Global) → (current : Vec Located Global) → (further done_after : Vec Loose Global) → (current_after : Vec Located Global) → Type 0
+JoinsPhases done current further done_after current_after =
+    joined_at (all_kept done_after.items) (all_numbered current_after.items) ≡ joined_with (all_kept done.items) (all_numbered current.items) (all_kept further.items)
+
+-- the phases of a turn are made of those of the body and of `combine`
+abbrev pub FoldsPhases : (body fold turn : Vec Loose Global) → Type 0
+FoldsPhases body fold turn = all_kept turn.items ≡ folded_with (all_kept body.items) (all_kept fold.items)
 
 -- it is a command of the definition, and its accesses have small numbers
 pub record IsLocated (c : Numbered) (l : source.Located) : Type 0 where

@@ -1,5 +1,5 @@
 -- What is made of a program grows: operations, starts of blocks and registers are only added. Between two blocks no
--- variable is given a value, all accesses with operations are laid, and none is counted.
+-- variable is given a value, all accesses with operations are laid, each with a fault of its own, and none is counted.
 use Rattle.std.specs.Prelude.{◌≡◌, ◌⊎◌, ℕ, suc, ◌+◌, ◌≤◌, ◌^◌, List, [], length, slice_get, slice_index_or, Some, None}
 use Rattle.dh_base.specs.declared.outcomes.FaultKind.{FaultKind}
 use Rattle.dh_base.specs.declared.places.Place.{Place}
@@ -12,6 +12,7 @@ use Rattle.dh_commands.specs.declared.assignments.Values.{Values}
 use Rattle.dh_commands.specs.declared.buildings.Building.{Building}
 use Rattle.dh_commands.specs.Undone.{AreReady, given_at}
 use Rattle.dh_laid.specs.LaidAccesses.{AreLaid, AreNamed, touched_count}
+use Rattle.dh_laid.specs.LaidFaults.{HaveOwnFaults}
 use Rattle.dh_gathering.specs.declared.blocks.Made.{Made}
 
 -- no variable is given a value
@@ -35,6 +36,10 @@ registers_given m = length m.building.values.current.items
 abbrev pub AreAllLaid : Building → Type 0
 AreAllLaid b = (named : List (FaultKind × Place)) → AreNamed named b.draft → length named ≤ 2 ^ 32 → AreLaid named b.accesses
 
+-- each access with operations has a fault of its own, where faults are few
+abbrev pub AreOwned : Building → Type 0
+AreOwned b = length b.draft.faults ≤ 2 ^ 32 → HaveOwnFaults b.draft b.accesses
+
 -- there are as many accesses as before, and no more faults were named than accesses got operations
 abbrev pub NamesFew : (old new : Building) → Type 0
 NamesFew old new =
@@ -45,6 +50,7 @@ NamesFew old new =
 pub record IsAtRest (m : Made) : Type 0 where
   pub clear : IsClear m.building.values
   pub laid : AreAllLaid m.building
+  pub owned : AreOwned m.building
   pub counts : AreNone m.building.accesses.counts.items
   pub first : place_in m 0 ≡ 0
   pub rising : (block : ℕ) → place_in m block ≤ place_in m (suc block)

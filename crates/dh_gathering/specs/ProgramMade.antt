@@ -17,7 +17,7 @@ use Rattle.dh_gathering.specs.declared.blocks.Made.{Made}
 use Rattle.dh_gathering.specs.declared.making.Phased.{Phased}
 use Rattle.dh_gathering.specs.Cutting.{AreBlocksOf}
 use Rattle.dh_gathering.specs.Gathered.{HasNodes}
-use Rattle.dh_gathering.specs.Growing.{IsAtRest, registers_given}
+use Rattle.dh_gathering.specs.Growing.{AreOwned, IsAtRest, registers_given}
 use Rattle.dh_gathering.specs.MadeBlocks.{IsTold, made_tie}
 use Rattle.dh_gathering.specs.NamedOnce.{listed}
 use Rattle.dh_gathering.specs.OpenAccesses.{AreUntouched}
@@ -45,6 +45,9 @@ pub record IsPhased (scene : Scene) (count : ℕ) (body : Action) (p : Phased) :
   pub faults : p.faults ≡ final.building.draft.faults
   -- no more than there are accesses
   pub few_faults : length p.faults ≤ length scene.shares.now
+  -- each access with operations has a fault of its own, where faults are few
+  pub accesses : length final.building.accesses.touched.items ≡ length scene.shares.now
+  pub owned : AreOwned final.building
   -- the first registers are those of variables, so many, each of its kind, and behind them stand flags
   pub flags : (register : ℕ) (k : Kind) → count ≤ register → slice_get p.registers register ≡ Some k → k ≡ kind.Bool
   pub given : registers_given final ≡ count

@@ -1,18 +1,15 @@
 //! The phases of a program. Straight commands that stand side by side are gathered until their phase ends; then
 //! its block is made whole.
 
-ghost use Rattle.std.specs.Prelude.{◌≡◌, ◌∷◌, [], IfOk};
-ghost use Rattle.dh_tree.specs.Seen.{action_seen, all_parts_seen, maybe_block_seen, plan_seen};
-ghost use Rattle.dh_tree.specs.ViewOffsets.{moves as moves_so};
+ghost use Rattle.std.specs.Prelude.{◌≡◌, [], IfOk};
+ghost use Rattle.dh_tree.specs.Seen.{action_seen, all_parts_seen, maybe_block_seen};
 ghost use Rattle.dh_meaning.specs.AccessNumbers.{accesses_of, groups_accesses, other_accesses};
 ghost use Rattle.dh_meaning.specs.Phases.{other_phases};
 ghost use Rattle.dh_plan.specs.SeenPlans.{nodes_seen};
 ghost use Rattle.dh_plan.specs.SoundPlans.{blocks_of};
 ghost use Rattle.dh_accesses.specs.Counted.{behind};
-ghost use Rattle.dh_gathering.specs.Gathered.{GathersCommand, GathersGroups, GathersOf, MakesBody, all_kept, view_kept};
-ghost use Rattle.dh_gathering.specs.KeptPhases.{done_at_once};
+ghost use Rattle.dh_gathering.specs.Gathered.{GathersCommand, GathersGroups, GathersOf, KeepsAlone, KeepsView, MakesBody, all_kept};
 ghost use Rattle.dh_gathering.specs.NamedOnce.{NamesOnce, kept_blocks};
-ghost use Rattle.dh_gathering.specs.OpenAccesses.{numbered};
 
 use crate::blocks::Made;
 use crate::joining::{Loose, end_phase, fold, join, one_command};
@@ -40,8 +37,7 @@ fn alone<'a>(
     first: u32,
     command: &'a Command,
 ) -> Result<(Vec<Loose<'a>>, u32), NoMemory>
-    ensures forms { IfOk result (λ g. all_kept g.0.items ≡ done_at_once (numbered (action_seen
-        command.now) first ∷ []) ∷ []) }
+    ensures forms { IfOk result (λ g. KeepsAlone command.now first g.0) }
     ensures next { IfOk result (λ g. g.1 ≡ behind first (accesses_of (action_seen
         command.now))) }
 {
@@ -56,8 +52,7 @@ fn view_phases<'a>(
     command: &'a Command,
     form: &ViewForm,
 ) -> Result<(Vec<Loose<'a>>, u32), NoMemory>
-    ensures forms { IfOk result (λ g. all_kept g.0.items ≡ view_kept (moves_so (plan_seen form.now))
-        (numbered (action_seen command.now) first)) }
+    ensures forms { IfOk result (λ g. KeepsView form.now command.now first g.0) }
     ensures next { IfOk result (λ g. g.1 ≡ behind first (accesses_of (action_seen
         command.now))) }
 {

@@ -1,10 +1,8 @@
 //! Phases that have no block yet, while they are gathered: straight commands that stand side by side join.
 
-ghost use Rattle.std.specs.Prelude.{◌≡◌, ◌++◌, ◌∷◌, [], IfOk};
-ghost use Rattle.dh_tree.specs.Seen.{action_seen};
-ghost use Rattle.dh_gathering.specs.KeptPhases.{at_once, done_at_once, ended_at, folded_with, joined_at, joined_with};
-ghost use Rattle.dh_gathering.specs.Gathered.{all_kept, all_numbered, kept_of};
-ghost use Rattle.dh_gathering.specs.OpenAccesses.{numbered};
+ghost use Rattle.std.specs.Prelude.{◌≡◌, ◌∷◌, [], IfOk};
+ghost use Rattle.dh_gathering.specs.KeptPhases.{at_once};
+ghost use Rattle.dh_gathering.specs.Gathered.{EndsPhase, FoldsPhases, JoinsPhases, KeepsAlone, all_kept, kept_of};
 
 use dh_base::NoMemory;
 use dh_plan::Node;
@@ -45,8 +43,7 @@ pub fn one_command<'a>(
     first: u32,
     command: &'a Command,
 ) -> Result<Vec<Loose<'a>>, NoMemory>
-    ensures { IfOk result (λ forms. all_kept forms.items
-        ≡ done_at_once (numbered (action_seen command.now) first ∷ []) ∷ []) }
+    ensures { IfOk result (λ forms. KeepsAlone command.now first forms) }
 {
     let mut commands = Vec::new(alloc);
     commands.push(Located { command, first })?;
@@ -59,9 +56,7 @@ pub fn end_phase<'a>(
     done: &mut Vec<Loose<'a>>,
     current: &mut Vec<Located<'a>>,
 ) -> Result<(), NoMemory>
-    ensures { IfOk result (λ _. (all_kept done.new.items
-        ≡ all_kept done.old.items ++ ended_at (all_numbered current.old.items))
-        × (current.new.items ≡ [])) }
+    ensures { IfOk result (λ _. EndsPhase done.old current.old done.new current.new) }
 {
     if !current.is_empty() {
         let commands = mem::replace(current, Vec::new(alloc));
@@ -78,10 +73,8 @@ pub fn join<'a>(
     current: &mut Vec<Located<'a>>,
     mut next: Vec<Loose<'a>>,
 ) -> Result<(), NoMemory>
-    ensures { IfOk result (λ _.
-        joined_at (all_kept done.new.items) (all_numbered current.new.items)
-        ≡ joined_with (all_kept done.old.items) (all_numbered current.old.items)
-        (all_kept next.entry.items)) }
+    ensures { IfOk result
+        (λ _. JoinsPhases done.old current.old next.entry done.new current.new) }
 {
     match next.as_slice() {
         [] => return Ok(()),
@@ -118,8 +111,7 @@ pub fn fold<'a>(
     mut body: Vec<Loose<'a>>,
     mut fold: Vec<Loose<'a>>,
 ) -> Result<Vec<Loose<'a>>, NoMemory>
-    ensures { IfOk result (λ turn. all_kept turn.items
-        ≡ folded_with (all_kept body.entry.items) (all_kept fold.entry.items)) }
+    ensures { IfOk result (λ turn. FoldsPhases body.entry fold.entry turn) }
 {
     match body.pop() {
         None => Ok(fold),

@@ -1,6 +1,6 @@
 -- An access that gets its operations is laid, and all others stay as they are: by recursion on what is put down for
 -- expressions and commands.
-use Rattle.std.proofs.Common.{◌≡◌, ◌⊎◌, inl, inr, ⊎_elim, ◌≤◌, ◌+◌, ◌^◌, ℕ, zero, suc, List, Some, None, ap, sym, ◌∙◌, subst, length, arith, refl, add-one}
+use Rattle.std.proofs.Common.{◌≡◌, ◌⊎◌, inl, inr, ⊎_elim, ◌<◌, ◌≤◌, ◌+◌, ◌^◌, ℕ, zero, suc, List, Some, None, ap, sym, ◌∙◌, subst, length, arith, refl, add-one}
 use Rattle.std.specs.Prelude.{Bool as Truth, true, false, [], ◌∷◌, ◌++◌, Option, slice_get, slice_index_or}
 use Rattle.std.proofs.lemmas.List.{length-append}
 use Rattle.dh_base.specs.declared.outcomes.FaultKind.{FaultKind}
@@ -21,10 +21,11 @@ use Rattle.dh_meaning.specs.Bindings.{kind_or_first}
 use Rattle.dh_meaning.specs.CoreOf.{entity_number, way_of, memory_of}
 use Rattle.dh_meaning.specs.Ways.{hidden_in, Hidden}
 use Rattle.dh_code.specs.Extended.{extension_of}
-use Rattle.dh_code.specs.Made.{same_kind}
+use Rattle.dh_tree.specs.Kinds.{same_kind}
 use Rattle.dh_code.specs.declared.places.Held.{Held}
 use Rattle.dh_code.specs.Slots.{held_at}
-use Rattle.dh_plan.specs.declared.operations.OperationForm.TheVariants.{Compute, Constant, Convert}
+use Rattle.dh_plan.specs.declared.operations.OperationForm.TheVariants.{Compute, Constant, Convert, Probe}
+use Rattle.dh_plan.specs.declared.operations.Reach.{Reach}
 use Rattle.dh_plan.specs.declared.operations.ReachStep.{ReachStep}
 use Rattle.dh_expressions.specs.declared.accesses.Accesses.{Accesses}
 use Rattle.dh_expressions.specs.declared.accesses.Touched.{Touched}
@@ -35,12 +36,12 @@ use Rattle.dh_expressions.specs.declared.scenes.Around.{Around}
 use Rattle.dh_expressions.specs.declared.scenes.Lane.{Lane}
 use Rattle.dh_expressions.specs.declared.scenes.Scene.{Scene}
 use Rattle.dh_expressions.specs.Copying.{AddsAllCopies, AddsCopies, AddsCopy, AreNone, JoinsGuards}
-use Rattle.dh_expressions.specs.Drafted.{Extends}
+use Rattle.dh_expressions.specs.Drafted.{Extends, Pushes}
 use Rattle.dh_expressions.specs.Evaluated.{counter_of, known_in}
 use Rattle.dh_expressions.specs.MadeTerms.{MadeRead, MadeTerm, MadeTerms, MadeWrite, MadeWay}
 use Rattle.dh_expressions.specs.MadeValues.{MadeBy, MadeConverted}
-use Rattle.dh_expressions.specs.Noted.{Notes, copied_in, given_then, is_bare, is_bare_of, noted_in, touched_in, touched_of}
-use Rattle.dh_expressions.specs.Reaching.{place_written}
+use Rattle.dh_expressions.specs.Noted.{Notes, copied_in, fault_in, fault_of_touched, given_then, is_bare, is_bare_of, noted_in, touched_in, touched_of}
+use Rattle.dh_expressions.specs.Reaching.{place_written, reach_told}
 use Rattle.dh_expressions.specs.Shown.{guard_of, is_kept, kind_written, register_at}
 use Rattle.dh_expressions.specs.Standings.{Standing, standing_at, copy_places}
 use Rattle.dh_expressions.specs.Touching.{AddsTouched, IsNew, TouchesAt}
@@ -52,6 +53,7 @@ use Rattle.dh_expressions.specs.Named.{first_view}
 use Rattle.dh_formed.proofs.CopiesFormed.{FormsCopies, copies_forms}
 use Rattle.dh_formed.proofs.ElementsFormed.{found_extends}
 use Rattle.dh_formed.proofs.IteratorsFormed.{iterator_forms}
+use Rattle.dh_formed.proofs.ValuesCounted.{copies_counts, number_counts, operation_counts, sees_any, variable_counts, way_counts}
 use Rattle.dh_formed.proofs.ValuesFormed.{held_forms, number_forms, operation_forms, shown_forms}
 use Rattle.dh_formed.proofs.TermsFormed.{way_part}
 use Rattle.dh_commands.specs.declared.buildings.Building.{Building}
@@ -59,10 +61,13 @@ use Rattle.dh_commands.specs.declared.choices.Left.{Left}
 use Rattle.dh_commands.specs.LanesRun.{lane_of, paths_counted}
 use Rattle.dh_commands.specs.MadeCommands.{Commanding, FoldedWith, MadeActionForm, MadeActions, MadeAim, MadeArm, MadeAssigned, MadeCleared, MadeCommand, MadeGroups, MadeLanes, MadeOldOperand, MadeOperand, MadeOther, MadeReduced, MadeStored, MadeStoring, MadeView, MadeHolds, MadeKept}
 use Rattle.dh_laid.specs.LaidAccesses.{AreLaid, AreNamed, CommandsLay, EachLay, GroupsLay, IsLaid, Lays, TermsLay, TestsLay, touched_count}
+use Rattle.dh_laid.specs.LaidFaults.{AddsFaultless, HaveOwnFaults}
 use Rattle.dh_laid.specs.LaidQuiet.{StandsIn}
 use Rattle.dh_laid.proofs.ArmsLaid.{arm_guards_form}
 use Rattle.dh_laid.proofs.ChoicesLaid.{choices_form}
 use Rattle.dh_laid.proofs.FaultsKept.{choices_faults, converted_faults, copies_faults, finds_faults, folded_faults, guards_faults, held_faults, number_faults, operation_faults, same_faults, variable_faults, way_faults}
+use Rattle.dh_laid.proofs.FaultsOwn.{any_reach, choices_faultless, converted_faultless, faultless_again, faultless_counted, faultless_none, faultless_pushed, faultless_same, faults_grow, finds_faultless, folded_faultless, guards_faultless, held_faultless, own_notes, own_probe, own_quiet, own_touch}
+use Rattle.dh_laid.proofs.UsesAdded.{any_register, no_reach}
 use Rattle.dh_laid.proofs.ValuesLogged.{stands_arm, tests_same}
 
 -- Composition.
@@ -71,21 +76,31 @@ named_before : (named : List (FaultKind × Place)) (old new : Draft) → Extends
 named_before named old new e all n f at = all n f (e.faults n f at)
 
 -- no access is touched, and no fault is named
-pub lays_quiet : (old new : Draft) (before after : Accesses) → Extends old new → new.faults ≡ old.faults → after ≡ before → Lays old new before after
-lays_quiet old new before after e faults same = record {
+lays_still_so : (old new : Draft) (before after : Accesses) → Extends old new → new.faults ≡ old.faults → after ≡ before → (HaveOwnFaults old before → HaveOwnFaults new after) → Lays old new before after
+lays_still_so old new before after e faults same own = record {
   extends = e;
   laid = λ named all few laid none. subst (λ (a : Accesses). AreLaid named a) (sym same) laid;
   none = λ none. subst (λ (a : Accesses). AreNone a.counts.items) (sym same) none;
   long = ap (λ (a : Accesses). length a.touched.items) same;
   few = as_few (length new.faults) (length old.faults) (touched_count before.touched.items) (touched_count after.touched.items) (ap (λ (fs : List (FaultKind × Place)). length fs) faults) (ap (λ (a : Accesses). touched_count a.touched.items) same);
+  own = λ few h. own h;
 }
   where
     as_few : (f g m n : ℕ) → f ≡ g → n ≡ m → f + m ≤ g + n
     as_few f g m n e h = omega (arith, e, h)
 
+-- and none can be had
+pub lays_quiet : (old new : Draft) (before after : Accesses) → Extends old new → new.faults ≡ old.faults → AddsFaultless old new → after ≡ before → Lays old new before after
+lays_quiet old new before after e faults plain same = lays_still_so old new before after e faults same (own_quiet old new before after faults plain same)
+
+-- a probe of an access that has operations
+lays_probe : (old new : Draft) (a : Accesses) (n : ℕ) (guard : Option ℕ) (q : Reach) (fault : ℕ) → Pushes old new n guard (Probe q fault)
+    → (q.access < length a.touched.items → (t : Touched) × ((touched_in a q.access ≡ Some t) × (t.fault ≡ fault))) → Lays old new a a
+lays_probe old new a n guard q fault p touched = lays_still_so old new a a (pushed_extends old new n guard (Probe q fault) p) p.faults refl (own_probe old new a n guard q fault p touched)
+
 -- nothing is put down
 pub lays_none : (old new : Draft) (before after : Accesses) → new ≡ old → after ≡ before → Lays old new before after
-lays_none old new before after still same = lays_quiet old new before after (subst (λ (d : Draft). Extends old d) (sym still) (extends_self old)) (same_faults old new still) same
+lays_none old new before after still same = lays_quiet old new before after (subst (λ (d : Draft). Extends old d) (sym still) (extends_self old)) (same_faults old new still) (faultless_none old new still) same
 
 pub lays_still : (old new : Building) → new ≡ old → Lays old.draft new.draft old.accesses new.accesses
 lays_still old new still = lays_none old.draft new.draft old.accesses new.accesses (ap (λ (b : Building). b.draft) still) (ap (λ (b : Building). b.accesses) still)
@@ -98,10 +113,14 @@ lays_again a b c x y z h k = record {
   none = λ none. k.none (h.none none);
   long = k.long ∙ h.long;
   few = both (length a.faults) (length b.faults) (length c.faults) (touched_count x.touched.items) (touched_count y.touched.items) (touched_count z.touched.items) h.few k.few;
+  own = λ few own. k.own few (h.own (within (length b.faults) (length c.faults) (faults_grow b c k.extends) few) own);
 }
   where
     both : (f g h l m n : ℕ) → g + l ≤ f + m → h + m ≤ g + n → h + l ≤ f + n
     both f g h l m n e k = omega (arith, e, k)
+
+    within : (m n : ℕ) → m ≤ n → n ≤ 2 ^ 32 → m ≤ 2 ^ 32
+    within m n l few = omega (arith, l, few)
 
 -- Copies: only those that lead have guards.
 
@@ -249,6 +268,19 @@ module _ (scene : Scene) (around : Around) (stands : StandsIn scene around) (mem
             (formed_copies.extends.faults (length old.faults) (OutOfRange, place)
             (subst (λ (fs : List (FaultKind × Place)). slice_get fs (length old.faults) ≡ Some (OutOfRange, place)) (sym a.names.faults) (at_seam old.faults (OutOfRange, place))))
 
+    -- one fault more, which is its own
+    one_named : length new.faults ≡ length old.faults + 1
+    one_named = ap (λ (fs : List (FaultKind × Place)). length fs) (touched_faults ∙ a.names.faults) ∙ length-append old.faults ((OutOfRange, place) ∷ [])
+
+    fault_is : length new.faults ≤ 2 ^ 32 → t.fault ≡ length old.faults
+    fault_is few = a.names.number_is (let more = one_named in omega (arith, more, few))
+
+    touched_faultless : AddsFaultless old new
+    touched_faultless =
+        faultless_again old a.middle new (faultless_same old a.middle a.names.operations)
+        (faultless_counted a.middle new 0 _ _
+        (copies_counts any_register no_reach any_reach any_reach stood.leader stood.bank (copy_places stood) around.guards.now leads (length around.guards.now) a.middle new t.copies copies))
+
     new_laid : (named : List (FaultKind × Place)) → AreNamed named new → length named ≤ 2 ^ 32 → IsLaid named t
     new_laid named all few = record {
       place = place;
@@ -267,8 +299,18 @@ module _ (scene : Scene) (around : Around) (stands : StandsIn scene around) (mem
     none = t.none;
     long = t.long;
     few = by t.adds t.fresh;
+    own = λ few h. own_touch old new before after number t.extends (plain t.adds) t.long t.kept (λ m u at. known few m u (t.known m u at)) h;
   }
     where
+      plain : (new ≡ old) ⊎ ((u : Touched) × AddsTouched old new scene around stood u) → AddsFaultless old new
+      plain (inl same) = faultless_none old new same
+      plain (inr (u, a)) = touched_faultless old new u a
+
+      known : length new.faults ≤ 2 ^ 32 → (m : ℕ) (u : Touched) → (touched_in before m ≡ Some u) ⊎ IsNew old new scene around stood number m u
+          → (touched_in before m ≡ Some u) ⊎ ((m ≡ number) × ((u.fault ≡ length old.faults) × (length new.faults ≡ length old.faults + 1)))
+      known few m u (inl was) = inl was
+      known few m u (inr fresh) = inr (fresh.own, (fault_is old new u fresh.adds few, one_named old new u fresh.adds))
+
       kept : (m : ℕ) (u : Touched) → slice_get before.touched.items m ≡ Some (Some u) → (w : Touched) × (slice_get after.touched.items m ≡ Some (Some w))
       kept m u at = (u, touched_there after.touched.items m u (t.kept m u (ap touched_of at)))
 
@@ -281,7 +323,7 @@ module _ (scene : Scene) (around : Around) (stands : StandsIn scene around) (mem
       by (inr (u, a)) (inr bare) =
           let here = t.there (bare_within before number bare) in
           one_more (length new.faults) (length old.faults) (touched_count before.touched.items) (touched_count after.touched.items)
-          (ap (λ (fs : List (FaultKind × Place)). length fs) (touched_faults old new u a ∙ a.names.faults) ∙ length-append old.faults ((OutOfRange, place) ∷ []))
+          (one_named old new u a)
           (count_one before.touched.items after.touched.items number here.0 (sym t.long) kept (bare_there (slice_get before.touched.items number) bare) (touched_there after.touched.items number here.0 here.1))
 
 -- what a read gave is noted
@@ -292,6 +334,7 @@ notes_lays d before after number path value h = record {
   none = λ none. subst (λ (ns : List ℕ). AreNone ns) (sym h.counts) none;
   long = noted_long;
   few = not_fewer (length d.faults) (length d.faults) (touched_count before.touched.items) (touched_count after.touched.items) refl (count_more before.touched.items after.touched.items (sym noted_long) noted_kept);
+  own = λ few own. own_notes d before after number path value h own;
 }
   where
     noted_long : length after.touched.items ≡ length before.touched.items
@@ -352,33 +395,50 @@ folded_extends lane current held op t value old new v m =
 -- One path.
 
 module _ (scene : Scene) (lane : Lane) (stands : StandsIn scene lane.around) where
+  -- the fault of an access that got its operations
+  touched_fault : (before after : Accesses) (number : ℕ) → length after.touched.items ≡ length before.touched.items → (number < length before.touched.items → (t : Touched) × (touched_in after number ≡ Some t)) → number < length after.touched.items
+      → (t : Touched) × ((touched_in after number ≡ Some t) × (t.fault ≡ fault_in after number))
+  touched_fault before after number long touched within =
+      let t = touched (subst (λ (n : ℕ). number < n) long within) in
+      (t.0, (t.1, sym (ap (λ (o : Option Touched). fault_of_touched o) t.1)))
+
   pub read_lays : (access : Term) (memory : ℕ) (aim : Aim) (old new : Draft) (before after : Accesses) (v : ℕ) → MadeRead scene lane access memory aim old new before after v → Lays old new before after
   read_lays access memory aim old new before after v r =
       lays_again old r.first new before r.middle after (touch_lays scene lane.around stands memory (place_written access) (form_of access) false old r.first before r.middle aim.number r.touches)
-      (lays_again r.first new new r.middle r.middle after
-      (lays_quiet r.first new r.middle r.middle (extends_again r.first r.second new (pushed_extends r.first r.second _ _ _ r.probes) (found_extends scene (form_of access) r.second new memory aim (copied_in r.middle aim.number lane.number) _ v r.finds))
-      (finds_faults scene (form_of access) r.second new memory aim (copied_in r.middle aim.number lane.number) _ v r.finds ∙ r.probes.faults) refl)
-      (notes_lays new r.middle after aim.number lane.number v r.notes))
+      (lays_again r.first r.second new r.middle r.middle after
+      (lays_probe r.first r.second r.middle _ _ (reach_told memory aim []) (fault_in r.middle aim.number) r.probes (touched_fault before r.middle aim.number r.touches.long r.touches.there))
+      (lays_again r.second new new r.middle r.middle after
+      (lays_quiet r.second new r.middle r.middle (found_extends scene (form_of access) r.second new memory aim (copied_in r.middle aim.number lane.number) _ v r.finds)
+      (finds_faults scene (form_of access) r.second new memory aim (copied_in r.middle aim.number lane.number) _ v r.finds)
+      (finds_faultless scene (form_of access) r.second new memory aim (copied_in r.middle aim.number lane.number) _ v r.finds) refl)
+      (notes_lays new r.middle after aim.number lane.number v r.notes)))
 
   pub write_lays : (access : Term) (memory : ℕ) (aim : Aim) (value : ℕ) (old new : Draft) (before after : Accesses) → MadeWrite scene lane access memory aim value old new before after → Lays old new before after
   write_lays access memory aim value old new before after w =
       lays_again old w.first new before after after (touch_lays scene lane.around stands memory (place_written access) (form_of access) true old w.first before after aim.number w.touches)
-      (lays_quiet w.first new after after (extends_again w.first w.second new (pushed_extends w.first w.second _ _ _ w.probes) (pushed_extends w.second new _ _ _ w.writes)) (w.writes.faults ∙ w.probes.faults) refl)
+      (lays_again w.first w.second new after after after
+      (lays_probe w.first w.second after _ _ (reach_told memory aim []) (fault_in after aim.number) w.probes (touched_fault before after aim.number w.touches.long w.touches.there))
+      (lays_quiet w.second new after after (pushed_extends w.second new _ _ _ w.writes) w.writes.faults (faultless_pushed w.second new _ _ _ w.writes tt) refl))
 
   module _ (current : List (Option ℕ)) where
     -- what stands behind indices
     way_lays : (r : Ref) (old new : Draft) (a : Accesses) (steps : List ReachStep) → MadeWay scene lane current old new (first_view scene r) (way_of (known_in scene) r) steps → Lays old new a a
     way_lays r old new a steps m =
         lays_quiet old new a a (way_part scene lane current (way_of (known_in scene) r) (memory_of (known_in scene) r) (first_view scene r) old new a steps m).extends
-        (way_faults scene lane current (way_of (known_in scene) r) (first_view scene r) old new steps m) refl
+        (way_faults scene lane current (way_of (known_in scene) r) (first_view scene r) old new steps m)
+        (faultless_counted old new 0 _ _
+        (way_counts any_register no_reach any_reach any_reach scene lane current (way_of (known_in scene) r) (first_view scene r) (sees_any any_register no_reach any_reach any_reach (λ register. tt) scene lane (way_of (known_in scene) r)) old new steps m)) refl
 
     mutual
       pub term_lays : (t : Term) (old new : Draft) (before after : Accesses) (n next v : ℕ) → MadeTerm scene lane current t old new before after n next v → Lays old new before after
-      term_lays (plain.term place k (plain.number negative z)) old new before after n next v m = lays_quiet old new before after (number_forms (kind_or_first k) negative z old new v m.part).extends (number_faults (kind_or_first k) negative z old new v m.part) m.same
-      term_lays (plain.term place k (plain.truth_value b)) old new before after n next v m = lays_quiet old new before after (pushed_extends old new v None (Constant (truth b)) m.part) m.part.faults m.same
+      term_lays (plain.term place k (plain.number negative z)) old new before after n next v m = lays_quiet old new before after (number_forms (kind_or_first k) negative z old new v m.part).extends (number_faults (kind_or_first k) negative z old new v m.part)
+          (faultless_counted old new 0 _ _ (number_counts any_register no_reach any_reach any_reach (kind_or_first k) negative z old new v m.part)) m.same
+      term_lays (plain.term place k (plain.truth_value b)) old new before after n next v m = lays_quiet old new before after (pushed_extends old new v None (Constant (truth b)) m.part) m.part.faults (faultless_pushed old new v None (Constant (truth b)) m.part tt) m.same
       term_lays (plain.term place k (plain.named r)) old new before after n next v m =
           lays_quiet old new before after (variable_extends (counter_of scene (entity_number r.entity)) (held_at scene.held.now (entity_number r.entity)) lane current (kind_or_first k) old new v m.part)
-          (variable_faults (counter_of scene (entity_number r.entity)) (held_at scene.held.now (entity_number r.entity)) lane current (kind_or_first k) old new v m.part) m.same
+          (variable_faults (counter_of scene (entity_number r.entity)) (held_at scene.held.now (entity_number r.entity)) lane current (kind_or_first k) old new v m.part)
+          (faultless_counted old new 0 _ _
+          (variable_counts any_register no_reach any_reach any_reach (counter_of scene (entity_number r.entity)) (held_at scene.held.now (entity_number r.entity)) lane current (kind_or_first k) tt old new v m.part)) m.same
       term_lays (plain.term place k (plain.accessed r ts)) old new before after n next v m =
           lays_again old m.middle new before m.between after
           (lays_again old m.named m.middle before m.between m.between (terms_lay ts old m.named before m.between n m.aim.number m.aim.indices m.indices) (way_lays r m.named m.middle m.between m.aim.steps m.steps))
@@ -388,10 +448,12 @@ module _ (scene : Scene) (lane : Lane) (stands : StandsIn scene lane.around) whe
       term_lays (plain.term place k (plain.applied op left right)) old new before after n next v m =
           lays_again old m.middle new before m.between after (term_lays left old m.middle before m.between n m.own m.a m.first)
           (lays_again m.middle m.end new m.between after after (term_lays right m.middle m.end m.between after m.own next m.b m.second)
-          (lays_quiet m.end new after after (operation_forms op left right (kind_or_first k) m.a m.b m.end new v m.operation).extends (operation_faults op left right m.a m.b m.end new v m.operation) refl))
+          (lays_quiet m.end new after after (operation_forms op left right (kind_or_first k) m.a m.b m.end new v m.operation).extends (operation_faults op left right m.a m.b m.end new v m.operation)
+          (faultless_counted m.end new _ _ _ (operation_counts any_register no_reach any_reach any_reach op left right m.a m.b m.end new v m.operation)) refl))
       term_lays (plain.term place k (plain.converted inner to)) old new before after n next v m =
           lays_again old m.middle new before after after (term_lays inner old m.middle before after n next m.a m.operand)
-          (lays_quiet m.middle new after after (converted_extends (is_kept inner to) to m.a m.middle new v m.converts) (converted_faults (is_kept inner to) to m.a m.middle new v m.converts) refl)
+          (lays_quiet m.middle new after after (converted_extends (is_kept inner to) to m.a m.middle new v m.converts) (converted_faults (is_kept inner to) to m.a m.middle new v m.converts)
+          (converted_faultless (is_kept inner to) to m.a m.middle new v m.converts) refl)
 
       pub terms_lay : (ts : plain.Terms) (old new : Draft) (before after : Accesses) (n next : ℕ) (vs : List ℕ) → MadeTerms scene lane current ts old new before after n next vs → Lays old new before after
       terms_lay plain.no_terms old new before after n next vs m = lays_none old new before after m.still m.same
@@ -419,30 +481,33 @@ module _ (scene : Scene) (lane : Lane) (stands : StandsIn scene lane.around) whe
       → Lays old new.draft before new.accesses
   storing_lays target t value None old before new next m = lays_none old new.draft before new.accesses m.0 m.1
   storing_lays target t value (Some (aim, memory)) old before new next m =
-      lays_again old m.0 new.draft before before new.accesses (lays_quiet old m.0 before before (held_forms t _ value old m.0 m.1.0 m.1.1.0).extends (held_faults t _ value old m.0 m.1.0 m.1.1.0) refl)
+      lays_again old m.0 new.draft before before new.accesses (lays_quiet old m.0 before before (held_forms t _ value old m.0 m.1.0 m.1.1.0).extends (held_faults t _ value old m.0 m.1.0 m.1.1.0) (held_faultless t _ value old m.0 m.1.0 m.1.1.0) refl)
       (write_lays target memory aim m.1.0 m.0 new.draft before new.accesses m.1.1.1.0)
 
   pub assigned_lays : (first entity : ℕ) (t : Term) (old new : Building) (next : ℕ) → MadeAssigned scene lane first entity t old new next → Lays old.draft new.draft old.accesses new.accesses
   assigned_lays first entity t old new next m =
       lays_again old.draft m.middle new.draft old.accesses new.accesses new.accesses (term_lays old.values.current.items t old.draft m.middle old.accesses new.accesses first next m.value m.term)
-      (lays_quiet m.middle new.draft new.accesses new.accesses (held_forms t (held_at scene.held.now entity).kind m.value m.middle new.draft m.held m.holds).extends (held_faults t (held_at scene.held.now entity).kind m.value m.middle new.draft m.held m.holds) refl)
+      (lays_quiet m.middle new.draft new.accesses new.accesses (held_forms t (held_at scene.held.now entity).kind m.value m.middle new.draft m.held m.holds).extends (held_faults t (held_at scene.held.now entity).kind m.value m.middle new.draft m.held m.holds)
+      (held_faultless t (held_at scene.held.now entity).kind m.value m.middle new.draft m.held m.holds) refl)
 
   pub cleared_lays : (entity : ℕ) (old new : Building) → MadeCleared scene lane entity old new → Lays old.draft new.draft old.accesses new.accesses
   cleared_lays entity old new m =
       lays_quiet old.draft new.draft old.accesses new.accesses (number_forms (held_at scene.held.now entity).kind false 0 old.draft new.draft m.value m.number).extends
-      (number_faults (held_at scene.held.now entity).kind false 0 old.draft new.draft m.value m.number) m.same
+      (number_faults (held_at scene.held.now entity).kind false 0 old.draft new.draft m.value m.number)
+      (faultless_counted old.draft new.draft 0 _ _ (number_counts any_register no_reach any_reach any_reach (held_at scene.held.now entity).kind false 0 old.draft new.draft m.value m.number)) m.same
 
   pub reduced_lays : (first entity : ℕ) (op : Op) (t : Term) (old new : Building) (next : ℕ) → MadeReduced scene lane first entity op t old new next → Lays old.draft new.draft old.accesses new.accesses
   reduced_lays first entity op t old new next m =
       lays_again old.draft m.middle new.draft old.accesses new.accesses new.accesses (term_lays old.values.current.items t old.draft m.middle old.accesses new.accesses first next m.value m.term)
       (lays_quiet m.middle new.draft new.accesses new.accesses (folded_extends lane old.values.current.items (held_at scene.held.now entity) op t m.value m.middle new.draft m.folded m.folds)
-      (folded_faults lane old.values.current.items (held_at scene.held.now entity) op t m.value m.middle new.draft m.folded m.folds) refl)
+      (folded_faults lane old.values.current.items (held_at scene.held.now entity) op t m.value m.middle new.draft m.folded m.folds)
+      (folded_faultless lane old.values.current.items (held_at scene.held.now entity) op t m.value m.middle new.draft m.folded m.folds) refl)
 
   holds_lays : (first : ℕ) (offsets : List Term) (values : List ℕ) (old new : Draft) (a : Accesses) (held : List ℕ) → MadeHolds scene first offsets values old new held → Lays old new a a
   holds_lays first [] values old new a held m = lays_none old new a a m.0 refl
   holds_lays first (t ∷ ts) [] old new a held m = lays_none old new a a m.0 refl
   holds_lays first (t ∷ ts) (v ∷ vs) old new a held (d, (h, (more, (one, (rest, is))))) =
-      lays_again old d new a a a (lays_quiet old d a a (held_forms t (held_at scene.held.now first).kind v old d h one).extends (held_faults t (held_at scene.held.now first).kind v old d h one) refl) (holds_lays (suc first) ts vs d new a more rest)
+      lays_again old d new a a a (lays_quiet old d a a (held_forms t (held_at scene.held.now first).kind v old d h one).extends (held_faults t (held_at scene.held.now first).kind v old d h one) (held_faultless t (held_at scene.held.now first).kind v old d h one) refl) (holds_lays (suc first) ts vs d new a more rest)
 
   pub kept_lays : (first entity : ℕ) (offsets : List Term) (old new : Building) (next : ℕ) → MadeKept scene lane first entity offsets old new next → Lays old.draft new.draft old.accesses new.accesses
   kept_lays first entity offsets old new next m =
@@ -477,7 +542,8 @@ arm_lays Inner around holds tests old new first next lefts m inner =
     lays_again old.draft m.begin.draft new.draft old.accesses m.begin.accesses new.accesses
     (lays_quiet old.draft m.begin.draft old.accesses m.begin.accesses
     (subst (λ (d : Draft). Extends old.draft d) (sym m.begin_draft) (arm_guards_form holds around.guards.now tests (length tests) old.draft m.guarded m.arm.guards.now m.guards).extends)
-    (ap (λ (d : Draft). d.faults) m.begin_draft ∙ guards_faults holds around.guards.now tests (length tests) old.draft m.guarded m.arm.guards.now m.guards) m.begin_accesses)
+    (ap (λ (d : Draft). d.faults) m.begin_draft ∙ guards_faults holds around.guards.now tests (length tests) old.draft m.guarded m.arm.guards.now m.guards)
+    (subst (λ (d : Draft). AddsFaultless old.draft d) (sym m.begin_draft) (guards_faultless holds around.guards.now tests (length tests) old.draft m.guarded m.arm.guards.now m.guards)) m.begin_accesses)
     (lays_again m.begin.draft m.inside.draft new.draft m.begin.accesses m.inside.accesses new.accesses inner (lays_none m.inside.draft new.draft m.inside.accesses new.accesses m.draft m.accesses))
 
 -- All commands.
@@ -518,7 +584,8 @@ module _ (scene : Scene) where
         (other_lays other around m.tests m.after_chosen m.after_other m.behind next m.other_left s many m.other)
         (lays_quiet m.after_other.draft new.draft m.after_other.accesses new.accesses
         (choices_form m.tests m.joined.choices (length m.joined.choices) m.after_other.draft new.draft m.joined.middle new.values m.joined.choose).extends
-        (choices_faults m.tests m.joined.choices (length m.joined.choices) m.after_other.draft new.draft m.joined.middle new.values m.joined.choose) m.joined.same)))
+        (choices_faults m.tests m.joined.choices (length m.joined.choices) m.after_other.draft new.draft m.joined.middle new.values m.joined.choose)
+        (choices_faultless m.tests m.joined.choices (length m.joined.choices) m.after_other.draft new.draft m.joined.middle new.values m.joined.choose) m.joined.same)))
     action_lays (blocks body) around old new first next s m = groups_lays body around old new first next s m
     action_lays (lets_memory name shape shape_places value) around old new first next s m = lays_still old new m.still
     action_lays (views name parent form) around old new first next s m = view_lays (hidden_in (way_of (known_in scene) name)) form around old new first next s m

@@ -14,6 +14,7 @@ pub mod CommandsMultiply
 pub mod ProductsOfCore
 pub mod CommandsProbe
 pub mod FaultsKept
+pub mod FaultsOwn
 pub mod AccessesLaid
 pub mod SitesLaid
 pub mod UsesAdded

@@ -8,7 +8,7 @@ use Rattle.dh_value.specs.Operations.{Suits, result_of}
 use Rattle.dh_value.specs.Words.{IsInteger}
 use Rattle.dh_tree.specs.PlainTrees.{Term}
 use Rattle.dh_code.specs.Extended.{extension_of}
-use Rattle.dh_code.specs.Made.{same_kind}
+use Rattle.dh_tree.specs.Kinds.{same_kind}
 use Rattle.dh_code.specs.declared.places.Held.{Held}
 use Rattle.dh_code.specs.Slots.{held_at}
 use Rattle.dh_plan.specs.Blocks.{kind_at}

@@ -16,7 +16,7 @@ use Rattle.dh_meaning.specs.AccessNumbers.{term_accesses, terms_accesses}
 use Rattle.dh_meaning.specs.CoreOf.{memory_of}
 use Rattle.dh_meaning.specs.Effects.{kind_in}
 use Rattle.dh_code.specs.Extended.{extension_of}
-use Rattle.dh_code.specs.Made.{same_kind}
+use Rattle.dh_tree.specs.Kinds.{same_kind}
 use Rattle.dh_code.specs.Slots.{held_at}
 use Rattle.dh_plan.specs.Blocks.{kind_at}
 use Rattle.dh_expressions.specs.declared.drafts.Draft.{Draft}

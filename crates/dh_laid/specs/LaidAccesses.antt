@@ -21,6 +21,7 @@ use Rattle.dh_expressions.specs.Standings.{Standing}
 use Rattle.dh_commands.specs.declared.buildings.Building.{Building}
 use Rattle.dh_commands.specs.MadeCommands.{MadeCommand, MadeGroups, MadeTests}
 use Rattle.dh_laid.specs.BlockSites.{MadeEach}
+use Rattle.dh_laid.specs.LaidFaults.{HaveOwnFaults}
 use Rattle.dh_laid.specs.LaidQuiet.{StandsIn}
 
 abbrev pub copy_in : Touched → (path : ℕ) → AccessAt
@@ -64,13 +65,14 @@ touched_count (Some t ∷ ts) = suc (touched_count ts)
 
 -- What was put down keeps the operations and the faults so far at their numbers; and where all faults are those of a list
 -- that is short, it keeps that all accesses with operations are laid, and that none is counted. There are as many accesses
--- as before, and no more faults were named than accesses got operations.
+-- as before, and no more faults were named than accesses got operations; and each of those has a fault of its own.
 pub record Lays (old new : Draft) (before after : Accesses) : Type 0 where
   pub extends : Extends old new
   pub laid : (named : List (FaultKind × Place)) → AreNamed named new → length named ≤ 2 ^ 32 → AreLaid named before → AreNone before.counts.items → AreLaid named after
   pub none : AreNone before.counts.items → AreNone after.counts.items
   pub long : length after.touched.items ≡ length before.touched.items
   pub few : length new.faults + touched_count before.touched.items ≤ length old.faults + touched_count after.touched.items
+  pub own : length new.faults ≤ 2 ^ 32 → HaveOwnFaults old before → HaveOwnFaults new after
 
 abbrev pub TermsLay : Type 0
 TermsLay =

@@ -14,6 +14,8 @@ pub mod LaidProbes
 pub mod BlockSites
 -- accesses without operations
 pub mod BareCommands
+-- each access has a fault of its own
+pub mod LaidFaults
 -- accesses are laid
 pub mod LaidAccesses
 -- how often accesses are made

@@ -14,6 +14,7 @@ pub mod PlayedProgram
 pub mod LeastLengths
 pub mod Composed
 pub mod StoringSound
+pub mod StoringLiterals
 pub mod StoringTree
 pub mod FittingValues
 pub mod FittingEffects
@@ -23,3 +24,4 @@ pub mod StandingPlaces
 pub mod SteppingRuns
 pub mod SameStates
 pub mod ViewsPassed
+pub mod RolesOfRegisters

@@ -11,6 +11,7 @@ use Rattle.dh_plan.specs.DoneProgram.{IsPlanOf, MeetsAs, ChargesWithin, UsesByKe
 use Rattle.dh_plan.specs.ExamplePrograms.{storing_plan, no_slots}
 use Rattle.dh_plan.specs.ExampleTree.{storing_tree}
 use Rattle.dh_plan.specs.SoundPlans.{plan_charge}
+use Rattle.dh_plan.proofs.StoringLiterals.{storing_literals}
 use Rattle.dh_plan.proofs.StoringPlan.{storing_phases, storing_runs}
 use Rattle.dh_plan.proofs.StoringSound.{storing_sound}
 
@@ -144,4 +145,5 @@ storing_is_plan =
       uses = storing_by_keys;
       probes = storing_by_paths;
       few_faults = (let z : 1 ≤ 1 = omega arith in z);
+      literals = storing_literals;
     }

@@ -8,8 +8,6 @@ use Rattle.dh_base.specs.declared.outcomes.Outcome.TheVariants.{Stuck}
 use Rattle.dh_base.specs.declared.places.Place.{Place}
 use Rattle.dh_value.specs.declared.operators.Op.{Op}
 use Rattle.dh_value.specs.declared.operators.Op.TheVariants as op
-use Rattle.dh_value.specs.declared.words.Word.{Word}
-use Rattle.dh_tree.specs.Elements.{Spot}
 use Rattle.dh_tree.specs.Meets.{In, Apart, Before}
 use Rattle.dh_tree.specs.Memories.{memories_of, number_in, table_of}
 use Rattle.dh_tree.specs.PlainTrees.{Program}
@@ -29,17 +27,17 @@ use Rattle.dh_meets.specs.Sharing.{shared}
 use Rattle.dh_meets.specs.SourceEvents.{SourceAccess, accesses_in, trace}
 use Rattle.dh_plan.specs.declared.operations.Operation.{Operation}
 use Rattle.dh_plan.specs.declared.operations.OperationForm.{OperationForm}
-use Rattle.dh_plan.specs.declared.operations.OperationForm.TheVariants.{Constant, Old, Check, Probe, Set}
+use Rattle.dh_plan.specs.declared.operations.OperationForm.TheVariants.{Old, Check, Probe, Set}
 use Rattle.dh_plan.specs.declared.operations.PlanBlock.{PlanBlock}
 use Rattle.dh_plan.specs.declared.operations.Reach.{Reach}
-use Rattle.dh_plan.specs.Ordered.{offsets_taken}
-use Rattle.dh_plan.specs.PlainPlans.{PlainPlan, first_in, operations_in}
-use Rattle.dh_plan.specs.Blocks.{first_fault, puts_of, all_set, spot_of_reach}
+use Rattle.dh_plan.specs.PlainPlans.{PlainPlan, operations_in}
+use Rattle.dh_plan.specs.Blocks.{first_fault, puts_of, all_set}
 use Rattle.dh_plan.specs.Correspondence.{Slots, FitKinds, paths_of_rounds}
 use Rattle.dh_plan.specs.LegalSchedules.{is_product, block_clocks}
+pub use Rattle.dh_plan.specs.LiteralAccesses.{IsConstantAt, IsConstantOr, NamedByConstants, IsAlwaysInside, HasLiterals, IsOfLiterals, IsLiteralAccess, HasSourceLiterals}
 use Rattle.dh_plan.specs.PlanPhases.{Tie, AreNodesOf, DoesPhases}
-use Rattle.dh_plan.specs.PlanRuns.{plan_state, start_at, block_values, events_of_block, sets_of_block}
-use Rattle.dh_plan.specs.SoundPlans.{use_in, HasAccess, HasUse, IsSound, IsAddressed, plan_charge, IsStepOf, Counting, CountsTurns, KeepsCounter, countings}
+use Rattle.dh_plan.specs.PlanRuns.{plan_state, start_at, events_of_block, sets_of_block}
+use Rattle.dh_plan.specs.SoundPlans.{use_in, HasUse, IsSound, IsAddressed, plan_charge, IsStepOf, Counting, CountsTurns, KeepsCounter, countings}
 use Rattle.dh_meaning.specs.Core.{by_views, keep}
 use Rattle.dh_meaning.specs.Ways.{all_bindings_of}
 
@@ -202,6 +200,8 @@ pub record IsPlanOf (p : Program) (plan : PlainPlan) : Type 0 where
   pub uses : UsesByKeys p plan
   pub probes : ProbesByPaths p plan
   pub few_faults : length plan.faults ≤ accesses_of p.body
+  -- accesses of literals are so in the plan
+  pub literals : HasSourceLiterals p plan
 
 -- What the pass that makes banks and rows states of its plan.
 
@@ -239,42 +239,6 @@ pub record RunTheSame (p q : PlainPlan) : Type 0 where
   pub steps : (memories : List (List ℕ)) (n : ℕ) → Fits p.table memories → (plan_state q memories n).steps ≡ (plan_state p memories n).steps
   pub memories_same : (memories : List (List ℕ)) (n : ℕ) → Fits p.table memories → (plan_state q memories n).memories ≡ (plan_state p memories n).memories
   pub places : (memories : List (List ℕ)) (n : ℕ) → Fits p.table memories → (plan_state q memories n).place ≡ (plan_state p memories n).place
-
--- the value of this number is a constant of the block; under a guard it would be one of two values
-pub record IsConstantAt (plan : PlainPlan) (block number : ℕ) : Type 0 where
-  pub place : ℕ
-  pub own : number ≡ first_in plan block + place
-  pub word : Word
-  pub there : slice_get (operations_in plan block) place ≡ Some (record { guard = None; form = Constant word })
-
-abbrev pub IsConstantOr : PlainPlan → (block : ℕ) → Option ℕ → Type 0
-IsConstantOr plan block None = Unit {0}
-IsConstantOr plan block (Some number) = IsConstantAt plan block number
-
--- the element is named by constants: by indices and offsets, or by a row and the bank that is picked
-abbrev pub NamedByConstants : PlainPlan → (block : ℕ) → Reach → (row : Option ℕ) → Type 0
-NamedByConstants plan block r None = AllByRecursion (IsConstantAt plan block) r.indices × AllByRecursion (IsConstantAt plan block) (offsets_taken r.steps)
-NamedByConstants plan block r (Some row) = IsConstantAt plan block row × IsConstantOr plan block r.select
-
--- an access leads to an element, whatever registers and memories hold
-abbrev pub IsAlwaysInside : PlainPlan → (block : ℕ) → Reach → Type 0
-IsAlwaysInside plan block r =
-    (registers : List ℕ) (memories : List (List ℕ))
-    → (spot : Spot) × (spot_of_reach (start_at plan registers memories) (first_in plan block) (block_values plan (start_at plan registers memories) block) r ≡ Some spot)
-
--- so is an access of a literal: every literal index of an accepted program is within its memory's sizes
-pub record HasLiterals (plan : PlainPlan) (block : ℕ) (r : Reach) : Type 0 where
-  pub constants : NamedByConstants plan block r r.row
-  pub inside : IsAlwaysInside plan block r
-
--- a fault that probes of such accesses alone can have
-pub record IsOfLiterals (plan : PlainPlan) (fault : ℕ) : Type 0 where
-  pub probes : (b i : ℕ) (guard : Option ℕ) (r : Reach) → slice_get (operations_in plan b) i ≡ Some (record { guard = guard; form = Probe r fault }) → HasLiterals plan b r
-  pub checks : (b i ok : ℕ) (guard : Option ℕ) → slice_get (operations_in plan b) i ≡ Some (record { guard = guard; form = Check ok fault }) → ⊥
-
--- an access of the program of which all copies are so
-abbrev pub IsLiteralAccess : PlainPlan → (number : ℕ) → Type 0
-IsLiteralAccess plan number = (b i : ℕ) (r : Reach) → HasAccess plan b i r → r.access ≡ number → HasLiterals plan b r
 
 -- no check of the new plan has such a fault, and the banks and rows of such an access are constants there
 pub record KeepsLiterals (p q : PlainPlan) : Type 0 where

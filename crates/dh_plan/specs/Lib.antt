@@ -12,7 +12,9 @@ pub mod Ways
 pub mod PlanKinds
 pub mod SoundPlans
 pub mod BoundPorts
+pub mod LiteralAccesses
 pub mod DoneProgram
+pub mod RegisterRoles
 pub mod SeenGraphs
 pub mod PlanSizes
 pub mod PlayedPlans

@@ -2,11 +2,10 @@
 -- and each cast and reducer; an access counts 1 and the banks that it charges. Everything counts once for each
 -- copy, and loops without turns count, too. (This profile.)
 use Rattle.std.specs.Prelude.{ℕ, zero, suc, ◌+◌, ◌*◌, ◌<◌, nat_lt, min, if◌then◌else◌, List, [], ◌∷◌, length, Option, Some, None}
-use Rattle.dh_tree.specs.Elements.{banks_of}
-use Rattle.dh_tree.specs.Memories.{memory_in, memories_of, Memory}
+use Rattle.dh_tree.specs.Memories.{memory_in, memories_of}
 use Rattle.dh_tree.specs.PlainTrees.{Term, term, TermForm, number, truth_value, named, accessed, in_bank, applied, converted, Terms, no_terms, term_then, Action, action, ActionForm, lets, lets_memory, views, assigns, stores, reduces, calls, blocks, decides, repeats, counts, MaybeAction, no_action, one_action, Actions, no_actions, action_then, Groups, no_groups, group_then, Program}
 use Rattle.dh_meaning.specs.Ways.{base_of, way_to}
-use Rattle.dh_meets.specs.Charges.{charge, paths_of}
+use Rattle.dh_meets.specs.Charges.{charge, paths_of, memory_banks}
 use Rattle.dh_meets.specs.SourceEvents.{SourceAccess, accesses_in, trace}
 use Rattle.dh_tree.specs.Seen.{terms}
 use Rattle.dh_tree.specs.ViewOffsets.{offsets_of}
@@ -84,10 +83,6 @@ abbrev mutual
 abbrev pub banks_charged : Program → (memory access : ℕ) → (banks : ℕ) → ℕ
 banks_charged p memory access zero = 0
 banks_charged p memory access (suc bank) = (if nat_lt 0 (charge p memory bank access) then 1 else 0) + banks_charged p memory access bank
-
-abbrev pub memory_banks : Option Memory → ℕ
-memory_banks None = 0
-memory_banks (Some m) = banks_of m.shape.dims
 
 abbrev pub entity_banks_charged : Program → (access : ℕ) → (entity : Option ℕ) → ℕ
 entity_banks_charged p access None = 0

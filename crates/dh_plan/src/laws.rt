@@ -1,11 +1,6 @@
 //! Laws on plans, stated on functions that do nothing.
 
-ghost use Rattle.std.specs.Prelude.{◌≡◌, List, ℤ};
-ghost use Rattle.dh_tree.specs.declared.viewing.ViewMap.{ViewMap};
-ghost use Rattle.dh_meaning.specs.Effects.{indices_through};
-ghost use Rattle.dh_meaning.specs.Ways.{Step};
-ghost use Rattle.dh_plan.specs.Passages.{Passage, indices_behind};
-ghost use Rattle.dh_plan.specs.WaysPassed.{AreOfSteps};
+ghost use Rattle.std.specs.Prelude.{List};
 ghost use Rattle.dh_tree.specs.PlainTrees.{Program};
 ghost use Rattle.dh_meaning.specs.Core.{CoreProgram};
 ghost use Rattle.dh_plan.specs.declared.operations.Operation.{Operation};
@@ -17,8 +12,10 @@ ghost use Rattle.dh_plan.specs.DoneProgram.{PhasesMakeRuns};
 ghost use Rattle.dh_plan.specs.PassesCompose.{PassesCompose};
 ghost use Rattle.dh_plan.specs.PlainPlans.{PlainPlan};
 ghost use Rattle.dh_plan.specs.PlayedPlans.{PlansPlayPrograms};
+ghost use Rattle.dh_plan.specs.RegisterRoles.{PhasesGiveRoles};
 ghost use Rattle.dh_plan.specs.ScheduleLaws.{LeastIsLegal, HasLeastLengths};
 ghost use Rattle.dh_plan.specs.SoundRuns.{BlockValuesFit, PlanValuesFit, BlocksStepAlone, RunsMakeSteps};
+ghost use Rattle.dh_plan.specs.WaysPassed.{WaysArePassed};
 
 /// Where each operation of a block takes earlier values, its values are the one solution of its equations, whatever
 /// reads show by values before them; in a plan they show what is in memories.
@@ -43,6 +40,12 @@ pub fn pieces_come_in_order()
 /// A plan that does the phases of a program one for one runs as the program, from whatever memories.
 pub fn phases_make_runs()
     ensures { (c : CoreProgram) (plan : PlainPlan) (slots : Slots) → PhasesMakeRuns c plan slots }
+{}
+
+/// Each register that a block of such a plan sees or sets is that of a variable at a path, or of an offset that a view keeps
+/// there, or counts the turns of a loop, or tells a test.
+pub fn registers_have_roles()
+    ensures { PhasesGiveRoles }
 {}
 
 /// Each value of a well-formed block is of the kind of its operation and fits it, where registers fit, and what
@@ -86,8 +89,5 @@ pub fn passes_compose()
 /// A plan's way through views is that of the meaning, where its passages are of the steps.
 #[tactic(auto, using(crate::proofs::ViewsPassed::passed))]
 pub fn ways_are_passed()
-    ensures { (views : List ViewMap) (steps : List Step) (passages : List Passage)
-        (offsets indices : List ℤ)
-        → AreOfSteps views steps passages offsets
-        → indices_behind views passages indices ≡ indices_through steps indices offsets }
+    ensures { WaysArePassed }
 {}

@@ -22,7 +22,7 @@ pub use graphs::{Decision, Graph, Group, State};
 pub use laws::{
     block_values_fit, blocks_do_by_values, blocks_have_one_solution, least_clocks_are_legal,
     passes_compose, phases_make_runs, pieces_come_in_order, plans_play_programs, plans_run_alike,
-    runs_make_steps, ways_are_passed,
+    registers_have_roles, runs_make_steps, ways_are_passed,
 };
 pub use operations::{ApartReach, Operation, OperationForm, PlanBlock, Reach, ReachStep};
 pub use plans::{Meets, Node, Plan};

@@ -34,4 +34,8 @@ pub mod NodesCharge
 pub mod SitesOfPlan
 pub mod NodesMultiply
 pub mod StraightsMultiply
+pub mod StillViews
+pub mod BlocksWithin
+pub mod LiteralIndices
+pub mod LiteralsStand
 pub mod PlansMade

@@ -14,7 +14,7 @@ use Rattle.dh_meaning.specs.CoreOf.{core_of}
 use Rattle.dh_meaning.specs.Ways.{all_entities_of}
 use Rattle.dh_sound.proofs.KeptPrograms.{ready_kept}
 use Rattle.dh_plan.specs.declared.operations.PlanBlock.{PlanBlock}
-use Rattle.dh_plan.specs.DoneProgram.{IsPlanOf, ChargesWithin, UsesByKeys, ProbesByPaths, RunsAs}
+use Rattle.dh_plan.specs.DoneProgram.{IsPlanOf, ChargesWithin, HasSourceLiterals, UsesByKeys, ProbesByPaths, RunsAs}
 use Rattle.dh_plan.specs.Passes.{IsToCompile}
 use Rattle.dh_plan.specs.PlainPlans.{Nodes, PlainPlan}
 use Rattle.dh_plan.specs.PlanPhases.{AreNodesOf, DoesPhases}
@@ -57,6 +57,7 @@ use Rattle.dh_told.specs.PlansTold.{IsOfReady}
 use Rattle.dh_told.specs.ScenesKnown.{AreHeldInOrder, HaveTheirKinds}
 use Rattle.dh_told.proofs.BlocksTold.{plans_told}
 use Rattle.dh_told.proofs.CoreHere.{core_here}
+use Rattle.dh_told.proofs.LiteralsStand.{made_plans_have_literals}
 use Rattle.dh_told.proofs.NamedDirectly.{ready_rows}
 use Rattle.dh_told.proofs.PlansFormed.{plans_formed}
 use Rattle.dh_told.proofs.PlansLast.{plans_last}
@@ -160,6 +161,12 @@ module _ (scene : Scene) (count : ℕ) (phased : Phased) (plan : PlainPlan) (ask
   pub runs : RunsAs (core_of p) plan
   runs = phases_make_runs (core_of p) plan (slots_in scene) put.table formed.counters.wide formed.counters_kept done (accepted_never_stuck p asked.ready asked.ports)
 
+  few_named : length of.final.building.draft.faults ≤ 2 ^ 32
+  few_named = subst (λ (fs : List (FaultKind × Place)). length fs ≤ 2 ^ 32) (put.faults ∙ of.faults) (let own = few in let accesses = few_accesses scene asked in omega (arith, own, accesses))
+
+  pub literals : HasSourceLiterals p plan
+  literals = made_plans_have_literals scene of.final plan is_made once asked.ready put.table formed (of.owned few_named) (of.accesses ∙ made.shares.long)
+
   pub plan_of : IsPlanOf p plan
   plan_of = record {
     table = put.table;
@@ -174,6 +181,7 @@ module _ (scene : Scene) (count : ℕ) (phased : Phased) (plan : PlainPlan) (ask
     uses = used.0;
     probes = used.1;
     few_faults = few;
+    literals = literals;
   }
 
   pub sized : AllByRecursion IsKind plan.registers

@@ -8,3 +8,6 @@ pub mod PlansUsed
 pub mod NodesMade
 pub mod BlocksReach
 pub mod NodesReach
+pub mod AimsAdded
+pub mod CommandsAim
+pub mod PlansAim

@@ -433,12 +433,12 @@ blocks_are_sited scene around cs old new m is stand = record {
 -- Tests.
 
 -- the events of a command with a test begin with those of the test
-record BeginsWithTest (r : source.Around) (c : Action) (t : Term) : Type 0 where
-  site : events.Site
-  rest : List SourceEvent
-  are : events r c ≡ term_events site t ++ rest
+pub record BeginsWithTest (r : source.Around) (c : Action) (t : Term) : Type 0 where
+  pub site : events.Site
+  pub rest : List SourceEvent
+  pub are : events r c ≡ term_events site t ++ rest
 
-test_begins : (r : source.Around) (c : Action) (t : Term) → test_of (form_of c) ≡ Some t → BeginsWithTest r c t
+pub test_begins : (r : source.Around) (c : Action) (t : Term) → test_of (form_of c) ≡ Some t → BeginsWithTest r c t
 test_begins r (action id place (decides test chosen other)) t e = let same : test ≡ t = cc in record {
   site = site_of r id;
   rest = events (in_arm r id true) chosen ++ other_events (in_arm r id false) other;

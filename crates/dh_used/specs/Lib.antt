@@ -7,3 +7,5 @@ pub mod UsedPlans
 -- plans as they are made
 pub mod MadePlans
 pub mod SourceReaches
+-- how they name elements
+pub mod SourceAims

@@ -1,6 +1,7 @@
 //! Laws on how often accesses are made, stated on functions that do nothing.
 
 ghost use Rattle.dh_used.specs.MadePlans.{MadeNodesUse, MadePlansUse};
+ghost use Rattle.dh_used.specs.SourceAims.{MadePlansAim};
 ghost use Rattle.dh_used.specs.SourceReaches.{MadePlansReach};
 ghost use Rattle.dh_used.specs.SourceSites.{BlocksAreSited, TestsAreSited};
 ghost use Rattle.dh_used.specs.UsedBlocks.{StraightsUseAsMade, TestsUseAsMade};
@@ -35,4 +36,9 @@ pub fn made_plans_use_by_keys()
 /// It reaches memories of accesses of the source, each as its access does.
 pub fn made_plans_reach_the_source()
     ensures { MadePlansReach }
+{}
+
+/// It names their elements as they do: a literal index or row is a constant, put down without a guard.
+pub fn made_plans_aim_as_the_source()
+    ensures { MadePlansAim }
 {}

@@ -5,6 +5,6 @@
 mod laws;
 
 pub use laws::{
-    blocks_use_as_made, made_plans_reach_the_source, made_plans_use_by_keys, plans_use_by_keys,
-    sites_are_of_the_source,
+    blocks_use_as_made, made_plans_aim_as_the_source, made_plans_reach_the_source,
+    made_plans_use_by_keys, plans_use_by_keys, sites_are_of_the_source,
 };
