@@ -7,13 +7,13 @@ use Rattle.std.proofs.lemmas.Iterator.Adapters.{position_from-zero}
 use Rattle.dh_events.specs.declared.classes.Key.{Key}
 use Rattle.dh_events.specs.Classes.{Finds}
 
-absurd : {A : Type 0} → ⊥ → A
+pub absurd : {A : Type 0} → ⊥ → A
 absurd e = elim e [ ]
 
 pub some_same : {X : Type 0} (x y : X) → Some x ≡ Some y → x ≡ y
 some_same x y e = cc
 
-all_there : {X : Type 0} (P : X → Type 0) (xs : List X) (n : ℕ) (x : X) → AllByRecursion P xs → slice_get xs n ≡ Some x → P x
+pub all_there : {X : Type 0} (P : X → Type 0) (xs : List X) (n : ℕ) (x : X) → AllByRecursion P xs → slice_get xs n ≡ Some x → P x
 all_there P [] n x a e = cc
 all_there {X} P (y ∷ xs) zero x a e = subst (λ (z : X). P z) (some_same y x e) a.0
 all_there P (y ∷ xs) (suc n) x a e = all_there P xs n x a.1 e

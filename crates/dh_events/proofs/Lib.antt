@@ -3,6 +3,7 @@ pub mod NotedFacts
 pub mod ElementFacts
 pub mod StageFacts
 pub mod KeyFacts
+pub mod PhasedKeys
 pub mod RoundFacts
 pub mod KnownFacts
 pub mod IndexFacts

@@ -10,7 +10,7 @@ use Rattle.dh_meaning.specs.Phases.{turn_count}
 use Rattle.dh_events.specs.declared.dependence.Scope.{Scope}
 use Rattle.dh_events.specs.Rounds.{form_rounds, header_loop, inside_loop, noted_loop, other_rounds, own_loops, rounds_in, with_round}
 use Rattle.dh_events.specs.Scopes.{form_scopes, other_scopes, scope, scopes_in, told_inside, with_scope}
-use Rattle.dh_events.specs.Stages.{form_stage, loop_stage, other_stage, stage_of}
+use Rattle.dh_tree.specs.PhaseKinds.{phase_kind, form_phase_kind, other_phase_kind, turns_kind}
 use Rattle.dh_events.proofs.ScopeFacts.{loop_noted}
 
 -- one more command of a part, by what is noted of one and of those behind it
@@ -33,12 +33,12 @@ set_once false f id x y = refl
 
 -- a loop
 module _ (h : LoopHeader) (body : Action) (combine : MaybeAction) (form : ActionForm) (is : form ≡ counts_seen h body combine) where
-  pub loop_stands : (turns turn joins own : ℕ) → turns ≡ turn_count h.low h.high h.factor → turn ≡ stage_of body → joins ≡ other_stage combine → own ≡ loop_stage turns turn joins → own ≡ form_stage form
+  pub loop_stands : (turns turn joins own : ℕ) → turns ≡ turn_count h.low h.high h.factor → turn ≡ phase_kind body → joins ≡ other_phase_kind combine → own ≡ turns_kind turns turn joins → own ≡ form_phase_kind form
   loop_stands turns turn joins own turns_are turn_is joins_are own_is =
       own_is
-      ∙ (ap (λ n. loop_stage n turn joins) turns_are
-      ∙ (ap (λ n. loop_stage (turn_count h.low h.high h.factor) n joins) turn_is
-      ∙ (ap (λ n. loop_stage (turn_count h.low h.high h.factor) (stage_of body) n) joins_are ∙ ap (λ x. form_stage x) (sym is))))
+      ∙ (ap (λ n. turns_kind n turn joins) turns_are
+      ∙ (ap (λ n. turns_kind (turn_count h.low h.high h.factor) n joins) turn_is
+      ∙ (ap (λ n. turns_kind (turn_count h.low h.high h.factor) (phase_kind body) n) joins_are ∙ ap (λ x. form_phase_kind x) (sym is))))
 
   pub loop_within : (outer own shown within : List Counter) → own ≡ own_loops outer (header_loop h) → shown ≡ own → within ≡ (if nat_lt 1 h.factor then shown else outer) → within ≡ inside_loop outer (header_loop h)
   loop_within outer own shown within own_is shows chosen =

@@ -10,3 +10,4 @@ pub mod Digests
 pub mod AlikeDigests
 pub mod Rounds
 pub mod Scopes
+pub mod Depending

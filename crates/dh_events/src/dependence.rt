@@ -1,14 +1,9 @@
 //! On the copies of which loops the value of an expression depends.
 
-ghost use Rattle.std.specs.Prelude.{◌≡◌, [], ◌||◌, ◌+◌, ◌++◌, ◌<◌, ◌≤◌, ℕ, List, Some, IfOk, OnOk, length, map, min, option_map};
-ghost use Rattle.dh_tree.specs.PlainTrees.{Action};
-ghost use Rattle.dh_tree.specs.Seen.{action_seen, form_seen, part_seen, groups, maybe_seen, term_seen, terms};
-ghost use Rattle.dh_meaning.specs.Bindings.{bindings, Binding};
-ghost use Rattle.dh_meaning.specs.Ways.{hidden_binding, led_binding};
-ghost use Rattle.dh_meets.specs.Charges as charges;
-ghost use Rattle.dh_ways.specs.Seen.{hidden_seen, led_seen};
-ghost use Rattle.dh_events.specs.Accesses.{element_in, entity_in};
-ghost use Rattle.dh_events.specs.Scopes.{groups_scopes, hidden_scopes, led_scopes, most_depth, other_scopes, scope, scope_at, scopes_in, told_inside, with_scope, AreScopes, IsDepth, IsLow, MakeScopes};
+ghost use Rattle.std.specs.Prelude.{◌≡◌, ◌<◌, ◌≤◌, Some, IfOk, OnOk, length, map, min};
+ghost use Rattle.dh_tree.specs.Seen.{action_seen, part_seen, groups, maybe_block_seen};
+ghost use Rattle.dh_events.specs.Depending.{all_bindings, AddsWays, TellsAccessDepends, TellsAnyDepends, TellsEntityDepends, TellsValueDepends, TellsVariableDepends};
+ghost use Rattle.dh_events.specs.Scopes.{groups_scopes, hidden_scopes, led_scopes, most_depth, other_scopes, scope, scope_at, scopes_in, told_inside, with_scope, AreScopes, MakeScopes};
 
 use dh_base::NoMemory;
 use dh_tree::{Command, CommandForm, Expr, ExprForm, Ref};
@@ -201,7 +196,7 @@ fn note_other(
     other: &Option<Box<Command>>,
 ) -> Result<(), NoMemory>
     ensures { OnOk result (MakeScopes scopes.old scopes.new
-        (other_scopes depth (maybe_seen (option_map (λ b. action_seen b.value) other.now)))) }
+        (other_scopes depth (maybe_block_seen other.now))) }
 {
     match other {
         Some(block) => note_scopes(scopes, depth, block),
@@ -234,10 +229,7 @@ pub fn note_ways(
     ways: &WayTable,
     hidden: &[Hidden],
 ) -> Result<(), NoMemory>
-    ensures { OnOk result ((body : Action) → scope_at scopes.old.items
-        ≡ scopes_in 0 body (scope_at []) → AreScopes (bindings 0 body
-        ++ (map led_binding (map led_seen ways.now)
-        ++ map hidden_binding (map hidden_seen hidden.now))) scopes.new.items) }
+    ensures { OnOk result (AddsWays ways.now hidden.now scopes.old.items scopes.new.items) }
 {
     note_led(scopes, ways)?;
     note_hidden(scopes, hidden)?;
@@ -252,9 +244,8 @@ pub fn scopes_of(
     ways: &WayTable,
     hidden: &[Hidden],
 ) -> Result<Vec<Option<Scope>>, NoMemory>
-    ensures { IfOk result (λ scopes. AreScopes (bindings 0 (action_seen body.now)
-        ++ (map led_binding (map led_seen ways.now)
-        ++ map hidden_binding (map hidden_seen hidden.now))) scopes.items) }
+    ensures { IfOk result (λ scopes. AreScopes
+        (all_bindings (action_seen body.now) ways.now hidden.now) scopes.items) }
 {
     let mut scopes = Vec::new(alloc);
     note_scopes(&mut scopes, 0, body)?;
@@ -264,8 +255,7 @@ pub fn scopes_of(
 
 /// Whether a variable depends on the loop of a level.
 fn scope_depends(scope: Scope, level: usize) -> bool
-    ensures { (d : ℕ) → IsLow level → IsDepth scope.depth d
-        → result ≡ charges.variable_depends d level scope.iterates }
+    ensures { TellsVariableDepends scope level result }
 {
     match scope.iterates {
         Some(factor) => factor > 1 && level < scope.depth && level == scope.depth - 1,
@@ -275,8 +265,7 @@ fn scope_depends(scope: Scope, level: usize) -> bool
 
 /// Whether what a name stands for depends on the loop of a level.
 fn entity_depends(scopes: &[Option<Scope>], level: usize, entity: Option<u32>) -> bool
-    ensures { (bs : List Binding) → IsLow level → AreScopes bs scopes.now
-        → result ≡ charges.entity_depends bs level entity }
+    ensures { TellsEntityDepends scopes.now level entity result }
 {
     match entity {
         Some(entity) => {
@@ -298,8 +287,7 @@ fn entity_depends(scopes: &[Option<Scope>], level: usize, entity: Option<u32>) -
 #[cycle(depending)]
 #[tactic(auto, using(dh_tree::proofs::SeenTerms::terms_are))]
 fn depends(scopes: &[Option<Scope>], level: usize, expr: &Expr) -> bool
-    ensures { (bs : List Binding) → IsLow level → AreScopes bs scopes.now
-        → result ≡ charges.term_depends bs level (term_seen expr.now) }
+    ensures { TellsValueDepends scopes.now level expr.now result }
 {
     match &expr.form {
         ExprForm::Number { .. } | ExprForm::Truth { .. } => false,
@@ -319,8 +307,7 @@ fn depends(scopes: &[Option<Scope>], level: usize, expr: &Expr) -> bool
 /// Whether one of these depends on it.
 #[cycle(depending)]
 fn any_depends(scopes: &[Option<Scope>], level: usize, exprs: &[Expr]) -> bool
-    ensures { (bs : List Binding) → IsLow level → AreScopes bs scopes.now
-        → result ≡ charges.terms_depend bs level (terms (map term_seen exprs.now)) }
+    ensures { TellsAnyDepends scopes.now level exprs.now result }
 {
     for expr in exprs {
         if depends(scopes, level, expr) {
@@ -334,9 +321,7 @@ fn any_depends(scopes: &[Option<Scope>], level: usize, exprs: &[Expr]) -> bool
 /// those of the commands on its way.
 #[tactic(auto, using(dh_tree::proofs::SeenTerms::terms_are))]
 pub fn access_depends(scopes: &[Option<Scope>], level: usize, access: &Expr, writes: bool) -> bool
-    ensures { (bs : List Binding) → IsLow level → AreScopes bs scopes.now → result
-        ≡ (writes || (charges.entity_depends bs level (entity_in (form_seen access.now.form))
-        || charges.element_depends bs level (element_in (form_seen access.now.form)))) }
+    ensures { TellsAccessDepends scopes.now level access.now writes result }
 {
     if writes {
         return true;

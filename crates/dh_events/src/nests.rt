@@ -1,11 +1,12 @@
 //! What one walk over commands notes of them: how many phases they have, which unrolled loops stand
 //! round what, and where variables are declared.
 
-ghost use Rattle.std.specs.Prelude.{◌≡◌, [], if◌then◌else◌, nat_lt, IfOk, OnOk, map, option_map};
-ghost use Rattle.dh_tree.specs.Seen.{action_form_seen, action_seen, part_seen, groups, maybe_seen};
+ghost use Rattle.std.specs.Prelude.{◌≡◌, [], if◌then◌else◌, nat_lt, IfOk, OnOk, map};
+ghost use Rattle.dh_tree.specs.Seen.{action_form_seen, action_seen, part_seen, groups, maybe_block_seen};
 ghost use Rattle.dh_events.specs.Rounds.{form_rounds, groups_rounds, header_loop, own_loops as loops_of_own, other_rounds, rounds_in, with_round, AreRounds};
 ghost use Rattle.dh_events.specs.Scopes.{form_scopes, groups_scopes, other_scopes, scopes_in, MakeScopes};
-ghost use Rattle.dh_events.specs.Stages.{form_stage, form_stages, groups_stage, groups_stages, other_stage, other_stages, stage_of, stages_in};
+ghost use Rattle.dh_events.specs.Stages.{form_stages, groups_stages, other_stages, stages_in};
+ghost use Rattle.dh_tree.specs.PhaseKinds.{phase_kind, form_phase_kind, other_phase_kind, groups_phase_kind};
 ghost use Rattle.dh_events.specs.Tables.{AreNumbers};
 
 use crate::dependence::{Scope, declare, declare_iterator};
@@ -104,7 +105,7 @@ pub fn note_nests(
 ) -> Result<usize, NoMemory>
     ensures noted { OnOk result (AreNumbers nests.old.stages nests.new.stages
         (stages_in (action_seen command.now))) }
-    ensures own { IfOk result (λ own. own ≡ stage_of (action_seen command.now)) }
+    ensures own { IfOk result (λ own. own ≡ phase_kind (action_seen command.now)) }
     ensures rounds { OnOk result (AreRounds nests.old.rounds nests.new.rounds
         (rounds_in outer.now (action_seen command.now))) }
     ensures scopes { OnOk result (MakeScopes nests.old.scopes nests.new.scopes
@@ -138,7 +139,7 @@ fn note_inside(
 ) -> Result<usize, NoMemory>
     ensures noted { OnOk result (AreNumbers nests.old.stages nests.new.stages
         (stages_in (action_seen command.now))) }
-    ensures own { IfOk result (λ own. own ≡ stage_of (action_seen command.now)) }
+    ensures own { IfOk result (λ own. own ≡ phase_kind (action_seen command.now)) }
     ensures rounds { OnOk result (AreRounds nests.old.rounds nests.new.rounds
         (rounds_in outer.now (action_seen command.now))) }
     ensures scopes { OnOk result (MakeScopes nests.old.scopes nests.new.scopes
@@ -162,7 +163,7 @@ fn note_form(
 ) -> Result<usize, NoMemory>
     ensures noted { OnOk result (AreNumbers nests.old.stages nests.new.stages
         (form_stages (action_form_seen form.now))) }
-    ensures own { IfOk result (λ own. own ≡ form_stage (action_form_seen form.now)) }
+    ensures own { IfOk result (λ own. own ≡ form_phase_kind (action_form_seen form.now)) }
     ensures rounds { OnOk result (AreRounds nests.old.rounds nests.new.rounds
         (form_rounds outer.now id (action_form_seen form.now))) }
     ensures scopes { OnOk result (MakeScopes nests.old.scopes nests.new.scopes
@@ -218,13 +219,12 @@ fn note_other(
     other: &Option<Box<Command>>,
 ) -> Result<usize, NoMemory>
     ensures noted { OnOk result (AreNumbers nests.old.stages nests.new.stages
-        (other_stages (maybe_seen (option_map (λ b. action_seen b.value) other.now)))) }
-    ensures own { IfOk result (λ own. own
-        ≡ other_stage (maybe_seen (option_map (λ b. action_seen b.value) other.now))) }
+        (other_stages (maybe_block_seen other.now))) }
+    ensures own { IfOk result (λ own. own ≡ other_phase_kind (maybe_block_seen other.now)) }
     ensures rounds { OnOk result (AreRounds nests.old.rounds nests.new.rounds
-        (other_rounds outer.now (maybe_seen (option_map (λ b. action_seen b.value) other.now)))) }
+        (other_rounds outer.now (maybe_block_seen other.now))) }
     ensures scopes { OnOk result (MakeScopes nests.old.scopes nests.new.scopes
-        (other_scopes depth (maybe_seen (option_map (λ b. action_seen b.value) other.now)))) }
+        (other_scopes depth (maybe_block_seen other.now))) }
 {
     match other {
         Some(block) => note_nests(alloc, nests, outer, depth, block),
@@ -243,7 +243,7 @@ fn note_parts(
 ) -> Result<usize, NoMemory>
     ensures noted { OnOk result (AreNumbers nests.old.stages nests.new.stages
         (groups_stages (groups (map part_seen parts.now)))) }
-    ensures own { IfOk result (λ own. own ≡ groups_stage (groups (map part_seen parts.now))) }
+    ensures own { IfOk result (λ own. own ≡ groups_phase_kind (groups (map part_seen parts.now))) }
     ensures rounds { OnOk result (AreRounds nests.old.rounds nests.new.rounds
         (groups_rounds outer.now (groups (map part_seen parts.now)))) }
     ensures scopes { OnOk result (MakeScopes nests.old.scopes nests.new.scopes

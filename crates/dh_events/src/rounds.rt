@@ -1,7 +1,7 @@
 //! Which unrolled loops stand round what.
 
-ghost use Rattle.std.specs.Prelude.{◌≡◌, ◌++◌, ◌∷◌, [], ◌≤◌, IfOk, OnOk, length, map, option_map};
-ghost use Rattle.dh_tree.specs.Seen.{action_seen, part_seen, groups, maybe_seen};
+ghost use Rattle.std.specs.Prelude.{◌≡◌, ◌++◌, ◌∷◌, [], ◌≤◌, IfOk, OnOk, length, map};
+ghost use Rattle.dh_tree.specs.Seen.{action_seen, part_seen, groups, maybe_block_seen};
 ghost use Rattle.dh_events.specs.Accesses.{loops_in};
 ghost use Rattle.dh_events.specs.Rounds.{groups_rounds, other_rounds, rounds_in, with_round, AreRounds};
 
@@ -112,7 +112,7 @@ fn note_other(
     other: &Option<Box<Command>>,
 ) -> Result<(), NoMemory>
     ensures { OnOk result (AreRounds rounds.old rounds.new
-        (other_rounds outer.now (maybe_seen (option_map (λ b. action_seen b.value) other.now)))) }
+        (other_rounds outer.now (maybe_block_seen other.now))) }
 {
     match other {
         Some(block) => note_rounds(alloc, rounds, outer, block),

@@ -1,9 +1,10 @@
 //! How many phases the commands of a program have, by their numbers.
 
-ghost use Rattle.std.specs.Prelude.{◌≡◌, ◌+◌, if◌then◌else◌, IfOk, OnOk, map, min, option_map};
-ghost use Rattle.dh_tree.specs.Seen.{action_form_seen, action_seen, part_seen, plan_seen, groups, maybe_seen};
+ghost use Rattle.std.specs.Prelude.{◌≡◌, ◌+◌, if◌then◌else◌, IfOk, OnOk, map, min};
+ghost use Rattle.dh_tree.specs.Seen.{action_form_seen, action_seen, part_seen, plan_seen, groups, maybe_block_seen};
 ghost use Rattle.dh_tree.specs.ViewOffsets as offsets;
-ghost use Rattle.dh_events.specs.Stages.{choice_stage, form_stage, form_stages, groups_stage, groups_stages, loop_stage, other_stage, other_stages, stage_of, stages_in};
+ghost use Rattle.dh_events.specs.Stages.{form_stages, groups_stages, other_stages, stages_in};
+ghost use Rattle.dh_tree.specs.PhaseKinds.{phase_kind, form_phase_kind, other_phase_kind, groups_phase_kind, choice_kind, turns_kind};
 ghost use Rattle.dh_events.specs.Tables.{AreNumbers};
 
 use crate::tables::set_at;
@@ -15,7 +16,7 @@ use dh_viewing::moves;
 /// How many phases a loop has, by those of its body and of the block that joins its copies: none,
 /// where it has no turn or its turns none; else its turns are one that is not Straight (2).
 pub(crate) fn loop_stages(turns: u64, body: usize, combine: usize) -> usize
-    ensures { result ≡ loop_stage turns body combine }
+    ensures { result ≡ turns_kind turns body combine }
 {
     if turns == 0 || (body == 0 && combine == 0) {
         0
@@ -26,7 +27,7 @@ pub(crate) fn loop_stages(turns: u64, body: usize, combine: usize) -> usize
 
 /// How many phases an `if` has: it is straight where its arms are.
 pub(crate) fn choice_stages(chosen: usize, other: usize) -> usize
-    ensures { result ≡ choice_stage chosen other }
+    ensures { result ≡ choice_kind chosen other }
 {
     if chosen.max(other) >= 2 { 2 } else { 1 }
 }
@@ -55,7 +56,7 @@ pub(crate) fn stages_behind(before: usize, part: usize) -> usize
 pub fn note_stages(stages: &mut Vec<usize>, command: &Command) -> Result<usize, NoMemory>
     ensures noted { OnOk result (AreNumbers stages.old stages.new
         (stages_in (action_seen command.now))) }
-    ensures own { IfOk result (λ own. own ≡ stage_of (action_seen command.now)) }
+    ensures own { IfOk result (λ own. own ≡ phase_kind (action_seen command.now)) }
 {
     let own = note_inside(stages, &command.form)?;
     set_at(stages, command.id, own)?;
@@ -68,7 +69,7 @@ pub fn note_stages(stages: &mut Vec<usize>, command: &Command) -> Result<usize, 
 fn note_inside(stages: &mut Vec<usize>, form: &CommandForm) -> Result<usize, NoMemory>
     ensures noted { OnOk result (AreNumbers stages.old stages.new
         (form_stages (action_form_seen form.now))) }
-    ensures own { IfOk result (λ own. own ≡ form_stage (action_form_seen form.now)) }
+    ensures own { IfOk result (λ own. own ≡ form_phase_kind (action_form_seen form.now)) }
 {
     match form {
         CommandForm::Let { .. }
@@ -105,9 +106,8 @@ fn note_inside(stages: &mut Vec<usize>, form: &CommandForm) -> Result<usize, NoM
 #[cycle(stages)]
 fn note_other(stages: &mut Vec<usize>, other: &Option<Box<Command>>) -> Result<usize, NoMemory>
     ensures noted { OnOk result (AreNumbers stages.old stages.new
-        (other_stages (maybe_seen (option_map (λ b. action_seen b.value) other.now)))) }
-    ensures own { IfOk result (λ own. own
-        ≡ other_stage (maybe_seen (option_map (λ b. action_seen b.value) other.now))) }
+        (other_stages (maybe_block_seen other.now))) }
+    ensures own { IfOk result (λ own. own ≡ other_phase_kind (maybe_block_seen other.now)) }
 {
     match other {
         Some(block) => note_stages(stages, block),
@@ -120,7 +120,7 @@ fn note_other(stages: &mut Vec<usize>, other: &Option<Box<Command>>) -> Result<u
 fn note_block(stages: &mut Vec<usize>, body: &[Vec<Command>]) -> Result<usize, NoMemory>
     ensures noted { OnOk result (AreNumbers stages.old stages.new
         (groups_stages (groups (map part_seen body.now)))) }
-    ensures own { IfOk result (λ own. own ≡ groups_stage (groups (map part_seen body.now))) }
+    ensures own { IfOk result (λ own. own ≡ groups_phase_kind (groups (map part_seen body.now))) }
 {
     let mut all: usize = 0;
     for part in body {

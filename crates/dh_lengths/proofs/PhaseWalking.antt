@@ -19,7 +19,8 @@ use Rattle.dh_meaning.specs.Levels.{Levels, block_length, commands_leveled, leve
 use Rattle.dh_meaning.specs.Phases.{Located, Phase, straight, turns, repeated, decided, of_list, one_straight, one_command, joined, folded, are_straight, choice_phases, turn_phases, turn_count, located, phases, form_phases, other_phases, groups_phases, parts_phases, phases_of}
 use Rattle.dh_meaning.specs.Sites.{Around, in_arm, in_loop, loop_of, nothing_around}
 use Rattle.dh_meets.specs.Sharing.{shared}
-use Rattle.dh_events.specs.Stages.{stage_of, stages_in, form_stages, other_stages, groups_stages, part_stages}
+use Rattle.dh_events.specs.Stages.{stages_in, form_stages, other_stages, groups_stages, part_stages}
+use Rattle.dh_tree.specs.PhaseKinds.{phase_kind}
 use Rattle.dh_events.specs.Tables.{numbered}
 use Rattle.dh_events.proofs.Turns.{at_item}
 use Rattle.dh_ports.proofs.PhaseShapes.{IsFull, Shaped, no_phase, one_phase, more_phases, shape, size}
@@ -228,7 +229,7 @@ behind_other known base told_so line w p other s is = record {
 
 -- Phases by the number of a command's phases.
 
-pub none_phases : (r : Around) (n : ℕ) (a : Action) → stage_of a ≡ 0 → phases r n a ≡ []
+pub none_phases : (r : Around) (n : ℕ) (a : Action) → phase_kind a ≡ 0 → phases r n a ≡ []
 none_phases r n a e = by (shape (phases r n a) (full r n a))
   where
     clash : (k m s : ℕ) → s ≡ k → s ≡ 0 → k ≡ suc m → ⊥
@@ -236,15 +237,15 @@ none_phases r n a e = by (shape (phases r n a) (full r n a))
 
     by : Shaped (size (phases r n a)) (phases r n a) → phases r n a ≡ []
     by (no_phase x y) = y
-    by (one_phase d ds x y) = absurd (clash (size (phases r n a)) 0 (stage_of a) (stage_size r n a) e x)
-    by (more_phases x y) = absurd (clash (size (phases r n a)) 1 (stage_of a) (stage_size r n a) e x)
+    by (one_phase d ds x y) = absurd (clash (size (phases r n a)) 0 (phase_kind a) (stage_size r n a) e x)
+    by (more_phases x y) = absurd (clash (size (phases r n a)) 1 (phase_kind a) (stage_size r n a) e x)
 
 pub record IsOne (ps : List Phase) : Type 0 where
   pub first : Located
   pub rest : List Located
   pub is : ps ≡ straight (first ∷ rest) ∷ []
 
-pub one_phase_of : (r : Around) (n : ℕ) (a : Action) → stage_of a ≡ 1 → IsOne (phases r n a)
+pub one_phase_of : (r : Around) (n : ℕ) (a : Action) → phase_kind a ≡ 1 → IsOne (phases r n a)
 one_phase_of r n a e = by (shape (phases r n a) (full r n a))
   where
     clash : (k s : ℕ) → s ≡ k → s ≡ 1 → k ≡ 0 → ⊥
@@ -254,11 +255,11 @@ one_phase_of r n a e = by (shape (phases r n a) (full r n a))
     clash_two k s x y z = omega (arith, x, y, z)
 
     by : Shaped (size (phases r n a)) (phases r n a) → IsOne (phases r n a)
-    by (no_phase x y) = absurd (clash (size (phases r n a)) (stage_of a) (stage_size r n a) e x)
+    by (no_phase x y) = absurd (clash (size (phases r n a)) (phase_kind a) (stage_size r n a) e x)
     by (one_phase d ds x y) = record { first = d; rest = ds; is = y }
-    by (more_phases x y) = absurd (clash_two (size (phases r n a)) (stage_of a) (stage_size r n a) e x)
+    by (more_phases x y) = absurd (clash_two (size (phases r n a)) (phase_kind a) (stage_size r n a) e x)
 
-pub more_phases_of : (r : Around) (n : ℕ) (a : Action) → (stage_of a ≡ 0 → ⊥) → (stage_of a ≡ 1 → ⊥) → are_straight (phases r n a) ≡ false
+pub more_phases_of : (r : Around) (n : ℕ) (a : Action) → (phase_kind a ≡ 0 → ⊥) → (phase_kind a ≡ 1 → ⊥) → are_straight (phases r n a) ≡ false
 more_phases_of r n a f g = by (shape (phases r n a) (full r n a))
   where
     by : Shaped (size (phases r n a)) (phases r n a) → are_straight (phases r n a) ≡ false
@@ -280,7 +281,7 @@ walked_straight old a new c opens levels lengths open_is going_is known u r base
     one = one_phase_of r (count old.held) (action_seen c) stage
 
     core : core_commands known (one.first ∷ one.rest) ≡ core_action known (count old.held) (action_seen c) no_commands
-    core = straight_core known r (count old.held) (action_seen c) (one.first ∷ one.rest) (few_one (stage_of (action_seen c)) stage) one.is
+    core = straight_core known r (count old.held) (action_seen c) (one.first ∷ one.rest) (few_one (phase_kind (action_seen c)) stage) one.is
 
     walked : (w : Walk) → count a.held ≡ count old.held → a.held.shares.now ≡ old.held.shares.now → IsSound a.held → Stands known base new (put old.going line (straight (one.first ∷ one.rest) ∷ []))
         → IsWalked known base line old new (phases r (count old.held) (action_seen c)) (accesses_of (action_seen c))
@@ -313,7 +314,7 @@ walked_straight old a new c opens levels lengths open_is going_is known u r base
 
 -- A command without phases.
 
-pub walked_none : {ways : Leads} (stages : List ℕ) (old new : Walk) (c : Command) → stage_of (action_seen c) ≡ 0 → Skips old.held new.held (accesses_of (action_seen c)) → new.lengths.items ≡ old.lengths.items → new.pending ≡ old.pending → new.going ≡ old.going → WalksCommand ways stages old new c
+pub walked_none : {ways : Leads} (stages : List ℕ) (old new : Walk) (c : Command) → phase_kind (action_seen c) ≡ 0 → Skips old.held new.held (accesses_of (action_seen c)) → new.lengths.items ≡ old.lengths.items → new.pending ≡ old.pending → new.going ≡ old.going → WalksCommand ways stages old new c
 walked_none stages old new c stage skips lengths open_is going_is known u r base line tells s =
     let g = skips_gives old.held new.held (accesses_of (action_seen c)) s.sound skips in
     let none = none_phases r (count old.held) (action_seen c) stage in
@@ -674,7 +675,7 @@ all_told p first before stages_are shares w0 w1 w2 body same numbered_from none 
 
 -- Cases on how many phases a command has.
 
-pub where_none : {ways : Leads} (stages_are : List ℕ) (old new : Walk) (c : Command) (stage : ℕ) → stage ≡ numbered stages_are c.id → stage ≡ 0 → (stage_of (action_seen c) ≡ 0 → WalksCommand ways stages_are old new c) → WalksCommand ways stages_are old new c
+pub where_none : {ways : Leads} (stages_are : List ℕ) (old new : Walk) (c : Command) (stage : ℕ) → stage ≡ numbered stages_are c.id → stage ≡ 0 → (phase_kind (action_seen c) ≡ 0 → WalksCommand ways stages_are old new c) → WalksCommand ways stages_are old new c
 where_none stages_are old new c stage is none f known u r base line tells s = f (sym tells.0 ∙ (sym is ∙ none)) known u r base line tells s
 
 pub where_one : {ways : Leads} (stages_are : List ℕ) (old new : Walk) (c : Command) (stage : ℕ) → stage ≡ numbered stages_are c.id → stage ≡ 1 → WalksStraight ways old new c → WalksCommand ways stages_are old new c

@@ -11,7 +11,7 @@ use Rattle.dh_meaning.specs.Ways.{Hidden, hidden_in}
 use Rattle.dh_meaning.specs.Levels.{Levels, commands_leveled}
 use Rattle.dh_meaning.specs.Phases.{Located, Phase, straight, turns, repeated, decided, of_list, one_straight, joined, are_straight, one_command, folded, turn_count, turn_phases, choice_phases, located, phases, form_phases, other_phases, groups_phases, parts_phases}
 use Rattle.dh_meaning.specs.Sites.{Around, in_arm, in_loop, loop_of}
-use Rattle.dh_events.specs.Stages.{stage_of, form_stage, other_stage, groups_stage, part_stage}
+use Rattle.dh_tree.specs.PhaseKinds.{phase_kind, form_phase_kind, other_phase_kind, groups_phase_kind, part_phase_kind}
 use Rattle.dh_ports.proofs.PhaseShapes.{max_right}
 use Rattle.dh_ports.proofs.PhaseSizes.{TurnCases, choice_straight, few_choice, loop_turns, max_first, other_size, stage_size, sum_first, sum_second}
 use Rattle.dh_lengths.proofs.CommandLevels.{front_action}
@@ -92,10 +92,10 @@ module _ (known : Known) where
   kept_none (h ∷ hs) rest = refl
 
   mutual
-    pub core_tops : (r : Around) (n : ℕ) (a : Action) (rest : CoreCommands) → stage_of a ≤ 1 → tops_then (phases r n a) rest ≡ core_action known n a rest
+    pub core_tops : (r : Around) (n : ℕ) (a : Action) (rest : CoreCommands) → phase_kind a ≤ 1 → tops_then (phases r n a) rest ≡ core_action known n a rest
     core_tops r n (action id place form) rest h = form_tops r n id place form rest h
 
-    form_tops : (r : Around) (n id : ℕ) (place : Place) (form : ActionForm) (rest : CoreCommands) → form_stage form ≤ 1 → tops_then (form_phases r n id place form) rest ≡ core_action_form known n form rest
+    form_tops : (r : Around) (n id : ℕ) (place : Place) (form : ActionForm) (rest : CoreCommands) → form_phase_kind form ≤ 1 → tops_then (form_phases r n id place form) rest ≡ core_action_form known n form rest
     form_tops r n id place (lets name declared value) rest h = refl
     form_tops r n id place (lets_memory name shape shape_places value) rest h = refl
     form_tops r n id place (views name parent (shrinks by by_place)) rest h = kept_none (hidden_in (way_of known name)) rest
@@ -109,27 +109,27 @@ module _ (known : Known) where
     form_tops r n id place (blocks body) rest h = groups_tops r n body rest h
     form_tops r n id place (decides test chosen other) rest h =
         choice_tops (located r n (action id place (decides test chosen other))) (phases (in_arm r id true) (n + term_accesses test) chosen) (other_phases (in_arm r id false) (n + term_accesses test + accesses_of chosen) other) rest
-        (choice_straight (phases (in_arm r id true) (n + term_accesses test) chosen) (other_phases (in_arm r id false) (n + term_accesses test + accesses_of chosen) other) (stage_of chosen) (other_stage other) (stage_size (in_arm r id true) (n + term_accesses test) chosen) (other_size (in_arm r id false) (n + term_accesses test + accesses_of chosen) other)
-        ∙ ap not (few_choice (stage_of chosen) (other_stage other) h))
+        (choice_straight (phases (in_arm r id true) (n + term_accesses test) chosen) (other_phases (in_arm r id false) (n + term_accesses test + accesses_of chosen) other) (phase_kind chosen) (other_phase_kind other) (stage_size (in_arm r id true) (n + term_accesses test) chosen) (other_size (in_arm r id false) (n + term_accesses test + accesses_of chosen) other)
+        ∙ ap not (few_choice (phase_kind chosen) (other_phase_kind other) h))
     form_tops r n id place (repeats test body) rest h = refl
     form_tops r n id place (counts iterator declared low high factor body combine combine_place) rest h =
-        turn_tops (located r n (action id place (counts iterator declared low high factor body combine combine_place))) (turn_count low.value high.value factor.value) (stage_of body) (other_stage combine) (folded (phases (in_loop r (loop_of iterator low high factor)) n body) (other_phases (in_loop r (loop_of iterator low high factor)) (n + accesses_of body) combine)) rest
+        turn_tops (located r n (action id place (counts iterator declared low high factor body combine combine_place))) (turn_count low.value high.value factor.value) (phase_kind body) (other_phase_kind combine) (folded (phases (in_loop r (loop_of iterator low high factor)) n body) (other_phases (in_loop r (loop_of iterator low high factor)) (n + accesses_of body) combine)) rest
         (loop_turns (in_loop r (loop_of iterator low high factor)) n (located r n (action id place (counts iterator declared low high factor body combine combine_place))) (turn_count low.value high.value factor.value) body combine)
 
-    groups_tops : (r : Around) (n : ℕ) (body : Groups) (rest : CoreCommands) → groups_stage body ≤ 1 → tops_then (groups_phases r n body) rest ≡ core_groups known n body rest
+    groups_tops : (r : Around) (n : ℕ) (body : Groups) (rest : CoreCommands) → groups_phase_kind body ≤ 1 → tops_then (groups_phases r n body) rest ≡ core_groups known n body rest
     groups_tops r n no_groups rest h = refl
     groups_tops r n (group_then part behind) rest h =
         tops_append (joined [] (parts_phases r n part)) (groups_phases r (n + part_accesses part) behind) rest
-        ∙ (ap (tops_then (joined [] (parts_phases r n part))) (groups_tops r (n + part_accesses part) behind rest (sum_second (part_stage part) (groups_stage behind) h))
+        ∙ (ap (tops_then (joined [] (parts_phases r n part))) (groups_tops r (n + part_accesses part) behind rest (sum_second (part_phase_kind part) (groups_phase_kind behind) h))
         ∙ (tops_joined [] (parts_phases r n part) (core_groups known (n + part_accesses part) behind rest)
-        ∙ part_tops r n part (core_groups known (n + part_accesses part) behind rest) (sum_first (part_stage part) (groups_stage behind) h)))
+        ∙ part_tops r n part (core_groups known (n + part_accesses part) behind rest) (sum_first (part_phase_kind part) (groups_phase_kind behind) h)))
 
-    part_tops : (r : Around) (n : ℕ) (part : Actions) (rest : CoreCommands) → part_stage part ≤ 1 → all_tops_then (parts_phases r n part) rest ≡ core_part known n part rest
+    part_tops : (r : Around) (n : ℕ) (part : Actions) (rest : CoreCommands) → part_phase_kind part ≤ 1 → all_tops_then (parts_phases r n part) rest ≡ core_part known n part rest
     part_tops r n no_actions rest h = refl
     part_tops r n (action_then a behind) rest h =
-        ap (tops_then (phases r n a)) (part_tops r (n + accesses_of a) behind rest (max_right (stage_of a) (part_stage behind) h))
-        ∙ core_tops r n a (core_part known (n + accesses_of a) behind rest) (max_first (stage_of a) (part_stage behind) h)
+        ap (tops_then (phases r n a)) (part_tops r (n + accesses_of a) behind rest (max_right (phase_kind a) (part_phase_kind behind) h))
+        ∙ core_tops r n a (core_part known (n + accesses_of a) behind rest) (max_first (phase_kind a) (part_phase_kind behind) h)
 
   -- of one straight phase
-  pub straight_core : (r : Around) (n : ℕ) (a : Action) (ds : List Located) → stage_of a ≤ 1 → phases r n a ≡ straight ds ∷ [] → core_commands known ds ≡ core_action known n a no_commands
+  pub straight_core : (r : Around) (n : ℕ) (a : Action) (ds : List Located) → phase_kind a ≤ 1 → phases r n a ≡ straight ds ∷ [] → core_commands known ds ≡ core_action known n a no_commands
   straight_core r n a ds h e = sym (then_none ds) ∙ (sym (ap (λ ps. tops_then ps no_commands) e) ∙ core_tops r n a no_commands h)

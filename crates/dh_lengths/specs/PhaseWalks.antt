@@ -14,7 +14,7 @@ use Rattle.dh_meaning.specs.Phases.{Located, Phase, straight, turns, repeated, d
 use Rattle.dh_meaning.specs.Sites.{Around}
 use Rattle.dh_lengths.specs.declared.leads.Leads.{Leads}
 use Rattle.dh_lengths.specs.LedBy.{IsLedBy}
-use Rattle.dh_events.specs.Stages.{form_stage, stage_of}
+use Rattle.dh_tree.specs.PhaseKinds.{phase_kind, form_phase_kind}
 use Rattle.dh_events.specs.Tables.{numbered}
 use Rattle.dh_lengths.specs.declared.held.Held.{Held}
 use Rattle.dh_lengths.specs.declared.lengths.Walk.{Walk}
@@ -77,7 +77,7 @@ goes_on going (p ∷ q ∷ ps) = false
 -- of each command the number of its phases is known
 abbrev mutual
   pub TellsStages : (ℕ → ℕ) → Action → Type 0
-  TellsStages f (action id place form) = (f id ≡ form_stage form) × TellInside f form
+  TellsStages f (action id place form) = (f id ≡ form_phase_kind form) × TellInside f form
 
   pub TellInside : (ℕ → ℕ) → ActionForm → Type 0
   TellInside f (lets name declared value) = Unit {0}
@@ -159,7 +159,7 @@ pub record IsWalked (known : Known) (base : List ℕ) (line : List Phase) (old n
 
 abbrev pub WalksStraight : (ways : Leads) → (old new : Walk) → Command → Type 0
 WalksStraight ways old new c =
-    (known : Known) → IsLedBy ways known → (r : Around) (base : List ℕ) (line : List Phase) → stage_of (action_seen c) ≡ 1 → Stands known base old line
+    (known : Known) → IsLedBy ways known → (r : Around) (base : List ℕ) (line : List Phase) → phase_kind (action_seen c) ≡ 1 → Stands known base old line
     → IsWalked known base line old new (phases r (count old.held) (action_seen c)) (accesses_of (action_seen c))
 
 abbrev pub WalksCommand : (ways : Leads) → (stages : List ℕ) → (old new : Walk) → Command → Type 0

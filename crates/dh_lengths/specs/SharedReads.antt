@@ -1,6 +1,7 @@
 -- Which earlier read each access of a program shares, as a list, and what the walk over its events makes of them.
 use Rattle.std.specs.Prelude.{◌≡◌, ℕ, ◌<◌, length, List, [], ◌∷◌, Option, Some, None, slice_get}
-use Rattle.dh_tree.specs.PlainTrees.{Program}
+use Rattle.dh_tree.specs.Numbers.{IsNumbered}
+use Rattle.dh_tree.specs.PlainTrees.{Action, Program}
 use Rattle.dh_meaning.specs.AccessNumbers.{accesses_of}
 use Rattle.dh_meets.specs.Sharing.{shared}
 use Rattle.dh_events.specs.declared.classes.Key.{Key}
@@ -25,6 +26,10 @@ pub record TellsShares (p : Program) (shares : List (Option ℕ)) : Type 0 where
   pub long : length shares ≡ accesses_of p.body
   pub each : (k : ℕ) → k < accesses_of p.body → slice_get shares k ≡ Some (shared p k)
   pub all : (k : ℕ) → told shares k ≡ shared p k
+
+-- the same of each program that has this body
+abbrev pub TellsSharesIn : Action → (shares : List (Option ℕ)) → Type 0
+TellsSharesIn body shares = (p : Program) (first : ℕ) → p.body ≡ body → IsNumbered first p.body → TellsShares p shares
 
 -- What events are.
 

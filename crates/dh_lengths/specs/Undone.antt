@@ -1,6 +1,6 @@
 -- The levels of variables, as functions, while they are put back and joined.
-use Rattle.std.specs.Prelude.{ℕ, ◌==◌, ◌||◌, max, Bool, false, List, [], ◌∷◌, map}
-use Rattle.dh_events.specs.Tables.{with_number}
+use Rattle.std.specs.Prelude.{◌≡◌, ℕ, ◌==◌, ◌||◌, max, Bool, false, List, [], ◌∷◌, map}
+use Rattle.dh_events.specs.Tables.{numbered, with_number}
 use Rattle.dh_lengths.specs.declared.undoing.Mark.{Mark}
 
 abbrev pub mark : (entity level : ℕ) → Mark
@@ -24,6 +24,9 @@ marks_now f ms = map (λ m. mark m.entity (f m.entity)) ms
 abbrev pub joined_all : (test : ℕ) → List Mark → (ℕ → ℕ) → ℕ → ℕ
 joined_all test [] f = f
 joined_all test (m ∷ ms) f = joined_all test ms (with_number f m.entity (max test (max (f m.entity) m.level)))
+
+abbrev pub JoinsLevels : (test : ℕ) → List Mark → (old new : List ℕ) → Type 0
+JoinsLevels test ms old new = numbered new ≡ joined_all test ms (numbered old)
 
 -- a variable is marked
 abbrev pub has_mark : (entity : ℕ) → List Mark → Bool

@@ -1,15 +1,12 @@
 //! Which earlier read each read shares, from the events of a body.
 
-ghost use Rattle.std.specs.Prelude.{◌≡◌, ◌<◌, ℕ, IfOk, OnOk, length};
-ghost use Rattle.dh_tree.specs.Numbers.{IsNumbered};
-ghost use Rattle.dh_tree.specs.PlainTrees.{Program};
+ghost use Rattle.std.specs.Prelude.{◌≡◌, IfOk, OnOk};
 ghost use Rattle.dh_tree.specs.Seen.{action_seen, form_seen};
 ghost use Rattle.dh_events.specs.Accesses.{entity_in};
-ghost use Rattle.dh_events.specs.Classes.{AreDistinct, Extends};
-ghost use Rattle.dh_events.specs.Noted.{event_seen};
+ghost use Rattle.dh_events.specs.Classes.{Extends};
 ghost use Rattle.dh_ports.specs.Scanned as scanned;
 ghost use Rattle.dh_lengths.specs.LiveFirsts.{none_read, shares_of};
-ghost use Rattle.dh_lengths.specs.SharedReads.{AreMet, AreWithin, FindsShares, IsMet, IsKeyMet, TellsShares};
+ghost use Rattle.dh_lengths.specs.SharedReads.{AreMet, AreWithin, FindsShares, IsMet, IsKeyMet, TellsSharesIn};
 
 use crate::live::Live;
 use dh_base::NoMemory;
@@ -153,7 +150,7 @@ fn shares_met(alloc: Global, classes: usize, met: &[Met]) -> Result<Vec<Option<u
 fn find_shares(alloc: Global, events: &[Event<'_>]) -> Result<Vec<Option<usize>>, NoMemory>
     ensures { IfOk result (λ shares. FindsShares events.now shares.items) }
 {
-    let mut classes = Classes::new(alloc);
+    let mut classes = Classes::by_phase(alloc);
     let met = all_met(alloc, &mut classes, events)?;
     shares_met(alloc, classes.len(), met.as_slice())
 }
@@ -168,8 +165,7 @@ fn find_shares(alloc: Global, events: &[Event<'_>]) -> Result<Vec<Option<usize>>
 ///
 /// `NoMemory` where an allocation was refused.
 pub fn shared_reads(alloc: Global, body: &Command) -> Result<Vec<Option<usize>>, NoMemory>
-    ensures { IfOk result (λ shares. (p : Program) (first : ℕ) → p.body ≡ action_seen body.now
-        → IsNumbered first p.body → TellsShares p shares.items) }
+    ensures { IfOk result (λ shares. TellsSharesIn (action_seen body.now) shares.items) }
 {
     let mut stages = Vec::new(alloc);
     note_stages(&mut stages, body)?;

@@ -1,7 +1,7 @@
 //! Accesses whose levels nothing asks for: each has level 0.
 
-ghost use Rattle.std.specs.Prelude.{map, option_map, OnOk};
-ghost use Rattle.dh_tree.specs.Seen.{action_seen, maybe_seen, plan_seen, term_seen, terms};
+ghost use Rattle.std.specs.Prelude.{map, OnOk};
+ghost use Rattle.dh_tree.specs.Seen.{action_seen, maybe_block_seen, plan_seen, term_seen, terms};
 ghost use Rattle.dh_meaning.specs.AccessNumbers.{accesses_of, other_accesses, plan_accesses, term_accesses, terms_accesses};
 ghost use Rattle.dh_lengths.specs.HeldLevels.{suffixes_accesses, AddsZeros};
 
@@ -128,7 +128,7 @@ pub fn skip_command(reads: &mut Vec<usize>, command: &Command) -> Result<(), NoM
 #[cycle(skip_command)]
 fn skip_other(reads: &mut Vec<usize>, other: &Option<Box<Command>>) -> Result<(), NoMemory>
     ensures { OnOk result (AddsZeros reads.old reads.new
-        (other_accesses (maybe_seen (option_map (λ b. action_seen b.value) other.now)))) }
+        (other_accesses (maybe_block_seen other.now))) }
 {
     match other {
         Some(block) => skip_command(reads, block),

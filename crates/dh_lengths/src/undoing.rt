@@ -2,7 +2,7 @@
 
 ghost use Rattle.std.specs.Prelude.{◌≡◌, drop, IfOk, OnOk};
 ghost use Rattle.dh_events.specs.Tables.{numbered};
-ghost use Rattle.dh_lengths.specs.Undone.{joined_all, marks_now, redone, undone};
+ghost use Rattle.dh_lengths.specs.Undone.{marks_now, redone, undone, JoinsLevels};
 
 use dh_base::NoMemory;
 use dh_events::{get_number, set_number};
@@ -64,8 +64,7 @@ pub fn marks_of(alloc: Global, variables: &[usize], log: &[Mark]) -> Result<Vec<
 /// Raises levels to those of marks and to that of a test, where those of the marks are set in one of two
 /// arms.
 pub fn join(variables: &mut Vec<usize>, marks: &[Mark], test: usize) -> Result<(), NoMemory>
-    ensures { OnOk result (numbered variables.new.items
-        ≡ joined_all test marks.now (numbered variables.old.items)) }
+    ensures { OnOk result (JoinsLevels test marks.now variables.old.items variables.new.items) }
 {
     for mark in marks {
         let now = get_number(variables.as_slice(), mark.entity);

@@ -7,7 +7,8 @@ use Rattle.dh_value.specs.declared.kinds.Kind.{Kind}
 use Rattle.dh_value.specs.declared.kinds.Kind.TheVariants as kind
 use Rattle.dh_tree.specs.Memories.{same_entity}
 use Rattle.dh_tree.specs.PlainTrees.{Term, term, TermForm, number, truth_value, named, accessed, in_bank, applied, converted, Terms, no_terms, term_then}
-use Rattle.dh_meets.specs.Sharing.{same_truth, same_kind, same_maybe_kind, number_of_op, alike, alike_forms, all_alike, alike_elements}
+use Rattle.dh_meets.specs.Sharing.{same_truth, same_maybe_kind, number_of_op, alike, alike_forms, all_alike, alike_elements}
+use Rattle.dh_tree.specs.Kinds.{same_kind}
 use Rattle.dh_meets.specs.SourceEvents.{Element, with_indices, in_row}
 use Rattle.dh_events.specs.declared.structures.Structure.{Structure}
 use Rattle.dh_events.specs.declared.structures.Sort.{Sort}

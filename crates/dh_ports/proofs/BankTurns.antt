@@ -14,13 +14,14 @@ use Rattle.dh_tree.specs.Seen.{form_seen, term_seen, terms}
 use Rattle.dh_tree.specs.Shapes.{IsDim}
 use Rattle.dh_meets.specs.Charges.{index_in, indices_in}
 use Rattle.dh_ports.specs.declared.banks.Start.{Start}
-use Rattle.dh_ports.specs.Banks.{counters_in, copy_of, IsStart}
+use Rattle.dh_ports.specs.Banks.{copy_of, IsStart}
+use Rattle.dh_shape.specs.Classified.{loops_in}
 use Rattle.dh_ports.proofs.ClaimedBanks.{bank_told}
 use Rattle.dh_events.proofs.Turns.{at_place}
 
 -- the indices outside every unrolled loop, and the bank that they tell
 abbrev pub told : Tree → List Expr → List ℕ
-told tree es = indices_in (counters_in tree) [] [] (terms (map term_seen es))
+told tree es = indices_in (loops_in tree) [] [] (terms (map term_seen es))
 
 abbrev pub bank_at : Tree → List Dim → List Expr → ℕ
 bank_at tree ds es = bank_of ds (told tree es)
@@ -98,11 +99,11 @@ module _ (ds : List Dim) (i : ℕ) (d : Dim) (h : AllByRecursion IsDim ds) (few 
         at_most a b e = omega (arith, e)
 
     -- the bank with one index more, by its value
-    with_value : (e : Expr) (next : ℕ) → i - 1 < length es → e ≡ get_or es (i - 1) e → next ≡ index_in [] [] (index_kind (counters_in tree) e.kind (form_seen e.form)) % (get_or ds (i - 1) d).banks * count + bank → next ≡ bank_at tree (drop (i - 1) ds) (drop (i - 1) es)
+    with_value : (e : Expr) (next : ℕ) → i - 1 < length es → e ≡ get_or es (i - 1) e → next ≡ index_in [] [] (index_kind (loops_in tree) e.kind (form_seen e.form)) % (get_or ds (i - 1) d).banks * count + bank → next ≡ bank_at tree (drop (i - 1) ds) (drop (i - 1) es)
     with_value e next inside is so =
         so
-        ∙ (ap (λ n. index_in [] [] (index_kind (counters_in tree) e.kind (form_seen e.form)) % (get_or ds (i - 1) d).banks * n + bank) counted
-        ∙ (ap (λ n. index_in [] [] (index_kind (counters_in tree) e.kind (form_seen e.form)) % (get_or ds (i - 1) d).banks * banks_of (drop i ds) + n) told_so
+        ∙ (ap (λ n. index_in [] [] (index_kind (loops_in tree) e.kind (form_seen e.form)) % (get_or ds (i - 1) d).banks * n + bank) counted
+        ∙ (ap (λ n. index_in [] [] (index_kind (loops_in tree) e.kind (form_seen e.form)) % (get_or ds (i - 1) d).banks * banks_of (drop i ds) + n) told_so
         ∙ (sym (ap (λ l. bank_at tree (get_or ds (i - 1) d ∷ drop i ds) l) (at_place es (i - 1) e inside ∙ (ap (λ x. x ∷ drop (i - 1 + 1) es) (sym is) ∙ ap (λ n. e ∷ drop n es) (back i some))))
         ∙ sym (ap (λ l. bank_at tree l (drop (i - 1) es)) here))))
 
@@ -121,8 +122,8 @@ module _ (ds : List Dim) (i : ℕ) (d : Dim) (h : AllByRecursion IsDim ds) (few 
     told_one next inside small so =
         let e = item_there es (i - 1) inside in
         with_value e.0 next inside e.1
-        (so ∙ none (index_in [] [] (index_kind (counters_in tree) e.0.kind (form_seen e.0.form)) % (get_or ds (i - 1) d).banks) count bank
-        (zero_of _ (get_or ds (i - 1) d).banks (mod-lt (index_in [] [] (index_kind (counters_in tree) e.0.kind (form_seen e.0.form))) {m = (get_or ds (i - 1) d).banks} kept.0.banks) small))
+        (so ∙ none (index_in [] [] (index_kind (loops_in tree) e.0.kind (form_seen e.0.form)) % (get_or ds (i - 1) d).banks) count bank
+        (zero_of _ (get_or ds (i - 1) d).banks (mod-lt (index_in [] [] (index_kind (loops_in tree) e.0.kind (form_seen e.0.form))) {m = (get_or ds (i - 1) d).banks} kept.0.banks) small))
       where
         zero_of : (m n : ℕ) → m < n → n ≤ 1 → m ≡ 0
         zero_of m n e f = omega (arith, e, f)

@@ -15,12 +15,11 @@ use Rattle.dh_tree.proofs.BankElements.{place_below}
 use Rattle.dh_tree.specs.Shapes.{IsDim, IsShape, IsMemory, IsProgramTable}
 use Rattle.dh_meaning.specs.Ways as ways
 use Rattle.dh_meaning.specs.Ways.{Way, all_bindings_of, way_to}
-use Rattle.dh_meaning.specs.Paths.{Path, same_path}
+use Rattle.dh_meaning.specs.Paths.{Path, same_path, IsPathAmong}
 use Rattle.dh_meets.specs.Charges as charges
 use Rattle.dh_meets.specs.Charges.{bank_named, bank_reached, charge_by, charge_through, indices_in, key_of, may_reach, paths_of, reaches, reaches_by, reaches_in}
 use Rattle.dh_meets.specs.SourceEvents.{Element, with_indices, in_row, SourceAccess}
 use Rattle.dh_ways.specs.Leading.{LeadsTo, StepsLead, next_dims}
-use Rattle.dh_carried.specs.MadeCopies.{IsPathAmong}
 use Rattle.dh_carried.proofs.ChargedBanks.{charged_reaches, may_below, reaching_charges}
 use Rattle.dh_ports.specs.declared.moves.Move.{Move}
 use Rattle.dh_ports.specs.declared.moves.Move.TheVariants as move

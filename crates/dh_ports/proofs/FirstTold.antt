@@ -32,7 +32,8 @@ use Rattle.dh_ports.specs.Scanned.{is_late, late_at, place_in, all_late, spent_p
 use Rattle.dh_events.specs.Stages.{stages_in}
 use Rattle.dh_events.specs.Structures.{AreDistinct}
 use Rattle.dh_events.specs.Tables.{numbered}
-use Rattle.dh_meets.specs.FewCopies.{most_copies, HasFewCopies}
+use Rattle.dh_meets.specs.FewCopies.{HasFewCopies}
+use Rattle.dh_base.specs.Limits.{most_copies}
 use Rattle.dh_ports.specs.Told.{TellsFirst}
 use Rattle.dh_ports.specs.Wholes.{no_stages, happenings_of, sites_in, TellsLoops, loops_known, AreEventsOf, TellsSpent, TellsLate}
 use Rattle.dh_ports.proofs.PlacesOnce.{spent_once, kept_not_spent}

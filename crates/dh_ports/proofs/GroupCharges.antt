@@ -22,7 +22,8 @@ use Rattle.dh_meets.specs.Charges.{bank_named, bank_reached, charge_through, dep
 use Rattle.dh_meets.specs.SourceEvents.{SourceAccess}
 use Rattle.dh_ports.specs.declared.carrying.Carrier.{Carrier}
 use Rattle.dh_ports.specs.declared.copies.Reach.{Reach}
-use Rattle.dh_ports.specs.Banks.{counters_in, each_below, path_at}
+use Rattle.dh_ports.specs.Banks.{each_below, path_at}
+use Rattle.dh_shape.specs.Classified.{loops_in}
 use Rattle.dh_ports.specs.Carriers.{carried_to, group_sum, sum_below, AreGroupSums, Carries}
 use Rattle.dh_ports.specs.Claims.{source_of}
 use Rattle.dh_ports.specs.Copies.{keys_from, stride_in, Reaches}
@@ -125,7 +126,7 @@ module _ (tree : Tree) (scopes : List (Option Scope)) (loops : List Counter) (di
       ap (λ q. same_path q (path_at (take w.shifts (factors_of loops)) group)) (take_path (factors_of loops) w.shifts n)
       ∙ paths_apart (take w.shifts (factors_of loops)) (n / copies_in (drop w.shifts (factors_of loops))) group (row_below n (copies_in (take w.shifts (factors_of loops))) (copies_in (drop w.shifts (factors_of loops))) i) below)))
       ∙ (ap (λ ds. distinct_count same_path (map (key_of (all_bindings_of (program_seen tree)) (source_of loops writes access))
-      (filter (λ path. bank_reached (counters_in tree) ds (source_of loops writes access) path (source_of loops writes access).element == bank) (each_below (λ k. path_at (factors_of loops) (group * copies_in (drop w.shifts (factors_of loops)) + k)) (copies_in (drop w.shifts (factors_of loops)))))))
+      (filter (λ path. bank_reached (loops_in tree) ds (source_of loops writes access) path (source_of loops writes access).element == bank) (each_below (λ k. path_at (factors_of loops) (group * copies_in (drop w.shifts (factors_of loops)) + k)) (copies_in (drop w.shifts (factors_of loops)))))))
       (sym named)
       ∙ sym (keys_by_path tree scopes loops dims access writes reach so are one (group * copies_in (drop w.shifts (factors_of loops))) (copies_in (drop w.shifts (factors_of loops))) bank))
 

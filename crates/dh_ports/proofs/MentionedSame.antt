@@ -4,7 +4,8 @@ use Rattle.std.specs.Prelude.{Option, Some, None}
 use Rattle.std.proofs.lemmas.Bool.{eqb-true, eq-eqb}
 use Rattle.dh_tree.specs.Memories.{same_entity}
 use Rattle.dh_tree.specs.PlainTrees.{Term, term, TermForm, number, truth_value, named, accessed, in_bank, applied, converted, Terms, no_terms, term_then}
-use Rattle.dh_meets.specs.Sharing.{number_of_op, same_kind, same_maybe_kind, alike, alike_forms, all_alike, alike_elements, mentions, form_mentions, terms_mention, element_mentions, reassigned}
+use Rattle.dh_meets.specs.Sharing.{number_of_op, same_maybe_kind, alike, alike_forms, all_alike, alike_elements, mentions, form_mentions, terms_mention, element_mentions, reassigned}
+use Rattle.dh_tree.specs.Kinds.{same_kind}
 use Rattle.dh_meets.specs.SourceEvents.{Element, with_indices, in_row, SourceEvent, accesses, assigned}
 
 absurd : {A : Type 0} → ⊥ → A

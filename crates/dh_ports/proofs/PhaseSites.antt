@@ -15,7 +15,7 @@ use Rattle.dh_meaning.specs.Sites.{Around, in_arm, in_loop, loop_of}
 use Rattle.dh_events.specs.declared.events.Site.{Site}
 use Rattle.dh_events.specs.declared.noting.Open.{Open}
 use Rattle.dh_events.specs.Incidents.{Incident, touches, assigned, arm_begins, arm_ends, begins, next, ends, site_at, term_incidents, form_incidents, terms_incidents, maybe_incidents, target_incidents, is_stepped, closed, released, phase_at, phase_of, tested, inside_choice, into_combine, round_inside, when_parted, arms_part, are_parts, open_after, part_open, open_combine, incidents, command_incidents, other_incidents, combine_incidents, groups_incidents, part_incidents}
-use Rattle.dh_events.specs.Stages.{stage_of, form_stage, other_stage, groups_stage, part_stage}
+use Rattle.dh_tree.specs.PhaseKinds.{phase_kind, form_phase_kind, other_phase_kind, groups_phase_kind, part_phase_kind}
 use Rattle.dh_ports.specs.Courses.{count}
 use Rattle.dh_ports.proofs.CourseTies.{count_append}
 use Rattle.dh_ports.proofs.IncidentTies.{term_count, maybe_count, target_count, action_count, part_count, terms_count}
@@ -283,7 +283,7 @@ module _ (f : ℕ → ℕ) where
         → tells n (incidents f round b a) k p ≡ (stands (into (phases r n a) b.going) (flat (phases r n a)) k p || stands None (flat (idle_phases r n a)) k p)
     told round b r n (action id place form) k p h = form_told round b r n id place form k p h.0 h.1
 
-    form_told : (round : Option ℕ) (b : Open) (r : Around) (n id : ℕ) (place : Place) (form : ActionForm) (k p : ℕ) → f id ≡ form_stage form → KnownInside f form
+    form_told : (round : Option ℕ) (b : Open) (r : Around) (n id : ℕ) (place : Place) (form : ActionForm) (k p : ℕ) → f id ≡ form_phase_kind form → KnownInside f form
         → tells n (command_incidents f round b id form) k p ≡ (stands (into (form_phases r n id place form) b.going) (flat (form_phases r n id place form)) k p || stands None (flat (idle_form_phases r n id place form)) k p)
     form_told round b r n id place (lets name declared value) k p e h =
         value_tells (phase_of b id) n (maybe_incidents (site_at (phase_of b id) round) value) name.entity _ k p (maybe_in (site_at (phase_of b id) round) value) (maybe_count (site_at (phase_of b id) round) value)
@@ -305,8 +305,8 @@ module _ (f : ℕ → ℕ) where
     form_told round b r n id place (blocks body) k p e h =
         parted_tells (are_parts body) begins n _ k p refl
         ∙ (behind_tells (are_parts body) ends n (groups_incidents f round (is_stepped f id) (are_parts body) (released (is_stepped f id) b) body) k p (λ m. refl)
-        ∙ (groups_told (is_stepped f id) round (are_parts body) (released (is_stepped f id) b) r n body k p (block_fits (is_stepped f id) (groups_stage body) (size (groups_phases r n body)) (stepped_at f id (groups_stage body) (size (groups_phases r n body)) e (groups_size r n body)) (groups_size r n body)) h
-        ∙ ap (λ o. stands o (flat (groups_phases r n body)) k p || stands None (flat (idle_groups_phases r n body)) k p) (block_going (is_stepped f id) (groups_phases r n body) b (stepped_at f id (groups_stage body) (size (groups_phases r n body)) e (groups_size r n body)))))
+        ∙ (groups_told (is_stepped f id) round (are_parts body) (released (is_stepped f id) b) r n body k p (block_fits (is_stepped f id) (groups_phase_kind body) (size (groups_phases r n body)) (stepped_at f id (groups_phase_kind body) (size (groups_phases r n body)) e (groups_size r n body)) (groups_size r n body)) h
+        ∙ ap (λ o. stands o (flat (groups_phases r n body)) k p || stands None (flat (idle_groups_phases r n body)) k p) (block_going (is_stepped f id) (groups_phases r n body) b (stepped_at f id (groups_phase_kind body) (size (groups_phases r n body)) e (groups_size r n body)))))
     form_told round b r n id place (decides test chosen other) k p e h =
         tells_two n (term_accesses test) (term_incidents (site_at (tested (is_stepped f id) b id) round) test) _ k p _ _ (term_count (site_at (tested (is_stepped f id) b id) round) test) (test_tells (tested (is_stepped f id) b id) n round test k p)
         (parted_tells (arms_part round other) begins (n + term_accesses test) _ k p refl
@@ -319,10 +319,10 @@ module _ (f : ℕ → ℕ) where
         ∙ or_both _ _ _ _
         (choice_stands (is_stepped f id) b (located r n (action id place (decides test chosen other))) id (phases (in_arm r id true) (n + term_accesses test) chosen) (other_phases (in_arm r id false) (n + term_accesses test + accesses_of chosen) other)
         (is_within k n (term_accesses test)) k p
-        (choice_straight (phases (in_arm r id true) (n + term_accesses test) chosen) (other_phases (in_arm r id false) (n + term_accesses test + accesses_of chosen) other) (stage_of chosen) (other_stage other) (stage_size (in_arm r id true) (n + term_accesses test) chosen) (other_size (in_arm r id false) (n + term_accesses test + accesses_of chosen) other) ∙ ap not (sym (stepped_choice (is_stepped f id) (stage_of chosen) (other_stage other) (ap (nat_le 2) e))))
+        (choice_straight (phases (in_arm r id true) (n + term_accesses test) chosen) (other_phases (in_arm r id false) (n + term_accesses test + accesses_of chosen) other) (phase_kind chosen) (other_phase_kind other) (stage_size (in_arm r id true) (n + term_accesses test) chosen) (other_size (in_arm r id false) (n + term_accesses test + accesses_of chosen) other) ∙ ap not (sym (stepped_choice (is_stepped f id) (phase_kind chosen) (other_phase_kind other) (ap (nat_le 2) e))))
         refl refl
-        (λ z. ap (λ v. is_within k n (term_accesses test) || v) (or_both _ _ _ _ (makes_tops (in_arm r id true) k (n + term_accesses test) chosen (first_few (stage_of chosen) (other_stage other) (sym z ∙ (stepped_choice (is_stepped f id) (stage_of chosen) (other_stage other) (ap (nat_le 2) e)))))
-        (other_tops (in_arm r id false) k (n + term_accesses test + accesses_of chosen) other (second_few (stage_of chosen) (other_stage other) (sym z ∙ (stepped_choice (is_stepped f id) (stage_of chosen) (other_stage other) (ap (nat_le 2) e))))))))
+        (λ z. ap (λ v. is_within k n (term_accesses test) || v) (or_both _ _ _ _ (makes_tops (in_arm r id true) k (n + term_accesses test) chosen (first_few (phase_kind chosen) (other_phase_kind other) (sym z ∙ (stepped_choice (is_stepped f id) (phase_kind chosen) (other_phase_kind other) (ap (nat_le 2) e)))))
+        (other_tops (in_arm r id false) k (n + term_accesses test + accesses_of chosen) other (second_few (phase_kind chosen) (other_phase_kind other) (sym z ∙ (stepped_choice (is_stepped f id) (phase_kind chosen) (other_phase_kind other) (ap (nat_le 2) e))))))))
         (idle_append (idle_phases (in_arm r id true) (n + term_accesses test) chosen) (idle_other_phases (in_arm r id false) (n + term_accesses test + accesses_of chosen) other) k p))
     form_told round b r n id place (repeats test body) k p e h =
         tells_two n (term_accesses test) (term_incidents (site_at id round) test) (next ∷ (incidents f round closed body ++ ends ∷ [])) k p _ _ (term_count (site_at id round) test) (test_tells id n round test k p)
@@ -341,7 +341,7 @@ module _ (f : ℕ → ℕ) where
         (ap (λ o. o.last) (after f (in_loop r (loop_of iterator low high factor)) n closed body h.0) ∙ last_opened (phases (in_loop r (loop_of iterator low high factor)) n body)))
         ∙ sym (folded_stands (phases (in_loop r (loop_of iterator low high factor)) n body) (other_phases (in_loop r (loop_of iterator low high factor)) (n + accesses_of body) combine) k p))
         (idle_append (idle_phases (in_loop r (loop_of iterator low high factor)) n body) (idle_other_phases (in_loop r (loop_of iterator low high factor)) (n + accesses_of body) combine) k p)
-        ∙ turn_stands b.going (located r n (action id place (counts iterator declared low high factor body combine combine_place))) (turn_count low.value high.value factor.value) (stage_of body) (other_stage combine) (folded (phases (in_loop r (loop_of iterator low high factor)) n body) (other_phases (in_loop r (loop_of iterator low high factor)) (n + accesses_of body) combine)) (idle_phases (in_loop r (loop_of iterator low high factor)) n body ++ idle_other_phases (in_loop r (loop_of iterator low high factor)) (n + accesses_of body) combine) k p
+        ∙ turn_stands b.going (located r n (action id place (counts iterator declared low high factor body combine combine_place))) (turn_count low.value high.value factor.value) (phase_kind body) (other_phase_kind combine) (folded (phases (in_loop r (loop_of iterator low high factor)) n body) (other_phases (in_loop r (loop_of iterator low high factor)) (n + accesses_of body) combine)) (idle_phases (in_loop r (loop_of iterator low high factor)) n body ++ idle_other_phases (in_loop r (loop_of iterator low high factor)) (n + accesses_of body) combine) k p
         (loop_turns (in_loop r (loop_of iterator low high factor)) n (located r n (action id place (counts iterator declared low high factor body combine combine_place))) (turn_count low.value high.value factor.value) body combine)))
 
     other_told : (round : Option ℕ) (b : Open) (r : Around) (n : ℕ) (o : MaybeAction) (k p : ℕ) → KnownOther f o
@@ -355,9 +355,9 @@ module _ (f : ℕ → ℕ) where
     combine_told round b r n (one_action (action id place form)) k p h =
         told round (into_combine (is_stepped f id) b) r n (action id place form) k p h
         ∙ ap (λ o. stands o (flat (phases r n (action id place form))) k p || stands None (flat (idle_phases r n (action id place form))) k p)
-        (combine_going (is_stepped f id) (phases r n (action id place form)) b (stepped_at f id (form_stage form) (size (phases r n (action id place form))) h.0 (stage_size r n (action id place form))))
+        (combine_going (is_stepped f id) (phases r n (action id place form)) b (stepped_at f id (form_phase_kind form) (size (phases r n (action id place form))) h.0 (stage_size r n (action id place form))))
 
-    groups_told : (s : Bool) (round : Option ℕ) (parted : Bool) (b : Open) (r : Around) (n : ℕ) (body : Groups) (k p : ℕ) → BlockFits s (groups_stage body) → KnownGroups f body
+    groups_told : (s : Bool) (round : Option ℕ) (parted : Bool) (b : Open) (r : Around) (n : ℕ) (body : Groups) (k p : ℕ) → BlockFits s (groups_phase_kind body) → KnownGroups f body
         → tells n (groups_incidents f round s parted b body) k p ≡ (stands (if s then None else b.going) (flat (groups_phases r n body)) k p || stands None (flat (idle_groups_phases r n body)) k p)
     groups_told s round parted b r n no_groups k p fit h = refl
     groups_told true round parted b r n (group_then part rest) k p fit h =
@@ -369,13 +369,13 @@ module _ (f : ℕ → ℕ) where
         (idle_append (idle_part_phases r n part) (idle_groups_phases r (n + part_accesses part) rest) k p))
     groups_told false round parted b r n (group_then part rest) k p fit h =
         tells_two n (part_accesses part) (part_incidents f round b part) _ k p _ _ (part_count f round b part) (part_told round b r n part k p h.0)
-        (parted_tells parted next (n + part_accesses part) _ k p refl ∙ groups_told false round parted (part_open f b part) r (n + part_accesses part) rest k p (sum_second (part_stage part) (groups_stage rest) fit) h.1)
+        (parted_tells parted next (n + part_accesses part) _ k p refl ∙ groups_told false round parted (part_open f b part) r (n + part_accesses part) rest k p (sum_second (part_phase_kind part) (groups_phase_kind rest) fit) h.1)
         ∙ (four (all_stand b.going (parts_phases r n part) k p) (stands None (flat (idle_part_phases r n part)) k p) (stands (part_open f b part).going (flat (groups_phases r (n + part_accesses part) rest)) k p) (stands None (flat (idle_groups_phases r (n + part_accesses part) rest)) k p)
         ∙ or_both _ _ _ _
         (or_both _ _ _ _
-        (sym (joined_stands b.going [] (parts_phases r n part) k p (inr (subst (λ (m : ℕ). m ≤ 1) (part_size r n part) (sum_first (part_stage part) (groups_stage rest) fit)))))
+        (sym (joined_stands b.going [] (parts_phases r n part) k p (inr (subst (λ (m : ℕ). m ≤ 1) (part_size r n part) (sum_first (part_phase_kind part) (groups_phase_kind rest) fit)))))
         (ap (λ o. stands o (flat (groups_phases r (n + part_accesses part) rest)) k p)
-        (ap (λ o. o.going) (part_straight f r n b part (sum_first (part_stage part) (groups_stage rest) fit) h.0) ∙ going_opened b (joined [] (parts_phases r n part))))
+        (ap (λ o. o.going) (part_straight f r n b part (sum_first (part_phase_kind part) (groups_phase_kind rest) fit) h.0) ∙ going_opened b (joined [] (parts_phases r n part))))
         ∙ sym (beside_stands b.going (joined [] (parts_phases r n part)) (groups_phases r (n + part_accesses part) rest) k p (full_joined [] (parts_phases r n part)) (groups_full r (n + part_accesses part) rest) (few_parts r n part rest fit)))
         (idle_append (idle_part_phases r n part) (idle_groups_phases r (n + part_accesses part) rest) k p))
 

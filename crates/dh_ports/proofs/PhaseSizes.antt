@@ -12,7 +12,7 @@ use Rattle.dh_meaning.specs.Phases.{Located, Phase, straight, turns, repeated, d
 use Rattle.dh_meaning.specs.Sites.{Around, in_arm, in_loop, loop_of}
 use Rattle.dh_events.specs.declared.noting.Open.{Open}
 use Rattle.dh_events.specs.Incidents.{open_phases, open_at, released, phase_at, phase_of, tested, inside_choice, behind_loop, is_stepped, open_after, form_open, groups_open, part_open}
-use Rattle.dh_events.specs.Stages.{loop_stage, choice_stage, stage_of, form_stage, other_stage, groups_stage, part_stage}
+use Rattle.dh_tree.specs.PhaseKinds.{phase_kind, form_phase_kind, other_phase_kind, groups_phase_kind, part_phase_kind, choice_kind, turns_kind}
 use Rattle.dh_ports.proofs.PhaseRuns.{or_both}
 use Rattle.dh_ports.proofs.PhaseShapes.{size, most, IsFull, straight_size, some_size, size_joined, full_joined, size_append, full_append, max_right, last_behind, opened, opened_all, opened_joined, last_joined, last_append, opened_more, opened_beside, tops, all_tops, tops_append, tops_joined}
 use Rattle.dh_ports.proofs.StagesKnown.{Known, KnownInside, KnownGroups, KnownPart}
@@ -27,7 +27,7 @@ choice_straight ps qs k l e f =
     ap (λ v. v && are_straight qs) (straight_size ps) ∙ (ap (λ v. not (nat_le 2 (size ps)) && v) (straight_size qs) ∙ (both_not (size ps) (size qs)
     ∙ (ap (λ n. not (nat_le 2 (max n (size qs)))) (sym e) ∙ ap (λ n. not (nat_le 2 (max k n))) (sym f))))
 
-choice_size : (c : Located) (ps qs : List Phase) (k l : ℕ) → k ≡ size ps → l ≡ size qs → choice_stage k l ≡ size (choice_phases c ps qs)
+choice_size : (c : Located) (ps qs : List Phase) (k l : ℕ) → k ≡ size ps → l ≡ size qs → choice_kind k l ≡ size (choice_phases c ps qs)
 choice_size c ps qs k l e f = by (nat_le 2 (max k l)) ∙ ap (λ v. size (if v then one_command c else decided c (of_list ps) (of_list qs) ∷ [])) (sym (choice_straight ps qs k l e f))
   where
     by : (v : Bool) → (if v then 2 else 1) ≡ size (if not v then one_command c else decided c (of_list ps) (of_list qs) ∷ [])
@@ -72,7 +72,7 @@ folds (p ∷ q ∷ ps) fold f g = does p (folded (q ∷ ps) fold) refl refl
 
 abbrev pub TurnCases : Located → (count k l : ℕ) → List Phase → Type 0
 TurnCases c count k l fs =
-    ((loop_stage count k l ≡ 0) × (turn_phases c count fs ≡ [])) ⊎ ((loop_stage count k l ≡ 2) × (turn_phases c count fs ≡ turns c count (of_list fs) ∷ []))
+    ((turns_kind count k l ≡ 0) × (turn_phases c count fs ≡ [])) ⊎ ((turns_kind count k l ≡ 2) × (turn_phases c count fs ≡ turns c count (of_list fs) ∷ []))
 
 turned : (c : Located) (count k l : ℕ) (fs : List Phase) → Folds ((k == 0) && (l == 0)) fs → TurnCases c count k l fs
 turned c count k l fs (idle e f) = inl (ap (λ v. if v then 0 else 2) (or_right (count == 0) ((k == 0) && (l == 0)) e), ap (turn_phases c count) f)
@@ -90,7 +90,7 @@ pub turn_cases : (c : Located) (count k l : ℕ) (ps fold : List Phase) → k �
 turn_cases c count k l ps fold e f full fully =
     turned c count k l (folded ps fold) (subst (λ (b : Bool). Folds b (folded ps fold)) (ap (λ n. (n == 0) && (size fold == 0)) (sym e) ∙ ap (λ n. (k == 0) && (n == 0)) (sym f)) (folds ps fold full fully))
 
-turn_size : (c : Located) (count k l : ℕ) (fs : List Phase) → TurnCases c count k l fs → loop_stage count k l ≡ size (turn_phases c count fs)
+turn_size : (c : Located) (count k l : ℕ) (fs : List Phase) → TurnCases c count k l fs → turns_kind count k l ≡ size (turn_phases c count fs)
 turn_size c count k l fs (inl x) = x.0 ∙ ap size (sym x.1)
 turn_size c count k l fs (inr x) = x.0 ∙ ap size (sym x.1)
 
@@ -120,10 +120,10 @@ view_opened true b c id own = sym own
 view_opened false b c id own = refl
 
 mutual
-  pub stage_size : (r : Around) (n : ℕ) (a : Action) → stage_of a ≡ size (phases r n a)
+  pub stage_size : (r : Around) (n : ℕ) (a : Action) → phase_kind a ≡ size (phases r n a)
   stage_size r n (action id place form) = form_size r n id place form
 
-  form_size : (r : Around) (n id : ℕ) (place : Place) (form : ActionForm) → form_stage form ≡ size (form_phases r n id place form)
+  form_size : (r : Around) (n id : ℕ) (place : Place) (form : ActionForm) → form_phase_kind form ≡ size (form_phases r n id place form)
   form_size r n id place (lets name declared value) = refl
   form_size r n id place (lets_memory name shape shape_places value) = refl
   form_size r n id place (views name parent form) = view_size (moves form) (located r n (action id place (views name parent form)))
@@ -133,27 +133,27 @@ mutual
   form_size r n id place (calls function arguments) = refl
   form_size r n id place (blocks body) = groups_size r n body
   form_size r n id place (decides test chosen other) =
-      choice_size (located r n (action id place (decides test chosen other))) (phases (in_arm r id true) (n + term_accesses test) chosen) (other_phases (in_arm r id false) (n + term_accesses test + accesses_of chosen) other) (stage_of chosen) (other_stage other) (stage_size (in_arm r id true) (n + term_accesses test) chosen)
+      choice_size (located r n (action id place (decides test chosen other))) (phases (in_arm r id true) (n + term_accesses test) chosen) (other_phases (in_arm r id false) (n + term_accesses test + accesses_of chosen) other) (phase_kind chosen) (other_phase_kind other) (stage_size (in_arm r id true) (n + term_accesses test) chosen)
       (other_size (in_arm r id false) (n + term_accesses test + accesses_of chosen) other)
   form_size r n id place (repeats test body) = refl
   form_size r n id place (counts iterator declared low high factor body combine combine_place) =
-      turn_size (located r n (action id place (counts iterator declared low high factor body combine combine_place))) (turn_count low.value high.value factor.value) (stage_of body) (other_stage combine) (folded (phases (in_loop r (loop_of iterator low high factor)) n body) (other_phases (in_loop r (loop_of iterator low high factor)) (n + accesses_of body) combine))
-      (turn_cases (located r n (action id place (counts iterator declared low high factor body combine combine_place))) (turn_count low.value high.value factor.value) (stage_of body) (other_stage combine) (phases (in_loop r (loop_of iterator low high factor)) n body) (other_phases (in_loop r (loop_of iterator low high factor)) (n + accesses_of body) combine) (stage_size (in_loop r (loop_of iterator low high factor)) n body) (other_size (in_loop r (loop_of iterator low high factor)) (n + accesses_of body) combine)
+      turn_size (located r n (action id place (counts iterator declared low high factor body combine combine_place))) (turn_count low.value high.value factor.value) (phase_kind body) (other_phase_kind combine) (folded (phases (in_loop r (loop_of iterator low high factor)) n body) (other_phases (in_loop r (loop_of iterator low high factor)) (n + accesses_of body) combine))
+      (turn_cases (located r n (action id place (counts iterator declared low high factor body combine combine_place))) (turn_count low.value high.value factor.value) (phase_kind body) (other_phase_kind combine) (phases (in_loop r (loop_of iterator low high factor)) n body) (other_phases (in_loop r (loop_of iterator low high factor)) (n + accesses_of body) combine) (stage_size (in_loop r (loop_of iterator low high factor)) n body) (other_size (in_loop r (loop_of iterator low high factor)) (n + accesses_of body) combine)
       (full (in_loop r (loop_of iterator low high factor)) n body) (other_full (in_loop r (loop_of iterator low high factor)) (n + accesses_of body) combine))
 
-  pub other_size : (r : Around) (n : ℕ) (o : MaybeAction) → other_stage o ≡ size (other_phases r n o)
+  pub other_size : (r : Around) (n : ℕ) (o : MaybeAction) → other_phase_kind o ≡ size (other_phases r n o)
   other_size r n no_action = refl
   other_size r n (one_action a) = stage_size r n a
 
-  pub groups_size : (r : Around) (n : ℕ) (body : Groups) → groups_stage body ≡ size (groups_phases r n body)
+  pub groups_size : (r : Around) (n : ℕ) (body : Groups) → groups_phase_kind body ≡ size (groups_phases r n body)
   groups_size r n no_groups = refl
   groups_size r n (group_then part rest) =
-      both_sizes (part_stage part) (groups_stage rest) (size (joined [] (parts_phases r n part))) (size (groups_phases r (n + part_accesses part) rest)) (part_size r n part ∙ (max_itself (most (parts_phases r n part)) ∙ sym (size_joined [] (parts_phases r n part)))) (groups_size r (n + part_accesses part) rest)
+      both_sizes (part_phase_kind part) (groups_phase_kind rest) (size (joined [] (parts_phases r n part))) (size (groups_phases r (n + part_accesses part) rest)) (part_size r n part ∙ (max_itself (most (parts_phases r n part)) ∙ sym (size_joined [] (parts_phases r n part)))) (groups_size r (n + part_accesses part) rest)
       ∙ sym (size_append (joined [] (parts_phases r n part)) (groups_phases r (n + part_accesses part) rest) (full_joined [] (parts_phases r n part)) (groups_full r (n + part_accesses part) rest))
 
-  pub part_size : (r : Around) (n : ℕ) (part : Actions) → part_stage part ≡ most (parts_phases r n part)
+  pub part_size : (r : Around) (n : ℕ) (part : Actions) → part_phase_kind part ≡ most (parts_phases r n part)
   part_size r n no_actions = refl
-  part_size r n (action_then a rest) = ap (λ m. max m (part_stage rest)) (stage_size r n a) ∙ ap (λ m. max (size (phases r n a)) m) (part_size r (n + accesses_of a) rest)
+  part_size r n (action_then a rest) = ap (λ m. max m (part_phase_kind rest)) (stage_size r n a) ∙ ap (λ m. max (size (phases r n a)) m) (part_size r (n + accesses_of a) rest)
 
   pub full : (r : Around) (n : ℕ) (a : Action) → IsFull (phases r n a)
   full r n (action id place form) = form_full r n id place form
@@ -170,8 +170,8 @@ mutual
   form_full r n id place (decides test chosen other) = choice_full (located r n (action id place (decides test chosen other))) (phases (in_arm r id true) (n + term_accesses test) chosen) (other_phases (in_arm r id false) (n + term_accesses test + accesses_of chosen) other)
   form_full r n id place (repeats test body) = tt
   form_full r n id place (counts iterator declared low high factor body combine combine_place) =
-      turn_full (located r n (action id place (counts iterator declared low high factor body combine combine_place))) (turn_count low.value high.value factor.value) (stage_of body) (other_stage combine) (folded (phases (in_loop r (loop_of iterator low high factor)) n body) (other_phases (in_loop r (loop_of iterator low high factor)) (n + accesses_of body) combine))
-      (turn_cases (located r n (action id place (counts iterator declared low high factor body combine combine_place))) (turn_count low.value high.value factor.value) (stage_of body) (other_stage combine) (phases (in_loop r (loop_of iterator low high factor)) n body) (other_phases (in_loop r (loop_of iterator low high factor)) (n + accesses_of body) combine) (stage_size (in_loop r (loop_of iterator low high factor)) n body) (other_size (in_loop r (loop_of iterator low high factor)) (n + accesses_of body) combine)
+      turn_full (located r n (action id place (counts iterator declared low high factor body combine combine_place))) (turn_count low.value high.value factor.value) (phase_kind body) (other_phase_kind combine) (folded (phases (in_loop r (loop_of iterator low high factor)) n body) (other_phases (in_loop r (loop_of iterator low high factor)) (n + accesses_of body) combine))
+      (turn_cases (located r n (action id place (counts iterator declared low high factor body combine combine_place))) (turn_count low.value high.value factor.value) (phase_kind body) (other_phase_kind combine) (phases (in_loop r (loop_of iterator low high factor)) n body) (other_phases (in_loop r (loop_of iterator low high factor)) (n + accesses_of body) combine) (stage_size (in_loop r (loop_of iterator low high factor)) n body) (other_size (in_loop r (loop_of iterator low high factor)) (n + accesses_of body) combine)
       (full (in_loop r (loop_of iterator low high factor)) n body) (other_full (in_loop r (loop_of iterator low high factor)) (n + accesses_of body) combine))
 
   pub other_full : (r : Around) (n : ℕ) (o : MaybeAction) → IsFull (other_phases r n o)
@@ -184,9 +184,9 @@ mutual
       full_append (joined [] (parts_phases r n part)) (groups_phases r (n + part_accesses part) rest) (full_joined [] (parts_phases r n part)) (groups_full r (n + part_accesses part) rest)
 
 -- the turns of a loop
-pub loop_turns : (r : Around) (n : ℕ) (c : Located) (count : ℕ) (body : Action) (combine : MaybeAction) → TurnCases c count (stage_of body) (other_stage combine) (folded (phases r n body) (other_phases r (n + accesses_of body) combine))
+pub loop_turns : (r : Around) (n : ℕ) (c : Located) (count : ℕ) (body : Action) (combine : MaybeAction) → TurnCases c count (phase_kind body) (other_phase_kind combine) (folded (phases r n body) (other_phases r (n + accesses_of body) combine))
 loop_turns r n c count body combine =
-    turn_cases c count (stage_of body) (other_stage combine) (phases r n body) (other_phases r (n + accesses_of body) combine) (stage_size r n body) (other_size r (n + accesses_of body) combine) (full r n body) (other_full r (n + accesses_of body) combine)
+    turn_cases c count (phase_kind body) (other_phase_kind combine) (phases r n body) (other_phases r (n + accesses_of body) combine) (stage_size r n body) (other_size r (n + accesses_of body) combine) (full r n body) (other_full r (n + accesses_of body) combine)
 
 -- The accesses of straight commands.
 
@@ -199,7 +199,7 @@ sum_first k l e = grind (arith, e)
 pub sum_second : (k l : ℕ) → min 2 (k + l) ≤ 1 → l ≤ 1
 sum_second k l e = grind (arith, e)
 
-pub few_choice : (k l : ℕ) → choice_stage k l ≤ 1 → nat_le 2 (max k l) ≡ false
+pub few_choice : (k l : ℕ) → choice_kind k l ≤ 1 → nat_le 2 (max k l) ≡ false
 few_choice k l h = by (nat_le 2 (max k l)) refl
   where
     never : 2 ≤ 1 → ⊥
@@ -224,10 +224,10 @@ tops_turn c count k l fs i (inl x) = ap (tops i) (sym x.1)
 tops_turn c count k l fs i (inr x) = ap (tops i) (sym x.1)
 
 mutual
-  pub makes_tops : (r : Around) (k n : ℕ) (a : Action) → stage_of a ≤ 1 → makes k n a ≡ tops k (phases r n a)
+  pub makes_tops : (r : Around) (k n : ℕ) (a : Action) → phase_kind a ≤ 1 → makes k n a ≡ tops k (phases r n a)
   makes_tops r k n (action id place form) h = form_tops r k n id place form h
 
-  form_tops : (r : Around) (k n id : ℕ) (place : Place) (form : ActionForm) → form_stage form ≤ 1 → form_makes k n form ≡ tops k (form_phases r n id place form)
+  form_tops : (r : Around) (k n id : ℕ) (place : Place) (form : ActionForm) → form_phase_kind form ≤ 1 → form_makes k n form ≡ tops k (form_phases r n id place form)
   form_tops r k n id place (lets name declared value) h = twice_none (form_makes k n (lets name declared value))
   form_tops r k n id place (lets_memory name shape shape_places value) h = refl
   form_tops r k n id place (views name parent (shrinks by by_place)) h = within_none k n
@@ -241,28 +241,28 @@ mutual
   form_tops r k n id place (blocks body) h = groups_tops r k n body h
   form_tops r k n id place (decides test chosen other) h =
       tops_choice (located r n (action id place (decides test chosen other))) (phases (in_arm r id true) (n + term_accesses test) chosen) (other_phases (in_arm r id false) (n + term_accesses test + accesses_of chosen) other) k
-      (choice_straight (phases (in_arm r id true) (n + term_accesses test) chosen) (other_phases (in_arm r id false) (n + term_accesses test + accesses_of chosen) other) (stage_of chosen) (other_stage other) (stage_size (in_arm r id true) (n + term_accesses test) chosen) (other_size (in_arm r id false) (n + term_accesses test + accesses_of chosen) other)
-      ∙ ap not (few_choice (stage_of chosen) (other_stage other) h))
+      (choice_straight (phases (in_arm r id true) (n + term_accesses test) chosen) (other_phases (in_arm r id false) (n + term_accesses test + accesses_of chosen) other) (phase_kind chosen) (other_phase_kind other) (stage_size (in_arm r id true) (n + term_accesses test) chosen) (other_size (in_arm r id false) (n + term_accesses test + accesses_of chosen) other)
+      ∙ ap not (few_choice (phase_kind chosen) (other_phase_kind other) h))
   form_tops r k n id place (repeats test body) h = refl
   form_tops r k n id place (counts iterator declared low high factor body combine combine_place) h =
-      tops_turn (located r n (action id place (counts iterator declared low high factor body combine combine_place))) (turn_count low.value high.value factor.value) (stage_of body) (other_stage combine) (folded (phases (in_loop r (loop_of iterator low high factor)) n body) (other_phases (in_loop r (loop_of iterator low high factor)) (n + accesses_of body) combine)) k
+      tops_turn (located r n (action id place (counts iterator declared low high factor body combine combine_place))) (turn_count low.value high.value factor.value) (phase_kind body) (other_phase_kind combine) (folded (phases (in_loop r (loop_of iterator low high factor)) n body) (other_phases (in_loop r (loop_of iterator low high factor)) (n + accesses_of body) combine)) k
       (loop_turns (in_loop r (loop_of iterator low high factor)) n (located r n (action id place (counts iterator declared low high factor body combine combine_place))) (turn_count low.value high.value factor.value) body combine)
 
-  pub other_tops : (r : Around) (k n : ℕ) (o : MaybeAction) → other_stage o ≤ 1 → other_makes k n o ≡ tops k (other_phases r n o)
+  pub other_tops : (r : Around) (k n : ℕ) (o : MaybeAction) → other_phase_kind o ≤ 1 → other_makes k n o ≡ tops k (other_phases r n o)
   other_tops r k n no_action h = refl
   other_tops r k n (one_action a) h = makes_tops r k n a h
 
-  groups_tops : (r : Around) (k n : ℕ) (body : Groups) → groups_stage body ≤ 1 → groups_make k n body ≡ tops k (groups_phases r n body)
+  groups_tops : (r : Around) (k n : ℕ) (body : Groups) → groups_phase_kind body ≤ 1 → groups_make k n body ≡ tops k (groups_phases r n body)
   groups_tops r k n no_groups h = refl
   groups_tops r k n (group_then part rest) h =
-      or_both (part_makes k n part) (groups_make k (n + part_accesses part) rest) (tops k (joined [] (parts_phases r n part))) (tops k (groups_phases r (n + part_accesses part) rest)) (part_tops r k n part (sum_first (part_stage part) (groups_stage rest) h) ∙ sym (tops_joined k [] (parts_phases r n part)))
-      (groups_tops r k (n + part_accesses part) rest (sum_second (part_stage part) (groups_stage rest) h))
+      or_both (part_makes k n part) (groups_make k (n + part_accesses part) rest) (tops k (joined [] (parts_phases r n part))) (tops k (groups_phases r (n + part_accesses part) rest)) (part_tops r k n part (sum_first (part_phase_kind part) (groups_phase_kind rest) h) ∙ sym (tops_joined k [] (parts_phases r n part)))
+      (groups_tops r k (n + part_accesses part) rest (sum_second (part_phase_kind part) (groups_phase_kind rest) h))
       ∙ sym (tops_append k (joined [] (parts_phases r n part)) (groups_phases r (n + part_accesses part) rest))
 
-  part_tops : (r : Around) (k n : ℕ) (part : Actions) → part_stage part ≤ 1 → part_makes k n part ≡ all_tops k (parts_phases r n part)
+  part_tops : (r : Around) (k n : ℕ) (part : Actions) → part_phase_kind part ≤ 1 → part_makes k n part ≡ all_tops k (parts_phases r n part)
   part_tops r k n no_actions h = refl
   part_tops r k n (action_then a rest) h =
-      or_both (makes k n a) (part_makes k (n + accesses_of a) rest) (tops k (phases r n a)) (all_tops k (parts_phases r (n + accesses_of a) rest)) (makes_tops r k n a (max_first (stage_of a) (part_stage rest) h)) (part_tops r k (n + accesses_of a) rest (max_right (stage_of a) (part_stage rest) h))
+      or_both (makes k n a) (part_makes k (n + accesses_of a) rest) (tops k (phases r n a)) (all_tops k (parts_phases r (n + accesses_of a) rest)) (makes_tops r k n a (max_first (phase_kind a) (part_phase_kind rest) h)) (part_tops r k (n + accesses_of a) rest (max_right (phase_kind a) (part_phase_kind rest) h))
 
 -- What is open behind commands.
 
@@ -280,21 +280,21 @@ choice_opened : (s : Bool) (b : Open) (c : Located) (id : ℕ) (ps qs : List Pha
 choice_opened true b c id ps qs e own = ap (λ v. opened b (if v then one_command c else decided c (of_list ps) (of_list qs) ∷ [])) (sym e)
 choice_opened false b c id ps qs e own = sym own ∙ ap (λ v. opened b (if v then one_command c else decided c (of_list ps) (of_list qs) ∷ [])) (sym e)
 
-pub stepped_choice : (s : Bool) (k l : ℕ) → s ≡ nat_le 2 (choice_stage k l) → s ≡ nat_le 2 (max k l)
+pub stepped_choice : (s : Bool) (k l : ℕ) → s ≡ nat_le 2 (choice_kind k l) → s ≡ nat_le 2 (max k l)
 stepped_choice s k l e = e ∙ by (nat_le 2 (max k l))
   where
     by : (v : Bool) → nat_le 2 (if v then 2 else 1) ≡ v
     by true = refl
     by false = refl
 
-turn_opened : (s : Bool) (b : Open) (c : Located) (count k l : ℕ) (fs : List Phase) → s ≡ nat_le 2 (loop_stage count k l) → TurnCases c count k l fs → behind_loop s b ≡ opened b (turn_phases c count fs)
+turn_opened : (s : Bool) (b : Open) (c : Located) (count k l : ℕ) (fs : List Phase) → s ≡ nat_le 2 (turns_kind count k l) → TurnCases c count k l fs → behind_loop s b ≡ opened b (turn_phases c count fs)
 turn_opened s b c count k l fs e (inl x) = ap (λ v. behind_loop v b) (e ∙ ap (nat_le 2) x.0) ∙ ap (opened b) (sym x.1)
 turn_opened s b c count k l fs e (inr x) = ap (λ v. behind_loop v b) (e ∙ ap (nat_le 2) x.0) ∙ ap (opened b) (sym x.1)
 
-pub few_parts : (r : Around) (n : ℕ) (part : Actions) (rest : Groups) → min 2 (part_stage part + groups_stage rest) ≤ 1 → min 2 (size (joined [] (parts_phases r n part)) + size (groups_phases r (n + part_accesses part) rest)) ≤ 1
+pub few_parts : (r : Around) (n : ℕ) (part : Actions) (rest : Groups) → min 2 (part_phase_kind part + groups_phase_kind rest) ≤ 1 → min 2 (size (joined [] (parts_phases r n part)) + size (groups_phases r (n + part_accesses part) rest)) ≤ 1
 few_parts r n part rest few =
     subst (λ (m : ℕ). m ≤ 1)
-    (both_sizes (part_stage part) (groups_stage rest) (size (joined [] (parts_phases r n part))) (size (groups_phases r (n + part_accesses part) rest)) (part_size r n part ∙ (max_itself (most (parts_phases r n part)) ∙ sym (size_joined [] (parts_phases r n part)))) (groups_size r (n + part_accesses part) rest)) few
+    (both_sizes (part_phase_kind part) (groups_phase_kind rest) (size (joined [] (parts_phases r n part))) (size (groups_phases r (n + part_accesses part) rest)) (part_size r n part ∙ (max_itself (most (parts_phases r n part)) ∙ sym (size_joined [] (parts_phases r n part)))) (groups_size r (n + part_accesses part) rest)) few
 
 block_opened : (f : ℕ → ℕ) (s : Bool) (b : Open) (body : Groups) (gs : List Phase) → s ≡ nat_le 2 (size gs) → (groups_open f true (open_phases None b.last) body).last ≡ last_behind b.last gs
     → (size gs ≤ 1 → groups_open f false b body ≡ opened b gs) → released s (groups_open f s (released s b) body) ≡ opened b gs
@@ -305,7 +305,7 @@ mutual
   pub after : (f : ℕ → ℕ) (r : Around) (n : ℕ) (b : Open) (a : Action) → Known f a → open_after f b a ≡ opened b (phases r n a)
   after f r n b (action id place form) h = form_after f r n b id place form h.0 h.1
 
-  form_after : (f : ℕ → ℕ) (r : Around) (n : ℕ) (b : Open) (id : ℕ) (place : Place) (form : ActionForm) → f id ≡ form_stage form → KnownInside f form → form_open f b id form ≡ opened b (form_phases r n id place form)
+  form_after : (f : ℕ → ℕ) (r : Around) (n : ℕ) (b : Open) (id : ℕ) (place : Place) (form : ActionForm) → f id ≡ form_phase_kind form → KnownInside f form → form_open f b id form ≡ opened b (form_phases r n id place form)
   form_after f r n b id place (lets name declared value) e h = refl
   form_after f r n b id place (lets_memory name shape shape_places value) e h = refl
   form_after f r n b id place (views name parent form) e h = view_opened (moves form) b (located r n (action id place (views name parent form))) id refl
@@ -314,16 +314,16 @@ mutual
   form_after f r n b id place (reduces target op value) e h = refl
   form_after f r n b id place (calls function arguments) e h = refl
   form_after f r n b id place (blocks body) e h =
-      block_opened f (is_stepped f id) b body (groups_phases r n body) (stepped_at f id (groups_stage body) (size (groups_phases r n body)) e (groups_size r n body)) (groups_last f r n (open_phases None b.last) body h)
+      block_opened f (is_stepped f id) b body (groups_phases r n body) (stepped_at f id (groups_phase_kind body) (size (groups_phases r n body)) e (groups_size r n body)) (groups_last f r n (open_phases None b.last) body h)
       (λ few. groups_straight f r n b body (subst (λ (m : ℕ). m ≤ 1) (sym (groups_size r n body)) few) h)
   form_after f r n b id place (decides test chosen other) e h =
       choice_opened (is_stepped f id) b (located r n (action id place (decides test chosen other))) id (phases (in_arm r id true) (n + term_accesses test) chosen) (other_phases (in_arm r id false) (n + term_accesses test + accesses_of chosen) other)
-      (choice_straight (phases (in_arm r id true) (n + term_accesses test) chosen) (other_phases (in_arm r id false) (n + term_accesses test + accesses_of chosen) other) (stage_of chosen) (other_stage other) (stage_size (in_arm r id true) (n + term_accesses test) chosen) (other_size (in_arm r id false) (n + term_accesses test + accesses_of chosen) other)
-      ∙ ap not (sym (stepped_choice (is_stepped f id) (stage_of chosen) (other_stage other) (ap (nat_le 2) e))))
+      (choice_straight (phases (in_arm r id true) (n + term_accesses test) chosen) (other_phases (in_arm r id false) (n + term_accesses test + accesses_of chosen) other) (phase_kind chosen) (other_phase_kind other) (stage_size (in_arm r id true) (n + term_accesses test) chosen) (other_size (in_arm r id false) (n + term_accesses test + accesses_of chosen) other)
+      ∙ ap not (sym (stepped_choice (is_stepped f id) (phase_kind chosen) (other_phase_kind other) (ap (nat_le 2) e))))
       refl
   form_after f r n b id place (repeats test body) e h = refl
   form_after f r n b id place (counts iterator declared low high factor body combine combine_place) e h =
-      turn_opened (is_stepped f id) b (located r n (action id place (counts iterator declared low high factor body combine combine_place))) (turn_count low.value high.value factor.value) (stage_of body) (other_stage combine) (folded (phases (in_loop r (loop_of iterator low high factor)) n body) (other_phases (in_loop r (loop_of iterator low high factor)) (n + accesses_of body) combine)) (ap (nat_le 2) e)
+      turn_opened (is_stepped f id) b (located r n (action id place (counts iterator declared low high factor body combine combine_place))) (turn_count low.value high.value factor.value) (phase_kind body) (other_phase_kind combine) (folded (phases (in_loop r (loop_of iterator low high factor)) n body) (other_phases (in_loop r (loop_of iterator low high factor)) (n + accesses_of body) combine)) (ap (nat_le 2) e)
       (loop_turns (in_loop r (loop_of iterator low high factor)) n (located r n (action id place (counts iterator declared low high factor body combine combine_place))) (turn_count low.value high.value factor.value) body combine)
 
   -- the last phase behind the parts of a block of more than one phase
@@ -334,11 +334,11 @@ mutual
       ∙ (ap (λ l. last_behind l (groups_phases r (n + part_accesses part) rest)) (ap (λ o. o.last) (part_after f r n (open_phases None b.last) part h.0) ∙ last_joined b.last [] (parts_phases r n part))
       ∙ sym (last_append b.last (joined [] (parts_phases r n part)) (groups_phases r (n + part_accesses part) rest)))
 
-  groups_straight : (f : ℕ → ℕ) (r : Around) (n : ℕ) (b : Open) (body : Groups) → groups_stage body ≤ 1 → KnownGroups f body → groups_open f false b body ≡ opened b (groups_phases r n body)
+  groups_straight : (f : ℕ → ℕ) (r : Around) (n : ℕ) (b : Open) (body : Groups) → groups_phase_kind body ≤ 1 → KnownGroups f body → groups_open f false b body ≡ opened b (groups_phases r n body)
   groups_straight f r n b no_groups few h = refl
   groups_straight f r n b (group_then part rest) few h =
-      groups_straight f r (n + part_accesses part) (part_open f b part) rest (sum_second (part_stage part) (groups_stage rest) few) h.1
-      ∙ (ap (λ o. opened o (groups_phases r (n + part_accesses part) rest)) (part_after f r n b part h.0 ∙ opened_joined b [] (parts_phases r n part) (subst (λ (m : ℕ). m ≤ 1) (part_size r n part) (sum_first (part_stage part) (groups_stage rest) few)))
+      groups_straight f r (n + part_accesses part) (part_open f b part) rest (sum_second (part_phase_kind part) (groups_phase_kind rest) few) h.1
+      ∙ (ap (λ o. opened o (groups_phases r (n + part_accesses part) rest)) (part_after f r n b part h.0 ∙ opened_joined b [] (parts_phases r n part) (subst (λ (m : ℕ). m ≤ 1) (part_size r n part) (sum_first (part_phase_kind part) (groups_phase_kind rest) few)))
       ∙ opened_beside b (joined [] (parts_phases r n part)) (groups_phases r (n + part_accesses part) rest) (full_joined [] (parts_phases r n part)) (groups_full r (n + part_accesses part) rest) (few_parts r n part rest few))
 
   pub part_after : (f : ℕ → ℕ) (r : Around) (n : ℕ) (b : Open) (part : Actions) → KnownPart f part → part_open f b part ≡ opened_all b (parts_phases r n part)
@@ -346,5 +346,5 @@ mutual
   part_after f r n b (action_then a rest) h =
       part_after f r (n + accesses_of a) (open_after f b a) rest h.1 ∙ ap (λ o. opened_all o (parts_phases r (n + accesses_of a) rest)) (after f r n b a h.0)
 
-pub part_straight : (f : ℕ → ℕ) (r : Around) (n : ℕ) (b : Open) (part : Actions) → part_stage part ≤ 1 → KnownPart f part → part_open f b part ≡ opened b (joined [] (parts_phases r n part))
+pub part_straight : (f : ℕ → ℕ) (r : Around) (n : ℕ) (b : Open) (part : Actions) → part_phase_kind part ≤ 1 → KnownPart f part → part_open f b part ≡ opened b (joined [] (parts_phases r n part))
 part_straight f r n b part few h = part_after f r n b part h ∙ opened_joined b [] (parts_phases r n part) (subst (λ (m : ℕ). m ≤ 1) (part_size r n part) few)

@@ -8,7 +8,7 @@ use Rattle.dh_tree.specs.PlainTrees.{shrinks, splits, suffixes, shifts, Action, 
 use Rattle.dh_meaning.specs.AccessNumbers.{term_accesses, accesses_of, part_accesses}
 use Rattle.dh_meaning.specs.Phases.{Located, Phase, decided, of_list, joined, are_straight, one_command, folded, turn_count, turn_phases, choice_phases, located, phases, form_phases, other_phases, groups_phases, parts_phases, unless_turns, idle_phases, idle_form_phases, idle_other_phases, idle_groups_phases, idle_part_phases}
 use Rattle.dh_meaning.specs.Sites.{Around, in_arm, in_loop, loop_of}
-use Rattle.dh_events.specs.Stages.{stage_of, other_stage}
+use Rattle.dh_tree.specs.PhaseKinds.{phase_kind, other_phase_kind}
 use Rattle.dh_ports.proofs.PhaseRuns.{tag_of, times, flat_all, flat, runs_nil, flat_append, flat_of_list, times_append}
 use Rattle.dh_ports.proofs.PhaseShapes.{all_times, times_joined, times_folded}
 use Rattle.dh_ports.proofs.PhaseSizes.{TurnCases, loop_turns}
@@ -127,7 +127,7 @@ mutual
       loop_all _ (if id == t then 1 else 0) _ 0 _
       (two_le _ _ _
       (turn_sum _ _ _ _ _ _ _ _ _ _ _
-      (turn_runs t (located r n (action id place (counts iterator declared low high factor body combine combine_place))) (turn_count low.value high.value factor.value) (stage_of body) (other_stage combine) (folded (phases (in_loop r (loop_of iterator low high factor)) n body) (other_phases (in_loop r (loop_of iterator low high factor)) (n + accesses_of body) combine))
+      (turn_runs t (located r n (action id place (counts iterator declared low high factor body combine combine_place))) (turn_count low.value high.value factor.value) (phase_kind body) (other_phase_kind combine) (folded (phases (in_loop r (loop_of iterator low high factor)) n body) (other_phases (in_loop r (loop_of iterator low high factor)) (n + accesses_of body) combine))
       (loop_turns (in_loop r (loop_of iterator low high factor)) n (located r n (action id place (counts iterator declared low high factor body combine combine_place))) (turn_count low.value high.value factor.value) body combine))
       (times_folded t (phases (in_loop r (loop_of iterator low high factor)) n body) (other_phases (in_loop r (loop_of iterator low high factor)) (n + accesses_of body) combine))
       (runs_append t (idle_phases (in_loop r (loop_of iterator low high factor)) n body) (idle_other_phases (in_loop r (loop_of iterator low high factor)) (n + accesses_of body) combine))

@@ -18,7 +18,8 @@ use Rattle.dh_ports.specs.declared.copies.Level.{Level}
 use Rattle.dh_ports.specs.declared.copies.Lane.{Lane}
 use Rattle.dh_ports.specs.declared.copies.Paths.{Paths}
 use Rattle.dh_events.specs.declared.dependence.Scope.{Scope}
-use Rattle.dh_ports.specs.Banks.{counters_in, key_number, path_at}
+use Rattle.dh_ports.specs.Banks.{key_number, path_at}
+use Rattle.dh_shape.specs.Classified.{loops_in}
 use Rattle.dh_events.specs.Accesses.{element_in}
 use Rattle.dh_ports.specs.Claims.{source_of}
 use Rattle.dh_ports.specs.Copies.{all_lane_banks, bank_of_lanes, greatest_key, key_of_levels, AreLanes, AreLevels, ArePaths, HasFewBanks, HasFewKeys, IsReach, IsSpread, copies_round}
@@ -38,7 +39,7 @@ module _ (tree : Tree) (loops : List Counter) (dims : List Dim) (access : Expr) 
     alone = inl refl;
     each = λ picks levels writes number a.
         none (bank_of_lanes levels lanes number)
-        ∙ (are.each picks levels number a ∙ sym (ap (λ f. bank_reached (counters_in tree) dims (source_of loops writes access) (path_at (factors_of loops) number) (element_in f)) e));
+        ∙ (are.each picks levels number a ∙ sym (ap (λ f. bank_reached (loops_in tree) dims (source_of loops writes access) (path_at (factors_of loops) number) (element_in f)) e));
   }
     where
       none : (n : ℕ) → 0 + n ≡ n
@@ -50,7 +51,7 @@ module _ (tree : Tree) (loops : List Counter) (dims : List Dim) (access : Expr) 
     alone = inr l;
     each = λ picks levels writes number a.
         ap (λ x. bank + bank_of_lanes levels x number) l
-        ∙ (none bank ∙ sym (ap (λ f. bank_reached (counters_in tree) dims (source_of loops writes access) (path_at (factors_of loops) number) (element_in f)) e));
+        ∙ (none bank ∙ sym (ap (λ f. bank_reached (loops_in tree) dims (source_of loops writes access) (path_at (factors_of loops) number) (element_in f)) e));
   }
     where
       none : (n : ℕ) → n + 0 ≡ n
@@ -62,7 +63,7 @@ module _ (tree : Tree) (loops : List Counter) (dims : List Dim) (access : Expr) 
     alone = inr l;
     each = λ picks levels writes number a.
         ap (λ x. 0 + bank_of_lanes levels x number) l
-        ∙ (sym (no_bank dims) ∙ sym (ap (λ f. bank_reached (counters_in tree) dims (source_of loops writes access) (path_at (factors_of loops) number) f) e));
+        ∙ (sym (no_bank dims) ∙ sym (ap (λ f. bank_reached (loops_in tree) dims (source_of loops writes access) (path_at (factors_of loops) number) f) e));
   }
 
   -- an own bank and what lanes tell fit a word

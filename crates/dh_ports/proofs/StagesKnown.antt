@@ -3,7 +3,8 @@ use Rattle.std.proofs.Common.{◌≡◌, ℕ, suc, ◌+◌, ◌≤◌, ◌<◌, 
 use Rattle.std.proofs.lemmas.Bool.{eq-eqb, ne_eqb}
 use Rattle.dh_tree.specs.Numbers.{commands_in, commands_inside, commands_in_other, commands_in_groups, commands_in_part, IsNumbered, IsNumberedInside, IsNumberedOther, AreNumberedGroups, AreNumbered}
 use Rattle.dh_tree.specs.PlainTrees.{Action, action, ActionForm, lets, lets_memory, views, assigns, stores, reduces, calls, blocks, decides, repeats, counts, MaybeAction, no_action, one_action, Actions, no_actions, action_then, Groups, no_groups, group_then}
-use Rattle.dh_events.specs.Stages.{form_stage, stages_in, form_stages, other_stages, groups_stages, part_stages}
+use Rattle.dh_events.specs.Stages.{stages_in, form_stages, other_stages, groups_stages, part_stages}
+use Rattle.dh_tree.specs.PhaseKinds.{form_phase_kind}
 use Rattle.dh_events.specs.Tables.{with_number}
 
 -- a number stands in a range
@@ -17,7 +18,7 @@ Outside lo count i = (i < lo) ⊎ (lo + count ≤ i)
 -- a function tells of each command its phases
 abbrev mutual
   pub Known : (ℕ → ℕ) → Action → Type 0
-  Known f (action id place form) = (f id ≡ form_stage form) × KnownInside f form
+  Known f (action id place form) = (f id ≡ form_phase_kind form) × KnownInside f form
 
   pub KnownInside : (ℕ → ℕ) → ActionForm → Type 0
   KnownInside f (lets name declared value) = Unit {0}
@@ -71,7 +72,7 @@ second_out lo m n i (inr e) = inr (omega (arith, e))
 mutual
   keeps : (lo : ℕ) (a : Action) (f : ℕ → ℕ) (i : ℕ) → IsNumbered lo a → Outside lo (commands_in a) i → stages_in a f i ≡ f i
   keeps lo (action id place form) f i h out =
-      set_other (form_stages form f) id (form_stage form) i (own_out lo (commands_inside form) i id h.0 out) ∙ form_keeps (suc lo) form f i h.1 (inside_out lo (commands_inside form) i out)
+      set_other (form_stages form f) id (form_phase_kind form) i (own_out lo (commands_inside form) i id h.0 out) ∙ form_keeps (suc lo) form f i h.1 (inside_out lo (commands_inside form) i out)
 
   form_keeps : (lo : ℕ) (form : ActionForm) (f : ℕ → ℕ) (i : ℕ) → IsNumberedInside lo form → Outside lo (commands_inside form) i → form_stages form f i ≡ f i
   form_keeps lo (lets name declared value) f i h out = refl
@@ -133,8 +134,8 @@ own_later lo n i id e w f = let x = w.0 in omega (arith, e, f, x)
 mutual
   pub known : (lo : ℕ) (a : Action) (f g : ℕ → ℕ) → IsNumbered lo a → Agrees g (stages_in a f) lo (commands_in a) → Known g a
   known lo (action id place form) f g h same = (
-    ap g h.0 ∙ (same lo (own_in lo (commands_inside form)) ∙ (ap (λ n. with_number (form_stages form f) id (form_stage form) n) (sym h.0) ∙ set_same (form_stages form f) id (form_stage form))),
-    form_known (suc lo) form f g h.1 (λ i w. same i (inside_in lo (commands_inside form) i w) ∙ set_other (form_stages form f) id (form_stage form) i (own_later lo (commands_inside form) i id h.0 w)),
+    ap g h.0 ∙ (same lo (own_in lo (commands_inside form)) ∙ (ap (λ n. with_number (form_stages form f) id (form_phase_kind form) n) (sym h.0) ∙ set_same (form_stages form f) id (form_phase_kind form))),
+    form_known (suc lo) form f g h.1 (λ i w. same i (inside_in lo (commands_inside form) i w) ∙ set_other (form_stages form f) id (form_phase_kind form) i (own_later lo (commands_inside form) i id h.0 w)),
   )
 
   form_known : (lo : ℕ) (form : ActionForm) (f g : ℕ → ℕ) → IsNumberedInside lo form → Agrees g (form_stages form f) lo (commands_inside form) → KnownInside g form

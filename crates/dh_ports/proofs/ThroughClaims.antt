@@ -31,7 +31,8 @@ use Rattle.dh_ways.specs.Seen.{led_seen, way_seen}
 use Rattle.dh_ports.specs.declared.carrying.Carrier.{Carrier}
 use Rattle.dh_ports.specs.declared.moves.Move.{Move}
 use Rattle.dh_ports.specs.declared.moves.Move.TheVariants as move
-use Rattle.dh_ports.specs.Banks.{bank_at_path, counters_in, each_below}
+use Rattle.dh_ports.specs.Banks.{bank_at_path, each_below}
+use Rattle.dh_shape.specs.Classified.{loops_in}
 use Rattle.dh_ports.specs.Carriers.{carried_to, is_carried, one_at, AreEach, IsCarrier}
 use Rattle.dh_ports.specs.Claims.{base_of, claim_at, claims_at, claims_from, claims_in, claims_of, count_on, source_of, AreBases}
 use Rattle.dh_ports.proofs.CarrierPlaces.{carrier_is, each_many, led_there}
@@ -188,7 +189,7 @@ module _ (tree : Tree) (event : ℕ) (loops : List Counter) (writes : Bool) (e :
       key_here other =
           ap (λ q. distinct_count same_path (map (key_of (all_bindings_of (program_seen tree)) (source_of [] writes e)) (cond (same_path q [] && (bank_named (program_seen tree) w (source_of [] writes e) [] == other)) ([] ∷ []) []))) (take_none w.shifts)
           ∙ (one_key (bank_named (program_seen tree) w (source_of [] writes e) [] == other)
-          ∙ ap (λ n. if n == other then 1 else 0) (ap (λ ds. bank_reached (counters_in tree) ds (source_of [] writes e) [] (source_of [] writes e).element) (sym dims_are) ∙ sym (reached writes)))
+          ∙ ap (λ n. if n == other then 1 else 0) (ap (λ ds. bank_reached (loops_in tree) ds (source_of [] writes e) [] (source_of [] writes e).element) (sym dims_are) ∙ sym (reached writes)))
 
       charge_here : (behind : ℕ) → behind < length k.sources.items → charge_through (program_seen tree) w (source_of [] writes e) behind ≡ carried_to k (one_at bank) behind
       charge_here behind inside =

@@ -1,22 +1,18 @@
 -- Which bank an access reaches, from the value of its indices in the first copy.
 use Rattle.std.specs.Prelude.{◌≡◌, ℕ, zero, suc, ◌+◌, ◌*◌, ◌/◌, ◌%◌, if◌then◌else◌, Bool, List, [], ◌∷◌, ◌++◌, length, map, slice_index_or, Option, Some, None, pos, ◌+ℤ◌, unsigned_abs}
+use Rattle.dh_shape.specs.Classified.{loops_in}
 use Rattle.dh_tree.specs.declared.tables.Dim.{Dim}
 use Rattle.dh_tree.specs.declared.trees.counters.Counter.{Counter}
 use Rattle.dh_tree.specs.declared.trees.expressions.Expr.{Expr}
 use Rattle.dh_tree.specs.declared.trees.programs.Tree.{Tree}
-use Rattle.dh_tree.specs.Counters.{counters_of}
 use Rattle.dh_tree.specs.Elements.{bank_of}
 use Rattle.dh_tree.specs.Indices.{index_kind}
-use Rattle.dh_tree.specs.Seen.{form_seen, term_seen, terms, program_seen}
+use Rattle.dh_tree.specs.Seen.{form_seen, term_seen, terms}
 use Rattle.dh_meaning.specs.Paths.{Path}
 use Rattle.dh_meets.specs.Charges.{level_of_loop, index_in, indices_in, bank_reached}
 use Rattle.dh_meets.specs.SourceEvents.{SourceAccess}
 use Rattle.dh_meaning.specs.Paths.{copies_in}
 use Rattle.dh_ports.specs.declared.banks.Start.{Start}
-
--- the loops of a program
-abbrev pub counters_in : Tree → List Counter
-counters_in tree = counters_of (program_seen tree)
 
 -- the copy at a path of the loop of an iterator
 abbrev pub copy_of : List Counter → Path → Option ℕ → ℕ
@@ -26,15 +22,15 @@ copy_of loops path (Some e) = slice_index_or path (level_of_loop loops (Some e))
 -- the value of an index in the first copy, and the iterator that counts its copies
 pub record IsStart (tree : Tree) (index : Expr) (start : Start) : Type 0 where
   pub value : (loops : List Counter) (path : Path)
-      → index_in loops path (index_kind (counters_in tree) index.kind (form_seen index.form)) ≡ unsigned_abs (pos (start.low + copy_of loops path start.iterator) +ℤ start.offset)
+      → index_in loops path (index_kind (loops_in tree) index.kind (form_seen index.form)) ≡ unsigned_abs (pos (start.low + copy_of loops path start.iterator) +ℤ start.offset)
 
 -- the bank that indices tell outside every unrolled loop
 abbrev pub bank_outside : Tree → List Dim → List Expr → ℕ
-bank_outside tree dims indices = bank_of dims (indices_in (counters_in tree) [] [] (terms (map term_seen indices)))
+bank_outside tree dims indices = bank_of dims (indices_in (loops_in tree) [] [] (terms (map term_seen indices)))
 
 -- the bank that an access reaches at a path
 abbrev pub bank_at_path : Tree → List Dim → SourceAccess → Path → ℕ
-bank_at_path tree dims a path = bank_reached (counters_in tree) dims a path a.element
+bank_at_path tree dims a path = bank_reached (loops_in tree) dims a path a.element
 
 -- Paths by number.
 

@@ -1,6 +1,6 @@
 -- How charges are carried along the ways of views, as the code keeps it, once for each view: a bank of the memory is
 -- charged as one bank of the view is, or, where a shift stands between, as the most charged bank of the view.
-use Rattle.std.specs.Prelude.{◌≡◌, ℕ, zero, suc, ◌+◌, ◌*◌, ◌<◌, ◌==◌, ◌||◌, nat_lt, Bool, true, false, if◌then◌else◌, List, [], ◌∷◌, length, map, slice_index}
+use Rattle.std.specs.Prelude.{◌≡◌, ℕ, zero, suc, ◌+◌, ◌*◌, ◌<◌, ◌≤◌, ◌==◌, ◌||◌, nat_lt, Bool, true, false, if◌then◌else◌, List, [], ◌∷◌, length, map, slice_index}
 use Rattle.dh_tree.specs.declared.tables.Dim.{Dim}
 use Rattle.dh_tree.specs.declared.viewing.ViewMap.{ViewMap}
 use Rattle.dh_tree.specs.declared.viewing.ViewSort.{ViewSort}
@@ -9,11 +9,15 @@ use Rattle.dh_tree.specs.Elements.{banks_of}
 use Rattle.dh_viewing.specs.Carried.{carried_by, largest}
 use Rattle.dh_viewing.specs.ReachedBanks.{covering}
 use Rattle.dh_meaning.specs.Ways as ways
+use Rattle.dh_base.specs.Limits.{most_copies}
 use Rattle.dh_ways.specs.Kept.{Led, Way}
 use Rattle.dh_ways.specs.Leading.{StepsLead}
 use Rattle.dh_ways.specs.Seen.{way_seen}
 use Rattle.dh_ports.specs.declared.carrying.Carrier.{Carrier}
 use Rattle.dh_ports.specs.declared.copies.Reach.{Reach}
+use Rattle.dh_ports.specs.declared.moves.Move.{Move}
+use Rattle.dh_ports.specs.Banks.{each_below}
+use Rattle.dh_ports.specs.Claims.{claims_from}
 use Rattle.dh_ports.specs.Copies.{keys_from}
 
 -- Views.
@@ -61,10 +65,14 @@ pub record Follow (w : Way) : Type 0 where
 abbrev pub carried_to : Carrier → (charge : ℕ → ℕ) → (bank : ℕ) → ℕ
 carried_to c charge bank = if c.evenly then largest charge c.banks else charge (slice_index c.sources.items bank)
 
+-- each bank of the memory is charged as one of so many banks of the view
+abbrev pub HasSourcesBelow : Carrier → (banks : ℕ) → Type 0
+HasSourcesBelow c banks = (bank : ℕ) → bank < length c.sources.items → slice_index c.sources.items bank < banks
+
 -- that is what is carried along a way
 pub record Carries (w : ways.Way) (c : Carrier) : Type 0 where
   pub banks : c.banks ≡ banks_of w.is.shape.dims
-  pub within : (bank : ℕ) → bank < length c.sources.items → slice_index c.sources.items bank < c.banks
+  pub within : HasSourcesBelow c c.banks
   pub each : (charge : ℕ → ℕ) (bank : ℕ) → bank < length c.sources.items → carried_by (map (λ s. s.is) w.steps) charge bank ≡ carried_to c charge bank
 
 -- and its banks are those of the memory
@@ -79,6 +87,10 @@ one_at bank other = if bank == other then 1 else 0
 -- one key on a bank of the view is carried to a bank of the memory
 abbrev pub is_carried : Carrier → (bank behind : ℕ) → Bool
 is_carried c bank behind = if c.evenly then nat_lt bank c.banks else (slice_index c.sources.items behind == bank)
+
+-- the claims of the banks of the memory to which it is carried, where they begin at a place
+abbrev pub claims_carried : Carrier → (event base bank : ℕ) → List Move
+claims_carried c event base bank = claims_from event base (each_below (carried_to c (one_at bank)) (length c.sources.items))
 
 -- All views of a program.
 
@@ -102,6 +114,10 @@ group_sum reach c stride groups bank = sum_below groups (λ group. carried_to c 
 pub record AreGroupSums (reach : Reach) (c : Carrier) (stride groups : ℕ) (sums : List ℕ) : Type 0 where
   pub long : length sums ≡ length c.sources.items
   pub each : (bank : ℕ) → bank < length c.sources.items → slice_index sums bank ≡ group_sum reach c stride groups bank
+
+-- with what is carried there the sum of no bank is greater than the copies of an access
+abbrev pub AddsFew : Carrier → (charge : ℕ → ℕ) → (sums : List ℕ) → Type 0
+AddsFew c charge sums = (bank : ℕ) → bank < length sums → slice_index sums bank + carried_to c charge bank ≤ most_copies
 
 -- to the sum of each bank what is carried there was added
 pub record AddsCarried (c : Carrier) (charge : ℕ → ℕ) (old new : List ℕ) : Type 0 where

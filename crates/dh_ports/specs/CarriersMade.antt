@@ -11,9 +11,17 @@ use Rattle.dh_ports.specs.Carriers.{banks_behind, has_shift, is_shift, source_in
 abbrev pub itself : ℕ → ℕ
 itself bank = bank
 
+-- each bank of the parent of a view, charged as itself
+abbrev pub parent_sources : ViewMap → List ℕ
+parent_sources v = each_below itself (banks_of v.parent.dims)
+
+-- by each of these banks of its parent the bank of a view as which it is charged, where the view is no shift
+abbrev pub sources_in : ViewMap → (behind : List ℕ) → List ℕ
+sources_in v behind = map (source_in v.sort v.shape.dims v.parent.dims) behind
+
 -- by each bank of a memory the bank of a view as which it is charged, by the bank of its parent; none where all are charged evenly
 abbrev pub sources_over : ViewMap → (evenly : Bool) → (behind : List ℕ) → List ℕ
-sources_over v evenly behind = if is_shift v.sort || evenly then replicate (length behind) 0 else map (source_in v.sort v.shape.dims v.parent.dims) behind
+sources_over v evenly behind = if is_shift v.sort || evenly then replicate (length behind) 0 else sources_in v behind
 
 -- a carrier of a view, behind which charges are carried so
 pub record IsCarrierOn (v : ViewMap) (behind_evenly : Bool) (behind : List ℕ) (c : Carrier) : Type 0 where

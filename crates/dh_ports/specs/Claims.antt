@@ -11,7 +11,7 @@ use Rattle.dh_tree.specs.Counters.{counters_of}
 use Rattle.dh_tree.specs.Elements.{banks_of}
 use Rattle.dh_tree.specs.Memories.{memories_of, number_in, table_of}
 use Rattle.dh_tree.specs.PlainTrees.{Term, term, Program}
-use Rattle.dh_tree.specs.Seen.{term_seen}
+use Rattle.dh_tree.specs.Seen.{form_seen, term_seen}
 use Rattle.dh_meaning.specs.Ways as ways
 use Rattle.dh_meaning.specs.Ways.{Way, all_bindings_of, way_to}
 use Rattle.dh_meaning.specs.Paths.{same_path}
@@ -51,7 +51,14 @@ access_of loops writes (term place kind form) =
 abbrev pub source_of : (loops : List Counter) → (writes : Bool) → Expr → SourceAccess
 source_of loops writes e = access_of loops writes (term_seen e)
 
--- the keys with which it reaches a bank of a memory of these dimensions
+-- it names the memory of a number, or a view from which a way leads
+abbrev pub NamesMemory : Program → Expr → (memory : ℕ) → Type 0
+NamesMemory p e memory = number_in (memories_of p) (entity_in (form_seen e.form)) ≡ Some memory
+
+abbrev pub NamesView : Program → Expr → Way → Type 0
+NamesView p e w = way_to p (entity_in (form_seen e.form)) ≡ Some w
+
+-- the keys with which an access reaches a bank of a memory of these dimensions
 abbrev pub keys_on : Program → List Dim → SourceAccess → (bank : ℕ) → ℕ
 keys_on p dims a bank =
     distinct_count same_path (map (key_of (all_bindings_of p) a) (filter (λ path. bank_reached (counters_of p) dims a path a.element == bank) (paths_of a)))

@@ -11,18 +11,21 @@ use Rattle.dh_tree.specs.Elements.{bank_of}
 use Rattle.dh_tree.specs.Seen.{term_seen, terms}
 use Rattle.dh_meaning.specs.Bindings.{Binding}
 use Rattle.dh_meets.specs.Charges.{factors_of, depends, indices_in}
+use Rattle.dh_meets.specs.SourceEvents.{SourceAccess}
+use Rattle.dh_ports.specs.declared.copies.Copied.{Copied}
 use Rattle.dh_ports.specs.declared.copies.Level.{Level}
 use Rattle.dh_ports.specs.declared.copies.Lane.{Lane}
 use Rattle.dh_ports.specs.declared.copies.Paths.{Paths}
 use Rattle.dh_ports.specs.declared.copies.Reach.{Reach}
 use Rattle.dh_ports.specs.declared.counting.Seen.{Seen}
 use Rattle.dh_events.specs.declared.dependence.Scope.{Scope}
-use Rattle.dh_ports.specs.Banks.{bank_at_path, counters_in, each_below, keys_in, path_at}
+use Rattle.dh_ports.specs.Banks.{bank_at_path, each_below, keys_in, path_at}
+use Rattle.dh_shape.specs.Classified.{loops_in}
 use Rattle.dh_ports.specs.Claims.{source_of}
 use Rattle.dh_events.specs.Scopes.{AreScopes}
 use Rattle.dh_events.specs.Tables.{numbered, with_number}
 use Rattle.dh_meaning.specs.Paths.{copies_in}
-use Rattle.dh_meets.specs.FewCopies.{most_copies}
+use Rattle.dh_base.specs.Limits.{most_copies}
 
 -- the copies of what stands in these loops
 abbrev pub copies_round : List Counter → ℕ
@@ -91,14 +94,25 @@ pub record IsReach (tree : Tree) (loops : List Counter) (dims : List Dim) (acces
 pub record AreLanes (tree : Tree) (loops : List Counter) (dims : List Dim) (indices : List Expr) (lanes : List Lane) : Type 0 where
   pub few : HasFewBanks lanes
   pub each : (picks : ℕ → Bool) (levels : List Level) (number : ℕ) → AreLevels picks 0 (factors_of loops) levels
-      → bank_of_lanes levels lanes number ≡ bank_of dims (indices_in (counters_in tree) loops (path_at (factors_of loops) number) (terms (map term_seen indices)))
+      → bank_of_lanes levels lanes number ≡ bank_of dims (indices_in (loops_in tree) loops (path_at (factors_of loops) number) (terms (map term_seen indices)))
 
 -- an access by the numbers of its paths: its loops, and the lanes and the bank that tell what it reaches
 pub record Reaches (scopes : List (Option Scope)) (tree : Tree) (loops : List Counter) (dims : List Dim) (access : Expr) (writes : Bool) (reach : Reach) : Type 0 where
   pub paths : ArePaths scopes loops access writes reach.paths
   pub lanes : IsReach tree loops dims access reach.lanes.items reach.own
 
--- the bank that it reaches at the path of a number, and the number of its key there
+-- an access whose copies are counted, as the definitions know it
+abbrev pub source_copied : Copied → SourceAccess
+source_copied c = source_of c.loops.now c.writes c.access.now
+
+-- the lanes and the bank that tell what it reaches, and all that it reaches
+abbrev pub IsReachOf : Tree → Copied → List Lane → (own : ℕ) → Type 0
+IsReachOf tree c lanes own = IsReach tree c.loops.now c.dims.now c.access.now lanes own
+
+abbrev pub CopiesReach : List (Option Scope) → Tree → Copied → Reach → Type 0
+CopiesReach scopes tree c reach = Reaches scopes tree c.loops.now c.dims.now c.access.now c.writes reach
+
+-- the bank that an access reaches at the path of a number, and the number of its key there
 abbrev pub bank_by : Reach → (number : ℕ) → ℕ
 bank_by reach number = reach.own + bank_of_lanes reach.paths.levels.items reach.lanes.items number
 

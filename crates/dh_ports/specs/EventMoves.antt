@@ -2,12 +2,15 @@
 use Rattle.std.specs.Prelude.{ℕ, ◌≤◌, List, [], ◌∷◌, Option, Vec}
 use Rattle.std.specs.Global.{Global}
 use Rattle.dh_tree.specs.declared.trees.counters.Counter.{Counter}
+use Rattle.dh_tree.specs.declared.trees.programs.Tree.{Tree}
 use Rattle.dh_tree.specs.PlainTrees.{Program}
+use Rattle.dh_tree.specs.Seen.{program_seen}
 use Rattle.dh_events.specs.declared.events.Event.{Event}
 use Rattle.dh_events.specs.declared.events.Event.TheVariants as event
 use Rattle.dh_events.specs.Accesses.{loops_in}
 use Rattle.dh_events.specs.Noted.{all_seen}
-use Rattle.dh_meets.specs.FewCopies.{most_copies}
+use Rattle.dh_base.specs.Limits.{most_copies}
+use Rattle.dh_ports.specs.declared.moves.Claimant.{Claimant}
 use Rattle.dh_ports.specs.declared.moves.Layout.{Layout}
 use Rattle.dh_ports.specs.declared.moves.Move.{Move}
 use Rattle.dh_ports.specs.declared.moves.Move.TheVariants as move
@@ -27,6 +30,21 @@ moves_of p loops place event.Ends = move.End ∷ []
 -- what all do, where the layout tells the loops round each
 abbrev pub moves_known : Program → Layout → List Event → List Move
 moves_known p layout events = moves_from p (loops_in layout.rounds.items) 0 (all_seen events)
+
+-- Of a program as the code knows it, where the layout tells the loops round each access.
+
+-- the claims of an access
+abbrev pub claims_by : Tree → Layout → Claimant → List Move
+claims_by tree layout c = claims_of (program_seen tree) c.event (source_of (loops_in layout.rounds.items c.round) c.writes c.access.now)
+
+-- what an event at a place does, and what all do
+abbrev pub moves_at : Tree → Layout → (place : ℕ) → Event → List Move
+moves_at tree layout place e = moves_of (program_seen tree) (loops_in layout.rounds.items) place e
+
+abbrev pub moves_by : Tree → Layout → List Event → List Move
+moves_by tree layout events = moves_known (program_seen tree) layout events
+
+-- Copies.
 
 -- an access does not stand in too many copies
 abbrev pub HasFewCopiesAt : List (Vec Counter Global) → Event → Type 0

@@ -21,3 +21,4 @@ pub mod SharedSoFar
 pub mod Ahead
 pub mod EventMoves
 pub mod Walks
+pub mod PortLaws

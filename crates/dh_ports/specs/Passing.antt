@@ -31,6 +31,10 @@ abbrev pub ComesTo : List Incident → (shared : List Bool) → (old : Levels) �
 ComesTo xs shared old ms new walked.Past = IsKept new × ((rest : List Move) → beyond_from xs shared new rest ≡ beyond_from xs shared old (ms ++ rest))
 ComesTo xs shared old ms new (walked.Beyond place) = (rest : List Move) → place ≡ beyond_from xs shared old (ms ++ rest)
 
+-- the same of these events, whatever flags come behind those that are known
+abbrev pub ComesToSoFar : List Event → (shared : List Bool) → (old : Levels) → List Move → (new : Levels) → Walked → Type 0
+ComesToSoFar events shared old ms new walked = (more : List Bool) → ComesTo (all_seen events) (shared ++ more) old ms new walked
+
 -- Order.
 
 -- the reads that find nothing left, from these levels on
@@ -40,6 +44,10 @@ late_from known events levels ms = all_late (all_seen events) ms (map (order_ste
 -- the same from so much of each slot on
 abbrev pub all_from : List Key → List Event → (starts : List ℕ) → List Move → List Breach
 all_from known events starts ms = all_late (all_seen events) ms (map (order_step known events) ms) (lefts_from starts (map (order_step known events) ms))
+
+-- the least of what was kept and of those is kept
+abbrev pub KeepsFrom : List Key → List Event → (starts : List ℕ) → List Move → (old new : Option Breach) → Type 0
+KeepsFrom known events starts ms old new = new ≡ least_of old (all_from known events starts ms)
 
 -- moves come to levels, and what was kept to what is kept, so that what stands behind them is kept as it is behind them
 pub record KeepsTo (known : List Key) (events : List Event) (before : Option Breach) (old : Levels) (ms : List Move) (after : Option Breach) (new : Levels) : Type 0 where

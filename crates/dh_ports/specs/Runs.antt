@@ -1,6 +1,7 @@
 -- Moves in runs: a move, and the same of the banks behind its own. Claims of banks in a row with as many keys each are
 -- kept once.
-use Rattle.std.specs.Prelude.{ℕ, zero, suc, ◌-◌, ◌==◌, ◌&&◌, nat_lt, Bool, false, List, [], ◌∷◌, ◌++◌}
+use Rattle.std.specs.Prelude.{◌≡◌, ℕ, zero, suc, ◌-◌, ◌==◌, ◌&&◌, nat_lt, Bool, false, List, [], ◌∷◌, ◌++◌, Vec}
+use Rattle.std.specs.Global.{Global}
 use Rattle.dh_ports.specs.declared.moves.Move.{Move}
 use Rattle.dh_ports.specs.declared.moves.Move.TheVariants as move
 use Rattle.dh_ports.specs.declared.moves.Run.{Run}
@@ -35,6 +36,13 @@ moves_of_run r = row_to r.first r.end
 abbrev pub moves_in : List Run → List Move
 moves_in [] = []
 moves_in (r ∷ rs) = moves_of_run r ++ moves_in rs
+
+-- behind the moves of runs these come, or those of a run and behind it these
+abbrev pub AddsMoves : (old new : Vec Run Global) → List Move → Type 0
+AddsMoves old new more = moves_in new.items ≡ moves_in old.items ++ more
+
+abbrev pub AddsBehind : (old new : Vec Run Global) → Run → List Move → Type 0
+AddsBehind old new last more = moves_in new.items ≡ (moves_in old.items ++ moves_of_run last) ++ more
 
 -- the claim of one bank
 abbrev pub one_claim : (event slot keys : ℕ) → List Move

@@ -272,6 +272,10 @@ IsMoveOf events move.Begin = Unit {0}
 IsMoveOf events move.Next = Unit {0}
 IsMoveOf events move.End = Unit {0}
 
+-- claims are of these events
+abbrev pub AreMovesOf : List Event → List Move → Type 0
+AreMovesOf events ms = AllByRecursion (IsMoveOf (length events)) ms
+
 -- the least of what was kept and the breaches of reads behind writes
 pub record KeepsLate (events : List Event) (moves : List Move) (old new : Option Breach) : Type 0 where
   pub late : List Breach

@@ -1,12 +1,19 @@
 -- What is kept while accesses are counted.
-use Rattle.std.specs.Prelude.{◌≡◌, ℕ}
+use Rattle.std.specs.Prelude.{◌≡◌, ℕ, length}
+use Rattle.dh_tree.specs.PlainTrees.{Program}
+use Rattle.dh_meets.specs.Charges.{charge_through}
+use Rattle.dh_ways.specs.Kept.{Way}
+use Rattle.dh_ways.specs.Seen.{way_seen}
 use Rattle.dh_ports.specs.declared.carrying.Carrier.{Carrier}
+use Rattle.dh_ports.specs.declared.copies.Copied.{Copied}
 use Rattle.dh_ports.specs.declared.copies.Reach.{Reach}
 use Rattle.dh_ports.specs.declared.keeping.Counts.{Counts}
 use Rattle.dh_ports.specs.declared.keeping.Sums.{Sums}
 use Rattle.dh_ports.specs.declared.keeping.Tally.{Tally}
+use Rattle.dh_ports.specs.Banks.{each_below}
 use Rattle.dh_ports.specs.Carriers.{AreGroupSums}
-use Rattle.dh_ports.specs.Copies.{AreCounts, IsPast}
+use Rattle.dh_ports.specs.Claims.{keys_on}
+use Rattle.dh_ports.specs.Copies.{source_copied, AreCounts, IsPast}
 
 -- two accesses reach the same banks with the same keys at the paths of the same numbers
 pub record ReachAlike (one other : Reach) : Type 0 where
@@ -45,3 +52,11 @@ pub record IsReady (tally : Tally) : Type 0 where
   pub past : IsPast tally.seen
   pub direct : AreCountsKept tally.direct
   pub kept : AreSums tally.last
+
+-- with how many keys the copies of an access reach each bank of what it names
+abbrev pub KeepsKeys : Program → Copied → Tally → Type 0
+KeepsKeys p c tally = tally.direct.counts.items ≡ each_below (keys_on p c.dims.now (source_copied c)) c.banks
+
+-- how much they charge each bank of the memory, through the views on a way
+abbrev pub KeepsCharges : Program → Way → Copied → Carrier → Tally → Type 0
+KeepsCharges p w c carrier tally = tally.last.sums.items ≡ each_below (charge_through p (way_seen w) (source_copied c)) (length carrier.sources.items)

@@ -1,5 +1,5 @@
 -- What is told of a program by the passes before, and what the check of ports tells of it.
-use Rattle.std.specs.Prelude.{◌≡◌, Option, Some, None, Result, Ok, Err}
+use Rattle.std.specs.Prelude.{◌≡◌, List, Option, Some, None, Result, Ok, Err}
 use Rattle.dh_base.specs.declared.faults.PassFault.{PassFault}
 use Rattle.dh_base.specs.declared.faults.PassFault.TheVariants as fault
 use Rattle.dh_base.specs.declared.lists.NoMemory.{NoMemory}
@@ -13,6 +13,8 @@ use Rattle.dh_tree.specs.Seen.{program_seen}
 use Rattle.dh_tree.specs.Shapes.{IsProgramTable}
 use Rattle.dh_meets.specs.FewCopies.{HasFewCopies, NamesBanks}
 use Rattle.dh_meets.specs.Ports.{KeepsPortRules, IsFirstPortBreach}
+use Rattle.dh_events.specs.declared.events.Event.{Event}
+use Rattle.dh_ports.specs.Wholes.{AreEventsOf}
 
 -- A program that is ready, with what is known of its table and of its accesses.
 pub record IsToldBefore (p : Program) : Type 0 where
@@ -31,6 +33,10 @@ TellsPorts p (Err fault.NoMemory) = Unit {0}
 abbrev pub TellsFirst : Program → Option Breach → Type 0
 TellsFirst p None = KeepsPortRules p
 TellsFirst p (Some b) = IsFirstPortBreach p b
+
+-- that is found among events, where they are the program's
+abbrev pub TellsFirstAmong : Program → List Event → Option Breach → Type 0
+TellsFirstAmong p events first = AreEventsOf p events → TellsFirst p first
 
 -- so it is told by the first breach, if there is one; want of memory is told only where that was not found
 -- for want of memory

@@ -1,5 +1,5 @@
 -- What the walk over events finds.
-use Rattle.std.specs.Prelude.{◌≡◌, Bool, List, Option, None, length}
+use Rattle.std.specs.Prelude.{◌≡◌, Bool, List, ◌++◌, Option, None, length}
 use Rattle.std.specs.List.{AllByRecursion}
 use Rattle.dh_base.specs.declared.places.Place.{Place}
 use Rattle.dh_tree.specs.Memories.{table_of}
@@ -7,6 +7,7 @@ use Rattle.dh_tree.specs.PlainTrees.{Program}
 use Rattle.dh_events.specs.declared.events.Event.{Event}
 use Rattle.dh_events.specs.Classes.{AreDistinct}
 use Rattle.dh_events.specs.Incidents.{Incident}
+use Rattle.dh_events.specs.Noted.{all_seen}
 use Rattle.dh_ports.specs.declared.lasts.LastWrites.{LastWrites}
 use Rattle.dh_ports.specs.declared.levels.Levels.{Levels}
 use Rattle.dh_ports.specs.declared.moves.Layout.{Layout}
@@ -35,6 +36,10 @@ KeptWhile (walked.Beyond place) levels = Unit {0}
 abbrev pub SpendsTo : List Incident → (shared : List Bool) → (before : Walked) → (old : Levels) → List Move → (after : Walked) → (new : Levels) → Type 0
 SpendsTo xs shared walked.Past old ms after new = ComesTo xs shared old ms new after
 SpendsTo xs shared (walked.Beyond place) old ms after new = after ≡ walked.Beyond place
+
+-- the same of these events, whatever flags come behind those that are known
+abbrev pub SpendsToSoFar : List Event → (shared : List Bool) → (before : Walked) → (old : Levels) → List Move → (after : Walked) → (new : Levels) → Type 0
+SpendsToSoFar events shared before old ms after new = (more : List Bool) → SpendsTo (all_seen events) (shared ++ more) before old ms after new
 
 -- all is found of these events
 pub record IsWalked (p : Program) (layout : Layout) (events : List Event) (sharing : Sharing) (lasts : LastWrites) (walked : Walked) : Type 0 where

@@ -1,6 +1,6 @@
 //! How charges on the banks of a view are carried to those of its memory, through all views between.
 
-ghost use Rattle.std.specs.Prelude.{◌≡◌, ◌≤◌, ◌<◌, ◌||◌, false, length, map, slice_index, IfOk};
+ghost use Rattle.std.specs.Prelude.{◌≡◌, ◌≤◌, ◌<◌, ◌||◌, false, length, slice_index, IfOk};
 ghost use Rattle.std.specs.List.{AllByRecursion};
 ghost use Rattle.dh_tree.specs.Elements.{banks_of};
 ghost use Rattle.dh_tree.specs.Shapes.{most_banks, IsDim};
@@ -10,7 +10,7 @@ ghost use Rattle.dh_viewing.specs.ReachedBanks.{covering};
 ghost use Rattle.dh_ports.specs.Banks.{each_below};
 ghost use Rattle.dh_ports.specs.Carriers as definitions;
 ghost use Rattle.dh_ports.specs.Carriers.{carried_to, is_carried, source_in};
-ghost use Rattle.dh_ports.specs.CarriersMade.{itself, IsCarrierOn};
+ghost use Rattle.dh_ports.specs.CarriersMade.{itself, parent_sources, sources_in, IsCarrierOn};
 
 use crate::banks::bank_count;
 use crate::counting::no_counts;
@@ -87,8 +87,7 @@ fn source_at(view: &ViewMap, bank: u64) -> u64
 /// By each of these banks of its parent the bank of a view as which it is charged.
 fn sources_on(alloc: Global, view: &ViewMap, behind: &[usize]) -> Result<Vec<usize>, NoMemory>
     requires { IsViewMap view.now }
-    ensures { IfOk result (λ sources. sources.items
-        ≡ map (source_in view.now.sort view.now.shape.dims view.now.parent.dims) behind.now) }
+    ensures { IfOk result (λ sources. sources.items ≡ sources_in view.now behind.now) }
 {
     let mut sources = Vec::new(alloc);
     for i in 0..behind.len() {
@@ -143,7 +142,7 @@ fn carrier_on(
 pub fn carrier_first(alloc: Global, view: &ViewMap) -> Result<Carrier, NoMemory>
     requires { IsViewMap view.now }
     ensures { IfOk result (λ carrier. IsCarrierOn view.now false
-        (each_below itself (banks_of view.now.parent.dims)) carrier) }
+        (parent_sources view.now) carrier) }
 {
     let count = bank_count(view.parent.dims.as_slice());
     let shifted = is_shift(view);

@@ -1,20 +1,17 @@
 //! The check of the rules on ports.
 
-ghost use Rattle.std.specs.Prelude.{◌≡◌, length, IfOk, OnOk};
-ghost use Rattle.std.specs.List.{AllByRecursion};
-ghost use Rattle.dh_tree.specs.Memories.{memories_of, table_of};
+ghost use Rattle.std.specs.Prelude.{◌≡◌, IfOk, OnOk};
+ghost use Rattle.dh_tree.specs.Memories.{table_of};
 ghost use Rattle.dh_tree.specs.Seen.{program_seen};
 ghost use Rattle.dh_tree.specs.Shapes.{IsProgramTable};
-ghost use Rattle.dh_meaning.specs.Ways.{ways_of};
-ghost use Rattle.dh_ways.specs.Leading.{LeadsTo};
 ghost use Rattle.dh_events.specs.Noted.{all_seen};
 ghost use Rattle.dh_ports.specs.Ahead.{IsAhead};
-ghost use Rattle.dh_ports.specs.EventMoves.{moves_known};
-ghost use Rattle.dh_ports.specs.Layouts.{AreRoundsOf, AreScopesNoted, HaveFewCopies, IsLayout};
+ghost use Rattle.dh_ports.specs.EventMoves.{moves_by};
+ghost use Rattle.dh_ports.specs.Layouts.{AllWaysLead, AreRoundsOf, AreScopesNoted, HaveFewCopies, IsLayout};
 ghost use Rattle.dh_ports.specs.Scanned as scanned;
-ghost use Rattle.dh_ports.specs.Scanned.{IsMoveOf};
-ghost use Rattle.dh_ports.specs.Told.{IsToldBefore, JudgesPorts, TellsFirst, TellsPorts};
-ghost use Rattle.dh_ports.specs.Wholes.{happenings_of, AreEventsOf};
+ghost use Rattle.dh_ports.specs.Scanned.{AreMovesOf, KeepsLate};
+ghost use Rattle.dh_ports.specs.Told.{IsToldBefore, JudgesPorts, TellsFirst, TellsFirstAmong, TellsPorts};
+ghost use Rattle.dh_ports.specs.Wholes.{happenings_of};
 
 use crate::accepted::Accepted;
 use crate::lasts::LastWrites;
@@ -56,15 +53,12 @@ fn keep_behind(
 ) -> Result<(), NoMemory>
     requires table { IsProgramTable (table_of (program_seen typed.now)) }
     requires layout { IsLayout (program_seen typed.now) layout.now }
-    requires leads { AllByRecursion (λ l. LeadsTo (memories_of (program_seen typed.now)) l.way)
-        (ways_of (program_seen typed.now)) }
+    requires leads { AllWaysLead (program_seen typed.now) }
     requires copies { HaveFewCopies layout.now.rounds.items events.now }
-    requires within { AllByRecursion (IsMoveOf (length events.now))
-        (moves_known (program_seen typed.now) layout.now events.now) }
-    requires ahead { IsAhead events.now (moves_known (program_seen typed.now) layout.now events.now)
-        lasts.now }
-    ensures { OnOk result (scanned.KeepsLate events.now (moves_known (program_seen typed.now)
-        layout.now events.now) kept.old kept.new) }
+    requires within { AreMovesOf events.now (moves_by typed.now layout.now events.now) }
+    requires ahead { IsAhead events.now (moves_by typed.now layout.now events.now) lasts.now }
+    ensures { OnOk result (KeepsLate events.now (moves_by typed.now layout.now events.now)
+        kept.old kept.new) }
 {
     // in most programs each read stands ahead of the writes of its bank in its phase
     let ahead = lasts.ahead;
@@ -88,8 +82,7 @@ fn first_among(
     requires scopes { AreScopesNoted (program_seen typed.now) nests.rounds.items
         nests.scopes.items }
     requires seen { all_seen events.now ≡ happenings_of (program_seen typed.now) }
-    ensures { IfOk result (λ first. AreEventsOf (program_seen typed.now) events.now
-        → TellsFirst (program_seen typed.now) first) }
+    ensures { IfOk result (λ first. TellsFirstAmong (program_seen typed.now) events.now first) }
 {
     incidents_tell_sites();
     shared_reads_are_found();

@@ -4,9 +4,9 @@ ghost use Rattle.std.specs.Prelude.{◌≡◌, ◌<◌, ◌≤◌, ◌+◌, ◌*
 ghost use Rattle.std.specs.List.{AllByRecursion};
 ghost use Rattle.dh_tree.specs.Elements.{banks_of};
 ghost use Rattle.dh_tree.specs.Shapes.{most_banks, IsDim};
-ghost use Rattle.dh_ports.specs.Copies.{key_of_levels, ArePaths, AreLanes, IsSpread};
+ghost use Rattle.dh_ports.specs.Copies.{key_of_levels, ArePaths, AreLanes, CopiesReach, IsReachOf, IsSpread};
 ghost use Rattle.dh_ports.specs.Copies as definitions;
-ghost use Rattle.dh_meets.specs.FewCopies.{most_copies};
+ghost use Rattle.dh_base.specs.Limits.{most_copies};
 
 use crate::banks::{level_of, residue_of_copy, start_of};
 use dh_base::NoMemory;
@@ -177,8 +177,7 @@ pub struct Copied<'b> {
 fn reach_of(alloc: Global, typed: &Typed, copied: Copied<'_>) -> Result<(Vec<Lane>, u64), NoMemory>
     requires dims { AllByRecursion IsDim copied.dims.now }
     requires few { banks_of copied.dims.now ≤ most_banks }
-    ensures { IfOk result (λ r. definitions.IsReach typed.now copied.entry.loops.now
-        copied.entry.dims.now copied.entry.access.now r.0.items r.1) }
+    ensures { IfOk result (λ r. IsReachOf typed.now copied.entry r.0.items r.1) }
 {
     match &copied.access.form {
         ExprForm::Access { indices, .. } => {
@@ -204,9 +203,7 @@ pub fn reach_in(
     requires dims { AllByRecursion IsDim copied.dims.now }
     requires few { banks_of copied.dims.now ≤ most_banks }
     requires copies { definitions.copies_round copied.loops.now ≤ most_copies }
-    ensures { IfOk result (λ reach. definitions.Reaches scopes.now typed.now
-        copied.entry.loops.now copied.entry.dims.now copied.entry.access.now
-        copied.entry.writes reach) }
+    ensures { IfOk result (λ reach. CopiesReach scopes.now typed.now copied.entry reach) }
 {
     let paths = paths_in(alloc, scopes, copied.loops, copied.access, copied.writes)?;
     let (lanes, own) = reach_of(alloc, typed, copied)?;

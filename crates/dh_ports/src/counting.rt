@@ -6,12 +6,10 @@ ghost use Rattle.dh_tree.specs.Elements.{banks_of};
 ghost use Rattle.dh_tree.specs.Seen.{program_seen};
 ghost use Rattle.dh_tree.specs.Shapes.{most_banks, IsDim};
 ghost use Rattle.dh_meaning.specs.Ways.{all_bindings_of};
-ghost use Rattle.dh_ports.specs.Banks.{each_below};
-ghost use Rattle.dh_ports.specs.Claims.{keys_on, source_of};
 ghost use Rattle.dh_ports.specs.Copies.{copies_round, AreCounts, IsCounted, IsMarked, IsPast, IsUnseen, Sees, TellsPaths};
-ghost use Rattle.dh_ports.specs.Tallies.{IsReady};
+ghost use Rattle.dh_ports.specs.Tallies.{IsReady, KeepsKeys};
 ghost use Rattle.dh_events.specs.Scopes.{AreScopes};
-ghost use Rattle.dh_meets.specs.FewCopies.{most_copies};
+ghost use Rattle.dh_base.specs.Limits.{most_copies};
 
 use crate::copies::{Copied, Reach, bank_at, key_at, reach_in};
 use crate::keeping::Tally;
@@ -192,10 +190,7 @@ pub fn keys_reaching(
     requires copies { copies_round copied.loops.now ≤ most_copies }
     requires scopes { AreScopes (all_bindings_of (program_seen typed.now)) scopes.now }
     requires past { IsReady tally.old }
-    ensures counts { OnOk result (tally.new.direct.counts.items ≡ each_below
-        (keys_on (program_seen typed.now) copied.entry.dims.now
-        (source_of copied.entry.loops.now copied.entry.writes copied.entry.access.now))
-        copied.entry.banks) }
+    ensures counts { OnOk result (KeepsKeys (program_seen typed.now) copied.entry tally.new) }
     ensures past { OnOk result (IsReady tally.new) }
 {
     let reach = reach_in(alloc, typed, scopes, copied)?;

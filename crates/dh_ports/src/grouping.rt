@@ -1,22 +1,19 @@
 //! With how many keys the copies of an access through views charge each bank of the memory: group by group of copies
 //! for which the offsets of shifts are equal.
 
-ghost use Rattle.std.specs.Prelude.{◌≡◌, ◌<◌, ◌≤◌, ◌+◌, ◌*◌, ℕ, length, slice_index, IfOk, OnOk};
+ghost use Rattle.std.specs.Prelude.{◌≡◌, ◌≤◌, ◌+◌, ◌*◌, length, slice_index, IfOk, OnOk};
 ghost use Rattle.std.specs.List.{AllByRecursion};
 ghost use Rattle.dh_tree.specs.Elements.{banks_of};
 ghost use Rattle.dh_tree.specs.Seen.{program_seen};
 ghost use Rattle.dh_tree.specs.Shapes.{most_banks, IsDim};
 ghost use Rattle.dh_viewing.specs.Carried.{largest};
 ghost use Rattle.dh_meaning.specs.Ways.{all_bindings_of};
-ghost use Rattle.dh_meets.specs.Charges.{charge_through};
-ghost use Rattle.dh_meets.specs.FewCopies.{most_copies};
+ghost use Rattle.dh_base.specs.Limits.{most_copies};
 ghost use Rattle.dh_ways.specs.Seen.{way_seen};
 ghost use Rattle.dh_events.specs.Scopes.{AreScopes};
-ghost use Rattle.dh_ports.specs.Banks.{each_below};
-ghost use Rattle.dh_ports.specs.Carriers.{carried_to, AddsCarried, AreGroupSums, Carries};
-ghost use Rattle.dh_ports.specs.Claims.{source_of};
+ghost use Rattle.dh_ports.specs.Carriers.{AddsCarried, AddsFew, AreGroupSums, Carries, HasSourcesBelow};
 ghost use Rattle.dh_ports.specs.Copies.{copies_round, AreCounts, IsPast, TellsPaths};
-ghost use Rattle.dh_ports.specs.Tallies.{IsReady};
+ghost use Rattle.dh_ports.specs.Tallies.{IsReady, KeepsCharges};
 
 use crate::carrying::{Carrier, carried_at};
 use crate::copies::{Copied, Reach, reach_in, stride_of};
@@ -65,10 +62,8 @@ fn count_group(
 fn add_carried(sums: &mut [usize], counts: &[usize], carrier: &Carrier)
     requires long { length sums.old ≡ length carrier.now.sources.items }
     requires banks { length counts.now ≡ carrier.now.banks }
-    requires within { (bank : ℕ) → bank < length carrier.now.sources.items
-        → slice_index carrier.now.sources.items bank < carrier.now.banks }
-    requires few { (bank : ℕ) → bank < length sums.old → slice_index sums.old bank
-        + carried_to carrier.now (slice_index counts.now) bank ≤ most_copies }
+    requires within { HasSourcesBelow carrier.now carrier.now.banks }
+    requires few { AddsFew carrier.now (slice_index counts.now) sums.old }
     ensures { AddsCarried carrier.now (slice_index counts.now) sums.old sums.new }
 {
     let most = largest_of(counts);
@@ -91,8 +86,7 @@ fn carried_sums(
     requires tells { TellsPaths reach.now }
     requires range { groups * stride ≤ most_copies }
     requires few { carrier.now.banks ≤ most_banks }
-    requires within { (bank : ℕ) → bank < length carrier.now.sources.items
-        → slice_index carrier.now.sources.items bank < carrier.now.banks }
+    requires within { HasSourcesBelow carrier.now carrier.now.banks }
     requires past { IsPast seen.old }
     ensures sums { IfOk result (λ sums. AreGroupSums reach.now carrier.now
         stride groups sums.items) }
@@ -122,8 +116,7 @@ fn keep_sums(
     requires tells { TellsPaths reach }
     requires range { groups * stride ≤ most_copies }
     requires few { carrier.now.banks ≤ most_banks }
-    requires within { (bank : ℕ) → bank < length carrier.now.sources.items
-        → slice_index carrier.now.sources.items bank < carrier.now.banks }
+    requires within { HasSourcesBelow carrier.now carrier.now.banks }
     requires past { IsReady tally.old }
     ensures sums { OnOk result (AreGroupSums reach carrier.now
         stride groups tally.new.last.sums.items) }
@@ -153,10 +146,8 @@ pub fn keys_through(
     requires scopes { AreScopes (all_bindings_of (program_seen typed.now)) scopes.now }
     requires carries { Carries (way_seen way.now) carrier.now }
     requires past { IsReady tally.old }
-    ensures counts { OnOk result (tally.new.last.sums.items ≡ each_below
-        (charge_through (program_seen typed.now) (way_seen way.now)
-        (source_of copied.entry.loops.now copied.entry.writes copied.entry.access.now))
-        (length carrier.now.sources.items)) }
+    ensures counts { OnOk result (KeepsCharges (program_seen typed.now) way.now copied.entry
+        carrier.now tally.new) }
     ensures past { OnOk result (IsReady tally.new) }
 {
     let reach = reach_in(alloc, typed, scopes, copied)?;

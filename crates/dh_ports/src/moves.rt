@@ -1,27 +1,22 @@
 //! What events do to banks: accesses claim them with numbers of keys. Claims of banks in a row are kept as one.
 
-ghost use Rattle.std.specs.Prelude.{◌≡◌, ◌++◌, ◌≤◌, ◌<◌, ◌+◌, ℕ, true, nat_lt, Some, None, IfOk, OnOk, length, map};
-ghost use Rattle.std.specs.List.{AllByRecursion};
+ghost use Rattle.std.specs.Prelude.{◌≡◌, ◌≤◌, ◌<◌, ◌+◌, true, nat_lt, None, IfOk, OnOk, length};
 ghost use Rattle.dh_tree.specs.Memories.{memories_of, number_in, table_of};
-ghost use Rattle.dh_tree.specs.PlainTrees.{Program};
 ghost use Rattle.dh_tree.specs.Seen.{form_seen, program_seen};
 ghost use Rattle.dh_tree.specs.Shapes.{IsProgramTable};
-ghost use Rattle.dh_meaning.specs.Ways.{way_to, ways_of};
 ghost use Rattle.dh_ways.specs.CutStands.{HasFewWays};
 ghost use Rattle.dh_ways.specs.Leading.{LeadsTo};
-ghost use Rattle.dh_ways.specs.Seen.{led_seen, way_seen};
-ghost use Rattle.dh_ways.specs.Stands.{hidden_of_program};
+ghost use Rattle.dh_ways.specs.Seen.{way_seen};
 ghost use Rattle.dh_events.specs.Accesses.{entity_in, loops_in};
-ghost use Rattle.dh_ports.specs.Banks.{each_below};
-ghost use Rattle.dh_ports.specs.Carriers.{carried_to, one_at, IsCarrier};
-ghost use Rattle.dh_ports.specs.Claims.{claim_in, claims_from, claims_of, source_of};
+ghost use Rattle.dh_ports.specs.Carriers.{claims_carried, IsCarrier};
+ghost use Rattle.dh_ports.specs.Claims.{claim_in, claims_from, NamesMemory, NamesView};
 ghost use Rattle.dh_ports.specs.Copies.{copies_round};
-ghost use Rattle.dh_ports.specs.EventMoves.{moves_known, moves_of, HasFewCopiesAt};
-ghost use Rattle.dh_ports.specs.Layouts.{AreRoundsOf, AreScopesNoted, AreScopesWhere, HaveFewCopies, IsLayout};
+ghost use Rattle.dh_ports.specs.EventMoves.{claims_by, moves_at, moves_by, HasFewCopiesAt};
+ghost use Rattle.dh_ports.specs.Layouts.{AllWaysLead, AreRoundsOf, AreScopesNoted, HaveFewCopies, IsLayout, NotesViews};
 ghost use Rattle.dh_ports.specs.Runs as definitions;
-ghost use Rattle.dh_ports.specs.Runs.{moves_in, moves_of_run, one_claim, row_to};
+ghost use Rattle.dh_ports.specs.Runs.{moves_in, one_claim, row_to, AddsBehind, AddsMoves};
 ghost use Rattle.dh_ports.specs.Tallies.{IsReady};
-ghost use Rattle.dh_meets.specs.FewCopies.{most_copies};
+ghost use Rattle.dh_base.specs.Limits.{most_copies};
 
 use crate::banks::{bank_bases, bank_count, bank_reached, entity_of, number_of};
 use crate::carrying::{Carrier, carries};
@@ -89,9 +84,8 @@ fn declare_views(
     ways: &WayTable,
     hidden: &[Hidden],
 ) -> Result<(), NoMemory>
-    ensures { OnOk result ((p : Program) → map led_seen ways.now ≡ ways_of p
-        → hidden.now ≡ hidden_of_program p → AreScopesNoted p rounds.now scopes.old.items
-        → AreScopesWhere p rounds.now scopes.new.items) }
+    ensures { OnOk result (NotesViews ways.now hidden.now rounds.now scopes.old.items
+        scopes.new.items) }
 {
     if rounds.is_empty() {
         return Ok(());
@@ -103,8 +97,7 @@ fn declare_views(
 /// The layout of a program of which this is noted.
 pub fn layout_of(alloc: Global, typed: &Typed, nests: Nests) -> Result<Layout, NoMemory>
     requires table { IsProgramTable (table_of (program_seen typed.now)) }
-    requires leads { AllByRecursion (λ l. LeadsTo (memories_of (program_seen typed.now)) l.way)
-        (ways_of (program_seen typed.now)) }
+    requires leads { AllWaysLead (program_seen typed.now) }
     requires few { HasFewWays (program_seen typed.now) }
     requires rounds { AreRoundsOf (program_seen typed.now) nests.rounds.items }
     requires scopes { AreScopesNoted (program_seen typed.now) nests.rounds.items
@@ -182,8 +175,7 @@ fn goes_on(last: Run, event: usize, slot: usize, keys: usize) -> bool
 
 /// Adds a move, and the same to the banks in front of an end.
 fn push_run(moves: &mut Vec<Run>, first: Move, end: usize) -> Result<(), NoMemory>
-    ensures { OnOk result (moves_in moves.new.items
-        ≡ moves_in moves.old.items ++ row_to first end) }
+    ensures { OnOk result (AddsMoves moves.old moves.new (row_to first end)) }
 {
     moves.push(Run { first, end })?;
     Ok(())
@@ -192,8 +184,7 @@ fn push_run(moves: &mut Vec<Run>, first: Move, end: usize) -> Result<(), NoMemor
 /// Adds the claim of a bank as a run of its own.
 fn push_one(moves: &mut Vec<Run>, event: usize, slot: usize, keys: usize) -> Result<(), NoMemory>
     requires few { slot < 2097152 }
-    ensures { OnOk result (moves_in moves.new.items
-        ≡ moves_in moves.old.items ++ one_claim event slot keys) }
+    ensures { OnOk result (AddsMoves moves.old moves.new (one_claim event slot keys)) }
 {
     push_run(moves, Move::Claim { event, slot, keys }, slot + 1)
 }
@@ -207,8 +198,7 @@ fn push_both(
     keys: usize,
 ) -> Result<(), NoMemory>
     requires few { slot < 2097152 }
-    ensures { OnOk result (moves_in moves.new.items
-        ≡ (moves_in moves.old.items ++ moves_of_run last) ++ one_claim event slot keys) }
+    ensures { OnOk result (AddsBehind moves.old moves.new last (one_claim event slot keys)) }
 {
     push_run(moves, last.first, last.end)?;
     push_one(moves, event, slot, keys)
@@ -223,8 +213,7 @@ fn push_behind(
     keys: usize,
 ) -> Result<(), NoMemory>
     requires few { slot < 2097152 }
-    ensures { OnOk result (moves_in moves.new.items
-        ≡ (moves_in moves.old.items ++ moves_of_run last) ++ one_claim event slot keys) }
+    ensures { OnOk result (AddsBehind moves.old moves.new last (one_claim event slot keys)) }
 {
     if goes_on(last, event, slot, keys) {
         push_run(moves, last.first, slot + 1)
@@ -236,8 +225,7 @@ fn push_behind(
 /// Adds the claim of a bank, to the run before it where it goes on with that, by taking that run off.
 fn push_joined(moves: &mut Vec<Run>, event: usize, slot: usize, keys: usize) -> Result<(), NoMemory>
     requires few { slot < 2097152 }
-    ensures { OnOk result (moves_in moves.new.items
-        ≡ moves_in moves.old.items ++ one_claim event slot keys) }
+    ensures { OnOk result (AddsMoves moves.old moves.new (one_claim event slot keys)) }
 {
     match moves.pop() {
         Some(last) => push_behind(moves, last, event, slot, keys),
@@ -258,8 +246,7 @@ fn goes_behind(moves: &[Run], event: usize, slot: usize, keys: usize) -> bool {
 /// Adds the claim of a bank, to the run before it where it goes on with that.
 fn push_claim(moves: &mut Vec<Run>, event: usize, slot: usize, keys: usize) -> Result<(), NoMemory>
     requires few { slot < 2097152 }
-    ensures { OnOk result (moves_in moves.new.items
-        ≡ moves_in moves.old.items ++ one_claim event slot keys) }
+    ensures { OnOk result (AddsMoves moves.old moves.new (one_claim event slot keys)) }
 {
     // most claims go on with none, and then no run has to be taken off
     if goes_behind(moves.as_slice(), event, slot, keys) {
@@ -278,8 +265,7 @@ fn claim_one(
     bank: u64,
 ) -> Result<(), NoMemory>
     requires few { base + banks ≤ 2097152 }
-    ensures { OnOk result (moves_in moves.new.items
-        ≡ moves_in moves.old.items ++ claim_in event base banks bank) }
+    ensures { OnOk result (AddsMoves moves.old moves.new (claim_in event base banks bank)) }
 {
     if bank < banks {
         let slot = base + bank as usize;
@@ -296,8 +282,7 @@ fn claim_all(
     counts: &[usize],
 ) -> Result<(), NoMemory>
     requires few { base + length counts.now ≤ 2097152 }
-    ensures { OnOk result (moves_in moves.new.items
-        ≡ moves_in moves.old.items ++ claims_from event base counts.now) }
+    ensures { OnOk result (AddsMoves moves.old moves.new (claims_from event base counts.now)) }
 {
     for bank in 0..counts.len() {
         if counts[bank] > 0 {
@@ -325,9 +310,8 @@ fn claim_evenly(
 ) -> Result<(), NoMemory>
     requires few { base + length carrier.now.sources.items ≤ 2097152 }
     requires even { carrier.now.evenly ≡ true }
-    ensures { OnOk result (moves_in moves.new.items
-        ≡ moves_in moves.old.items ++ claims_from event base (each_below
-        (carried_to carrier.now (one_at bank)) (length carrier.now.sources.items))) }
+    ensures { OnOk result (AddsMoves moves.old moves.new
+        (claims_carried carrier.now event base bank)) }
 {
     let many = carrier.sources.len();
     let end = base + many;
@@ -352,9 +336,8 @@ fn claim_each(
     bank: u64,
 ) -> Result<(), NoMemory>
     requires few { base + length carrier.now.sources.items ≤ 2097152 }
-    ensures { OnOk result (moves_in moves.new.items
-        ≡ moves_in moves.old.items ++ claims_from event base (each_below
-        (carried_to carrier.now (one_at bank)) (length carrier.now.sources.items))) }
+    ensures { OnOk result (AddsMoves moves.old moves.new
+        (claims_carried carrier.now event base bank)) }
 {
     for behind in 0..carrier.sources.len() {
         if carries(carrier, bank, behind) {
@@ -374,9 +357,8 @@ fn claim_carried(
     bank: u64,
 ) -> Result<(), NoMemory>
     requires few { base + length carrier.now.sources.items ≤ 2097152 }
-    ensures { OnOk result (moves_in moves.new.items
-        ≡ moves_in moves.old.items ++ claims_from event base (each_below
-        (carried_to carrier.now (one_at bank)) (length carrier.now.sources.items))) }
+    ensures { OnOk result (AddsMoves moves.old moves.new
+        (claims_carried carrier.now event base bank)) }
 {
     if carrier.evenly {
         claim_evenly(moves, event, base, carrier, bank)
@@ -411,13 +393,10 @@ fn claim_memory(
     requires table { IsProgramTable (table_of (program_seen typed.now)) }
     requires layout { IsLayout (program_seen typed.now) layout.now }
     requires copies { copies_round (loops_in layout.now.rounds.items claimant.round) ≤ most_copies }
-    requires named { number_in (memories_of (program_seen typed.now))
-        (entity_in (form_seen claimant.access.now.form)) ≡ Some memory }
+    requires named { NamesMemory (program_seen typed.now) claimant.access.now memory }
     requires past { IsReady tally.old }
-    ensures claims { OnOk result (moves_in moves.new.items ≡ moves_in moves.old.items
-        ++ claims_of (program_seen typed.now) claimant.entry.event
-        (source_of (loops_in layout.now.rounds.items claimant.entry.round) claimant.entry.writes
-        claimant.entry.access.now)) }
+    ensures claims { OnOk result (AddsMoves moves.old moves.new
+        (claims_by typed.now layout.now claimant.entry)) }
     ensures past { OnOk result (IsReady tally.new) }
 {
     let Some(entry) = typed.memories().as_slice().get(memory) else {
@@ -459,14 +438,11 @@ fn claim_view(
     requires layout { IsLayout (program_seen typed.now) layout.now }
     requires copies { copies_round (loops_in layout.now.rounds.items claimant.round) ≤ most_copies }
     requires leads { LeadsTo (memories_of (program_seen typed.now)) (way_seen way.now) }
-    requires named { way_to (program_seen typed.now)
-        (entity_in (form_seen claimant.access.now.form)) ≡ Some (way_seen way.now) }
+    requires named { NamesView (program_seen typed.now) claimant.access.now (way_seen way.now) }
     requires carrier { IsCarrier (way_seen way.now) carrier.now }
     requires past { IsReady tally.old }
-    ensures claims { OnOk result (moves_in moves.new.items ≡ moves_in moves.old.items
-        ++ claims_of (program_seen typed.now) claimant.entry.event
-        (source_of (loops_in layout.now.rounds.items claimant.entry.round) claimant.entry.writes
-        claimant.entry.access.now)) }
+    ensures claims { OnOk result (AddsMoves moves.old moves.new
+        (claims_by typed.now layout.now claimant.entry)) }
     ensures past { OnOk result (IsReady tally.new) }
 {
     let ends_at = way.memory();
@@ -505,16 +481,13 @@ fn claim_led(
 ) -> Result<(), NoMemory>
     requires table { IsProgramTable (table_of (program_seen typed.now)) }
     requires layout { IsLayout (program_seen typed.now) layout.now }
-    requires leads { AllByRecursion (λ l. LeadsTo (memories_of (program_seen typed.now)) l.way)
-        (ways_of (program_seen typed.now)) }
+    requires leads { AllWaysLead (program_seen typed.now) }
     requires copies { copies_round (loops_in layout.now.rounds.items claimant.round) ≤ most_copies }
     requires entity { entity ≡ entity_in (form_seen claimant.access.now.form) }
     requires other { number_in (memories_of (program_seen typed.now)) entity ≡ None }
     requires past { IsReady tally.old }
-    ensures claims { OnOk result (moves_in moves.new.items ≡ moves_in moves.old.items
-        ++ claims_of (program_seen typed.now) claimant.entry.event
-        (source_of (loops_in layout.now.rounds.items claimant.entry.round) claimant.entry.writes
-        claimant.entry.access.now)) }
+    ensures claims { OnOk result (AddsMoves moves.old moves.new
+        (claims_by typed.now layout.now claimant.entry)) }
     ensures past { OnOk result (IsReady tally.new) }
 {
     let Some(place) = layout.ways.place_of(entity) else {
@@ -545,14 +518,11 @@ fn claim(
 ) -> Result<(), NoMemory>
     requires table { IsProgramTable (table_of (program_seen typed.now)) }
     requires layout { IsLayout (program_seen typed.now) layout.now }
-    requires leads { AllByRecursion (λ l. LeadsTo (memories_of (program_seen typed.now)) l.way)
-        (ways_of (program_seen typed.now)) }
+    requires leads { AllWaysLead (program_seen typed.now) }
     requires copies { copies_round (loops_in layout.now.rounds.items claimant.round) ≤ most_copies }
     requires past { IsReady tally.old }
-    ensures claims { OnOk result (moves_in moves.new.items ≡ moves_in moves.old.items
-        ++ claims_of (program_seen typed.now) claimant.entry.event
-        (source_of (loops_in layout.now.rounds.items claimant.entry.round) claimant.entry.writes
-        claimant.entry.access.now)) }
+    ensures claims { OnOk result (AddsMoves moves.old moves.new
+        (claims_by typed.now layout.now claimant.entry)) }
     ensures past { OnOk result (IsReady tally.new) }
 {
     let entity = entity_of(claimant.access);
@@ -575,12 +545,11 @@ pub fn move_banks(
 ) -> Result<(), NoMemory>
     requires table { IsProgramTable (table_of (program_seen typed.now)) }
     requires layout { IsLayout (program_seen typed.now) layout.now }
-    requires leads { AllByRecursion (λ l. LeadsTo (memories_of (program_seen typed.now)) l.way)
-        (ways_of (program_seen typed.now)) }
+    requires leads { AllWaysLead (program_seen typed.now) }
     requires copies { HasFewCopiesAt layout.now.rounds.items event }
     requires past { IsReady tally.old }
-    ensures moves { OnOk result (moves_in moves.new.items ≡ moves_in moves.old.items
-        ++ moves_of (program_seen typed.now) (loops_in layout.now.rounds.items) place event.entry) }
+    ensures moves { OnOk result (AddsMoves moves.old moves.new
+        (moves_at typed.now layout.now place event.entry)) }
     ensures past { OnOk result (IsReady tally.new) }
 {
     match event {
@@ -614,11 +583,10 @@ pub fn all_moves(
 ) -> Result<Vec<Run>, NoMemory>
     requires table { IsProgramTable (table_of (program_seen typed.now)) }
     requires layout { IsLayout (program_seen typed.now) layout.now }
-    requires leads { AllByRecursion (λ l. LeadsTo (memories_of (program_seen typed.now)) l.way)
-        (ways_of (program_seen typed.now)) }
+    requires leads { AllWaysLead (program_seen typed.now) }
     requires copies { HaveFewCopies layout.now.rounds.items events.now }
     ensures { IfOk result (λ moves. moves_in moves.items
-        ≡ moves_known (program_seen typed.now) layout.now events.now) }
+        ≡ moves_by typed.now layout.now events.now) }
 {
     // most events come to one run at most
     let mut moves = Vec::with_capacity(alloc, events.len())?;

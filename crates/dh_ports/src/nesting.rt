@@ -1,10 +1,8 @@
 //! What is noted of a program's commands before what happens in them.
 
-ghost use Rattle.std.specs.Prelude.{◌≡◌, [], IfOk};
+ghost use Rattle.std.specs.Prelude.{IfOk};
 ghost use Rattle.dh_tree.specs.Seen.{program_seen};
-ghost use Rattle.dh_events.specs.Stages.{stages_in};
-ghost use Rattle.dh_events.specs.Tables.{numbered};
-ghost use Rattle.dh_ports.specs.Layouts.{AreRoundsOf, AreScopesNoted};
+ghost use Rattle.dh_ports.specs.Layouts.{AreRoundsOf, AreScopesNoted, AreStagesOf};
 
 use dh_base::NoMemory;
 use dh_events::{Nests, note_nests, note_stages};
@@ -14,8 +12,8 @@ use std::alloc::Global;
 /// How many phases the commands of a program have; and, where not each loop has one copy, which unrolled loops
 /// stand round what and where the variables of the body are declared.
 pub fn nests_of(alloc: Global, typed: &Typed) -> Result<Nests, NoMemory>
-    ensures stages { IfOk result (λ nests. numbered nests.stages.items
-        ≡ stages_in (program_seen typed.now).body (numbered [])) }
+    ensures stages { IfOk result (λ nests. AreStagesOf (program_seen typed.now)
+        nests.stages.items) }
     ensures rounds { IfOk result (λ nests. AreRoundsOf (program_seen typed.now)
         nests.rounds.items) }
     ensures scopes { IfOk result (λ nests. AreScopesNoted (program_seen typed.now)

@@ -7,7 +7,7 @@ ghost use Rattle.dh_events.specs.Classes.{AreDistinct, Extends};
 ghost use Rattle.dh_ports.specs.Levels.{IsKept};
 ghost use Rattle.dh_ports.specs.Orders as orders;
 ghost use Rattle.dh_ports.specs.Orders.{AreMarked, AreRead, MarksRead};
-ghost use Rattle.dh_ports.specs.Passing.{all_from, KeepsTo};
+ghost use Rattle.dh_ports.specs.Passing.{KeepsFrom, KeepsTo};
 ghost use Rattle.dh_ports.specs.Runs.{moves_in, moves_of_run};
 ghost use Rattle.dh_ports.specs.Scanned as scanned;
 ghost use Rattle.dh_ports.specs.Scanned.{IsMoveOf, KeepsLate};
@@ -304,8 +304,8 @@ fn keep_all(
     requires distinct { AreDistinct classes.now }
     requires marked { AreMarked classes.now marked.now }
     requires within { AllByRecursion (IsMoveOf (length events.now)) (moves_in moves.now) }
-    ensures { OnOk result (kept.new ≡ least_of kept.old
-        (all_from classes.now events.now starts.items (moves_in moves.now))) }
+    ensures { OnOk result (KeepsFrom classes.now events.now starts.items (moves_in moves.now)
+        kept.old kept.new) }
 {
     let mut levels = Levels::new(alloc, starts);
     for run in moves {

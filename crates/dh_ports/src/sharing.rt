@@ -141,7 +141,7 @@ impl Sharing {
         // of each class one is left at first; there are no more classes than events
         let ones = ones(alloc, count)?;
         Ok(Sharing {
-            classes: Classes::new(alloc),
+            classes: Classes::by_phase(alloc),
             levels: Levels::new(alloc, ones),
             flags: Vec::new(alloc),
         })

@@ -1,15 +1,15 @@
 //! Which accesses take ports of a bank of which too few are left.
 
-ghost use Rattle.std.specs.Prelude.{◌≡◌, ◌≤◌, ◌++◌, Bool, List, IfOk, length};
+ghost use Rattle.std.specs.Prelude.{◌≡◌, ◌≤◌, IfOk, length};
 ghost use Rattle.std.specs.List.{AllByRecursion};
 ghost use Rattle.dh_events.specs.Noted.{all_seen, event_seen};
 ghost use Rattle.dh_ports.specs.Levels.{IsKept};
-ghost use Rattle.dh_ports.specs.Passing.{ComesTo};
+ghost use Rattle.dh_ports.specs.Passing.{ComesToSoFar};
 ghost use Rattle.dh_ports.specs.Runs.{moves_in, moves_of_run};
 ghost use Rattle.dh_ports.specs.Scanned as scanned;
 ghost use Rattle.dh_ports.specs.Scanned.{IsMoveOf};
 ghost use Rattle.dh_ports.specs.Walks as walks;
-ghost use Rattle.dh_ports.specs.Walks.{KeptWhile, SpendsTo};
+ghost use Rattle.dh_ports.specs.Walks.{KeptWhile, SpendsToSoFar};
 
 use crate::levels::{Levels, Step};
 use crate::moves::{Move, Run, at_slot, slot_of};
@@ -99,8 +99,8 @@ fn spend_run(
     requires few { length shared.now ≤ length events.now }
     requires within { AllByRecursion (IsMoveOf (length shared.now)) (moves_of_run run) }
     requires kept { IsKept levels.old }
-    ensures { IfOk result (λ walked. (more : List Bool) → ComesTo (all_seen events.now)
-        (shared.now ++ more) levels.old (moves_of_run run) levels.new walked) }
+    ensures { IfOk result (λ walked. ComesToSoFar events.now shared.now levels.old
+        (moves_of_run run) levels.new walked) }
 {
     let from = slot_of(run.first);
     for slot in from..run.end {
@@ -125,8 +125,8 @@ fn spend_all(
     requires few { length shared.now ≤ length events.now }
     requires within { AllByRecursion (IsMoveOf (length shared.now)) (moves_in moves.now) }
     requires kept { IsKept levels.old }
-    ensures { IfOk result (λ walked. (more : List Bool) → ComesTo (all_seen events.now)
-        (shared.now ++ more) levels.old (moves_in moves.now) levels.new walked) }
+    ensures { IfOk result (λ walked. ComesToSoFar events.now shared.now levels.old
+        (moves_in moves.now) levels.new walked) }
 {
     for run in moves {
         let walked = spend_run(alloc, events, shared, levels, *run)?;
@@ -150,8 +150,8 @@ pub fn spend_behind(
     requires few { length shared.now ≤ length events.now }
     requires within { AllByRecursion (IsMoveOf (length shared.now)) (moves_in moves.now) }
     requires kept { KeptWhile walked levels.old }
-    ensures { IfOk result (λ after. (more : List Bool) → SpendsTo (all_seen events.now)
-        (shared.now ++ more) walked levels.old (moves_in moves.now) after levels.new) }
+    ensures { IfOk result (λ after. SpendsToSoFar events.now shared.now walked levels.old
+        (moves_in moves.now) after levels.new) }
 {
     match walked {
         Walked::Past => spend_all(alloc, events, shared, levels, moves),

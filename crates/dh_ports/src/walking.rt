@@ -2,13 +2,10 @@
 //! of the writes of its bank. All of it is found on the way, so that no move has to be kept.
 
 ghost use Rattle.std.specs.Prelude.{IfOk};
-ghost use Rattle.std.specs.List.{AllByRecursion};
-ghost use Rattle.dh_tree.specs.Memories.{memories_of, table_of};
+ghost use Rattle.dh_tree.specs.Memories.{table_of};
 ghost use Rattle.dh_tree.specs.Seen.{program_seen};
 ghost use Rattle.dh_tree.specs.Shapes.{IsProgramTable};
-ghost use Rattle.dh_meaning.specs.Ways.{ways_of};
-ghost use Rattle.dh_ways.specs.Leading.{LeadsTo};
-ghost use Rattle.dh_ports.specs.Layouts.{HaveFewCopies, IsLayout};
+ghost use Rattle.dh_ports.specs.Layouts.{AllWaysLead, HaveFewCopies, IsLayout};
 ghost use Rattle.dh_ports.specs.SharedSoFar.{IsShared};
 ghost use Rattle.dh_ports.specs.Walks.{IsWalked};
 
@@ -35,8 +32,7 @@ pub fn walk(
 ) -> Result<Walked, NoMemory>
     requires table { IsProgramTable (table_of (program_seen typed.now)) }
     requires layout { IsLayout (program_seen typed.now) layout.now }
-    requires leads { AllByRecursion (λ l. LeadsTo (memories_of (program_seen typed.now)) l.way)
-        (ways_of (program_seen typed.now)) }
+    requires leads { AllWaysLead (program_seen typed.now) }
     requires copies { HaveFewCopies layout.now.rounds.items events.now }
     requires begins { IsShared events.now 0 sharing.old }
     ensures { IfOk result (λ walked. IsWalked (program_seen typed.now) layout.now events.now

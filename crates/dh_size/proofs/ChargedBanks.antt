@@ -21,10 +21,10 @@ use Rattle.dh_carried.proofs.ChargedBanks.{charged_reaches, reaching_charges}
 use Rattle.dh_tree.specs.Seen.{program_seen}
 use Rattle.dh_meaning.specs.Paths.{Path, copies_in, same_path}
 use Rattle.dh_meets.specs.Charges as charges
-use Rattle.dh_meets.specs.Charges.{bank_named, bank_reached, banks_in, charge, charge_by, charge_of, charge_through, factors_of, key_of, keys_reaching, may_reach, paths_of, reaches, reaches_by, reaches_in}
+use Rattle.dh_meets.specs.Charges.{bank_named, bank_reached, banks_in, charge, charge_by, charge_of, charge_through, factors_of, key_of, keys_reaching, may_reach, paths_of, reaches, reaches_by, reaches_in, memory_banks}
 use Rattle.dh_meets.specs.Sharing.{shared}
 use Rattle.dh_meets.specs.SourceEvents.{Element, with_indices, in_row, SourceAccess, accesses_in, trace}
-use Rattle.dh_plan.specs.PlanSizes.{access_size, banks_charged, entity_banks_charged, memory_banks}
+use Rattle.dh_plan.specs.PlanSizes.{access_size, banks_charged, entity_banks_charged}
 use Rattle.dh_ports.specs.Claims.{access_of}
 use Rattle.dh_ports.specs.Wholes.{of_access, touched_by, Touched}
 use Rattle.dh_ports.proofs.ClaimedBanks.{kept_some, path_there, some_kept, there_path, LeadsAt}

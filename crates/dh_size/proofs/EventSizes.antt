@@ -10,7 +10,8 @@ use Rattle.dh_tree.specs.Numbers.{IsNumbered}
 use Rattle.dh_meets.specs.Charges.{factors_of}
 use Rattle.dh_meaning.specs.Paths.{copies_in}
 use Rattle.dh_meaning.specs.Ways.{Way, way_to}
-use Rattle.dh_meets.specs.FewCopies.{most_copies, HasFewCopies}
+use Rattle.dh_meets.specs.FewCopies.{HasFewCopies}
+use Rattle.dh_base.specs.Limits.{most_copies}
 use Rattle.dh_meets.specs.Sharing.{shared}
 use Rattle.dh_meets.specs.SourceEvents.{SourceAccess, accesses_in, trace}
 use Rattle.dh_events.specs.declared.events.Event.{Event}

@@ -19,7 +19,8 @@ use Rattle.dh_meaning.specs.Paths.{Path}
 use Rattle.dh_meets.specs.Charges.{index_in, indices_in, bank_reached}
 use Rattle.dh_meets.specs.SourceEvents.{with_indices}
 use Rattle.dh_events.specs.Accesses.{element_in}
-use Rattle.dh_ports.specs.Banks.{bank_at_path, counters_in}
+use Rattle.dh_ports.specs.Banks.{bank_at_path}
+use Rattle.dh_shape.specs.Classified.{loops_in}
 use Rattle.dh_ports.specs.Claims.{source_of}
 use Rattle.dh_ports.proofs.BankTurns.{has_banks, banks_few, no_bank}
 use Rattle.dh_ports.proofs.ClaimedBanks.{bank_told}
@@ -27,14 +28,14 @@ use Rattle.dh_events.proofs.Turns.{at_place}
 
 -- the values of indices at a path, and the bank that they tell
 abbrev pub told_at : Tree → List Counter → Path → List Expr → List ℕ
-told_at tree loops path es = indices_in (counters_in tree) loops path (terms (map term_seen es))
+told_at tree loops path es = indices_in (loops_in tree) loops path (terms (map term_seen es))
 
 abbrev pub bank_told_at : Tree → List Counter → Path → List Dim → List Expr → ℕ
 bank_told_at tree loops path ds es = bank_of ds (told_at tree loops path es)
 
 -- the value of one index
 abbrev pub value_at : Tree → List Counter → Path → Expr → ℕ
-value_at tree loops path e = index_in loops path (index_kind (counters_in tree) e.kind (form_seen e.form))
+value_at tree loops path e = index_in loops path (index_kind (loops_in tree) e.kind (form_seen e.form))
 
 all_rest : (ds : List Dim) (n : ℕ) → AllByRecursion IsDim ds → AllByRecursion IsDim (drop n ds)
 all_rest ds zero h = h
@@ -131,10 +132,10 @@ module _ (ds : List Dim) (i : ℕ) (d : Dim) (h : AllByRecursion IsDim ds) (few 
 -- The bank that an access reaches, by its form.
 module _ (tree : Tree) (loops : List Counter) (dims : List Dim) (e : Expr) (path : Path) where
   pub reached_indices : (es shown : List Expr) (of : Ref) (result : ℕ) → form_seen e.form ≡ accessed of (terms (map term_seen es)) → shown ≡ es → result ≡ bank_told_at tree loops path dims shown → result ≡ bank_at_path tree dims (source_of loops false e) path
-  reached_indices es shown of result is same so = so ∙ (ap (bank_told_at tree loops path dims) same ∙ sym (ap (λ f. bank_reached (counters_in tree) dims (source_of loops false e) path (element_in f)) is))
+  reached_indices es shown of result is same so = so ∙ (ap (bank_told_at tree loops path dims) same ∙ sym (ap (λ f. bank_reached (loops_in tree) dims (source_of loops false e) path (element_in f)) is))
 
   pub reached_row : (of : Ref) (bank : ℕ) (place : Place) (row : Term) → form_seen e.form ≡ in_bank of bank place row → bank ≡ bank_at_path tree dims (source_of loops false e) path
-  reached_row of bank place row is = sym (ap (λ f. bank_reached (counters_in tree) dims (source_of loops false e) path (element_in f)) is)
+  reached_row of bank place row is = sym (ap (λ f. bank_reached (loops_in tree) dims (source_of loops false e) path (element_in f)) is)
 
   pub reached_none : (f : TermForm) → form_seen e.form ≡ f → element_in f ≡ with_indices no_terms → 0 ≡ bank_at_path tree dims (source_of loops false e) path
-  reached_none f is none = sym (ap (λ x. bank_reached (counters_in tree) dims (source_of loops false e) path (element_in x)) is ∙ (ap (bank_reached (counters_in tree) dims (source_of loops false e) path) none ∙ no_bank dims))
+  reached_none f is none = sym (ap (λ x. bank_reached (loops_in tree) dims (source_of loops false e) path (element_in x)) is ∙ (ap (bank_reached (loops_in tree) dims (source_of loops false e) path) none ∙ no_bank dims))

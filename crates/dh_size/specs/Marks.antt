@@ -1,10 +1,14 @@
 -- Which banks are reached, as marks, while paths are gone through.
 use Rattle.std.specs.Prelude.{◌≡◌, ℕ, zero, suc, ◌<◌, ◌==◌, ◌||◌, Bool, false, if◌then◌else◌, List, [], ◌∷◌, length, get_or, slice_index}
 use Rattle.dh_tree.specs.declared.tables.Dim.{Dim}
+use Rattle.dh_tree.specs.declared.trees.counters.Counter.{Counter}
+use Rattle.dh_tree.specs.declared.trees.expressions.Expr.{Expr}
 use Rattle.dh_tree.specs.declared.trees.programs.Tree.{Tree}
+use Rattle.dh_tree.specs.Elements.{banks_of}
 use Rattle.dh_meets.specs.Charges.{factors_of}
 use Rattle.dh_meets.specs.SourceEvents.{SourceAccess}
 use Rattle.dh_ports.specs.Banks.{bank_at_path, path_at}
+use Rattle.dh_ports.specs.Claims.{source_of}
 use Rattle.dh_ports.specs.declared.carrying.Carrier.{Carrier}
 
 -- some path below a number reaches a bank
@@ -16,6 +20,10 @@ reached_below tree dims a (suc number) bank = reached_below tree dims a number b
 pub record AreMarked (tree : Tree) (dims : List Dim) (a : SourceAccess) (banks number : ℕ) (marks : List Bool) : Type 0 where
   pub long : length marks ≡ banks
   pub each : (bank : ℕ) → bank < banks → get_or marks bank false ≡ reached_below tree dims a number bank
+
+-- of each bank of these dimensions a mark, set where an access of the code reaches it in one of so many copies
+abbrev pub AreAllMarked : Tree → List Counter → (copies : ℕ) → List Dim → Expr → List Bool → Type 0
+AreAllMarked tree loops copies dims e marks = AreMarked tree dims (source_of loops false e) (banks_of dims) copies marks
 
 -- one of these marks is set
 abbrev pub any_marked : List Bool → Bool

@@ -1,19 +1,28 @@
 -- The size of accesses, from what the code knows of each: whether it shares, and the unrolled loops round it.
-use Rattle.std.specs.Prelude.{ℕ, zero, suc, ◌+◌, ◌*◌, ◌≤◌, ◌==◌, ◌&&◌, nat_lt, Bool, false, if◌then◌else◌, List, [], ◌∷◌, length, Option, Some, None}
+use Rattle.std.specs.Prelude.{ℕ, zero, suc, ◌+◌, ◌*◌, ◌≤◌, ◌==◌, ◌&&◌, nat_lt, Bool, false, if◌then◌else◌, List, [], ◌∷◌, length, Option, Some, None, Vec}
+use Rattle.std.specs.Global.{Global}
 use Rattle.std.specs.List.{list_any}
 use Rattle.std.specs.Option.{is_some}
 use Rattle.dh_tree.specs.declared.tables.Dim.{Dim}
 use Rattle.dh_tree.specs.declared.trees.counters.Counter.{Counter}
+use Rattle.dh_tree.specs.declared.trees.expressions.Expr.{Expr}
+use Rattle.dh_tree.specs.declared.trees.programs.Tree.{Tree}
 use Rattle.dh_tree.specs.Counters.{counters_of}
 use Rattle.dh_tree.specs.Elements.{banks_of}
 use Rattle.dh_tree.specs.Memories.{Memory, memories_of, memory_in}
 use Rattle.dh_tree.specs.PlainTrees.{Program}
+use Rattle.dh_tree.specs.Seen.{program_seen}
 use Rattle.dh_meaning.specs.Ways.{Way, way_to}
 use Rattle.dh_meets.specs.Charges.{bank_named, bank_reached, may_reach, paths_of}
-use Rattle.dh_meets.specs.FewCopies.{most_copies}
+use Rattle.dh_base.specs.Limits.{most_copies}
 use Rattle.dh_meets.specs.SourceEvents.{SourceAccess}
+use Rattle.dh_ways.specs.Kept as kept
+use Rattle.dh_ways.specs.Seen.{way_seen}
+use Rattle.dh_events.specs.declared.events.Event.{Event}
+use Rattle.dh_events.specs.Accesses.{loops_in}
 use Rattle.dh_events.specs.Incidents.{Incident, touches, assigned, arm_begins, arm_ends, begins, next, ends}
-use Rattle.dh_ports.specs.Claims.{access_of}
+use Rattle.dh_events.specs.Noted.{all_seen}
+use Rattle.dh_ports.specs.Claims.{access_of, source_of}
 use Rattle.dh_ports.specs.Copies.{copies_round}
 use Rattle.dh_lengths.specs.SharedReads.{told}
 
@@ -86,3 +95,24 @@ AreFew loops (arm_ends ∷ xs) = AreFew loops xs
 AreFew loops (begins ∷ xs) = AreFew loops xs
 AreFew loops (next ∷ xs) = AreFew loops xs
 AreFew loops (ends ∷ xs) = AreFew loops xs
+
+-- Of a program as the code knows it.
+
+-- the banks that an access in these loops reaches: of a memory of these dimensions, through the views on a way, and of the
+-- memory that its name leads to
+abbrev pub own_banks : Tree → List Counter → List Dim → Expr → ℕ
+own_banks tree loops dims e = banks_within (program_seen tree) dims (source_of loops false e)
+
+abbrev pub led_banks : Tree → List Counter → kept.Way → Expr → ℕ
+led_banks tree loops w e = banks_through (program_seen tree) (way_seen w) (memory_in (memories_of (program_seen tree)) w.memory) (source_of loops false e)
+
+abbrev pub met_banks : Tree → List Counter → Expr → ℕ
+met_banks tree loops e = banks_met (program_seen tree) (source_of loops false e)
+
+-- its size, where it shares or does not
+abbrev pub size_of_access : Tree → List Counter → Expr → (shares : Bool) → ℕ
+size_of_access tree loops e shares = size_by (program_seen tree) shares (source_of loops false e)
+
+-- the sizes of the accesses among events, by the loops that are known and by a list of shares
+abbrev pub event_sizes : Tree → (rounds : List (Vec Counter Global)) → (shares : List (Option ℕ)) → List Event → ℕ
+event_sizes tree rounds shares events = sizes_from (program_seen tree) (loops_in rounds) shares 0 (all_seen events)

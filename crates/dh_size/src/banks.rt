@@ -3,21 +3,20 @@
 ghost use Rattle.std.specs.Prelude.{◌≡◌, ◌≤◌, ◌*◌, ◌+◌, IfOk, None, false, length, replicate};
 ghost use Rattle.std.specs.List.{AllByRecursion};
 ghost use Rattle.dh_tree.specs.Elements.{banks_of};
-ghost use Rattle.dh_tree.specs.Memories.{memories_of, memory_in, number_in, table_of};
+ghost use Rattle.dh_tree.specs.Memories.{memories_of, number_in, table_of};
 ghost use Rattle.dh_tree.specs.Seen.{form_seen, program_seen};
 ghost use Rattle.dh_tree.specs.Shapes.{most_banks, IsDim, IsProgramTable};
 ghost use Rattle.dh_ways.specs.Leading.{LeadsTo};
 ghost use Rattle.dh_ways.specs.Seen.{way_seen};
 ghost use Rattle.dh_events.specs.Accesses.{entity_in};
-ghost use Rattle.dh_meets.specs.Charges.{factors_of};
-ghost use Rattle.dh_meets.specs.FewCopies.{most_copies};
-ghost use Rattle.dh_ports.specs.Banks.{bank_at_path, path_at};
+ghost use Rattle.dh_base.specs.Limits.{most_copies};
 ghost use Rattle.dh_ports.specs.Carriers.{IsCarrier};
-ghost use Rattle.dh_ports.specs.Claims.{source_of};
 ghost use Rattle.dh_ports.specs.Copies.{copies_round};
 ghost use Rattle.dh_size.specs.Led.{AreViews};
-ghost use Rattle.dh_size.specs.Marks.{AreMarked};
+ghost use Rattle.dh_size.specs.Marks.{AreAllMarked};
+ghost use Rattle.dh_size.specs.NumberedPaths.{numbered_bank};
 ghost use Rattle.dh_size.specs.Sizes as definitions;
+ghost use Rattle.dh_size.specs.Sizes.{led_banks, met_banks, own_banks, size_of_access};
 
 use crate::paths::{bank_at, copies_in};
 use crate::through::{Views, count_behind, count_carried};
@@ -79,8 +78,7 @@ fn bank_reached(
     requires few { banks_of dims.now ≤ most_banks }
     requires copies { copies ≡ copies_round loops.now }
     requires some { 1 ≤ copies }
-    ensures { result ≡ bank_at_path typed.now dims.now (source_of loops.now false access.now)
-        (path_at (factors_of loops.now) number) }
+    ensures { result ≡ numbered_bank typed.now loops.now number dims.now access.now }
 {
     match &access.form {
         ExprForm::Access { indices, .. } => {
@@ -118,8 +116,8 @@ fn reached_banks(
     requires dims { AllByRecursion IsDim dims.now }
     requires few { banks_of dims.now ≤ most_banks }
     requires copies { copies ≡ copies_round loops.now }
-    ensures { IfOk result (λ marks. AreMarked typed.now dims.now
-        (source_of loops.now false access.now) (banks_of dims.now) copies marks.items) }
+    ensures { IfOk result (λ marks. AreAllMarked typed.now loops.now copies dims.now access.now
+        marks.items) }
 {
     let banks = bank_count(dims);
     let mut marks = no_marks(alloc, banks)?;
@@ -152,8 +150,7 @@ fn one_bank(typed: &Typed, loops: &[Counter], copies: u64, dims: &[Dim], access:
     requires few { banks_of dims.now ≤ most_banks }
     requires copies { copies ≡ copies_round loops.now }
     requires one { copies ≡ 1 }
-    ensures { result ≡ definitions.banks_within (program_seen typed.now) dims.now
-        (source_of loops.now false access.now) }
+    ensures { result ≡ own_banks typed.now loops.now dims.now access.now }
 {
     let bank = bank_reached(typed, loops, copies, 0, dims, access);
     if bank < bank_count(dims) { 1 } else { 0 }
@@ -171,8 +168,7 @@ fn banks_within(
     requires dims { AllByRecursion IsDim dims.now }
     requires few { banks_of dims.now ≤ most_banks }
     requires copies { copies ≡ copies_round loops.now }
-    ensures { IfOk result (λ banks. banks ≡ definitions.banks_within (program_seen typed.now)
-        dims.now (source_of loops.now false access.now)) }
+    ensures { IfOk result (λ banks. banks ≡ own_banks typed.now loops.now dims.now access.now) }
 {
     // no marks are made for the many accesses outside every unrolled loop
     if copies == 1 {
@@ -196,10 +192,7 @@ fn banks_through(
     requires copies { copies ≡ copies_round loops.now }
     requires leads { LeadsTo (memories_of (program_seen typed.now)) (way_seen way.now) }
     requires carrier { IsCarrier (way_seen way.now) carrier.now }
-    ensures met { IfOk result (λ banks. banks ≡ definitions.banks_through
-        (program_seen typed.now) (way_seen way.now)
-        (memory_in (memories_of (program_seen typed.now)) way.now.memory)
-        (source_of loops.now false access.now)) }
+    ensures met { IfOk result (λ banks. banks ≡ led_banks typed.now loops.now way.now access.now) }
     ensures few { IfOk result (λ banks. banks ≤ most_banks) }
 {
     let named = way.view();
@@ -229,8 +222,7 @@ fn banks_led(
     requires copies { copies ≡ copies_round loops.now }
     requires other { number_in (memories_of (program_seen typed.now))
         (entity_in (form_seen access.now.form)) ≡ None }
-    ensures met { IfOk result (λ banks. banks ≡ definitions.banks_met (program_seen typed.now)
-        (source_of loops.now false access.now)) }
+    ensures met { IfOk result (λ banks. banks ≡ met_banks typed.now loops.now access.now) }
     ensures few { IfOk result (λ banks. banks ≤ most_banks) }
 {
     let entity = entity_of(access);
@@ -255,8 +247,7 @@ fn banks_met(
     requires table { IsProgramTable (table_of (program_seen typed.now)) }
     requires views { AreViews (program_seen typed.now) views }
     requires copies { copies ≡ copies_round loops.now }
-    ensures met { IfOk result (λ banks. banks ≡ definitions.banks_met (program_seen typed.now)
-        (source_of loops.now false access.now)) }
+    ensures met { IfOk result (λ banks. banks ≡ met_banks typed.now loops.now access.now) }
     ensures few { IfOk result (λ banks. banks ≤ most_banks) }
 {
     let Some(memory) = memory_of(typed, access) else {
@@ -283,8 +274,7 @@ pub fn access_size(
     requires table { IsProgramTable (table_of (program_seen typed.now)) }
     requires views { AreViews (program_seen typed.now) views }
     requires few { copies_round loops.now ≤ most_copies }
-    ensures { IfOk result (λ size. size ≡ definitions.size_by (program_seen typed.now) shares
-        (source_of loops.now false access.now)) }
+    ensures { IfOk result (λ size. size ≡ size_of_access typed.now loops.now access.now shares) }
 {
     let copies = copies_in(loops);
     if shares {

@@ -2,14 +2,13 @@
 
 ghost use Rattle.std.specs.Prelude.{◌≡◌, ◌≤◌, ◌+◌, ◌%◌, ◌<◌, ◌^◌, Some, pos, ◌+ℤ◌, unsigned_abs};
 ghost use Rattle.std.specs.List.{AllByRecursion};
-ghost use Rattle.dh_tree.specs.Elements.{bank_of, banks_of};
-ghost use Rattle.dh_tree.specs.Indices.{index_kind};
-ghost use Rattle.dh_tree.specs.Seen.{form_seen, all_terms_seen};
+ghost use Rattle.dh_tree.specs.Elements.{banks_of};
 ghost use Rattle.dh_tree.specs.Shapes.{most_banks, IsDim};
-ghost use Rattle.dh_meets.specs.Charges.{factors_of, index_in, indices_in};
-ghost use Rattle.dh_meets.specs.FewCopies.{most_copies};
-ghost use Rattle.dh_ports.specs.Banks.{copy_of, counters_in, path_at};
+ghost use Rattle.dh_meets.specs.Charges.{factors_of};
+ghost use Rattle.dh_base.specs.Limits.{most_copies};
+ghost use Rattle.dh_ports.specs.Banks.{copy_of, path_at};
 ghost use Rattle.dh_ports.specs.Copies.{copies_round};
+ghost use Rattle.dh_size.specs.NumberedPaths.{index_numbered, indexed_bank};
 
 use dh_shape::{IndexKind, classify};
 use dh_tree::{Counter, Dim, Expr, Typed};
@@ -78,8 +77,7 @@ fn residue_at(
     requires copies { copies ≡ copies_round loops.now }
     requires some { 1 ≤ copies }
     requires banks { 1 ≤ banks }
-    ensures { result ≡ index_in loops.now (path_at (factors_of loops.now) number)
-        (index_kind (counters_in typed.now) index.now.kind (form_seen index.now.form)) % banks }
+    ensures { result ≡ index_numbered typed.now loops.now number index.now % banks }
 {
     match classify(typed, index) {
         IndexKind::Constant(value) => residue_of(0, 0, value, banks),
@@ -108,8 +106,7 @@ pub fn bank_at(
     requires few { banks_of dims.now ≤ most_banks }
     requires copies { copies ≡ copies_round loops.now }
     requires some { 1 ≤ copies }
-    ensures { result ≡ bank_of dims.now (indices_in (counters_in typed.now) loops.now
-        (path_at (factors_of loops.now) number) (all_terms_seen indices.now)) }
+    ensures { result ≡ indexed_bank typed.now loops.now number dims.now indices.now }
 {
     let mut bank: u64 = 0;
     let mut count: u64 = 1;

@@ -11,7 +11,7 @@ ghost use Rattle.dh_events.specs.Noted.{all_seen};
 ghost use Rattle.dh_lengths.specs.SharedReads.{told};
 ghost use Rattle.dh_plan.specs.PlanSizes.{size_reported};
 ghost use Rattle.dh_size.specs.Led.{AreViews};
-ghost use Rattle.dh_size.specs.Sizes.{sizes_from, AreFew};
+ghost use Rattle.dh_size.specs.Sizes.{event_sizes, AreFew};
 ghost use Rattle.dh_size.specs.Summed.{summed};
 
 use crate::banks::access_size;
@@ -52,8 +52,8 @@ fn access_sizes(
     requires table { IsProgramTable (table_of (program_seen typed.now)) }
     requires views { AreViews (program_seen typed.now) views }
     requires few { AreFew (loops_in rounds.now) (all_seen events.now) }
-    ensures { IfOk result (λ size. size ≡ summed 0 (sizes_from (program_seen typed.now)
-        (loops_in rounds.now) shares.now 0 (all_seen events.now))) }
+    ensures { IfOk result (λ size. size ≡ summed 0 (event_sizes typed.now rounds.now shares.now
+        events.now)) }
 {
     let mut sum: u64 = 0;
     let mut number: usize = 0;

@@ -1,8 +1,8 @@
 //! The banks of memories that are reached through views.
 
-ghost use Rattle.std.specs.Prelude.{◌≡◌, ◌≤◌, ◌<◌, ℕ, length, slice_index};
+ghost use Rattle.std.specs.Prelude.{◌≡◌, ◌≤◌, ◌<◌, length, slice_index};
 ghost use Rattle.dh_tree.specs.Shapes.{most_banks};
-ghost use Rattle.dh_ports.specs.Carriers.{is_carried};
+ghost use Rattle.dh_ports.specs.Carriers.{is_carried, HasSourcesBelow};
 ghost use Rattle.dh_size.specs.Marks.{any_marked, marked_behind};
 ghost use Rattle.dh_size.specs.Sizes.{count_below};
 
@@ -48,8 +48,7 @@ fn is_behind(carrier: &Carrier, marks: &[bool], any: bool, behind: usize) -> boo
 /// The banks of a memory that are reached where these banks of a view are marked.
 pub fn count_behind(carrier: &Carrier, marks: &[bool]) -> u64
     requires few { length carrier.now.sources.items ≤ most_banks }
-    requires within { (bank : ℕ) → bank < length carrier.now.sources.items
-        → slice_index carrier.now.sources.items bank < length marks.now }
+    requires within { HasSourcesBelow carrier.now (length marks.now) }
     ensures { result ≡ count_below (marked_behind carrier.now marks.now)
         (length carrier.now.sources.items) }
 {

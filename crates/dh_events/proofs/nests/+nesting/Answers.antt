@@ -3,7 +3,8 @@ use Rattle.dh_tree.specs.Seen.{action_form_seen, action_seen, maybe_block_seen}
 use Rattle.dh_tree.proofs.SeenActions.{let_is, if_is, for_at}
 use Rattle.dh_events.specs.Rounds.{form_rounds, other_rounds, part_rounds, rounds_in, rounds_of}
 use Rattle.dh_events.specs.Scopes.{form_scopes, other_scopes, part_scopes, scope_at, scopes_in}
-use Rattle.dh_events.specs.Stages.{form_stages, other_stages, part_stages, stage_of, stages_in}
+use Rattle.dh_events.specs.Stages.{form_stages, other_stages, part_stages, stages_in}
+use Rattle.dh_tree.specs.PhaseKinds.{phase_kind}
 use Rattle.dh_events.specs.Tables.{numbered}
 use Rattle.dh_events.proofs.NestFacts.{more_done, both_done, loop_stands, loop_within, loop_rounds, loop_scopes}
 use Rattle.dh_events.proofs.StageFacts.{few_stages, more_stages}
@@ -60,7 +61,7 @@ note_form-returns-in_ok-set_own-in-For-clause-own t c =
     let h = c.as_ref-header.result.now in
     let is = ap action_form_seen c.in-For.is ∙ for_at c.in-For.header c.in-For.body c.in-For.combine h c.in-For.body.value c.as_ref-header.ensures refl in
     loop_stands h (action_seen c.in-For.body.value) (maybe_block_seen c.in-For.combine) (action_form_seen c.args.form.now) is _ _ _ _ c.turn_count-turns.ensures
-    (c.in_ok-turn-in-For.ensures.own ∙ ap (λ x. stage_of (action_seen x)) c.deref-in-For.ensures) c.in_ok-joins-in-For.ensures.own c.loop_stages.ensures
+    (c.in_ok-turn-in-For.ensures.own ∙ ap (λ x. phase_kind (action_seen x)) c.deref-in-For.ensures) c.in_ok-joins-in-For.ensures.own c.loop_stages.ensures
 
 pub note_form-returns-in_ok-set_own-in-For-clause-rounds : goal.note_form-returns-in_ok-set_own-in-For-clause-rounds
 note_form-returns-in_ok-set_own-in-For-clause-rounds t c =

@@ -2,7 +2,8 @@ use Rattle.std.proofs.Common.{◌≡◌, ◌+◌, sym, ◌∙◌, ap, subst, ari
 use Rattle.dh_tree.specs.Indices.{index_kind}
 use Rattle.dh_tree.specs.Seen.{form_seen}
 use Rattle.dh_ports.specs.declared.banks.Start.{Start}
-use Rattle.dh_ports.specs.Banks.{counters_in, copy_of, IsStart}
+use Rattle.dh_ports.specs.Banks.{copy_of, IsStart}
+use Rattle.dh_shape.specs.Classified.{loops_in}
 use Rattle.std.specs.Int.{w128}
 use Rattle.dh_ports.proofs.StartFacts.{constant_start, dynamic_start, iterator_start, no_iterator}
 use Rattle.dh_ports.proofs.banks.start_of.Goals as goal
@@ -13,7 +14,7 @@ returns-in-Constant c =
     subst (λ (s : Start). IsStart c.args.typed.now c.args.index.now s) (sym c.fixed.ensures)
     (record {
       value = λ loops path.
-          constant_start (counters_in c.args.typed.now) (index_kind (counters_in c.args.typed.now) c.args.index.now.kind (form_seen c.args.index.now.form)) c.classify.result c.in-Constant.value c.classify.ensures c.in-Constant.is loops path
+          constant_start (loops_in c.args.typed.now) (index_kind (loops_in c.args.typed.now) c.args.index.now.kind (form_seen c.args.index.now.form)) c.classify.result c.in-Constant.value c.classify.ensures c.in-Constant.is loops path
           ∙ ap (λ z. unsigned_abs (pos (0 + 0) +ℤ z)) (sym back);
     })
 
@@ -23,13 +24,13 @@ returns-in-Some c =
     subst (λ (s : Start). IsStart c.args.typed.now c.args.index.now s) (sym c.counting.ensures)
     (record {
       value = λ loops path.
-          iterator_start (counters_in c.args.typed.now) (index_kind (counters_in c.args.typed.now) c.args.index.now.kind (form_seen c.args.index.now.form)) c.classify.result c.in-Iterator.entity c.in-Iterator.offset c.in-Some.counter c.classify.ensures c.in-Iterator.is (sym c.counter.ensures ∙ c.in-Some.is) loops path
+          iterator_start (loops_in c.args.typed.now) (index_kind (loops_in c.args.typed.now) c.args.index.now.kind (form_seen c.args.index.now.form)) c.classify.result c.in-Iterator.entity c.in-Iterator.offset c.in-Some.counter c.classify.ensures c.in-Iterator.is (sym c.counter.ensures ∙ c.in-Some.is) loops path
           ∙ ap (λ z. unsigned_abs (pos (c.in-Some.counter.low + copy_of loops path (Some c.in-Iterator.entity)) +ℤ z)) (sym back);
     })
 
 pub returns-in-None : goal.returns-in-None
-returns-in-None c = no_iterator (counters_in c.args.typed.now) (index_kind (counters_in c.args.typed.now) c.args.index.now.kind (form_seen c.args.index.now.form)) c.classify.result c.in-Iterator.entity c.in-Iterator.offset c.classify.ensures c.in-Iterator.is (sym c.counter.ensures ∙ c.in-None.is)
+returns-in-None c = no_iterator (loops_in c.args.typed.now) (index_kind (loops_in c.args.typed.now) c.args.index.now.kind (form_seen c.args.index.now.form)) c.classify.result c.in-Iterator.entity c.in-Iterator.offset c.classify.ensures c.in-Iterator.is (sym c.counter.ensures ∙ c.in-None.is)
 
 pub returns-in-Dynamic : goal.returns-in-Dynamic
 returns-in-Dynamic c = subst (λ (s : Start). IsStart c.args.typed.now c.args.index.now s) (sym c.fixed-in-Dynamic.ensures)
-    (record { value = dynamic_start (counters_in c.args.typed.now) (index_kind (counters_in c.args.typed.now) c.args.index.now.kind (form_seen c.args.index.now.form)) c.classify.result c.classify.ensures c.in-Dynamic.is })
+    (record { value = dynamic_start (loops_in c.args.typed.now) (index_kind (loops_in c.args.typed.now) c.args.index.now.kind (form_seen c.args.index.now.form)) c.classify.result c.classify.ensures c.in-Dynamic.is })

@@ -9,7 +9,7 @@ use Rattle.dh_ports.specs.Banks.{each_below}
 use Rattle.dh_ports.specs.Claims.{keys_on, source_of}
 use Rattle.dh_ports.specs.Copies.{copies_round}
 use Rattle.dh_ports.specs.Runs.{moves_in}
-use Rattle.dh_meets.specs.FewCopies.{most_copies}
+use Rattle.dh_base.specs.Limits.{most_copies}
 use Rattle.dh_ports.proofs.ClaimFacts.{number_unled}
 use Rattle.dh_ports.proofs.ClaimTurns.{past_claimed, one_claimed, all_claimed, entry_at, none_at, shape_at, base_at, base_there, slots_few, each_few, no_loop, some_loop, scopes_at, kept_scopes}
 use Rattle.dh_ports.proofs.MoveTurns.{nothing_added}

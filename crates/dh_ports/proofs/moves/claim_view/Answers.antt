@@ -12,7 +12,7 @@ use Rattle.dh_ports.specs.Banks.{each_below}
 use Rattle.dh_ports.specs.Claims.{source_of}
 use Rattle.dh_ports.specs.Copies.{copies_round}
 use Rattle.dh_ports.specs.Runs.{moves_in}
-use Rattle.dh_meets.specs.FewCopies.{most_copies}
+use Rattle.dh_base.specs.Limits.{most_copies}
 use Rattle.dh_ports.proofs.CarrierTurns.{shaped}
 use Rattle.dh_ports.proofs.ClaimTurns.{each_few, kept_scopes, no_loop, scopes_at, some_loop}
 use Rattle.dh_ports.proofs.MoveTurns.{nothing_added}
