@@ -15,12 +15,11 @@ use Rattle.dh_viewing.proofs.BankDigits.{bank_at_below, digits_inside, indices_o
 use Rattle.dh_viewing.proofs.ViewBanks.{covered_digits, same_inside}
 use Rattle.dh_viewing.specs.Carried.{carried, carried_as, carried_by, largest}
 use Rattle.dh_viewing.specs.ReachedBanks.{can_reach, covering, reach_told}
-use Rattle.dh_meaning.specs.Paths.{Path, same_path}
+use Rattle.dh_meaning.specs.Paths.{Path, same_path, IsPathAmong}
 use Rattle.dh_meaning.specs.Ways.{Step, Way, all_bindings_of}
 use Rattle.dh_meets.specs.Charges.{any_below, bank_named, charge_through, groups_of, key_of, keys_in_group, may_reach, paths_of, sum_over}
 use Rattle.dh_meets.specs.SourceEvents.{SourceAccess}
 use Rattle.dh_ways.specs.Leading.{StepsLead, next_dims}
-use Rattle.dh_carried.specs.MadeCopies.{IsPathAmong}
 use Rattle.dh_carried.specs.ReachedThrough.{IsChargedFrom, MayReachAt}
 use Rattle.dh_carried.proofs.CarriedKeys.{same_key, same_list, whole_list}
 use Rattle.dh_carried.proofs.GroupedKeys.{filtered_has, has_filtered, mapped_has, path_has}

@@ -8,11 +8,11 @@ use Rattle.std.proofs.lemmas.List.{length-append}
 use Rattle.dh_tree.specs.declared.viewing.ViewMap.{ViewMap}
 use Rattle.dh_tree.specs.PlainTrees.{Program}
 use Rattle.dh_viewing.specs.Carried.{Copy, AllLead, bank_in, carried_by, keys_at}
-use Rattle.dh_meaning.specs.Paths.{Path, same_path}
+use Rattle.dh_meaning.specs.Paths.{Path, same_path, IsPathAmong}
 use Rattle.dh_meaning.specs.Ways.{Way, all_bindings_of}
 use Rattle.dh_meets.specs.Charges.{bank_named, charge_through, groups_of, key_of, keys_in_group, paths_of, sum_over}
 use Rattle.dh_meets.specs.SourceEvents.{SourceAccess}
-use Rattle.dh_carried.specs.MadeCopies.{AreCopiesOf, IsCopyOf, IsPathAmong, MadeCopy, copies_of, in_group, is_of_group, views_on}
+use Rattle.dh_carried.specs.MadeCopies.{AreCopiesOf, IsCopyOf, MadeCopy, copies_of, in_group, is_of_group, views_on}
 use Rattle.dh_carried.proofs.CarriedKeys.{all_more, covers, fewer_keys, same_key, same_list, told, whole_list}
 use Rattle.dh_carried.proofs.Pigeons.{Has, NoTwice, has_left, has_mapped, has_right, has_unique, no_longer, unique_has, unique_once}
 

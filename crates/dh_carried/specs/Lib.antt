@@ -1,2 +1,3 @@
 pub mod MadeCopies
 pub mod ReachedThrough
+pub mod CarriedLaws

@@ -1,10 +1,10 @@
 -- Copies of an access through views that lead to elements in a step, where they are made: each with its path.
-use Rattle.std.specs.Prelude.{◌≡◌, ◌⊎◌, ℕ, Bool, List, [], ◌∷◌, map, take}
+use Rattle.std.specs.Prelude.{◌≡◌, Bool, List, map, take}
 use Rattle.std.specs.List.{AllByRecursion, filter}
 use Rattle.dh_tree.specs.PlainTrees.{Program}
 use Rattle.dh_tree.specs.declared.viewing.ViewMap.{ViewMap}
 use Rattle.dh_viewing.specs.Carried.{Copy, AllLead, bank_in}
-use Rattle.dh_meaning.specs.Paths.{Path, same_path}
+use Rattle.dh_meaning.specs.Paths.{Path, same_path, IsPathAmong}
 use Rattle.dh_meaning.specs.Ways.{Way, all_bindings_of}
 use Rattle.dh_meets.specs.Charges.{bank_named, key_of, paths_of}
 use Rattle.dh_meets.specs.SourceEvents.{SourceAccess}
@@ -12,10 +12,6 @@ use Rattle.dh_meets.specs.SourceEvents.{SourceAccess}
 pub record MadeCopy : Type 0 where
   pub path : Path
   pub copy : Copy
-
-abbrev pub IsPathAmong : Path → List Path → Type 0
-IsPathAmong path [] = ⊥
-IsPathAmong path (p ∷ ps) = (path ≡ p) ⊎ IsPathAmong path ps
 
 -- its path is one of the access, its key that of the path, and the bank of what is named that which the rules tell
 pub record IsCopyOf (p : Program) (w : Way) (a : SourceAccess) (c : MadeCopy) : Type 0 where

@@ -3,12 +3,11 @@ use Rattle.std.specs.Prelude.{◌≡◌, ℕ, ◌<◌, ◌≤◌, true, List}
 use Rattle.dh_tree.specs.declared.tables.Dim.{Dim}
 use Rattle.dh_tree.specs.Elements.{banks_of}
 use Rattle.dh_tree.specs.PlainTrees.{Program}
-use Rattle.dh_meaning.specs.Paths.{Path}
+use Rattle.dh_meaning.specs.Paths.{Path, IsPathAmong}
 use Rattle.dh_meaning.specs.Ways.{Step, Way}
 use Rattle.dh_meets.specs.Charges.{bank_named, may_reach, paths_of}
 use Rattle.dh_meets.specs.SourceEvents.{SourceAccess}
 use Rattle.dh_ways.specs.Leading.{next_dims}
-use Rattle.dh_carried.specs.MadeCopies.{IsPathAmong}
 
 pub record MayReachAt (p : Program) (w : Way) (a : SourceAccess) (bank : ℕ) : Type 0 where
   pub path : Path

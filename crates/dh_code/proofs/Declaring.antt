@@ -13,7 +13,8 @@ use Rattle.dh_code.specs.declared.places.Declared.{Declared}
 use Rattle.dh_code.specs.declared.places.Held.{Held}
 use Rattle.dh_code.specs.Declarations.{Declaration, all_held, declaration_in, declared_of, factors_inside, factors_of, form_declarations, held_behind, slots_counted}
 use Rattle.dh_code.specs.Placed.{AreFew, AreFound, AreLaid, Declares, IsRound, KeepsFound, copies_held, held_of}
-use Rattle.dh_code.specs.Ranks.{copies_in, most_paths}
+use Rattle.dh_code.specs.Ranks.{copies_in}
+use Rattle.dh_base.specs.Limits.{most_copies}
 use Rattle.dh_code.proofs.FewDeclared.{below_power, doubled}
 
 pub copies_more : (fs : List ℕ) (f : ℕ) → copies_in (fs ++ f ∷ []) ≡ copies_in fs * f
@@ -42,19 +43,19 @@ round_more fs depth copies f lt h = subst (λ (b : Bool). IsRound (if b then fs 
 
 -- within the limit nothing stays at its type's greatest number
 pub round_counted : (fs : List ℕ) (depth copies f depth' copies' : ℕ) → 1 < f → depth' ≡ min (depth + 1) (2 ^ 32 - 1) → copies' ≡ min (copies * f) (2 ^ 64 - 1) → IsRound fs depth copies
-    → copies_in (factors_inside fs f) ≤ most_paths → IsRound (factors_inside fs f) depth' copies'
+    → copies_in (factors_inside fs f) ≤ most_copies → IsRound (factors_inside fs f) depth' copies'
 round_counted fs depth copies f depth' copies' lt deep many h few =
     let more = round_more fs depth copies f lt h in
-    let small = subst (λ (n : ℕ). n ≤ most_paths) (sym more.many) few in
+    let small = subst (λ (n : ℕ). n ≤ most_copies) (sym more.many) few in
     let shallow = below_power (depth + 1) in
     let twice = more.doubled in
     subst (λ (n : ℕ). IsRound (factors_inside fs f) n copies') (sym (deep ∙ least (depth + 1) (2 ^ (depth + 1)) (copies * f) shallow twice small))
     (subst (λ (n : ℕ). IsRound (factors_inside fs f) (depth + 1) n) (sym (many ∙ least_copies (copies * f) small)) more)
   where
-    least : (d p q : ℕ) → d < p → p ≤ q → q ≤ most_paths → min d (2 ^ 32 - 1) ≡ d
+    least : (d p q : ℕ) → d < p → p ≤ q → q ≤ most_copies → min d (2 ^ 32 - 1) ≡ d
     least d p q a b c = omega (arith, a, b, c)
 
-    least_copies : (q : ℕ) → q ≤ most_paths → min q (2 ^ 64 - 1) ≡ q
+    least_copies : (q : ℕ) → q ≤ most_copies → min q (2 ^ 64 - 1) ≡ q
     least_copies q c = omega (arith, c)
 
 -- one declaration more

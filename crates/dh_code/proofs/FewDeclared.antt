@@ -10,7 +10,7 @@ use Rattle.dh_ways.specs.declared.ways.Hidden.{Hidden}
 use Rattle.dh_code.specs.declared.places.Declared.{Declared}
 use Rattle.dh_code.specs.Declarations.{Declaration, declaration_in, declared_of}
 use Rattle.dh_code.specs.Placed.{AreFew, AreFound, copies_held, has_few, hidden_as}
-use Rattle.dh_code.specs.Ranks.{most_paths}
+use Rattle.dh_base.specs.Limits.{most_copies}
 
 -- the variables listed so far, and those of the rest, are all; and the rest have few copies
 pub record Listing (start now : List Declared) (all rest : List Declaration) : Type 0 where
@@ -97,7 +97,7 @@ each_few (v ∷ found) h = (h 0 (omega arith), each_few found (λ i within. h (s
 pub found_few : (ds : List Declaration) (found : List (Option Declared)) → AreFew ds → AreFound ds found → AllByRecursion has_few found
 found_few ds found few is = each_few found (λ i within. subst has_few (sym (is i within)) (found_one ds i few))
 
-pub few_at : (found : List (Option Declared)) (i : ℕ) (x : Option Declared) → i < length found → AllByRecursion has_few found → copies_held (get_or found i x) ≤ most_paths
+pub few_at : (found : List (Option Declared)) (i : ℕ) (x : Option Declared) → i < length found → AllByRecursion has_few found → copies_held (get_or found i x) ≤ most_copies
 few_at [] i x within h = absurd (none i within)
   where
     none : (i : ℕ) → i < 0 → ⊥

@@ -23,7 +23,8 @@ use Rattle.dh_code.specs.declared.codes.Target.TheVariants.{Row}
 use Rattle.dh_code.specs.declared.places.Held.{Held}
 use Rattle.dh_code.specs.Extended.{extension_of}
 use Rattle.dh_code.specs.Flattening.{Adds, AreMade, IsMade, IsOneMore, extended_made}
-use Rattle.dh_code.specs.Made.{AllMade, Made, access_to, binary_made, converted_made, one_more, read_of, same_kind, term_made, terms_made}
+use Rattle.dh_code.specs.Made.{AllMade, Made, access_to, binary_made, converted_made, one_more, read_of, term_made, terms_made}
+use Rattle.dh_tree.specs.Kinds.{same_kind}
 use Rattle.dh_code.specs.Operated.{kind_of_operand, mask_of}
 use Rattle.dh_code.specs.Suited.{AreSuited, IsSuited}
 use Rattle.dh_code.proofs.MadeParts.{operation_is}

@@ -6,7 +6,8 @@ use Rattle.std.proofs.lemmas.List.{map-append}
 use Rattle.dh_value.specs.declared.kinds.Kind.{Kind}
 use Rattle.dh_tree.specs.Memories.{same_entity}
 use Rattle.dh_tree.specs.PlainTrees.{Action, action, ActionForm, lets, lets_memory, views, assigns, stores, reduces, calls, blocks, decides, repeats, counts, MaybeAction, no_action, one_action, Actions, no_actions, action_then, Groups, no_groups, group_then}
-use Rattle.dh_meaning.specs.Bindings.{Binding, binding_in, bindings, depth_inside, form_bindings, groups_bindings, iterator_kind, kind_bound, other_bindings, part_bindings}
+use Rattle.dh_meaning.specs.Bindings.{Binding, binding_in, bindings, depth_inside, form_bindings, groups_bindings, kind_bound, other_bindings, part_bindings}
+use Rattle.dh_tree.specs.Kinds.{iterator_kind}
 use Rattle.dh_code.specs.Declarations.{Declaration, all_held, declaration_in, declarations, factors_inside, factors_of, form_declarations, groups_declarations, kind_declared, other_declarations, part_declarations}
 use Rattle.dh_code.specs.Ranks.{copies_in}
 use Rattle.dh_code.specs.Slots.{held_at}

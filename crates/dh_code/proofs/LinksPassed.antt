@@ -15,13 +15,13 @@ use Rattle.dh_viewing.specs.declared.numbers.Index.{Index}
 use Rattle.dh_viewing.specs.Numbers.{numbers_in}
 use Rattle.dh_meaning.specs.Effects.{indices_through}
 use Rattle.dh_meaning.specs.Ways.{Step, step_of}
-use Rattle.dh_ways.specs.Leading.{StepsLead, next_dims}
+use Rattle.dh_ways.specs.Leading.{StepsLead, next_dims, offsets_on}
 use Rattle.dh_code.specs.declared.codes.Operand.{Operand}
 use Rattle.dh_code.specs.declared.spots.Spread.{Spread}
 use Rattle.dh_code.specs.Banks.{Spreads}
 use Rattle.dh_code.specs.Operated.{IsOperand, Sight, index_values, operand_word}
 use Rattle.dh_code.specs.Passed.{PassesTo}
-use Rattle.dh_code.specs.Passing.{SpreadsBehind, StepsFit, offsets_in, steps_of}
+use Rattle.dh_code.specs.Passing.{SpreadsBehind, StepsFit, steps_of}
 use Rattle.dh_code.proofs.Ranges.{all_dropped, drop_past, get_whatever}
 
 -- Numbers.
@@ -151,11 +151,11 @@ pub record LinksSoFar (w : Sight) (dims : List Dim) (links : List ViewMap) (name
   pub same : indices_through (steps_of (drop i links)) (numbers_in index) (index_values w rest) ≡ indices_through (steps_of links) named (index_values w offsets)
   pub lead : StepsLead (steps_of (drop i links)) dims
   pub long : index.len ≡ length (next_dims (steps_of (drop i links)) dims)
-  pub left : length rest ≡ offsets_in (steps_of (drop i links))
+  pub left : length rest ≡ offsets_on (steps_of (drop i links))
   pub operands : AllByRecursion IsOperand rest
 
 pub links_first : (w : Sight) (dims : List Dim) (links : List ViewMap) (offsets : List Operand) (index : Index) → StepsLead (steps_of links) dims → index.len ≡ length (next_dims (steps_of links) dims)
-    → length offsets ≡ offsets_in (steps_of links) → AllByRecursion IsOperand offsets → LinksSoFar w dims links (numbers_in index) offsets offsets 0 index
+    → length offsets ≡ offsets_on (steps_of links) → AllByRecursion IsOperand offsets → LinksSoFar w dims links (numbers_in index) offsets offsets 0 index
 links_first w dims links offsets index lead long left operands = record { same = refl; lead = lead; long = long; left = left; operands = operands }
 
 module _ (w : Sight) (dims : List Dim) (links : List ViewMap) (named : List ℤ) (offsets rest : List Operand) (i : ℕ) (index : Index) (link : ViewMap) (there : i < length links) (is : link ≡ get_or links i link)
@@ -184,11 +184,11 @@ module _ (w : Sight) (dims : List Dim) (links : List ViewMap) (named : List ℤ)
   pub parent_few : length link.parent.dims ≤ 6
   parent_few = link_is.parent.few_dims
 
-  left_now : length rest ≡ needed + offsets_in later
-  left_now = h.left ∙ ap (λ l. offsets_in (steps_of l)) split
+  left_now : length rest ≡ needed + offsets_on later
+  left_now = h.left ∙ ap (λ l. offsets_on (steps_of l)) split
 
   pub enough : (count : ℕ) → count ≡ needed → count ≤ length rest
-  enough count c = by (length rest) (offsets_in later) needed left_now c
+  enough count c = by (length rest) (offsets_on later) needed left_now c
     where
       by : (n r k : ℕ) → n ≡ k + r → count ≡ k → count ≤ n
       by n r k e f = omega (arith, e, f)
@@ -220,7 +220,7 @@ module _ (w : Sight) (dims : List Dim) (links : List ViewMap) (named : List ℤ)
           ∙ (ap (λ l. indices_through later (numbers_in next) l) dropped ∙ from_here whole);
       lead = lead_now.1.1;
       long = new_long ∙ ap (λ (l : List Dim). length l) lead_now.1.0;
-      left = by (length rest) (length others) needed (offsets_in later) (ap (λ (l : List Operand). length l) others_are ∙ length-drop count rest) left_now counted;
+      left = by (length rest) (length others) needed (offsets_on later) (ap (λ (l : List Operand). length l) others_are ∙ length-drop count rest) left_now counted;
       operands = subst (λ (l : List Operand). AllByRecursion IsOperand l) (sym others_are) (all_dropped IsOperand rest count h.operands);
     }
       where
@@ -250,13 +250,13 @@ named_few dims (s ∷ ss) h few = h.0.own.few_dims
 
 module _ (dims : List Dim) (steps : List Step) (count values : ℕ) (fits : StepsFit dims steps count values) where
   pub indices_within : count ≤ values
-  indices_within = by (offsets_in steps) fits.all
+  indices_within = by (offsets_on steps) fits.all
     where
       by : (r : ℕ) → values ≡ count + r → count ≤ values
       by r e = omega (arith, e)
 
-  pub offsets_behind : (n : ℕ) → n ≡ values - count → n ≡ offsets_in steps
-  offsets_behind n e = by (offsets_in steps) fits.all
+  pub offsets_behind : (n : ℕ) → n ≡ values - count → n ≡ offsets_on steps
+  offsets_behind n e = by (offsets_on steps) fits.all
     where
       by : (r : ℕ) → values ≡ count + r → n ≡ r
       by r f = omega (arith, e, f)

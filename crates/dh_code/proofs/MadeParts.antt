@@ -24,7 +24,8 @@ use Rattle.dh_code.specs.declared.codes.Operation.TheVariants.{Binary, Convert, 
 use Rattle.dh_code.specs.declared.places.Held.{Held}
 use Rattle.dh_code.specs.Extended.{extension_of}
 use Rattle.dh_code.specs.Flattening.{extended_made}
-use Rattle.dh_code.specs.Made.{Made, access_to, binary_made, converted_made, one_more, same_kind, target_made, term_made, terms_made}
+use Rattle.dh_code.specs.Made.{Made, access_to, binary_made, converted_made, one_more, target_made, term_made, terms_made}
+use Rattle.dh_tree.specs.Kinds.{same_kind}
 use Rattle.dh_code.specs.Operated.{IsOperand, IsOperation, IsTarget, kind_of_operand}
 use Rattle.dh_code.specs.Suited.{AreSuited, IsSuited, IsSuitedTarget, term_kind}
 use Rattle.dh_code.proofs.TermsGiven.{made_kind}

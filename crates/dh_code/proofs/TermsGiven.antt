@@ -26,7 +26,8 @@ use Rattle.dh_code.specs.declared.codes.Operand.TheVariants.{Variable}
 use Rattle.dh_code.specs.declared.codes.Operation.{Operation}
 use Rattle.dh_code.specs.declared.codes.Operation.TheVariants.{Binary, Convert, Read}
 use Rattle.dh_code.specs.declared.places.Held.{Held}
-use Rattle.dh_code.specs.Made.{Made, access_to, one_more, same_kind, target_made, term_made, terms_made}
+use Rattle.dh_code.specs.Made.{Made, access_to, one_more, target_made, term_made, terms_made}
+use Rattle.dh_tree.specs.Kinds.{same_kind}
 use Rattle.dh_code.specs.Operated.{Sight, access_spot, events_after, index_values, kind_of_operand, lowest_word, mask_of, operand_word, operation_events, operation_word, sight_after, target_spot}
 use Rattle.dh_code.specs.Passing.{steps_of, views_of}
 use Rattle.dh_code.specs.Plain.{all_plain, plain}

@@ -8,7 +8,8 @@ use Rattle.dh_tree.specs.Memories.{same_entity}
 use Rattle.dh_tree.specs.declared.trees.expressions.Ref.{Ref}
 use Rattle.dh_tree.specs.PlainTrees.{Term, ViewPlan, Action, action, ActionForm, lets, lets_memory, views, assigns, stores, reduces, calls, blocks, decides, repeats, counts, MaybeAction, no_action, one_action, Actions, no_actions, action_then, Groups, no_groups, group_then, Program}
 use Rattle.dh_tree.specs.ViewOffsets.{offsets_of}
-use Rattle.dh_meaning.specs.Bindings.{iterator_kind, kind_found, let_kind}
+use Rattle.dh_meaning.specs.Bindings.{kind_found, let_kind}
+use Rattle.dh_tree.specs.Kinds.{iterator_kind}
 use Rattle.dh_meaning.specs.Ways.{all_entities_of}
 use Rattle.dh_code.specs.declared.places.Declared.{Declared}
 use Rattle.dh_code.specs.declared.places.Held.{Held}

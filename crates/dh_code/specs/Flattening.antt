@@ -19,11 +19,12 @@ use denote.Ref.{Bor}
 use Rattle.dh_meaning.specs.AccessNumbers.{term_accesses, terms_accesses}
 use Rattle.dh_meaning.specs.Bindings.{binding_in, kind_bound, kind_found}
 use Rattle.dh_meaning.specs.Ways.{all_bindings_of, hidden_in}
-use Rattle.dh_ways.specs.Seen.{led_seen}
+use Rattle.dh_ways.specs.declared.ways.Hidden.{Hidden}
+use Rattle.dh_ways.specs.Seen.{hidden_seen, led_seen}
 use Rattle.dh_value.specs.Operations.{truth}
 use Rattle.dh_meaning.specs.Phases.{Located}
 use Rattle.dh_meaning.specs.Core as core
-use Rattle.dh_meaning.specs.Core.{Reach, by_row, CoreTerm, CoreTerms, CoreCommands, command_and, no_commands}
+use Rattle.dh_meaning.specs.Core.{Reach, by_row, CoreCommands, command_and, no_commands}
 use Rattle.dh_meaning.specs.CoreOf.{Known, core_action, core_commands, core_other, core_term, core_terms, entity_number, first_value, folded_into, kept_by, reach_of, store_to, target_to, way_of}
 use Rattle.dh_code.specs.declared.codes.Access.{Access}
 use Rattle.dh_code.specs.declared.codes.Action.{Action}
@@ -37,7 +38,7 @@ use Rattle.dh_code.specs.declared.codes.Operation.{Operation}
 use Rattle.dh_code.specs.declared.codes.Flat.{Flat}
 use Rattle.dh_code.specs.declared.flattening.Names.{Names}
 use Rattle.dh_code.specs.Coded.{AreCoded, Extends}
-use Rattle.dh_code.specs.Made.{AllMade, Made, access_to, aimed_target, binary_made, converted_made, target_made, term_made, terms_made}
+use Rattle.dh_code.specs.Made.{AllMade, Made, access_to, aimed_target, binary_made, converted_made, hidden_operand, target_made, term_made, terms_made}
 use Rattle.dh_code.specs.Operated.{mask_of}
 use Rattle.dh_code.specs.Scenes.{IsSoundCode}
 use Rattle.dh_code.specs.declared.places.Held.{Held}
@@ -84,6 +85,10 @@ FlattensAll names old new es os =
 -- the element that operands name
 abbrev pub Aims : Names → Ref → List Operand → Target → Type 0
 Aims names r os t = t ≡ aimed_target names.places.now (way_of (known_in names) r) os
+
+-- what variables hold that keep offsets
+abbrev pub hidden_operands : List Held → List Hidden → List Operand
+hidden_operands held hs = map (λ h. hidden_operand held (hidden_seen h)) hs
 
 -- the offsets of a suffix, without its factors
 abbrev pub offsets_by : List (ℕ × Expr) → List Expr

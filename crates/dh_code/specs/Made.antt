@@ -1,5 +1,6 @@
 -- The code of an expression: the operations that are added behind so many, and the operand that is its value then.
-use Rattle.std.specs.Prelude.{ℕ, ◌+◌, ◌==◌, Bool, true, false, if◌then◌else◌, List, [], ◌∷◌, ◌++◌, length, map, Option, Some, None}
+use Rattle.std.specs.Prelude.{ℕ, ◌+◌, if◌then◌else◌, List, [], ◌∷◌, ◌++◌, length, map, Option, Some, None}
+use Rattle.dh_tree.specs.Kinds.{same_kind}
 use Rattle.dh_value.specs.declared.kinds.Kind.{Kind}
 use Rattle.dh_value.specs.declared.kinds.Kind.TheVariants as kind
 use Rattle.dh_value.specs.declared.operators.Op.{Op}
@@ -37,17 +38,6 @@ pub record AllMade : Type 0 where
 
 abbrev pub all_made : List Operation → List Operand → AllMade
 all_made operations values = record { operations = operations; values = values }
-
-abbrev pub same_kind : Kind → Kind → Bool
-same_kind kind.Bool kind.Bool = true
-same_kind (kind.Unsigned m) (kind.Unsigned n) = m == n
-same_kind (kind.Signed m) (kind.Signed n) = m == n
-same_kind kind.Bool (kind.Unsigned n) = false
-same_kind kind.Bool (kind.Signed n) = false
-same_kind (kind.Unsigned m) kind.Bool = false
-same_kind (kind.Unsigned m) (kind.Signed n) = false
-same_kind (kind.Signed m) kind.Bool = false
-same_kind (kind.Signed m) (kind.Unsigned n) = false
 
 -- one operation more, whose value is of this kind
 abbrev pub one_more : (at : ℕ) → List Operation → Operation → Kind → Made

@@ -1,10 +1,11 @@
 -- Views that lead from the dimensions of what is named to those of a memory, with indices and offsets that fit them; and
 -- where the indices behind them lead.
-use Rattle.std.specs.Prelude.{◌≡◌, ℕ, ◌+◌, List, [], ◌∷◌, length, map, Option, Some, None, ℤ}
+use Rattle.std.specs.Prelude.{◌≡◌, ℕ, ◌+◌, List, length, map, Option, Some, None, ℤ}
 use Rattle.dh_tree.specs.declared.tables.Dim.{Dim}
 use Rattle.dh_tree.specs.declared.viewing.ViewMap.{ViewMap}
+use Rattle.dh_tree.specs.ViewElements.{element_through}
 use Rattle.dh_meaning.specs.Ways.{Step, step_of}
-use Rattle.dh_ways.specs.Leading.{StepsLead, next_dims}
+use Rattle.dh_ways.specs.Leading.{StepsLead, next_dims, offsets_on}
 use Rattle.dh_code.specs.declared.spots.Spread.{Spread}
 use Rattle.dh_code.specs.Banks.{Spreads}
 
@@ -15,18 +16,17 @@ views_of steps = map (λ s. s.is) steps
 abbrev pub steps_of : List ViewMap → List Step
 steps_of views = map step_of views
 
--- how many offsets they take
-abbrev pub offsets_in : List Step → ℕ
-offsets_in [] = 0
-offsets_in (s ∷ ss) = s.offsets + offsets_in ss
-
 -- steps that follow one another to a memory of these dimensions, with as many indices as what is named has dimensions,
 -- and with the offsets so many values
 pub record StepsFit (memory : List Dim) (steps : List Step) (indices values : ℕ) : Type 0 where
   pub are : steps_of (views_of steps) ≡ steps
   pub lead : StepsLead steps memory
   pub named : indices ≡ length (next_dims steps memory)
-  pub all : values ≡ indices + offsets_in steps
+  pub all : values ≡ indices + offsets_on steps
+
+-- offsets of a view with which it names the same elements
+abbrev pub LeadAlike : ViewMap → (offsets others : List ℤ) → Type 0
+LeadAlike view offsets others = (indices : List ℤ) → element_through view offsets indices ≡ element_through view others indices
 
 -- where the element of these indices lies, if they are there; those that are out of range on the way are not
 abbrev pub SpreadsBehind : List Dim → Option (List ℤ) → Option Spread → Type 0

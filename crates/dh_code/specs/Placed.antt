@@ -9,8 +9,9 @@ use Rattle.dh_tree.specs.Seen.{action_seen, groups, maybe_seen, part_seen}
 use Rattle.dh_ways.specs.declared.ways.Hidden.{Hidden}
 use Rattle.dh_code.specs.declared.places.Declared.{Declared}
 use Rattle.dh_code.specs.declared.places.Held.{Held}
-use Rattle.dh_code.specs.Declarations.{Declaration, all_held, declarations, declaration_in, declared_of, groups_declarations, other_declarations, slots_counted}
-use Rattle.dh_code.specs.Ranks.{copies_in, most_paths}
+use Rattle.dh_code.specs.Declarations.{Declaration, all_held, declarations, declaration_in, declared_of, factors_inside, groups_declarations, other_declarations, slots_counted}
+use Rattle.dh_code.specs.Ranks.{copies_in}
+use Rattle.dh_base.specs.Limits.{most_copies}
 
 -- loops of these factors: how many they are, and their copies together, of which each loop has at least two
 pub record IsRound (factors : List ℕ) (depth copies : ℕ) : Type 0 where
@@ -18,9 +19,14 @@ pub record IsRound (factors : List ℕ) (depth copies : ℕ) : Type 0 where
   pub many : copies ≡ copies_in factors
   pub doubled : 2 ^ depth ≤ copies
 
+-- a loop of this factor stands inside so many, with so many copies: where there is room, so many loops are round what is in it
+abbrev pub GoesInside : (depth copies factor inner_depth inner_copies : ℕ) → Type 0
+GoesInside depth copies factor inner_depth inner_copies =
+    (factors : List ℕ) → IsRound factors depth copies → copies_in (factors_inside factors factor) ≤ most_copies → IsRound (factors_inside factors factor) inner_depth inner_copies
+
 -- each variable has few copies
 abbrev pub AreFew : List Declaration → Type 0
-AreFew ds = AllByRecursion (λ d. copies_in d.factors ≤ most_paths) ds
+AreFew ds = AllByRecursion (λ d. copies_in d.factors ≤ most_copies) ds
 
 -- the declarations of a command, a block that may lack, and parts are listed, where they have few copies
 abbrev pub Declares : (old new : List Declared) → (depth copies : ℕ) → Command → Type 0
@@ -48,7 +54,7 @@ copies_held None = 1
 copies_held (Some d) = d.copies
 
 abbrev pub has_few : Option Declared → Type 0
-has_few v = copies_held v ≤ most_paths
+has_few v = copies_held v ≤ most_copies
 
 -- more entities than any text declares, with the variables that keep offsets of its views, of which each has at most
 -- six

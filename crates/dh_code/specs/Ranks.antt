@@ -4,10 +4,6 @@ use Rattle.std.specs.Prelude.{ℕ, ◌+◌, ◌*◌, ◌<◌, List, [], ◌∷�
 use Rattle.dh_meaning.specs.Paths.{Path}
 pub use Rattle.dh_meaning.specs.Paths.{copies_in}
 
--- the greatest number of paths inside loops: the limit on copies of one place
-abbrev pub most_paths : ℕ
-most_paths = 256
-
 -- a path inside loops of these factors, from the outside
 abbrev pub IsPath : (factors : List ℕ) → Path → Type 0
 IsPath [] [] = Unit {0}

@@ -1,5 +1,5 @@
 -- What stays as it is during a step, and how an evaluation ends.
-use Rattle.std.specs.Prelude.{◌≡◌, ℕ, ◌^◌, ◌<◌, ◌≤◌, List, [], ◌∷◌, ◌++◌, length, slice_get, slice_range, Option, Some, None, Result, Ok, Err}
+use Rattle.std.specs.Prelude.{◌≡◌, ℕ, ◌^◌, ◌<◌, ◌≤◌, List, [], ◌∷◌, ◌++◌, length, slice_get, slice_range, slice_set, Option, Some, None, Result, Ok, Err}
 use Rattle.std.specs.List.{AllByRecursion}
 use Rattle.dh_base.specs.declared.places.Place.{Place}
 use Rattle.dh_value.specs.declared.words.Word.{Word}
@@ -24,7 +24,7 @@ use Rattle.dh_code.specs.declared.spending.Bank.{Bank}
 use Rattle.dh_code.specs.declared.spots.Element.{Element}
 use Rattle.dh_code.specs.declared.spots.Spread.{Spread}
 use Rattle.dh_code.specs.Banks.{AreFirsts, HasBank}
-use Rattle.dh_code.specs.Operated.{IsAccess, IsOperand, IsOperation, Sight, access_spot, events_after, operand_word, operation_events, operation_word, sight_after}
+use Rattle.dh_code.specs.Operated.{IsAccess, IsOperand, IsOperation, Sight, access_spot, events_after, operand_word, operation_events, operation_word, sight, sight_after}
 use Rattle.dh_code.specs.declared.codes.Operation.TheVariants.{Read}
 use Rattle.dh_code.specs.Rows.{contents_of, element_in, spot_seen}
 use Rattle.dh_code.specs.Spent.{HaveSpent}
@@ -136,3 +136,14 @@ read_word s w a = operation_word (begun_in s) w (Read a)
 
 abbrev pub read_events : Scene → Sight → Access → List Event
 read_events s w a = operation_events (begun_in s) w (Read a)
+
+-- what operations gave, with what a read gives under its number, and with what any operation gives
+abbrev pub read_given : Scene → (slots given ranks : List ℕ) → (at : ℕ) → Access → List ℕ
+read_given s slots given ranks at a = slice_set given at (read_word s (sight slots given ranks) a).bits
+
+abbrev pub one_given : Scene → (slots given ranks : List ℕ) → (at : ℕ) → Operation → List ℕ
+one_given s slots given ranks at o = slice_set given at (word_in s (sight slots given ranks) o).bits
+
+-- with what operations gave in the end there is seen what is seen behind them
+abbrev pub ShowsAfter : Scene → (slots old new ranks : List ℕ) → (at : ℕ) → List Operation → Type 0
+ShowsAfter s slots old new ranks at os = sight slots new ranks ≡ sight_after (begun_in s) (sight slots old ranks) at os

@@ -29,7 +29,7 @@ use Rattle.dh_code.specs.Operated.{IsAccess, Sight, operand_word, sight}
 use Rattle.dh_code.specs.Plain.{all_plain}
 use Rattle.dh_code.specs.Ranks.{ArePaths, IsPath, ranks_of}
 use Rattle.dh_code.specs.Rows.{contents_of, spot_seen}
-use Rattle.dh_code.specs.Scenes.{AreHeld, IsHeld, Spends, SpendsMore, begun_in, flat_events}
+use Rattle.dh_code.specs.Scenes.{AreHeld, IsHeld, Spends, SpendsMore, begun_in, flat_events, flat_sight}
 use Rattle.dh_code.specs.Slots.{Holds, Placing}
 use Rattle.dh_code.specs.Spent.{AreUsedBy, HaveSpent}
 use Rattle.dh_code.specs.Suited.{AreInsideFrom, CanDo, CanDoAll, CanEvaluate, CanEvaluateAll, IsInside, IsSuitedTarget, TargetInside}
@@ -100,6 +100,10 @@ Runs p s old result new run = (e : Effect) → Keeps p s.entries.now e s.step ol
 abbrev pub sight_in : State → (ranks : List ℕ) → Sight
 sight_in state ranks = sight state.variables.items state.given.items ranks
 
+-- behind the operations of an expression a state shows what is seen there
+abbrev pub ShowsFlat : Scene → (old new : State) → (ranks : List ℕ) → Flat → Type 0
+ShowsFlat s old new ranks f = sight_in new ranks ≡ flat_sight s (sight_in old ranks) f
+
 -- nothing but what operations gave and banks spent is changed
 pub record KeepsVariables (old new : State) : Type 0 where
   pub variables : new.variables ≡ old.variables
@@ -153,6 +157,13 @@ abbrev pub slots_kept : (slots ranks : List ℕ) → (depth : ℕ) → List Kept
 slots_kept slots ranks depth [] bits = slots
 slots_kept slots ranks depth (k ∷ ks) [] = slots
 slots_kept slots ranks depth (k ∷ ks) (b ∷ bs) = slots_kept (slice_set slots (k.first + slice_index ranks depth) b) ranks depth ks bs
+
+-- what a state shows of them, and that their variables are set to what was found
+abbrev pub bits_found : State → (ranks : List ℕ) → List Kept → List ℕ
+bits_found state ranks ks = bits_kept (sight_in state ranks) ks
+
+abbrev pub SetsKept : (old new : State) → (ranks : List ℕ) → (depth : ℕ) → List Kept → (found : List ℕ) → Type 0
+SetsKept old new ranks depth ks found = new.variables.items ≡ slots_kept old.variables.items ranks depth ks found
 
 abbrev pub KeepsAll : {A : Type 0} → Scene → State → Result A Stop → State → (ranks : List ℕ) → (from to : ℕ) → List Kept → (depth : ℕ) → Type 0
 KeepsAll s old result new ranks from to values depth =

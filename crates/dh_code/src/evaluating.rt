@@ -11,9 +11,9 @@ ghost use Rattle.dh_value.specs.Operations.{AreIntegers, Suits, binary_of};
 ghost use Rattle.dh_value.specs.Words.{IsInteger, IsWord};
 ghost use Rattle.dh_extents.specs.Extents.{AreDims};
 ghost use Rattle.dh_code.specs.Banks.{HasBank, LiesInRow, first_bank, all_banks};
-ghost use Rattle.dh_code.specs.Operated.{IsAccess, IsOperand, IsOperation, combined_word, converted_word, events_after, kind_of_operand, mask_of, sight, sight_after};
+ghost use Rattle.dh_code.specs.Operated.{IsAccess, IsOperand, IsOperation, combined_word, converted_word, events_after, kind_of_operand, mask_of, sight};
 ghost use Rattle.dh_code.specs.Spent.{StayUsed};
-ghost use Rattle.dh_code.specs.Scenes.{IsScene, LeadsTo, SpendsMore, begun_in, events_in, placed, read_at, read_events, read_word, word_in};
+ghost use Rattle.dh_code.specs.Scenes.{IsScene, LeadsTo, ShowsAfter, SpendsMore, begun_in, events_in, one_given, placed, read_at, read_events, read_given};
 
 use crate::codes::{Access, Code, Operand, Operation, Target};
 use crate::operands::{View, element_of, mask_at, value_at};
@@ -241,8 +241,8 @@ fn read(
     ensures long { length banks.new ≡ length banks.old }
     ensures used { StayUsed scene.now.step banks.old banks.new }
     ensures room { length given.new ≡ length given.old }
-    ensures gives { IfOk result (λ _. given.new ≡ slice_set given.old at
-        (read_word scene.now (sight slots.now given.old ranks.now) access.now).bits) }
+    ensures gives { IfOk result (λ _. given.new
+        ≡ read_given scene.now slots.now given.old ranks.now at access.now) }
     ensures spends { SpendsMore scene.now banks.old result banks.new
         (read_events scene.now (sight slots.now given.old ranks.now) access.now) }
 {
@@ -427,8 +427,8 @@ fn perform(
     ensures long { length banks.new ≡ length banks.old }
     ensures used { StayUsed scene.now.step banks.old banks.new }
     ensures room { length given.new ≡ length given.old }
-    ensures gives { IfOk result (λ _. given.new ≡ slice_set given.old at
-        (word_in scene.now (sight slots.now given.old ranks.now) operation.now).bits) }
+    ensures gives { IfOk result (λ _. given.new
+        ≡ one_given scene.now slots.now given.old ranks.now at operation.now) }
     ensures spends { SpendsMore scene.now banks.old result banks.new
         (events_in scene.now (sight slots.now given.old ranks.now) operation.now) }
 {
@@ -464,9 +464,8 @@ pub fn operate(
     ensures long { length banks.new ≡ length banks.old }
     ensures used { StayUsed scene.now.step banks.old banks.new }
     ensures room { length given.new ≡ length given.old }
-    ensures gives { IfOk result (λ _. sight slots.now given.new ranks.now
-        ≡ sight_after (begun_in scene.now) (sight slots.now given.old ranks.now)
-        at operations.now) }
+    ensures gives { IfOk result (λ _.
+        ShowsAfter scene.now slots.now given.old given.new ranks.now at operations.now) }
     ensures spends { SpendsMore scene.now banks.old result banks.new
         (events_after (begun_in scene.now) (sight slots.now given.old ranks.now)
         at operations.now) }

@@ -10,8 +10,9 @@ ghost use Rattle.dh_ways.specs.Seen.{hidden_seen, way_seen};
 ghost use Rattle.dh_meaning.specs.Effects.{kind_in};
 ghost use Rattle.dh_code.specs.declared.codes.Operation.TheVariants.{Read};
 ghost use Rattle.dh_code.specs.declared.codes.Target.TheVariants.{Row, Through};
-ghost use Rattle.dh_code.specs.Flattening.{Aims, FlattensOffsets, IsKeptIn, kept_from, offsets_by, AddsBinary, AddsNothing, ConvertsTo, ExtendsTo, Flattens, FlattensAll, FlattensCommand, FlattensCommands, FlattensOther, HoldsFirst, HoldsFlat, IsAimedAt, IsAssignedIn, IsOneMore, IsReducedIn, IsStillAt, IsStoredIn, AddsStep, is_aimed, known_in, table_in};
-ghost use Rattle.dh_code.specs.Made.{aimed_target, hidden_operand, same_kind, variable_operand};
+ghost use Rattle.dh_code.specs.Flattening.{Aims, FlattensOffsets, IsKeptIn, kept_from, offsets_by, AddsBinary, AddsNothing, ConvertsTo, ExtendsTo, Flattens, FlattensAll, FlattensCommand, FlattensCommands, FlattensOther, HoldsFirst, HoldsFlat, IsAimedAt, IsAssignedIn, IsOneMore, IsReducedIn, IsStillAt, IsStoredIn, AddsStep, hidden_operands, is_aimed, known_in, table_in};
+ghost use Rattle.dh_code.specs.Made.{aimed_target, hidden_operand, variable_operand};
+ghost use Rattle.dh_tree.specs.Kinds.{same_kind};
 
 use crate::codes::{
     Access, Action, Code, Flat, Kept, Operand, Operation, Step, Target, operand_kind,
@@ -104,7 +105,7 @@ fn with_offsets(
     hidden: &[Hidden],
 ) -> Result<Items<Operand>, NoMemory>
     ensures { IfOk result (λ all. all ≡ operands
-        ++ map (λ h. hidden_operand names.now.places.now (hidden_seen h)) hidden.now) }
+        ++ hidden_operands names.now.places.now hidden.now) }
 {
     let mut all = operands;
     for one in hidden {

@@ -1,16 +1,16 @@
 //! Where the element of indices lies, through the views on the way to its memory.
 
-ghost use Rattle.std.specs.Prelude.{◌≡◌, ◌≤◌, List, ℤ, length, take, drop};
+ghost use Rattle.std.specs.Prelude.{◌≡◌, ◌≤◌, length, take, drop};
 ghost use Rattle.std.specs.List.{AllByRecursion};
-ghost use Rattle.dh_tree.specs.ViewElements.{element_through, offsets_needed};
+ghost use Rattle.dh_tree.specs.ViewElements.{offsets_needed};
 ghost use Rattle.dh_tree.specs.ViewShapes.{IsViewMap};
 ghost use Rattle.dh_extents.specs.Extents.{AreDims};
 ghost use Rattle.dh_meaning.specs.Effects.{indices_through};
 ghost use Rattle.dh_viewing.specs.Numbers.{numbers_in};
-ghost use Rattle.dh_ways.specs.Leading.{StepsLead, next_dims};
+ghost use Rattle.dh_ways.specs.Leading.{StepsLead, next_dims, offsets_on};
 ghost use Rattle.dh_code.specs.Banks.{IsSpread, Spreads};
 ghost use Rattle.dh_code.specs.Operated.{IsOperand, index_values, view_seen};
-ghost use Rattle.dh_code.specs.Passing.{SpreadsBehind, StepsFit, offsets_in, steps_of};
+ghost use Rattle.dh_code.specs.Passing.{LeadAlike, SpreadsBehind, StepsFit, steps_of};
 ghost use Rattle.dh_code.specs.Passed.{PassesTo};
 
 use crate::codes::Operand;
@@ -90,8 +90,8 @@ fn offset_of(view: &View<'_>, link: &ViewMap, own: &[Operand]) -> Index
     requires map { IsViewMap link.now }
     requires operands { AllByRecursion IsOperand own.now }
     requires own { length own.now ≡ offsets_needed link.now.sort link.now.parent.dims }
-    ensures through { (is : List ℤ) → element_through link.now (numbers_in result) is
-        ≡ element_through link.now (index_values (view_seen view.now) own.now) is }
+    ensures through { LeadAlike link.now
+        (numbers_in result) (index_values (view_seen view.now) own.now) }
     ensures long { result.len ≡ length link.now.parent.dims }
 {
     match link.sort {
@@ -113,7 +113,7 @@ fn pass(
 ) -> Option<Index>
     requires lead { StepsLead (steps_of links.now) _dims.now }
     requires named { named.len ≡ length (next_dims (steps_of links.now) _dims.now) }
-    requires offsets { length offsets.now ≡ offsets_in (steps_of links.now) }
+    requires offsets { length offsets.now ≡ offsets_on (steps_of links.now) }
     requires operands { AllByRecursion IsOperand offsets.now }
     ensures { PassesTo _dims.now (indices_through (steps_of links.now) (numbers_in named)
         (index_values (view_seen view.now) offsets.now)) result }

@@ -1,13 +1,13 @@
 //! The variables of a program: where each has its slots.
 
-ghost use Rattle.std.specs.Prelude.{◌≡◌, ◌+◌, ◌≤◌, ◌++◌, List, [], ℕ, None, drop, length, map, option_map, replicate, IfOk, OnOk};
+ghost use Rattle.std.specs.Prelude.{◌≡◌, ◌+◌, ◌≤◌, ◌++◌, [], None, drop, length, map, option_map, replicate, IfOk, OnOk};
 ghost use Rattle.std.specs.List.{AllByRecursion};
 ghost use Rattle.dh_tree.specs.Seen.{action_seen, term_seen};
 ghost use Rattle.dh_meaning.specs.Bindings as bindings;
+ghost use Rattle.dh_tree.specs.Kinds.{iterator_kind};
 ghost use Rattle.dh_meaning.specs.CoreOf.{entity_number};
-ghost use Rattle.dh_code.specs.Placed.{AreFew, AreFewHidden, AreLaid, ArePlaces, Declares, DeclaresOther, DeclaresParts, IsRound, KeepsFound, copies_held, has_few, held_of, hidden_as, most_entities};
-ghost use Rattle.dh_code.specs.Declarations.{declarations, factors_inside};
-ghost use Rattle.dh_code.specs.Ranks.{copies_in, most_paths};
+ghost use Rattle.dh_code.specs.Placed.{AreFew, AreFewHidden, AreLaid, ArePlaces, Declares, DeclaresOther, DeclaresParts, GoesInside, KeepsFound, copies_held, has_few, held_of, hidden_as, most_entities};
+ghost use Rattle.dh_code.specs.Declarations.{declarations};
 ghost use Rattle.dh_code.specs.Slots.{held_at};
 
 use crate::operands::{entity_of, kind_found};
@@ -64,7 +64,7 @@ fn let_kind(declared: Option<Kind>, value: &Option<Expr>) -> Kind
 
 /// The kind of an iterator.
 fn iterator_kind(declared: Option<Kind>) -> Kind
-    ensures { result ≡ bindings.iterator_kind declared }
+    ensures { result ≡ iterator_kind declared }
 {
     match declared {
         Some(kind) => kind,
@@ -75,9 +75,7 @@ fn iterator_kind(declared: Option<Kind>) -> Kind
 /// How many loops there are inside one more, and how many copies they have; one of a single copy
 /// adds none. Each stays at its type's greatest number, to which no loops within the limit come.
 fn inside(depth: u32, copies: u64, factor: u64) -> (u32, u64)
-    ensures { (factors : List ℕ) → IsRound factors depth copies
-        → copies_in (factors_inside factors factor) ≤ most_paths
-        → IsRound (factors_inside factors factor) result.0 result.1 }
+    ensures { GoesInside depth copies factor result.0 result.1 }
 {
     if factor <= 1 {
         (depth, copies)

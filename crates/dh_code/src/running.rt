@@ -7,9 +7,9 @@ ghost use Rattle.dh_code.specs.declared.codes.Action.TheVariants.{Assign, Choose
 ghost use Rattle.dh_code.specs.Banks.{HasBank, all_banks};
 ghost use Rattle.dh_code.specs.Operated.{IsAccess, IsOperand};
 ghost use Rattle.dh_code.specs.Rows.{contents_of};
-ghost use Rattle.dh_code.specs.Scenes.{AreHeld, IsHeld, IsScene, LeadsTo, SpendsWrite, flat_sight};
+ghost use Rattle.dh_code.specs.Scenes.{AreHeld, IsHeld, IsScene, LeadsTo, SpendsWrite};
 ghost use Rattle.dh_code.specs.Spent.{StayUsed};
-ghost use Rattle.dh_code.specs.States.{AreWritten, Assigns, CanBeDone, Decides, DoesAll, DoesOne, GoBackAlike, IsAside, IsAssigned, IsReady, KeepsAll, KeepsBack, KeepsSlots, KeepsVariables, Parts, Puts, SpendsFlat, Stores, bits_kept, sight_in, slots_kept, undone};
+ghost use Rattle.dh_code.specs.States.{AreWritten, Assigns, CanBeDone, Decides, DoesAll, DoesOne, GoBackAlike, IsAside, IsAssigned, IsReady, KeepsAll, KeepsBack, KeepsSlots, KeepsVariables, Parts, Puts, SetsKept, ShowsFlat, SpendsFlat, Stores, bits_found, sight_in, undone};
 
 use crate::codes::{Access, Action, Flat, Kept, Operand};
 use crate::evaluating::{
@@ -131,8 +131,8 @@ fn evaluate_all(
     requires held { IsHeld scene.now.code.now.operations value.now }
     ensures ready { IsReady scene.now state.new }
     ensures kept { KeepsVariables state.old state.new }
-    ensures seen { IfOk result (λ _. sight_in state.new ranks.now
-        ≡ flat_sight scene.now (sight_in state.old ranks.now) value.now) }
+    ensures seen { IfOk result
+        (λ _. ShowsFlat scene.now state.old state.new ranks.now value.now) }
     ensures spends { SpendsFlat scene.now state.old result state.new ranks.now value.now }
 {
     let operations = &scene.code.operations.as_slice()[value.from..value.to];
@@ -155,8 +155,8 @@ fn evaluate(scene: &Scene<'_>, state: &mut State, ranks: &[u32], value: &Flat) -
     requires held { IsHeld scene.now.code.now.operations value.now }
     ensures ready { IsReady scene.now state.new }
     ensures kept { KeepsVariables state.old state.new }
-    ensures seen { IfOk result (λ _. sight_in state.new ranks.now
-        ≡ flat_sight scene.now (sight_in state.old ranks.now) value.now) }
+    ensures seen { IfOk result
+        (λ _. ShowsFlat scene.now state.old state.new ranks.now value.now) }
     ensures spends { SpendsFlat scene.now state.old result state.new ranks.now value.now }
 {
     if value.from == value.to {
@@ -217,7 +217,7 @@ fn assign(
 fn find(state: &State, ranks: &[u32], values: &[Kept], found: &mut Vec<u64>) -> Result<(), NoMemory>
     requires operands { AllByRecursion (λ k. IsOperand k.value) values.now }
     ensures { OnOk result (found.new.items
-        ≡ found.old.items ++ bits_kept (sight_in state.now ranks.now) values.now) }
+        ≡ found.old.items ++ bits_found state.now ranks.now values.now) }
 {
     for kept in values {
         found.push(whole(value_in(state, ranks, &kept.value)))?;
@@ -238,8 +238,8 @@ fn set_all(
     ensures given { state.new.given ≡ state.old.given }
     ensures writes { state.new.writes ≡ state.old.writes }
     ensures kept { length state.new.variables.items ≡ length state.old.variables.items }
-    ensures set { IfOk result (λ _. state.new.variables.items
-        ≡ slots_kept state.old.variables.items ranks.now depth values.now found.now) }
+    ensures set { IfOk result (λ _.
+        SetsKept state.old state.new ranks.now depth values.now found.now) }
     ensures back { GoBackAlike state.old state.new }
 {
     for (i, kept) in values.iter().enumerate() {

@@ -12,6 +12,7 @@ pub mod SplitViews
 pub mod KeptViews
 pub mod KeptPrograms
 pub mod KeptAll
+pub mod DeclaredViews
 pub mod NoViews
 pub mod ViewsFound
 pub mod PlacedViews

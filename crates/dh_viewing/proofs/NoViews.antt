@@ -1,11 +1,14 @@
 -- A program without views breaks no rule on them.
-use Rattle.std.proofs.Common.{◌≡◌, List, [], ◌++◌, Option, Some, None, refl, ap, ◌∙◌}
+use Rattle.std.proofs.Common.{◌≡◌, Bool, false, List, [], ◌++◌, Option, Some, None, refl, ap, sym, ◌∙◌}
+use Rattle.dh_tree.specs.declared.breaches.Breach.{Breach}
 use Rattle.dh_tree.specs.Indices.{Known, known_of}
 use Rattle.dh_tree.specs.Memories.{memories_of}
 use Rattle.dh_tree.specs.PlainTrees.{Term, term, TermForm, number, truth_value, named, accessed, in_bank, applied, converted, Terms, no_terms, term_then, Action, action, ActionForm, lets, lets_memory, views, assigns, stores, reduces, calls, blocks, decides, repeats, counts, MaybeAction, no_action, one_action, Actions, no_actions, action_then, Groups, no_groups, group_then, Program}
 use Rattle.dh_tree.specs.ViewBreaches.{KnownViews, known_views, kept_behind, term_view_breaches, form_view_breaches, terms_view_breaches, maybe_view_breaches, action_view_breaches, action_form_view_breaches, other_view_breaches, groups_view_breaches, part_view_breaches, view_breaches_of}
 use Rattle.dh_tree.specs.ViewFactors.{factor_breaches_of, viewings_breaches}
 use Rattle.dh_tree.specs.Views.{form_viewings, groups_viewings, other_viewings, part_viewings, viewed_behind, viewings, views_of}
+use Rattle.dh_viewing.specs.Judged.{is_any}
+use Rattle.dh_viewing.proofs.DeclaredViews.{none_declared}
 use Rattle.dh_viewing.proofs.KeptViews.{first_none, second_none}
 
 both_none : {A : Type 0} (xs ys : List A) → xs ≡ [] → ys ≡ [] → xs ++ ys ≡ []
@@ -81,3 +84,9 @@ pub without_views : (p : Program) → views_of p ≡ [] → view_breaches_of p �
 without_views p e =
     both_none (factor_breaches_of p) (action_view_breaches (known_views p) p.body) (ap (λ vs. viewings_breaches (memories_of p) [] vs) e)
     (ap (λ vs. action_view_breaches (record { names = known_of p; views = viewed_behind (memories_of p) [] vs; kept = kept_behind (memories_of p) [] vs }) p.body) e ∙ action_keeps (known_of p) p.body e)
+
+-- so nothing is told of one that is found to declare none
+pub nothing_judged : (p : Program) (declares : Bool) (kept : Option Breach) → declares ≡ is_any (views_of p) → declares ≡ false → (views_of p ≡ []) × ((view_breaches_of p ≡ []) × (kept ≡ kept))
+nothing_judged p declares kept told e =
+    let none : views_of p ≡ [] = none_declared (views_of p) (sym told ∙ e) in
+    (none, (without_views p none, refl))

@@ -1,5 +1,5 @@
 -- Looking up what a name stands for, and the views of a program one behind the other.
-use Rattle.std.proofs.Common.{◌≡◌, ℕ, zero, suc, ◌+◌, ◌<◌, Bool, true, false, if◌then◌else◌, List, [], ◌∷◌, ◌++◌, map, length, drop, get_or, Option, Some, None, option_map, refl, ap, sym, ◌∙◌, subst, add-one, append_assoc, append-nil, arith}
+use Rattle.std.proofs.Common.{◌≡◌, ℕ, zero, suc, ◌+◌, ◌<◌, Bool, true, false, if◌then◌else◌, List, [], ◌∷◌, ◌++◌, map, length, drop, get_or, Option, Some, None, option_map, refl, ap, sym, ◌∙◌, subst, add-one, append_assoc, append-nil}
 use Rattle.std.specs.Prelude.{slice_get}
 use Rattle.std.proofs.Math.Seq.{drop-cons, drop-length}
 use Rattle.std.proofs.lemmas.List.{map-append}
@@ -228,11 +228,6 @@ kept_told None None = refl
 pub shape_told : (ms : List Memory) (kept : List Viewed) (e : Option ℕ) (answer o : Option Shape) (v : Option ViewMap)
     → answer ≡ shape_kept o v → o ≡ memory_shape (memory_in ms e) → v ≡ view_in kept e → answer ≡ kept_shape_in ms kept e
 shape_told ms kept e answer o v a m w = a ∙ (ap (λ x. shape_kept x v) m ∙ (ap (λ x. shape_kept (memory_shape (memory_in ms e)) x) w ∙ kept_told (memory_in ms e) (view_in kept e)))
-
--- no view is found where there is none
-pub none_found : (found : List Found) (vs : List Viewing) → length found ≡ 0 → all_found found ≡ vs → vs ≡ []
-none_found [] vs e h = sym h
-none_found (f ∷ found) vs e h = absurd (omega (arith, e))
 
 -- a least breach is kept of some, and none of none
 pub breaks : (bs : List Breach) (b : Breach) → Some b ≡ least_of None bs → breaks_none bs ≡ false

@@ -1,20 +1,22 @@
 -- What the code finds of the views of a program.
-use Rattle.std.specs.Prelude.{◌≡◌, ℕ, ◌/◌, Bool, if◌then◌else◌, List, [], ◌∷◌, ◌++◌, map, Option, Some, None, Result, OnOk, Vec}
+use Rattle.std.specs.Prelude.{◌≡◌, ℕ, ◌/◌, Bool, true, if◌then◌else◌, List, [], ◌∷◌, ◌++◌, map, Option, Some, None, option_map, Result, OnOk, Vec}
 use Rattle.std.specs.Global.{Global}
+use denote.Ref.{Bor}
 use Rattle.dh_base.specs.declared.places.Place.{Place}
 use Rattle.dh_tree.specs.declared.breaches.Breach.{Breach}
 use Rattle.dh_tree.specs.declared.tables.Dim.{Dim}
 use Rattle.dh_tree.specs.declared.tables.MemEntry.{MemEntry}
 use Rattle.dh_tree.specs.declared.tables.Shape.{Shape}
 use Rattle.dh_tree.specs.declared.trees.expressions.Expr.{Expr}
+use Rattle.dh_tree.specs.declared.trees.programs.Tree.{Tree}
 use Rattle.dh_tree.specs.declared.viewing.Viewed.{Viewed}
 use Rattle.dh_tree.specs.declared.viewing.ViewMap.{ViewMap}
 use Rattle.dh_tree.specs.Indices.{shape_keeps}
-use Rattle.dh_tree.specs.Memories.{Memory}
-use Rattle.dh_tree.specs.Seen.{plan_seen}
-use Rattle.dh_tree.specs.ViewBreaches.{breaks_none}
-use Rattle.dh_tree.specs.ViewFactors.{factor_broken, factor_keeps, viewing_breaches}
-use Rattle.dh_tree.specs.Views.{Viewing, map_of}
+use Rattle.dh_tree.specs.Memories.{Memory, memories_of, memory_in}
+use Rattle.dh_tree.specs.Seen.{factor_seen, plan_seen, program_seen}
+use Rattle.dh_tree.specs.ViewBreaches.{breaks_none, kept_behind, kept_of, kept_shape_in}
+use Rattle.dh_tree.specs.ViewFactors.{factor_broken, factor_keeps, factors_breaches, viewing_breaches, viewings_breaches}
+use Rattle.dh_tree.specs.Views.{Viewing, map_of, shape_in, viewed_behind, viewed_of}
 use Rattle.dh_viewing.specs.declared.collecting.Found.{Found}
 
 abbrev pub viewing_found : Found → Viewing
@@ -40,11 +42,19 @@ abbrev pub memory_shape : Option Memory → Option Shape
 memory_shape None = None
 memory_shape (Some m) = Some m.shape
 
+-- that of the memory of a program that an entity is, if it is one
+abbrev pub memory_shape_in : Tree → (entity : Option ℕ) → Option Shape
+memory_shape_in tree entity = memory_shape (memory_in (memories_of (program_seen tree)) entity)
+
 -- the shape of a memory, where it keeps the rules, or else of a view
 abbrev pub shape_kept : (memory : Option Shape) → Option ViewMap → Option Shape
 shape_kept (Some s) view = if shape_keeps s then Some s else None
 shape_kept None (Some v) = Some v.shape
 shape_kept None None = None
+
+-- so of those that are lent
+abbrev pub shape_lent : (memory : Option (Bor Shape)) → (view : Option (Bor ViewMap)) → Option Shape
+shape_lent memory view = shape_kept (option_map (λ s. s.now) memory) (option_map (λ v. v.now) view)
 
 -- a view whose parent has this shape, and one that keeps the rule besides
 abbrev pub map_through : Viewing → (parent : Option Shape) → Option ViewMap
@@ -73,3 +83,40 @@ factor_broken_at m None p d = []
 -- the factors of a suffix, of which each stands beside its offset
 abbrev pub factors_paired : List (ℕ × Expr) → List ℕ
 factors_paired by = map (λ (p : ℕ × Expr). p.0) by
+
+-- what the factors of a suffix break, each where it stands and with its dimension
+abbrev pub multiples_breaches : (parent : Place) → List (ℕ × Expr) → List Place → List Dim → List Breach
+multiples_breaches parent by places dims = factors_breaches true parent (map (λ s. s.factor) (map factor_seen by)) places dims
+
+-- Views behind others: the parent of each is a memory of the program, or one of the others.
+
+-- what such a view is, where it has a parent
+abbrev pub map_behind : Tree → (before : List Viewed) → Found → Option ViewMap
+map_behind tree before f = map_through (viewing_found f) (shape_in (memories_of (program_seen tree)) before f.parent.now.entity)
+
+-- the others with it, and with all of these
+abbrev pub with_found : Tree → (before : List Viewed) → Found → List Viewed
+with_found tree before f = before ++ viewed_of (viewing_found f) (shape_in (memories_of (program_seen tree)) before f.parent.now.entity)
+
+abbrev pub with_all_found : Tree → (before : List Viewed) → List Found → List Viewed
+with_all_found tree before fs = viewed_behind (memories_of (program_seen tree)) before (all_found fs)
+
+-- what its factors and brackets break, and those of all of these
+abbrev pub found_breaches : Tree → (before : List Viewed) → Found → List Breach
+found_breaches tree before f = viewing_breaches (viewing_found f) (shape_in (memories_of (program_seen tree)) before f.parent.now.entity)
+
+abbrev pub all_found_breaches : Tree → (before : List Viewed) → List Found → List Breach
+all_found_breaches tree before fs = viewings_breaches (memories_of (program_seen tree)) before (all_found fs)
+
+-- Those that keep the rules, behind others that do.
+
+-- the shape of the memory, where it keeps the rules, or of the view among the others that an entity is
+abbrev pub kept_shape_at : Tree → (kept : List Viewed) → (entity : Option ℕ) → Option Shape
+kept_shape_at tree kept entity = kept_shape_in (memories_of (program_seen tree)) kept entity
+
+-- the others with a view, where it keeps the rules, and with those of these that do
+abbrev pub with_kept : Tree → (kept : List Viewed) → Found → List Viewed
+with_kept tree kept f = kept ++ kept_of (viewing_found f) (kept_shape_in (memories_of (program_seen tree)) kept f.parent.now.entity)
+
+abbrev pub with_all_kept : Tree → (kept : List Viewed) → List Found → List Viewed
+with_all_kept tree kept fs = kept_behind (memories_of (program_seen tree)) kept (all_found fs)

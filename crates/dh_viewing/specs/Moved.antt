@@ -1,5 +1,5 @@
 -- The index of the parent of a view by suffix or shift, number by number.
-use Rattle.std.specs.Prelude.{◌≡◌, ℕ, if◌then◌else◌, List, [], ◌∷◌, ◌++◌, replicate, Option, Some, None, ℤ, pos, ◌+ℤ◌, ◌*ℤ◌, unsigned_abs}
+use Rattle.std.specs.Prelude.{◌≡◌, ℕ, ◌-◌, ◌/◌, ◌≤◌, true, if◌then◌else◌, List, [], ◌∷◌, ◌++◌, replicate, Option, Some, None, ℤ, pos, ◌+ℤ◌, ◌*ℤ◌, unsigned_abs}
 use Rattle.dh_tree.specs.declared.tables.Dim.{Dim}
 use Rattle.dh_tree.specs.declared.viewing.ViewSort.{ViewSort}
 use Rattle.dh_tree.specs.declared.viewing.ViewSort.TheVariants.{Shrink, Split, Suffix, Shift}
@@ -38,3 +38,8 @@ Moves Suffix by factors count = factors ≡ by
 Moves Shift by factors count = factors ≡ replicate count 1
 Moves Shrink by factors count = ⊥
 Moves Split by factors count = ⊥
+
+-- an offset with which an index of a view is in range is small: its multiple by the factor is below the size
+abbrev pub OffsetsInRangeAreSmall : Type 0
+OffsetsInRangeAreSmall =
+    (size k : ℕ) (e i : ℤ) → 1 ≤ k → is_index size i ≡ true → is_index size ((pos k *ℤ e) +ℤ i) ≡ true → unsigned_abs e ≤ (size - 1) / k

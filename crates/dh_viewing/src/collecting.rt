@@ -2,10 +2,10 @@
 
 ghost use Rattle.std.specs.Prelude.{◌≡◌, ◌++◌, ◌/◌, Some, true, map, option_map, slice_get, IfOk, OnOk};
 ghost use Rattle.std.specs.Option.{is_some};
-ghost use Rattle.dh_tree.specs.Memories.{memories_of, memory_in};
+ghost use Rattle.dh_tree.specs.Memories.{memories_of};
 ghost use Rattle.dh_tree.specs.Seen.{action_seen, all_parts_seen, maybe_block_seen, factor_seen, plan_seen, program_seen};
-ghost use Rattle.dh_tree.specs.Views.{dims_of, factors_of, groups_viewings, map_of, other_viewings, shape_in, shrunk_dims, sort_of, split_dims, view_of, viewed_behind, viewed_in, viewed_of, viewings, views_of};
-ghost use Rattle.dh_viewing.specs.Finding.{FindsViews, all_found, entry_shape, map_through, memory_shape, shrunk_by, viewed_as, viewing_found};
+ghost use Rattle.dh_tree.specs.Views.{dims_of, factors_of, groups_viewings, map_of, other_viewings, shape_in, shrunk_dims, sort_of, split_dims, view_of, viewed_in, viewings, views_of};
+ghost use Rattle.dh_viewing.specs.Finding.{FindsViews, all_found, entry_shape, map_behind, memory_shape_in, shrunk_by, viewed_as, with_all_found, with_found};
 
 use crate::placing::ViewTable;
 use dh_base::{Items, NoMemory};
@@ -210,8 +210,7 @@ fn shape_at(entries: &[MemEntry], number: usize) -> Option<&Shape>
 
 /// The shape of the memory that an entity is, if it is one.
 pub fn shape_of_memory(typed: &Typed, entity: Option<u32>) -> Option<&Shape>
-    ensures { option_map (λ s. s.now) result
-        ≡ memory_shape (memory_in (memories_of (program_seen typed.now)) entity) }
+    ensures { option_map (λ s. s.now) result ≡ memory_shape_in typed.now entity }
 {
     let Some(entity) = entity else {
         return None;
@@ -243,8 +242,7 @@ fn map_behind(
     views: &ViewTable,
     found: &Found<'_>,
 ) -> Result<Option<ViewMap>, NoMemory>
-    ensures { IfOk result (λ m. m ≡ map_through (viewing_found found.now)
-        (shape_in (memories_of (program_seen typed.now)) views.now found.now.parent.now.entity)) }
+    ensures { IfOk result (λ m. m ≡ map_behind typed.now views.now found.now) }
 {
     match shape_of(typed, views, found.parent.entity) {
         Some(parent) => Ok(Some(map_to(alloc, found.form, parent)?)),
@@ -274,8 +272,7 @@ fn push_view(
     views: &mut ViewTable,
     found: &Found<'_>,
 ) -> Result<(), NoMemory>
-    ensures { OnOk result (views.new ≡ views.old ++ viewed_of (viewing_found found.now)
-        (shape_in (memories_of (program_seen typed.now)) views.old found.now.parent.now.entity)) }
+    ensures { OnOk result (views.new ≡ with_found typed.now views.old found.now) }
 {
     let is = map_behind(alloc, typed, views, found)?;
     push_map(views, found.name.entity, is)
@@ -288,8 +285,7 @@ fn push_views(
     views: &mut ViewTable,
     found: &[Found<'_>],
 ) -> Result<(), NoMemory>
-    ensures { OnOk result (views.new
-        ≡ viewed_behind (memories_of (program_seen typed.now)) views.old (all_found found.now)) }
+    ensures { OnOk result (views.new ≡ with_all_found typed.now views.old found.now) }
 {
     for view in found {
         push_view(alloc, typed, views, view)?;
@@ -314,17 +310,6 @@ fn table_in(alloc: Global, typed: &Typed) -> Result<ViewTable, NoMemory>
     let mut views = ViewTable::with_room(alloc, found.len())?;
     push_views(alloc, typed, &mut views, found.as_slice())?;
     Ok(views)
-}
-
-/// The views of a program, in text order.
-///
-/// # Errors
-///
-/// `NoMemory`, the one error; no clause tells when.
-pub fn views_in(alloc: Global, typed: &Typed) -> Result<Items<Viewed>, NoMemory>
-    ensures { IfOk result (λ views. views ≡ viewed_in (program_seen typed.now)) }
-{
-    Ok(table_in(alloc, typed)?.into_views())
 }
 
 /// The view of a program that is an entity.

@@ -1,21 +1,20 @@
 //! The rule on the factors and the brackets of views.
 
-ghost use Rattle.std.specs.Prelude.{◌≡◌, [], ◌∷◌, ◌++◌, Some, IfOk, OnOk, map, option_map, slice_get, true};
+ghost use Rattle.std.specs.Prelude.{◌≡◌, [], ◌∷◌, ◌++◌, Some, IfOk, OnOk, option_map, slice_get};
 ghost use Rattle.dh_base.specs.declared.rules.Rule.TheVariants as rules;
 ghost use Rattle.dh_tree.specs.Kinds.{when};
 ghost use Rattle.dh_tree.specs.LeastBreach.{breach, least_of};
 ghost use Rattle.dh_tree.specs.Memories.{memories_of};
-ghost use Rattle.dh_tree.specs.Seen.{factor_seen, plan_seen, program_seen};
-ghost use Rattle.dh_tree.specs.Told.{MayTellLeast};
+ghost use Rattle.dh_tree.specs.Seen.{plan_seen, program_seen};
 ghost use Rattle.dh_tree.specs.ViewFactors as definitions;
-ghost use Rattle.dh_tree.specs.ViewFactors.{factor_breaches_of, factors_breaches, plan_breaches, viewing_breaches, viewings_breaches};
-ghost use Rattle.dh_tree.specs.Views.{shape_in, viewed_behind, viewed_of};
-ghost use Rattle.dh_viewing.specs.Finding.{all_found, factor_broken_at, factors_paired, map_through, place_or, viewed_as, viewing_found};
+ghost use Rattle.dh_tree.specs.ViewFactors.{factors_breaches, plan_breaches, viewing_breaches};
+ghost use Rattle.dh_tree.specs.Views.{shape_in};
+ghost use Rattle.dh_viewing.specs.Finding.{all_found_breaches, factor_broken_at, factors_paired, found_breaches, map_behind, multiples_breaches, place_or, viewed_as, viewing_found, with_all_found, with_found};
 
-use crate::collecting::{Found, found_in, shape_of_memory};
+use crate::collecting::{Found, shape_of_memory};
 use crate::sharing::{LastMaps, SharedMap};
 use crate::tables::{SharedView, SharedViews};
-use dh_base::{NoMemory, PassFault, Place, Rule};
+use dh_base::{NoMemory, Place, Rule};
 use dh_tree::{Breach, Dim, Expr, Shape, Typed, ViewForm, keep_least};
 use std::alloc::Global;
 
@@ -121,8 +120,7 @@ fn keep_multiples(
     places: &[Place],
     dims: &[Dim],
 )
-    ensures { kept.new ≡ least_of kept.old (factors_breaches true parent
-        (map (λ s. s.factor) (map factor_seen by.now)) places.now dims.now) }
+    ensures { kept.new ≡ least_of kept.old (multiples_breaches parent by.now places.now dims.now) }
 {
     for (i, dim) in dims.iter().enumerate() {
         let place = place_at(places, i, parent);
@@ -199,12 +197,9 @@ fn keep_map(
     views: &SharedViews,
     found: &Found<'_>,
 ) -> Result<Option<SharedMap>, NoMemory>
-    ensures breaches { OnOk result (kept.new
-        ≡ least_of kept.old (viewing_breaches (viewing_found found.now)
-        (shape_in (memories_of (program_seen typed.now)) views.now
-        found.now.parent.now.entity))) }
-    ensures map { IfOk result (λ m. m ≡ map_through (viewing_found found.now)
-        (shape_in (memories_of (program_seen typed.now)) views.now found.now.parent.now.entity)) }
+    ensures breaches { OnOk result
+        (kept.new ≡ least_of kept.old (found_breaches typed.now views.now found.now)) }
+    ensures map { IfOk result (λ m. m ≡ map_behind typed.now views.now found.now) }
 {
     match shape_of(typed, views, found.parent.entity) {
         Some(parent) => {
@@ -239,13 +234,9 @@ fn keep_behind(
     views: &mut SharedViews,
     found: &Found<'_>,
 ) -> Result<(), NoMemory>
-    ensures breaches { OnOk result (kept.new
-        ≡ least_of kept.old (viewing_breaches (viewing_found found.now)
-        (shape_in (memories_of (program_seen typed.now)) views.old
-        found.now.parent.now.entity))) }
-    ensures views { OnOk result (views.new ≡ views.old ++ viewed_of (viewing_found found.now)
-        (shape_in (memories_of (program_seen typed.now)) views.old
-        found.now.parent.now.entity)) }
+    ensures breaches { OnOk result
+        (kept.new ≡ least_of kept.old (found_breaches typed.now views.old found.now)) }
+    ensures views { OnOk result (views.new ≡ with_found typed.now views.old found.now) }
 {
     let is = keep_map(alloc, typed, maps, kept, views, found)?;
     push_map(views, found.name.entity, is)
@@ -259,56 +250,13 @@ pub(crate) fn keep_all(
     views: &mut SharedViews,
     found: &[Found<'_>],
 ) -> Result<(), NoMemory>
-    ensures breaches { OnOk result (kept.new ≡ least_of kept.old
-        (viewings_breaches (memories_of (program_seen typed.now)) views.old
-        (all_found found.now))) }
-    ensures views { OnOk result (views.new
-        ≡ viewed_behind (memories_of (program_seen typed.now)) views.old (all_found found.now)) }
+    ensures breaches { OnOk result
+        (kept.new ≡ least_of kept.old (all_found_breaches typed.now views.old found.now)) }
+    ensures views { OnOk result (views.new ≡ with_all_found typed.now views.old found.now) }
 {
     let mut maps = LastMaps::new();
     for view in found {
         keep_behind(alloc, typed, &mut maps, kept, views, view)?;
     }
     Ok(())
-}
-
-/// Keeps the breach of the rule on factors and brackets that stands first, beside what was kept before.
-///
-/// # Errors
-///
-/// `NoMemory`, the one error; no clause tells when.
-pub fn keep_view_factors(
-    alloc: Global,
-    typed: &Typed,
-    kept: &mut Option<Breach>,
-) -> Result<(), NoMemory>
-    ensures { OnOk result (kept.new
-        ≡ least_of kept.old (factor_breaches_of (program_seen typed.now))) }
-{
-    let found = found_in(alloc, typed)?;
-    let entities = typed.tree().entities.len();
-    let mut views = SharedViews::with_room(alloc, found.len(), entities)?;
-    keep_all(alloc, typed, kept, &mut views, found.as_slice())
-}
-
-/// Tells whether the factors and brackets of a program's views keep the rule on them.
-///
-/// # Errors
-///
-/// `Refused` with the breach of `ViewFactor` that stands first; or `NoMemory`, of which no clause tells
-/// when it comes.
-pub fn view_factors(alloc: Global, typed: &Typed) -> Result<(), PassFault>
-    ensures { MayTellLeast (factor_breaches_of (program_seen typed.now)) result }
-{
-    let mut kept = None;
-    let Ok(()) = keep_view_factors(alloc, typed, &mut kept) else {
-        return Err(PassFault::NoMemory);
-    };
-    match kept {
-        Some(breach) => Err(PassFault::Refused {
-            rule: breach.rule,
-            place: breach.place,
-        }),
-        None => Ok(()),
-    }
 }

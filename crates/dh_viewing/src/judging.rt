@@ -1,17 +1,17 @@
 //! All views of a program together: what each is, whether it keeps the rule, and the first breach.
 
-ghost use Rattle.std.specs.Prelude.{◌≡◌, ◌++◌, ◌&&◌, [], true, option_map, IfOk, OnOk};
+ghost use Rattle.std.specs.Prelude.{◌≡◌, ◌&&◌, option_map, IfOk, OnOk};
 ghost use Rattle.std.specs.Option.{is_some};
-ghost use Rattle.dh_tree.specs.Memories.{memories_of, table_of};
+ghost use Rattle.dh_tree.specs.Memories.{table_of};
 ghost use Rattle.dh_tree.specs.Seen.{program_seen};
-ghost use Rattle.dh_tree.specs.ViewBreaches.{dims_through, kept_behind, kept_of, kept_shape_in};
-ghost use Rattle.dh_tree.specs.ViewFactors.{viewings_breaches};
-ghost use Rattle.dh_tree.specs.Views.{view_in, viewed_behind};
-ghost use Rattle.dh_viewing.specs.Finding.{all_found, kept_through, shape_kept, viewing_found};
+ghost use Rattle.dh_tree.specs.ViewBreaches.{dims_through};
+ghost use Rattle.dh_tree.specs.Views.{view_in};
+ghost use Rattle.dh_viewing.specs.Finding.{kept_shape_at, kept_through, shape_lent, viewing_found, with_all_kept, with_kept};
 ghost use Rattle.dh_viewing.specs.Judged as definitions;
-ghost use Rattle.dh_viewing.specs.Judged.{JudgesViews, kept_or};
+ghost use Rattle.dh_viewing.specs.Judged.{AreJudged, AreKeptApart, JudgesViews};
 
 use crate::collecting::{Found, found_in, map_to, push_map, shape_of_memory};
+use crate::declaring::declares_view;
 use crate::factors::{keep_all, keep_found};
 use crate::keeping::shape_keeps;
 use crate::placing::ViewTable;
@@ -89,8 +89,7 @@ fn keeps_all(typed: &Typed, is_unbroken: bool) -> bool
 
 /// The shape of a memory, where it keeps the rules, or else of a view.
 fn kept_shape<'a>(memory: Option<&'a Shape>, view: Option<&'a ViewMap>) -> Option<&'a Shape>
-    ensures { option_map (λ s. s.now) result
-        ≡ shape_kept (option_map (λ s. s.now) memory.entry) (option_map (λ v. v.now) view.entry) }
+    ensures { option_map (λ s. s.now) result ≡ shape_lent memory.entry view.entry }
 {
     match memory {
         Some(shape) => {
@@ -113,8 +112,7 @@ fn kept_shape_of<'a>(
     kept: &'a ViewTable,
     entity: Option<u32>,
 ) -> Option<&'a Shape>
-    ensures { option_map (λ s. s.now) result
-        ≡ kept_shape_in (memories_of (program_seen typed.now)) kept.now entity }
+    ensures { option_map (λ s. s.now) result ≡ kept_shape_at typed.now kept.now entity }
 {
     kept_shape(shape_of_memory(typed, entity), kept.get(entity))
 }
@@ -146,9 +144,7 @@ fn push_kept(
     kept: &mut ViewTable,
     found: &Found<'_>,
 ) -> Result<(), NoMemory>
-    ensures { OnOk result (kept.new ≡ kept.old ++ kept_of (viewing_found found.now)
-        (kept_shape_in (memories_of (program_seen typed.now))
-        kept.old found.now.parent.now.entity)) }
+    ensures { OnOk result (kept.new ≡ with_kept typed.now kept.old found.now) }
 {
     let is = kept_map(
         alloc,
@@ -165,8 +161,7 @@ fn push_all_kept(
     kept: &mut ViewTable,
     found: &[Found<'_>],
 ) -> Result<(), NoMemory>
-    ensures { OnOk result (kept.new
-        ≡ kept_behind (memories_of (program_seen typed.now)) kept.old (all_found found.now)) }
+    ensures { OnOk result (kept.new ≡ with_all_kept typed.now kept.old found.now) }
 {
     for view in found {
         push_kept(alloc, typed, kept, view)?;
@@ -181,10 +176,7 @@ fn kept_apart(
     is_unbroken: bool,
     found: &[Found<'_>],
 ) -> Result<Option<ViewTable>, NoMemory>
-    ensures { IfOk result (λ apart. (is_unbroken ≡ true
-        → viewings_breaches (memories_of (program_seen typed.now)) [] (all_found found.now) ≡ [])
-        → kept_or (viewed_behind (memories_of (program_seen typed.now)) [] (all_found found.now))
-        apart ≡ kept_behind (memories_of (program_seen typed.now)) [] (all_found found.now)) }
+    ensures { IfOk result (λ apart. AreKeptApart typed.now is_unbroken found.now apart) }
 {
     if keeps_all(typed, is_unbroken) {
         return Ok(None);
@@ -194,13 +186,32 @@ fn kept_apart(
     Ok(Some(kept))
 }
 
+/// The views of a program, and which of them keep the rules; and keeps the breach of the rule on factors and
+/// brackets that stands first, beside what was kept before.
+fn judge_declared(
+    alloc: Global,
+    typed: &Typed,
+    kept: &mut Option<Breach>,
+) -> Result<JudgedViews, NoMemory>
+    ensures { IfOk result
+        (λ judged. AreJudged (program_seen typed.now) judged kept.old kept.new) }
+{
+    let found = found_in(alloc, typed)?;
+    let views = found.as_slice();
+    let entities = typed.tree().entities.len();
+    let mut all = SharedViews::with_room(alloc, found.len(), entities)?;
+    keep_all(alloc, typed, kept, &mut all, views)?;
+    let apart = kept_apart(alloc, typed, kept.is_none(), views)?;
+    Ok(JudgedViews { all, apart })
+}
+
 /// Tells the views of a program, and which of them keep the rules, and keeps the breach of the rule on
 /// factors and brackets that stands first, beside what was kept before. Tells nothing where the program has
-/// no view. Linear in the source.
+/// no view, and takes no memory there. Linear in the source.
 ///
 /// # Errors
 ///
-/// `NoMemory`, the one error; no clause tells when.
+/// `NoMemory`, of a program that declares a view alone; then what was kept stays as it was.
 pub fn judge_views(
     alloc: Global,
     typed: &Typed,
@@ -208,14 +219,14 @@ pub fn judge_views(
 ) -> Result<Option<JudgedViews>, NoMemory>
     ensures { JudgesViews (program_seen typed.now) result kept.old kept.new }
 {
-    let found = found_in(alloc, typed)?;
-    if found.is_empty() {
-        return Ok(None);
+    if declares_view(typed) {
+        let mut least = *kept;
+        let Ok(judged) = judge_declared(alloc, typed, &mut least) else {
+            return Err(NoMemory);
+        };
+        *kept = least;
+        Ok(Some(judged))
+    } else {
+        Ok(None)
     }
-    let views = found.as_slice();
-    let entities = typed.tree().entities.len();
-    let mut all = SharedViews::with_room(alloc, found.len(), entities)?;
-    keep_all(alloc, typed, kept, &mut all, views)?;
-    let apart = kept_apart(alloc, typed, kept.is_none(), views)?;
-    Ok(Some(JudgedViews { all, apart }))
 }

@@ -6,6 +6,7 @@
 
 mod bank_sets;
 mod collecting;
+mod declaring;
 mod elements;
 mod factors;
 mod judging;
@@ -18,13 +19,12 @@ mod sharing;
 mod tables;
 
 pub use bank_sets::{BankSet, banks_of};
-pub use collecting::{shape_of_memory, view_map, views_in};
+pub use collecting::{shape_of_memory, view_map};
 pub use elements::through;
-pub use factors::{keep_view_factors, view_factors};
 pub use judging::{JudgedViews, judge_views};
 pub use keeping::{divides, shape_keeps};
 pub use laws::{kept_views_are_all, kept_views_have_shapes, offsets_in_range_are_small};
 pub use numbers::{Index, MAX_DIMS, listed, no_numbers, with_number};
 pub use offsets::moves;
-pub use placing::{ViewTable, make_room, place_at};
+pub use placing::{make_room, place_at};
 pub use sharing::{LastMaps, SharedMap};

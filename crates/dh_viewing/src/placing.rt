@@ -116,7 +116,7 @@ fn view_of<'a>(
 
 /// Views in an order, each of which is found by its entity without a search. A contract sees them as a list.
 #[derive(Drop)]
-pub struct ViewTable {
+pub(crate) struct ViewTable {
     views: Items<Viewed>,
     // by the number of an entity the place of its view, of each entity that is one
     places: Vec<Option<usize>>,
@@ -140,7 +140,7 @@ impl ViewTable {
     /// # Errors
     ///
     /// `NoMemory`, the one error; no clause tells when.
-    pub fn with_room(alloc: Global, count: usize) -> Result<ViewTable, NoMemory>
+    pub(crate) fn with_room(alloc: Global, count: usize) -> Result<ViewTable, NoMemory>
         ensures { IfOk result (λ table. table ≡ []) }
     {
         let views = Items::with_room(alloc, count)?;
@@ -155,27 +155,16 @@ impl ViewTable {
     /// # Errors
     ///
     /// `NoMemory`, the one error; no clause tells when.
-    pub fn push(&mut self, view: Viewed) -> Result<(), NoMemory>
+    pub(crate) fn push(&mut self, view: Viewed) -> Result<(), NoMemory>
         ensures { OnOk result (self.new ≡ self.old ++ view ∷ []) }
     {
         add(&mut self.views, &mut self.places, view)
     }
 
     /// The view that an entity is, if it is one of these.
-    pub fn get(&self, entity: Option<u32>) -> Option<&ViewMap>
+    pub(crate) fn get(&self, entity: Option<u32>) -> Option<&ViewMap>
         ensures { option_map (λ v. v.now) result ≡ view_in self.now entity }
     {
         view_of(self.views.as_slice(), self.places.as_slice(), entity)
-    }
-
-    /// They in their order, without their places.
-    pub fn into_views(self) -> Items<Viewed>
-        ensures { result ≡ self }
-    {
-        let ViewTable {
-            views,
-            places: _places,
-        } = self;
-        views
     }
 }

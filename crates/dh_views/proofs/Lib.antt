@@ -1,4 +1,3 @@
 pub mod KeptIndices
 pub mod Lookups
 pub mod Turns
-pub mod DeclaredViews

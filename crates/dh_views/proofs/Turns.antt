@@ -1,5 +1,7 @@
 -- What loops and views add to the breach that is kept.
-use Rattle.std.proofs.Common.{◌≡◌, ◌++◌, List, Option, Some, None, Ok, ap, sym, ◌∙◌, subst}
+use Rattle.std.proofs.Common.{◌≡◌, ◌++◌, List, Option, Some, None, Result, Ok, Err, ap, sym, ◌∙◌, subst}
+use Rattle.std.specs.Prelude.{IsErrAnd}
+use Rattle.dh_base.specs.declared.lists.NoMemory.{NoMemory}
 use Rattle.dh_tree.specs.declared.breaches.Breach.{Breach}
 use Rattle.dh_tree.specs.declared.trees.commands.LoopHeader.{LoopHeader}
 use Rattle.dh_tree.specs.declared.viewing.Viewed.{Viewed}
@@ -13,6 +15,7 @@ use Rattle.dh_tree.specs.Views.{viewed_in}
 use Rattle.dh_tree.proofs.Leasts.{least_append}
 use Rattle.dh_viewing.specs.Judged.{JudgesViews, ViewsJudged as JudgedViews}
 use Rattle.dh_views.specs.Kept.{header_breaches}
+use Rattle.dh_views.specs.Wanting.{DeclaresViews, FindsBreach}
 use Rattle.dh_views.specs.Walked.{own_breaches}
 
 pub loop_kept : (known : Known) (h : LoopHeader) (body : Action) (combine : MaybeAction) (form : ActionForm) (old a b c : Option Breach)
@@ -36,12 +39,17 @@ pub views_kept : (p : Program) (o : Option JudgedViews) (j : JudgedViews) (old m
 views_kept p o j old mid new h is e =
     let g : JudgesViews p (Ok (Some j)) old mid = subst (λ (x : Option JudgedViews). JudgesViews p (Ok x) old mid) is h in
     e
-    ∙ (ap (λ (vs : List Viewed). least_of mid (action_view_breaches (record { names = known_of p; views = vs; kept = j.kept }) p.body)) g.0
-    ∙ (ap (λ (vs : List Viewed). least_of mid (action_view_breaches (record { names = known_of p; views = viewed_in p; kept = vs }) p.body)) g.1.0
-    ∙ (ap (λ k. least_of k (action_view_breaches (known_views p) p.body)) g.1.1
+    ∙ (ap (λ (vs : List Viewed). least_of mid (action_view_breaches (record { names = known_of p; views = vs; kept = j.kept }) p.body)) g.1.0
+    ∙ (ap (λ (vs : List Viewed). least_of mid (action_view_breaches (record { names = known_of p; views = viewed_in p; kept = vs }) p.body)) g.1.1.0
+    ∙ (ap (λ k. least_of k (action_view_breaches (known_views p) p.body)) g.1.1.1
     ∙ sym (least_append old (factor_breaches_of p) (action_view_breaches (known_views p) p.body)))))
 
 pub none_kept : (p : Program) (o : Option JudgedViews) (old mid : Option Breach) → JudgesViews p (Ok o) old mid → o ≡ None → mid ≡ least_of old (view_breaches_of p)
 none_kept p o old mid h is =
     let g : JudgesViews p (Ok None) old mid = subst (λ (x : Option JudgedViews). JudgesViews p (Ok x) old mid) is h in
-    g.1 ∙ ap (λ l. least_of old l) (sym g.0)
+    g.1.1 ∙ ap (λ l. least_of old l) (sym g.1.0)
+
+-- a refusal that is handed on
+pub refusal_told : (p : Program) (r : Result (Option Breach) NoMemory) (e : NoMemory) → IsErrAnd r (λ x. x ≡ e) → DeclaresViews p → FindsBreach p r
+refusal_told p (Ok first) e is h = absurd is
+refusal_told p (Err x) e is h = h

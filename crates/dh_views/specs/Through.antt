@@ -1,5 +1,5 @@
 -- What parts of a program's tree break of the rules on views: accesses through them, and their offsets.
-use Rattle.std.specs.Prelude.{ℕ, List, ◌++◌, Option, option_map, Vec}
+use Rattle.std.specs.Prelude.{ℕ, List, ◌++◌, map, Option, option_map, Vec}
 use Rattle.std.specs.Global.{Global, Box}
 use Rattle.dh_shape.specs.Classified.{loops_in}
 use Rattle.dh_tree.specs.declared.breaches.Breach.{Breach}
@@ -8,7 +8,7 @@ use Rattle.dh_tree.specs.declared.trees.expressions.Expr.{Expr}
 use Rattle.dh_tree.specs.declared.trees.programs.Tree.{Tree}
 use Rattle.dh_tree.specs.Indices.{access_breaches}
 use Rattle.dh_tree.specs.PlainTrees.{Term}
-use Rattle.dh_tree.specs.Seen.{term_seen, all_terms_seen, action_seen, all_parts_seen, maybe_block_seen}
+use Rattle.dh_tree.specs.Seen.{term_seen, all_terms_seen, factor_seen, action_seen, all_parts_seen, maybe_block_seen}
 use Rattle.dh_tree.specs.ViewBreaches.{KnownViews, dims_through, term_view_breaches, terms_view_breaches, maybe_view_breaches, offsets_view_breaches, action_view_breaches, other_view_breaches, groups_view_breaches}
 use Rattle.dh_tree.specs.Views.{view_in}
 use Rattle.dh_viewing.specs.Judged.{ViewsJudged as JudgedViews}
@@ -38,6 +38,10 @@ offset_viewed tree v e = term_broken tree e ++ term_viewed tree v e
 
 abbrev pub offsets_viewed : Tree → JudgedViews → List Term → List Breach
 offsets_viewed tree v ts = offsets_view_breaches (known_through tree v) ts
+
+-- those in the offsets of a suffix, each of which stands behind its factor
+abbrev pub multiples_viewed : Tree → JudgedViews → List (ℕ × Expr) → List Breach
+multiples_viewed tree v by = offsets_viewed tree v (map (λ s. s.offset) (map factor_seen by))
 
 -- the breaches in a command, in a block that may lack, and in the parts of a block
 abbrev pub command_viewed : Tree → JudgedViews → Command → List Breach

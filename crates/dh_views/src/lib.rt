@@ -6,7 +6,6 @@
 
 mod accesses;
 mod declared;
-mod declaring;
 mod keeping;
 mod through;
 mod walks;

@@ -2,11 +2,11 @@
 
 ghost use Rattle.std.specs.Prelude.{◌≡◌, map};
 ghost use Rattle.dh_tree.specs.LeastBreach.{least_of};
-ghost use Rattle.dh_tree.specs.Seen.{factor_seen, plan_seen, term_seen};
+ghost use Rattle.dh_tree.specs.Seen.{plan_seen, term_seen};
 ghost use Rattle.dh_tree.specs.ViewBreaches.{physical_broken};
 ghost use Rattle.dh_tree.specs.ViewOffsets.{offsets_of};
 ghost use Rattle.dh_tree.specs.Views.{view_in};
-ghost use Rattle.dh_views.specs.Through.{command_viewed, maybe_viewed, offset_viewed, offsets_viewed, other_viewed, parts_viewed, term_viewed, terms_viewed, through_broken};
+ghost use Rattle.dh_views.specs.Through.{command_viewed, maybe_viewed, multiples_viewed, offset_viewed, offsets_viewed, other_viewed, parts_viewed, term_viewed, terms_viewed, through_broken};
 
 use crate::accesses::keep_indices;
 use crate::keeping::keep_if;
@@ -104,8 +104,7 @@ fn keep_offset(typed: &Typed, views: &JudgedViews, kept: &mut Option<Breach>, of
 
 /// Those in the offsets of a suffix, each of which stands behind its factor.
 fn keep_multiples(typed: &Typed, views: &JudgedViews, kept: &mut Option<Breach>, by: &[(u64, Expr)])
-    ensures { kept.new ≡ least_of kept.old
-        (offsets_viewed typed.now views.now (map (λ s. s.offset) (map factor_seen by.now))) }
+    ensures { kept.new ≡ least_of kept.old (multiples_viewed typed.now views.now by.now) }
 {
     for pair in by {
         keep_offset(typed, views, kept, &pair.1);

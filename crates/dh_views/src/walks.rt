@@ -1,17 +1,16 @@
 //! The walk over a program.
 
-ghost use Rattle.std.specs.Prelude.{◌≡◌, OnOk};
+ghost use Rattle.std.specs.Prelude.{◌≡◌};
 ghost use Rattle.dh_tree.specs.LeastBreach.{least_of};
 ghost use Rattle.dh_tree.specs.Seen.{program_seen};
 ghost use Rattle.dh_tree.specs.Told.{MayTellLeast};
-ghost use Rattle.dh_tree.specs.ViewBreaches.{shapes_breaches_of, view_breaches_of};
+ghost use Rattle.dh_tree.specs.ViewBreaches.{shapes_breaches_of};
 ghost use Rattle.dh_views.specs.Kept.{header_breaches};
 ghost use Rattle.dh_views.specs.Wanting.{FindsBreach, KeepsViews, WantsForViews};
 ghost use Rattle.dh_views.specs.Walked.{term_broken, terms_broken, maybe_broken, own_broken, command_broken, other_broken, parts_broken};
 
 use crate::accesses::{keep_access, keep_physical};
 use crate::declared::{keep_decl_shapes, keep_shape};
-use crate::declaring::declares;
 use crate::keeping::keep_if;
 use crate::through::keep_viewed_command;
 use dh_base::{NoMemory, PassFault, Rule};
@@ -171,10 +170,13 @@ fn keep_groups(typed: &Typed, kept: &mut Option<Breach>, parts: &[Vec<Command>])
     }
 }
 
-/// Those of the rules on views.
-fn keep_declared(alloc: Global, typed: &Typed, kept: &mut Option<Breach>) -> Result<(), NoMemory>
-    ensures { OnOk result (kept.new ≡ least_of kept.old
-        (view_breaches_of (program_seen typed.now))) }
+/// Those of the rules on views, where a view is declared: memory is wanted there alone.
+///
+/// # Errors
+///
+/// `NoMemory`, of a program that declares a view alone; then what was kept stays as it was.
+pub fn keep_views(alloc: Global, typed: &Typed, kept: &mut Option<Breach>) -> Result<(), NoMemory>
+    ensures { KeepsViews (program_seen typed.now) kept.old kept.new result }
 {
     let tree = typed.tree();
     let Ok(judged) = judge_views(alloc, typed, kept) else {
@@ -186,25 +188,6 @@ fn keep_declared(alloc: Global, typed: &Typed, kept: &mut Option<Breach>) -> Res
             Ok(())
         }
         None => Ok(()),
-    }
-}
-
-/// Those of the rules on views, where a view is declared: memory is wanted there alone.
-///
-/// # Errors
-///
-/// `NoMemory`, of a program that declares a view alone.
-pub fn keep_views(alloc: Global, typed: &Typed, kept: &mut Option<Breach>) -> Result<(), NoMemory>
-    ensures { KeepsViews (program_seen typed.now) kept.old kept.new result }
-{
-    if typed.has_no_view() {
-        return Ok(());
-    }
-    let tree = typed.tree();
-    if declares(&tree.body) {
-        keep_declared(alloc, typed, kept)
-    } else {
-        Ok(())
     }
 }
 

@@ -1,7 +1,9 @@
 -- The views of a program as a walk finds them whose numbers stay at their greatest; where those of the program are below
 -- that, these are the program's own.
-use Rattle.std.specs.Prelude.{ℕ, ◌+◌, ◌*◌, ◌-◌, ◌^◌, ◌<◌, min, nat_lt, if◌then◌else◌, List, [], ◌∷◌, ◌++◌}
+use Rattle.std.specs.Prelude.{◌≡◌, ℕ, ◌+◌, ◌*◌, ◌-◌, ◌^◌, ◌<◌, min, nat_lt, if◌then◌else◌, List, [], ◌∷◌, ◌++◌, None}
 use Rattle.std.specs.List.{AllByRecursion}
+use Rattle.dh_tree.specs.Excesses.{first_excess}
+use Rattle.dh_tree.specs.Indices.{index_breaches_of}
 use Rattle.dh_tree.specs.PlainTrees.{Action, action, ActionForm, lets, lets_memory, views, assigns, stores, reduces, calls, blocks, decides, repeats, counts, MaybeAction, no_action, one_action, Actions, no_actions, action_then, Groups, no_groups, group_then, Program}
 use Rattle.dh_meaning.specs.Ways.{all_entities_of}
 use Rattle.dh_ways.specs.Stands.{Stand, stands}
@@ -51,3 +53,8 @@ pub record IsFewRound (s : Stand) : Type 0 where
 pub record HasFewWays (p : Program) : Type 0 where
   pub entities : all_entities_of p < 2 ^ 32
   pub round : AllByRecursion IsFewRound (stands 0 1 p.body)
+
+-- where no loop has too many copies inside it, and factors of loops keep the rules, the numbers of the loops round each view
+-- have room
+abbrev pub LoopsRoundViewsAreFew : Type 0
+LoopsRoundViewsAreFew = (p : Program) → index_breaches_of p ≡ [] → first_excess p ≡ None → AllByRecursion IsFewRound (stands 0 1 p.body)

@@ -40,6 +40,10 @@ way_linked ls l = way_over l (way_there ls l.parent)
 abbrev pub led_by : List Led → Link → Led
 led_by ls l = record { entity = l.entity; way = way_linked ls l }
 
+-- these views with that of a link behind them
+abbrev pub with_link : (before : List Led) → Link → List Led
+with_link before l = before ++ led_by before l ∷ []
+
 -- the views of links, behind these
 abbrev pub led_on : (before : List Led) → List Link → List Led
 led_on before [] = before
@@ -47,6 +51,10 @@ led_on before (l ∷ ls) = led_on (before ++ led_by before l ∷ []) ls
 
 abbrev pub ways_linked : List Link → List Led
 ways_linked links = led_on [] links
+
+-- the views on the way of the one at a place
+abbrev pub views_linked : List Link → (place : ℕ) → List ViewMap
+views_linked links place = views_kept (way_there (ways_linked links) (Some place))
 
 -- Links that follow one another.
 

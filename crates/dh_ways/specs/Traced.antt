@@ -1,13 +1,22 @@
 -- The view that is added behind others by its link, as code makes it.
-use Rattle.std.specs.Prelude.{◌≡◌, ℕ, List, [], ◌∷◌, ◌++◌, map, Option, Some, None}
+use Rattle.std.specs.Prelude.{◌≡◌, ℕ, ◌<◌, List, [], ◌∷◌, ◌++◌, length, map, Option, Some, None, slice_get}
+use Rattle.dh_tree.specs.declared.trees.programs.Tree.{Tree}
 use Rattle.dh_tree.specs.declared.viewing.ViewMap.{ViewMap}
-use Rattle.dh_tree.specs.Memories.{Memory}
-use Rattle.dh_meaning.specs.Ways.{Led, Standing, Way, behind_hidden, hidden_of, led_after, led_of, shape_named, way_behind, way_in}
+use Rattle.dh_tree.specs.Memories.{Memory, memories_of}
+use Rattle.dh_tree.specs.PlainTrees.{Program}
+use Rattle.dh_tree.specs.Seen.{program_seen}
+use Rattle.dh_meaning.specs.Ways.{Led, Standing, Way, behind_hidden, hidden_of, led_after, led_behind, led_of, shape_named, way_behind, way_in, ways_of}
 use Rattle.dh_ways.specs.declared.linking.Link.{Link}
+use Rattle.dh_ways.specs.declared.standing.Stood.{Stood}
 use Rattle.dh_ways.specs.declared.ways.Hidden.{Hidden}
 use Rattle.dh_ways.specs.Kept as kept
-use Rattle.dh_ways.specs.Linked.{CanFollow, led_by, way_linked}
+use Rattle.dh_ways.specs.Linked.{CanFollow, led_by, way_linked, way_there}
 use Rattle.dh_ways.specs.Seen.{hidden_seen, led_seen, way_seen}
+use Rattle.dh_ways.specs.Stands.{all_own, hidden_of_program, own_of, stand_seen, standing_seen}
+
+-- the first of these variables and of any others behind them, of which `behind` is the first
+abbrev pub IsFirstOr : List Hidden → (behind first : Option Hidden) → Type 0
+IsFirstOr hidden behind first = (others : List Hidden) → behind ≡ slice_get others 0 → first ≡ slice_get (hidden ++ others) 0
 
 -- the views that a link adds behind others, if there is one
 abbrev pub linked_on : (before : List kept.Led) → Option Link → List Led
@@ -37,3 +46,27 @@ led_in before s first = led_of first s (shape_named None (way_in before s.parent
 -- a view is added, and the next entity is that behind its offsets
 abbrev pub LeadsNext : List Memory → (old new : List Led) → (first next : ℕ) → Standing → Type 0
 LeadsNext ms old new first next s = (next ≡ behind_hidden first s) × (new ≡ old ++ led_after ms first old s)
+
+-- a link of a view as which this map is made, and one of any such view, behind all views among which the view at this place has
+-- this way: that is the way of its parent
+abbrev pub IsLinkBehind : (place : ℕ) → (parent : kept.Way) → Standing → (own : List Hidden) → (made : ViewMap) → Link → Type 0
+IsLinkBehind place parent s own made l =
+    (before : List kept.Led) → place < length before → Some parent ≡ way_there before (Some place) → IsLinkOf before s own made (Some (way_seen parent)) l
+
+abbrev pub LinksBehind : (place : ℕ) → (parent : kept.Way) → Standing → (own : List Hidden) → Option Link → Type 0
+LinksBehind place parent s own link =
+    (before : List kept.Led) → place < length before → Some parent ≡ way_there before (Some place)
+    → IsLinked before s own (λ first. led_of first s (Some parent.view.shape) (Some (way_seen parent))) link
+
+-- a view is added behind others, and its variables behind others; and so are views
+abbrev pub AddsWay : Tree → (old new : List kept.Led) → (hidden more : List Hidden) → (first next : ℕ) → Stood → Type 0
+AddsWay tree old new hidden more first next view =
+    LeadsNext (memories_of (program_seen tree)) (map led_seen old) (map led_seen new) first next (standing_seen view) × (more ≡ hidden ++ own_of first (stand_seen view))
+
+abbrev pub AddsWays : Tree → (old new : List kept.Led) → (hidden more : List Hidden) → (first : ℕ) → List Stood → Type 0
+AddsWays tree old new hidden more first views =
+    (map led_seen new ≡ led_behind (memories_of (program_seen tree)) first (map led_seen old) (map standing_seen views)) × (more ≡ hidden ++ all_own first (map stand_seen views))
+
+-- these are the ways of a program's views, and the variables that keep their offsets
+abbrev pub AreWaysOf : Program → List kept.Led → List Hidden → Type 0
+AreWaysOf p ways hidden = (map led_seen ways ≡ ways_of p) × (hidden ≡ hidden_of_program p)

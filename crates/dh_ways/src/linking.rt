@@ -2,7 +2,7 @@
 //! and ways, which are read link by link.
 
 ghost use Rattle.std.specs.Prelude.{◌≡◌, ◌<◌, ◌∷◌, Some, length, map, option_map, slice_get, IfOk};
-ghost use Rattle.dh_ways.specs.Linked.{AreLinked, IsLinkAt, IsParentAt, IsSplit, hidden_kept, views_kept, way_there, ways_linked};
+ghost use Rattle.dh_ways.specs.Linked.{AreLinked, IsLinkAt, IsParentAt, IsSplit, hidden_kept, views_linked, way_there, ways_linked};
 
 use crate::hiding::append;
 use crate::variables::Own;
@@ -77,8 +77,7 @@ fn way_behind<'a>(links: &'a [Link], place: usize, link: &Link) -> Option<WayRef
 fn views_from(alloc: Global, links: &[Link], place: usize) -> Result<Vec<&ViewMap>, NoMemory>
     requires linked { AreLinked links.now }
     requires there { place < length links.now }
-    ensures { IfOk result (λ views. map (λ v. v.now) views.items
-        ≡ views_kept (way_there (ways_linked links.now) (Some place))) }
+    ensures { IfOk result (λ views. map (λ v. v.now) views.items ≡ views_linked links.now place) }
 {
     let mut views = Vec::new(alloc);
     let mut next = Some(place);

@@ -2,7 +2,7 @@
 
 ghost use Rattle.std.specs.Prelude.{◌≡◌, ◌<◌, [], ◌∷◌, ◌++◌, if◌then◌else◌, is_ok, length, map, option_map, slice_get, Some, IfOk, OnOk};
 ghost use Rattle.dh_meaning.specs.Ways.{way_in};
-ghost use Rattle.dh_ways.specs.Linked.{AreLinked, CanFollow, IsParentAt, led_by, way_there, ways_linked};
+ghost use Rattle.dh_ways.specs.Linked.{AreLinked, CanFollow, IsParentAt, led_by, way_there, ways_linked, with_link};
 ghost use Rattle.dh_ways.specs.Placed.{ArePlaced, FindsPlace, PlacesNext, place_found};
 ghost use Rattle.dh_ways.specs.Seen.{led_seen, way_seen};
 
@@ -50,8 +50,7 @@ fn add(links: &mut Items<Link>, places: &mut Vec<Option<usize>>, link: Link) -> 
     requires follows { CanFollow (ways_linked links.now) link }
     ensures placed { ArePlaced links.new places.new.items }
     ensures linked { AreLinked links.new }
-    ensures added { OnOk result (ways_linked links.new
-        ≡ ways_linked links.old ++ led_by (ways_linked links.old) link ∷ []) }
+    ensures added { OnOk result (ways_linked links.new ≡ with_link (ways_linked links.old) link) }
 {
     let entity = link.entity;
     match entity {

@@ -6,14 +6,12 @@ ghost use Rattle.dh_tree.specs.Seen.{plan_seen, program_seen};
 ghost use Rattle.dh_tree.specs.ViewOffsets as offsets;
 ghost use Rattle.dh_tree.specs.ViewOffsets.{offsets_of};
 ghost use Rattle.dh_meaning.specs.Ways as definitions;
-ghost use Rattle.dh_meaning.specs.Ways.{behind_all, led_after, led_behind, led_of, ways_of};
-ghost use Rattle.dh_ways.specs.declared.ways.Hidden as kept;
+ghost use Rattle.dh_meaning.specs.Ways.{behind_all, led_after, led_of, ways_of};
 ghost use Rattle.dh_ways.specs.CutStands.{HasFewWays};
 ghost use Rattle.dh_ways.specs.Kept.{Led};
-ghost use Rattle.dh_ways.specs.Linked.{way_there};
-ghost use Rattle.dh_ways.specs.Traced.{IsLinkOf, IsLinked, LeadsNext, MayFollow, led_in, linked_on};
-ghost use Rattle.dh_ways.specs.Seen.{led_seen, way_seen};
-ghost use Rattle.dh_ways.specs.Stands.{all_own, hidden_of_program, own_of, stand_seen, standing_seen};
+ghost use Rattle.dh_ways.specs.Traced.{AddsWay, AddsWays, AreWaysOf, IsFirstOr, IsLinkBehind, IsLinkOf, IsLinked, LinksBehind, MayFollow, led_in, linked_on};
+ghost use Rattle.dh_ways.specs.Seen.{led_seen};
+ghost use Rattle.dh_ways.specs.Stands.{stand_seen, standing_seen};
 
 use crate::hiding::{append, entity_behind, first_hidden, own_hidden};
 use crate::linking::{Link, WayRef};
@@ -64,8 +62,7 @@ fn first_of(hidden: &[Hidden]) -> Option<Hidden>
 
 /// The first of these variables and of others behind them, of which the first is known.
 fn first_or(hidden: &[Hidden], behind: Option<Hidden>) -> Option<Hidden>
-    ensures { (others : List kept.Hidden) → behind ≡ slice_get others 0
-        → result ≡ slice_get (hidden.now ++ others) 0 }
+    ensures { IsFirstOr hidden.now behind result }
 {
     match first_of(hidden) {
         Some(one) => Some(one),
@@ -100,9 +97,7 @@ fn link_behind(
     parent: &WayRef<'_>,
     place: usize,
 ) -> Link
-    ensures { (before : List Led) → place < length before
-        → Some parent.now ≡ way_there before (Some place)
-        → IsLinkOf before (standing_seen view.now) own made (Some (way_seen parent.now)) result }
+    ensures { IsLinkBehind place parent.now (standing_seen view.now) own made result }
 {
     let first = first_or(own.as_slice(), parent.first_hidden());
     let own_depth = depth_where(moves(view.form), view.depth);
@@ -146,11 +141,8 @@ fn lead_on(
     parent: &WayRef<'_>,
     place: usize,
 ) -> Result<Option<Link>, NoMemory>
-    ensures { IfOk result (λ link. (before : List Led) → place < length before
-        → Some parent.now ≡ way_there before (Some place)
-        → IsLinked before (standing_seen view.now) own
-        (λ first. led_of first (standing_seen view.now) (Some parent.now.view.shape)
-        (Some (way_seen parent.now))) link) }
+    ensures { IfOk result
+        (λ link. LinksBehind place parent.now (standing_seen view.now) own link) }
 {
     let above = parent.view();
     let made = maps.map_to(alloc, view.form, &above.shape)?;
@@ -220,9 +212,8 @@ fn push_way(
     view: &Stood<'_>,
 ) -> Result<u32, NoMemory>
     requires few { first + length (offsets_of (stand_seen view.now).form) < 4294967296 }
-    ensures { IfOk result (λ next. LeadsNext (memories_of (program_seen typed.now))
-        (map led_seen ways.old) (map led_seen ways.new) first next (standing_seen view.now)
-        × (hidden.new ≡ hidden.old ++ own_of first (stand_seen view.now))) }
+    ensures { IfOk result (λ next.
+        AddsWay typed.now ways.old ways.new hidden.old hidden.new first next view.now) }
 {
     let own = own_hidden(alloc, first, view)?;
     append(hidden, own.as_slice())?;
@@ -242,10 +233,8 @@ fn push_ways(
     stood: &[Stood<'_>],
 ) -> Result<(), NoMemory>
     requires few { behind_all first (map standing_seen stood.now) < 4294967296 }
-    ensures { OnOk result ((map led_seen ways.new
-        ≡ led_behind (memories_of (program_seen typed.now)) first
-        (map led_seen ways.old) (map standing_seen stood.now))
-        × (hidden.new ≡ hidden.old ++ all_own first (map stand_seen stood.now))) }
+    ensures { OnOk result
+        (AddsWays typed.now ways.old ways.new hidden.old hidden.new first stood.now) }
 {
     let mut maps = LastMaps::new();
     let mut next = first;
@@ -271,8 +260,7 @@ fn room_for(typed: &Typed, views: usize) -> usize {
 /// `NoMemory`, the one error; no clause tells when.
 pub fn ways_and_hidden(alloc: Global, typed: &Typed) -> Result<(WayTable, Items<Hidden>), NoMemory>
     requires few { HasFewWays (program_seen typed.now) }
-    ensures { IfOk result (λ made. (map led_seen made.0 ≡ ways_of (program_seen typed.now))
-        × (made.1 ≡ hidden_of_program (program_seen typed.now))) }
+    ensures { IfOk result (λ made. AreWaysOf (program_seen typed.now) made.0 made.1) }
 {
     let stood = standing_in(alloc, typed)?;
     let first = first_hidden(typed);

@@ -6,7 +6,7 @@ use Rattle.std.proofs.lemmas.Result.{on_ok_weaker}
 use Rattle.dh_tree.specs.declared.trees.commands.Command.{Command}
 use Rattle.dh_tree.specs.Seen.{action_form_seen, action_seen, actions, groups, maybe_block_seen, part_seen}
 use Rattle.dh_tree.proofs.SeenActions.{assign_is, call_is, for_at, if_is, let_memory_is, reduce_is, store_is, view_is}
-use Rattle.dh_meaning.specs.Bindings.{iterator_kind}
+use Rattle.dh_tree.specs.Kinds.{iterator_kind}
 use Rattle.dh_code.specs.Declarations.{declarations, declared_of, factors_inside, groups_declarations, other_declarations, part_declarations}
 use Rattle.dh_code.specs.Placed.{AreFew}
 use Rattle.dh_code.proofs.Declaring.{declares_as, declares_both, declares_for, declares_none}

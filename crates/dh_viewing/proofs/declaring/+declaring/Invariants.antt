@@ -1,6 +1,6 @@
 use Rattle.std.proofs.Common.{◌≡◌, ◌+◌}
-use Rattle.dh_views.proofs.DeclaredViews.{left_declares, all_declare}
-use Rattle.dh_views.proofs.declaring.+declaring.Given as goal
+use Rattle.dh_viewing.proofs.DeclaredViews.{left_declares, all_declare}
+use Rattle.dh_viewing.proofs.declaring.+declaring.Given as goal
 
 abbrev pub invariant-parts_declare-loop-part : goal.invariant-parts_declare-loop-part
 invariant-parts_declare-loop-part l = all_declare l.parts l.part-index ≡ all_declare l.parts 0

@@ -1,6 +1,6 @@
 use Rattle.std.proofs.Common.{◌+◌, ◌∙◌}
-use Rattle.dh_views.proofs.DeclaredViews.{declares_begin, declares_next, declares_found, declares_end}
-use Rattle.dh_views.proofs.declaring.+declaring.Goals as goal
+use Rattle.dh_viewing.proofs.DeclaredViews.{declares_begin, declares_next, declares_found, declares_end}
+use Rattle.dh_viewing.proofs.declaring.+declaring.Goals as goal
 
 pub parts_declare-loop-command-init : goal.parts_declare-loop-command-init
 parts_declare-loop-command-init t c =

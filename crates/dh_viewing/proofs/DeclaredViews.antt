@@ -1,20 +1,14 @@
 -- Whether lists of commands declare a view, as a walk over the code's lists finds it out: what is left of a
--- part, and the parts behind it. Where no view is declared, no rule on views is broken.
-use Rattle.std.proofs.Common.{◌≡◌, ℕ, ◌+◌, ◌<◌, ◌≤◌, ◌||◌, ◌++◌, Bool, true, false, List, [], ◌∷◌, Option, Result, Ok, Err, length, get_or, drop, map, refl, ap, sym, ◌∙◌}
-use Rattle.std.specs.Prelude.{IsErrAnd, OnOk, Vec}
+-- part, and the parts behind it.
+use Rattle.std.proofs.Common.{◌≡◌, ℕ, ◌+◌, ◌<◌, ◌≤◌, ◌||◌, ◌++◌, Bool, true, false, List, [], ◌∷◌, length, get_or, drop, map, refl, ap, sym, ◌∙◌}
+use Rattle.std.specs.Prelude.{Vec}
 use Rattle.std.specs.Global.{Global}
 use Rattle.std.proofs.lemmas.List.{drop_all}
 use Rattle.dh_base.proofs.ListItems.{at_item}
-use Rattle.dh_base.specs.declared.lists.NoMemory.{NoMemory}
-use Rattle.dh_tree.specs.declared.breaches.Breach.{Breach}
 use Rattle.dh_tree.specs.declared.trees.commands.Command.{Command}
-use Rattle.dh_tree.specs.LeastBreach.{least_of}
-use Rattle.dh_tree.specs.PlainTrees.{Program}
 use Rattle.dh_tree.specs.Seen.{action_seen, actions, groups, part_seen}
-use Rattle.dh_tree.specs.ViewBreaches.{view_breaches_of}
-use Rattle.dh_tree.specs.Views.{Viewing, groups_viewings, part_viewings, viewings, views_of}
-use Rattle.dh_viewing.proofs.NoViews.{without_views}
-use Rattle.dh_views.specs.Wanting.{DeclaresViews, FindsBreach, KeepsViews, is_any}
+use Rattle.dh_tree.specs.Views.{Viewing, groups_viewings, part_viewings, viewings}
+use Rattle.dh_viewing.specs.Judged.{is_any}
 
 pub any_both : (xs ys : List Viewing) → is_any (xs ++ ys) ≡ (is_any xs || is_any ys)
 any_both [] ys = refl
@@ -66,23 +60,6 @@ pub declares_end : (cs : List Command) (k : ℕ) (parts : List (Vec Command Glob
 declares_end cs k parts i l = ap (λ (xs : List Command). is_any (part_viewings (actions (map action_seen xs))) || all_declare parts i) (sym (drop_all k cs l))
 
 -- no view is declared
-none_declared : (vs : List Viewing) → is_any vs ≡ false → vs ≡ []
+pub none_declared : (vs : List Viewing) → is_any vs ≡ false → vs ≡ []
 none_declared [] e = refl
 none_declared (v ∷ vs) e = cc
-
-pub none_kept : (p : Program) (old : Option Breach) → views_of p ≡ [] → old ≡ least_of old (view_breaches_of p)
-none_kept p old none = ap (λ l. least_of old l) (sym (without_views p none))
-
-pub nothing_kept : (p : Program) (b : Bool) (old : Option Breach) → b ≡ is_any (views_of p) → b ≡ false → old ≡ least_of old (view_breaches_of p)
-nothing_kept p b old told e = none_kept p old (none_declared (views_of p) (sym told ∙ e))
-
--- one is: memory may be refused
-pub kept_or_refused : (p : Program) (b : Bool) (old new : Option Breach) (r : Result (Unit {0}) NoMemory) → b ≡ is_any (views_of p) → b ≡ true
-    → OnOk r (new ≡ least_of old (view_breaches_of p)) → KeepsViews p old new r
-kept_or_refused p b old new (Ok a) told e h = h
-kept_or_refused p b old new (Err x) told e h = sym told ∙ e
-
--- a refusal that is handed on
-pub refusal_told : (p : Program) (r : Result (Option Breach) NoMemory) (e : NoMemory) → IsErrAnd r (λ x. x ≡ e) → DeclaresViews p → FindsBreach p r
-refusal_told p (Ok first) e is h = absurd is
-refusal_told p (Err x) e is h = h

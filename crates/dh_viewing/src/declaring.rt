@@ -1,17 +1,17 @@
-//! Whether a program declares a view: the rules on views take memory, so that they are asked for only where
+//! Whether a program declares a view: what is told of views takes memory, so that it is asked for only where
 //! there is one.
 
 ghost use Rattle.std.specs.Prelude.{◌≡◌};
-ghost use Rattle.dh_tree.specs.Seen.{action_seen, all_parts_seen, maybe_block_seen};
-ghost use Rattle.dh_tree.specs.Views.{groups_viewings, other_viewings, viewings};
-ghost use Rattle.dh_views.specs.Wanting.{is_any};
+ghost use Rattle.dh_tree.specs.Seen.{action_seen, all_parts_seen, maybe_block_seen, program_seen};
+ghost use Rattle.dh_tree.specs.Views.{groups_viewings, other_viewings, viewings, views_of};
+ghost use Rattle.dh_viewing.specs.Judged.{is_any};
 
-use dh_tree::{Command, CommandForm};
+use dh_tree::{Command, CommandForm, Typed};
 
 /// Whether a command is a view's, or holds one.
 #[cycle(declaring)]
 #[tactic(auto, using(dh_tree::proofs::SeenActions::actions_are, crate::proofs::DeclaredViews::any_both))]
-pub(crate) fn declares(command: &Command) -> bool
+fn declares(command: &Command) -> bool
     ensures { result ≡ is_any (viewings (action_seen command.now)) }
 {
     match &command.form {
@@ -54,4 +54,15 @@ fn parts_declare(parts: &[Vec<Command>]) -> bool
         }
     }
     false
+}
+
+/// Whether a program declares one. Where none of its entities is a view, this is told at once.
+pub(crate) fn declares_view(typed: &Typed) -> bool
+    ensures { result ≡ is_any (views_of (program_seen typed.now)) }
+{
+    if typed.has_no_view() {
+        return false;
+    }
+    let tree = typed.tree();
+    declares(&tree.body)
 }
