@@ -130,6 +130,10 @@ abbrev pub aimed : Reach → (taken : List ℕ) → (row : ℕ) → (select : Op
 aimed r taken row select =
     record { access = r.access; memory = r.memory; indices = taken; steps = []; banks = r.banks; select = select; row = Some row }
 
+-- an access of a row at the new numbers, which stays one
+abbrev pub row_aimed : Around → Reach → (row : ℕ) → Reach
+row_aimed a r row = aimed r (all_taken a r) (new_number a row) (new_or_none a r.select)
+
 -- a row, and behind it the bank where that is wanted
 abbrev pub IsAim : (banked : Bool) → (row bank : Made) → (new : List Operation) → (row_number : ℕ) → (select : Option ℕ) → Type 0
 IsAim false row bank new number select = (new ≡ row.operations) × ((number ≡ row.value) × (select ≡ None))
@@ -187,7 +191,7 @@ pub record IsAimedByIndices (a : Around) (r : Reach) (is : List Operand) (old ne
 -- the access t is of the row of a bank that the access r leads to, behind its views by these indices
 abbrev pub IsAimed : Around → (r : Reach) → (row : Option ℕ) → List Operand → (old new : List Operation) → (t : Reach) → Type 0
 IsAimed a r None is old new t = IsAimedByIndices a r is old new t
-IsAimed a r (Some row) is old new t = (new ≡ old) × (t ≡ aimed r (all_taken a r) (new_number a row) (new_or_none a r.select))
+IsAimed a r (Some row) is old new t = (new ≡ old) × (t ≡ row_aimed a r row)
 
 -- a read or write is put down with this access, under this guard
 pub record IsAccessMade (a : Around) (guard : Option ℕ) (r : Reach) (old last : List Operation) (on : Option ℕ) (t : Reach) : Type 0 where

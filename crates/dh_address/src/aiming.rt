@@ -5,7 +5,7 @@ ghost use Rattle.std.specs.List.{AllByRecursion};
 ghost use Rattle.dh_tree.specs.Elements.{dims_at};
 ghost use Rattle.dh_tree.specs.Shapes.{IsDim, IsProgramTable};
 ghost use Rattle.dh_rows.specs.MadeOperations.{IsMade, IsSummed, constant_made, or_zero};
-ghost use Rattle.dh_address.specs.Pieces.{IsAim, IsAimed, IsAimedByIndices, IsIndexAim, IsSpreadOut, aimed, all_taken, is_banked, narrowed, new_number, new_or_none, select_width, waited};
+ghost use Rattle.dh_address.specs.Pieces.{IsAim, IsAimed, IsAimedByIndices, IsIndexAim, IsSpreadOut, aimed, is_banked, narrowed, row_aimed, select_width, waited};
 ghost use Rattle.dh_address.specs.SeenAround.{around_seen};
 
 use crate::literals::{LiteralPlace, constant_place};
@@ -152,10 +152,8 @@ fn aim_row(
     reach: &Reach,
     row: u64,
 ) -> Result<ApartReach, NoMemory>
-    ensures { IfOk result (λ t. t ≡ aimed reach.now
-        (all_taken (around_seen old.now known.now) reach.now)
-        (new_number (around_seen old.now known.now) row)
-        (new_or_none (around_seen old.now known.now) reach.now.select)) }
+    ensures { IfOk result
+        (λ t. t ≡ row_aimed (around_seen old.now known.now) reach.now row) }
 {
     let taken = known.taken(old.alloc, reach)?;
     let row = known.number(row);

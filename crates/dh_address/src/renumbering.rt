@@ -1,9 +1,9 @@
 //! The operations of a block so far: their numbers in the new plan, and the kinds of their values.
 
-ghost use Rattle.std.specs.Prelude.{◌≡◌, ◌-◌, ◌++◌, IfOk, OnOk, map, slice_index};
+ghost use Rattle.std.specs.Prelude.{◌≡◌, ◌-◌, ◌++◌, IfOk, OnOk};
 ghost use Rattle.dh_plan.specs.Ordered.{offsets_taken};
 ghost use Rattle.dh_plan.specs.PlanKinds.{kind_of_value};
-ghost use Rattle.dh_address.specs.Renumbered.{renumbered, maybe_renumbered};
+ghost use Rattle.dh_address.specs.Renumbered.{all_renumbered, maybe_renumbered, renumbered, taken_renumbered};
 
 use dh_base::{Items, NoMemory};
 use dh_plan::{Reach, ReachStep};
@@ -52,8 +52,7 @@ impl Renumbering {
 
     /// The new numbers of values.
     pub fn each(&self, alloc: Global, old: &[u64]) -> Result<Items<u64>, NoMemory>
-        ensures { IfOk result (λ new. new
-            ≡ map (λ v. renumbered self.now.first self.now.numbers v) old.now) }
+        ensures { IfOk result (λ new. new ≡ all_renumbered self.now old.now) }
     {
         let mut new = Items::new(alloc);
         for value in old {
@@ -64,8 +63,7 @@ impl Renumbering {
 
     /// Adds the new numbers of values.
     fn push_each(&self, new: &mut Items<u64>, old: &[u64]) -> Result<(), NoMemory>
-        ensures { OnOk result (new.new
-            ≡ new.old ++ map (λ v. renumbered self.now.first self.now.numbers v) old.now) }
+        ensures { OnOk result (new.new ≡ new.old ++ all_renumbered self.now old.now) }
     {
         for value in old {
             new.push(self.number(*value))?;
@@ -75,8 +73,8 @@ impl Renumbering {
 
     /// Adds those of offsets.
     fn push_offsets(&self, new: &mut Items<u64>, steps: &[ReachStep]) -> Result<(), NoMemory>
-        ensures { OnOk result (new.new ≡ new.old
-            ++ map (λ v. renumbered self.now.first self.now.numbers v) (offsets_taken steps.now)) }
+        ensures { OnOk result
+            (new.new ≡ new.old ++ all_renumbered self.now (offsets_taken steps.now)) }
     {
         for step in steps {
             self.push_each(new, step.offsets.as_slice())?;
@@ -86,10 +84,7 @@ impl Renumbering {
 
     /// The new numbers of the indices of an access and of the offsets of its views.
     pub fn taken(&self, alloc: Global, reach: &Reach) -> Result<Items<u64>, NoMemory>
-        ensures { IfOk result (λ new. new
-            ≡ map (λ v. renumbered self.now.first self.now.numbers v) reach.now.indices
-            ++ map (λ v. renumbered self.now.first self.now.numbers v)
-            (offsets_taken reach.now.steps)) }
+        ensures { IfOk result (λ new. new ≡ taken_renumbered self.now reach.now) }
     {
         let mut new = self.each(alloc, reach.indices.as_slice())?;
         self.push_offsets(&mut new, reach.steps.as_slice())?;

@@ -1,5 +1,6 @@
 -- `interpret FILE DATA`: how the checked run of a program stands after a number of logical steps.
 use Rattle.std.specs.Prelude.{◌≡◌, ℕ, Bool, List, None}
+use Rattle.dh_base.specs.Outside.{FilesSeen}
 use Rattle.dh_base.specs.declared.statuses.Status.{Status}
 use Rattle.dh_tree.specs.Memories.{table_of}
 use Rattle.dh_tree.specs.PlainTrees.{Program}
@@ -8,7 +9,8 @@ use Rattle.dh_meaning.specs.Runs.{RunState, run_state}
 use Rattle.dh_data.specs.Reports.{report_text}
 use Rattle.dh_data.specs.declared.reports.Ending.{Ending}
 use Rattle.dh_app.specs.Asking.{interpreted}
-use Rattle.dh_app.specs.Inputs.{InputsSeen, OnlyReads}
+use Rattle.dh_app.specs.Engines.{EngineSeen}
+use Rattle.dh_app.specs.Inputs.{HasBegun, InputsSeen, OnlyReads, inputs_of}
 use Rattle.dh_app.specs.Replies.{ReplySeen, Says}
 use Rattle.dh_app.specs.Reporting.{status_of}
 use Rattle.dh_app.specs.Sources.{ProgramStage, DataStage}
@@ -33,6 +35,11 @@ pub record IsStandingReport (p : Program) (memories : List (List ℕ)) (steps : 
 abbrev pub InterpretsData : (old new : InputsSeen) → (data_ : List ℕ) → Program → (steps : ℕ) → ReplySeen → Type 0
 InterpretsData old new data_ p steps r =
     DataStage old new data_ (table_of p) (λ memories answer. OnlyReads old new 2 × Says (IsStandingReport p memories steps) answer) r
+
+-- so it is from wherever the first of a job's files was read, whatever engine stands beside them
+abbrev pub InterpretsOnceRead : (files files_after : FilesSeen) → (data_ : List ℕ) → Program → (steps : ℕ) → ReplySeen → Type 0
+InterpretsOnceRead files files_after data_ p steps r =
+    (first : FilesSeen) (engine : EngineSeen) → HasBegun first files → InterpretsData (inputs_of first engine) (inputs_of files_after engine) data_ p steps r
 
 -- the file of the program is read, then the file of the data, and how the run stands is the reply
 abbrev pub InterpretsFiles : (old new : InputsSeen) → (file data_ : List ℕ) → (steps : ℕ) → (unchecked : Bool) → ReplySeen → Type 0

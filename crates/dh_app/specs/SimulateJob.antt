@@ -1,5 +1,6 @@
 -- `simulate FILE DATA`: what an engine answers of the net of a program.
 use Rattle.std.specs.Prelude.{◌≡◌, ℕ, ◌⊎◌, Bool, true, List, [], ◌∷◌, Some}
+use Rattle.dh_base.specs.Outside.{FilesSeen}
 use Rattle.dh_base.specs.declared.statuses.Status.{Status}
 use Rattle.dh_tree.specs.Memories.{table_of}
 use Rattle.dh_tree.specs.PlainTrees.{Program}
@@ -10,7 +11,7 @@ use Rattle.dh_data.specs.Reports.{report_text}
 use Rattle.dh_data.specs.declared.reports.Ending.{Ending}
 use Rattle.dh_app.specs.Asking.{checked}
 use Rattle.dh_app.specs.Engines.{EngineSeen, Asks}
-use Rattle.dh_app.specs.Inputs.{InputsSeen, HasRead}
+use Rattle.dh_app.specs.Inputs.{HasBegun, HasRead, InputsSeen, inputs_of}
 use Rattle.dh_app.specs.NetStage.{NetStage}
 use Rattle.dh_app.specs.Replies.{ReplySeen, replied, unread, no_memory}
 use Rattle.dh_app.specs.Reporting.{status_of}
@@ -44,6 +45,10 @@ SimulatesData old new data_ clocks p r =
 -- an accepted program is compiled, then its data is read, and the engine runs the net
 abbrev pub SimulatesProgram : (old new : InputsSeen) → (data_ : List ℕ) → (clocks : ℕ) → Program → ReplySeen → Type 0
 SimulatesProgram old new data_ clocks p r = NetStage old new p (λ net. SimulatesData old new data_ clocks p) r
+
+-- so it is from wherever the first of a job's files was read
+abbrev pub SimulatesOnceRead : (old new : InputsSeen) → (data_ : List ℕ) → (clocks : ℕ) → Program → ReplySeen → Type 0
+SimulatesOnceRead old new data_ clocks p r = (first : FilesSeen) → HasBegun first old.files → SimulatesProgram (inputs_of first old.engine) new data_ clocks p r
 
 -- the file of the program is read, then the file of the data, and the engine's answer is the reply
 abbrev pub SimulatesFiles : (old new : InputsSeen) → (file data_ : List ℕ) → (clocks : ℕ) → ReplySeen → Type 0

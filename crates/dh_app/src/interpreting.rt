@@ -1,15 +1,14 @@
 //! `interpret FILE DATA`: the checked run of a program for so many steps, and its report.
 
-ghost use Rattle.std.specs.Prelude.{◌≡◌, IfOk};
-ghost use Rattle.dh_base.specs.Outside.{FilesSeen, KeepsFiles};
+ghost use Rattle.std.specs.Prelude.{IfOk};
+ghost use Rattle.dh_base.specs.Outside.{KeepsFiles};
 ghost use Rattle.dh_tree.specs.Tables.{Fits};
 ghost use Rattle.dh_tree.specs.Memories.{table_of};
 ghost use Rattle.dh_tree.specs.Seen.{program_seen};
 ghost use Rattle.dh_tree.specs.Ready.{IsReady};
 ghost use Rattle.dh_sem.specs.Runs.{StandsAt};
-ghost use Rattle.dh_app.specs.Engines.{EngineSeen};
-ghost use Rattle.dh_app.specs.Inputs.{HasBegun, OverInputs, WithAnyEngine};
-ghost use Rattle.dh_app.specs.InterpretJob.{IsStandingReport, InterpretsData, InterpretsFiles};
+ghost use Rattle.dh_app.specs.Inputs.{WithAnyEngine};
+ghost use Rattle.dh_app.specs.InterpretJob.{InterpretsFiles, InterpretsOnceRead, IsStandingReport};
 ghost use Rattle.dh_app.specs.Replies.{Says, reply_seen};
 
 use crate::replies::{Reply, leave};
@@ -69,9 +68,8 @@ fn interpret_typed<F: Files>(
 ) -> Reply
     requires ready { IsReady (program_seen typed.now) }
     ensures files { KeepsFiles (F.seen files.old) (F.seen files.new) }
-    ensures comes { (first : FilesSeen) (engine : EngineSeen) → HasBegun first (F.seen files.old)
-        → OverInputs first engine (F.seen files.new) engine (λ old new.
-        InterpretsData old new data_.now (program_seen typed.now) steps (reply_seen result)) }
+    ensures comes { InterpretsOnceRead (F.seen files.old) (F.seen files.new) data_.now
+        (program_seen typed.now) steps (reply_seen result) }
 {
     ready_programs_have_tables();
     match read_memories(alloc, data_, typed.memories(), files) {

@@ -1,15 +1,15 @@
 //! `simulate FILE DATA [--clocks N]`: what the engine answers of the net of a program, and its report.
 
 ghost use Rattle.std.specs.Prelude.{◌≡◌, [], ◌∷◌, IfOk};
-ghost use Rattle.dh_base.specs.Outside.{FilesSeen, KeepsFiles};
+ghost use Rattle.dh_base.specs.Outside.{KeepsFiles};
 ghost use Rattle.dh_tree.specs.Seen.{program_seen};
 ghost use Rattle.dh_tree.specs.Shapes.{IsProgramTable};
 ghost use Rattle.dh_tree.specs.Tables.{Fits};
 ghost use Rattle.dh_net.specs.Valid.{IsValid};
-ghost use Rattle.dh_app.specs.Inputs.{HasBegun, OverInputs};
+ghost use Rattle.dh_app.specs.Inputs.{OverInputs};
 ghost use Rattle.dh_app.specs.Parts.{IsFirstReport, IsSingleAnswer, RunsAsPlayed};
 ghost use Rattle.dh_app.specs.Replies.{Says, reply_seen};
-ghost use Rattle.dh_app.specs.SimulateJob.{SimulatesProgram, SimulatesFiles};
+ghost use Rattle.dh_app.specs.SimulateJob.{SimulatesFiles, SimulatesOnceRead};
 
 use crate::compiling::net_of;
 use crate::engine::{Engine, Finish};
@@ -58,9 +58,9 @@ fn simulate_program<F: Files, E: Engine>(
     engine: &mut E,
 ) -> Reply
     ensures files { KeepsFiles (F.seen files.old) (F.seen files.new) }
-    ensures comes { (first : FilesSeen) → HasBegun first (F.seen files.old)
-        → OverInputs first (E.seen engine.old) (F.seen files.new) (E.seen engine.new) (λ old new.
-        SimulatesProgram old new data_.now clocks (program_seen accepted.now) (reply_seen result)) }
+    ensures comes { OverInputs (F.seen files.old) (E.seen engine.old)
+        (F.seen files.new) (E.seen engine.new) (λ old new. SimulatesOnceRead old new data_.now
+        clocks (program_seen accepted.now) (reply_seen result)) }
 {
     let net = match net_of(alloc, accepted) {
         Ok(net) => net,

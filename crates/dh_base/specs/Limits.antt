@@ -3,6 +3,10 @@ use Rattle.std.specs.Prelude.{ℕ, List, codes}
 use Rattle.dh_base.specs.declared.limits.Limit.{Limit}
 use Rattle.dh_base.specs.declared.limits.Limit.TheVariants as limit
 
+-- the most copies of one place, in the unrolled loops round it
+abbrev pub most_copies : ℕ
+most_copies = 256
+
 -- the greatest count that a limit allows
 abbrev pub greatest_of : Limit → ℕ
 greatest_of limit.Source = 1048576
@@ -13,7 +17,7 @@ greatest_of limit.Functions = 64
 greatest_of limit.Dimensions = 6
 greatest_of limit.Banks = 64
 greatest_of limit.Ports = 8
-greatest_of limit.Copies = 256
+greatest_of limit.Copies = most_copies
 greatest_of limit.Elements = 1048576
 greatest_of limit.Plan = 200000
 greatest_of limit.ListBytes = 65536

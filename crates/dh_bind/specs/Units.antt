@@ -16,6 +16,10 @@ counted_at counts clock = unwrap_or (tree.get nat_cmp counts clock) 0
 abbrev pub more_at : OperationForm → (clock q : ℕ) → ℕ
 more_at form clock q = if is_product form && (clock == q) then 1 else 0
 
+-- an operation of this form is counted at its clock, if it is a multiplication, and nothing else is
+abbrev pub CountsUnit : (old new : BTreeMap ℕ ℕ) → OperationForm → (clock : ℕ) → Type 0
+CountsUnit old new form clock = (q : ℕ) → counted_at new q ≡ counted_at old q + more_at form clock q
+
 -- these are behind the numbers that were there: for each multiplication how many stand before it in its clock
 pub record BlockUnits (os : List Operation) (clocks : List ℕ) (upto : ℕ) (old new : List ℕ) : Type 0 where
   pub units : List ℕ

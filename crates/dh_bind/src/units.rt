@@ -5,7 +5,7 @@ ghost use Rattle.dh_plan.specs.LegalSchedules.{is_product};
 ghost use Rattle.dh_plan.specs.Passes.{timing_seen};
 ghost use Rattle.dh_plan.specs.PlainPlans.{operation_count};
 ghost use Rattle.dh_plan.specs.SeenPlans.{plan_seen};
-ghost use Rattle.dh_bind.specs.Units.{AreCounted, BlockUnits, counted_at, more_at};
+ghost use Rattle.dh_bind.specs.Units.{AreCounted, BlockUnits, CountsUnit, counted_at};
 
 use dh_base::{Items, NoMemory};
 use dh_plan::{Operation, OperationForm, Plan, Schedule};
@@ -94,8 +94,7 @@ fn unit_for(
     requires { counted_at counts.old clock + 1 < 2 ^ 64 }
     ensures number { IfOk result
         (λ n. is_product operation.now.form ≡ true → n ≡ counted_at counts.old clock) }
-    ensures counted { OnOk result ((q : ℕ) → counted_at counts.new q
-        ≡ counted_at counts.old q + more_at operation.now.form clock q) }
+    ensures counted { OnOk result (CountsUnit counts.old counts.new operation.now.form clock) }
 {
     if multiplies(operation) {
         count_one(counts, clock)

@@ -10,7 +10,8 @@ use Rattle.dh_meaning.specs.Effects.{Begun, Variables}
 use Rattle.dh_meaning.specs.Paths.{Path}
 use Rattle.dh_meaning.specs.Ways.{Hidden, hidden_in, way_at}
 use Rattle.dh_meets.specs.Charges.{element_depends, entity_depends, form_depends, term_depends, terms_depend}
-use Rattle.dh_meets.specs.Sharing.{alike, alike_elements, alike_forms, all_alike, element_mentions, mentions, number_of_op, reassigned, same_kind, same_maybe_kind, terms_mention}
+use Rattle.dh_meets.specs.Sharing.{alike, alike_elements, alike_forms, all_alike, element_mentions, mentions, number_of_op, reassigned, same_maybe_kind, terms_mention}
+use Rattle.dh_tree.specs.Kinds.{same_kind}
 use Rattle.dh_meets.specs.SourceEvents.{Element, with_indices, in_row, SourceEvent, accesses, assigned}
 use Rattle.dh_sound.specs.SameKeys.{EachName, EachNameIn, EachNameOf, IsSettled}
 use Rattle.dh_sound.specs.Straight.{AreNamedTerms, IsNamedTerm}

@@ -21,7 +21,7 @@ use Rattle.dh_meaning.specs.Core.{CoreTerm}
 use Rattle.dh_meaning.specs.CoreOf.{Known, core_term, entity_number, extended, operation_of}
 use Rattle.dh_meaning.specs.Effects.{Begun, Variables, value_of}
 use Rattle.dh_meaning.specs.Paths.{Path}
-use Rattle.dh_code.specs.Made.{same_kind}
+use Rattle.dh_tree.specs.Kinds.{same_kind}
 use Rattle.dh_expressions.specs.Shown.{converted_shown, extended_shown, held_shown, is_kept, is_read_term, kind_written, lowest_bit}
 use Rattle.dh_blocks.specs.SoundTerms.{IsSound}
 use Rattle.dh_code.specs.Slots.{held_at}

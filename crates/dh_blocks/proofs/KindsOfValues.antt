@@ -24,7 +24,7 @@ use Rattle.dh_meaning.specs.Core.{CoreTerm}
 use Rattle.dh_meaning.specs.CoreOf.{Known, core_term, extended, operation_of}
 use Rattle.dh_meaning.specs.Effects.{Begun, Variables, bits_of, value_of}
 use Rattle.dh_meaning.specs.Paths.{Path}
-use Rattle.dh_code.specs.Made.{same_kind}
+use Rattle.dh_tree.specs.Kinds.{same_kind}
 use Rattle.dh_expressions.specs.Shown.{is_kept, is_read_term, kind_written}
 use Rattle.dh_blocks.specs.SoundTerms.{GivesKind, IsSound}
 

@@ -10,7 +10,7 @@ use Rattle.dh_tree.specs.PlainTrees as plain
 use Rattle.dh_meaning.specs.Bindings.{kind_found}
 use Rattle.dh_code.specs.declared.places.Held.{Held}
 use Rattle.dh_code.specs.Extended.{extension_of}
-use Rattle.dh_code.specs.Made.{same_kind}
+use Rattle.dh_tree.specs.Kinds.{same_kind}
 use Rattle.dh_code.specs.Slots.{held_at}
 use Rattle.dh_expressions.specs.declared.drafts.Draft.{Draft}
 use Rattle.dh_expressions.specs.declared.scenes.Lane.{Lane}

@@ -1,9 +1,11 @@
 -- The report of a run: one line of compact JSON (this project's format of reports).
-use Rattle.std.specs.Prelude.{ℕ, zero, suc, take, drop, ◌*◌, ◌^◌, ℤ, pos, ◌-ℤ◌, List, [], ◌∷◌, ◌++◌, Bool, true, false, if◌then◌else◌, nat_lt, codes, decimal, slice_get, get_or, Option, Some, None, option_map, unwrap_or}
+use Rattle.std.specs.Prelude.{◌≡◌, ℕ, zero, suc, take, drop, ◌*◌, ◌^◌, ℤ, pos, ◌-ℤ◌, List, [], ◌∷◌, ◌++◌, Bool, true, false, if◌then◌else◌, nat_lt, codes, decimal, slice_get, get_or, Option, Some, None, option_map, unwrap_or, String}
+use Rattle.std.specs.declared.alloc.Global.{Global}
 use Rattle.serde_json.specs.Data.{Data, number, unsigned, boolean, string, array, object, Members, no_members, member, put}
 use Rattle.serde_json.specs.Find.{of_integer}
-use Rattle.serde_json.specs.View.{items_of}
+use Rattle.serde_json.specs.View.{items_of, members_view}
 use Rattle.serde_json.specs.Written.{compact_text}
+use Rattle.serde_json.specs.declared.value.Value.{Value}
 use Rattle.dh_base.specs.declared.outcomes.FaultKind.{FaultKind}
 use Rattle.dh_base.specs.declared.outcomes.FaultKind.TheVariants as fault
 use Rattle.dh_base.specs.declared.outcomes.Outcome.{Outcome}
@@ -61,6 +63,14 @@ outside_data [] ms found = found
 outside_data (e ∷ es) [] found = found
 outside_data (e ∷ es) (m ∷ ms) found = outside_data es ms (with_outside e m found)
 
+-- the members of all outside memories
+abbrev pub memories_data : List MemEntry → List (List ℕ) → Data
+memories_data table memories = object (outside_data table memories no_members)
+
+-- the member of one memory is put among others, if it is outside
+abbrev pub PutsMemory : MemEntry → List ℕ → (old new : List (String Global × Value)) → Type 0
+PutsMemory e m old new = members_view new ≡ with_outside e m (members_view old)
+
 -- ---- outcomes
 
 abbrev pub fault_name : FaultKind → List ℕ
@@ -85,14 +95,17 @@ abbrev pub clocks_first : Option ℕ → Members → Members
 clocks_first None ms = ms
 clocks_first (Some clocks) ms = member (codes "clocks") (number (unsigned clocks)) ms
 
--- how a run ended, with the contents of its memories
+-- how a run stood, with the contents of its memories
 abbrev pub of_run : Data → (outcome : List ℕ) → (steps : ℕ) → Members
 of_run memories outcome steps =
     member (codes "memories") memories (member (codes "outcome") (string outcome) (member (codes "steps") (number (unsigned steps)) no_members))
 
+abbrev pub run_data : (clocks : Option ℕ) → Data → (outcome : List ℕ) → (steps : ℕ) → Data
+run_data clocks memories outcome steps = object (clocks_first clocks (of_run memories outcome steps))
+
+-- the same of what a table and an ending tell
 abbrev pub report_data : List MemEntry → List (List ℕ) → Ending → Data
-report_data table memories ending =
-    object (clocks_first ending.clocks (of_run (object (outside_data table memories no_members)) (outcome_text table ending.outcome) ending.steps))
+report_data table memories ending = run_data ending.clocks (memories_data table memories) (outcome_text table ending.outcome) ending.steps
 
 -- with the end of the line
 abbrev pub report_text : List MemEntry → List (List ℕ) → Ending → List ℕ

@@ -2,14 +2,13 @@
 
 ghost use Rattle.std.specs.Prelude.{◌≡◌, ◌<◌, ◌≤◌, ◌^◌, false, [], map, length, min, ◌-◌, IfOk, IsOk, OnOk, string_bytes, Some, None};
 ghost use Rattle.std.specs.List.{AllByRecursion};
-ghost use Rattle.serde_json.specs.Data.{object, no_members};
-ghost use Rattle.serde_json.specs.View.{view, members_view};
+ghost use Rattle.serde_json.specs.View.{view};
 ghost use Rattle.dh_tree.specs.Shapes.{IsProgramTable};
 ghost use Rattle.dh_tree.specs.Tables.{FitsEntry, Fits, elements_of};
 ghost use Rattle.dh_value.specs.Words.{IsInteger, width_of};
 ghost use Rattle.dh_value.specs.declared.kinds.Kind.TheVariants as kind;
 ghost use Rattle.dh_data.specs.Reading.{IsHeld};
-ghost use Rattle.dh_data.specs.Reports.{report_text, report_data, clocks_first, of_run, outside_data, with_outside, memory_data, nested_data, element_data, number_of, is_signed, outcome_text as outcome_bytes, name_at, fault_name as fault_bytes};
+ghost use Rattle.dh_data.specs.Reports.{PutsMemory, report_text, report_data, run_data, memories_data, memory_data, nested_data, element_data, number_of, is_signed, outcome_text as outcome_bytes, name_at, fault_name as fault_bytes};
 
 use dh_base::{FaultKind, NoMemory, Outcome, Place};
 use dh_tree::{Dim, Kind, MemEntry, MemTable, Memories};
@@ -73,9 +72,8 @@ fn counted_run(
     outcome: String,
     steps: u64,
 ) -> Result<Value, AllocError>
-    ensures { IfOk result (λ v. view v
-        ≡ object (clocks_first (Some clocks)
-        (of_run (view memories) (string_bytes outcome) steps))) }
+    ensures { IfOk result
+        (λ v. view v ≡ run_data (Some clocks) (view memories) (string_bytes outcome) steps) }
 {
     json!(in alloc; {
         "clocks": clocks,
@@ -92,8 +90,8 @@ fn uncounted_run(
     outcome: String,
     steps: u64,
 ) -> Result<Value, AllocError>
-    ensures { IfOk result (λ v. view v
-        ≡ object (clocks_first None (of_run (view memories) (string_bytes outcome) steps))) }
+    ensures { IfOk result
+        (λ v. view v ≡ run_data None (view memories) (string_bytes outcome) steps) }
 {
     json!(in alloc; {
         "memories": memories,
@@ -109,8 +107,8 @@ fn memories_value(
 ) -> Result<Value, AllocError>
     requires table { AllByRecursion IsHeld entries.now }
     requires fits { Fits entries.now (map (λ v. v.items) lists.now) }
-    ensures { IfOk result (λ v. view v
-        ≡ object (outside_data entries.now (map (λ l. l.items) lists.now) no_members)) }
+    ensures { IfOk result
+        (λ v. view v ≡ memories_data entries.now (map (λ l. l.items) lists.now)) }
 {
     let mut members = Map::new(alloc);
     for (i, entry) in entries.iter().enumerate() {
@@ -128,8 +126,8 @@ fn put_memory(
 ) -> Result<(), AllocError>
     requires entry { IsHeld entry.now }
     requires fits { FitsEntry entry.now values.now }
-    ensures put { OnOk result (members_view members.new.entries
-        ≡ with_outside entry.now values.now (members_view members.old.entries)) }
+    ensures put { OnOk result
+        (PutsMemory entry.now values.now members.old.entries members.new.entries) }
     ensures local { entry.now.outside ≡ false → IsOk result }
 {
     if !entry.outside {

@@ -42,7 +42,7 @@ use Rattle.dh_expressions.specs.Copying.{AreNone, DoneBy, HasScopes}
 use Rattle.dh_expressions.specs.Levels.{last_number, path_at}
 pub use Rattle.dh_expressions.specs.Named.{known_in}
 use Rattle.dh_expressions.specs.Named.{first_view, number_of_parent}
-use Rattle.dh_expressions.specs.Noted.{given_in, touched_in}
+use Rattle.dh_expressions.specs.Noted.{given_by, given_in, touched_in}
 use Rattle.dh_expressions.specs.Standings.{IsTouched, Standing, standing_at}
 use Rattle.dh_expressions.specs.Shown.{guard_of, is_kept, kind_written, register_at, variable_shown}
 
@@ -203,6 +203,10 @@ abbrev pub source_at : (share : Option (Option ℕ)) → (number path leader : �
 source_at None number path leader = None
 source_at (Some None) number path leader = Some (number, leader)
 source_at (Some (Some earlier)) number path leader = Some (earlier, path)
+
+-- what a read gives that was made before, by the first path with its key or by the access that it shares
+abbrev pub given_before : Scene → Accesses → (number path leader : ℕ) → Option ℕ
+given_before scene a number path leader = given_by a (source_at (slice_get scene.shares.now number) number path leader)
 
 -- that one is done and means the same
 abbrev pub SourceMeans : Reads → Option (ℕ × ℕ) → Word → Type 0

@@ -53,3 +53,7 @@ spread_level factor l = record { entity = l.entity; factor = l.factor; stride = 
 abbrev pub levels_inside : List Level → (entity : Option ℕ) → (factor : ℕ) → List Level
 levels_inside levels entity factor =
     if nat_le factor 1 then levels else map (spread_level factor) levels ++ record { entity = entity; factor = factor; stride = 1 } ∷ []
+
+-- how many paths there are inside a loop of so many copies, of so many outside it
+abbrev pub count_inside : (count factor : ℕ) → ℕ
+count_inside count factor = if nat_le factor 1 then count else min (count * factor) (2 ^ 64 - 1)

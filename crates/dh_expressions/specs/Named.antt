@@ -83,7 +83,11 @@ abbrev pub banks_reached : Option Way → BankSet → (bank place : ℕ) → Lis
 banks_reached None s bank place = (bank, place) ∷ []
 banks_reached (Some w) s bank place = banks_below s place 64
 
+-- those that may be reached from a bank of what a name stands for
+abbrev pub named_banks : Scene → Ref → (bank place : ℕ) → List (ℕ × ℕ)
+named_banks scene r bank place = banks_reached (way_of (known_in scene) r) (banks_seen scene r bank) bank place
+
 -- those of an access that reaches a bank of what it names
 abbrev pub banks_told : Scene → TermForm → (bank place : ℕ) → List (ℕ × ℕ)
-banks_told scene (accessed r indices) bank place = banks_reached (way_of (known_in scene) r) (banks_seen scene r bank) bank place
+banks_told scene (accessed r indices) bank place = named_banks scene r bank place
 banks_told scene form bank place = (bank, place) ∷ []

@@ -11,7 +11,7 @@ use Rattle.dh_tree.specs.PlainTrees as plain
 use Rattle.dh_meaning.specs.Bindings.{kind_or_first}
 use Rattle.dh_code.specs.declared.places.Held.{Held}
 use Rattle.dh_code.specs.Extended.{extension_of}
-use Rattle.dh_code.specs.Made.{same_kind}
+use Rattle.dh_tree.specs.Kinds.{same_kind}
 use Rattle.dh_plan.specs.Blocks.{register_word}
 use Rattle.dh_expressions.specs.declared.scenes.Lane.{Lane}
 use Rattle.dh_expressions.specs.Drafted.{Step, shown}

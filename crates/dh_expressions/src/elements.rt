@@ -2,17 +2,15 @@
 //! out of range, and behind it the read or write. A read that an earlier path or access has made
 //! is found again.
 
-ghost use Rattle.std.specs.Prelude.{◌≡◌, ◌<◌, ◌++◌, ◌∷◌, [], length, slice_get, if◌then◌else◌, IfOk, OnOk};
+ghost use Rattle.std.specs.Prelude.{◌≡◌, ◌<◌, ◌++◌, ◌∷◌, [], length, if◌then◌else◌, IfOk, OnOk};
 ghost use Rattle.dh_plan.specs.declared.operations.OperationForm.TheVariants.{Probe, Write};
 ghost use Rattle.dh_tree.specs.Seen.{form_seen, term_seen};
 ghost use Rattle.dh_tree.specs.Shapes.{most_banks};
 ghost use Rattle.dh_viewing.specs.ReachedBanks.{is_in};
 ghost use Rattle.dh_expressions.specs.Drafted.{Pushes};
-ghost use Rattle.dh_expressions.specs.Evaluated.{lane_guard, source_at};
+ghost use Rattle.dh_expressions.specs.Evaluated.{given_before, lane_guard};
 ghost use Rattle.dh_expressions.specs.MadeTerms.{MadeRead, MadeWrite};
-ghost use Rattle.dh_expressions.specs.Named.{banks_below, banks_reached, banks_seen, banks_told, known_in};
-ghost use Rattle.dh_expressions.specs.Noted.{given_by};
-ghost use Rattle.dh_meaning.specs.CoreOf.{way_of};
+ghost use Rattle.dh_expressions.specs.Named.{banks_below, banks_told, named_banks};
 ghost use Rattle.dh_expressions.specs.Reaching.{Finds, ReadsAt, StoresAt, copy_banks, reach_told};
 
 use crate::accesses::{Accesses, copy_of, fault_of, give, given_at, touch};
@@ -99,8 +97,7 @@ fn banks_named(
     bank: u32,
     place: u32,
 ) -> Result<Items<(u32, u32)>, NoMemory>
-    ensures { IfOk result (λ banks. banks ≡ banks_reached (way_of (known_in scene.now) of.now)
-        (banks_seen scene.now of.now bank) bank place) }
+    ensures { IfOk result (λ banks. banks ≡ named_banks scene.now of.now bank place) }
 {
     match way_in(scene, of) {
         Some(_) => all_banks(scene.alloc, banks_behind(scene, of, bank), place),
@@ -201,8 +198,7 @@ fn made_before(
     path: u64,
     leader: u64,
 ) -> Option<u64>
-    ensures { result ≡ given_by accesses.now (source_at (slice_get scene.now.shares.now number)
-        number path leader) }
+    ensures { result ≡ given_before scene.now accesses.now number path leader }
 {
     match scene.shares.get(number as usize) {
         Some(Some(earlier)) => given_at(accesses, *earlier, path),

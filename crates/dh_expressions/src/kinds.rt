@@ -8,7 +8,7 @@ ghost use Rattle.dh_meaning.specs.Bindings.{kind_or_first};
 ghost use Rattle.dh_meaning.specs.CoreOf.{entity_number};
 ghost use Rattle.dh_meaning.specs.Effects.{bits_of};
 ghost use Rattle.dh_code.specs.Extended.{extension_of};
-ghost use Rattle.dh_code.specs.Made.{same_kind};
+ghost use Rattle.dh_tree.specs.Kinds.{same_kind};
 ghost use Rattle.dh_tree.specs.Seen.{term_seen};
 ghost use Rattle.dh_expressions.specs.Numbers.{narrowed};
 ghost use Rattle.dh_expressions.specs.Shown.{is_read_term};

@@ -1,11 +1,10 @@
 //! The views on the way of an access to its memory, with the values of their offsets.
 
 ghost use Rattle.std.specs.Prelude.{◌≡◌, ◌≤◌, ◌++◌, ◌∷◌, [], length, map, min, take, drop, IfOk, OnOk};
-ghost use Rattle.dh_meaning.specs.Ways.{step_of};
 ghost use Rattle.dh_ways.specs.Seen.{way_seen};
-ghost use Rattle.dh_expressions.specs.Evaluated.{PassesWay, ShowsSteps, steps_told};
+ghost use Rattle.dh_expressions.specs.Evaluated.{PassesWay, ShowsSteps};
 ghost use Rattle.dh_expressions.specs.MadeTerms.{MadePassing, MadeSteps};
-ghost use Rattle.dh_expressions.specs.Passing.{AddsView};
+ghost use Rattle.dh_expressions.specs.Passing.{AddsView, AddsViews, way_steps, with_steps};
 
 use crate::drafts::Draft;
 use crate::elements::Aim;
@@ -85,8 +84,8 @@ fn add_views(
     links: &[&ViewMap],
     values: &[u64],
 ) -> Result<(), NoMemory>
-    ensures { OnOk result (steps.new ≡ steps.old ++ steps_told scene.now.through.now first (map
-        step_of (map (λ v. v.now) links.now)) values.now) }
+    ensures { OnOk result
+        (AddsViews scene.now first (map (λ v. v.now) links.now) values.now steps.old steps.new) }
 {
     let mut rest = values;
     let mut number = first;
@@ -106,8 +105,8 @@ fn steps_on(
     way: &WayRef<'_>,
     values: &[u64],
 ) -> Result<Items<ReachStep>, NoMemory>
-    ensures { IfOk result (λ steps. steps ≡ steps_told scene.now.through.now first (way_seen
-        way.now).steps values.now) }
+    ensures { IfOk result
+        (λ steps. steps ≡ way_steps scene.now first (way_seen way.now) values.now) }
 {
     let links = way.views(scene.alloc)?;
     let mut steps = Items::new(scene.alloc);
@@ -136,12 +135,7 @@ fn push_steps(
 
 /// Has an access go through these views.
 fn set_steps(aim: &mut Aim, steps: Items<ReachStep>)
-    ensures { aim.new ≡ record {
-      indices = aim.old.indices;
-      steps = steps;
-      row = aim.old.row;
-      number = aim.old.number;
-    } }
+    ensures { aim.new ≡ with_steps aim.old steps }
 {
     aim.steps = steps;
 }

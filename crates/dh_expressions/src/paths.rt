@@ -1,8 +1,8 @@
 //! The paths inside loops that stand one in the other: a path goes by its number among all of
 //! them in ascending order, and no list of paths is ever made.
 
-ghost use Rattle.std.specs.Prelude.{◌≡◌, ◌*◌, ◌-◌, ◌^◌, [], min, map, IfOk, nat_le, if◌then◌else◌};
-ghost use Rattle.dh_expressions.specs.Levels.{copy_number, counted, last_number, leader_number, levels_inside, part_number, rank_number, spread_level};
+ghost use Rattle.std.specs.Prelude.{◌≡◌, ◌-◌, ◌^◌, [], min, IfOk};
+ghost use Rattle.dh_expressions.specs.Levels.{copy_number, count_inside, counted, last_number, leader_number, levels_inside, part_number, rank_number, spread_level};
 
 use dh_base::NoMemory;
 use std::alloc::Global;
@@ -58,8 +58,7 @@ pub fn inside(
 ) -> Result<Paths, NoMemory>
     ensures levels { IfOk result (λ r. r.levels.items ≡ levels_inside outer.now.levels.items
         entity factor) }
-    ensures count { IfOk result (λ r. r.count ≡ (if nat_le factor 1 then outer.now.count else min
-        (outer.now.count * factor) (2 ^ 64 - 1))) }
+    ensures count { IfOk result (λ r. r.count ≡ count_inside outer.now.count factor) }
 {
     let mut levels = Vec::new(alloc);
     if factor <= 1 {

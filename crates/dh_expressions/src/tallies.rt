@@ -1,8 +1,8 @@
 //! How the copies of an access are counted, path by path: the place of each among those on its banks.
 
-ghost use Rattle.std.specs.Prelude.{◌≡◌, ◌-◌, ◌+◌, ◌^◌, ◌==◌, [], ℕ, min, if◌then◌else◌, IfOk, OnOk};
-ghost use Rattle.dh_events.specs.Tables.{numbered, with_number};
-ghost use Rattle.dh_expressions.specs.Counting.{PlacesNext, tally_in, tally_with};
+ghost use Rattle.std.specs.Prelude.{◌≡◌, ◌==◌, [], if◌then◌else◌, IfOk, OnOk};
+ghost use Rattle.dh_events.specs.Tables.{numbered};
+ghost use Rattle.dh_expressions.specs.Counting.{PlacesNext, numbers_with, tally_in, tally_with};
 
 use crate::kinds::narrow;
 use dh_base::NoMemory;
@@ -90,8 +90,8 @@ fn count_leader(
     bank: u32,
     count: usize,
 ) -> Result<(), NoMemory>
-    ensures { OnOk result (numbered numbers.new.items ≡ (if leads then with_number (numbered
-        numbers.old.items) bank (min (count + 1) (2 ^ 64 - 1)) else numbered numbers.old.items)) }
+    ensures { OnOk result
+        (numbered numbers.new.items ≡ numbers_with numbers.old.items leads bank count) }
 {
     if leads {
         set_at(numbers, bank, count.saturating_add(1))?;

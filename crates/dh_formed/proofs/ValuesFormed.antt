@@ -18,7 +18,7 @@ use Rattle.dh_value.specs.Operations.{Suits, result_of}
 use Rattle.dh_tree.specs.PlainTrees.{Term}
 use Rattle.dh_meaning.specs.Effects.{bits_of}
 use Rattle.dh_code.specs.Extended.{extension_of}
-use Rattle.dh_code.specs.Made.{same_kind}
+use Rattle.dh_tree.specs.Kinds.{same_kind}
 use Rattle.dh_plan.specs.declared.operations.Operation.{Operation}
 use Rattle.dh_plan.specs.declared.operations.OperationForm.{OperationForm}
 use Rattle.dh_plan.specs.declared.operations.OperationForm.TheVariants.{Constant, Old, Compute, Convert}

@@ -3,9 +3,9 @@
 -- the iterator of an unrolled loop one in each copy of its own loop, too. This profile, after Nigam and
 -- others, PLDI 2020.)
 use Rattle.std.specs.Prelude.{ℕ, suc, nat_lt, if◌then◌else◌, List, [], ◌∷◌, ◌++◌, Option, Some, None}
+use Rattle.dh_tree.specs.Kinds.{iterator_kind}
 use Rattle.dh_value.specs.declared.kinds.Kind.{Kind}
-use Rattle.dh_value.specs.declared.kinds.Kind.TheVariants.{Bool, Unsigned}
-use Rattle.dh_tree.specs.declared.trees.expressions.Ref.{Ref}
+use Rattle.dh_value.specs.declared.kinds.Kind.TheVariants.{Bool}
 use Rattle.dh_tree.specs.Memories.{same_entity}
 use Rattle.dh_tree.specs.PlainTrees.{Term, term, Action, action, ActionForm, lets, lets_memory, views, assigns, stores, reduces, calls, blocks, decides, repeats, counts, MaybeAction, no_action, one_action, Actions, no_actions, action_then, Groups, no_groups, group_then, Program}
 
@@ -31,11 +31,6 @@ abbrev pub let_kind : (declared : Option Kind) → (value : Option Term) → Kin
 let_kind (Some k) value = k
 let_kind None None = Bool
 let_kind None (Some t) = kind_found t
-
--- the kind of an iterator: 32 bits where none is declared
-abbrev pub iterator_kind : (declared : Option Kind) → Kind
-iterator_kind None = Unsigned 32
-iterator_kind (Some k) = k
 
 -- the depth inside a loop of a factor
 abbrev pub depth_inside : (depth factor : ℕ) → ℕ

@@ -1,6 +1,6 @@
 -- Paths: which copy of each of the unrolled loops round a command, from the outside. (Lockstep copies are of
 -- Nigam and others, PLDI 2020; paths are this profile's.)
-use Rattle.std.specs.Prelude.{ℕ, ◌*◌, zero, suc, nat_eq, Bool, List, [], ◌∷◌, ◌++◌}
+use Rattle.std.specs.Prelude.{◌≡◌, ◌⊎◌, ℕ, ◌*◌, zero, suc, nat_eq, Bool, List, [], ◌∷◌, ◌++◌}
 use Rattle.std.specs.Cmp.Lexicographic.{pointwise}
 
 abbrev pub Path : Type 0
@@ -12,6 +12,11 @@ same_path = pointwise nat_eq
 -- the paths outside every unrolled loop: the empty one alone
 abbrev pub outer_paths : List Path
 outer_paths = [] ∷ []
+
+-- this path is one of these
+abbrev pub IsPathAmong : Path → List Path → Type 0
+IsPathAmong path [] = ⊥
+IsPathAmong path (p ∷ ps) = (path ≡ p) ⊎ IsPathAmong path ps
 
 -- the copies 0 to n - 1 of a path, in ascending order
 abbrev pub copies_of : Path → (n : ℕ) → List Path

@@ -2,9 +2,10 @@
 -- it stands: the number of its first access, and what is round it. A list has at most one stepped part for
 -- now. A view that moves is a straight command; another is a declaration alone and has no phase, nor have calls, which
 -- are not built.
-use Rattle.std.specs.Prelude.{ℕ, ◌+◌, ◌-◌, ◌/◌, ◌==◌, ◌&&◌, Bool, true, false, if◌then◌else◌, List, [], ◌∷◌, ◌++◌}
+use Rattle.std.specs.Prelude.{ℕ, ◌+◌, ◌==◌, ◌&&◌, Bool, true, false, if◌then◌else◌, List, [], ◌∷◌, ◌++◌}
 use Rattle.dh_base.specs.declared.places.Place.{Place}
 use Rattle.dh_tree.specs.PlainTrees.{Action, action, ActionForm, lets, lets_memory, views, assigns, stores, reduces, calls, blocks, decides, repeats, counts, MaybeAction, no_action, one_action, Actions, no_actions, action_then, Groups, no_groups, group_then, Program}
+pub use Rattle.dh_tree.specs.Counters.{turn_count}
 use Rattle.dh_meaning.specs.AccessNumbers.{term_accesses, accesses_of, part_accesses}
 use Rattle.dh_tree.specs.ViewOffsets.{moves}
 use Rattle.dh_meaning.specs.Sites.{Around, nothing_around, in_arm, in_loop, loop_of}
@@ -73,10 +74,6 @@ folded (turns loop count body ∷ []) fold = turns loop count body ∷ fold
 folded (repeated loop body ∷ []) fold = repeated loop body ∷ fold
 folded (decided choice chosen other ∷ []) fold = decided choice chosen other ∷ fold
 folded (p ∷ q ∷ ps) fold = p ∷ folded (q ∷ ps) fold
-
--- the turns of a loop, in each of which so many copies of its body are done side by side
-abbrev pub turn_count : (low high factor : ℕ) → ℕ
-turn_count low high factor = (high - low) / factor
 
 -- a `for` has no phase where it has no turn, or a turn no phase
 abbrev pub turn_phases : Located → (count : ℕ) → (turn : List Phase) → List Phase

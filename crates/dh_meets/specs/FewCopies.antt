@@ -1,16 +1,13 @@
 -- What the limits and the rules on indices tell of the accesses of a program: how many copies there are of each, and that
 -- the bank that is written of one is a bank of its memory.
 use Rattle.std.specs.Prelude.{◌≡◌, ℕ, ◌<◌, ◌≤◌, Some, slice_get}
+use Rattle.dh_base.specs.Limits.{most_copies}
 use Rattle.dh_tree.specs.Elements.{banks_of}
 use Rattle.dh_tree.specs.Memories.{Memory, memory_in, memories_of}
 use Rattle.dh_tree.specs.PlainTrees.{Term, Program}
 use Rattle.dh_meaning.specs.Paths.{copies_in}
 use Rattle.dh_meets.specs.Charges.{factors_of}
 use Rattle.dh_meets.specs.SourceEvents.{in_row, SourceAccess, accesses_in, trace}
-
--- the most copies of an access
-abbrev pub most_copies : ℕ
-most_copies = 256
 
 -- no access stands in more copies
 abbrev pub HasFewCopies : Program → Type 0

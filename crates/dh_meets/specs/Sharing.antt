@@ -2,6 +2,7 @@
 -- this project's choice.)
 use Rattle.std.specs.Prelude.{ℕ, ◌==◌, ◌&&◌, ◌||◌, not, Bool, true, false, zero, suc, if◌then◌else◌, List, [], ◌∷◌, ◌++◌, Option, Some, None}
 use Rattle.std.specs.List.{list_any}
+use Rattle.dh_tree.specs.Kinds.{same_kind}
 use Rattle.dh_value.specs.declared.kinds.Kind.{Kind}
 use Rattle.dh_value.specs.declared.kinds.Kind.TheVariants as kind
 use Rattle.dh_value.specs.declared.operators.Op.{Op}
@@ -10,18 +11,12 @@ use Rattle.dh_meaning.specs.OnePhase.{in_one_phase}
 use Rattle.dh_meaning.specs.Sites.{Arm}
 use Rattle.dh_meets.specs.SourceEvents.{Element, with_indices, in_row, SourceAccess, SourceEvent, accesses, assigned, trace}
 use Rattle.dh_tree.specs.Memories.{same_entity}
-use Rattle.dh_tree.specs.PlainTrees.{Term, term, TermForm, number, truth_value, named, accessed, in_bank, applied, converted, Terms, no_terms, term_then, Action, action, ActionForm, lets, lets_memory, views, assigns, stores, reduces, calls, blocks, decides, repeats, counts, MaybeAction, no_action, one_action, Actions, no_actions, action_then, Groups, no_groups, group_then, Program}
+use Rattle.dh_tree.specs.PlainTrees.{Term, term, TermForm, number, truth_value, named, accessed, in_bank, applied, converted, Terms, no_terms, term_then, Program}
 
 -- Structure.
 abbrev pub same_truth : Bool → Bool → Bool
 same_truth true b = b
 same_truth false b = not b
-
-abbrev pub same_kind : Kind → Kind → Bool
-same_kind kind.Bool kind.Bool = true
-same_kind (kind.Unsigned m) (kind.Unsigned n) = m == n
-same_kind (kind.Signed m) (kind.Signed n) = m == n
-same_kind _ _ = false
 
 abbrev pub same_maybe_kind : Option Kind → Option Kind → Bool
 same_maybe_kind None None = true

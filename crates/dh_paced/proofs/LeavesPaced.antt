@@ -11,7 +11,7 @@ use Rattle.dh_meaning.specs.AccessNumbers.{term_accesses, terms_accesses}
 use Rattle.dh_meaning.specs.CoreOf.{core_term, core_terms, memory_of, target_to, way_of}
 use Rattle.dh_meaning.specs.Levels.{Levels}
 use Rattle.dh_code.specs.Extended.{extension_of}
-use Rattle.dh_code.specs.Made.{same_kind}
+use Rattle.dh_tree.specs.Kinds.{same_kind}
 use Rattle.dh_code.specs.declared.places.Held.{Held}
 use Rattle.dh_plan.specs.declared.operations.OperationForm.TheVariants.{Convert}
 use Rattle.dh_plan.specs.PlanPhases.{term_mentions, terms_mention, target_mentions}

@@ -22,7 +22,7 @@ use Rattle.dh_tree.specs.declared.trees.expressions.Ref.{Ref}
 use Rattle.dh_tree.specs.Counters.{counter_in, counters_of}
 use Rattle.dh_tree.specs.Elements.{Spot, bank_of, banks_of}
 use Rattle.dh_tree.specs.Indices.{IndexKind, constant, iterator, dynamic, counted, form_of, index_breaches, index_kind, indices_breaches, sum_kind}
-use Rattle.dh_tree.specs.Kinds.{found, signed_number}
+use Rattle.dh_tree.specs.Kinds.{found, signed_number, same_kind}
 use Rattle.dh_tree.specs.Memories.{same_entity}
 use Rattle.dh_tree.specs.PlainTrees as plain
 use Rattle.dh_tree.specs.Seen.{program_seen}
@@ -35,7 +35,6 @@ use Rattle.dh_meaning.specs.Effects.{Variables, value_of}
 use Rattle.dh_meaning.specs.Paths.{Path}
 use Rattle.dh_meets.specs.Charges.{index_in, level_of_loop}
 use Rattle.dh_code.specs.Extended.{extension_of}
-use Rattle.dh_code.specs.Made.{same_kind}
 use Rattle.dh_code.specs.declared.places.Held.{Held}
 use Rattle.dh_code.specs.Slots.{held_at}
 use Rattle.dh_plan.specs.Blocks.{numbers_at, spot_in_row, spot_of_reach}

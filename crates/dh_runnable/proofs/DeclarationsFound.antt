@@ -12,7 +12,8 @@ use Rattle.dh_tree.specs.Memories.{same_entity}
 use Rattle.dh_tree.specs.PlainTrees.{Action, action, ActionForm, lets, lets_memory, views, assigns, stores, reduces, calls, blocks, decides, repeats, counts, MaybeAction, no_action, one_action, Actions, no_actions, action_then, Groups, no_groups, group_then}
 use Rattle.dh_tree.specs.Resolved.{resolved_action, resolved_form, resolved_other, resolved_actions, resolved_groups}
 use Rattle.dh_tree.specs.Scopes.{Scope, entity, entity_number, declare, leave, past, at_end, form_at_end, other_at_end, actions_at_end, groups_at_end}
-use Rattle.dh_meaning.specs.Bindings.{Binding, binding_in, let_kind, iterator_kind}
+use Rattle.dh_meaning.specs.Bindings.{Binding, binding_in, let_kind}
+use Rattle.dh_tree.specs.Kinds.{iterator_kind}
 use Rattle.dh_meaning.specs.CoreOf.{Known}
 use Rattle.dh_sound.proofs.IteratorsNamed.{on_long, declared_on, past_on, goes_on, other_on, part_on, groups_on}
 use Rattle.dh_code.specs.Declarations.{Declaration, factors_inside, declarations, form_declarations, other_declarations, groups_declarations, part_declarations, declaration_in}

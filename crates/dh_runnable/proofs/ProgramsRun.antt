@@ -45,7 +45,8 @@ use Rattle.dh_sound.proofs.KindsOfPrograms.{functions_grow, body_in_step, map_lo
 use Rattle.dh_runnable.specs.ActionsRun.{ActionRuns}
 use Rattle.dh_code.specs.Declarations.{declarations, factored, hidden_declarations, placing_of}
 use Rattle.dh_code.specs.Placed.{most_entities}
-use Rattle.dh_code.specs.Ranks.{copies_in, most_paths}
+use Rattle.dh_code.specs.Ranks.{copies_in}
+use Rattle.dh_base.specs.Limits.{most_copies}
 use Rattle.dh_runnable.specs.ReadyRuns.{TellsEnough}
 use Rattle.dh_sem.specs.Runnable.{IsRunnable}
 use Rattle.dh_sem.proofs.FirstMade.{few_ways}
@@ -262,7 +263,7 @@ enough_runs q h =
       named = ways_named q (resolved_body q h) (ap (λ (x : Program). length x.entities) h.entities);
     }
   where
-    one_path : copies_in [] ≤ most_paths
+    one_path : copies_in [] ≤ most_copies
     one_path = omega arith
 
 -- a program that is ready, within the limits

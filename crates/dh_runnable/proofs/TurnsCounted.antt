@@ -4,7 +4,7 @@
 use Rattle.std.proofs.Common.{◌≡◌, ℕ, ◌+◌, ◌*◌, ◌-◌, ◌<◌, ◌≤◌, ◌^◌, ◌==◌, ◌&&◌, not, min, nat_lt, Bool, true, false, if◌then◌else◌, List, [], ◌∷◌, ◌++◌, Option, Some, None, refl, ap, sym, ◌∙◌, subst, arith}
 use Rattle.std.proofs.Math.Nat.{div-mul-le_self}
 use Rattle.std.proofs.lemmas.Bool.Decides.{nat_tests}
-use Rattle.dh_base.specs.Limits.{greatest_of}
+use Rattle.dh_base.specs.Limits.{greatest_of, most_copies}
 use Rattle.dh_base.specs.declared.limits.Excess.{Excess}
 use Rattle.dh_base.specs.declared.limits.Limit.{Limit}
 use Rattle.dh_base.specs.declared.limits.Limit.TheVariants as limit
@@ -19,7 +19,7 @@ use Rattle.dh_tree.proofs.EmptyLists.{first_none, second_none, not_none}
 use Rattle.dh_meaning.specs.CoreOf.{Known, depth_of}
 use Rattle.dh_meaning.specs.Phases.{turn_count}
 use Rattle.dh_code.specs.Declarations.{factors_inside}
-use Rattle.dh_code.specs.Ranks.{copies_in, most_paths}
+use Rattle.dh_code.specs.Ranks.{copies_in}
 use Rattle.dh_sem.specs.Runnable.{CanTurn}
 use Rattle.dh_code.specs.Slots.{Placing}
 use Rattle.dh_code.specs.Suited.{IsInside}
@@ -113,5 +113,5 @@ can_turn known p loops iterator low high factor inside keeps small few =
       iterator = inside;
       some_factor = keeps.some;
       counted = counted_within low.value high.value factor.value keeps.ordered small;
-      few = subst (λ (n : ℕ). n ≤ most_paths) (sym same) most;
+      few = subst (λ (n : ℕ). n ≤ most_copies) (sym same) most;
     }

@@ -14,7 +14,8 @@ use Rattle.dh_ways.specs.CutStands.{IsFewRound}
 use Rattle.dh_ways.specs.Stands.{Stand, stands}
 use Rattle.dh_code.specs.Declarations.{Factored, all_hidden_declared, factored, factors_inside, form_factored, groups_factored, hidden_declarations, hidden_declared, other_factored, part_factored}
 use Rattle.dh_code.specs.Placed.{AreFew}
-use Rattle.dh_code.specs.Ranks.{copies_in, most_paths}
+use Rattle.dh_code.specs.Ranks.{copies_in}
+use Rattle.dh_base.specs.Limits.{most_copies}
 use Rattle.dh_code.specs.Slots.{Placing}
 use Rattle.dh_code.proofs.Declaring.{copies_more}
 use Rattle.dh_code.proofs.HiddenPlaced.{stand_of, stand_so}
@@ -25,7 +26,7 @@ use Rattle.dh_runnable.proofs.VariablesFew.{both_few}
 
 -- they have few copies together, and are fewer than these
 record IsRound (loops : List ℕ) : Type 0 where
-  few : copies_in loops ≤ most_paths
+  few : copies_in loops ≤ most_copies
   deep : length loops < copies_in loops
 
 none_round : IsRound []

@@ -24,7 +24,7 @@ use Rattle.dh_meaning.specs.Effects.{entry_kind, kind_in}
 use Rattle.dh_meaning.specs.Ways.{Hidden, Step, Way, base_of, way_at, way_in, way_unless}
 use Rattle.dh_ways.specs.Leading.{KeepsOffsets, LeadsTo, offsets_on}
 use Rattle.dh_code.specs.Declarations.{factors_inside}
-use Rattle.dh_code.specs.Passing.{StepsFit, offsets_in}
+use Rattle.dh_code.specs.Passing.{StepsFit}
 use Rattle.dh_code.specs.Slots.{Placing}
 use Rattle.dh_code.specs.Suited.{AllInside, AreSuited, IsInside, IsSuitedTarget, TargetInside}
 use Rattle.dh_runnable.specs.ActionsRun.{table_in}
@@ -120,7 +120,7 @@ count_kept [] = refl
 count_kept (h ∷ hs) = ap suc (count_kept hs)
 
 -- as many as views take
-taken : (ss : List Step) → offsets_on ss ≡ offsets_in ss
+taken : (ss : List Step) → offsets_on ss ≡ offsets_on ss
 taken [] = refl
 taken (s ∷ ss) = ap (λ n. s.offsets + n) (taken ss)
 

@@ -1,9 +1,9 @@
 -- What is known of a block whose first operations stand at least clocks, and of a block that is done.
-use Rattle.std.specs.Prelude.{◌≡◌, ◌⊎◌, ℕ, ◌+◌, ◌*◌, ◌<◌, ◌≤◌, List, [], length, take, drop, slice_get, slice_index}
+use Rattle.std.specs.Prelude.{◌≡◌, ◌⊎◌, ℕ, ◌+◌, ◌*◌, ◌<◌, ◌≤◌, List, [], ◌∷◌, ◌++◌, length, take, drop, slice_get, slice_index}
 use Rattle.dh_plan.specs.declared.operations.Operation.{Operation}
 use Rattle.dh_plan.specs.declared.operations.PlanBlock.{PlanBlock}
 use Rattle.dh_plan.specs.declared.schedules.Limits.{Limits}
-use Rattle.dh_plan.specs.LegalSchedules.{IsWithin, MayStandAt, AreLeast, products_at, depths_in, IsLegalBlock}
+use Rattle.dh_plan.specs.LegalSchedules.{IsWithin, MayStandAt, AreLeast, products_at, depth_at, depths_in, IsLegalBlock}
 use Rattle.dh_plan.specs.PlainPlans.{operations_before, block_operations}
 use Rattle.dh_sched.specs.Sorts.{NeedsAreMet, KeepsProducts, KeepsChains, AreShallow}
 use Rattle.dh_sched.specs.FullClocks.{AreWays}
@@ -30,6 +30,10 @@ pub record AreScheduled (limits : Limits) (first : ℕ) (os : List Operation) (c
 pub record AreDepths (limit first : ℕ) (os : List Operation) (clocks depths : List ℕ) : Type 0 where
   pub told : 1 ≤ limit → depths ≡ depths_in first os clocks
   pub shallow : AreShallow depths
+
+-- the depth of an operation at its clock is told behind those before it, where there is a limit
+abbrev pub NotesDepth : (limit first clock : ℕ) → (clocks : List ℕ) → Operation → (old new : List ℕ) → Type 0
+NotesDepth limit first clock clocks o old new = 1 ≤ limit → new ≡ old ++ depth_at first clock clocks old o ∷ []
 
 -- the counts of multiplications are told, where there is a limit, and ways lead over full clocks
 pub record AreCounts (limit : ℕ) (os : List Operation) (clocks counts ways : List ℕ) : Type 0 where

@@ -7,7 +7,7 @@ ghost use Rattle.dh_plan.specs.Ordered.{operation_takes, IsOrdered, AreOrdered};
 ghost use Rattle.dh_plan.specs.Passes.{timing_seen};
 ghost use Rattle.dh_plan.specs.SeenPlans.{plan_seen};
 ghost use Rattle.dh_sched.specs.Sorts.{AreShallow, AreSmall};
-ghost use Rattle.dh_sched.specs.LeastBlocks.{Unchains, IsLeast, AreScheduled, AreDepths, AreCounts};
+ghost use Rattle.dh_sched.specs.LeastBlocks.{Unchains, IsLeast, AreScheduled, AreDepths, AreCounts, NotesDepth};
 
 use crate::chains::depth_at;
 use crate::filling::place_from;
@@ -61,9 +61,8 @@ fn note_depth(
         (definitions.depth_at first clock clocks.now depths.old.items operation.now) }
     ensures shallow { OnOk result (AreShallow depths.new.items) }
     ensures unlimited { OnOk result (limit ≡ 0 → depths.new.items ≡ depths.old.items) }
-    ensures limited { OnOk result (1 ≤ limit → depths.new.items
-        ≡ depths.old.items ++
-        definitions.depth_at first clock clocks.now depths.old.items operation.now ∷ []) }
+    ensures limited { OnOk result (NotesDepth limit first clock clocks.now operation.now
+        depths.old.items depths.new.items) }
 {
     if limit == 0 {
         return Ok(());

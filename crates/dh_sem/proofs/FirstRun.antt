@@ -24,7 +24,7 @@ use Rattle.dh_code.specs.Spent.{AreUsedBy}
 use Rattle.dh_meaning.specs.Ways.{all_entities_of}
 use Rattle.dh_code.specs.Declarations.{Declaration, all_declarations_of, all_held, declaration_in, factors_of, placing_of, slots_counted, slots_of}
 use Rattle.dh_code.specs.Ranks.{copies_in}
-use Rattle.dh_code.specs.Scenes.{AreSmall, IsSoundCode}
+use Rattle.dh_code.specs.Scenes.{AreSmall, IsSoundCode, IsEarlier}
 use Rattle.dh_code.specs.Slots.{EndsBefore, Holds, IsPlacing, held_at, slot_of}
 use Rattle.dh_code.proofs.KindsHeld.{length_held}
 use Rattle.dh_code.proofs.Ranges.{items_same}
@@ -37,7 +37,7 @@ use Rattle.dh_sem.specs.declared.stepping.Course as code
 use Rattle.dh_sem.specs.Frames.{AreToCome}
 use Rattle.dh_sem.specs.declared.starting.Begun as starting
 use Rattle.dh_sem.specs.Gathered.{HoldsProgram, IsSoundMade, course_made}
-use Rattle.dh_sem.specs.Phased.{AreLinked, ArePhases, Course, IsEarlier, IsSoundFrame}
+use Rattle.dh_sem.specs.Phased.{AreLinked, ArePhases, Course, IsSoundFrame}
 use Rattle.dh_sem.specs.Runs.{IsSteady, StandsAt, place_outcome}
 use Rattle.dh_sem.specs.Starts.{IsBegun, IsUnused, StandsFirst, run_begun}
 use Rattle.dh_sem.specs.Steps.{Arrives, GoesOn, OnlyVariables, course_of}

@@ -30,7 +30,7 @@ use Rattle.dh_code.specs.Declarations.{factors_inside}
 use Rattle.dh_code.specs.Flattening.{IsPlacingOf, known_in, table_in}
 use Rattle.dh_code.specs.Made.{term_made}
 use Rattle.dh_code.specs.Ranks.{copies_in}
-use Rattle.dh_code.specs.Scenes.{IsHeld, IsSoundCode}
+use Rattle.dh_code.specs.Scenes.{IsHeld, IsSoundCode, IsEarlier}
 use Rattle.dh_code.specs.Slots.{Placing}
 use Rattle.dh_code.specs.Suited.{IsSuited}
 use Rattle.dh_code.proofs.CommandForms.{flat_held, flat_is}
@@ -41,7 +41,6 @@ use Rattle.dh_sem.specs.declared.gathering.Made.{Made}
 use Rattle.dh_sem.specs.declared.phases.Form.TheVariants as formed
 use Rattle.dh_sem.specs.Gathered.{Anything, BeginsIf, CanBeHeld, CanRunList, Chooses, ChoosesBy, ChoosesHeld, Counts, Gathers, GathersAll, GathersOf, HasTest, HoldsAll, HoldsList, IsHeldAs, IsSoundMade, Kept, MoreMade, Repeats, all_kept, another, at_once, done_at_once, view_kept}
 use Rattle.dh_sem.specs.Lanes.{LanesInside, MoreLanes}
-use Rattle.dh_sem.specs.Phased.{IsEarlier}
 use Rattle.dh_sem.proofs.ArmsCanRun.{arms_can}
 use Rattle.dh_sem.proofs.GatheredLists.{both_mean, both_more, both_sound}
 use Rattle.dh_sem.proofs.KeptLists.{are_weaker, at_once_is, others_weaker}

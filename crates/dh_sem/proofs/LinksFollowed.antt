@@ -10,7 +10,8 @@ use Rattle.dh_sem.specs.declared.phases.Form.{Form}
 use Rattle.dh_sem.specs.declared.phases.Form.TheVariants.{Straight, Turns, Loop, Choice}
 use Rattle.dh_sem.specs.declared.phases.Frame.{Frame}
 use Rattle.dh_sem.specs.declared.phases.Turns as turns
-use Rattle.dh_sem.specs.Phased.{IsEarlier, IsLinked, IsLinkedTurns, IsSoundFrame, arm_of, turns_in}
+use Rattle.dh_sem.specs.Phased.{IsLinked, IsLinkedTurns, IsSoundFrame, arm_of, turns_in}
+use Rattle.dh_code.specs.Scenes.{IsEarlier}
 
 pub turn_fits : (t : turns.Turns) (turn : ℕ) → t.low + t.count * t.factor ≤ 2 ^ 64 - 1 → turn + 1 ≤ t.count → t.low + (turn + 1) * t.factor ≤ 2 ^ 64 - 1
 turn_fits t turn fits within = by t.low ((turn + 1) * t.factor) (t.count * t.factor) (mul-le-mul_right t.factor within) fits

@@ -14,7 +14,7 @@ use Rattle.dh_meaning.specs.Phases.{Located, straight, turns, repeated, decided}
 use Rattle.dh_code.specs.declared.flattening.Names.{Names}
 use Rattle.dh_code.specs.Coded.{AreCoded, Extends}
 use Rattle.dh_code.specs.Flattening.{FlattensCommands, IsInFront, IsPlacingOf, known_in, table_in}
-use Rattle.dh_code.specs.Scenes.{IsSoundCode}
+use Rattle.dh_code.specs.Scenes.{IsSoundCode, IsEarlier}
 use Rattle.dh_code.specs.Slots.{Placing}
 use Rattle.dh_code.proofs.CommandsCoded.{extends_none, get_last}
 use Rattle.dh_sem.specs.declared.gathering.Loose.{Loose}
@@ -25,7 +25,7 @@ use Rattle.dh_sem.specs.declared.phases.Form.TheVariants.{Straight}
 use Rattle.dh_sem.specs.declared.phases.Phase.{Phase}
 use Rattle.dh_sem.specs.Gathered.{AllOthers, Anything, AreOf, BeginsIf, CanBeHeld, CanRunList, Fixes, FixesForm, HoldsList, IsHeldAs, IsOf, IsSoundMade, Kept, MoreMade, all_kept, another, commands_seen, course_made, done_at_once, kept_of}
 use Rattle.dh_sem.specs.Lanes.{LeadsInto}
-use Rattle.dh_sem.specs.Phased.{ArePhases, IsEarlier, IsLinkedPhase, IsSome, IsSoundCourse, IsTested}
+use Rattle.dh_sem.specs.Phased.{ArePhases, IsLinkedPhase, IsSome, IsSoundCourse, IsTested}
 use Rattle.dh_sem.proofs.CanRunLists.{can_split}
 use Rattle.dh_sem.proofs.KeptLists.{Last, are_weaker, last_of, others_split, others_weaker}
 use Rattle.dh_sem.proofs.PhasesKept.{can_be_held_still, earlier_still, held_as_still, leads_still, linked_still, longer, made_none, made_then, phase_stays, phases_stay, tested_still, within_more}

@@ -16,7 +16,8 @@ use Rattle.dh_sem.specs.declared.phases.Form.{Form}
 use Rattle.dh_sem.specs.declared.phases.Form.TheVariants.{Straight, Turns, Loop, Choice}
 use Rattle.dh_sem.specs.Gathered.{CanBeHeld, IsHeldAs, MoreMade, course_made}
 use Rattle.dh_sem.specs.Lanes.{LeadsInto, MoreLanes}
-use Rattle.dh_sem.specs.Phased.{ArePhases, IsEarlier, IsLinked, IsPhase, IsTested}
+use Rattle.dh_sem.specs.Phased.{ArePhases, IsLinked, IsPhase, IsTested}
+use Rattle.dh_code.specs.Scenes.{IsEarlier}
 
 pub lanes_none : (a : List Lanes) → MoreLanes a a
 lanes_none a = record { more = []; are = sym (append-nil a) }

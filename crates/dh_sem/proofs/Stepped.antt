@@ -20,7 +20,7 @@ use Rattle.dh_code.specs.declared.running.State.{State}
 use Rattle.dh_code.specs.Plain.{all_plain}
 use Rattle.dh_code.specs.Rows.{contents_of}
 use Rattle.dh_code.specs.declared.spending.Bank.{Bank}
-use Rattle.dh_code.specs.Scenes.{AreSmall, begun_in}
+use Rattle.dh_code.specs.Scenes.{AreSmall, begun_in, IsEarlier}
 use Rattle.dh_code.specs.Slots.{Holds, Placing}
 use Rattle.dh_code.specs.Spent.{AreUsedBy}
 use Rattle.dh_code.specs.States.{IsReady, written_by}
@@ -30,7 +30,7 @@ use Rattle.dh_sem.specs.declared.phases.Frame.{Frame}
 use Rattle.dh_sem.specs.declared.phases.Phase.{Phase}
 use Rattle.dh_sem.specs.declared.stepping.Course as code
 use Rattle.dh_sem.specs.Frames.{AreToCome, IsBlockOf, IsPlace, StandsFirst, StandsFor}
-use Rattle.dh_sem.specs.Phased.{Course, IsEarlier, IsSoundFrame}
+use Rattle.dh_sem.specs.Phased.{Course, IsSoundFrame}
 use Rattle.dh_sem.specs.Runs.{IsSteady, Run, StandsAs, StandsAt, StepsOn, place_outcome}
 use Rattle.dh_sem.specs.Steps.{Advanced, Advances, IsBack, block_effect, course_seen, stop_outcome}
 use Rattle.dh_sem.proofs.SmallMemories.{small_written}

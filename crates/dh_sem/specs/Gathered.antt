@@ -5,12 +5,14 @@ use Rattle.std.specs.List.{AllByRecursion}
 use denote.Ref.{Bor}
 use Rattle.dh_tree.specs.declared.tables.MemEntry.{MemEntry}
 use Rattle.dh_tree.specs.declared.trees.commands.Command.{Command}
+use Rattle.dh_tree.specs.declared.trees.commands.ViewForm.{ViewForm}
 use Rattle.dh_tree.specs.declared.trees.expressions.Expr.{Expr}
 use Rattle.dh_tree.specs.declared.trees.expressions.Ref.{Ref}
 use Rattle.dh_tree.specs.Memories.{table_of}
 use Rattle.dh_tree.specs.PlainTrees.{Action, Program}
-use Rattle.dh_tree.specs.Seen.{action_seen, groups, part_seen}
+use Rattle.dh_tree.specs.Seen.{action_seen, groups, part_seen, plan_seen}
 use Rattle.dh_tree.specs.Shapes.{IsMemory}
+use Rattle.dh_tree.specs.ViewOffsets.{moves}
 use Rattle.dh_meaning.specs.CoreOf.{Known, core_of, core_phase, core_phases, entity_number}
 use Rattle.dh_meaning.specs.Phases as source
 use Rattle.dh_meaning.specs.Phases.{groups_phases, phases, Located, straight, turns, repeated, decided}
@@ -20,7 +22,7 @@ use Rattle.dh_code.specs.declared.flattening.Names.{Names}
 use Rattle.dh_code.specs.Coded.{AreSlotsOf, Extends}
 use Rattle.dh_code.specs.Declarations.{placing_of}
 use Rattle.dh_code.specs.Flattening.{HoldsFlat, IsPlacingOf, known_in, table_in}
-use Rattle.dh_code.specs.Scenes.{IsSoundCode}
+use Rattle.dh_code.specs.Scenes.{IsSoundCode, IsEarlier}
 use Rattle.dh_code.specs.Slots.{Placing}
 use Rattle.dh_sem.specs.declared.gathering.Loose.{Loose}
 use Rattle.dh_sem.specs.declared.gathering.Loose.TheVariants as loose
@@ -29,7 +31,7 @@ use Rattle.dh_sem.specs.declared.phases.Form.{Form}
 use Rattle.dh_sem.specs.declared.phases.Form.TheVariants as formed
 use Rattle.dh_sem.specs.declared.phases.Phase.{Phase}
 use Rattle.dh_sem.specs.Lanes.{LeadsInto, MoreLanes}
-use Rattle.dh_sem.specs.Phased.{ArePhases, Course, IsEarlier, IsLinked, IsPhase, IsSome, IsSoundCourse, IsTested}
+use Rattle.dh_sem.specs.Phased.{ArePhases, Course, IsLinked, IsPhase, IsSome, IsSoundCourse, IsTested}
 use Rattle.dh_sem.specs.Runnable.{CanRun, CanRunAll}
 
 -- Lists of phases.
@@ -88,6 +90,24 @@ at_once [] = true
 at_once (done_at_once cs ∷ []) = true
 at_once (another form ∷ []) = false
 at_once (p ∷ q ∷ rest) = false
+
+-- the phase of a view of this form, where it moves
+abbrev pub KeepsView : ViewForm → Command → (forms : Vec Loose Global) → Type 0
+KeepsView form c forms = all_kept forms.items ≡ view_kept (moves (plan_seen form)) (action_seen c)
+
+-- the open phase is put behind those that are done, where it has a command, and has none then
+abbrev pub EndsPhase : (done : Vec Loose Global) → (current : Vec (Bor Command) Global) → (done_after : Vec Loose Global) → (current_after : Vec (Bor Command) Global) → Type 0
+EndsPhase done current done_after current_after =
+    (all_kept done_after.items ≡ all_kept done.items ++ ended_at (commands_seen current.items)) × (current_after.items ≡ [])
+
+-- the phases of a further command are put behind the open one
+abbrev pub JoinsPhases : (done : Vec Loose Global) → (current : Vec (Bor Command) Global) → (further done_after : Vec Loose Global) → (current_after : Vec (Bor Command) Global) → Type 0
+JoinsPhases done current further done_after current_after =
+    joined_at (all_kept done_after.items) (commands_seen current_after.items) ≡ joined_with (all_kept done.items) (commands_seen current.items) (all_kept further.items)
+
+-- the phases of a turn are made of those of the body and of `combine`
+abbrev pub FoldsPhases : (body fold turn : Vec Loose Global) → Type 0
+FoldsPhases body fold turn = all_kept turn.items ≡ folded_with (all_kept body.items) (all_kept fold.items)
 
 -- Phases of the definition that they are, where the others of them are so.
 

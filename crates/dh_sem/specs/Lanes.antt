@@ -1,5 +1,6 @@
 -- The paths inside unrolled loops, as a run keeps them.
-use Rattle.std.specs.Prelude.{◌≡◌, ℕ, zero, suc, ◌+◌, ◌-◌, ◌^◌, ◌<◌, ◌≤◌, nat_lt, if◌then◌else◌, List, [], ◌∷◌, ◌++◌, length, map, slice_get, Some}
+use Rattle.std.specs.Prelude.{◌≡◌, ℕ, zero, suc, ◌+◌, ◌-◌, ◌^◌, ◌<◌, ◌≤◌, nat_lt, if◌then◌else◌, List, [], ◌∷◌, ◌++◌, length, map, slice_get, Some, Vec}
+use Rattle.std.specs.Global.{Global}
 use Rattle.std.specs.List.{range_with_len}
 use Rattle.dh_meaning.specs.Paths.{paths_in}
 use Rattle.dh_code.specs.Declarations.{factors_inside}
@@ -38,6 +39,10 @@ abbrev pub row_copies : (before : ℕ) → List ℕ → (count : ℕ) → List (
 row_copies before row zero = []
 row_copies before row (suc n) = row_copies before row n ++ (row ++ rank_kept (before + n) ∷ []) ∷ []
 
+-- so many copies of a path are added
+abbrev pub AddsCopies : (old new : List (Vec ℕ Global)) → (row : List ℕ) → (count : ℕ) → Type 0
+AddsCopies old new row count = contents_of new ≡ contents_of old ++ row_copies (length old) row count
+
 -- the ranks of the copies of paths
 abbrev pub copied_rows : (before factor : ℕ) → List (List ℕ) → List (List ℕ)
 copied_rows before factor [] = []
@@ -48,3 +53,7 @@ pub record LanesInside (old new : List Lanes) (outside factor number : ℕ) : Ty
   pub more : MoreLanes old new
   pub there : number < length new
   pub lead : (factors : List ℕ) → LeadsInto old outside factors → copies_in (factors_inside factors factor) ≤ 2 ^ 32 → LeadsInto new number (factors_inside factors factor)
+
+-- so they are where those outside are there
+abbrev pub LeadsInside : (old new : List Lanes) → (outside factor number : ℕ) → Type 0
+LeadsInside old new outside factor number = outside < length old → LanesInside old new outside factor number

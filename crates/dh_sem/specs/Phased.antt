@@ -14,7 +14,7 @@ use Rattle.dh_sem.specs.declared.phases.Turns as turns
 use Rattle.dh_sem.specs.declared.phases.Phase.{Phase}
 use Rattle.dh_sem.specs.declared.phases.Frame.{Frame}
 use Rattle.dh_sem.specs.declared.phases.Frame.TheVariants.{List as Rest, Turn, Test, Again, Pick}
-use Rattle.dh_code.specs.Scenes.{IsHeld}
+use Rattle.dh_code.specs.Scenes.{IsHeld, IsEarlier}
 use Rattle.dh_code.specs.Declarations.{factors_inside}
 use Rattle.dh_sem.specs.Lanes.{LeadsInto}
 
@@ -35,11 +35,6 @@ pub record AreTurns (p : Placing) (factors : List ℕ) (t : turns.Turns) (loop :
   pub counted : t.low + t.count * t.factor ≤ 2 ^ 64 - 1
   pub some_factor : 1 ≤ t.factor
   pub some_turn : 1 ≤ t.count
-
--- a list that begins before this number
-abbrev pub IsEarlier : (at : ℕ) → Option ℕ → Type 0
-IsEarlier at None = Unit {0}
-IsEarlier at (Some n) = n < at
 
 abbrev pub IsSome : Option ℕ → Type 0
 IsSome None = ⊥

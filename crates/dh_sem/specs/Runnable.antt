@@ -11,7 +11,8 @@ use Rattle.dh_ways.specs.CutStands.{IsFewRound}
 use Rattle.dh_ways.specs.Stands.{stands}
 use Rattle.dh_code.specs.Declarations.{declarations, factors_inside, hidden_declarations, placing_of}
 use Rattle.dh_code.specs.Placed.{AreFew, IsNamedBelow, most_entities}
-use Rattle.dh_code.specs.Ranks.{copies_in, most_paths}
+use Rattle.dh_code.specs.Ranks.{copies_in}
+use Rattle.dh_base.specs.Limits.{most_copies}
 use Rattle.dh_code.specs.Slots.{Placing}
 use Rattle.dh_code.specs.Suited.{CanDoAll, CanTest, IsInside}
 
@@ -21,7 +22,7 @@ pub record CanTurn (p : Placing) (factors : List ℕ) (loop : Turning) : Type 0 
   pub some_factor : 1 ≤ loop.factor
   -- the iterator's values are numbers of 64 bits
   pub counted : loop.low + loop.count * loop.factor ≤ 2 ^ 64 - 1
-  pub few : copies_in (factors_inside factors loop.factor) ≤ most_paths
+  pub few : copies_in (factors_inside factors loop.factor) ≤ most_copies
 
 abbrev mutual
   pub CanRun : List MemEntry → Placing → (factors : List ℕ) → CorePhase → Type 0

@@ -14,10 +14,10 @@ use Rattle.dh_code.specs.Slots.{Holds, Placing}
 use Rattle.dh_code.specs.Spent.{AreUsedBy}
 use Rattle.dh_sem.specs.declared.phases.Frame.{Frame}
 use Rattle.dh_sem.specs.Frames.{IsPlace}
-use Rattle.dh_code.specs.Scenes.{AreSmall, IsSoundCode}
+use Rattle.dh_code.specs.Scenes.{AreSmall, IsSoundCode, IsEarlier}
 use Rattle.dh_tree.specs.Shapes.{IsMemory}
 use Rattle.dh_tree.specs.Tables.{elements_in, most_elements}
-use Rattle.dh_sem.specs.Phased.{Course, IsEarlier, IsSoundCourse, IsSoundFrame}
+use Rattle.dh_sem.specs.Phased.{Course, IsSoundCourse, IsSoundFrame}
 
 -- a program in a run: the outcome, the steps done, the memories, the slots of the variables, the phase of the next
 -- block, and the frames of what is still to come behind it

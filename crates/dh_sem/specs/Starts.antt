@@ -15,9 +15,10 @@ use Rattle.dh_sem.specs.declared.phases.Frame.{Frame}
 use Rattle.dh_sem.specs.declared.phases.Frame.TheVariants.{List as Rest}
 use Rattle.dh_sem.specs.declared.starting.Begun.{Begun}
 use Rattle.dh_sem.specs.declared.stepping.Course as code
-use Rattle.dh_sem.specs.Gathered.{IsSoundMade, course_made}
+use Rattle.dh_sem.specs.Gathered.{HoldsProgram, IsSoundMade, course_made}
 use Rattle.dh_sem.specs.Lanes.{AreFirstLanes}
-use Rattle.dh_sem.specs.Phased.{IsEarlier, IsSoundFrame}
+use Rattle.dh_sem.specs.Phased.{IsSoundFrame}
+use Rattle.dh_code.specs.Scenes.{IsEarlier}
 use Rattle.dh_sem.specs.Runs.{Run, IsSteady, StandsAt, place_outcome}
 use Rattle.dh_sem.specs.Steps.{GoesOn, OnlyVariables}
 
@@ -30,6 +31,10 @@ pub record ArePlacesOf (p : Program) (places : Places) : Type 0 where
 pub record IsNothingMade (made : Made) : Type 0 where
   pub first_lanes : AreFirstLanes made.lanes.items
   pub sound : (table : List MemEntry) → IsSoundMade table made
+
+-- what was made stands as the program's phases do, of which this is the first, and so many slots are its variables'
+abbrev pub HoldsFirst : Program → Made → (first : Option ℕ) → (slots : ℕ) → Type 0
+HoldsFirst p made first slots = HoldsProgram p made first × (slots ≡ slots_of p)
 
 -- so many slots that hold 0, room for what so many operations give, and so many banks of which nothing is spent
 pub record IsUnused (slots operations banks : ℕ) (state : State) : Type 0 where

@@ -1,11 +1,10 @@
 //! The phases of a command: what it does in each of its steps.
 
-ghost use Rattle.std.specs.Prelude.{◌≡◌, ◌<◌, ◌++◌, ◌∷◌, [], IfOk, length, true};
-ghost use Rattle.dh_tree.specs.Seen.{action_seen, plan_seen};
-ghost use Rattle.dh_tree.specs.ViewOffsets.{moves as moves_so};
-ghost use Rattle.dh_sem.specs.Gathered.{FixesForm, GathersGroups, GathersOf, HoldsAll, HoldsList, IsAlone, all_kept, at_once, commands_seen, ended_at, folded_with, joined_at, joined_with, kept_of, view_kept};
+ghost use Rattle.std.specs.Prelude.{◌≡◌, ◌∷◌, [], IfOk, true};
+ghost use Rattle.dh_tree.specs.Seen.{action_seen};
+ghost use Rattle.dh_sem.specs.Gathered.{EndsPhase, FixesForm, FoldsPhases, GathersGroups, GathersOf, HoldsAll, HoldsList, IsAlone, JoinsPhases, KeepsView, all_kept, at_once, kept_of};
 ghost use Rattle.dh_sem.specs.Gathered.{BeginsIf, Chooses, Counts, Repeats, done_at_once};
-ghost use Rattle.dh_sem.specs.Lanes.{LanesInside, MoreLanes};
+ghost use Rattle.dh_sem.specs.Lanes.{LeadsInside, MoreLanes};
 ghost use Rattle.dh_meaning.specs.Phases.{phases};
 
 use crate::lanes::{Lanes, inside};
@@ -74,8 +73,7 @@ fn view_phases<'a>(
     command: &'a Command,
     form: &ViewForm,
 ) -> Result<Vec<Loose<'a>>, NoMemory>
-    ensures { IfOk result (λ forms. all_kept forms.items
-        ≡ view_kept (moves_so (plan_seen form.now)) (action_seen command.now)) }
+    ensures { IfOk result (λ forms. KeepsView form.now command.now forms) }
 {
     if moves(form) {
         one_command(alloc, command)
@@ -90,9 +88,7 @@ fn end_phase<'a>(
     done: &mut Vec<Loose<'a>>,
     current: &mut Vec<&'a Command>,
 ) -> Result<(), NoMemory>
-    ensures { IfOk result (λ _. (all_kept done.new.items
-        ≡ all_kept done.old.items ++ ended_at (commands_seen current.old.items))
-        × (current.new.items ≡ [])) }
+    ensures { IfOk result (λ _. EndsPhase done.old current.old done.new current.new) }
 {
     if !current.is_empty() {
         let commands = mem::replace(current, Vec::new(alloc));
@@ -109,10 +105,8 @@ fn join<'a>(
     current: &mut Vec<&'a Command>,
     mut next: Vec<Loose<'a>>,
 ) -> Result<(), NoMemory>
-    ensures { IfOk result (λ _.
-        joined_at (all_kept done.new.items) (commands_seen current.new.items)
-        ≡ joined_with (all_kept done.old.items) (commands_seen current.old.items)
-        (all_kept next.entry.items)) }
+    ensures { IfOk result
+        (λ _. JoinsPhases done.old current.old next.entry done.new current.new) }
 {
     match next.as_slice() {
         [] => return Ok(()),
@@ -149,8 +143,7 @@ fn fold<'a>(
     mut body: Vec<Loose<'a>>,
     mut fold: Vec<Loose<'a>>,
 ) -> Result<Vec<Loose<'a>>, NoMemory>
-    ensures { IfOk result (λ turn. all_kept turn.items
-        ≡ folded_with (all_kept body.entry.items) (all_kept fold.entry.items)) }
+    ensures { IfOk result (λ turn. FoldsPhases body.entry fold.entry turn) }
 {
     match body.pop() {
         None => Ok(fold),
@@ -210,8 +203,8 @@ fn lanes_inside(
     factor: u64,
 ) -> Result<usize, NoMemory>
     ensures more { IfOk result (λ number. MoreLanes lanes.old.items lanes.new.items) }
-    ensures lead { IfOk result (λ number. outside < length lanes.old.items
-        → LanesInside lanes.old.items lanes.new.items outside factor number) }
+    ensures lead { IfOk result
+        (λ number. LeadsInside lanes.old.items lanes.new.items outside factor number) }
 {
     if outside < lanes.len() {
         inside(alloc, lanes, outside, factor)

@@ -1,9 +1,9 @@
 //! The paths inside unrolled loops, by the ranks of their beginnings.
 
-ghost use Rattle.std.specs.Prelude.{◌≡◌, ◌+◌, ◌<◌, ◌∷◌, ◌++◌, [], IfOk, length};
+ghost use Rattle.std.specs.Prelude.{◌≡◌, ◌<◌, ◌∷◌, ◌++◌, [], IfOk, length};
 ghost use Rattle.std.specs.List.{range_with_len};
 ghost use Rattle.dh_code.specs.Rows.{contents_of};
-ghost use Rattle.dh_sem.specs.Lanes.{AreFirstLanes, LanesInside, copied_rows, rank_kept, row_copies};
+ghost use Rattle.dh_sem.specs.Lanes.{AddsCopies, AreFirstLanes, LanesInside, copied_rows, rank_kept};
 
 use dh_base::NoMemory;
 use std::alloc::Global;
@@ -68,8 +68,7 @@ fn add_copies(
     row: &[u32],
     factor: u64,
 ) -> Result<(), NoMemory>
-    ensures { IfOk result (λ _. contents_of rows.new.items
-        ≡ contents_of rows.old.items ++ row_copies (length rows.old.items) row.now factor) }
+    ensures { IfOk result (λ _. AddsCopies rows.old.items rows.new.items row.now factor) }
 {
     for _ in 0..factor {
         let rank = rank_behind(rows.len());

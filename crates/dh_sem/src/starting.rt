@@ -12,9 +12,10 @@ ghost use Rattle.dh_code.specs.Banks.{AreFirsts, all_banks};
 ghost use Rattle.dh_code.specs.Declarations.{placing_of, slots_of};
 ghost use Rattle.dh_sem.specs.Gathered.{HoldsProgram, IsSoundMade};
 ghost use Rattle.dh_sem.specs.Lanes.{AreFirstLanes};
-ghost use Rattle.dh_sem.specs.Phased.{AreLinked, IsEarlier};
+ghost use Rattle.dh_sem.specs.Phased.{AreLinked};
+ghost use Rattle.dh_code.specs.Scenes.{IsEarlier};
 ghost use Rattle.dh_sem.specs.Runnable.{IsRunnable};
-ghost use Rattle.dh_sem.specs.Starts.{ArePlacesOf, IsBegun, IsNothingMade, IsUnused, StandsFirst};
+ghost use Rattle.dh_sem.specs.Starts.{ArePlacesOf, HoldsFirst, IsBegun, IsNothingMade, IsUnused, StandsFirst};
 
 use crate::gathering::{Made, hold_all};
 use crate::lanes::first_lanes;
@@ -160,8 +161,8 @@ fn hold_first(
     requires table { IsProgramTable (table_of (program_seen program.now)) }
     requires runnable { IsRunnable (program_seen program.now) }
     requires none { IsNothingMade made.old }
-    ensures { IfOk result (λ held. HoldsProgram (program_seen program.now) made.new held.0
-        × (held.1 ≡ slots_of (program_seen program.now))) }
+    ensures { IfOk result
+        (λ held. HoldsFirst (program_seen program.now) made.new held.0 held.1) }
 {
     let places = places_of(alloc, program)?;
     match hold_placed(alloc, program, places.held.as_slice(), made) {

@@ -2,10 +2,10 @@
 
 ghost use Rattle.std.specs.Prelude.{◌≡◌, ◌+◌, ◌*◌, ◌%◌, ◌-◌, ◌^◌, ◌<◌, ◌≤◌, ◌==◌, Bool, if◌then◌else◌, IfOk, Some, length, slice_get};
 ghost use Rattle.std.specs.List.{AllByRecursion};
-ghost use Rattle.dh_code.specs.Scenes.{IsHeld, IsScene};
+ghost use Rattle.dh_code.specs.Scenes.{IsHeld, IsScene, IsEarlier};
 ghost use Rattle.dh_code.specs.States.{IsReady, KeepsBack, written_by};
 ghost use Rattle.dh_sem.specs.declared.phases.Frame.TheVariants.{Turn};
-ghost use Rattle.dh_sem.specs.Phased.{AreLinked, IsEarlier, IsSoundCourse, IsSoundFrame, arm_of, turns_in};
+ghost use Rattle.dh_sem.specs.Phased.{AreLinked, IsSoundCourse, IsSoundFrame, arm_of, turns_in};
 ghost use Rattle.dh_sem.specs.Steps.{Advances, BackIfStopped, BeginsTurn, Descends, Follows, GoesOn, IsRested, Lightens, NowhereIfNone, OnlyVariables, RunsBlock, RunsNext, SetsCopy, TestsAll, course_seen, which};
 
 use crate::lanes::Lanes;

@@ -7,6 +7,8 @@ use Rattle.dh_net.specs.declared.ports.Port.{Port}
 use Rattle.dh_net.specs.Valid.{IsValid}
 use Rattle.dh_net.specs.Clock.{State, Settles, has_clashes, held_after, memories_after, start_of}
 use Rattle.dh_net.specs.Laws.{FitsNet}
+use Rattle.dh_sim.specs.declared.layouts.Layout.{Layout}
+use Rattle.dh_sim.specs.Layouts.{IsLayout}
 
 -- a simulator: its net, the state in which it stands, and whether the last clock had a clash
 pub record Point : Type 0 where
@@ -46,3 +48,7 @@ pub record IsSound (net : Net) (s : State) (wires : List ℕ) : Type 0 where
   pub memories : Fits net.table s.memories
   pub small : FitsNet net s
   pub settled : Settles net s wires
+
+-- so it is of a simulator of this net, whose layout is that of the net
+abbrev pub IsSoundSim : Net → Layout → (registers held : List ℕ) → (memories : List (Vec ℕ Global)) → (wires : List ℕ) → Type 0
+IsSoundSim net layout registers held memories wires = IsLayout net.table layout × IsSound net (state_of registers held memories) wires

@@ -32,8 +32,7 @@ pub struct Sim<'a> {
 }
 
 impl<'a> Model for Sim<'a> {
-    ghost use Rattle.dh_sim.specs.Layouts.{IsLayout};
-    ghost use Rattle.dh_sim.specs.Points.{Point, IsSound, state_of};
+    ghost use Rattle.dh_sim.specs.Points.{Point, IsSoundSim, state_of};
 
     ghost Value = { Point };
 
@@ -43,9 +42,8 @@ impl<'a> Model for Sim<'a> {
       clash = s.clash;
     } };
 
-    ghost invariant = { λ s. IsLayout s.net.now.table s.layout
-        × IsSound s.net.now (state_of s.registers.items s.held.items s.memories.items)
-        s.wires.items };
+    ghost invariant = { λ s. IsSoundSim s.net.now s.layout s.registers.items s.held.items
+        s.memories.items s.wires.items };
 }
 
 impl<'a> Sim<'a> {

@@ -13,14 +13,13 @@ use Rattle.dh_meaning.specs.CoreOf.{Known, known_of, entity_number, depth_of, co
 use Rattle.dh_meaning.specs.Effects.{Variables, Block}
 use Rattle.dh_meaning.specs.Levels.{any_assigns}
 use Rattle.dh_meaning.specs.OnePhase.{makes, any_makes, test_makes}
-use Rattle.dh_meaning.specs.Paths.{Path}
+use Rattle.dh_meaning.specs.Paths.{Path, IsPathAmong}
 use Rattle.dh_meaning.specs.Phases.{Located, phases_of, idle_phases_of}
 use Rattle.dh_meaning.specs.Sites.{Around}
 use Rattle.dh_meets.specs.SourceEvents.{Element, with_indices, in_row, Site, SourceAccess, SourceEvent, accesses_in, trace}
 use Rattle.dh_sound.specs.AssignsInside.{AssignsInside}
-use Rattle.dh_sound.specs.Blocks.{factors, paths_inside, IsPath, StandsIn}
+use Rattle.dh_sound.specs.Blocks.{factors, paths_inside, StandsIn}
 use Rattle.dh_sound.specs.BlocksOfPhases.{StraightTold, TestTold, TellsBlocks}
-use Rattle.dh_sound.specs.BlockTold.{IsPathOf}
 use Rattle.dh_sound.specs.IndexValues.{IsTypedProgram}
 use Rattle.dh_sound.specs.IteratorsAt.{HaveDepths, TurnAt, TurnsAt}
 use Rattle.dh_sound.specs.LoopsMatch.{AreSpared}
@@ -42,7 +41,7 @@ use Rattle.dh_sound.proofs.SettledNames.{inside_long}
 use Rattle.dh_sound.proofs.Slices.{straight_either, test_either}
 use Rattle.dh_sound.proofs.TurnsOfIndices.{spared_commands, spared_test, straight_access, test_access}
 
-as_path : (path : Path) (ps : List Path) → IsPathOf path ps → IsPath path ps
+as_path : (path : Path) (ps : List Path) → IsPathAmong path ps → IsPathAmong path ps
 as_path path [] h = elim h [ ]
 as_path path (p ∷ ps) (inl e) = inl e
 as_path path (p ∷ ps) (inr h) = inr (as_path path ps h)
@@ -83,7 +82,7 @@ turn_of v paths (l ∷ ls) (suc i) loop h e = turn_of v paths ls i loop h.1 e
 -- a name in scope, at two paths of a block
 module _ (known : Known) (loops : List Turning) (v : Variables) (touched : ℕ → Bool) (spared : AreSpared touched loops) (turns : TurnsAt loops v (paths_inside loops))
     (inside : (e : ℕ) → touched e ≡ true → length (factors loops) ≤ depth_bound (binding_in known.bindings e))
-    (p q : Path) (h : IsPath p (paths_inside loops)) (g : IsPath q (paths_inside loops)) where
+    (p q : Path) (h : IsPathAmong p (paths_inside loops)) (g : IsPathAmong q (paths_inside loops)) where
   full_depth : (r : Ref) (e : ℕ) → r.entity ≡ Some e → touched e ≡ true → length p ≤ depth_of known r
   full_depth r e is t =
       let long = inside_long loops p h in

@@ -19,7 +19,8 @@ use Rattle.dh_meets.specs.SourceEvents.{Site, SourceAccess, SourceEvent, accesse
 use Rattle.dh_sound.proofs.BanksReached.{first_none, second_none}
 use Rattle.dh_sound.proofs.ValuesOfIndices.{both_true}
 use Rattle.dh_meaning.specs.Paths.{copies_in}
-use Rattle.dh_meets.specs.FewCopies.{most_copies, HasFewCopies}
+use Rattle.dh_meets.specs.FewCopies.{HasFewCopies}
+use Rattle.dh_base.specs.Limits.{most_copies}
 use Rattle.dh_tree.specs.Seen.{terms}
 use Rattle.dh_tree.specs.ViewOffsets.{offsets_of}
 

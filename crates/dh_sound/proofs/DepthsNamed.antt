@@ -14,7 +14,8 @@ use Rattle.dh_tree.specs.PlainTrees.{shrinks, splits, suffixes, shifts, Action, 
 use Rattle.dh_tree.specs.Resolved.{resolved_action, resolved_form, resolved_other, resolved_actions, resolved_groups, HasEntities}
 use Rattle.dh_tree.specs.Scopes.{Scope, entity, declare, leave, past, at_end, form_at_end, other_at_end, actions_at_end, groups_at_end, body_scope}
 use Rattle.dh_meaning.specs.AccessNumbers.{term_accesses, accesses_of, part_accesses}
-use Rattle.dh_meaning.specs.Bindings.{Binding, let_kind, depth_inside, iterator_kind, bindings, form_bindings, other_bindings, groups_bindings, part_bindings, binding_in, depth_bound}
+use Rattle.dh_meaning.specs.Bindings.{Binding, let_kind, depth_inside, bindings, form_bindings, other_bindings, groups_bindings, part_bindings, binding_in, depth_bound}
+use Rattle.dh_tree.specs.Kinds.{iterator_kind}
 use Rattle.dh_meaning.specs.Sites.{Around, nothing_around, in_arm, in_loop, loop_of}
 use Rattle.dh_meaning.specs.Phases.{Phase, straight, turns, repeated, decided, Phases, no_phases, phase, of_list, turn_count, located, phases, form_phases, other_phases, groups_phases, parts_phases, phases_of}
 use Rattle.dh_meaning.specs.Core.{Turning}

@@ -9,11 +9,11 @@ use Rattle.std.proofs.lemmas.Bool.{ne_eqb}
 use Rattle.std.proofs.lemmas.Cmp.{nat_list_eq_equiv}
 use Rattle.std.proofs.lemmas.Bool.Decides.{nat_tests}
 use Rattle.std.proofs.lemmas.List.{append_assoc, append-nil}
-use Rattle.dh_meaning.specs.Paths.{Path, same_path, outer_paths, all_copies, paths_from, paths_in}
+use Rattle.dh_meaning.specs.Paths.{Path, same_path, outer_paths, all_copies, paths_from, paths_in, IsPathAmong}
 use Rattle.dh_meaning.specs.Core.{CoreTerm, CoreCommands, Turning}
 use Rattle.dh_meaning.specs.Effects.{Begun, Variables, set_variable, Effect, at_each, tested_at, commands_run}
 use Rattle.dh_meaning.specs.Runs.{inner_paths, iterator_value, turn_begun}
-use Rattle.dh_sound.specs.Blocks.{factors, paths_inside, IsPath, InTurn, AreInTurn}
+use Rattle.dh_sound.specs.Blocks.{factors, paths_inside, InTurn, AreInTurn}
 use Rattle.dh_sound.specs.Standing.{Spares, IsFresh}
 use Rattle.dh_sound.proofs.Assigned.{another_set, commands_leave, tested_leaves}
 
@@ -88,7 +88,7 @@ module _ (loop : Turning) (turn : ℕ) where
       by false b same = e
 
   -- after the begin of a turn the iterator has its value at each of the paths
-  turn_holds : (paths : List Path) (variables : Variables) (p : Path) → IsPath p paths ⊎ (variables loop.iterator p ≡ value_at p)
+  turn_holds : (paths : List Path) (variables : Variables) (p : Path) → IsPathAmong p paths ⊎ (variables loop.iterator p ≡ value_at p)
       → turn_begun loop turn paths variables loop.iterator p ≡ value_at p
   turn_holds [] variables p (inl h) = elim h [ ]
   turn_holds [] variables p (inr e) = e
@@ -159,7 +159,7 @@ pub turn_more : (loops : List Turning) (loop : Turning) (turn : ℕ) (paths : Li
     → AreInTurn [] (loops ++ loop ∷ []) (turn_begun loop turn (inner_paths paths loop) variables)
 turn_more loops loop turn paths variables below fresh copies t =
     one_more [] loops loop _ (turns_kept [] loops variables _ (begun_kept loop turn loops fresh (inner_paths paths loop) variables) t)
-    (record { turn = turn; below = below; holds = λ p h. turn_holds loop turn (inner_paths paths loop) variables p (inl (subst (λ (ps : List Path). IsPath p ps) (sym inside) h)) })
+    (record { turn = turn; below = below; holds = λ p h. turn_holds loop turn (inner_paths paths loop) variables p (inl (subst (λ (ps : List Path). IsPathAmong p ps) (sym inside) h)) })
   where
     inside : inner_paths paths loop ≡ paths_inside (loops ++ loop ∷ [])
     inside = ap (λ ps. inner_paths ps loop) copies ∙ inner_inside loops loop

@@ -4,10 +4,10 @@
 use Rattle.std.proofs.Common.{◌≡◌, ℕ, suc, ◌+◌, ◌*◌, ◌-◌, ◌<◌, ◌≤◌, nat_lt, Bool, true, false, if◌then◌else◌, List, [], ◌∷◌, ◌++◌, length, refl, sym, ◌∙◌, ap, subst, arith}
 use Rattle.std.specs.Prelude.{take, slice_index_or, pos}
 use Rattle.std.proofs.lemmas.List.{append_assoc, length-append}
-use Rattle.dh_meaning.specs.Paths.{Path, paths_in}
+use Rattle.dh_meaning.specs.Paths.{Path, paths_in, IsPathAmong}
 use Rattle.dh_meaning.specs.Core.{Turning}
 use Rattle.dh_meaning.specs.Effects.{Variables}
-use Rattle.dh_sound.specs.Blocks.{factors, paths_inside, IsPath, InTurn, AreInTurn}
+use Rattle.dh_sound.specs.Blocks.{factors, paths_inside, InTurn, AreInTurn}
 use Rattle.dh_sound.specs.IteratorsAt.{HaveDepths, IteratorAt, TurnAt, TurnsAt}
 use Rattle.dh_sound.proofs.PathParts.{outer_path, copy_below, last_of_outer}
 
@@ -46,31 +46,31 @@ module _ (outer inner : List ℕ) (factor depth : ℕ) (path : Path) where
   same_copy false e = refl
 
   -- which is below its factor
-  small_copy : (t : Bool) → depth ≡ length (upto t) → IsPath path (paths_in (upto t ++ inner)) → 1 ≤ factor → copy_at t path < factor
+  small_copy : (t : Bool) → depth ≡ length (upto t) → IsPathAmong path (paths_in (upto t ++ inner)) → 1 ≤ factor → copy_at t path < factor
   small_copy true e h l =
       subst (λ (l : ℕ). slice_index_or path l 0 < factor) (sym (level_is e))
-      (copy_below outer factor inner path (subst (λ (fs : List ℕ). IsPath path (paths_in fs)) (append_assoc outer (factor ∷ []) inner) h))
+      (copy_below outer factor inner path (subst (λ (fs : List ℕ). IsPathAmong path (paths_in fs)) (append_assoc outer (factor ∷ []) inner) h))
   small_copy false e h l = omega (arith, l)
 
-  leads : (fs : List ℕ) → depth ≡ length fs → IsPath path (paths_in (fs ++ inner)) → IsPath (take depth path) (paths_in fs)
-  leads fs e h = subst (λ (d : ℕ). IsPath (take d path) (paths_in fs)) (sym e) (outer_path fs inner path h)
+  leads : (fs : List ℕ) → depth ≡ length fs → IsPathAmong path (paths_in (fs ++ inner)) → IsPathAmong (take depth path) (paths_in fs)
+  leads fs e h = subst (λ (d : ℕ). IsPathAmong (take d path) (paths_in fs)) (sym e) (outer_path fs inner path h)
 
 -- the iterator of a loop that is in a turn, at a path inside it and further loops
 iterator_at : (round rest : List Turning) (loop : Turning) (variables : Variables) (i : InTurn (round ++ loop ∷ []) loop variables)
-    → loop.depth ≡ length (factors (round ++ loop ∷ [])) → (path : Path) → IsPath path (paths_inside ((round ++ loop ∷ []) ++ rest))
+    → loop.depth ≡ length (factors (round ++ loop ∷ [])) → (path : Path) → IsPathAmong path (paths_inside ((round ++ loop ∷ []) ++ rest))
     → IteratorAt loop i.turn variables path
 iterator_at round rest loop variables i e path h = record {
   value = i.holds (take loop.depth path) (leads (factors round) (factors rest) loop.factor loop.depth path (factors (round ++ loop ∷ [])) e whole)
       ∙ ap (λ n. pos (loop.low + i.turn * loop.factor + n)) (same_copy (factors round) (factors rest) loop.factor loop.depth path (nat_lt 1 loop.factor) (e ∙ ap length upto_is));
   copy = small_copy (factors round) (factors rest) loop.factor loop.depth path (nat_lt 1 loop.factor) (e ∙ ap length upto_is)
-      (subst (λ (fs : List ℕ). IsPath path (paths_in (fs ++ factors rest))) upto_is whole);
+      (subst (λ (fs : List ℕ). IsPathAmong path (paths_in (fs ++ factors rest))) upto_is whole);
 }
   where
     upto_is : factors (round ++ loop ∷ []) ≡ factors round ++ (if nat_lt 1 loop.factor then loop.factor ∷ [] else [])
     upto_is = factors_both round (loop ∷ [])
 
-    whole : IsPath path (paths_in (factors (round ++ loop ∷ []) ++ factors rest))
-    whole = subst (λ (fs : List ℕ). IsPath path (paths_in fs)) (factors_both (round ++ loop ∷ []) rest) h
+    whole : IsPathAmong path (paths_in (factors (round ++ loop ∷ []) ++ factors rest))
+    whole = subst (λ (fs : List ℕ). IsPathAmong path (paths_in fs)) (factors_both (round ++ loop ∷ []) rest) h
 
 turns_upto : (round loops whole : List Turning) (variables : Variables) → whole ≡ round ++ loops → AreInTurn round loops variables → HaveDepths round loops
     → TurnsAt loops variables (paths_inside whole)
@@ -85,7 +85,7 @@ turns_upto round (loop ∷ loops) whole variables e t d =
     here = record {
       turn = t.0.turn;
       below = t.0.below;
-      each = λ path h. iterator_at round loops loop variables t.0 d.0 path (subst (λ (ls : List Turning). IsPath path (paths_inside ls)) regrouped h);
+      each = λ path h. iterator_at round loops loop variables t.0 d.0 path (subst (λ (ls : List Turning). IsPathAmong path (paths_inside ls)) regrouped h);
     }
 
 -- loops that are in a turn, at the paths inside all of them

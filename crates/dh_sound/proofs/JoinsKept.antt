@@ -11,12 +11,12 @@ use Rattle.dh_tree.specs.declared.trees.programs.Sort.TheVariants as sort
 use Rattle.dh_tree.specs.Forms.{unbuilt, form_holds, has_dashes, unbuilt_action, unbuilt_form, unbuilt_other, unbuilt_groups, unbuilt_part}
 use Rattle.dh_tree.specs.Kinds.{when, place_of}
 use Rattle.dh_tree.specs.LeastBreach.{breach}
-use Rattle.dh_tree.specs.Placements.{is_iterator, entity_iterates, names_iterator}
+use Rattle.dh_tree.specs.Placements.{is_iterator, entity_iterates, names_iterator, is_folded_into}
 use Rattle.dh_tree.specs.PlainTrees.{Term, term, number, truth_value, named, accessed, in_bank, applied, converted, Action, action, ActionForm, lets, lets_memory, views, assigns, stores, reduces, calls, blocks, decides, repeats, counts, MaybeAction, no_action, one_action, Actions, no_actions, action_then, Groups, no_groups, group_then}
 use Rattle.dh_tree.proofs.EmptyLists.{first_none, second_none, not_none}
 use Rattle.dh_meaning.specs.CoreOf.{entity_number}
 use Rattle.dh_sound.specs.IteratorsKept.{FoldsElsewhere, FormFoldsElsewhere, OtherFoldsElsewhere, GroupsFoldElsewhere, PartFoldsElsewhere}
-use Rattle.dh_sound.specs.Joins.{is_plain_variable, entity_varies, names_variable, varies_outside, is_joined, joined_breaches, joined_part_breaches, joined_groups_breaches, join_form_breaches, join_breaches, fold_breaches, fold_form_breaches, fold_other_breaches, fold_part_breaches, fold_groups_breaches}
+use Rattle.dh_sound.specs.Joins.{is_plain_variable, entity_varies, names_variable, is_joined, joined_breaches, joined_part_breaches, joined_groups_breaches, join_form_breaches, join_breaches, fold_breaches, fold_form_breaches, fold_other_breaches, fold_part_breaches, fold_groups_breaches}
 use Rattle.dh_sound.specs.OuterWrites.{is_from_outside}
 use Rattle.dh_sound.specs.SimpleForms.{IsVariable, FormFoldsOnly, GroupsFoldOnly, PartFoldsOnly, JoinsFolds, FoldsInJoins, FormFoldsInJoins, OtherFoldsInJoins, GroupsFoldInJoins, PartFoldsInJoins}
 
@@ -58,8 +58,8 @@ module _ (es : List Entity) where
 
   joined_form : (iterator : ℕ) (place : Place) (f : ActionForm) → joined_breaches es iterator place f ≡ [] → FormFoldsOnly f × FormFoldsElsewhere es f
   joined_form iterator place (reduces target o value) e =
-      let left = when_not (varies_outside es iterator target.entity) (breach Reducer target.place) (first_none (when (not (varies_outside es iterator target.entity)) (breach Reducer target.place ∷ [])) _ e) in
-      let right = when_not (is_joined es iterator value) (breach Reducer (place_of value)) (second_none (when (not (varies_outside es iterator target.entity)) (breach Reducer target.place ∷ [])) _ e) in
+      let left = when_not (is_folded_into es iterator target.entity) (breach Reducer target.place) (first_none (when (not (is_folded_into es iterator target.entity)) (breach Reducer target.place ∷ [])) _ e) in
+      let right = when_not (is_joined es iterator value) (breach Reducer (place_of value)) (second_none (when (not (is_folded_into es iterator target.entity)) (breach Reducer target.place ∷ [])) _ e) in
       (joined_value iterator value right, variable_no_iterator target.entity (left_true (names_variable es target.entity) (is_from_outside iterator target.entity) left))
   joined_form iterator place (lets name declared value) e = not_none _ _ e
   joined_form iterator place (lets_memory name shape shape_places value) e = not_none _ _ e

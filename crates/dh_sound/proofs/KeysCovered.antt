@@ -15,13 +15,13 @@ use Rattle.dh_viewing.specs.Carried.{AllLead, Among, Copy, bank_in}
 use Rattle.dh_viewing.specs.ReachedBanks.{bank_at}
 use Rattle.dh_meaning.specs.Bindings.{binding_in, depth_bound}
 use Rattle.dh_meaning.specs.Effects.{Begun, Variables, indices_through}
-use Rattle.dh_meaning.specs.Paths.{Path, same_path}
+use Rattle.dh_meaning.specs.Paths.{Path, same_path, IsPathAmong}
 use Rattle.dh_meaning.specs.Ways.{Hidden, Step, Way, all_bindings_of, way_to}
 use Rattle.dh_meets.specs.Charges.{bank_named, charge_through, key_of, paths_of}
 use Rattle.dh_meets.specs.SourceEvents.{SourceAccess}
 use Rattle.dh_ways.specs.Leading.{LeadsTo, next_dims}
 use Rattle.dh_ways.specs.SpotsThrough.{offsets_at}
-use Rattle.dh_carried.specs.MadeCopies.{AreCopiesOf, IsCopyOf, IsPathAmong, MadeCopy, copies_of, in_group, is_of_group, views_on}
+use Rattle.dh_carried.specs.MadeCopies.{AreCopiesOf, IsCopyOf, MadeCopy, copies_of, in_group, is_of_group, views_on}
 use Rattle.dh_carried.proofs.CarriedKeys.{fewer_keys}
 use Rattle.dh_carried.proofs.GroupedKeys.{filtered_has, groups_cover, has_filtered, mapped_has}
 use Rattle.dh_sound.specs.SameKeys.{IsNearTo}

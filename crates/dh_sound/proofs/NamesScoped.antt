@@ -18,7 +18,8 @@ use Rattle.dh_tree.specs.PlainTrees.{Placed, Unrolled, Term, term, TermForm, num
 use Rattle.dh_tree.specs.Resolved.{resolved_term, resolved_term_form, resolved_terms, resolved_action, resolved_form, resolved_other, resolved_actions, resolved_groups}
 use Rattle.dh_tree.specs.Scopes.{binding, entity_of, is_visible, bind, Scope, entity, declare, leave, past, at_end, form_at_end, other_at_end, actions_at_end, groups_at_end}
 use Rattle.dh_tree.specs.Scopes as scopes
-use Rattle.dh_meaning.specs.Bindings.{Binding, let_kind, depth_inside, iterator_kind, bindings, form_bindings, other_bindings, groups_bindings, part_bindings, binding_in, depth_bound}
+use Rattle.dh_meaning.specs.Bindings.{Binding, let_kind, depth_inside, bindings, form_bindings, other_bindings, groups_bindings, part_bindings, binding_in, depth_bound}
+use Rattle.dh_tree.specs.Kinds.{iterator_kind}
 use Rattle.dh_meaning.specs.Core.{Turning}
 use Rattle.dh_meaning.specs.CoreOf.{Known, entity_number, depth_of, turning_of}
 use Rattle.dh_meaning.specs.Phases.{turn_count}

@@ -8,11 +8,11 @@ use Rattle.dh_tree.specs.PlainTrees.{Term, term, number, truth_value, named, acc
 use Rattle.dh_meaning.specs.Core.{Turning}
 use Rattle.dh_meaning.specs.CoreOf.{Known}
 use Rattle.dh_meaning.specs.Effects.{Begun, Variables}
-use Rattle.dh_meaning.specs.Paths.{Path, same_path}
+use Rattle.dh_meaning.specs.Paths.{Path, same_path, IsPathAmong}
 use Rattle.dh_meets.specs.Charges.{entity_depends, term_depends, terms_depend, element_depends, depends, key_of}
 use Rattle.dh_meets.specs.SourceEvents.{Element, with_indices, in_row, SourceAccess}
 use Rattle.dh_sound.specs.SameKeys.{CopiesAgree, NameAgrees, IsSettled, EachName, EachNameOf, EachNameIn, IsNearTo, NameFacts, is_plain, is_turned, is_full, IsIteratorOf}
-use Rattle.dh_sound.specs.Blocks.{paths_inside, IsPath}
+use Rattle.dh_sound.specs.Blocks.{paths_inside}
 use Rattle.dh_sound.specs.IteratorsAt.{TurnAt}
 use Rattle.dh_sound.proofs.Counting.{same_list, whole_list}
 use Rattle.dh_sound.proofs.SourceValues.{source_spot}
@@ -86,10 +86,10 @@ module _ (b : Begun) (known : Known) (v0 v w : Variables) (touched : ℕ → Boo
 -- What is given of a block's paths.
 
 -- the paths inside loops have one length
-pub same_length : (loops : List Turning) (p q : Path) → IsPath p (paths_inside loops) → IsPath q (paths_inside loops) → length p ≡ length q
+pub same_length : (loops : List Turning) (p q : Path) → IsPathAmong p (paths_inside loops) → IsPathAmong q (paths_inside loops) → length p ≡ length q
 same_length loops p q h k = inside_long loops p h ∙ sym (inside_long loops q k)
 
 -- the iterator of a loop that is in a turn at these paths
 pub turned_name : (known : Known) (v0 : Variables) (touched : ℕ → Bool) (paths : List Path) (p q : Path) (r : Ref) (loop : Turning) → IsIteratorOf known r loop → touched loop.iterator ≡ false
-    → TurnAt loop v0 paths → IsPath p paths → IsPath q paths → NameFacts known v0 touched p q r
+    → TurnAt loop v0 paths → IsPathAmong p paths → IsPathAmong q paths → NameFacts known v0 touched p q r
 turned_name known v0 touched paths p q r loop i left t h k = is_turned loop t.turn i left (t.each p h) (t.each q k)

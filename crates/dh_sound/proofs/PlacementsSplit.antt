@@ -15,7 +15,7 @@ use Rattle.dh_tree.specs.Placements.{Context, nothing_round, branched, in_body, 
 use Rattle.dh_tree.specs.PlainTrees.{Term, term, number, truth_value, named, accessed, in_bank, applied, converted, Action, action, ActionForm, lets, lets_memory, views, assigns, stores, reduces, calls, blocks, decides, repeats, counts, MaybeAction, no_action, one_action, Actions, no_actions, action_then, Groups, no_groups, group_then, Program}
 use Rattle.dh_tree.specs.Scopes.{entity_number}
 use Rattle.dh_tree.proofs.EmptyLists.{first_none, second_none, both_none, not_none}
-use Rattle.dh_sound.specs.Joins.{varies_outside, varies_inside, is_joined, joined_breaches, joined_part_breaches, joined_groups_breaches, join_form_breaches, join_breaches, fold_breaches, fold_form_breaches, fold_other_breaches, fold_part_breaches, fold_groups_breaches, fold_breaches_of}
+use Rattle.dh_sound.specs.Joins.{varies_inside, is_joined, joined_breaches, joined_part_breaches, joined_groups_breaches, join_form_breaches, join_breaches, fold_breaches, fold_form_breaches, fold_other_breaches, fold_part_breaches, fold_groups_breaches, fold_breaches_of}
 use Rattle.dh_sound.specs.OuterWrites.{outer_breaches, outer_form_breaches, outer_other_breaches, outer_part_breaches, outer_groups_breaches, outer_breaches_of}
 use Rattle.dh_sound.proofs.IteratorsNamed.{none_when}
 
@@ -111,9 +111,9 @@ module _ (es : List Entity) where
   value_joined iterator (term place k (converted t to)) e = e
 
   reducer_joined : (iterator : ℕ) (target : Ref) (value : Term) → reducer_breaches es (Some iterator) target value ≡ []
-      → when (not (varies_outside es iterator target.entity)) (breach Reducer target.place ∷ []) ++ when (not (is_joined es iterator value)) (breach Reducer (place_of value) ∷ []) ≡ []
+      → when (not (is_folded_into es iterator target.entity)) (breach Reducer target.place ∷ []) ++ when (not (is_joined es iterator value)) (breach Reducer (place_of value) ∷ []) ≡ []
   reducer_joined iterator target value e =
-      both_none (when (not (varies_outside es iterator target.entity)) (breach Reducer target.place ∷ [])) _
+      both_none (when (not (is_folded_into es iterator target.entity)) (breach Reducer target.place ∷ [])) _
       (first_none (when (not (is_folded_into es iterator target.entity)) (breach Reducer target.place ∷ [])) _ e)
       (value_joined iterator value (second_none (when (not (is_folded_into es iterator target.entity)) (breach Reducer target.place ∷ [])) _ e))
 

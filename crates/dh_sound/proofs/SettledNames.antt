@@ -13,10 +13,10 @@ use Rattle.dh_meaning.specs.Bindings.{Binding, binding_in, depth_bound}
 use Rattle.dh_meaning.specs.Core.{Turning}
 use Rattle.dh_meaning.specs.CoreOf.{Known, entity_number, depth_of}
 use Rattle.dh_meaning.specs.Effects.{Variables}
-use Rattle.dh_meaning.specs.Paths.{Path}
+use Rattle.dh_meaning.specs.Paths.{Path, IsPathAmong}
 use Rattle.dh_meaning.specs.Runs.{iterator_value}
 use Rattle.dh_meets.specs.Charges.{iterator_depends, variable_depends, binding_depends, entity_depends}
-use Rattle.dh_sound.specs.Blocks.{factors, paths_inside, IsPath}
+use Rattle.dh_sound.specs.Blocks.{factors, paths_inside}
 use Rattle.dh_sound.specs.IteratorsAt.{IteratorAt}
 use Rattle.dh_sound.proofs.PathParts.{Fits, path_fits}
 use Rattle.dh_sound.specs.SameKeys.{CopiesAgree, NameAgrees, IsSettled, IsNearTo, IsNoIterator, IsIteratorOf}
@@ -30,7 +30,7 @@ fits_long (x ∷ path) [] h = elim h [ ]
 fits_long (x ∷ path) (f ∷ fs) h = ap suc (fits_long path fs h.1)
 
 -- a path inside loops is as long as they are many
-pub inside_long : (loops : List Turning) (path : Path) → IsPath path (paths_inside loops) → length path ≡ length (factors loops)
+pub inside_long : (loops : List Turning) (path : Path) → IsPathAmong path (paths_inside loops) → length path ≡ length (factors loops)
 inside_long loops path h = fits_long path (factors loops) (path_fits (factors loops) path h)
 
 first_below : (d : ℕ) → nat_lt 0 (suc d) ≡ true

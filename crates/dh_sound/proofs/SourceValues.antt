@@ -24,7 +24,8 @@ use Rattle.dh_meaning.specs.Effects.{Begun, Variables, value_of, values_of, spot
 use Rattle.dh_meaning.specs.Paths.{Path}
 use Rattle.dh_sound.specs.Straight.{IsNamedTerm, AreNamedTerms}
 use Rattle.dh_meets.specs.SourceEvents.{Element, with_indices, in_row}
-use Rattle.dh_meets.specs.Sharing.{same_truth, same_kind, same_maybe_kind, number_of_op, alike, alike_forms, all_alike, alike_elements, mentions, terms_mention, element_mentions}
+use Rattle.dh_meets.specs.Sharing.{same_truth, same_maybe_kind, number_of_op, alike, alike_forms, all_alike, alike_elements, mentions, terms_mention, element_mentions}
+use Rattle.dh_tree.specs.Kinds.{same_kind}
 use Rattle.dh_meaning.specs.Ways.{Way, base_of, way_at}
 use Rattle.dh_ways.specs.SpotsThrough.{spot_to, offsets_at}
 use Rattle.dh_ways.proofs.TargetsOnWays.{target_is}

@@ -19,11 +19,11 @@ use Rattle.dh_meaning.specs.Core.{CoreCommands, Turning}
 use Rattle.dh_meaning.specs.CoreOf.{Known, known_of, entity_number, core_commands, core_of}
 use Rattle.dh_meaning.specs.Effects.{Variables, Block}
 use Rattle.dh_meaning.specs.Levels.{any_assigns}
-use Rattle.dh_meaning.specs.Paths.{Path}
+use Rattle.dh_meaning.specs.Paths.{Path, IsPathAmong}
 use Rattle.dh_meaning.specs.Runs.{last_copy}
 use Rattle.dh_meets.specs.Charges.{level_of_loop}
 use Rattle.dh_meets.specs.SourceEvents.{Element, with_indices, in_row, SourceAccess}
-use Rattle.dh_sound.specs.Blocks.{factors, paths_inside, IsPath, StandsIn, AreInTurn}
+use Rattle.dh_sound.specs.Blocks.{factors, paths_inside, StandsIn, AreInTurn}
 use Rattle.dh_sound.specs.IndexValues.{copy_at, IsInTurn, name_value, IsUnrolled, NameInTurn, OperandInTurn, FormInTurn, AllInTurn, ElementInTurn}
 use Rattle.dh_sound.specs.IteratorsAt.{HaveDepths, TurnsAt}
 use Rattle.dh_sound.specs.LoopsMatch.{unrolled, LoopMatches, EachMatches, LoopsMatch, AreSpared, LoopInTurn}
@@ -53,7 +53,7 @@ moved n k = omega arith
 none_more : (n : ℕ) → 0 + n ≡ n
 none_more n = omega arith
 
-module _ (known : Known) (v0 : Variables) (touched : ℕ → Bool) (path : Path) (paths : List Path) (here : IsPath path paths) where
+module _ (known : Known) (v0 : Variables) (touched : ℕ → Bool) (path : Path) (paths : List Path) (here : IsPathAmong path paths) where
   -- the loop at a level among those round a block, of which so many unrolled ones stand in front
   loop_at : (round loops : List Turning) (cs : List Counter) (n k : ℕ) (c : Counter) → n ≡ length (factors round) → TurnsAt loops v0 paths → HaveDepths round loops → AreSpared touched loops
       → EachMatches known (unrolled loops) cs → slice_get cs k ≡ Some c → LoopInTurn known v0 touched path (n + k) c
@@ -148,7 +148,7 @@ module _ (known : Known) (cs round : List Counter) (v0 v : Variables) (touched :
 
 -- the indices of an element find the iterators of unrolled loops in turns, at a path inside loops that match
 pub element_in_turn : (known : Known) (cs round : List Counter) (loops : List Turning) (v0 v : Variables) (touched : ℕ → Bool) (path : Path)
-    → TurnsAt loops v0 (paths_inside loops) → HaveDepths [] loops → LoopsMatch known loops round → AreSpared touched loops → IsNearTo v0 touched v → IsPath path (paths_inside loops)
+    → TurnsAt loops v0 (paths_inside loops) → HaveDepths [] loops → LoopsMatch known loops round → AreSpared touched loops → IsNearTo v0 touched v → IsPathAmong path (paths_inside loops)
     → (e : Element) → ElementRound cs round e → ElementInTurn known cs round path v e
 element_in_turn known cs round loops v0 v touched path turns depths matches spared near here =
     element_found known cs round v0 v touched path near
@@ -170,7 +170,7 @@ spared_test (loop ∷ loops) = (refl, spared_test loops)
 -- the elements of straight commands in a turn of their loops, whose iterators they spare
 pub straight_in_turn : (p : Program) → IsReady p → (loops : List Turning) (block : Block) → StandsIn [] (core_of p).phases loops block → (m : StraightMatches p loops block)
     → AreSpared (λ e. any_assigns e (core_commands (known_of p) m.of.done)) loops
-    → (v0 v : Variables) (path : Path) → AreInTurn [] loops v0 → IsNearTo v0 (λ e. any_assigns e (core_commands (known_of p) m.of.done)) v → IsPath path (paths_inside loops)
+    → (v0 v : Variables) (path : Path) → AreInTurn [] loops v0 → IsNearTo v0 (λ e. any_assigns e (core_commands (known_of p) m.of.done)) v → IsPathAmong path (paths_inside loops)
     → (e : Element) → ElementRound (counters_of p) m.of.round.loops e → ElementInTurn (known_of p) (counters_of p) m.of.round.loops path v e
 straight_in_turn p r loops block s m spared v0 v path turns near here =
     element_in_turn (known_of p) (counters_of p) m.of.round.loops loops v0 v (λ e. any_assigns e (core_commands (known_of p) m.of.done)) path (turns_at loops v0 turns depths) depths m.loops_match
@@ -181,7 +181,7 @@ straight_in_turn p r loops block s m spared v0 v path turns near here =
 
 -- and those of a test
 pub test_in_turn : (p : Program) → IsReady p → (loops : List Turning) (block : Block) → StandsIn [] (core_of p).phases loops block → (m : TestMatches p loops block)
-    → (v0 v : Variables) (path : Path) → AreInTurn [] loops v0 → IsNearTo v0 (λ e. false) v → IsPath path (paths_inside loops)
+    → (v0 v : Variables) (path : Path) → AreInTurn [] loops v0 → IsNearTo v0 (λ e. false) v → IsPathAmong path (paths_inside loops)
     → (e : Element) → ElementRound (counters_of p) m.of.tested.around.loops e → ElementInTurn (known_of p) (counters_of p) m.of.tested.around.loops path v e
 test_in_turn p r loops block s m v0 v path turns near here =
     element_in_turn (known_of p) (counters_of p) m.of.tested.around.loops loops v0 v (λ e. false) path (turns_at loops v0 turns depths) depths m.loops_match
@@ -193,14 +193,14 @@ test_in_turn p r loops block s m v0 v path turns near here =
 -- the same for accesses in these loops
 pub straight_access : (p : Program) → IsReady p → (loops : List Turning) (block : Block) → StandsIn [] (core_of p).phases loops block → (m : StraightMatches p loops block)
     → AreSpared (λ e. any_assigns e (core_commands (known_of p) m.of.done)) loops
-    → (v0 v : Variables) (path : Path) → AreInTurn [] loops v0 → IsNearTo v0 (λ e. any_assigns e (core_commands (known_of p) m.of.done)) v → IsPath path (paths_inside loops)
+    → (v0 v : Variables) (path : Path) → AreInTurn [] loops v0 → IsNearTo v0 (λ e. any_assigns e (core_commands (known_of p) m.of.done)) v → IsPathAmong path (paths_inside loops)
     → (a : SourceAccess) → a.site.loops ≡ m.of.round.loops → ElementRound (counters_of p) a.site.loops a.element → ElementInTurn (known_of p) (counters_of p) a.site.loops path v a.element
 straight_access p r loops block s m spared v0 v path turns near here a same h =
     subst (λ (ls : List Counter). ElementInTurn (known_of p) (counters_of p) ls path v a.element) (sym same)
     (straight_in_turn p r loops block s m spared v0 v path turns near here a.element (subst (λ (ls : List Counter). ElementRound (counters_of p) ls a.element) same h))
 
 pub test_access : (p : Program) → IsReady p → (loops : List Turning) (block : Block) → StandsIn [] (core_of p).phases loops block → (m : TestMatches p loops block)
-    → (v0 v : Variables) (path : Path) → AreInTurn [] loops v0 → IsNearTo v0 (λ e. false) v → IsPath path (paths_inside loops)
+    → (v0 v : Variables) (path : Path) → AreInTurn [] loops v0 → IsNearTo v0 (λ e. false) v → IsPathAmong path (paths_inside loops)
     → (a : SourceAccess) → a.site.loops ≡ m.of.tested.around.loops → ElementRound (counters_of p) a.site.loops a.element → ElementInTurn (known_of p) (counters_of p) a.site.loops path v a.element
 test_access p r loops block s m v0 v path turns near here a same h =
     subst (λ (ls : List Counter). ElementInTurn (known_of p) (counters_of p) ls path v a.element) (sym same)

@@ -1,7 +1,7 @@
 -- Which blocks a program has, and in which loops they stand; at which paths they are done; and what it is for the
 -- iterators of these loops to be in a turn.
 use Rattle.std.specs.Prelude.{◌≡◌, ◌⊎◌, ℕ, ◌<◌, nat_lt, if◌then◌else◌, List, [], ◌∷◌, ◌++◌, pos}
-use Rattle.dh_meaning.specs.Paths.{Path, paths_in}
+use Rattle.dh_meaning.specs.Paths.{Path, paths_in, IsPathAmong}
 use Rattle.dh_meaning.specs.Core.{Turning, CorePhase, straightly, turning, looping, choosing, CorePhases, no_core_phases, phase_and}
 use Rattle.dh_meaning.specs.Effects.{Variables, Block, commands, tests}
 use Rattle.dh_meaning.specs.Runs.{iterator_value}
@@ -28,16 +28,11 @@ abbrev mutual
   StandsInPhase round (choosing test chosen other) loops b =
       ((loops ≡ round) × (b ≡ tests test)) ⊎ (StandsIn round chosen loops b ⊎ StandsIn round other loops b)
 
--- this path is one of these
-abbrev pub IsPath : Path → List Path → Type 0
-IsPath path [] = ⊥
-IsPath path (p ∷ ps) = (path ≡ p) ⊎ IsPath path ps
-
 -- the iterator of the last of these loops has at each path inside them its value in one turn
 pub record InTurn (inside : List Turning) (loop : Turning) (variables : Variables) : Type 0 where
   pub turn : ℕ
   pub below : turn < loop.count
-  pub holds : (path : Path) → IsPath path (paths_inside inside) → variables loop.iterator path ≡ pos (iterator_value loop turn path)
+  pub holds : (path : Path) → IsPathAmong path (paths_inside inside) → variables loop.iterator path ≡ pos (iterator_value loop turn path)
 
 -- each of these loops is in a turn, inside those before it
 abbrev pub AreInTurn : (round loops : List Turning) → Variables → Type 0

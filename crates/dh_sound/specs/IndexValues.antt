@@ -1,6 +1,6 @@
 -- What is to be known of an index for its value in a run to be told: the kinds of it and of its parts, and that
 -- the iterators that it names are in turns of their loops. And what the value then is.
-use Rattle.std.specs.Prelude.{◌≡◌, ℕ, ◌+◌, ◌-◌, ◌*◌, ◌/◌, ◌<◌, ◌≤◌, nat_lt, Bool, true, false, if◌then◌else◌, List, [], take, slice_index_or, Option, Some, ℤ, pos, ◌+ℤ◌, int_le}
+use Rattle.std.specs.Prelude.{◌≡◌, ℕ, ◌+◌, ◌*◌, ◌<◌, ◌≤◌, nat_lt, Bool, true, false, if◌then◌else◌, List, [], take, slice_index_or, Option, Some, ℤ, pos, ◌+ℤ◌, int_le}
 use Rattle.std.specs.List.{AllByRecursion}
 use Rattle.dh_value.specs.declared.kinds.Kind.{Kind}
 use Rattle.dh_value.specs.declared.operators.Op.{Op}
@@ -11,7 +11,7 @@ use Rattle.dh_tree.specs.declared.tables.Dim.{Dim}
 use Rattle.dh_tree.specs.declared.trees.counters.Counter.{Counter}
 use Rattle.dh_tree.specs.declared.trees.expressions.Ref.{Ref}
 use Rattle.dh_tree.specs.Breaches.{KeepsNames}
-use Rattle.dh_tree.specs.Counters.{counters_of, counter_in}
+use Rattle.dh_tree.specs.Counters.{turn_count, counters_of, counter_in}
 use Rattle.dh_tree.specs.Elements.{Spot}
 use Rattle.dh_tree.specs.Indices.{IndexKind, constant, iterator, dynamic, all_fit, form_of, indices_breaches}
 use Rattle.dh_tree.specs.KindBreaches.{KeepsKinds}
@@ -112,7 +112,7 @@ copy_at loops path c = if nat_lt 1 c.factor then slice_index_or path (level_of_l
 -- a whole number is the value of an iterator at a path in some turn of its loop
 pub record IsInTurn (loops : List Counter) (path : Path) (c : Counter) (z : ℤ) : Type 0 where
   pub turn : ℕ
-  pub below : turn < (c.high - c.low) / c.factor
+  pub below : turn < turn_count c.low c.high c.factor
   pub copy : copy_at loops path c < c.factor
   pub is : z ≡ pos (c.low + turn * c.factor + copy_at loops path c)
 

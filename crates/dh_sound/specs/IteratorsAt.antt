@@ -2,11 +2,11 @@
 -- each loop at the part of the path that leads into this loop, with the value of the turn and of the path's copy.
 -- The turn of a loop is one for all its copies.
 use Rattle.std.specs.Prelude.{◌≡◌, ℕ, ◌<◌, ◌≤◌, List, [], ◌∷◌, ◌++◌, length, take, pos}
-use Rattle.dh_meaning.specs.Paths.{Path}
+use Rattle.dh_meaning.specs.Paths.{Path, IsPathAmong}
 use Rattle.dh_meaning.specs.Core.{Turning, CoreProgram}
 use Rattle.dh_meaning.specs.Effects.{Variables, Block}
 use Rattle.dh_meaning.specs.Runs.{last_copy, iterator_value}
-use Rattle.dh_sound.specs.Blocks.{factors, IsPath, StandsIn}
+use Rattle.dh_sound.specs.Blocks.{factors, StandsIn}
 
 -- the depth of each of these loops is the number of the unrolled among it and the loops round it
 abbrev pub HaveDepths : (round loops : List Turning) → Type 0
@@ -26,7 +26,7 @@ pub record IteratorAt (loop : Turning) (turn : ℕ) (variables : Variables) (pat
 pub record TurnAt (loop : Turning) (variables : Variables) (paths : List Path) : Type 0 where
   pub turn : ℕ
   pub below : turn < loop.count
-  pub each : (path : Path) → IsPath path paths → IteratorAt loop turn variables path
+  pub each : (path : Path) → IsPathAmong path paths → IteratorAt loop turn variables path
 
 abbrev pub TurnsAt : List Turning → Variables → (paths : List Path) → Type 0
 TurnsAt [] variables paths = Unit {0}

@@ -4,6 +4,7 @@
 -- a block with `---`. (The definition is that of `dh_tree`, with the other placements; a program that breaks none of
 -- those breaks none of these.)
 use Rattle.std.specs.Prelude.{ℕ, ◌&&◌, not, Bool, false, List, [], ◌∷◌, ◌++◌, Option}
+use Rattle.dh_tree.specs.Placements.{is_folded_into}
 use Rattle.dh_base.specs.declared.places.Place.{Place}
 use Rattle.dh_base.specs.declared.rules.Rule.TheVariants.{Reducer}
 use Rattle.dh_tree.specs.declared.breaches.Breach.{Breach}
@@ -15,10 +16,7 @@ use Rattle.dh_tree.specs.PlainTrees.{Term, term, number, truth_value, named, acc
 use Rattle.dh_meaning.specs.CoreOf.{entity_number}
 pub use Rattle.dh_tree.specs.Placements.{is_from_outside, is_plain_variable, entity_varies, names_variable}
 
--- such a variable is declared outside the loop whose iterator has this number, or inside
-abbrev pub varies_outside : List Entity → (iterator : ℕ) → Option ℕ → Bool
-varies_outside es iterator entity = names_variable es entity && is_from_outside iterator entity
-
+-- a variable that is declared inside the loop whose iterator has this number
 abbrev pub varies_inside : List Entity → (iterator : ℕ) → Option ℕ → Bool
 varies_inside es iterator entity = names_variable es entity && not (is_from_outside iterator entity)
 
@@ -35,7 +33,7 @@ is_joined es iterator (term place k (converted t to)) = false
 -- a command in a block that joins the copies of a loop
 abbrev pub joined_breaches : List Entity → (iterator : ℕ) → Place → ActionForm → List Breach
 joined_breaches es iterator place (reduces target o value) =
-    when (not (varies_outside es iterator target.entity)) (breach Reducer target.place ∷ []) ++ when (not (is_joined es iterator value)) (breach Reducer (place_of value) ∷ [])
+    when (not (is_folded_into es iterator target.entity)) (breach Reducer target.place ∷ []) ++ when (not (is_joined es iterator value)) (breach Reducer (place_of value) ∷ [])
 joined_breaches es iterator place (lets name declared value) = breach Reducer place ∷ []
 joined_breaches es iterator place (lets_memory name shape shape_places value) = breach Reducer place ∷ []
 joined_breaches es iterator place (views name parent form) = breach Reducer place ∷ []

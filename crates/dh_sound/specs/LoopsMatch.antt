@@ -1,8 +1,9 @@
 -- What it is for the loops round a block of a program as it is run to be those of the source round its commands: the
 -- unrolled among them, and of the source there are no others, match one by one. And what is found of one of them that
 -- is in a turn.
-use Rattle.std.specs.Prelude.{◌≡◌, ℕ, suc, ◌-◌, ◌/◌, ◌<◌, nat_lt, Bool, false, if◌then◌else◌, List, [], ◌∷◌, Some}
+use Rattle.std.specs.Prelude.{◌≡◌, ℕ, suc, ◌<◌, nat_lt, Bool, false, if◌then◌else◌, List, [], ◌∷◌, Some}
 use Rattle.dh_tree.specs.declared.trees.counters.Counter.{Counter}
+use Rattle.dh_tree.specs.Counters.{turn_count}
 use Rattle.dh_meaning.specs.Bindings.{binding_in, depth_bound}
 use Rattle.dh_meaning.specs.Core.{Turning}
 use Rattle.dh_meaning.specs.CoreOf.{Known}
@@ -21,7 +22,7 @@ pub record LoopMatches (known : Known) (loop : Turning) (c : Counter) : Type 0 w
   pub depth : loop.depth ≡ depth_bound (binding_in known.bindings loop.iterator)
   pub low : loop.low ≡ c.low
   pub factor : loop.factor ≡ c.factor
-  pub count : loop.count ≡ (c.high - c.low) / c.factor
+  pub count : loop.count ≡ turn_count c.low c.high c.factor
 
 -- loops match one by one
 abbrev pub EachMatches : Known → List Turning → List Counter → Type 0

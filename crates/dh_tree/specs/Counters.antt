@@ -1,9 +1,13 @@
 -- The loops of a program, by their iterators.
-use Rattle.std.specs.Prelude.{ℕ, ◌≤◌, List, [], ◌∷◌, ◌++◌, Option, Some, None, if◌then◌else◌}
+use Rattle.std.specs.Prelude.{ℕ, ◌-◌, ◌/◌, ◌≤◌, List, [], ◌∷◌, ◌++◌, Option, Some, None, if◌then◌else◌}
 use Rattle.std.specs.List.{AllByRecursion}
 use Rattle.dh_tree.specs.declared.trees.counters.Counter.{Counter}
 use Rattle.dh_tree.specs.Memories.{same_entity}
 use Rattle.dh_tree.specs.PlainTrees.{Action, action, ActionForm, lets, lets_memory, views, assigns, stores, reduces, calls, blocks, decides, repeats, counts, MaybeAction, no_action, one_action, Actions, no_actions, action_then, Groups, no_groups, group_then, Program}
+
+-- the turns of a loop, in each of which so many copies of its body are done side by side
+abbrev pub turn_count : (low high factor : ℕ) → ℕ
+turn_count low high factor = (high - low) / factor
 
 abbrev mutual
   -- the loops of a command, in text order

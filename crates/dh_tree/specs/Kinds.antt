@@ -17,6 +17,18 @@ use Rattle.dh_tree.specs.LeastBreach.{breach}
 use Rattle.dh_tree.specs.WiderKinds.{wider}
 use Rattle.dh_tree.specs.PlainTrees.{Term, term, TermForm, number, truth_value, named, accessed, in_bank, applied, converted, Terms, no_terms, term_then, Suffixed, ViewPlan, shrinks, splits, suffixes, shifts, Action, action, ActionForm, lets, lets_memory, views, assigns, stores, reduces, calls, blocks, decides, repeats, counts, MaybeAction, no_action, one_action, Actions, no_actions, action_then, Groups, no_groups, group_then, Declared, Formal, Defined, Program}
 
+-- two kinds are the same
+abbrev pub same_kind : Kind → Kind → Bool
+same_kind kind.Bool kind.Bool = true
+same_kind (kind.Unsigned m) (kind.Unsigned n) = m == n
+same_kind (kind.Signed m) (kind.Signed n) = m == n
+same_kind kind.Bool (kind.Unsigned n) = false
+same_kind kind.Bool (kind.Signed n) = false
+same_kind (kind.Unsigned m) kind.Bool = false
+same_kind (kind.Unsigned m) (kind.Signed n) = false
+same_kind (kind.Signed m) kind.Bool = false
+same_kind (kind.Signed m) (kind.Unsigned n) = false
+
 -- what is known of an entity
 pub data Fact : Type 0 where
   -- a variable or a scalar parameter; without a kind where the right side of its `let` has none

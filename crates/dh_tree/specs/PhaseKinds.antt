@@ -1,7 +1,8 @@
 -- How many phases commands have, as far as it matters where straight commands may stand: none (0), one
 -- straight phase (1), or others (2). A view that moves is a straight command, another is a declaration alone. Calls
 -- are not built and have none.
-use Rattle.std.specs.Prelude.{ℕ, ◌+◌, ◌-◌, ◌/◌, ◌==◌, ◌&&◌, ◌||◌, nat_le, if◌then◌else◌, max, min}
+use Rattle.std.specs.Prelude.{ℕ, ◌+◌, ◌==◌, ◌&&◌, ◌||◌, nat_le, if◌then◌else◌, max, min}
+use Rattle.dh_tree.specs.Counters.{turn_count}
 use Rattle.dh_tree.specs.PlainTrees.{Action, action, ActionForm, lets, lets_memory, views, assigns, stores, reduces, calls, blocks, decides, repeats, counts, MaybeAction, no_action, one_action, Actions, no_actions, action_then, Groups, no_groups, group_then}
 use Rattle.dh_tree.specs.ViewOffsets.{moves}
 
@@ -29,7 +30,7 @@ abbrev mutual
   form_phase_kind (decides test chosen other) = choice_kind (phase_kind chosen) (other_phase_kind other)
   form_phase_kind (repeats test body) = 2
   form_phase_kind (counts iterator declared low high factor body combine combine_place) =
-      turns_kind ((high.value - low.value) / factor.value) (phase_kind body) (other_phase_kind combine)
+      turns_kind (turn_count low.value high.value factor.value) (phase_kind body) (other_phase_kind combine)
 
   -- an arm of an `if` that may lack, or a block that joins copies
   pub other_phase_kind : MaybeAction → ℕ

@@ -18,7 +18,7 @@ use Rattle.dh_viewing.proofs.ReachTold.{reach_below, reached_told, told_reached}
 use Rattle.dh_expressions.specs.declared.scenes.Through.{Through}
 use Rattle.dh_expressions.specs.Named.{set_or_none}
 use Rattle.dh_expressions.specs.Numbers.{narrowed}
-use Rattle.dh_unroll.specs.ViewsListed.{AreReached, HasSets, MakesSets, ReachedByBanks, any_in, reaches_inside}
+use Rattle.dh_unroll.specs.ViewsListed.{AreReached, HasSets, MakesSets, ReachedByBanks, SetsBehind, any_in, reaches_inside}
 
 -- Truths.
 
@@ -209,9 +209,6 @@ sets_more ss n old new s added reached (long, all) =
     by bank l (inr k) = (s, (at_last old s bank (long ∙ last bank n l k), subst (λ (b : ℕ). AreReached ss b s) (last bank n l k) reached))
 
 -- one set more, whatever stands behind the view
-abbrev pub SetsBehind : ViewMap → (parent : List BankSet) → (n : ℕ) → List BankSet → Type 0
-SetsBehind v parent n sets = (length sets ≡ n) × ((ss : List Step) → ReachedByBanks ss (banks_of v.parent.dims) parent → ReachedByBanks (step_of v ∷ ss) n sets)
-
 pub none_behind : (v : ViewMap) (parent sets : List BankSet) → sets ≡ [] → SetsBehind v parent 0 sets
 none_behind v parent sets e = ((no_sets [] sets e).0, λ ss r. (no_sets (step_of v ∷ ss) sets e).1)
 

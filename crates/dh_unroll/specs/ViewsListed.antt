@@ -36,6 +36,18 @@ ReachedByBanks ss count sets = (bank : ℕ) → bank < count → (s : BankSet) �
 
 -- One view behind its parent.
 
+-- it is known of the first banks of a view of a memory, so many
+abbrev pub SetsAlone : ViewMap → (count : ℕ) → List BankSet → Type 0
+SetsAlone v count sets = (length sets ≡ count) × ReachedByBanks (step_of v ∷ []) count sets
+
+-- and of those of a view of another one, whatever stands behind that
+abbrev pub SetsBehind : ViewMap → (parent : List BankSet) → (count : ℕ) → List BankSet → Type 0
+SetsBehind v parent count sets = (length sets ≡ count) × ((ss : List Step) → ReachedByBanks ss (banks_of v.parent.dims) parent → ReachedByBanks (step_of v ∷ ss) count sets)
+
+-- what is taken of a view, of which the parent has this number
+abbrev pub one_through : (behind : ℕ) → List BankSet → Through
+one_through behind banks = record { behind = behind; banks = banks }
+
 -- it is known of each bank of the parent what may be reached
 abbrev pub HasSets : ViewMap → List Through → (parent : Option ℕ) → Type 0
 HasSets v through None = Unit {0}

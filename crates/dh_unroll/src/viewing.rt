@@ -2,16 +2,15 @@
 //! take of each: the number of the one behind it on its way, and by each of its banks the banks of the memory that may be
 //! reached from there.
 
-ghost use Rattle.std.specs.Prelude.{◌≡◌, ◌<◌, ◌≤◌, ◌+◌, ◌++◌, ◌∷◌, ◌&&◌, ◌||◌, [], ℕ, List, false, length, map, slice_get, IfOk, OnOk};
+ghost use Rattle.std.specs.Prelude.{◌≡◌, ◌<◌, ◌≤◌, ◌+◌, ◌++◌, ◌∷◌, ◌&&◌, ◌||◌, [], ℕ, false, length, map, slice_get, IfOk, OnOk};
 ghost use Rattle.std.specs.List.{AllByRecursion};
 ghost use Rattle.dh_tree.specs.Elements as elements;
 ghost use Rattle.dh_tree.specs.Shapes.{IsDim, most_banks};
 ghost use Rattle.dh_tree.specs.ViewShapes.{IsViewMap};
-ghost use Rattle.dh_meaning.specs.Ways.{Step, step_of};
 ghost use Rattle.dh_viewing.specs.ReachedBanks.{is_in};
 ghost use Rattle.dh_ways.specs.Seen.{led_seen};
 ghost use Rattle.dh_expressions.specs.Named.{number_at, set_or_none};
-ghost use Rattle.dh_unroll.specs.ViewsListed.{HasSets, LeadsSomewhere, ListsAll, ListsFirst, MakesSets, ReachedByBanks, any_in};
+ghost use Rattle.dh_unroll.specs.ViewsListed.{HasSets, LeadsSomewhere, ListsAll, ListsFirst, MakesSets, SetsAlone, SetsBehind, any_in, one_through};
 
 use dh_base::{Items, NoMemory};
 use dh_expressions::{Through, narrow};
@@ -114,8 +113,8 @@ fn push_set(sets: &mut Items<BankSet>, banks: BankSet) -> Result<(), NoMemory>
 /// By each bank of a view of a memory the banks of that which may be reached.
 fn sets_first(alloc: Global, view: &ViewMap) -> Result<Items<BankSet>, NoMemory>
     requires { IsViewMap view.now }
-    ensures { IfOk result (λ sets. (length sets ≡ elements.banks_of view.now.shape.dims)
-        × ReachedByBanks (step_of view.now ∷ []) (elements.banks_of view.now.shape.dims) sets) }
+    ensures { IfOk result
+        (λ sets. SetsAlone view.now (elements.banks_of view.now.shape.dims) sets) }
 {
     let count = view_banks(view);
     let mut sets = Items::new(alloc);
@@ -135,9 +134,8 @@ fn sets_behind(
 ) -> Result<Items<BankSet>, NoMemory>
     requires map { IsViewMap view.now }
     requires many { length parent.now ≡ elements.banks_of view.now.parent.dims }
-    ensures { IfOk result (λ sets. (length sets ≡ elements.banks_of view.now.shape.dims)
-        × ((ss : List Step) → ReachedByBanks ss (elements.banks_of view.now.parent.dims) parent.now
-        → ReachedByBanks (step_of view.now ∷ ss) (elements.banks_of view.now.shape.dims) sets)) }
+    ensures { IfOk result
+        (λ sets. SetsBehind view.now parent.now (elements.banks_of view.now.shape.dims) sets) }
 {
     let count = view_banks(view);
     let mut sets = Items::new(alloc);
@@ -185,11 +183,7 @@ fn push_through(
     behind: u32,
     banks: Items<BankSet>,
 ) -> Result<(), NoMemory>
-    ensures { OnOk result (through.new.items ≡ through.old.items ++ record {
-      behind = behind;
-      banks
-          = banks;
-    } ∷ []) }
+    ensures { OnOk result (through.new.items ≡ through.old.items ++ one_through behind banks ∷ []) }
 {
     through.push(Through { behind, banks })?;
     Ok(())

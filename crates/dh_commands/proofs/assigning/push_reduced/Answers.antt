@@ -7,7 +7,7 @@ use Rattle.dh_code.specs.Extended.{extension_of}
 use Rattle.dh_commands.proofs.ReducersMade.{reduced_made}
 use Rattle.dh_value.specs.declared.kinds.Kind.{Kind}
 use Rattle.dh_code.specs.declared.places.Held.{Held}
-use Rattle.dh_code.specs.Made.{same_kind}
+use Rattle.dh_tree.specs.Kinds.{same_kind}
 use Rattle.dh_code.specs.Slots.{held_at}
 use Rattle.dh_expressions.specs.MadeValues.{MadeConverted, MadeShown}
 use Rattle.dh_expressions.specs.Shown.{kind_written}

@@ -1,5 +1,6 @@
 use Rattle.std.proofs.Common.{◌≡◌, ◌<◌, ◌≤◌, ℕ, add-one, sym, subst, ◌∙◌, arith}
-use Rattle.dh_unroll.proofs.ReachedSets.{SetsBehind, more_behind, none_behind, reached_in}
+use Rattle.dh_unroll.specs.ViewsListed.{SetsBehind}
+use Rattle.dh_unroll.proofs.ReachedSets.{more_behind, none_behind, reached_in}
 use Rattle.dh_unroll.proofs.viewing.sets_behind.Goals as goal
 
 pub view_banks-count-requires : goal.view_banks-count-requires

@@ -1,6 +1,6 @@
-use Rattle.std.proofs.Common.{◌≡◌, ◌<◌, ℕ, [], ◌∷◌, length, add-one, subst, ◌∙◌, arith}
+use Rattle.std.proofs.Common.{◌≡◌, ◌<◌, ℕ, [], ◌∷◌, add-one, subst, ◌∙◌, arith}
 use Rattle.dh_meaning.specs.Ways.{step_of}
-use Rattle.dh_unroll.specs.ViewsListed.{ReachedByBanks}
+use Rattle.dh_unroll.specs.ViewsListed.{SetsAlone}
 use Rattle.dh_unroll.proofs.ReachedSets.{alone_reached, no_sets, reached_in, sets_more}
 use Rattle.dh_unroll.proofs.viewing.sets_first.Goals as goal
 
@@ -25,4 +25,4 @@ loop-bank-preserved c = rw (add-one c.loop-bank.bank)
 pub returns : goal.returns
 returns c =
     let end : c.loop-bank.bank ≡ c.view_banks-count.result = let l = c.loop-bank-test.false in let e = c.loop-bank.auto.bank-end in omega (arith, l, e) in
-    subst (λ (n : ℕ). (length c.loop-bank.sets ≡ n) × ReachedByBanks (step_of c.args.view.now ∷ []) n c.loop-bank.sets) (end ∙ c.view_banks-count.ensures) c.loop-bank.invariant
+    subst (λ (n : ℕ). SetsAlone c.args.view.now n c.loop-bank.sets) (end ∙ c.view_banks-count.ensures) c.loop-bank.invariant
