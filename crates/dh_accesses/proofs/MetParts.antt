@@ -6,7 +6,7 @@ use Rattle.std.specs.Global.{Global}
 use Rattle.std.proofs.lemmas.List.{drop_all}
 use Rattle.dh_base.proofs.ListItems.{at_item}
 use Rattle.dh_meaning.specs.AccessNumbers.{own_accesses, inner_accesses, accesses_of, other_accesses, part_accesses, groups_accesses}
-use Rattle.dh_meets.specs.MayMeet.{row_of, arms_meet, meets, command_meets, other_meets, groups_meet, part_meets}
+use Rattle.dh_meets.specs.MayMeet.{row_of_accesses, arms_meet, meets, command_meets, other_meets, groups_meet, part_meets}
 use Rattle.dh_plan.specs.declared.plans.Meets.{Meets as Tree}
 use Rattle.dh_plan.specs.declared.plans.Meets.TheVariants.{Access, All, One}
 use Rattle.dh_plan.specs.SeenPlans.{meets_seen, alls, ones}
@@ -34,30 +34,30 @@ two_one v a b is = subst (λ z. SameMeets z (one (meets_seen a) (meets_seen b)))
 
 -- Rows.
 
-row_step : (n end : ℕ) → n < end → row_of n (end - n) ≡ all (access n) (row_of (n + 1) (end - (n + 1)))
+row_step : (n end : ℕ) → n < end → row_of_accesses n (end - n) ≡ all (access n) (row_of_accesses (n + 1) (end - (n + 1)))
 row_step n end h =
     let more : end - n ≡ suc (end - (n + 1)) = omega (arith, h) in
     let next : suc n ≡ n + 1 = omega arith in
-    ap (λ k. row_of n k) more ∙ ap (λ k. all (access n) (row_of k (end - (n + 1)))) next
+    ap (λ k. row_of_accesses n k) more ∙ ap (λ k. all (access n) (row_of_accesses k (end - (n + 1)))) next
 
-pub row_turn : (first end n : ℕ) (ts more : List Tree) → n < end → more ≡ ts ++ Access n ∷ [] → alls_onto ts (row_of n (end - n)) ≡ row_of first (end - first)
-    → alls_onto more (row_of (n + 1) (end - (n + 1))) ≡ row_of first (end - first)
+pub row_turn : (first end n : ℕ) (ts more : List Tree) → n < end → more ≡ ts ++ Access n ∷ [] → alls_onto ts (row_of_accesses n (end - n)) ≡ row_of_accesses first (end - first)
+    → alls_onto more (row_of_accesses (n + 1) (end - (n + 1))) ≡ row_of_accesses first (end - first)
 row_turn first end n ts more h is so =
-    ap (λ l. alls_onto l (row_of (n + 1) (end - (n + 1)))) is
-    ∙ (alls_more ts (Access n) (row_of (n + 1) (end - (n + 1)))
-    ∙ (ap (λ x. alls_onto ts (all x (row_of (n + 1) (end - (n + 1))))) (access_is n)
+    ap (λ l. alls_onto l (row_of_accesses (n + 1) (end - (n + 1)))) is
+    ∙ (alls_more ts (Access n) (row_of_accesses (n + 1) (end - (n + 1)))
+    ∙ (ap (λ x. alls_onto ts (all x (row_of_accesses (n + 1) (end - (n + 1))))) (access_is n)
     ∙ (ap (λ r. alls_onto ts r) (sym (row_step n end h)) ∙ so)))
 
-pub row_done : (first end n : ℕ) (v : Vec Tree Global) → end ≤ n → alls_onto v.items (row_of n (end - n)) ≡ row_of first (end - first) → meets_seen (All v) ≡ row_of first (end - first)
+pub row_done : (first end n : ℕ) (v : Vec Tree Global) → end ≤ n → alls_onto v.items (row_of_accesses n (end - n)) ≡ row_of_accesses first (end - first) → meets_seen (All v) ≡ row_of_accesses first (end - first)
 row_done first end n v h so =
     let past : 0 ≡ end - n = omega (arith, h) in
-    all_is v ∙ (sym (alls_end v.items) ∙ (ap (λ k. alls_onto v.items (row_of n k)) past ∙ so))
+    all_is v ∙ (sym (alls_end v.items) ∙ (ap (λ k. alls_onto v.items (row_of_accesses n k)) past ∙ so))
 
 -- a row of the accesses behind a number
-pub row_met : (first count next : ℕ) (m : Met) → next ≡ behind first count → MeetsRow first next m → MeetsAll first count (row_of first count) m
+pub row_met : (first count next : ℕ) (m : Met) → next ≡ behind first count → MeetsRow first next m → MeetsAll first count (row_of_accesses first count) m
 row_met first count next m is r = record {
   next_is = r.next_is ∙ is;
-  same = λ few. same_is _ _ (r.seen ∙ ap (λ k. row_of first k) (ap (λ n. n - first) (is ∙ behind_few first count few) ∙ add-sub_cancel_left first count));
+  same = λ few. same_is _ _ (r.seen ∙ ap (λ k. row_of_accesses first k) (ap (λ n. n - first) (is ∙ behind_few first count few) ∙ add-sub_cancel_left first count));
 }
 
 -- Tests, arms and loops.
@@ -71,7 +71,7 @@ pub met_if : (unrolled : Bool) (first tests own : ℕ) (chosen : Action) (other 
     → tests ≡ behind first own → MeetsRow first tests t → MeetsCommand unrolled t.next chosen c → MeetsOther unrolled c.next other o
     → SameMeets (meets_seen arms) (arms_meet unrolled (meets_seen c.meets) (meets_seen o.meets)) → SameMeets (meets_seen whole) (all (meets_seen t.meets) (meets_seen arms))
     → MeetsAll first (own + (accesses_of chosen + other_accesses other))
-    (all (row_of first own) (arms_meet unrolled (meets unrolled (first + own) chosen) (other_meets unrolled (first + own + accesses_of chosen) other)))
+    (all (row_of_accesses first own) (arms_meet unrolled (meets unrolled (first + own) chosen) (other_meets unrolled (first + own + accesses_of chosen) other)))
     record { meets = whole; next = o.next }
 met_if unrolled first tests own chosen other t c o arms whole is row done last joined put = record {
   next_is = last.next_is ∙ (ap (λ n. behind n (other_accesses other)) (done.next_is ∙ ap (λ n. behind n (accesses_of chosen)) told)
@@ -96,7 +96,7 @@ met_if unrolled first tests own chosen other t c o arms whole is row done last j
 
 pub met_while : (unrolled : Bool) (first tests own : ℕ) (body : Action) (t b : Met) (whole : Tree)
     → tests ≡ behind first own → MeetsRow first tests t → MeetsCommand unrolled t.next body b → SameMeets (meets_seen whole) (one (meets_seen t.meets) (meets_seen b.meets))
-    → MeetsAll first (own + accesses_of body) (one (row_of first own) (meets unrolled (first + own) body)) record { meets = whole; next = b.next }
+    → MeetsAll first (own + accesses_of body) (one (row_of_accesses first own) (meets unrolled (first + own) body)) record { meets = whole; next = b.next }
 met_while unrolled first tests own body t b whole is row done put = record {
   next_is = done.next_is ∙ (ap (λ n. behind n (accesses_of body)) told ∙ behind_twice first own (accesses_of body));
   same = λ few.

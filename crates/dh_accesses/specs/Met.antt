@@ -1,7 +1,7 @@
 -- Trees of accesses that say the same, and what the walk that makes one says of commands.
 use Rattle.std.specs.Prelude.{◌≡◌, ◌↔◌, ℕ, ◌+◌, ◌-◌, ◌<◌, ◌^◌, Bool, false}
 use Rattle.dh_meaning.specs.AccessNumbers.{accesses_of, other_accesses, groups_accesses}
-use Rattle.dh_meets.specs.MayMeet.{row_of, meets, other_meets, groups_meet}
+use Rattle.dh_meets.specs.MayMeet.{row_of_accesses, meets, other_meets, groups_meet}
 use Rattle.dh_plan.specs.declared.plans.Meets.{Meets as Tree}
 use Rattle.dh_plan.specs.SeenPlans.{meets_seen}
 use Rattle.dh_tree.specs.Meets.{Meets, In, Distinct, Apart, Before}
@@ -17,7 +17,7 @@ pub record SameMeets (x y : Meets) : Type 0 where
   pub distinct : Distinct y → Distinct x
 
 pub record MeetsRow (first next : ℕ) (m : Met) : Type 0 where
-  pub seen : meets_seen m.meets ≡ row_of first (next - first)
+  pub seen : meets_seen m.meets ≡ row_of_accesses first (next - first)
   pub next_is : m.next ≡ next
 
 -- of a part with so many accesses, numbered from `first` on: it says what the definition says, and counts them

@@ -4,7 +4,7 @@
 ghost use Rattle.std.specs.Prelude.{◌≡◌, [], map, option_map};
 ghost use Rattle.dh_meaning.specs.AccessNumbers.{term_accesses, terms_accesses, maybe_accesses, plan_accesses, accesses_of, other_accesses, groups_accesses};
 ghost use Rattle.dh_tree.specs.PlainTrees.{suffixes};
-ghost use Rattle.dh_tree.specs.Seen.{term_seen, all_terms_seen, factor_seen, plan_seen, action_seen, maybe_block_seen, all_parts_seen};
+ghost use Rattle.dh_tree.specs.Seen.{term_seen, all_terms_seen, factor_seen, view_plan, action_seen, maybe_block_seen, all_parts_seen};
 ghost use Rattle.dh_accesses.specs.Counted.{behind};
 
 use dh_tree::{Command, CommandForm, Expr, ExprForm, ViewForm};
@@ -66,7 +66,7 @@ fn behind_suffixes(first: u32, by: &[(u64, Expr)]) -> u32
 
 /// Behind those of the offsets of a view.
 fn behind_offsets(first: u32, form: &ViewForm) -> u32
-    ensures { result ≡ behind first (plan_accesses (plan_seen form.now)) }
+    ensures { result ≡ behind first (plan_accesses (view_plan form.now)) }
 {
     match form {
         ViewForm::Shrink { .. } => first,

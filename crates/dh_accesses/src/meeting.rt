@@ -2,7 +2,7 @@
 //! arms of an `if` that stands in no unrolled loop, and in the test and in the body of a `while`.
 
 ghost use Rattle.std.specs.Prelude.{◌≡◌, ◌-◌, IfOk};
-ghost use Rattle.dh_meets.specs.MayMeet.{row_of, arms_meet};
+ghost use Rattle.dh_meets.specs.MayMeet.{row_of_accesses, arms_meet};
 ghost use Rattle.dh_plan.specs.SeenPlans.{meets_seen};
 ghost use Rattle.dh_tree.specs.Meets.{all, one};
 ghost use Rattle.dh_tree.specs.Seen.{action_seen, maybe_block_seen, all_parts_seen};
@@ -17,7 +17,7 @@ use std::alloc::Global;
 /// Accesses from a number on below another, of which any two may meet.
 #[tactic(auto, using(dh_plan::proofs::SeenMeets::meets_are))]
 fn row(alloc: Global, first: u32, end: u32) -> Result<Meets, NoMemory>
-    ensures { IfOk result (λ m. meets_seen m ≡ row_of first (end - first)) }
+    ensures { IfOk result (λ m. meets_seen m ≡ row_of_accesses first (end - first)) }
 {
     let mut parts = Vec::new(alloc);
     for access in first..end {

@@ -16,7 +16,7 @@ use Rattle.dh_tree.specs.Elements.{Spot, bank_of, row_of, rows_of, is_within, sp
 use Rattle.dh_tree.specs.Shapes.{IsDim}
 use Rattle.dh_tree.proofs.BankElements.{row_within, position_told}
 use Rattle.dh_meaning.specs.Effects.{is_inside, is_row, spot_by_row}
-use Rattle.dh_plan.specs.Blocks.{word_at, is_on, first_bank}
+use Rattle.dh_plan.specs.Blocks.{word_at, is_on, first_listed_bank}
 use Rattle.dh_plan.specs.SoundPlans.{IsListed}
 use Rattle.dh_plan.specs.SoundRuns.{IsInKind}
 use Rattle.dh_rows.specs.Readings.{Readings}
@@ -112,7 +112,7 @@ place_leads table memory indices formed within =
     chosen false e s = absurd (cc)
 
 -- the only bank of a list
-pub only_bank : (bank : ℕ) (banks : List (ℕ × ℕ)) → length banks ≡ 1 → (place : ℕ) → IsListed bank place banks → first_bank banks ≡ bank
+pub only_bank : (bank : ℕ) (banks : List (ℕ × ℕ)) → length banks ≡ 1 → (place : ℕ) → IsListed bank place banks → first_listed_bank banks ≡ bank
 only_bank bank [] long place h = absurd h
 only_bank bank (b ∷ []) long place (inl h) = h.0
 only_bank bank (b ∷ []) long place (inr h) = absurd h

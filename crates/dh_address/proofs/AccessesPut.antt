@@ -16,7 +16,7 @@ use Rattle.dh_plan.specs.Ordered.{one_or_none, offsets_taken, reach_takes}
 use Rattle.dh_plan.specs.PlainPlans.{PlainPlan}
 use Rattle.dh_plan.specs.PlanKinds.{ReachSuits}
 use Rattle.dh_plan.proofs.ValuesAlike.{all_left, all_right}
-use Rattle.dh_rows.specs.Readings.{Readings, Obeys, IsEarlier, Grows, Adds, IsValue, IsValueOrNone}
+use Rattle.dh_rows.specs.Readings.{Readings, Obeys, IsEarlierValue, OperationsGrow, AddsOperations, IsReadingValue, IsValueOrNone}
 use Rattle.dh_rows.specs.RowsShown.{IsInput}
 use Rattle.dh_rows.proofs.Growing.{grows_self, grows_on, value_later, maybe_later, adds_self, adds_on, earlier_later}
 use Rattle.dh_address.specs.declared.literals.LiteralPlace.{LiteralPlace}
@@ -42,13 +42,13 @@ HasMany table r (Some row) is = Unit {0}
 module _ (x : Readings) (clock : ℕ) (a : Around) where
   -- the new value of an old one stands at a clock, and is of its kind
   pub record IsInputOf (own v : ℕ) : Type 0 where
-    pub earlier : IsEarlier x clock own (new_number a v)
+    pub earlier : IsEarlierValue x clock own (new_number a v)
     pub kind_is : x.kind (new_number a v) ≡ known_kind a v
 
-  pub input_value : (os : List Operation) (v : ℕ) → IsInputOf (length os) v → IsValue x clock os (known_kind a v) (new_number a v)
+  pub input_value : (os : List Operation) (v : ℕ) → IsInputOf (length os) v → IsReadingValue x clock os (known_kind a v) (new_number a v)
   input_value os v h o = record { earlier = h.earlier; kind_is = h.kind_is }
 
-  input_as : (os : List Operation) (k : Kind) (v : ℕ) → known_kind a v ≡ k → IsInputOf (length os) v → IsValue x clock os k (new_number a v)
+  input_as : (os : List Operation) (k : Kind) (v : ℕ) → known_kind a v ≡ k → IsInputOf (length os) v → IsReadingValue x clock os k (new_number a v)
   input_as os k v e h o = record { earlier = h.earlier; kind_is = h.kind_is ∙ e }
 
   pub maybe_value : (os : List Operation) (k : Kind) (v : Option ℕ) → AllByRecursion (λ g. known_kind a g ≡ k) (one_or_none v) → AllByRecursion (IsInputOf (length os)) (one_or_none v)
@@ -84,10 +84,10 @@ module _ (x : Readings) (clock : ℕ) (a : Around) where
 
   -- a value that is there, of an integer kind, or of a kind without sign
   abbrev pub IsNumberThere : List Operation → ℕ → Type 0
-  IsNumberThere os v = Obeys x os → IsEarlier x clock (length os) v × IsInteger (x.kind v)
+  IsNumberThere os v = Obeys x os → IsEarlierValue x clock (length os) v × IsInteger (x.kind v)
 
   abbrev pub IsCountThere : List Operation → ℕ → Type 0
-  IsCountThere os v = Obeys x os → IsEarlier x clock (length os) v × ((w : ℕ) × (x.kind v ≡ kind.Unsigned w))
+  IsCountThere os v = Obeys x os → IsEarlierValue x clock (length os) v × ((w : ℕ) × (x.kind v ≡ kind.Unsigned w))
 
   -- a bank is picked, or there is one alone
   abbrev pub IsPicked : Reach → Option ℕ → Type 0
@@ -95,7 +95,7 @@ module _ (x : Readings) (clock : ℕ) (a : Around) where
   IsPicked r (Some v) = Unit {0}
 
   pub record PutsAccess (r : Reach) (old last : List Operation) (t : Reach) : Type 0 where
-    pub adds : Adds x clock old last
+    pub adds : AddsOperations x clock old last
     pub taken : List ℕ
     pub row : ℕ
     pub select : Option ℕ
@@ -105,10 +105,10 @@ module _ (x : Readings) (clock : ℕ) (a : Around) where
     pub select_there : AllByRecursion (IsCountThere last) (one_or_none select)
     pub picks : IsPicked r select
 
-  number_there : (os : List Operation) (k : Kind) (v : ℕ) → IsInteger k → IsValue x clock os k v → IsNumberThere os v
+  number_there : (os : List Operation) (k : Kind) (v : ℕ) → IsInteger k → IsReadingValue x clock os k v → IsNumberThere os v
   number_there os k v sized h o = let s = h o in (s.earlier, subst (λ (l : Kind). IsInteger l) (sym s.kind_is) sized)
 
-  numbers_there : (old os : List Operation) → Grows old os → (vs : List ℕ) → AllByRecursion IsNumberKnown vs → AllByRecursion (IsInputOf (length old)) vs
+  numbers_there : (old os : List Operation) → OperationsGrow old os → (vs : List ℕ) → AllByRecursion IsNumberKnown vs → AllByRecursion (IsInputOf (length old)) vs
       → AllByRecursion (IsNumberThere os) (map (new_number a) vs)
   numbers_there old os g [] k h = tt
   numbers_there old os g (v ∷ vs) k h =
@@ -145,7 +145,7 @@ module _ (x : Readings) (clock : ℕ) (a : Around) where
   counts_there old (Some v) k h = (λ o. (h.0.earlier, (k.0.0, h.0.kind_is ∙ k.0.1)), tt)
 
   -- indices and offsets at their new numbers
-  taken_there : (old os : List Operation) → Grows old os → (r : Reach) → AllByRecursion IsNumberKnown (r.indices ++ offsets_taken r.steps) → AllByRecursion (IsInputOf (length old)) (reach_takes r)
+  taken_there : (old os : List Operation) → OperationsGrow old os → (r : Reach) → AllByRecursion IsNumberKnown (r.indices ++ offsets_taken r.steps) → AllByRecursion (IsInputOf (length old)) (reach_takes r)
       → AllByRecursion (IsNumberThere os) (all_taken a r)
   taken_there old os g r k h =
       let P = IsInputOf (length old) in

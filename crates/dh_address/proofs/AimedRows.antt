@@ -11,8 +11,8 @@ use Rattle.dh_tree.specs.declared.tables.Dim.{Dim}
 use Rattle.dh_tree.specs.Elements.{bank_of, row_of}
 use Rattle.dh_plan.specs.declared.operations.Operation.{Operation}
 use Rattle.dh_plan.specs.declared.operations.OperationForm.TheVariants.{Constant, Convert}
-use Rattle.dh_rows.specs.Readings.{Readings, Obeys, IsEarlier, Grows, Adds, IsValue, IsValueOrNone}
-use Rattle.dh_rows.specs.RowsShown.{Shows, ShowsOrZero, IsInput, AreWithin, HasWidth, IsRowMade}
+use Rattle.dh_rows.specs.Readings.{Readings, Obeys, IsEarlierValue, OperationsGrow, AddsOperations, IsReadingValue, IsValueOrNone}
+use Rattle.dh_rows.specs.RowsShown.{ShowsUnsigned, ShowsOrZero, IsInput, IndicesAreWithin, IsWideEnough, IsRowMade}
 use Rattle.dh_rows.specs.MadeOperations.{Made, constant_made, or_zero}
 use Rattle.dh_rows.proofs.Growing.{grows_self, grows_on, plain_grows, pushed_grows, obeys_before, pushed_word, value_later, maybe_later, adds_self, adds_on, pushed_adds, pushed_value}
 use Rattle.dh_rows.proofs.CountWords.{number_word}
@@ -28,13 +28,13 @@ HasSelect true select = (v : ℕ) × (select ≡ Some v)
 module _ (x : Readings) (clock : ℕ) where
   -- plain operations, and a value of a kind
   pub record PutsMade (old : List Operation) (m : Made) (k : Kind) : Type 0 where
-    pub adds : Adds x clock old m.operations
-    pub stands : IsValue x clock m.operations k m.value
+    pub adds : AddsOperations x clock old m.operations
+    pub stands : IsReadingValue x clock m.operations k m.value
 
   -- plain operations, a row, and a bank where it is wanted
   pub record PutsAim (old new : List Operation) (k j : Kind) (banked : Bool) (row : ℕ) (select : Option ℕ) : Type 0 where
-    pub adds : Adds x clock old new
-    pub row_stands : IsValue x clock new k row
+    pub adds : AddsOperations x clock old new
+    pub row_stands : IsReadingValue x clock new k row
     pub select_stands : IsValueOrNone x clock new j select
     pub has : HasSelect banked select
 
@@ -56,7 +56,7 @@ module _ (x : Readings) (clock : ℕ) where
   narrowed_put : (old : List Operation) (bank : Made) (k : Kind) (narrow : ℕ) → IsWidth narrow → x.first ≤ length old → PutsMade old bank k → PutsMade old (narrowed narrow bank) (kind.Unsigned narrow)
   narrowed_put old bank k narrow sized begun h =
       let behind = begun_later x old bank.operations h.adds.grows begun in
-      let takes : (Obeys x bank.operations → AllByRecursion (λ v. IsEarlier x clock (length bank.operations) v) (bank.value ∷ [])) = λ o. ((h.stands o).earlier, tt) in
+      let takes : (Obeys x bank.operations → AllByRecursion (λ v. IsEarlierValue x clock (length bank.operations) v) (bank.value ∷ [])) = λ o. ((h.stands o).earlier, tt) in
       record {
         adds = adds_on x clock old bank.operations (narrowed narrow bank).operations h.adds
             (pushed_adds x clock bank.operations (Convert bank.value (kind.Unsigned narrow)) refl behind takes (λ o. sized));
@@ -86,7 +86,7 @@ module _ (x : Readings) (clock : ℕ) where
   PlaceFits width narrow (Some place) = (place.row < 2 ^ width) × (place.bank < 2 ^ narrow)
 
   pub index_aim_put : (place : Option LiteralPlace) (width narrow : ℕ) (dims : List Dim) (indices : List ℕ) (banked : Bool) (old new : List Operation) (row : ℕ) (select : Option ℕ)
-      → IsAimBut place width narrow dims indices banked old new row select → HasWidth width dims → IsWidth narrow → PlaceFits width narrow place → x.first ≤ length old
+      → IsAimBut place width narrow dims indices banked old new row select → IsWideEnough width dims → IsWidth narrow → PlaceFits width narrow place → x.first ≤ length old
       → AllByRecursion (λ i. IsInput x clock old i) indices → PutsAim old new (kind.Unsigned width) (kind.Unsigned narrow) banked row select
   index_aim_put (Some place) width narrow dims indices banked old new row select h wide few fits begun inputs =
       let row_made = constant_made old width place.row in
@@ -121,7 +121,7 @@ module _ (x : Readings) (clock : ℕ) where
       → PutsMaybe x clock old (waited old select).operations (kind.Unsigned 1) (waited old select).sum
   waited_put old None begun h = record { adds = adds_self x clock old; stands = tt }
   waited_put old (Some v) begun h =
-      let takes : (Obeys x old → AllByRecursion (λ v. IsEarlier x clock (length old) v) (v ∷ [])) = λ o. (h o, tt) in
+      let takes : (Obeys x old → AllByRecursion (λ v. IsEarlierValue x clock (length old) v) (v ∷ [])) = λ o. (h o, tt) in
       let one : IsWidth 1 = (omega arith, omega arith) in
       record {
         adds = pushed_adds x clock old (Convert v (kind.Unsigned 1)) refl begun takes (λ o. one);
@@ -134,31 +134,31 @@ module _ (x : Readings) (width narrow : ℕ) where
   -- a select, where there is one, shows the bank
   abbrev pub ShowsSelect : Option ℕ → (bank : ℕ) → Type 0
   ShowsSelect None bank = Unit {0}
-  ShowsSelect (Some v) bank = Shows x narrow v bank
+  ShowsSelect (Some v) bank = ShowsUnsigned x narrow v bank
 
   pub record ShowsAim (row : ℕ) (select : Option ℕ) (row_number bank : ℕ) : Type 0 where
-    pub row_shown : Shows x width row row_number
+    pub row_shown : ShowsUnsigned x width row row_number
     pub bank_shown : ShowsSelect select bank
 
   or_zero_shows : (old : List Operation) (value : Option ℕ) (n : ℕ) → x.first ≤ length old → Obeys x (or_zero old width value).operations → ShowsOrZero x width value n
-      → Shows x width (or_zero old width value).value n
+      → ShowsUnsigned x width (or_zero old width value).value n
   or_zero_shows old None n begun obeys h =
       pushed_word x old (Constant (with_bits (kind.Unsigned width) 0)) refl begun obeys ∙ ap (λ (m : ℕ). with_bits (kind.Unsigned width) m) (sym h)
   or_zero_shows old (Some value) n begun obeys h = h
 
-  constant_shows : (old : List Operation) (w n : ℕ) → x.first ≤ length old → Obeys x (constant_made old w n).operations → Shows x w (constant_made old w n).value n
+  constant_shows : (old : List Operation) (w n : ℕ) → x.first ≤ length old → Obeys x (constant_made old w n).operations → ShowsUnsigned x w (constant_made old w n).value n
   constant_shows old w n begun obeys = pushed_word x old (Constant (with_bits (kind.Unsigned w) n)) refl begun obeys
 
   -- a bank that fits is the same as a select
-  narrowed_shows : (bank : Made) (n : ℕ) → x.first ≤ length bank.operations → n < 2 ^ narrow → Obeys x (narrowed narrow bank).operations → Shows x width bank.value n
-      → Shows x narrow (narrowed narrow bank).value n
+  narrowed_shows : (bank : Made) (n : ℕ) → x.first ≤ length bank.operations → n < 2 ^ narrow → Obeys x (narrowed narrow bank).operations → ShowsUnsigned x width bank.value n
+      → ShowsUnsigned x narrow (narrowed narrow bank).value n
   narrowed_shows bank n begun fits obeys h =
       pushed_word x bank.operations (Convert bank.value (kind.Unsigned narrow)) refl begun obeys
       ∙ (ap (λ (w : Word). word_of (kind.Unsigned narrow) (value_of w)) h ∙ number_word narrow n fits)
 
   aim_shows : (banked : Bool) (row bank : Made) (new : List Operation) (number : ℕ) (select : Option ℕ) (row_number bank_number : ℕ)
-      → Grows row.operations bank.operations → IsAim banked row bank new number select → Obeys x new
-      → (Obeys x row.operations → Shows x width row.value row_number) → (banked ≡ true → Obeys x bank.operations → Shows x narrow bank.value bank_number)
+      → OperationsGrow row.operations bank.operations → IsAim banked row bank new number select → Obeys x new
+      → (Obeys x row.operations → ShowsUnsigned x width row.value row_number) → (banked ≡ true → Obeys x bank.operations → ShowsUnsigned x narrow bank.value bank_number)
       → ShowsAim number select row_number bank_number
   aim_shows false row bank new number select row_number bank_number grown h obeys r b =
       subst (λ (n : ℕ). ShowsAim n select row_number bank_number) (sym h.1.0)
@@ -170,7 +170,7 @@ module _ (x : Readings) (width narrow : ℕ) where
       (subst (λ (s : Option ℕ). ShowsAim row.value s row_number bank_number) (sym h.1.1)
       (record { row_shown = r (obeys_before x row.operations bank.operations grown behind); bank_shown = b refl behind }))
 
-  or_zero_grows : (old : List Operation) (value : Option ℕ) → Grows old (or_zero old width value).operations
+  or_zero_grows : (old : List Operation) (value : Option ℕ) → OperationsGrow old (or_zero old width value).operations
   or_zero_grows old None = pushed_grows old None _
   or_zero_grows old (Some value) = grows_self old
 
@@ -179,21 +179,21 @@ module _ (x : Readings) (width narrow : ℕ) where
   PlaceIs None row bank = Unit {0}
   PlaceIs (Some place) row bank = (place.row ≡ row) × (place.bank ≡ bank)
 
-  aim_grows : (banked : Bool) (row bank : Made) (new : List Operation) (number : ℕ) (select : Option ℕ) → Grows row.operations bank.operations → IsAim banked row bank new number select
-      → Grows row.operations new
-  aim_grows false row bank new number select g h = subst (λ (os : List Operation). Grows row.operations os) (sym h.0) (grows_self row.operations)
-  aim_grows true row bank new number select g h = subst (λ (os : List Operation). Grows row.operations os) (sym h.0) g
+  aim_grows : (banked : Bool) (row bank : Made) (new : List Operation) (number : ℕ) (select : Option ℕ) → OperationsGrow row.operations bank.operations → IsAim banked row bank new number select
+      → OperationsGrow row.operations new
+  aim_grows false row bank new number select g h = subst (λ (os : List Operation). OperationsGrow row.operations os) (sym h.0) (grows_self row.operations)
+  aim_grows true row bank new number select g h = subst (λ (os : List Operation). OperationsGrow row.operations os) (sym h.0) g
 
   pub index_aim_shows : (place : Option LiteralPlace) (dims : List Dim) (indices : List ℕ) (banked : Bool) (old new : List Operation) (row : ℕ) (select : Option ℕ) (numbers : List ℕ)
-      → IsAimBut place width narrow dims indices banked old new row select → HasWidth width dims → bank_of dims numbers < 2 ^ narrow → PlaceIs place (row_of dims numbers) (bank_of dims numbers)
-      → x.first ≤ length old → Obeys x new → AreWithin x dims indices numbers → ShowsAim row select (row_of dims numbers) (bank_of dims numbers)
+      → IsAimBut place width narrow dims indices banked old new row select → IsWideEnough width dims → bank_of dims numbers < 2 ^ narrow → PlaceIs place (row_of dims numbers) (bank_of dims numbers)
+      → x.first ≤ length old → Obeys x new → IndicesAreWithin x dims indices numbers → ShowsAim row select (row_of dims numbers) (bank_of dims numbers)
   index_aim_shows (Some place) dims indices banked old new row select numbers h wide fits is begun obeys within =
       let row_made = constant_made old width place.row in
       let grown = pushed_grows old None (Constant (with_bits (kind.Unsigned width) place.row)) in
       aim_shows banked row_made (constant_made row_made.operations narrow place.bank) new row select (row_of dims numbers) (bank_of dims numbers)
       (pushed_grows row_made.operations None _) h obeys
-      (λ o. subst (λ (n : ℕ). Shows x width (length old) n) is.0 (constant_shows old width place.row begun o))
-      (λ b o. subst (λ (n : ℕ). Shows x narrow (length row_made.operations) n) is.1 (constant_shows row_made.operations narrow place.bank (begun_later x old row_made.operations grown begun) o))
+      (λ o. subst (λ (n : ℕ). ShowsUnsigned x width (length old) n) is.0 (constant_shows old width place.row begun o))
+      (λ b o. subst (λ (n : ℕ). ShowsUnsigned x narrow (length row_made.operations) n) is.1 (constant_shows row_made.operations narrow place.bank (begun_later x old row_made.operations grown begun) o))
   index_aim_shows None dims indices banked old new row select numbers h wide fits is begun obeys within =
       let m : IsRowMade width dims indices banked old h.spread h.values.row h.values.bank = h.made wide in
       let row_made = or_zero h.spread width h.values.row in

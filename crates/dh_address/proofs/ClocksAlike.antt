@@ -16,13 +16,13 @@ use Rattle.dh_plan.specs.declared.operations.OperationForm.{OperationForm}
 use Rattle.dh_plan.specs.declared.operations.OperationForm.TheVariants.{Constant, Old, Compute, Convert, Select, Check, Probe, Read, Write, Set}
 use Rattle.dh_plan.specs.declared.operations.PlanBlock.{PlanBlock}
 use Rattle.dh_plan.specs.declared.operations.Reach.{Reach}
-use Rattle.dh_plan.specs.LegalSchedules.{is_read, there_at, value_clock, greatest_of, least_clocks}
+use Rattle.dh_plan.specs.LegalSchedules.{is_read, there_at, value_clock, greatest_number, least_clocks}
 use Rattle.dh_plan.specs.Ordered.{one_or_none, offsets_taken, reach_takes, form_takes, operation_takes}
 use Rattle.dh_plan.specs.PlainPlans.{PlainPlan, first_in, operations_in}
 use Rattle.dh_plan.specs.PlanKinds.{kind_of_value, kinds_of, ReachSuits, PicksBank, FormSuits, IsFormedBlock}
 use Rattle.dh_plan.specs.PlanRuns.{start_at}
 use Rattle.dh_plan.proofs.ValuesAlike.{all_left, all_right, all_map}
-use Rattle.dh_rows.specs.Readings.{Readings, Obeys, IsEarlier, Grows, Adds, IsValueOrNone}
+use Rattle.dh_rows.specs.Readings.{Readings, Obeys, IsEarlierValue, OperationsGrow, AddsOperations, IsValueOrNone}
 use Rattle.dh_rows.specs.MadeOperations.{pushed, IsMade}
 use Rattle.dh_rows.proofs.Growing.{grows_self, grows_on, grown_length, kept_there, pushed_grows, obeys_before, maybe_later, adds_on, pushed_adds, pushed_value}
 use Rattle.dh_address.proofs.WaySizes.{HasMaps}
@@ -48,11 +48,11 @@ use Rattle.dh_address.proofs.TestedRanges.{PutsMaybe, IsTestable, all_there, tes
 
 -- Greatest numbers.
 
-pub greatest_least : (f : ℕ → ℕ) (vs : List ℕ) → AllByRecursion (λ v. f v ≤ greatest_of (map f vs)) vs
+pub greatest_least : (f : ℕ → ℕ) (vs : List ℕ) → AllByRecursion (λ v. f v ≤ greatest_number (map f vs)) vs
 greatest_least f [] = tt
-greatest_least f (v ∷ vs) = (omega arith, all_map (λ u. f u ≤ greatest_of (map f vs)) (λ u. f u ≤ max (f v) (greatest_of (map f vs))) vs (λ u l. (omega (arith, l))) (greatest_least f vs))
+greatest_least f (v ∷ vs) = (omega arith, all_map (λ u. f u ≤ greatest_number (map f vs)) (λ u. f u ≤ max (f v) (greatest_number (map f vs))) vs (λ u l. (omega (arith, l))) (greatest_least f vs))
 
-most_of_map : (f : ℕ → ℕ) (vs : List ℕ) (bound : ℕ) → AllByRecursion (λ v. f v ≤ bound) vs → greatest_of (map f vs) ≤ bound
+most_of_map : (f : ℕ → ℕ) (vs : List ℕ) (bound : ℕ) → AllByRecursion (λ v. f v ≤ bound) vs → greatest_number (map f vs) ≤ bound
 most_of_map f [] bound h = omega arith
 most_of_map f (v ∷ vs) bound h = let a = h.0 in let b = most_of_map f vs bound h.1 in omega (arith, a, b)
 
@@ -109,14 +109,14 @@ module _ (p : PlainPlan) (maps : HasMaps p) (tables : IsProgramTable p.table) (b
   obeys = obeys_all p maps tables bs block front begins formed (start_at q [] []) all_formed
 
   -- the clock of an operation of the new block
-  new_clock : (n : ℕ) (u : Operation) → first ≤ n → slice_get all n ≡ Some u → x.clock n ≡ there_at u.form (greatest_of (map x.clock (operation_takes u)))
+  new_clock : (n : ℕ) (u : Operation) → first ≤ n → slice_get all n ≡ Some u → x.clock n ≡ there_at u.form (greatest_number (map x.clock (operation_takes u)))
   new_clock n u l there = clock_given q block front begins n u l there (all_formed n u l (slice_get_within all n u there) there).0 (start_at q [] [])
 
   -- a value comes no earlier than what its operation takes
   late : (n : ℕ) (u : Operation) → first ≤ n → slice_get all n ≡ Some u → AllByRecursion (λ v. x.clock v ≤ x.clock n) (operation_takes u)
   late n u l there =
-      all_map (λ v. x.clock v ≤ greatest_of (map x.clock (operation_takes u))) (λ v. x.clock v ≤ x.clock n) (operation_takes u)
-      (λ v h. (let e = new_clock n u l there in let t = there_least u.form (greatest_of (map x.clock (operation_takes u))) in omega (arith, h, e, t))) (greatest_least x.clock (operation_takes u))
+      all_map (λ v. x.clock v ≤ greatest_number (map x.clock (operation_takes u))) (λ v. x.clock v ≤ x.clock n) (operation_takes u)
+      (λ v h. (let e = new_clock n u l there in let t = there_least u.form (greatest_number (map x.clock (operation_takes u))) in omega (arith, h, e, t))) (greatest_least x.clock (operation_takes u))
 
   plain_late : (n : ℕ) (f : OperationForm) → first ≤ n → slice_get all n ≡ Some (record { guard = None; form = f }) → AllByRecursion (λ v. x.clock v ≤ x.clock n) (form_takes f)
   plain_late n f l there = late n (record { guard = None; form = f }) l there
@@ -125,15 +125,15 @@ module _ (p : PlainPlan) (maps : HasMaps p) (tables : IsProgramTable p.table) (b
   both_late n u v l there = (plain_late n (Compute op.Both u v) l there).0
 
   -- what was added at a clock is there by then
-  added_by : (clock : ℕ) (old new : List Operation) → Adds x clock old new → Grows new all → first ≤ length old → AllBetween (λ m u. x.clock m ≤ clock) old new
+  added_by : (clock : ℕ) (old new : List Operation) → AddsOperations x clock old new → OperationsGrow new all → first ≤ length old → AllBetween (λ m u. x.clock m ≤ clock) old new
   added_by clock old new adds grows begun m u l e =
       let within = place_of new m u e in
       let h = adds.each m u l e (taken_obeys new grows m) in
       let there = kept_there new all grows m u e in
       obeys.clocks m clock u.form (omega (arith, begun, l)) (record { there = there ∙ ap (λ (g : Option ℕ). Some (record { guard = g; form = u.form })) h.guard; plain = h.plain })
-      (all_map (λ v. IsEarlier x clock m v) (λ v. x.clock v ≤ clock) (form_takes u.form) (λ v k. k.there) h.takes)
+      (all_map (λ v. IsEarlierValue x clock m v) (λ v. x.clock v ≤ clock) (form_takes u.form) (λ v k. k.there) h.takes)
     where
-      taken_obeys : (new : List Operation) → Grows new all → (m : ℕ) → Obeys x (take m new)
+      taken_obeys : (new : List Operation) → OperationsGrow new all → (m : ℕ) → Obeys x (take m new)
       taken_obeys new g m =
           obeys_before x (take m new) new (record { more = drop m new; appended = sym (take-append-drop m new) }) (obeys_before x new all g obeys)
 
@@ -147,7 +147,7 @@ module _ (p : PlainPlan) (maps : HasMaps p) (tables : IsProgramTable p.table) (b
 
     -- when all is there that the old operation takes
     abbrev needed : ℕ
-    needed = greatest_of (map old_clock (operation_takes o))
+    needed = greatest_number (map old_clock (operation_takes o))
 
     abbrev Input : ℕ → Type 0
     Input v = IsInputOf x needed a (length old) v
@@ -161,8 +161,8 @@ module _ (p : PlainPlan) (maps : HasMaps p) (tables : IsProgramTable p.table) (b
     needed_least : needed ≤ old_clock (old_first + i)
     needed_least = let e = old_time in let t = there_least o.form needed in omega (arith, e, t)
 
-    needed_of : (f : OperationForm) → o.form ≡ f → needed ≡ greatest_of (map old_clock (one_or_none o.guard ++ form_takes f))
-    needed_of f e = ap (λ (g : OperationForm). greatest_of (map old_clock (one_or_none o.guard ++ form_takes g))) e
+    needed_of : (f : OperationForm) → o.form ≡ f → needed ≡ greatest_number (map old_clock (one_or_none o.guard ++ form_takes f))
+    needed_of f e = ap (λ (g : OperationForm). greatest_number (map old_clock (one_or_none o.guard ++ form_takes g))) e
 
     -- the new values are there by then
     pub record IsKnownInTime (v : ℕ) : Type 0 where
@@ -212,11 +212,11 @@ module _ (p : PlainPlan) (maps : HasMaps p) (tables : IsProgramTable p.table) (b
         (subst (λ (rs : List Operation). slice_get rs n ≡ Some (record { guard = g; form = f })) (sym h.0)
         (subst (λ (m : ℕ). slice_get (pushed ps g f).operations m ≡ Some (record { guard = g; form = f })) (sym h.1) (at_last ps _)))
 
-    made_clock : (ps : List Operation) (g : Option ℕ) (f : OperationForm) → IsMade mid n (pushed ps g f) → first ≤ length ps → x.clock n ≡ there_at f (greatest_of (map x.clock (one_or_none g ++ form_takes f)))
+    made_clock : (ps : List Operation) (g : Option ℕ) (f : OperationForm) → IsMade mid n (pushed ps g f) → first ≤ length ps → x.clock n ≡ there_at f (greatest_number (map x.clock (one_or_none g ++ form_takes f)))
     made_clock ps g f h begun = new_clock n (record { guard = g; form = f }) (subst (λ (m : ℕ). first ≤ m) (sym h.1) begun) (made_there ps g f h)
 
     -- the last of a piece
-    last_in_time : (gives : Type 0) (ps : List Operation) (g : Option ℕ) (f : OperationForm) → first ≤ length ps → IsMade mid n (pushed ps g f) → Grows ps mid → AllBetween (λ m u. x.clock m ≤ needed) old ps
+    last_in_time : (gives : Type 0) (ps : List Operation) (g : Option ℕ) (f : OperationForm) → first ≤ length ps → IsMade mid n (pushed ps g f) → OperationsGrow ps mid → AllBetween (λ m u. x.clock m ≤ needed) old ps
         → x.clock n ≡ old_clock (old_first + i) → IsInTime gives
     last_in_time gives ps g f begun h grows before own = record {
       own = λ _. own;
@@ -226,19 +226,19 @@ module _ (p : PlainPlan) (maps : HasMaps p) (tables : IsProgramTable p.table) (b
           (made_between (λ m u. x.clock m ≤ old_clock (old_first + i)) ps mid n g f h (omega (arith, own)));
     }
 
-    made_all : (ps : List Operation) (g : Option ℕ) (f : OperationForm) → IsMade mid n (pushed ps g f) → Grows ps mid
-    made_all ps g f h = subst (λ (rs : List Operation). Grows ps rs) (sym h.0) (pushed_grows ps g f)
+    made_all : (ps : List Operation) (g : Option ℕ) (f : OperationForm) → IsMade mid n (pushed ps g f) → OperationsGrow ps mid
+    made_all ps g f h = subst (λ (rs : List Operation). OperationsGrow ps rs) (sym h.0) (pushed_grows ps g f)
 
     same_in_time : (gives : Type 0) (f f' : OperationForm) → o.form ≡ f → IsMade mid n (pushed old (new_or_none a o.guard) f') → form_takes f' ≡ map (new_number a) (form_takes f)
         → ((clock : ℕ) → there_at f' clock ≡ there_at f clock) → IsInTime gives
     same_in_time gives f f' e h mapped form_same =
         last_in_time gives old (new_or_none a o.guard) f' at.begun h (made_all old (new_or_none a o.guard) f' h) (nothing_between (λ m u. x.clock m ≤ needed) old old refl)
         (made_clock old (new_or_none a o.guard) f' h at.begun
-        ∙ (ap (λ (vs : List ℕ). there_at f' (greatest_of (map x.clock (one_or_none (new_or_none a o.guard) ++ vs)))) mapped
-        ∙ (ap (λ (vs : List ℕ). there_at f' (greatest_of (map x.clock vs))) (new_list a o.guard (form_takes f))
-        ∙ (ap (λ (cs : List ℕ). there_at f' (greatest_of cs))
+        ∙ (ap (λ (vs : List ℕ). there_at f' (greatest_number (map x.clock (one_or_none (new_or_none a o.guard) ++ vs)))) mapped
+        ∙ (ap (λ (vs : List ℕ). there_at f' (greatest_number (map x.clock vs))) (new_list a o.guard (form_takes f))
+        ∙ (ap (λ (cs : List ℕ). there_at f' (greatest_number cs))
         (clocks_mapped x.clock old_clock (new_number a) (one_or_none o.guard ++ form_takes f) (all_join Timed (one_or_none o.guard) (form_takes f) guard_timed (form_timed f e)))
-        ∙ (form_same (greatest_of (map old_clock (one_or_none o.guard ++ form_takes f)))
+        ∙ (form_same (greatest_number (map old_clock (one_or_none o.guard ++ form_takes f)))
         ∙ (ap (λ (c : ℕ). there_at f c) (sym (needed_of f e)) ∙ sym (time_of f e)))))))
 
     -- Accesses.
@@ -252,7 +252,7 @@ module _ (p : PlainPlan) (maps : HasMaps p) (tables : IsProgramTable p.table) (b
     maybe_back bound None t h = tt
     maybe_back bound (Some v) t h = ((let c = t.0 in let l = h.0 in omega (arith, c, l)), tt)
 
-    waited_back : (bound : ℕ) (here : List Operation) (select : Option ℕ) → first ≤ length here → Grows (waited here (new_or_none a select)).operations all → AllByRecursion Timed (one_or_none select)
+    waited_back : (bound : ℕ) (here : List Operation) (select : Option ℕ) → first ≤ length here → OperationsGrow (waited here (new_or_none a select)).operations all → AllByRecursion Timed (one_or_none select)
         → AllByRecursion (λ m. x.clock m ≤ bound) (one_or_none (waited here (new_or_none a select)).sum) → AllByRecursion (λ v. old_clock v ≤ bound) (one_or_none select)
     waited_back bound here None begun grows t h = tt
     waited_back bound here (Some v) begun grows t h =
@@ -281,7 +281,7 @@ module _ (p : PlainPlan) (maps : HasMaps p) (tables : IsProgramTable p.table) (b
           together bound (back bound r.indices (all_left Timed r.indices _ taken) (all_left P (map (new_number a) r.indices) (map (new_number a) (offsets_taken r.steps)) h))
           (back bound (offsets_taken r.steps) offsets_timed (all_right P (map (new_number a) r.indices) (map (new_number a) (offsets_taken r.steps)) h)) k l
 
-      aims_back : (row : Option ℕ) → r.row ≡ row → (is : List Operand) (here last : List Operation) (t : Reach) → IsAimed a r row is here last t → first ≤ length here → Grows last all
+      aims_back : (row : Option ℕ) → r.row ≡ row → (is : List Operand) (here last : List Operation) (t : Reach) → IsAimed a r row is here last t → first ≤ length here → OperationsGrow last all
           → (bound : ℕ) → AllByRecursion (λ m. x.clock m ≤ bound) (reach_takes t) → AllByRecursion (λ v. old_clock v ≤ bound) (reach_takes r)
       aims_back None e is here last t h begun grows bound below =
           let P = λ (m : ℕ). x.clock m ≤ bound in
@@ -324,7 +324,7 @@ module _ (p : PlainPlan) (maps : HasMaps p) (tables : IsProgramTable p.table) (b
       on_bound last (Some g) h v = ((v h).earlier.there, tt)
 
       -- what is there by then, once row and bank are put down
-      of_access : (here last : List Operation) (on : Option ℕ) (t : Reach) → PutsMaybe x needed old here kind.Bool on → PutsAccess x needed a r here last t → Grows last all
+      of_access : (here last : List Operation) (on : Option ℕ) (t : Reach) → PutsMaybe x needed old here kind.Bool on → PutsAccess x needed a r here last t → OperationsGrow last all
           → AllBetween (λ m u. x.clock m ≤ needed) old last × (AllByRecursion (λ v. x.clock v ≤ needed) (one_or_none on) × AllByRecursion (λ v. x.clock v ≤ needed) (reach_takes t))
       of_access here last on t guards access grows =
           let whole = obeys_before x last all grows obeys in
@@ -342,7 +342,7 @@ module _ (p : PlainPlan) (maps : HasMaps p) (tables : IsProgramTable p.table) (b
               → AllByRecursion (λ v. x.clock v ≤ needed) (reach_takes t)
           aimed_bound vs row select e h = subst (λ (u : Reach). AllByRecursion (λ v. x.clock v ≤ needed) (reach_takes u)) (sym e) h
 
-      of_guards : (last : List Operation) (on : Option ℕ) (t : Reach) (h : IsAccessMade a (new_or_none a o.guard) r old last on t) → Grows last all → PutsPassed x needed old h.passed h.ranges h.indices
+      of_guards : (last : List Operation) (on : Option ℕ) (t : Reach) (h : IsAccessMade a (new_or_none a o.guard) r old last on t) → OperationsGrow last all → PutsPassed x needed old h.passed h.ranges h.indices
           → AllByRecursion Input (reach_takes r) → IsPicksGiven x needed a r r.row → IsTimedUse last on t
       of_guards last on t h grows w input picks =
           let at_passed = begun_later x old h.passed w.adds.grows at.begun in
@@ -365,7 +365,7 @@ module _ (p : PlainPlan) (maps : HasMaps p) (tables : IsProgramTable p.table) (b
           }
 
       use_timed : PicksBank p old_first ks r r.row r.select → AllByRecursion Input (reach_takes r) → (last : List Operation) (on : Option ℕ) (t : Reach) → IsAccessMade a (new_or_none a o.guard) r old last on t
-          → Grows last all → IsTimedUse last on t
+          → OperationsGrow last all → IsTimedUse last on t
       use_timed picks input last on t h grows =
           of_guards last on t h grows (passed_put x needed a p maps tables refl r suits old h.passed h.ranges h.indices h.passes at.begun input) input (given r.row picks)
         where
@@ -385,7 +385,7 @@ module _ (p : PlainPlan) (maps : HasMaps p) (tables : IsProgramTable p.table) (b
         let u = use_timed r suits.0 (form_timed (Read r) e) suits.1 (form_inputs (Read r) e) h.last h.on h.reach h.access grows in
         let begun = begun_later x old h.last (access_grows a (new_or_none a o.guard) r old h.last h.on h.reach h.access) at.begun in
         let P = λ (v : ℕ). x.clock v ≤ needed in
-        let new = greatest_of (map x.clock (one_or_none h.on ++ reach_takes h.reach)) in
+        let new = greatest_number (map x.clock (one_or_none h.on ++ reach_takes h.reach)) in
         let most = most_of_map x.clock (one_or_none h.on ++ reach_takes h.reach) needed (all_join P (one_or_none h.on) (reach_takes h.reach) u.on_by_then u.takes_by_then) in
         let below = greatest_least x.clock (one_or_none h.on ++ reach_takes h.reach) in
         let Q = λ (v : ℕ). x.clock v ≤ new in
@@ -408,7 +408,7 @@ module _ (p : PlainPlan) (maps : HasMaps p) (tables : IsProgramTable p.table) (b
         let begun = begun_later x old h.last (access_grows a (new_or_none a o.guard) r old h.last h.on h.reach h.access) at.begun in
         let P = λ (v : ℕ). x.clock v ≤ needed in
         let news = one_or_none h.on ++ (new_number a value ∷ reach_takes h.reach) in
-        let new = greatest_of (map x.clock news) in
+        let new = greatest_number (map x.clock news) in
         let most = most_of_map x.clock news needed (all_join P (one_or_none h.on) (new_number a value ∷ reach_takes h.reach) u.on_by_then (input.0.earlier.there, u.takes_by_then)) in
         let below = greatest_least x.clock news in
         let Q = λ (v : ℕ). x.clock v ≤ new in
@@ -428,7 +428,7 @@ module _ (p : PlainPlan) (maps : HasMaps p) (tables : IsProgramTable p.table) (b
     new_guard_bound None h = tt
     new_guard_bound (Some g) h = (h.0.earlier.there, tt)
 
-    check_by_then : (fault : ℕ) (here : List Operation) (test : Option ℕ) → first ≤ length here → Grows (check_made here (new_or_none a o.guard) fault test) all → Obeys x here → IsValueOrNone x needed here kind.Bool test
+    check_by_then : (fault : ℕ) (here : List Operation) (test : Option ℕ) → first ≤ length here → OperationsGrow (check_made here (new_or_none a o.guard) fault test) all → Obeys x here → IsValueOrNone x needed here kind.Bool test
         → AllBetween (λ m u. x.clock m ≤ needed) here (check_made here (new_or_none a o.guard) fault test)
     check_by_then fault here None begun grows h v = nothing_between (λ m u. x.clock m ≤ needed) here here refl
     check_by_then fault here (Some test) begun grows h v =
@@ -438,7 +438,7 @@ module _ (p : PlainPlan) (maps : HasMaps p) (tables : IsProgramTable p.table) (b
         let most = most_of_map x.clock (one_or_none g ++ (test ∷ [])) needed (all_join P (one_or_none g) (test ∷ []) (new_guard_bound o.guard guard_inputs) ((v h).earlier.there, tt)) in
         made_between (λ m u. x.clock m ≤ needed) here (check_made here g fault (Some test)) (length here) g (Check test fault) (refl, refl) (omega (arith, c, most))
 
-    checks_by_then : (fault : ℕ) (rs : List Ranged) (here there : List Operation) → AreChecked (new_or_none a o.guard) fault rs here there → Grows there all → first ≤ length here
+    checks_by_then : (fault : ℕ) (rs : List Ranged) (here there : List Operation) → AreChecked (new_or_none a o.guard) fault rs here there → OperationsGrow there all → first ≤ length here
         → AllByRecursion (IsTestable x needed here) rs → AllBetween (λ m u. x.clock m ≤ needed) here there
     checks_by_then fault [] here there h grows begun testable = nothing_between (λ m u. x.clock m ≤ needed) here there h
     checks_by_then fault (r ∷ rs) here there (middle, (test, (tested, rest))) grows begun testable =
@@ -457,11 +457,11 @@ module _ (p : PlainPlan) (maps : HasMaps p) (tables : IsProgramTable p.table) (b
 
     -- what a probe gives, where it is taken
     module _ (r : Reach) (suits : ReachSuits p old_first ks r) (timed : AllByRecursion Timed (reach_takes r)) (input : AllByRecursion Input (reach_takes r)) (fault : ℕ) (e : o.form ≡ Probe r fault)
-        (checked : List Operation) (grown : Grows old checked) (before : AllBetween (λ m u. x.clock m ≤ needed) old checked) where
+        (checked : List Operation) (grown : OperationsGrow old checked) (before : AllBetween (λ m u. x.clock m ≤ needed) old checked) where
       begun_checked : first ≤ length checked
       begun_checked = begun_later x old checked grown at.begun
 
-      chain_inputs : (here : List Operation) → Grows old here → AllByRecursion (λ v. IsInput x needed here v) (new_takes a r)
+      chain_inputs : (here : List Operation) → OperationsGrow old here → AllByRecursion (λ v. IsInput x needed here v) (new_takes a r)
       chain_inputs here g =
           let I = λ (v : ℕ). IsInput x needed here v in
           let later = all_map Input (IsInputOf x needed a (length here)) (reach_takes r) (λ v k. input_later x needed a (length old) (length here) v (grown_length old here g) k) input in
@@ -497,8 +497,8 @@ module _ (p : PlainPlan) (maps : HasMaps p) (tables : IsProgramTable p.table) (b
           never (inl c) = cc
           never (inr c) = cc
 
-          same_grows : Grows checked mid
-          same_grows = subst (λ (ps : List Operation). Grows checked ps) (sym h) (grows_self checked)
+          same_grows : OperationsGrow checked mid
+          same_grows = subst (λ (ps : List Operation). OperationsGrow checked ps) (sym h) (grows_self checked)
       value_in_time true h =
           let g = new_or_none a o.guard in
           let begin = pushed checked None (Constant false_word) in
@@ -514,7 +514,7 @@ module _ (p : PlainPlan) (maps : HasMaps p) (tables : IsProgramTable p.table) (b
           let stands = chain.stands (obeys_before x m.operations all to_all obeys) in
           let P = λ (v : ℕ). x.clock v ≤ needed in
           let news = one_or_none g ++ (m.value ∷ m.value ∷ []) in
-          let new = greatest_of (map x.clock news) in
+          let new = greatest_number (map x.clock news) in
           let most = most_of_map x.clock news needed (all_join P (one_or_none g) (m.value ∷ m.value ∷ []) (new_guard_bound o.guard guard_inputs) (stands.earlier.there, (stands.earlier.there, tt))) in
           let Q = λ (v : ℕ). x.clock v ≤ new in
           let below = greatest_least x.clock news in

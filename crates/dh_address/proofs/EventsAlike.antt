@@ -25,7 +25,7 @@ use Rattle.dh_plan.specs.SoundPlans.{use_in}
 use Rattle.dh_plan.specs.SoundRuns.{AreInKinds}
 use Rattle.dh_plan.proofs.Appends.{events_behind, sets_behind, fault_behind, puts_behind}
 use Rattle.dh_plan.proofs.ValuesAlike.{all_right}
-use Rattle.dh_rows.specs.Readings.{Readings, Grows}
+use Rattle.dh_rows.specs.Readings.{Readings, OperationsGrow}
 use Rattle.dh_rows.specs.RowsShown.{HoldsOrNone, is_below_size}
 use Rattle.dh_rows.specs.MadeOperations.{pushed, IsMade}
 use Rattle.dh_rows.proofs.Growing.{grows_on, obeys_before}
@@ -309,7 +309,7 @@ module _ (p : PlainPlan) (maps : HasMaps p) (tables : IsProgramTable p.table) (b
           so_as t first vs here _ _ _ _ _ _ _ (made_so t first vs here (pushed here g (Check test fault)).operations (length here) g (Check test fault) (refl, refl))
           (ap first_fault same ∙ check_fault (is_on first vs g) c fault) (ap puts_of same ∙ check_puts (is_on first vs g) c fault) (no_set_chosen (is_on first vs g) [] refl)
 
-      checks_so : (fault : ℕ) (rs : List Ranged) (here there : List Operation) → AreChecked (new_or_none a o.guard) fault rs here there → Grows there all → first ≤ length here
+      checks_so : (fault : ℕ) (rs : List Ranged) (here there : List Operation) → AreChecked (new_or_none a o.guard) fault rs here there → OperationsGrow there all → first ≤ length here
           → AllByRecursion (IsTestable y 0 here) rs → AllByRecursion (IsShown x) rs
           → GrowsSo t first vs here there (missing (is_on first vs (new_or_none a o.guard)) (all_in x rs) fault) [] []
       checks_so fault [] here there h grows begun testable shown =

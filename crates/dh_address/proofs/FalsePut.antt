@@ -13,7 +13,7 @@ use Rattle.dh_plan.specs.declared.operations.Operation.{Operation}
 use Rattle.dh_plan.specs.declared.operations.OperationForm.{OperationForm}
 use Rattle.dh_plan.specs.declared.operations.OperationForm.TheVariants.{Compute}
 use Rattle.dh_plan.specs.Ordered.{form_takes}
-use Rattle.dh_rows.specs.Readings.{Readings, Obeys, IsEarlier, Grows, IsValue}
+use Rattle.dh_rows.specs.Readings.{Readings, Obeys, IsEarlierValue, OperationsGrow, IsReadingValue}
 use Rattle.dh_rows.specs.RowsShown.{IsInput}
 use Rattle.dh_rows.specs.MadeOperations.{Made, computed}
 use Rattle.dh_rows.proofs.Growing.{grows_self, grows_on, grown_length, kept_there, pushed_grows, obeys_before, pushed_word, value_later, adds_self, adds_on, pushed_adds, pushed_value, earlier_later}
@@ -30,47 +30,47 @@ alike (kind.Signed w) = refl
 two_truths : (k l : Kind) → k ≡ kind.Bool → l ≡ kind.Bool → AreTruths k l
 two_truths k l e f = subst (λ (m : Kind). AreTruths m l) (sym e) (subst (λ (m : Kind). AreTruths kind.Bool m) (sym f) tt)
 
-pub one_false_grows : (os : List Operation) (so_far v : ℕ) → Grows os (false_behind os so_far v).operations
+pub one_false_grows : (os : List Operation) (so_far v : ℕ) → OperationsGrow os (false_behind os so_far v).operations
 one_false_grows os so_far v = grows_on os (computed os op.Ne v v).operations _ (pushed_grows os None (Compute op.Ne v v)) (pushed_grows (computed os op.Ne v v).operations None _)
 
-pub many_false_grow : (m : Made) (vs : List ℕ) → Grows m.operations (false_behind_all m vs).operations
+pub many_false_grow : (m : Made) (vs : List ℕ) → OperationsGrow m.operations (false_behind_all m vs).operations
 many_false_grow m [] = grows_self m.operations
 many_false_grow m (v ∷ vs) =
     grows_on m.operations (false_behind m.operations m.value v).operations _ (one_false_grows m.operations m.value v) (many_false_grow (false_behind m.operations m.value v) vs)
 
 module _ (x : Readings) (clock : ℕ) where
-  input_later : (a b : List Operation) (v : ℕ) → Grows a b → IsInput x clock a v → IsInput x clock b v
+  input_later : (a b : List Operation) (v : ℕ) → OperationsGrow a b → IsInput x clock a v → IsInput x clock b v
   input_later a b v g h o = earlier_later x clock (length a) (length b) v (grown_length a b g) (h (obeys_before x a b g o))
 
-  inputs_later : (a b : List Operation) → Grows a b → (vs : List ℕ) → AllByRecursion (λ v. IsInput x clock a v) vs → AllByRecursion (λ v. IsInput x clock b v) vs
+  inputs_later : (a b : List Operation) → OperationsGrow a b → (vs : List ℕ) → AllByRecursion (λ v. IsInput x clock a v) vs → AllByRecursion (λ v. IsInput x clock b v) vs
   inputs_later a b g [] h = tt
   inputs_later a b g (v ∷ vs) h = (input_later a b v g h.0, inputs_later a b g vs h.1)
 
   unlike_put : (os : List Operation) (v : ℕ) → x.first ≤ length os → IsInput x clock os v → PutsMade x clock os (computed os op.Ne v v) kind.Bool
   unlike_put os v begun h =
-      let takes : (Obeys x os → AllByRecursion (λ v. IsEarlier x clock (length os) v) (v ∷ v ∷ [])) = λ o. (h o, (h o, tt)) in
+      let takes : (Obeys x os → AllByRecursion (λ v. IsEarlierValue x clock (length os) v) (v ∷ v ∷ [])) = λ o. (h o, (h o, tt)) in
       record {
         adds = pushed_adds x clock os (Compute op.Ne v v) refl begun takes (λ o. alike (x.kind v));
         stands = pushed_value x clock os (Compute op.Ne v v) refl begun takes (λ o. alike (x.kind v)) kind.Bool (λ o. refl);
       }
 
-  either_put : (os : List Operation) (u v : ℕ) → x.first ≤ length os → IsValue x clock os kind.Bool u → IsValue x clock os kind.Bool v → PutsMade x clock os (computed os op.Either u v) kind.Bool
+  either_put : (os : List Operation) (u v : ℕ) → x.first ≤ length os → IsReadingValue x clock os kind.Bool u → IsReadingValue x clock os kind.Bool v → PutsMade x clock os (computed os op.Either u v) kind.Bool
   either_put os u v begun g h =
-      let takes : (Obeys x os → AllByRecursion (λ v. IsEarlier x clock (length os) v) (u ∷ v ∷ [])) = λ o. ((g o).earlier, ((h o).earlier, tt)) in
+      let takes : (Obeys x os → AllByRecursion (λ v. IsEarlierValue x clock (length os) v) (u ∷ v ∷ [])) = λ o. ((g o).earlier, ((h o).earlier, tt)) in
       let suits : (Obeys x os → AreTruths (x.kind u) (x.kind v)) = λ o. two_truths (x.kind u) (x.kind v) (g o).kind_is (h o).kind_is in
       record {
         adds = pushed_adds x clock os (Compute op.Either u v) refl begun takes suits;
         stands = pushed_value x clock os (Compute op.Either u v) refl begun takes suits kind.Bool (λ o. refl);
       }
 
-  one_false_put : (os : List Operation) (so_far v : ℕ) → x.first ≤ length os → IsValue x clock os kind.Bool so_far → IsInput x clock os v → PutsMade x clock os (false_behind os so_far v) kind.Bool
+  one_false_put : (os : List Operation) (so_far v : ℕ) → x.first ≤ length os → IsReadingValue x clock os kind.Bool so_far → IsInput x clock os v → PutsMade x clock os (false_behind os so_far v) kind.Bool
   one_false_put os so_far v begun g h =
       let one = unlike_put os v begun h in
       let mid = (computed os op.Ne v v).operations in
       let two = either_put mid so_far (length os) (begun_later x os mid one.adds.grows begun) (value_later x clock os mid kind.Bool so_far one.adds.grows g) one.stands in
       record { adds = adds_on x clock os mid _ one.adds two.adds; stands = two.stands }
 
-  pub many_false_put : (m : Made) (vs : List ℕ) → x.first ≤ length m.operations → IsValue x clock m.operations kind.Bool m.value → AllByRecursion (λ v. IsInput x clock m.operations v) vs
+  pub many_false_put : (m : Made) (vs : List ℕ) → x.first ≤ length m.operations → IsReadingValue x clock m.operations kind.Bool m.value → AllByRecursion (λ v. IsInput x clock m.operations v) vs
       → PutsMade x clock m.operations (false_behind_all m vs) kind.Bool
   many_false_put m [] begun g h = record { adds = adds_self x clock m.operations; stands = g }
   many_false_put m (v ∷ vs) begun g h =
@@ -108,7 +108,7 @@ module _ (x : Readings) where
 
 module _ (x : Readings) (all : List Operation)
     (late : (n : ℕ) (f : OperationForm) → x.first ≤ n → slice_get all n ≡ Some (record { guard = None; form = f }) → AllByRecursion (λ v. x.clock v ≤ x.clock n) (form_takes f)) where
-  one_late : (os : List Operation) (so_far v : ℕ) → x.first ≤ length os → Grows (false_behind os so_far v).operations all
+  one_late : (os : List Operation) (so_far v : ℕ) → x.first ≤ length os → OperationsGrow (false_behind os so_far v).operations all
       → (x.clock so_far ≤ x.clock (false_behind os so_far v).value) × (x.clock v ≤ x.clock (false_behind os so_far v).value)
   one_late os so_far v begun g =
       let mid = (computed os op.Ne v v).operations in
@@ -120,7 +120,7 @@ module _ (x : Readings) (all : List Operation)
       through : (a b c : ℕ) → a ≤ b → b ≤ c → a ≤ c
       through a b c l m = omega (arith, l, m)
 
-  pub many_late : (m : Made) (vs : List ℕ) → x.first ≤ length m.operations → Grows (false_behind_all m vs).operations all
+  pub many_late : (m : Made) (vs : List ℕ) → x.first ≤ length m.operations → OperationsGrow (false_behind_all m vs).operations all
       → (x.clock m.value ≤ x.clock (false_behind_all m vs).value) × AllByRecursion (λ v. x.clock v ≤ x.clock (false_behind_all m vs).value) vs
   many_late m [] begun g = (omega arith, tt)
   many_late m (v ∷ vs) begun g =

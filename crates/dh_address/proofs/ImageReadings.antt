@@ -11,7 +11,7 @@ use Rattle.dh_plan.specs.declared.operations.Operation.{Operation}
 use Rattle.dh_plan.specs.declared.operations.OperationForm.{OperationForm}
 use Rattle.dh_plan.specs.declared.operations.OperationForm.TheVariants.{Constant, Old, Compute, Convert, Select, Check, Probe, Read, Write, Set}
 use Rattle.dh_plan.specs.Blocks.{StepStart, Look, word_at, in_memories, form_word, operation_word}
-use Rattle.dh_plan.specs.LegalSchedules.{greatest_of, least_clocks, value_clock, there_at}
+use Rattle.dh_plan.specs.LegalSchedules.{greatest_number, least_clocks, value_clock, there_at}
 use Rattle.dh_plan.specs.Ordered.{form_takes, operation_takes, one_or_none, IsBetween, TakesEarlier}
 use Rattle.dh_plan.specs.PlainPlans.{PlainPlan, first_in, operations_in}
 use Rattle.dh_plan.specs.PlanKinds.{kind_of_value, form_kind, kinds_of, OperationSuits, FormSuits}
@@ -19,7 +19,7 @@ use Rattle.dh_plan.specs.PlanRuns.{block_values}
 use Rattle.dh_plan.proofs.BlocksSolved.{below_suc}
 use Rattle.dh_plan.proofs.LeastLegal.{length_one_more}
 use Rattle.dh_plan.proofs.ValuesAlike.{memories_look_back}
-use Rattle.dh_rows.specs.Readings.{Readings, Obeys, HasPlain, IsEarlier, IsAdded, Grows, Adds, is_plain, plain_kind, plain_word, PlainSuits}
+use Rattle.dh_rows.specs.Readings.{Readings, Obeys, HasPlain, IsEarlierValue, IsAdded, OperationsGrow, AddsOperations, is_plain, plain_kind, plain_word, PlainSuits}
 use Rattle.dh_rows.specs.MadeOperations.{pushed}
 use Rattle.dh_rows.proofs.Growing.{kept_there}
 use Rattle.dh_address.proofs.BlockEquations.{word_solved, kind_solved, clock_solved}
@@ -48,7 +48,7 @@ take_front [] more n l = absurd (omega (arith, l))
 take_front (p ∷ a) more zero l = refl
 take_front (p ∷ a) more (suc n) l = ap (λ (xs : List _). p ∷ xs) (take_front a more n (omega (arith, l)))
 
-pub taken_front : (a b : List Operation) → Grows a b → (n : ℕ) → n < length a → take n b ≡ take n a
+pub taken_front : (a b : List Operation) → OperationsGrow a b → (n : ℕ) → n < length a → take n b ≡ take n a
 taken_front a b g n l = ap (λ (os : List Operation). take n os) g.appended ∙ take_front a g.more n l
 
 pub in_front : {A : Type 0} (a more : List A) (n : ℕ) (v : A) → n < length a → slice_get (a ++ more) n ≡ Some v → slice_get a n ≡ Some v
@@ -56,7 +56,7 @@ in_front [] more n v l e = absurd (omega (arith, l))
 in_front (p ∷ a) more zero v l e = e
 in_front (p ∷ a) more (suc n) v l e = in_front a more n v (omega (arith, l)) e
 
-pub was_in : {all : List Operation} (a : List Operation) → Grows a all → (n : ℕ) (o : Operation) → n < length a → slice_get all n ≡ Some o → slice_get a n ≡ Some o
+pub was_in : {all : List Operation} (a : List Operation) → OperationsGrow a all → (n : ℕ) (o : Operation) → n < length a → slice_get all n ≡ Some o → slice_get a n ≡ Some o
 was_in a g n o l e = in_front a g.more n o l (subst (λ (os : List Operation). slice_get os n ≡ Some o) g.appended e)
 
 pub at_last : {A : Type 0} (xs : List A) (v : A) → slice_get (xs ++ v ∷ []) (length xs) ≡ Some v
@@ -65,7 +65,7 @@ at_last (x ∷ xs) v = at_last xs v
 
 -- Clocks.
 
-pub greatest_most : (ns : List ℕ) (bound : ℕ) → AllByRecursion (λ (n : ℕ). n ≤ bound) ns → greatest_of ns ≤ bound
+pub greatest_most : (ns : List ℕ) (bound : ℕ) → AllByRecursion (λ (n : ℕ). n ≤ bound) ns → greatest_number ns ≤ bound
 greatest_most [] bound h = omega arith
 greatest_most (n ∷ ns) bound h = let a = h.0 in let b = greatest_most ns bound h.1 in omega (arith, a, b)
 
@@ -183,9 +183,9 @@ module _ (q : PlainPlan) (block : ℕ) (front : List Operation) (begins : length
         subst (λ (k : ℕ). kind_of_value (first_in q block) (kinds_of q block) k ≡ form_kind q.table q.registers (first_in q block) (kinds_of q block) o.form) (place_in n l)
         (kind_solved q.table q.registers (first_in q block) (operations_in q block) (n - first_in q block) o (in_block n o l there) at_own)
 
-    pub clock_given : (s : StepStart) → (block_readings q block s).clock n ≡ there_at o.form (greatest_of (map (block_readings q block s).clock (operation_takes o)))
+    pub clock_given : (s : StepStart) → (block_readings q block s).clock n ≡ there_at o.form (greatest_number (map (block_readings q block s).clock (operation_takes o)))
     clock_given s =
-        subst (λ (k : ℕ). (block_readings q block s).clock k ≡ there_at o.form (greatest_of (map (block_readings q block s).clock (operation_takes o)))) (place_in n l)
+        subst (λ (k : ℕ). (block_readings q block s).clock k ≡ there_at o.form (greatest_number (map (block_readings q block s).clock (operation_takes o)))) (place_in n l)
         (clock_solved (first_in q block) (operations_in q block) (n - first_in q block) o (in_block n o l there) at_own)
 
   module _ (s : StepStart) where
@@ -216,7 +216,7 @@ module _ (q : PlainPlan) (block : ℕ) (front : List Operation) (begins : length
 
       plain_clock_given : (bound : ℕ) → AllByRecursion (λ (v : ℕ). (block_readings q block s).clock v ≤ bound) (form_takes f) → (block_readings q block s).clock n ≤ bound
       plain_clock_given bound all =
-          subst (λ (k : ℕ). k ≤ bound) (sym (clock_given n own l there early s ∙ plain_there f (greatest_of (map (block_readings q block s).clock (form_takes f))) h.plain))
+          subst (λ (k : ℕ). k ≤ bound) (sym (clock_given n own l there early s ∙ plain_there f (greatest_number (map (block_readings q block s).clock (form_takes f))) h.plain))
           (greatest_most (map (block_readings q block s).clock (form_takes f)) bound (all_of_map (block_readings q block s).clock (λ (k : ℕ). k ≤ bound) (form_takes f) all))
 
     pub obeys_below : (end : ℕ) → OrderedBelow end → Obeys (block_readings q block s) (take end all_operations)
@@ -238,7 +238,7 @@ module _ (q : PlainPlan) (block : ℕ) (front : List Operation) (begins : length
   ordered_of : (end : ℕ) → FormedBelow end → OrderedBelow end
   ordered_of end formed n o l m there = (formed n o l m there).0
 
-  all_between : (own : ℕ) (s : StepStart) (clock : ℕ) (vs : List ℕ) → AllByRecursion (λ v. IsEarlier (timeless q block s) clock own v) vs → AllByRecursion (IsBetween (first_in q block) own) vs
+  all_between : (own : ℕ) (s : StepStart) (clock : ℕ) (vs : List ℕ) → AllByRecursion (λ v. IsEarlierValue (timeless q block s) clock own v) vs → AllByRecursion (IsBetween (first_in q block) own) vs
   all_between end s clock [] h = tt
   all_between end s clock (v ∷ vs) h = ((h.0.begun, h.0.before), all_between end s clock vs h.1)
 
@@ -252,7 +252,7 @@ module _ (q : PlainPlan) (block : ℕ) (front : List Operation) (begins : length
   )
 
   -- of operations that were added behind others in order
-  module _ (s : StepStart) (clock : ℕ) (old new : List Operation) (adds : Adds (timeless q block s) clock old new) (grows : Grows new all_operations) (formed : FormedBelow (length old)) where
+  module _ (s : StepStart) (clock : ℕ) (old new : List Operation) (adds : AddsOperations (timeless q block s) clock old new) (grows : OperationsGrow new all_operations) (formed : FormedBelow (length old)) where
     next_formed : (end : ℕ) → end < length new → FormedBelow end → (o : Operation) → first_in q block ≤ end → slice_get all_operations end ≡ Some o
         → (end < length old) ⊎ (length old ≤ end) → FormedAt end o
     next_formed end m before o l there (inl small) = formed end o l small there
@@ -278,7 +278,7 @@ module _ (q : PlainPlan) (block : ℕ) (front : List Operation) (begins : length
     added_below = upto (length new) (omega arith)
 
   -- of one operation at the end
-  pub pushed_below : (old : List Operation) (guard : Option ℕ) (f : OperationForm) → Grows (pushed old guard f).operations all_operations
+  pub pushed_below : (old : List Operation) (guard : Option ℕ) (f : OperationForm) → OperationsGrow (pushed old guard f).operations all_operations
       → FormedBelow (length old) → FormedAt (length old) (record { guard = guard; form = f }) → FormedBelow (length (pushed old guard f).operations)
   pushed_below old guard f grows formed own n o l m there = either (below_suc n (length old) (subst (λ (k : ℕ). n < k) (length_one_more old _) m))
     where

@@ -15,7 +15,7 @@ use Rattle.dh_plan.specs.PlainPlans.{PlainPlan, first_in, operations_in}
 use Rattle.dh_plan.specs.PlanKinds.{kind_of_value, form_kind, kinds_behind, kinds_of, OperationSuits, IsFormedBlock}
 use Rattle.dh_plan.specs.PlanRuns.{start_at}
 use Rattle.dh_plan.proofs.ValuesAlike.{all_map}
-use Rattle.dh_rows.specs.Readings.{Grows}
+use Rattle.dh_rows.specs.Readings.{OperationsGrow}
 use Rattle.dh_rows.proofs.Growing.{grown_length}
 use Rattle.dh_address.proofs.WaySizes.{HasMaps}
 use Rattle.dh_address.specs.Pieces.{any_takes_probe, takes_probe, is_of_probe, is_probe, is_probe_form, IsPiece}
@@ -109,7 +109,7 @@ module _ (p : PlainPlan) (maps : HasMaps p) (tables : IsProgramTable p.table) (b
     pub there : slice_get os i ≡ Some o
     pub numbers_long : length ns ≡ i
     pub begun : first ≤ length old
-    pub grows : Grows mid all
+    pub grows : OperationsGrow mid all
     pub piece : IsPiece (around p block ns ks) o old mid n
     pub early : TakesEarlier old_first (old_first + i) o
     pub meaning : AllByRecursion (HasMeaning os old_first) (operation_takes o)
@@ -126,7 +126,7 @@ module _ (p : PlainPlan) (maps : HasMaps p) (tables : IsProgramTable p.table) (b
       below l = omega (arith, l, b)
 
   module _ (ns : List ℕ) (ks : List Kind) (i : ℕ) (o : Operation) (rest : List Operation) (old mid : List Operation) (n : ℕ) (k : IsKnown ns ks i (o ∷ rest) old)
-      (piece : IsPiece (around p block ns ks) o old mid n) (grows : Grows mid all) where
+      (piece : IsPiece (around p block ns ks) o old mid n) (grows : OperationsGrow mid all) where
     own_there : slice_get os i ≡ Some o
     own_there = subst (λ (j : ℕ). slice_get os j ≡ Some o) (nothing i) (k.there 0 o refl)
       where

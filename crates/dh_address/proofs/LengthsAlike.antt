@@ -9,7 +9,7 @@ use Rattle.dh_plan.specs.declared.operations.Operation.{Operation}
 use Rattle.dh_plan.specs.declared.operations.OperationForm.{OperationForm}
 use Rattle.dh_plan.specs.declared.operations.OperationForm.TheVariants.{Constant, Old, Compute, Convert, Select, Check, Probe, Read, Write, Set}
 use Rattle.dh_plan.specs.declared.operations.PlanBlock.{PlanBlock}
-use Rattle.dh_plan.specs.LegalSchedules.{there_at, there_from, value_clock, greatest_of, needed_clock, last_clock, least_clocks, block_clocks}
+use Rattle.dh_plan.specs.LegalSchedules.{there_at, there_from, value_clock, greatest_number, needed_clock, last_clock, least_clocks, block_clocks}
 use Rattle.dh_plan.specs.Ordered.{operation_takes}
 use Rattle.dh_plan.specs.PlainPlans.{PlainPlan, first_in, operations_in}
 use Rattle.dh_plan.specs.PlanKinds.{IsFormedBlock}
@@ -97,7 +97,7 @@ probe_there (Read r) clock e = absurd (cc)
 probe_there (Write r value) clock e = absurd (cc)
 probe_there (Set register value) clock e = absurd (cc)
 
-most_of_map : (f : ℕ → ℕ) (vs : List ℕ) (bound : ℕ) → AllByRecursion (λ v. f v ≤ bound) vs → greatest_of (map f vs) ≤ bound
+most_of_map : (f : ℕ → ℕ) (vs : List ℕ) (bound : ℕ) → AllByRecursion (λ v. f v ≤ bound) vs → greatest_number (map f vs) ≤ bound
 most_of_map f [] bound h = omega arith
 most_of_map f (v ∷ vs) bound h = let a = h.0 in let b = most_of_map f vs bound h.1 in omega (arith, a, b)
 

@@ -19,7 +19,7 @@ use Rattle.dh_tree.proofs.BankElements.{row_within, bank_below, whole}
 use Rattle.dh_plan.specs.declared.operations.Operation.{Operation}
 use Rattle.dh_plan.specs.declared.operations.OperationForm.{OperationForm}
 use Rattle.dh_plan.specs.declared.operations.OperationForm.TheVariants.{Constant, Old, Compute, Convert, Select, Check, Probe, Read, Write, Set}
-use Rattle.dh_rows.specs.RowsShown.{HasWidth, is_below_size}
+use Rattle.dh_rows.specs.RowsShown.{IsWideEnough, is_below_size}
 use Rattle.dh_rows.specs.MadeOperations.{bits_in}
 use Rattle.dh_rows.proofs.BitsOfNumbers.{bits_above, bits_most}
 use Rattle.dh_address.specs.declared.literals.LiteralPlace.{LiteralPlace}
@@ -259,7 +259,7 @@ bits_some n some small = of (bits_in n) refl (bits_above n small)
     of (suc b) e l = omega arith
 
 -- the width of rows suffices
-pub width_suffices : (table : List MemEntry) (memory : ℕ) → IsProgramTable table → HasWidth (aim_width (dims_at table memory)) (dims_at table memory)
+pub width_suffices : (table : List MemEntry) (memory : ℕ) → IsProgramTable table → IsWideEnough (aim_width (dims_at table memory)) (dims_at table memory)
 width_suffices table memory h =
     let dims = dims_at table memory in
     let formed = dims_formed table memory h.entries in

@@ -16,7 +16,7 @@ use Rattle.dh_plan.specs.declared.operations.OperationForm.TheVariants.{Constant
 use Rattle.dh_plan.specs.declared.operations.Reach.{Reach}
 use Rattle.dh_plan.specs.PlanKinds.{form_kind}
 use Rattle.dh_plan.specs.SoundPlans.{use_in}
-use Rattle.dh_rows.specs.Readings.{Grows, is_plain}
+use Rattle.dh_rows.specs.Readings.{OperationsGrow, is_plain}
 use Rattle.dh_rows.specs.MadeOperations.{IsMade, pushed}
 use Rattle.dh_rows.proofs.Growing.{grown_length, grows_on, kept_there, was_there}
 use Rattle.dh_address.specs.Pieces.{Around, IsAccessMade, IsFormMade, IsPiece, new_number, new_or_none}
@@ -69,7 +69,7 @@ pub record IsUsePut (a : Around) (f : OperationForm) (old new : List Operation) 
   pub on : Option ℕ
   pub last : List Operation
   pub made : IsAccessMade a guard old_reach old last on t
-  pub grows : Grows last new
+  pub grows : OperationsGrow last new
 
 module _ (a : Around) where
   one_unused : (old new : List Operation) (g : Option ℕ) (h : OperationForm) (n : ℕ) → IsMade new n (pushed old g h) → use_in h ≡ None → GrowsBy IsUnused old new
@@ -82,7 +82,7 @@ module _ (a : Around) where
       → IsMade new n (pushed last on h) → (j : ℕ) (x : Operation) → length old ≤ j → slice_get new j ≡ Some x → use_in x.form ≡ Some t → IsUsePut a f old new t
   own_use f old last new g on r u t h n access uses own made j x l e used = of (cases_lt j (length last))
     where
-      grows : Grows last new
+      grows : OperationsGrow last new
       grows = record { more = record { guard = on; form = h } ∷ []; appended = made.0 }
 
       here : (u ≡ t) → IsUsePut a f old new t
@@ -131,14 +131,14 @@ module _ (base : List Operation) where
   pub record KeepsConstants (a : Around) (list : List Operation) : Type 0 where
     pub each : (i : ℕ) (w : Word) → i < length a.numbers → slice_get a.operations i ≡ Some (record { guard = None; form = Constant w }) → IsKept list (slice_index a.numbers i) w
 
-  pub kept_on : (list new : List Operation) (n : ℕ) (w : Word) → Grows list new → IsKept list n w → IsKept new n w
+  pub kept_on : (list new : List Operation) (n : ℕ) (w : Word) → OperationsGrow list new → IsKept list n w → IsKept new n w
   kept_on list new n w g h = record { begun = h.begun; there = kept_there list new g n _ h.there }
 
-  keeps_more : (a : Around) (o : Operation) (list mid : List Operation) (n : ℕ) (k : Kind) → KeepsConstants a list → Grows base list → IsPiece a o list mid n
+  keeps_more : (a : Around) (o : Operation) (list mid : List Operation) (n : ℕ) (k : Kind) → KeepsConstants a list → OperationsGrow base list → IsPiece a o list mid n
       → slice_get a.operations (length a.numbers) ≡ Some o → KeepsConstants (and_known a n k) mid
   keeps_more a o list mid n k h begun piece at = record { each = λ i w l e. of i w l e (cases_lt i (length a.numbers)) }
     where
-      grows : Grows list mid
+      grows : OperationsGrow list mid
       grows = piece_grows a o list mid n piece
 
       of : (i : ℕ) (w : Word) → i < length (a.numbers ++ n ∷ []) → slice_get a.operations i ≡ Some (record { guard = None; form = Constant w }) → (i < length a.numbers) ⊎ (length a.numbers ≤ i)
@@ -169,12 +169,12 @@ module _ (base : List Operation) where
     pub known : length around.numbers ≡ length a.numbers + place
     pub before : List Operation
     pub after : List Operation
-    pub begun : Grows base before
+    pub begun : OperationsGrow base before
     pub keeps : KeepsConstants around before
     pub use_put : IsUsePut around operation.form before after t
-    pub grows : Grows after new
+    pub grows : OperationsGrow after new
 
-  pub use_found : (registers : List Kind) (os : List Operation) (a : Around) (list new : List Operation) (numbers : List ℕ) → ArePieces registers a os list new numbers → KeepsConstants a list → Grows base list
+  pub use_found : (registers : List Kind) (os : List Operation) (a : Around) (list new : List Operation) (numbers : List ℕ) → ArePieces registers a os list new numbers → KeepsConstants a list → OperationsGrow base list
       → ((i : ℕ) (o : Operation) → slice_get os i ≡ Some o → slice_get a.operations (length a.numbers + i) ≡ Some o)
       → (j : ℕ) (x : Operation) (t : Reach) → length list ≤ j → slice_get new j ≡ Some x → use_in x.form ≡ Some t → HasUsePut a os new t
   use_found registers [] a list new numbers h keeps begun at j x t l e used =
@@ -189,10 +189,10 @@ module _ (base : List Operation) where
       next : Around
       next = and_known a h.number k
 
-      grows : Grows list h.mid
+      grows : OperationsGrow list h.mid
       grows = piece_grows a o list h.mid h.number h.piece
 
-      behind : Grows h.mid new
+      behind : OperationsGrow h.mid new
       behind = pieces_grow registers os next h.mid new numbers h.rest
 
       own : slice_get a.operations (length a.numbers) ≡ Some o

@@ -20,7 +20,7 @@ use Rattle.dh_plan.specs.Ordered.{IsBetween, one_or_none, offsets_taken, operati
 use Rattle.dh_plan.specs.PlainPlans.{PlainPlan, first_in, operations_before, operations_in}
 use Rattle.dh_plan.specs.PlanKinds.{FormSuits, IsFormedBlock, ReachSuits, kinds_of}
 use Rattle.dh_plan.specs.SoundPlans.{HasUse, access_in, use_in}
-use Rattle.dh_rows.specs.Readings.{Grows}
+use Rattle.dh_rows.specs.Readings.{OperationsGrow}
 use Rattle.dh_rows.specs.MadeOperations.{constant_made}
 use Rattle.dh_rows.proofs.Growing.{grown_length, grows_on, grows_self, kept_there}
 use Rattle.dh_address.proofs.WaySizes.{HasMaps}
@@ -116,7 +116,7 @@ module _ (p q : PlainPlan) (h : IsImage p q) (formed : (block : ℕ) → IsForme
           ∙ (ap (λ (os : List Operation). slice_get os n) (sym (until_block q.blocks c)) ∙ k.there))
 
   -- Of an access by a row: its values are constants of the old block, and known.
-  module _ (a : Around) (before : List Operation) (own : ℕ) (keeps : KeepsConstants base a before) (grows : Grows before whole) (operations_are : a.operations ≡ operations_in p c)
+  module _ (a : Around) (before : List Operation) (own : ℕ) (keeps : KeepsConstants base a before) (grows : OperationsGrow before whole) (operations_are : a.operations ≡ operations_in p c)
       (first_is : a.first ≡ first_in p c) (long : length a.numbers ≡ own) where
     known_constant : (v : ℕ) → IsConstantAt p c v → IsBetween (first_in p c) (first_in p c + own) v → IsConstantAt q c (new_number a v)
     known_constant v k between = kept_constant (new_number a v) k.word (kept_on base before whole (new_number a v) k.word grows kept)
@@ -136,13 +136,13 @@ module _ (p q : PlainPlan) (h : IsImage p q) (formed : (block : ℕ) → IsForme
     known_or (Some v) k between = known_constant v k between.0
 
   -- Of an access by indices they are put down.
-  made_constant : (old new : List Operation) (width number : ℕ) → Grows base old → Grows (constant_made old width number).operations new → Grows new whole → IsConstantAt q c (length old)
+  made_constant : (old new : List Operation) (width number : ℕ) → OperationsGrow base old → OperationsGrow (constant_made old width number).operations new → OperationsGrow new whole → IsConstantAt q c (length old)
   made_constant old new width number begun put grows = kept_constant (length old) (with_bits (kind.Unsigned width) number) (record {
     begun = grown_length base old begun;
     there = kept_there new whole grows (length old) _ (kept_there _ new put (length old) _ (at_last old _));
   })
 
-  aim_constants : (banked : Bool) (width narrow row bank : ℕ) (old new : List Operation) (n : ℕ) (select : Option ℕ) → Grows base old → Grows new whole
+  aim_constants : (banked : Bool) (width narrow row bank : ℕ) (old new : List Operation) (n : ℕ) (select : Option ℕ) → OperationsGrow base old → OperationsGrow new whole
       → IsAim banked (constant_made old width row) (constant_made (constant_made old width row).operations narrow bank) new n select → IsConstantAt q c n × IsConstantOr q c select
   aim_constants false width narrow row bank old new n select begun grows e = (
     subst (IsConstantAt q c) (sym e.1.0) (made_constant old new width row begun (record { more = []; appended = e.0 ∙ sym (append-nil (constant_made old width row).operations) }) grows),
@@ -180,15 +180,15 @@ module _ (p q : PlainPlan) (h : IsImage p q) (formed : (block : ℕ) → IsForme
       takes : AllByRecursion (IsBetween (first_in p c) (first_in p c + u.place)) (reach_takes r)
       takes = use_takes (IsBetween (first_in p c) (first_in p c + u.place)) u.operation.guard u.operation.form r put.uses ((formed c).ordered.each u.place u.operation u.there)
 
-      behind_last : Grows put.last whole
+      behind_last : OperationsGrow put.last whole
       behind_last = grows_on put.last u.after whole put.grows u.grows
 
-      begun_guarded : Grows base put.made.guarded
+      begun_guarded : OperationsGrow base put.made.guarded
       begun_guarded =
           grows_on base u.before put.made.guarded u.begun (grows_on u.before put.made.passed put.made.guarded (passed_grows a r u.before put.made.passed put.made.ranges put.made.indices put.made.passes)
           (guarded_grows put.guard put.made.ranges put.made.passed put.made.guarded put.on put.made.guards))
 
-      behind_before : Grows u.before whole
+      behind_before : OperationsGrow u.before whole
       behind_before = grows_on u.before put.last whole (access_grows a put.guard r u.before put.last put.on t put.made) behind_last
 
       known : length a.numbers ≡ u.place

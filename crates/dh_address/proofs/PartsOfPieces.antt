@@ -17,7 +17,7 @@ use Rattle.dh_plan.specs.PlainPlans.{PlainPlan, first_in, operations_in}
 use Rattle.dh_plan.specs.PlanKinds.{FormSuits, IsFormedBlock}
 use Rattle.dh_plan.specs.PlanRuns.{start_at}
 use Rattle.dh_plan.proofs.ValuesAlike.{all_right}
-use Rattle.dh_rows.specs.Readings.{Readings, Grows}
+use Rattle.dh_rows.specs.Readings.{Readings, OperationsGrow}
 use Rattle.dh_rows.specs.MadeOperations.{pushed, IsMade}
 use Rattle.dh_rows.proofs.Growing.{grows_on}
 use Rattle.dh_address.proofs.WaySizes.{HasMaps}
@@ -56,7 +56,7 @@ nothing_between P old new same m u l e = absurd (past (place_of old m u (subst (
     past : m < length old → length old ≤ m → ⊥
     past b c = omega (arith, b, c)
 
-pub between_on : (P : ℕ → Operation → Type 0) (a b c : List Operation) → Grows b c → AllBetween P a b → AllBetween P b c → AllBetween P a c
+pub between_on : (P : ℕ → Operation → Type 0) (a b c : List Operation) → OperationsGrow b c → AllBetween P a b → AllBetween P b c → AllBetween P a c
 between_on P a b c g h k m u l e = either (cases_lt m (length b))
   where
     either : (m < length b) ⊎ (length b ≤ m) → P m u
@@ -95,7 +95,7 @@ pub record IsProbeCheck (a : Around) (o u : Operation) : Type 0 where
 pub record IsUseOf (a : Around) (g : Option ℕ) (r : Reach) (old all : List Operation) (u : Operation) (t : Reach) : Type 0 where
   pub last : List Operation
   pub access : IsAccessMade a (new_or_none a g) r old last u.guard t
-  pub grows : Grows last all
+  pub grows : OperationsGrow last all
 
 -- the old operation itself
 abbrev pub IsOwnForm : Around → (g : Option ℕ) → (old all : List Operation) → OperationForm → Operation → Type 0
@@ -150,7 +150,7 @@ module _ (p : PlainPlan) (maps : HasMaps p) (tables : IsProgramTable p.table) (b
         made_between Part old mid n (new_or_none a o.guard) f' h
         (inr (inr (refl, subst (λ (g : OperationForm). IsOwnForm a o.guard old all g (record { guard = new_or_none a o.guard; form = f' })) (sym e) own)))
 
-    made_all : (ps : List Operation) (g : Option ℕ) (f : OperationForm) → IsMade mid n (pushed ps g f) → Grows ps mid
+    made_all : (ps : List Operation) (g : Option ℕ) (f : OperationForm) → IsMade mid n (pushed ps g f) → OperationsGrow ps mid
     made_all ps g f h = made_grows p maps tables bs block front begins ns ks ps mid n g f h
 
     read_parts : (r : Reach) → o.form ≡ Read r → IsReadMade a (new_or_none a o.guard) r old mid n → AllBetween Part old mid
@@ -190,7 +190,7 @@ module _ (p : PlainPlan) (maps : HasMaps p) (tables : IsProgramTable p.table) (b
         made_between Part there (check_made there (new_or_none a o.guard) fault (Some test)) (length there) (new_or_none a o.guard) (Check test fault) (refl, refl)
         (inr (inl (record { reach = r; fault = fault; ok = test; form = e; check = refl })))
 
-    checks_parts : (r : Reach) (fault : ℕ) → o.form ≡ Probe r fault → (rs : List Ranged) (here there : List Operation) → AreChecked (new_or_none a o.guard) fault rs here there → Grows there all → first ≤ length here
+    checks_parts : (r : Reach) (fault : ℕ) → o.form ≡ Probe r fault → (rs : List Ranged) (here there : List Operation) → AreChecked (new_or_none a o.guard) fault rs here there → OperationsGrow there all → first ≤ length here
         → AllByRecursion (IsTestable y 0 here) rs → AllBetween Part here there
     checks_parts r fault e [] here there h grows begun testable = nothing_between Part here there h
     checks_parts r fault e (x ∷ rs) here there (middle, (test, (tested, rest))) grows begun testable =

@@ -21,7 +21,7 @@ use Rattle.dh_plan.specs.PlainPlans.{PlainPlan, first_in, operations_in}
 use Rattle.dh_plan.specs.PlanKinds.{kind_of_value, form_kind, kinds_of, Names, ReachSuits, PicksBank, FormSuits, OperationSuits}
 use Rattle.dh_plan.specs.PlanRuns.{start_at}
 use Rattle.dh_plan.proofs.ValuesAlike.{all_left, all_right, all_map}
-use Rattle.dh_rows.specs.Readings.{Readings, Obeys, Grows, Adds, IsValueOrNone}
+use Rattle.dh_rows.specs.Readings.{Readings, Obeys, OperationsGrow, AddsOperations, IsValueOrNone}
 use Rattle.dh_rows.specs.MadeOperations.{pushed, IsMade}
 use Rattle.dh_rows.specs.RowsShown.{IsInput}
 use Rattle.dh_rows.proofs.Growing.{grows_on, grown_length, kept_there, pushed_grows, adds_on, maybe_later, pushed_adds, pushed_value}
@@ -101,7 +101,7 @@ module _ (p : PlainPlan) (maps : HasMaps p) (tables : IsProgramTable p.table) (b
     pub given : gives → IsGiven mid n k
 
   -- an operation put down at the end
-  last_put : (old mid : List Operation) (n : ℕ) (g : Option ℕ) (f : OperationForm) (k : Kind) (gives : Type 0) → IsMade mid n (pushed old g f) → Grows mid all → first ≤ length old → Formed (length old)
+  last_put : (old mid : List Operation) (n : ℕ) (g : Option ℕ) (f : OperationForm) (k : Kind) (gives : Type 0) → IsMade mid n (pushed old g f) → OperationsGrow mid all → first ≤ length old → Formed (length old)
       → FormedAt q block front begins (length old) (record { guard = g; form = f }) → form_kind q.table q.registers first kinds f ≡ k → PutsPiece mid n gives k
   last_put old mid n g f k gives made grows begun formed own same =
       subst (λ (m : ℕ). PutsPiece mid m gives k) (sym made.1)
@@ -115,14 +115,14 @@ module _ (p : PlainPlan) (maps : HasMaps p) (tables : IsProgramTable p.table) (b
         };
       }))
     where
-      grown : Grows (pushed old g f).operations all
-      grown = subst (λ (os : List Operation). Grows os all) made.0 grows
+      grown : OperationsGrow (pushed old g f).operations all
+      grown = subst (λ (os : List Operation). OperationsGrow os all) made.0 grows
 
       one_more : (o : Operation) (os : List Operation) → length os < length (os ++ o ∷ [])
       one_more o os = let l = length-append os (o ∷ []) in omega (arith, l)
 
   -- the same operation, at new numbers
-  same_put : (old mid : List Operation) (n : ℕ) (g : Option ℕ) (f : OperationForm) (k : Kind) (gives : Type 0) → IsMade mid n (pushed old (new_or_none a g) f) → Grows mid all → first ≤ length old
+  same_put : (old mid : List Operation) (n : ℕ) (g : Option ℕ) (f : OperationForm) (k : Kind) (gives : Type 0) → IsMade mid n (pushed old (new_or_none a g) f) → OperationsGrow mid all → first ≤ length old
       → Formed (length old) → AllByRecursion (λ v. known_kind a v ≡ kind.Bool) (one_or_none g) → AllByRecursion (Input (length old)) (one_or_none g)
       → AllByRecursion (IsBetween first (length old)) (form_takes f) → FormSuits q first kinds f → form_kind q.table q.registers first kinds f ≡ k → PutsPiece mid n gives k
   same_put old mid n g f k gives made grows begun formed gk gi takes suits same =
@@ -134,10 +134,10 @@ module _ (p : PlainPlan) (maps : HasMaps p) (tables : IsProgramTable p.table) (b
 
   -- Reads and writes.
 
-  adds_formed : (old mid : List Operation) → Adds x 0 old mid → Grows mid all → Formed (length old) → Formed (length mid)
+  adds_formed : (old mid : List Operation) → AddsOperations x 0 old mid → OperationsGrow mid all → Formed (length old) → Formed (length mid)
   adds_formed old mid adds grows formed = added_below q block front begins (start_at q [] []) 0 old mid adds grows formed
 
-  pub formed_obeys : (os : List Operation) → Grows os all → Formed (length os) → Obeys x os
+  pub formed_obeys : (os : List Operation) → OperationsGrow os all → Formed (length os) → Obeys x os
   formed_obeys os grows formed =
       subst (λ (ps : List Operation). Obeys x ps) (taken_whole os grows)
       (timeless_below q block front begins (start_at q [] []) (length os) (λ n o l m there. (formed n o l m there).0))
@@ -146,11 +146,11 @@ module _ (p : PlainPlan) (maps : HasMaps p) (tables : IsProgramTable p.table) (b
       take_whole [] more = refl
       take_whole (o ∷ os) more = ap (λ (ps : List Operation). o ∷ ps) (take_whole os more)
 
-      taken_whole : (os : List Operation) → Grows os all → take (length os) all ≡ os
+      taken_whole : (os : List Operation) → OperationsGrow os all → take (length os) all ≡ os
       taken_whole os g = ap (λ (ps : List Operation). take (length os) ps) g.appended ∙ take_whole os g.more
 
   pub record PutsUse (r : Reach) (old last : List Operation) (on : Option ℕ) (t : Reach) : Type 0 where
-    pub adds : Adds x 0 old last
+    pub adds : AddsOperations x 0 old last
     pub formed : Formed (length last)
     pub begun : first ≤ length last
     pub on_between : AllByRecursion (IsBetween first (length last)) (one_or_none on)
@@ -199,8 +199,8 @@ module _ (p : PlainPlan) (maps : HasMaps p) (tables : IsProgramTable p.table) (b
       given None k = k
       given (Some v) k = tt
 
-  pub made_grows : (os mid : List Operation) (n : ℕ) (g : Option ℕ) (f : OperationForm) → IsMade mid n (pushed os g f) → Grows os mid
-  made_grows os mid n g f h = subst (λ (ps : List Operation). Grows os ps) (sym h.0) (pushed_grows os g f)
+  pub made_grows : (os mid : List Operation) (n : ℕ) (g : Option ℕ) (f : OperationForm) → IsMade mid n (pushed os g f) → OperationsGrow os mid
+  made_grows os mid n g f h = subst (λ (ps : List Operation). OperationsGrow os ps) (sym h.0) (pushed_grows os g f)
 
   -- the access is of the same memory
   pub memory_is : (g : Option ℕ) (r : Reach) (old last : List Operation) (on : Option ℕ) (t : Reach) → IsAccessMade a (new_or_none a g) r old last on t → t.memory ≡ r.memory
@@ -211,7 +211,7 @@ module _ (p : PlainPlan) (maps : HasMaps p) (tables : IsProgramTable p.table) (b
       of (Some row) k = ap (λ (u : Reach). u.memory) k.1
 
   -- once row and bank are put down
-  with_access : (r : Reach) (old guarded last : List Operation) (on : Option ℕ) (t : Reach) → PutsMaybe x 0 old guarded kind.Bool on → (access : PutsAccess x 0 a r guarded last t) → Grows last all
+  with_access : (r : Reach) (old guarded last : List Operation) (on : Option ℕ) (t : Reach) → PutsMaybe x 0 old guarded kind.Bool on → (access : PutsAccess x 0 a r guarded last t) → OperationsGrow last all
       → first ≤ length old → Formed (length old) → ReachSuits p (first_in p block) ks r → PutsUse r old last on (aimed r access.taken access.row access.select)
   with_access r old guarded last on t guards access grows begun formed suits =
       let adds = adds_on x 0 old guarded last guards.adds access.adds in
@@ -232,15 +232,15 @@ module _ (p : PlainPlan) (maps : HasMaps p) (tables : IsProgramTable p.table) (b
         picks = picks_bank r access.taken access.row access.select access.picks;
       }
 
-  as_aimed : (r : Reach) (old guarded last : List Operation) (on : Option ℕ) (t : Reach) → PutsMaybe x 0 old guarded kind.Bool on → PutsAccess x 0 a r guarded last t → Grows last all
+  as_aimed : (r : Reach) (old guarded last : List Operation) (on : Option ℕ) (t : Reach) → PutsMaybe x 0 old guarded kind.Bool on → PutsAccess x 0 a r guarded last t → OperationsGrow last all
       → first ≤ length old → Formed (length old) → ReachSuits p (first_in p block) ks r → PutsUse r old last on t
   as_aimed r old guarded last on t guards access grows begun formed suits =
       subst (λ (u : Reach). PutsUse r old last on u) (sym access.reach) (with_access r old guarded last on t guards access grows begun formed suits)
 
-  pub inputs_later : (old mid : List Operation) → Grows old mid → (vs : List ℕ) → AllByRecursion (Input (length old)) vs → AllByRecursion (Input (length mid)) vs
+  pub inputs_later : (old mid : List Operation) → OperationsGrow old mid → (vs : List ℕ) → AllByRecursion (Input (length old)) vs → AllByRecursion (Input (length mid)) vs
   inputs_later old mid g vs h = all_map (Input (length old)) (Input (length mid)) vs (λ v i. input_later x 0 a (length old) (length mid) v (grown_length old mid g) i) h
 
-  pub use_put : (g : Option ℕ) (r : Reach) (old last : List Operation) (on : Option ℕ) (t : Reach) → IsAccessMade a (new_or_none a g) r old last on t → Grows last all → first ≤ length old → Formed (length old)
+  pub use_put : (g : Option ℕ) (r : Reach) (old last : List Operation) (on : Option ℕ) (t : Reach) → IsAccessMade a (new_or_none a g) r old last on t → OperationsGrow last all → first ≤ length old → Formed (length old)
       → AllByRecursion (λ v. known_kind a v ≡ kind.Bool) (one_or_none g) → AllByRecursion (Input (length old)) (one_or_none g)
       → ReachSuits p (first_in p block) ks r → PicksBank p (first_in p block) ks r r.row r.select → AllByRecursion (Input (length old)) (reach_takes r) → PutsUse r old last on t
   use_put g r old last on t h grows begun formed gk gi suits picks taken =
@@ -254,7 +254,7 @@ module _ (p : PlainPlan) (maps : HasMaps p) (tables : IsProgramTable p.table) (b
       (inputs_later old h.guarded adds.grows (reach_takes r) taken)) grows begun formed suits
 
   -- the reads and writes themselves
-  read_put : (g : Option ℕ) (r : Reach) (old mid : List Operation) (n : ℕ) (k : Kind) (gives : Type 0) → IsReadMade a (new_or_none a g) r old mid n → Grows mid all → first ≤ length old → Formed (length old)
+  read_put : (g : Option ℕ) (r : Reach) (old mid : List Operation) (n : ℕ) (k : Kind) (gives : Type 0) → IsReadMade a (new_or_none a g) r old mid n → OperationsGrow mid all → first ≤ length old → Formed (length old)
       → AllByRecursion (λ v. known_kind a v ≡ kind.Bool) (one_or_none g) → AllByRecursion (Input (length old)) (one_or_none g)
       → ReachSuits p (first_in p block) ks r × PicksBank p (first_in p block) ks r r.row r.select → AllByRecursion (Input (length old)) (reach_takes r)
       → kind_in p.table r.memory ≡ k → PutsPiece mid n gives k
@@ -265,7 +265,7 @@ module _ (p : PlainPlan) (maps : HasMaps p) (tables : IsProgramTable p.table) (b
       (all_join (IsBetween first (length h.last)) (one_or_none h.on) (reach_takes h.reach) u.on_between u.takes, record { guard = u.on_truth; form = (u.suits, u.picks) })
       (ap (λ (m : ℕ). kind_in p.table m) (memory_is g r old h.last h.on h.reach h.access) ∙ same)
 
-  write_put : (g : Option ℕ) (r : Reach) (value : ℕ) (old mid : List Operation) (n : ℕ) (k : Kind) (gives : Type 0) → IsWriteMade a (new_or_none a g) r value old mid n → Grows mid all → first ≤ length old
+  write_put : (g : Option ℕ) (r : Reach) (value : ℕ) (old mid : List Operation) (n : ℕ) (k : Kind) (gives : Type 0) → IsWriteMade a (new_or_none a g) r value old mid n → OperationsGrow mid all → first ≤ length old
       → Formed (length old)
       → AllByRecursion (λ v. known_kind a v ≡ kind.Bool) (one_or_none g) → AllByRecursion (Input (length old)) (one_or_none g)
       → ReachSuits p (first_in p block) ks r × (PicksBank p (first_in p block) ks r r.row r.select × (known_kind a value ≡ kind_in p.table r.memory))
@@ -285,7 +285,7 @@ module _ (p : PlainPlan) (maps : HasMaps p) (tables : IsProgramTable p.table) (b
 
   -- Checks and probes.
 
-  guard_put : (old mid : List Operation) (g : Option ℕ) (fault : ℕ) (test : Option ℕ) → Grows (check_made mid (new_or_none a g) fault test) all → first ≤ length mid → Formed (length mid)
+  guard_put : (old mid : List Operation) (g : Option ℕ) (fault : ℕ) (test : Option ℕ) → OperationsGrow (check_made mid (new_or_none a g) fault test) all → first ≤ length mid → Formed (length mid)
       → AllByRecursion (λ v. known_kind a v ≡ kind.Bool) (one_or_none g) → AllByRecursion (Input (length mid)) (one_or_none g) → IsValueOrNone x 0 mid kind.Bool test → Names p.faults fault
       → Formed (length (check_made mid (new_or_none a g) fault test))
   guard_put old mid g fault None grows begun formed gk gi stands named = formed
@@ -297,7 +297,7 @@ module _ (p : PlainPlan) (maps : HasMaps p) (tables : IsProgramTable p.table) (b
         record { guard = maybe_truth (length mid) g gk gi; form = (s.kind_is, named) },
       )
 
-  checks_put : (g : Option ℕ) (fault : ℕ) (rs : List Ranged) (old new : List Operation) → AreChecked (new_or_none a g) fault rs old new → Grows new all → first ≤ length old → Formed (length old)
+  checks_put : (g : Option ℕ) (fault : ℕ) (rs : List Ranged) (old new : List Operation) → AreChecked (new_or_none a g) fault rs old new → OperationsGrow new all → first ≤ length old → Formed (length old)
       → AllByRecursion (IsTestable x 0 old) rs → AllByRecursion (λ v. known_kind a v ≡ kind.Bool) (one_or_none g) → AllByRecursion (Input (length old)) (one_or_none g) → Names p.faults fault
       → Formed (length new)
   checks_put g fault [] old new h grows begun formed testable gk gi named = subst (λ (os : List Operation). Formed (length os)) (sym h) formed
@@ -333,7 +333,7 @@ module _ (p : PlainPlan) (maps : HasMaps p) (tables : IsProgramTable p.table) (b
       (all_join I (one_or_none (new_or_none a r.select)) _ (maybe_inputs os r.select (all_left P (one_or_none r.select) (one_or_none r.row) last))
       (maybe_inputs os r.row (all_right P (one_or_none r.select) (one_or_none r.row) last)))
 
-  value_put : (probed : Bool) (g : Option ℕ) (r : Reach) (old mid : List Operation) (n : ℕ) → IsProbeValue probed a (new_or_none a g) r old mid n → Grows mid all → first ≤ length old → Formed (length old)
+  value_put : (probed : Bool) (g : Option ℕ) (r : Reach) (old mid : List Operation) (n : ℕ) → IsProbeValue probed a (new_or_none a g) r old mid n → OperationsGrow mid all → first ≤ length old → Formed (length old)
       → AllByRecursion (λ v. known_kind a v ≡ kind.Bool) (one_or_none g) → AllByRecursion (Input (length old)) (one_or_none g) → AllByRecursion (Input (length old)) (reach_takes r)
       → PutsPiece mid n ((probed ≡ true) ⊎ (true ≡ false)) kind.Bool
   value_put false g r old mid n h grows begun formed gk gi taken =
@@ -365,7 +365,7 @@ module _ (p : PlainPlan) (maps : HasMaps p) (tables : IsProgramTable p.table) (b
       truths : (k : Kind) → k ≡ kind.Bool → AreTruths k k
       truths k e = subst (λ (l : Kind). AreTruths l l) (sym e) tt
 
-  probe_put : (g : Option ℕ) (r : Reach) (fault : ℕ) (old mid : List Operation) (n : ℕ) → IsProbed a (new_or_none a g) r fault old mid n → Grows mid all → first ≤ length old → Formed (length old)
+  probe_put : (g : Option ℕ) (r : Reach) (fault : ℕ) (old mid : List Operation) (n : ℕ) → IsProbed a (new_or_none a g) r fault old mid n → OperationsGrow mid all → first ≤ length old → Formed (length old)
       → AllByRecursion (λ v. known_kind a v ≡ kind.Bool) (one_or_none g) → AllByRecursion (Input (length old)) (one_or_none g)
       → ReachSuits p (first_in p block) ks r → Names p.faults fault → AllByRecursion (Input (length old)) (reach_takes r)
       → PutsPiece mid n ((a.probed ≡ true) ⊎ (true ≡ false)) kind.Bool
@@ -382,7 +382,7 @@ module _ (p : PlainPlan) (maps : HasMaps p) (tables : IsProgramTable p.table) (b
 
   -- One operation, whatever its form.
 
-  form_put : (g : Option ℕ) (f : OperationForm) (old mid : List Operation) (n : ℕ) → IsFormMade a (new_or_none a g) f old mid n → Grows mid all → first ≤ length old → Formed (length old)
+  form_put : (g : Option ℕ) (f : OperationForm) (old mid : List Operation) (n : ℕ) → IsFormMade a (new_or_none a g) f old mid n → OperationsGrow mid all → first ≤ length old → Formed (length old)
       → AllByRecursion (λ v. known_kind a v ≡ kind.Bool) (one_or_none g) → AllByRecursion (Input (length old)) (one_or_none g)
       → FormSuits p (first_in p block) ks f → AllByRecursion (Input (length old)) (form_takes f)
       → PutsPiece mid n ((a.probed ≡ true) ⊎ (is_probe_form f ≡ false)) (form_kind p.table p.registers (first_in p block) ks f)
@@ -408,7 +408,7 @@ module _ (p : PlainPlan) (maps : HasMaps p) (tables : IsProgramTable p.table) (b
   form_put g (Set register value) old mid n h grows begun formed gk gi suits taken =
       same_put old mid n g (Set register (new_number a value)) _ _ h grows begun formed gk gi (between (length old) value taken.0, tt) (suits.0, taken.0.kind_is ∙ suits.1) refl
 
-  pub piece_put : (o : Operation) (old mid : List Operation) (n : ℕ) → IsPiece a o old mid n → Grows mid all → first ≤ length old → Formed (length old)
+  pub piece_put : (o : Operation) (old mid : List Operation) (n : ℕ) → IsPiece a o old mid n → OperationsGrow mid all → first ≤ length old → Formed (length old)
       → OperationSuits p (first_in p block) ks o → AllByRecursion (Input (length old)) (operation_takes o)
       → PutsPiece mid n ((a.probed ≡ true) ⊎ (is_probe_form o.form ≡ false)) (form_kind p.table p.registers (first_in p block) ks o.form)
   piece_put o old mid n h grows begun formed suits taken =

@@ -21,7 +21,7 @@ use Rattle.dh_plan.specs.PlainPlans.{PlainPlan, first_in, operations_in}
 use Rattle.dh_plan.specs.PlanKinds.{kind_of_value, kinds_of, ReachSuits, PicksBank, IsFormedBlock}
 use Rattle.dh_plan.specs.PlanRuns.{start_at}
 use Rattle.dh_plan.proofs.ValuesAlike.{all_left, all_right}
-use Rattle.dh_rows.specs.Readings.{Readings, Obeys, Grows, Adds, is_plain}
+use Rattle.dh_rows.specs.Readings.{Readings, Obeys, OperationsGrow, AddsOperations, is_plain}
 use Rattle.dh_rows.specs.MadeOperations.{pushed}
 use Rattle.dh_rows.proofs.Growing.{grows_on, grown_length, adds_on, pushed_adds, pushed_value}
 use Rattle.dh_address.proofs.WaySizes.{HasMaps}
@@ -135,7 +135,7 @@ module _ (p : PlainPlan) (maps : HasMaps p) (tables : IsProgramTable p.table) (b
   x = timeless q block (start_at q [] [])
 
   -- what was added is plain
-  pub adds_quietly : (old new : List Operation) → Adds x 0 old new → Grows new all → GrowsQuietly old new
+  pub adds_quietly : (old new : List Operation) → AddsOperations x 0 old new → OperationsGrow new all → GrowsQuietly old new
   adds_quietly old new adds grows = record { more = adds.grows.more; appended = adds.grows.appended; quiet = all_places IsQuiet adds.grows.more each }
     where
       ordered : (n : ℕ) (o : Operation) → first ≤ n → n < length all → slice_get all n ≡ Some o → TakesEarlier first n o
@@ -152,7 +152,7 @@ module _ (p : PlainPlan) (maps : HasMaps p) (tables : IsProgramTable p.table) (b
           (adds.each (length old + i) o (omega arith) there
           (subst (λ (os : List Operation). Obeys x os) (taken_front new all grows (length old + i) within) (obeys (length old + i) (omega (arith, within, far))))).plain
 
-  formed_at : (os : List Operation) → Grows os all → FormedBelow q block front begins (length os)
+  formed_at : (os : List Operation) → OperationsGrow os all → FormedBelow q block front begins (length os)
   formed_at os g n o l m there = (let far = grown_length os all g in all_formed n o l (omega (arith, m, far)) there)
 
   module _ (ns : List ℕ) (ks : List Kind) (i : ℕ) (o : Operation) (old mid : List Operation) (n : ℕ) (at : IsPieceAt p maps tables bs block front begins formed ns ks i o old mid n) where
@@ -172,14 +172,14 @@ module _ (p : PlainPlan) (maps : HasMaps p) (tables : IsProgramTable p.table) (b
 
     -- of an access
     pub access_quietly : (r : Reach) → ReachSuits p old_first ks r → PicksBank p old_first ks r r.row r.select → AllByRecursion (IsInputOf x 0 a (length old)) (reach_takes r)
-        → (last : List Operation) (on : Option ℕ) (u : Reach) → IsAccessMade a (new_or_none a o.guard) r old last on u → Grows old last → Grows last all → GrowsQuietly old last
+        → (last : List Operation) (on : Option ℕ) (u : Reach) → IsAccessMade a (new_or_none a o.guard) r old last on u → OperationsGrow old last → OperationsGrow last all → GrowsQuietly old last
     access_quietly r suits picks taken last on u made grown grows =
         adds_quietly old last
         (use_put p maps tables bs block front begins ns ks o.guard r old last on u made grows at.begun (formed_at old (grows_on old last all grown grows)) at.suits.guard guard_inputs suits picks taken).adds
         grows
 
     -- of a test
-    pub test_quietly : (r : Ranged) (here there : List Operation) (test : Option ℕ) → IsTested r here there test → first ≤ length here → IsTestable x 0 here r → Grows there all → GrowsQuietly here there
+    pub test_quietly : (r : Ranged) (here there : List Operation) (test : Option ℕ) → IsTested r here there test → first ≤ length here → IsTestable x 0 here r → OperationsGrow there all → GrowsQuietly here there
     test_quietly r here there test tested begun testable grows = adds_quietly here there (tested_put x 0 r here there test tested begun testable).adds grows
 
     -- before the tests
@@ -188,7 +188,7 @@ module _ (p : PlainPlan) (maps : HasMaps p) (tables : IsProgramTable p.table) (b
     passed_at r suits taken passed ranges indices e = passed_put x 0 a p maps tables refl r suits old passed ranges indices e at.begun taken
 
     -- of what a probe gives
-    pub value_quietly : (probed : Bool) (r : Reach) (checked : List Operation) → IsProbeValue probed a (new_or_none a o.guard) r checked mid n → first ≤ length checked → Grows old checked
+    pub value_quietly : (probed : Bool) (r : Reach) (checked : List Operation) → IsProbeValue probed a (new_or_none a o.guard) r checked mid n → first ≤ length checked → OperationsGrow old checked
         → AllByRecursion (IsInputOf x 0 a (length old)) (reach_takes r) → GrowsQuietly checked mid
     value_quietly false r checked h begun grown taken = quietly_same checked mid h
     value_quietly true r checked h begun grown taken =

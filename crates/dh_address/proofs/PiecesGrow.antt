@@ -9,7 +9,7 @@ use Rattle.dh_plan.specs.declared.operations.OperationForm.{OperationForm}
 use Rattle.dh_plan.specs.declared.operations.OperationForm.TheVariants.{Constant, Old, Compute, Convert, Select, Check, Probe, Read, Write, Set}
 use Rattle.dh_plan.specs.declared.operations.Reach.{Reach}
 use Rattle.dh_plan.specs.PlanKinds.{form_kind}
-use Rattle.dh_rows.specs.Readings.{Grows}
+use Rattle.dh_rows.specs.Readings.{OperationsGrow}
 use Rattle.dh_rows.specs.MadeOperations.{Made, IsMade, pushed, computed, constant_made, or_zero}
 use Rattle.dh_rows.proofs.Growing.{grows_self, grows_on, plain_grows, pushed_grows}
 use Rattle.dh_address.specs.declared.literals.LiteralPlace.{LiteralPlace}
@@ -20,38 +20,38 @@ use Rattle.dh_address.specs.Pieces.{Around, IsTestBut, IsTested, both_made, IsGu
 use Rattle.dh_address.specs.Images.{and_known, ArePieces}
 use Rattle.dh_address.proofs.WaysPlain.{passed_grows}
 
-pub grows_same : (old new : List Operation) → new ≡ old → Grows old new
-grows_same old new e = subst (λ (os : List Operation). Grows old os) (sym e) (grows_self old)
+pub grows_same : (old new : List Operation) → new ≡ old → OperationsGrow old new
+grows_same old new e = subst (λ (os : List Operation). OperationsGrow old os) (sym e) (grows_self old)
 
-grows_made : (old new : List Operation) (n : ℕ) (m : Made) → Grows old m.operations → IsMade new n m → Grows old new
-grows_made old new n m g h = subst (λ (os : List Operation). Grows old os) (sym h.0) g
+grows_made : (old new : List Operation) (n : ℕ) (m : Made) → OperationsGrow old m.operations → IsMade new n m → OperationsGrow old new
+grows_made old new n m g h = subst (λ (os : List Operation). OperationsGrow old os) (sym h.0) g
 
 -- Tests.
 
-but_grows : (l : Option ℕ) (old new : List Operation) (k : Kind) (value size : ℕ) (test : Option ℕ) → IsTestBut l old new k value size test → Grows old new
+but_grows : (l : Option ℕ) (old new : List Operation) (k : Kind) (value size : ℕ) (test : Option ℕ) → IsTestBut l old new k value size test → OperationsGrow old new
 but_grows None old new k value size test h = plain_grows old new h.0
 but_grows (Some n) old new k value size test h = grows_same old new h.0
 
-both_grows : (os : List Operation) (guard test : Option ℕ) → Grows os (both_made os guard test).operations
+both_grows : (os : List Operation) (guard test : Option ℕ) → OperationsGrow os (both_made os guard test).operations
 both_grows os None None = grows_self os
 both_grows os (Some guard) None = grows_self os
 both_grows os None (Some test) = grows_self os
 both_grows os (Some guard) (Some test) = pushed_grows os None (Compute op.Both guard test)
 
-check_grows : (os : List Operation) (guard : Option ℕ) (fault : ℕ) (test : Option ℕ) → Grows os (check_made os guard fault test)
+check_grows : (os : List Operation) (guard : Option ℕ) (fault : ℕ) (test : Option ℕ) → OperationsGrow os (check_made os guard fault test)
 check_grows os guard fault None = grows_self os
 check_grows os guard fault (Some test) = pushed_grows os guard (Check test fault)
 
-tested_grows : (r : Ranged) (old new : List Operation) (test : Option ℕ) → IsTested r old new test → Grows old new
+tested_grows : (r : Ranged) (old new : List Operation) (test : Option ℕ) → IsTested r old new test → OperationsGrow old new
 tested_grows r old new test h = but_grows (below_size r.operand.literal r.size) old new _ _ _ test h
 
-pub guarded_grows : (guard : Option ℕ) (rs : List Ranged) (old new : List Operation) (on : Option ℕ) → IsGuarded guard rs old new on → Grows old new
+pub guarded_grows : (guard : Option ℕ) (rs : List Ranged) (old new : List Operation) (on : Option ℕ) → IsGuarded guard rs old new on → OperationsGrow old new
 guarded_grows guard [] old new on h = grows_same old new h.0
 guarded_grows guard (r ∷ rs) old new on (mid, (test, (t, g))) =
     grows_on old mid new (tested_grows r old mid test t)
     (grows_on mid (both_made mid guard test).operations new (both_grows mid guard test) (guarded_grows (both_made mid guard test).sum rs (both_made mid guard test).operations new on g))
 
-pub checked_grows : (guard : Option ℕ) (fault : ℕ) (rs : List Ranged) (old new : List Operation) → AreChecked guard fault rs old new → Grows old new
+pub checked_grows : (guard : Option ℕ) (fault : ℕ) (rs : List Ranged) (old new : List Operation) → AreChecked guard fault rs old new → OperationsGrow old new
 checked_grows guard fault [] old new h = grows_same old new h
 checked_grows guard fault (r ∷ rs) old new (mid, (test, (t, g))) =
     grows_on old mid new (tested_grows r old mid test t)
@@ -59,37 +59,37 @@ checked_grows guard fault (r ∷ rs) old new (mid, (test, (t, g))) =
 
 -- Probes.
 
-false_grows : (os : List Operation) (so_far v : ℕ) → Grows os (false_behind os so_far v).operations
+false_grows : (os : List Operation) (so_far v : ℕ) → OperationsGrow os (false_behind os so_far v).operations
 false_grows os so_far v = grows_on os (computed os op.Ne v v).operations _ (pushed_grows os None (Compute op.Ne v v)) (pushed_grows (computed os op.Ne v v).operations None _)
 
-all_false_grows : (m : Made) (vs : List ℕ) → Grows m.operations (false_behind_all m vs).operations
+all_false_grows : (m : Made) (vs : List ℕ) → OperationsGrow m.operations (false_behind_all m vs).operations
 all_false_grows m [] = grows_self m.operations
 all_false_grows m (v ∷ vs) =
     grows_on m.operations (false_behind m.operations m.value v).operations _ (false_grows m.operations m.value v) (all_false_grows (false_behind m.operations m.value v) vs)
 
-false_made_grows : (os : List Operation) (guard : Option ℕ) (vs : List ℕ) → Grows os (false_made os guard vs).operations
+false_made_grows : (os : List Operation) (guard : Option ℕ) (vs : List ℕ) → OperationsGrow os (false_made os guard vs).operations
 false_made_grows os guard vs =
     let begun = pushed os None (Constant false_word) in
     grows_on os begun.operations _ (pushed_grows os None (Constant false_word))
     (grows_on begun.operations (false_behind_all begun vs).operations _ (all_false_grows begun vs) (pushed_grows (false_behind_all begun vs).operations guard _))
 
-pub value_grows : (probed : Bool) (a : Around) (guard : Option ℕ) (r : Reach) (old new : List Operation) (n : ℕ) → IsProbeValue probed a guard r old new n → Grows old new
+pub value_grows : (probed : Bool) (a : Around) (guard : Option ℕ) (r : Reach) (old new : List Operation) (n : ℕ) → IsProbeValue probed a guard r old new n → OperationsGrow old new
 value_grows false a guard r old new n h = grows_same old new h
 value_grows true a guard r old new n h = grows_made old new n _ (false_made_grows old guard (new_takes a r)) h
 
 -- Rows and banks.
 
-aim_grows : (banked : Bool) (old new : List Operation) (row bank : Made) (n : ℕ) (select : Option ℕ) → Grows old row.operations → Grows row.operations bank.operations
-    → IsAim banked row bank new n select → Grows old new
-aim_grows false old new row bank n select g h e = subst (λ (os : List Operation). Grows old os) (sym e.0) g
-aim_grows true old new row bank n select g h e = subst (λ (os : List Operation). Grows old os) (sym e.0) (grows_on old row.operations bank.operations g h)
+aim_grows : (banked : Bool) (old new : List Operation) (row bank : Made) (n : ℕ) (select : Option ℕ) → OperationsGrow old row.operations → OperationsGrow row.operations bank.operations
+    → IsAim banked row bank new n select → OperationsGrow old new
+aim_grows false old new row bank n select g h e = subst (λ (os : List Operation). OperationsGrow old os) (sym e.0) g
+aim_grows true old new row bank n select g h e = subst (λ (os : List Operation). OperationsGrow old os) (sym e.0) (grows_on old row.operations bank.operations g h)
 
-zero_grows : (os : List Operation) (width : ℕ) (v : Option ℕ) → Grows os (or_zero os width v).operations
+zero_grows : (os : List Operation) (width : ℕ) (v : Option ℕ) → OperationsGrow os (or_zero os width v).operations
 zero_grows os width None = pushed_grows os None _
 zero_grows os width (Some v) = grows_self os
 
 pub but_aim_grows : (place : Option LiteralPlace) (width narrow : ℕ) (dims : List Dim) (indices : List ℕ) (banked : Bool) (old new : List Operation) (row : ℕ) (select : Option ℕ)
-    → IsAimBut place width narrow dims indices banked old new row select → Grows old new
+    → IsAimBut place width narrow dims indices banked old new row select → OperationsGrow old new
 but_aim_grows None width narrow dims indices banked old new row select h =
     let first = or_zero h.spread width h.values.row in
     let bank = or_zero first.operations width h.values.bank in
@@ -100,28 +100,28 @@ but_aim_grows (Some place) width narrow dims indices banked old new row select h
     let first = constant_made old width place.row in
     aim_grows banked old new first (constant_made first.operations narrow place.bank) row select (pushed_grows old None _) (pushed_grows first.operations None _) h
 
-pub waited_grows : (os : List Operation) (select : Option ℕ) → Grows os (waited os select).operations
+pub waited_grows : (os : List Operation) (select : Option ℕ) → OperationsGrow os (waited os select).operations
 waited_grows os None = grows_self os
 waited_grows os (Some v) = pushed_grows os None _
 
 module _ (a : Around) where
-  pub aimed_grows : (r : Reach) (row : Option ℕ) (is : List Operand) (old new : List Operation) (t : Reach) → IsAimed a r row is old new t → Grows old new
+  pub aimed_grows : (r : Reach) (row : Option ℕ) (is : List Operand) (old new : List Operation) (t : Reach) → IsAimed a r row is old new t → OperationsGrow old new
   aimed_grows r None is old new t h =
       grows_on old (waited old (new_or_none a r.select)).operations new (waited_grows old (new_or_none a r.select))
       (but_aim_grows (literal_places _ is 0 0) _ _ _ _ (is_banked r) _ new h.row h.select h.aim)
   aimed_grows r (Some row) is old new t h = grows_same old new h.0
 
-  pub access_grows : (guard : Option ℕ) (r : Reach) (old last : List Operation) (on : Option ℕ) (t : Reach) → IsAccessMade a guard r old last on t → Grows old last
+  pub access_grows : (guard : Option ℕ) (r : Reach) (old last : List Operation) (on : Option ℕ) (t : Reach) → IsAccessMade a guard r old last on t → OperationsGrow old last
   access_grows guard r old last on t h =
       grows_on old h.passed last (passed_grows a r old h.passed h.ranges h.indices h.passes)
       (grows_on h.passed h.guarded last (guarded_grows guard h.ranges h.passed h.guarded on h.guards) (aimed_grows r r.row h.indices h.guarded last t h.aims))
 
   -- of a probe
-  pub probed_grows : (guard : Option ℕ) (r : Reach) (fault : ℕ) (old new : List Operation) (n : ℕ) → (h : IsProbed a guard r fault old new n) → Grows old h.checked
+  pub probed_grows : (guard : Option ℕ) (r : Reach) (fault : ℕ) (old new : List Operation) (n : ℕ) → (h : IsProbed a guard r fault old new n) → OperationsGrow old h.checked
   probed_grows guard r fault old new n h =
       grows_on old h.passed h.checked (passed_grows a r old h.passed h.ranges h.indices h.passes) (checked_grows guard fault h.ranges h.passed h.checked h.checks)
 
-  form_grows : (g : Option ℕ) (f : OperationForm) (old new : List Operation) (n : ℕ) → IsFormMade a g f old new n → Grows old new
+  form_grows : (g : Option ℕ) (f : OperationForm) (old new : List Operation) (n : ℕ) → IsFormMade a g f old new n → OperationsGrow old new
   form_grows g (Constant word) old new n h = grows_made old new n _ (pushed_grows old g _) h
   form_grows g (Old register) old new n h = grows_made old new n _ (pushed_grows old g _) h
   form_grows g (Compute o left right) old new n h = grows_made old new n _ (pushed_grows old g _) h
@@ -136,10 +136,10 @@ module _ (a : Around) where
       grows_on old h.last new (access_grows g r old h.last h.on h.reach h.access) (grows_made h.last new n _ (pushed_grows h.last h.on _) h.write)
   form_grows g (Set register value) old new n h = grows_made old new n _ (pushed_grows old g _) h
 
-  pub piece_grows : (o : Operation) (old new : List Operation) (n : ℕ) → IsPiece a o old new n → Grows old new
+  pub piece_grows : (o : Operation) (old new : List Operation) (n : ℕ) → IsPiece a o old new n → OperationsGrow old new
   piece_grows o old new n h = form_grows (new_or_none a o.guard) o.form old new n h
 
-pub pieces_grow : (registers : List Kind) (os : List Operation) (a : Around) (old new : List Operation) (numbers : List ℕ) → ArePieces registers a os old new numbers → Grows old new
+pub pieces_grow : (registers : List Kind) (os : List Operation) (a : Around) (old new : List Operation) (numbers : List ℕ) → ArePieces registers a os old new numbers → OperationsGrow old new
 pieces_grow registers [] a old new numbers h = grows_same old new h.0
 pieces_grow registers (o ∷ os) a old new numbers h =
     grows_on old h.mid new (piece_grows a o old h.mid h.number h.piece)

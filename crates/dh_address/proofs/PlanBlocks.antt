@@ -10,7 +10,7 @@ use Rattle.dh_tree.specs.declared.viewing.ViewMap.{ViewMap}
 use Rattle.dh_plan.specs.declared.operations.Operation.{Operation}
 use Rattle.dh_plan.specs.declared.operations.PlanBlock.{PlanBlock}
 use Rattle.dh_plan.specs.PlainPlans.{PlainPlan, first_in, operations_in, operations_before, block_operations}
-use Rattle.dh_rows.specs.Readings.{Grows}
+use Rattle.dh_rows.specs.Readings.{OperationsGrow}
 use Rattle.dh_address.specs.Pieces.{Around, any_takes_probe}
 use Rattle.dh_address.specs.Images.{ArePieces, around_block, operations_until, IsBlockImage}
 use Rattle.dh_address.specs.Cuts.{AreStarts, IsCut}
@@ -105,7 +105,7 @@ module _ (p : PlainPlan) where
       a : Around
       a = begun_with b.operations first probed
 
-      grows : Grows list new
+      grows : OperationsGrow list new
       grows = pieces_grow p.registers b.operations a list new put.numbers put.pieces
 
       c : PlanBlock

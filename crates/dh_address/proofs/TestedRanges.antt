@@ -10,7 +10,7 @@ use Rattle.dh_value.specs.Words.{IsInteger, IsWord, value_of}
 use Rattle.dh_value.specs.Operations.{AreTruths, truth, is_true}
 use Rattle.dh_plan.specs.declared.operations.Operation.{Operation}
 use Rattle.dh_plan.specs.declared.operations.OperationForm.TheVariants.{Compute}
-use Rattle.dh_rows.specs.Readings.{Readings, Obeys, IsEarlier, Grows, Adds, IsValue, IsValueOrNone}
+use Rattle.dh_rows.specs.Readings.{Readings, Obeys, IsEarlierValue, OperationsGrow, AddsOperations, IsReadingValue, IsValueOrNone}
 use Rattle.dh_rows.specs.RowsShown.{HoldsOrNone, is_below_size}
 use Rattle.dh_rows.proofs.Growing.{grows_self, grows_on, grown_length, plain_grows, kept_there, pushed_grows, obeys_before, pushed_word, value_later, maybe_later, adds_self, adds_on, pushed_adds, pushed_value}
 use Rattle.dh_address.specs.declared.operands.Operand.{Operand}
@@ -21,32 +21,32 @@ use Rattle.dh_address.specs.Pieces.{IsTestBut, IsTested, both_made, IsGuarded, c
 
 -- Lists grow.
 
-pub test_grows : (literal : Option ℕ) (old new : List Operation) (k : Kind) (value size : ℕ) (test : Option ℕ) → IsTestBut literal old new k value size test → Grows old new
+pub test_grows : (literal : Option ℕ) (old new : List Operation) (k : Kind) (value size : ℕ) (test : Option ℕ) → IsTestBut literal old new k value size test → OperationsGrow old new
 test_grows None old new k value size test h = plain_grows old new h.0
-test_grows (Some n) old new k value size test h = subst (λ (os : List Operation). Grows old os) (sym h.0) (grows_self old)
+test_grows (Some n) old new k value size test h = subst (λ (os : List Operation). OperationsGrow old os) (sym h.0) (grows_self old)
 
-pub both_grows : (os : List Operation) (guard test : Option ℕ) → Grows os (both_made os guard test).operations
+pub both_grows : (os : List Operation) (guard test : Option ℕ) → OperationsGrow os (both_made os guard test).operations
 both_grows os guard None = grows_self os
 both_grows os None (Some test) = grows_self os
 both_grows os (Some guard) (Some test) = pushed_grows os None _
 
-pub guards_grow : (guard : Option ℕ) (rs : List Ranged) (old new : List Operation) (on : Option ℕ) → IsGuarded guard rs old new on → Grows old new
-guards_grow guard [] old new on h = subst (λ (os : List Operation). Grows old os) (sym h.0) (grows_self old)
+pub guards_grow : (guard : Option ℕ) (rs : List Ranged) (old new : List Operation) (on : Option ℕ) → IsGuarded guard rs old new on → OperationsGrow old new
+guards_grow guard [] old new on h = subst (λ (os : List Operation). OperationsGrow old os) (sym h.0) (grows_self old)
 guards_grow guard (r ∷ rs) old new on (mid, (test, (tested, rest))) =
     grows_on old mid new (test_grows (below_size r.operand.literal r.size) old mid _ _ _ test tested)
     (grows_on mid _ new (both_grows mid guard test) (guards_grow _ rs _ new on rest))
 
-pub check_grows : (os : List Operation) (guard : Option ℕ) (fault : ℕ) (test : Option ℕ) → Grows os (check_made os guard fault test)
+pub check_grows : (os : List Operation) (guard : Option ℕ) (fault : ℕ) (test : Option ℕ) → OperationsGrow os (check_made os guard fault test)
 check_grows os guard fault None = grows_self os
 check_grows os guard fault (Some test) = pushed_grows os guard _
 
-pub checks_grow : (guard : Option ℕ) (fault : ℕ) (rs : List Ranged) (old new : List Operation) → AreChecked guard fault rs old new → Grows old new
-checks_grow guard fault [] old new h = subst (λ (os : List Operation). Grows old os) (sym h) (grows_self old)
+pub checks_grow : (guard : Option ℕ) (fault : ℕ) (rs : List Ranged) (old new : List Operation) → AreChecked guard fault rs old new → OperationsGrow old new
+checks_grow guard fault [] old new h = subst (λ (os : List Operation). OperationsGrow old os) (sym h) (grows_self old)
 checks_grow guard fault (r ∷ rs) old new (mid, (test, (tested, rest))) =
     grows_on old mid new (test_grows (below_size r.operand.literal r.size) old mid _ _ _ test tested)
     (grows_on mid _ new (check_grows mid guard fault test) (checks_grow guard fault rs _ new rest))
 
-pub begun_later : (x : Readings) (old new : List Operation) → Grows old new → x.first ≤ length old → x.first ≤ length new
+pub begun_later : (x : Readings) (old new : List Operation) → OperationsGrow old new → x.first ≤ length old → x.first ≤ length new
 begun_later x old new g b = let l = grown_length old new g in omega (arith, b, l)
 
 -- What is put down.
@@ -54,11 +54,11 @@ begun_later x old new g b = let l = grown_length old new g in omega (arith, b, l
 module _ (x : Readings) (clock : ℕ) where
   -- plain operations, and a value of a kind that may lack
   pub record PutsMaybe (old new : List Operation) (k : Kind) (value : Option ℕ) : Type 0 where
-    pub adds : Adds x clock old new
+    pub adds : AddsOperations x clock old new
     pub stands : IsValueOrNone x clock new k value
 
   pub test_put : (literal : Option ℕ) (old new : List Operation) (k : Kind) (value size : ℕ) (test : Option ℕ) → IsTestBut literal old new k value size test
-      → x.first ≤ length old → IsInteger k → IsValue x clock old k value → PutsMaybe old new kind.Bool test
+      → x.first ≤ length old → IsInteger k → IsReadingValue x clock old k value → PutsMaybe old new kind.Bool test
   test_put None old new k value size test h begun sized stands =
       let m = h.1 sized in
       record { adds = m.adds x clock begun stands; stands = m.stands x clock begun stands }
@@ -71,7 +71,7 @@ module _ (x : Readings) (clock : ℕ) where
   both_put os guard None begun g t = record { adds = adds_self x clock os; stands = g }
   both_put os None (Some test) begun g t = record { adds = adds_self x clock os; stands = t }
   both_put os (Some guard) (Some test) begun g t =
-      let takes : (Obeys x os → AllByRecursion (λ v. IsEarlier x clock (length os) v) (guard ∷ test ∷ [])) = λ o. ((g o).earlier, ((t o).earlier, tt)) in
+      let takes : (Obeys x os → AllByRecursion (λ v. IsEarlierValue x clock (length os) v) (guard ∷ test ∷ [])) = λ o. ((g o).earlier, ((t o).earlier, tt)) in
       let suits : (Obeys x os → AreTruths (x.kind guard) (x.kind test)) = λ o. two_truths (x.kind guard) (x.kind test) (g o).kind_is (t o).kind_is in
       record {
         adds = pushed_adds x clock os (Compute op.Both guard test) refl begun takes suits;
@@ -84,12 +84,12 @@ module _ (x : Readings) (clock : ℕ) where
   -- a value that is there, of an integer kind
   pub record IsThere (os : List Operation) (o : Operand) : Type 0 where
     pub sized : IsInteger o.kind
-    pub stands : IsValue x clock os o.kind o.value
+    pub stands : IsReadingValue x clock os o.kind o.value
 
-  pub there_later : (old new : List Operation) → Grows old new → (o : Operand) → IsThere old o → IsThere new o
+  pub there_later : (old new : List Operation) → OperationsGrow old new → (o : Operand) → IsThere old o → IsThere new o
   there_later old new g o h = record { sized = h.sized; stands = value_later x clock old new o.kind o.value g h.stands }
 
-  pub all_there : (old new : List Operation) → Grows old new → (is : List Operand) → AllByRecursion (IsThere old) is → AllByRecursion (IsThere new) is
+  pub all_there : (old new : List Operation) → OperationsGrow old new → (is : List Operand) → AllByRecursion (IsThere old) is → AllByRecursion (IsThere new) is
   all_there old new g [] h = tt
   all_there old new g (i ∷ is) h = (there_later old new g i h.0, all_there old new g is h.1)
 
@@ -97,7 +97,7 @@ module _ (x : Readings) (clock : ℕ) where
   abbrev pub IsTestable : (os : List Operation) → Ranged → Type 0
   IsTestable os r = IsThere os r.operand
 
-  pub testable_later : (old new : List Operation) → Grows old new → (rs : List Ranged) → AllByRecursion (IsTestable old) rs → AllByRecursion (IsTestable new) rs
+  pub testable_later : (old new : List Operation) → OperationsGrow old new → (rs : List Ranged) → AllByRecursion (IsTestable old) rs → AllByRecursion (IsTestable new) rs
   testable_later old new g [] h = tt
   testable_later old new g (r ∷ rs) h =
       (there_later old new g r.operand h.0, testable_later old new g rs h.1)
@@ -190,7 +190,7 @@ module _ (x : Readings) (all : List Operation) (late : (n u v : ℕ) → x.first
   ComesFrom bound None = ⊥
   ComesFrom bound (Some g) = bound ≤ x.clock g
 
-  both_come : (os : List Operation) (guard test : Option ℕ) (bound : ℕ) → x.first ≤ length os → Grows (both_made os guard test).operations all
+  both_come : (os : List Operation) (guard test : Option ℕ) (bound : ℕ) → x.first ≤ length os → OperationsGrow (both_made os guard test).operations all
       → ComesFrom bound guard → ComesFrom bound (both_made os guard test).sum
   both_come os None test bound begun g h = absurd h
   both_come os (Some guard) None bound begun g h = h
@@ -199,7 +199,7 @@ module _ (x : Readings) (all : List Operation) (late : (n u v : ℕ) → x.first
       omega (arith, h, l)
 
   pub guards_come : (guard : Option ℕ) (rs : List Ranged) (old new : List Operation) (on : Option ℕ) (bound : ℕ) → IsGuarded guard rs old new on
-      → x.first ≤ length old → Grows new all → ComesFrom bound guard → ComesFrom bound on
+      → x.first ≤ length old → OperationsGrow new all → ComesFrom bound guard → ComesFrom bound on
   guards_come guard [] old new on bound h begun g from = subst (λ (t : Option ℕ). ComesFrom bound t) (sym h.1) from
   guards_come guard (r ∷ rs) old new on bound (mid, (test, (tested, rest))) begun g from =
       let grown = test_grows (below_size r.operand.literal r.size) old mid _ _ _ test tested in

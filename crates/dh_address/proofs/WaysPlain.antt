@@ -11,7 +11,7 @@ use Rattle.dh_plan.specs.declared.operations.Operation.{Operation}
 use Rattle.dh_plan.specs.declared.operations.OperationForm.TheVariants.{Constant}
 use Rattle.dh_plan.specs.declared.operations.Reach.{Reach}
 use Rattle.dh_plan.specs.declared.operations.ReachStep.{ReachStep}
-use Rattle.dh_rows.specs.Readings.{Grows, GrowsPlain}
+use Rattle.dh_rows.specs.Readings.{OperationsGrow, GrowsPlain}
 use Rattle.dh_rows.specs.MadeOperations.{Made, moved, dealt, moved_width}
 use Rattle.dh_rows.proofs.Growing.{plain_grows, plain_self, plain_on, plain_pushed}
 use Rattle.dh_rows.proofs.MovedPut.{moved_plain, dealt_plain, spanned_plain}
@@ -99,5 +99,5 @@ reach_plain a r os = to_plain a r r.row os
 pub passed_plain : (a : Around) (r : Reach) (old passed : List Operation) (ranges : List Ranged) (indices : List Operand) → IsWay passed ranges indices (reach_passed a r old) → GrowsPlain old passed
 passed_plain a r old passed ranges indices e = subst (λ (l : List Operation). GrowsPlain old l) (sym e.0) (reach_plain a r old)
 
-pub passed_grows : (a : Around) (r : Reach) (old passed : List Operation) (ranges : List Ranged) (indices : List Operand) → IsWay passed ranges indices (reach_passed a r old) → Grows old passed
+pub passed_grows : (a : Around) (r : Reach) (old passed : List Operation) (ranges : List Ranged) (indices : List Operand) → IsWay passed ranges indices (reach_passed a r old) → OperationsGrow old passed
 passed_grows a r old passed ranges indices e = plain_grows old passed (passed_plain a r old passed ranges indices e)

@@ -21,7 +21,7 @@ use Rattle.dh_plan.specs.PlainPlans.{PlainPlan}
 use Rattle.dh_plan.specs.PlanKinds.{AreSteps, NamesElement, ReachSuits, StepFits}
 use Rattle.dh_plan.proofs.ValuesAlike.{all_left, all_right, all_map}
 use Rattle.dh_rows.specs.declared.spanning.Span.{Span}
-use Rattle.dh_rows.specs.Readings.{Readings, Grows, Adds}
+use Rattle.dh_rows.specs.Readings.{Readings, OperationsGrow, AddsOperations}
 use Rattle.dh_rows.specs.RowsShown.{SpanStands}
 use Rattle.dh_rows.specs.MadeOperations.{Made, moved, dealt, spanned, moved_width}
 use Rattle.dh_rows.proofs.Growing.{grows_on, grown_length, plain_grows, adds_self, adds_on}
@@ -104,7 +104,7 @@ moved_below (Some a) (Some i) factor size n e =
 module _ (x : Readings) (clock : ℕ) where
   -- plain operations, what is to be in range, and indices
   pub record PutsPassed (old new : List Operation) (tested : List Ranged) (inner : List Operand) : Type 0 where
-    pub adds : Adds x clock old new
+    pub adds : AddsOperations x clock old new
     pub ranges : AllByRecursion (IsTestable x clock new) tested
     pub indices : AllByRecursion (IsThere x clock new) inner
 
@@ -114,7 +114,7 @@ module _ (x : Readings) (clock : ℕ) where
   -- Offsets.
 
   pub record PutsBounded (old : List Operation) (m : Bounded) : Type 0 where
-    pub adds : Adds x clock old m.operations
+    pub adds : AddsOperations x clock old m.operations
     pub range : AllByRecursion (IsTestable x clock m.operations) (maybe_range m.range)
 
   span_there : (os : List Operation) (s : Option Span) → SpanStands x clock os s → AllByRecursion (IsTestable x clock os) (maybe_range (span_range s))
@@ -133,7 +133,7 @@ module _ (x : Readings) (clock : ℕ) where
   -- Indices.
 
   pub record PutsPlaced (old : List Operation) (m : Placed) : Type 0 where
-    pub adds : Adds x clock old m.operations
+    pub adds : AddsOperations x clock old m.operations
     pub there : IsThere x clock m.operations m.operand
 
   placed_put : (l : Option ℕ) (os : List Operation) (width : ℕ) (m : Made) → x.first ≤ length os → IsWidth width → ((n : ℕ) → l ≡ Some n → n < 2 ^ width) → Makes x clock os m (kind.Unsigned width)
@@ -246,7 +246,7 @@ module _ (x : Readings) (clock : ℕ) where
 
   module _ (a : Around) (p : PlainPlan) (maps : HasMaps p) (tables : IsProgramTable p.table) (views : a.views ≡ p.views) where
     -- the offsets of a step, at its new numbers
-    offsets_there : (old os : List Operation) → Grows old os → (vs : List ℕ) → AllByRecursion (IsNumberKnown x clock a) vs → AllByRecursion (IsInputOf x clock a (length old)) vs
+    offsets_there : (old os : List Operation) → OperationsGrow old os → (vs : List ℕ) → AllByRecursion (IsNumberKnown x clock a) vs → AllByRecursion (IsInputOf x clock a (length old)) vs
         → AllByRecursion (IsThere x clock os) (map (operand_of a) vs)
     offsets_there old os g vs k h =
         operands_there x clock a os vs k (all_map (IsInputOf x clock a (length old)) (IsInputOf x clock a (length os)) vs (λ v. input_later x clock a (length old) (length os) v (grown_length old os g)) h)

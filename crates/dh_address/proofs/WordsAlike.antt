@@ -29,7 +29,7 @@ use Rattle.dh_plan.specs.SoundRuns.{IsInKind}
 use Rattle.dh_plan.specs.Passages.{indices_behind}
 use Rattle.dh_plan.proofs.ValuesAlike.{all_left, all_right, memories_look_back}
 use Rattle.dh_rows.specs.Readings.{Readings, Obeys}
-use Rattle.dh_rows.specs.RowsShown.{AreWithin, HoldsOrNone, is_below_size}
+use Rattle.dh_rows.specs.RowsShown.{IndicesAreWithin, HoldsOrNone, is_below_size}
 use Rattle.dh_rows.specs.MadeOperations.{Made, constant_made}
 use Rattle.dh_rows.proofs.Growing.{obeys_before}
 use Rattle.dh_address.proofs.WaySizes.{HasMaps}
@@ -247,7 +247,7 @@ module _ (p : PlainPlan) (maps : HasMaps p) (tables : IsProgramTable p.table) (b
         way_as (λ os rs is. PassShows r r.row rs is) passed ranges indices (reach_passed a r old) e (to_shows r.row refl (subst (λ (os : List Operation). Obeys x os) e.0 obeys))
 
   -- indices in range are natural numbers below the sizes
-  all_within : (dims : List Dim) (is : List Operand) (zs : List ℤ) → AreFor x dims is zs → is_inside dims zs ≡ true → AreWithin x dims (values_of is) (abs_of zs)
+  all_within : (dims : List Dim) (is : List Operand) (zs : List ℤ) → AreFor x dims is zs → is_inside dims zs ≡ true → IndicesAreWithin x dims (values_of is) (abs_of zs)
   all_within [] [] [] f e = tt
   all_within [] [] (z ∷ zs) f e = absurd f
   all_within [] (i ∷ is) zs f e = absurd f

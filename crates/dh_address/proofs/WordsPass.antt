@@ -25,7 +25,7 @@ use Rattle.dh_plan.specs.PlanRuns.{start_at, block_values}
 use Rattle.dh_plan.specs.SoundPlans.{use_in, IsListed}
 use Rattle.dh_plan.specs.SoundRuns.{IsInKind, AreInKinds}
 use Rattle.dh_plan.proofs.ValuesAlike.{all_left, all_right, all_map, memories_look_back}
-use Rattle.dh_rows.specs.Readings.{Readings, Grows}
+use Rattle.dh_rows.specs.Readings.{Readings, OperationsGrow}
 use Rattle.dh_rows.specs.MadeOperations.{pushed, IsMade}
 use Rattle.dh_rows.proofs.Growing.{grows_on, kept_there, pushed_grows, obeys_before, pushed_word}
 use Rattle.dh_address.proofs.WaySizes.{HasMaps}
@@ -174,7 +174,7 @@ module _ (p : PlainPlan) (maps : HasMaps p) (tables : IsProgramTable p.table) (b
 
       pub means : (r : Reach) → ReachSuits p old_first ks r → AllByRecursion (IsSameInKind p maps tables bs block ns ks registers memories) (reach_takes r)
           → AllByRecursion (IsBetween old_first (old_first + i)) (reach_takes r)
-          → (last : List Operation) (on : Option ℕ) (u : Reach) → IsAccessMade a (new_or_none a o.guard) r old last on u → Grows last all
+          → (last : List Operation) (on : Option ℕ) (u : Reach) → IsAccessMade a (new_or_none a o.guard) r old last on u → OperationsGrow last all
           → AccessMeans p maps tables bs block ns ks registers memories o.guard r on u
       means r suits h b last on u made grows =
           access_means p maps tables bs block ns ks registers memories r (meant r suits h b)
@@ -182,8 +182,8 @@ module _ (p : PlainPlan) (maps : HasMaps p) (tables : IsProgramTable p.table) (b
 
       -- Forms.
 
-      pub put_grows : (ps : List Operation) (g : Option ℕ) (f : OperationForm) → IsMade mid n (pushed ps g f) → Grows ps all
-      put_grows ps g f h = grows_on ps mid all (subst (λ (rs : List Operation). Grows ps rs) (sym h.0) (pushed_grows ps g f)) at.grows
+      pub put_grows : (ps : List Operation) (g : Option ℕ) (f : OperationForm) → IsMade mid n (pushed ps g f) → OperationsGrow ps all
+      put_grows ps g f h = grows_on ps mid all (subst (λ (rs : List Operation). OperationsGrow ps rs) (sym h.0) (pushed_grows ps g f)) at.grows
 
       read_word : (r : Reach) → o.form ≡ Read r → IsReadMade a (new_or_none a o.guard) r old mid n → SameWord (old_first + i) n
       read_word r e h =

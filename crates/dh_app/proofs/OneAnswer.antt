@@ -186,7 +186,7 @@ programs_agree Agree agreement old new ports file rest r s calm told agree h k =
 
 -- what bytes mean for a table, and nothing else
 abbrev MeansAlone : List MemEntry → List ℕ → Result (List (List ℕ)) DataFault → Type 0
-MeansAlone table bytes (Ok m) = data_files.Holds table bytes m × ((others : List (List ℕ)) → data_files.Holds table bytes others → others ≡ m)
+MeansAlone table bytes (Ok m) = data_files.HoldsContents table bytes m × ((others : List (List ℕ)) → data_files.HoldsContents table bytes others → others ≡ m)
 MeansAlone table bytes (Err f) = Means table bytes (Err f) × ((other : Result (List (List ℕ)) DataFault) → Means table bytes other → other ≡ Err f)
 
 one_meaning : (table : List MemEntry) (bytes : List ℕ) (v w : Result (List (List ℕ)) DataFault) → MeansAlone table bytes v → MeansAlone table bytes w → v ≡ w

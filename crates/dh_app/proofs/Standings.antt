@@ -18,7 +18,7 @@ use Rattle.dh_meaning.specs.Core.{Reach, CoreTerm, literal, truth_literal, varia
 use Rattle.dh_meaning.specs.Effects as effects
 use Rattle.dh_meaning.specs.Effects.{Begun, Variables, Event, reads, writes, faults, kind_in, is_inside, is_row, indices_through, spot_if_inside, value_of, values_of, spot_reached, term_events, target_events, terms_events, read_made, write_made, kept_bits, Effect, store_events, stored_at, assigned_at, kept_at, tested_at, at_each, paths_where, holds_at, command_run, commands_run, Block, commands, tests, block_run, written}
 use Rattle.dh_meaning.specs.Paths.{Path}
-use Rattle.dh_meaning.specs.Runs.{Place, ended, at, place_run, RunState, begun_at, step_effect, state_after, step_from, next_state, run_state}
+use Rattle.dh_meaning.specs.Runs.{RunPlace, ended, at, place_run, RunState, begun_at, step_effect, state_after, step_from, next_state, run_state}
 
 -- ---- steps
 
@@ -153,7 +153,7 @@ module _ (b : Begun) where
   block_small paths (commands cs) e h = commands_small paths cs e h
   block_small paths (tests t) e h = each_small (tested_at b t) (test_small t) paths e h
 
-  place_small : (place : Place) (e : Effect) → AreSmall b.table e.events → AreSmall b.table (place_run b place e).events
+  place_small : (place : RunPlace) (e : Effect) → AreSmall b.table e.events → AreSmall b.table (place_run b place e).events
   place_small ended e h = h
   place_small (at paths block k) e h = block_small paths block e h
 

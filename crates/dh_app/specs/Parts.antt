@@ -18,7 +18,7 @@ use Rattle.dh_check.specs.Verdicts.{Verdict, accepts, IsVerdict}
 use Rattle.dh_check.specs.declared.checking.CheckFault.{CheckFault}
 use Rattle.dh_check.specs.declared.checking.CheckFault.TheVariants as check_fault
 use Rattle.dh_compile.specs.Compiled.{IsNetOfProgram}
-use Rattle.dh_data.specs.DataFiles.{Holds, Means}
+use Rattle.dh_data.specs.DataFiles.{HoldsContents, Means}
 use Rattle.dh_data.specs.declared.data_files.DataFault.{DataFault}
 use Rattle.dh_data.specs.declared.data_files.DataFault.TheVariants as fault
 use Rattle.dh_app.specs.Asking.{interpreted}
@@ -110,8 +110,8 @@ pub record BadBytes (bytes : List ℕ) (table : List MemEntry) (s : Status) (lin
 
 -- the memories that bytes hold, and no others
 pub record HoldsAlone (bytes : List ℕ) (table : List MemEntry) (memories : List (List ℕ)) : Type 0 where
-  pub holds : Holds table bytes memories
-  pub only : (others : List (List ℕ)) → Holds table bytes others → others ≡ memories
+  pub holds : HoldsContents table bytes memories
+  pub only : (others : List (List ℕ)) → HoldsContents table bytes others → others ≡ memories
   pub fits : Fits table memories
 
 abbrev pub DataOf : (bytes : List ℕ) → List MemEntry → Result (List (List ℕ)) Reply → Type 0

@@ -11,7 +11,7 @@ use Rattle.dh_tree.specs.Tables.{Fits}
 use Rattle.dh_tree.specs.declared.tables.MemEntry.{MemEntry}
 use Rattle.dh_tree.specs.PlainTrees.{Program}
 use Rattle.dh_check.specs.Verdicts.{Verdict, accepts, refuses, exceeds, IsVerdict}
-use Rattle.dh_data.specs.DataFiles.{Holds, Means}
+use Rattle.dh_data.specs.DataFiles.{HoldsContents, Means}
 use Rattle.dh_data.specs.declared.data_files.DataFault.{DataFault}
 use Rattle.dh_app.specs.Inputs.{InputsSeen, HasRead, IsIdle}
 use Rattle.dh_app.specs.Lines.{ok_line, refused_line, too_large_line, bad_data_line}
@@ -112,8 +112,8 @@ ProgramStage old new ports file rest r =
 pub record IsData (files : FilesSeen) (data_ : List ℕ) (table : List MemEntry) (memories : List (List ℕ)) : Type 0 where
   pub bytes : List ℕ
   pub read : MayRead files data_ limit.Data bytes
-  pub holds : Holds table bytes memories
-  pub only : (others : List (List ℕ)) → Holds table bytes others → others ≡ memories
+  pub holds : HoldsContents table bytes memories
+  pub only : (others : List (List ℕ)) → HoldsContents table bytes others → others ≡ memories
   pub fits : Fits table memories
 
 -- the file has this fault for the table, the first one, and so it means nothing else

@@ -10,7 +10,7 @@ use Rattle.dh_tree.specs.ViewOffsets.{offsets_of}
 use Rattle.dh_meaning.specs.AccessNumbers.{accesses_of}
 use Rattle.dh_meaning.specs.Paths.{Path, outer_paths, copies_of, all_copies, paths_from}
 use Rattle.dh_meaning.specs.Sites.{Around, nothing_around, in_arm, in_loop, loop_of}
-use Rattle.dh_meets.specs.Charges.{factors_of, paths_of}
+use Rattle.dh_meets.specs.Charges.{loop_factors, paths_of}
 use Rattle.dh_meets.specs.SourceEvents.{Site, SourceAccess, SourceEvent, accesses, assigned, term_events, terms_events, maybe_events, write_events, site_of, events, command_events, other_events, groups_events, part_events, accesses_in, trace}
 use Rattle.dh_meaning.specs.Ways.{base_of, way_to}
 use Rattle.dh_plan.specs.PlanSizes.{entity_banks_charged, accesses_size, plan_size_of}
@@ -113,7 +113,7 @@ all_copies_some (path ∷ paths) n h i =
     let s = copies_some path n h in
     omega (arith, l, s)
 
-paths_some : (loops : List Counter) → HaveCopies loops → (paths : List Path) → 1 ≤ length paths → 1 ≤ length (paths_from paths (factors_of loops))
+paths_some : (loops : List Counter) → HaveCopies loops → (paths : List Path) → 1 ≤ length paths → 1 ≤ length (paths_from paths (loop_factors loops))
 paths_some [] h paths i = i
 paths_some (c ∷ loops) h paths i = paths_some loops h.1 (all_copies paths c.factor) (all_copies_some paths c.factor h.0 i)
 

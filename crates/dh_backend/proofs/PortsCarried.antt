@@ -13,7 +13,7 @@ use Rattle.dh_tree.specs.Memories.{Memory, memories_of, entry_of, table_of}
 use Rattle.dh_tree.specs.PlainTrees.{Program}
 use Rattle.dh_meets.specs.Charges.{charge}
 use Rattle.dh_meets.specs.MayMeet.{meets_in}
-use Rattle.dh_meets.specs.Ports.{memory_ports, ports_of, KeepsPorts}
+use Rattle.dh_meets.specs.Ports.{ports_or_zero, ports_of_entity, KeepsPorts}
 use Rattle.dh_plan.specs.declared.operations.Operation.{Operation}
 use Rattle.dh_plan.specs.declared.operations.OperationForm.{OperationForm}
 use Rattle.dh_plan.specs.declared.operations.OperationForm.TheVariants.{Constant, Old, Compute, Convert, Select, Check, Probe, Read, Write, Set}
@@ -89,9 +89,9 @@ in_program p plan meets chosen together a b x y apart =
 
 -- the ports of a memory by its place, and by its entity
 ports_alike : (p : Program) (table : List MemEntry) → table ≡ table_of p → (memory : ℕ) (m : Memory) → slice_get (memories_of p) memory ≡ Some m
-    → (of : IsOfEntity 0 memory m (memories_of p)) → ports_of p of.entity ≡ ports_at table memory
+    → (of : IsOfEntity 0 memory m (memories_of p)) → ports_of_entity p of.entity ≡ ports_at table memory
 ports_alike p table same memory m e of =
-    ap memory_ports of.found
+    ap ports_or_zero of.found
     ∙ sym (ap (λ (t : List MemEntry). ports_at t memory) same
     ∙ ap entry_ports (slice_get-map entry_of (memories_of p) memory ∙ ap (option_map entry_of) e))
 

@@ -8,7 +8,7 @@ use Rattle.std.proofs.lemmas.Bool.{cases_lt}
 use Rattle.std.proofs.lemmas.Option.{slice_get_cases}
 use Rattle.dh_plan.specs.declared.operations.Operation.{Operation}
 use Rattle.dh_plan.specs.declared.operations.OperationForm.{OperationForm}
-use Rattle.dh_plan.specs.LegalSchedules.{is_read, there_at, there_from, value_clock, greatest_of, needed_clock, last_clock, least_clocks, least_length}
+use Rattle.dh_plan.specs.LegalSchedules.{is_read, there_at, there_from, value_clock, greatest_number, needed_clock, last_clock, least_clocks, least_length}
 use Rattle.dh_plan.specs.Ordered.{operation_takes}
 use Rattle.dh_plan.specs.PlainPlans.{PlainPlan, first_in, operations_in}
 use Rattle.dh_plan.proofs.LeastLegal.{length_one_more}
@@ -37,7 +37,7 @@ value_early os cs long early k =
           subst (λ (x : Option Operation). there_from x (get_or cs k 0) ≤ length os) (sym none) (omega (arith, zero_clock)))
     ]
 
-greatest_within : (f : ℕ → ℕ) (most : ℕ) → ((n : ℕ) → f n ≤ most) → (ns : List ℕ) → greatest_of (map f ns) ≤ most
+greatest_within : (f : ℕ → ℕ) (most : ℕ) → ((n : ℕ) → f n ≤ most) → (ns : List ℕ) → greatest_number (map f ns) ≤ most
 greatest_within f most h [] = omega arith
 greatest_within f most h (n ∷ ns) =
     let x = h n in

@@ -10,12 +10,12 @@ use Rattle.dh_plan.specs.declared.graphs.Group.{Group}
 use Rattle.dh_plan.specs.declared.graphs.State.{State}
 use Rattle.dh_plan.specs.PlainPlans.{PlainPlan}
 use Rattle.dh_plan.specs.SeenGraphs.{IsWay, OfFirst, WayWithin, IsGraphOf, FitsThread}
-use Rattle.dh_plan.specs.Ways.{Way, to_state, by_flag, by_count, to_fork, to_end, Stop}
+use Rattle.dh_plan.specs.Ways.{GraphWay, to_state, by_flag, by_count, to_fork, to_end, GraphStop}
 use Rattle.dh_flow.specs.StraightGraphs.{DoesNotFork, NeverForks}
 use Rattle.dh_backend.specs.OneThread.{GoesWithin}
 
 module _ (groups : List Group) (states registers : ℕ) where
-  leads : (d : Decision) (w : Way) → DoesNotFork d → IsWay groups d w → WayWithin states registers w → FitsThread states registers d
+  leads : (d : Decision) (w : GraphWay) → DoesNotFork d → IsWay groups d w → WayWithin states registers w → FitsThread states registers d
   unfolding DoesNotFork IsWay FitsThread
   leads (Go state) (to_state s) f h k = subst (λ (n : ℕ). n < states) (sym h) k
   leads (Go state) (by_flag flag w v) f h k = absurd h
@@ -48,12 +48,12 @@ at_place P (y ∷ xs) h zero x e = let same : y ≡ x = cc in subst P same h.0
 at_place P (y ∷ xs) h (suc i) x e = at_place P xs h.1 i x e
 
 -- a stop stands for each state
-stop_there : (stops : List Stop) (i : ℕ) → i < length stops → (s : Stop) × (slice_get stops i ≡ Some s)
+stop_there : (stops : List GraphStop) (i : ℕ) → i < length stops → (s : GraphStop) × (slice_get stops i ≡ Some s)
 stop_there [] i h = absurd (omega (arith, h))
 stop_there (s ∷ stops) zero h = (s, refl)
 stop_there (s ∷ stops) (suc i) h = stop_there stops i (omega (arith, h))
 
-first_leads : (plan : PlainPlan) (states : ℕ) (gs : List Group) (w : Way) → length gs ≡ 1 → OfFirst (slice_get gs 0) (λ d. IsWay gs d w) → WayWithin states (length plan.registers) w
+first_leads : (plan : PlainPlan) (states : ℕ) (gs : List Group) (w : GraphWay) → length gs ≡ 1 → OfFirst (slice_get gs 0) (λ d. IsWay gs d w) → WayWithin states (length plan.registers) w
     → AllByRecursion (λ (h : Group). DoesNotFork h.first) gs → AllByRecursion (λ (h : Group). FitsThread states (length plan.registers) h.first) gs
 first_leads plan states [] w one h k f = tt
 first_leads plan states (g ∷ []) w one h k f = (leads (g ∷ []) states (length plan.registers) g.first w f.0 h k, tt)

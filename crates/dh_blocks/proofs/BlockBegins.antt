@@ -14,20 +14,20 @@ use Rattle.dh_code.specs.Slots.{held_at}
 use Rattle.dh_code.proofs.Ranges.{drop_past}
 use Rattle.dh_expressions.specs.declared.scenes.Around.{Around}
 use Rattle.dh_expressions.specs.declared.scenes.Scene.{Scene}
-use Rattle.dh_expressions.specs.Drafted.{Begun, Fits, Step, shown, told_block}
+use Rattle.dh_expressions.specs.Drafted.{BlockBegun, FitsStep, BlockStep, word_shown, told_block}
 use Rattle.dh_expressions.specs.Evaluated.{shown_by}
-use Rattle.dh_expressions.specs.Shown.{current_shown, register_shown, variable_shown}
+use Rattle.dh_expressions.specs.Shown.{current_shown, register_as_begun, variable_shown}
 use Rattle.dh_expressions.proofs.ListPlaces.{some_same}
 use Rattle.dh_expressions.proofs.Pushing.{in_front}
 use Rattle.dh_commands.specs.declared.buildings.Building.{Building}
 use Rattle.dh_commands.specs.LanesRun.{lane_of, paths_counted}
-use Rattle.dh_commands.specs.ShownVariables.{ArePlaced, IsSeen, Shows, register_in, seen_path}
+use Rattle.dh_commands.specs.ShownVariables.{ArePlaced, IsSeen, ShowsVariables, register_in, seen_path}
 use Rattle.dh_commands.specs.Undone.{AreReady, given_at}
-use Rattle.dh_commands.specs.Done.{Stands}
+use Rattle.dh_commands.specs.Done.{StandsBeside}
 use Rattle.dh_blocks.specs.FoundAccesses.{Found}
 use Rattle.dh_blocks.specs.ChosenReads.{AreBare, chosen_reads}
 use Rattle.dh_blocks.specs.BlockGround.{IsGround}
-use Rattle.dh_blocks.specs.BlockMade.{IsPut, IsTop, effect_begun, step_of}
+use Rattle.dh_blocks.specs.BlockMade.{IsPut, IsTop, effect_begun, step_of_block}
 use Rattle.dh_blocks.specs.SlotsOfScene.{HoldsVariables, slots_in}
 use Rattle.dh_blocks.proofs.PathNumbers.{some_copies}
 use Rattle.dh_blocks.proofs.ReadsBegin.{knows_first}
@@ -52,7 +52,7 @@ get_dropped (x ∷ xs) (suc k) (suc n) h = ap (λ m. slice_get (drop k xs) m) (o
     less k n h = omega (arith, h)
 
 -- a register without a value shows what it held
-pub none_shown : (x : Step) (current : List (Option ℕ)) (r : ℕ) → given_at current r ≡ None → variable_shown x current r ≡ register_shown x r
+pub none_shown : (x : BlockStep) (current : List (Option ℕ)) (r : ℕ) → given_at current r ≡ None → variable_shown x current r ≡ register_as_begun x r
 none_shown x current r e = by (slice_get current r) refl
   where
     at : (xs : List (Option ℕ)) (n : ℕ) (o : Option ℕ) → slice_get xs n ≡ Some o → given_at xs n ≡ o
@@ -60,7 +60,7 @@ none_shown x current r e = by (slice_get current r) refl
     at (y ∷ xs) zero o e = some_same y o e
     at (y ∷ xs) (suc n) o e = at xs n o e
 
-    by : (o : Option (Option ℕ)) → slice_get current r ≡ o → variable_shown x current r ≡ register_shown x r
+    by : (o : Option (Option ℕ)) → slice_get current r ≡ o → variable_shown x current r ≡ register_as_begun x r
     by None is = ap (λ o. current_shown x o r) is
     by (Some None) is = ap (λ o. current_shown x o r) is
     by (Some (Some v)) is = absurd (never v (sym (at current r (Some v) is) ∙ e))
@@ -69,7 +69,7 @@ none_shown x current r e = by (slice_get current r) refl
         never v h = cc
 
 -- and one with a value shows that
-pub some_shown : (x : Step) (current : List (Option ℕ)) (r v : ℕ) → given_at current r ≡ Some v → variable_shown x current r ≡ shown x v
+pub some_shown : (x : BlockStep) (current : List (Option ℕ)) (r v : ℕ) → given_at current r ≡ Some v → variable_shown x current r ≡ word_shown x v
 some_shown x current r v e = ap (λ o. current_shown x o r) (at current r e)
   where
     at : (xs : List (Option ℕ)) (n : ℕ) → given_at xs n ≡ Some v → slice_get xs n ≡ Some (Some v)
@@ -103,10 +103,10 @@ module _ (scene : Scene) (around : Around) (plan : PlainPlan) (count : ℕ) (rou
       ∙ ap Some (sym (register_slot scene around count holds.placing holds.small top.spread top.counted e i s h))
 
 module _ (plan : PlainPlan) (count block : ℕ) (old new : Building) (more : List Operation) (put : IsPut plan count block old new more) (registers : List ℕ) (memories : List (List ℕ)) where
-  abbrev x : Step
-  x = step_of plan block registers memories
+  abbrev x : BlockStep
+  x = step_of_block plan block registers memories
 
-  pub fits_here : Fits x new.draft
+  pub fits_here : FitsStep x new.draft
   fits_here = record {
     solves = λ n o low at.
         let there : slice_get (operations_in plan block) (n - first_in plan block) ≡ Some o =
@@ -122,7 +122,7 @@ module _ (plan : PlainPlan) (count block : ℕ) (old new : Building) (more : Lis
       whole : (n k : ℕ) → k ≤ n → k + (n - k) ≡ n
       whole n k h = omega (arith, h)
 
-  pub begun_here : Begun x old.draft
+  pub begun_here : BlockBegun x old.draft
   begun_here = subst (λ (n : ℕ). first_in plan block ≤ n) put.first (same (first_in plan block))
     where
       same : (n : ℕ) → n ≤ n
@@ -134,10 +134,10 @@ module _ (scene : Scene) (around : Around) (plan : PlainPlan) (count block : ℕ
   none_given : (r : ℕ) → given_at old.values.current.items r ≡ None
   none_given r = ap (λ l. given_at l r) put.none.current ∙ nothing_given count r
 
-  abbrev step : Step
-  step = step_of plan block registers memories
+  abbrev step : BlockStep
+  step = step_of_block plan block registers memories
 
-  shows_first : Shows scene around step old.values.current.items variables
+  shows_first : ShowsVariables scene around step old.values.current.items variables
   shows_first = record {
     each = λ e i s h on.
         ap (λ o. shown_by step o (held_at scene.held.now e) (lane_of around i) old.values.current.items (held_at scene.held.now e).kind) s.no_counter
@@ -153,7 +153,7 @@ module _ (scene : Scene) (around : Around) (plan : PlainPlan) (count block : ℕ
   }
 
   module _ (find : ℕ → Option Found) (bare : AreBare find old.accesses) where
-    pub stands_here : Stands scene around step (chosen_reads step find old.accesses) old (effect_begun variables)
+    pub stands_here : StandsBeside scene around step (chosen_reads step find old.accesses) old (effect_begun variables)
     stands_here = record {
       knows = knows_first step find old.accesses put.laid put.counts bare;
       shows = shows_first;

@@ -29,8 +29,8 @@ use Rattle.dh_code.proofs.SlotsHeld.{one_copy}
 use Rattle.dh_expressions.specs.declared.scenes.Around.{Around}
 use Rattle.dh_expressions.specs.declared.scenes.Scene.{Scene}
 use Rattle.dh_expressions.specs.Copying.{AreNone}
-use Rattle.dh_expressions.specs.Drafted.{Begun, Fits, Step, shown, told, told_block}
-use Rattle.dh_expressions.specs.Evaluated.{Reads, begun_of, known_in, shown_by}
+use Rattle.dh_expressions.specs.Drafted.{BlockBegun, FitsStep, BlockStep, word_shown, tales_told, told_block}
+use Rattle.dh_expressions.specs.Evaluated.{StepReads, begun_of, known_in, shown_by}
 use Rattle.dh_expressions.specs.Noted.{touched_in}
 use Rattle.dh_expressions.specs.Shown.{variable_shown}
 use Rattle.dh_expressions.proofs.ListPlaces.{place_within}
@@ -40,12 +40,12 @@ use Rattle.dh_commands.specs.LanesRun.{lane_of, paths_counted, paths_on}
 use Rattle.dh_commands.specs.ShownVariables.{ArePlaced, IsSeen, register_in, seen_path}
 use Rattle.dh_commands.specs.Followed.{effect_of}
 use Rattle.dh_commands.specs.Undone.{IsChange, given_at}
-use Rattle.dh_commands.specs.Done.{Stands}
+use Rattle.dh_commands.specs.Done.{StandsBeside}
 use Rattle.dh_blocks.specs.FoundAccesses.{Found, block_found, found, found_from, found_or}
 use Rattle.dh_laid.specs.LaidAccesses.{AreLaid}
 use Rattle.dh_blocks.specs.ChosenReads.{AreBare, chosen_reads}
 use Rattle.dh_blocks.specs.BlockGround.{AreWithin, IsGround}
-use Rattle.dh_blocks.specs.BlockMade.{AreRising, AreSoundHere, DoEach, EachShares, IsBare, IsMade, IsTop, SharesStand, arms_each, effect_begun, found_in, sets_made, step_of}
+use Rattle.dh_blocks.specs.BlockMade.{AreRising, AreSoundHere, DoEach, EachShares, IsBare, IsBlockMade, IsTop, SharesStand, arms_each, effect_begun, found_in, sets_made, step_of_block}
 use Rattle.dh_blocks.specs.NamedVariables.{IsNamed, IsNamedHere}
 use Rattle.dh_blocks.specs.SlotsOfScene.{HoldsVariables, IsStartOf, placing_in, slots_in}
 use Rattle.dh_blocks.specs.SoundCommands.{IsOwnOf, SoundAction}
@@ -82,7 +82,7 @@ module _ (scene : Scene) (around : Around) (plan : PlainPlan) (rounds : List Rou
       (mapped (IsNamedHere scene around.levels.now plan.registers rounds (λ entity. true)) (NamedBy scene around plan rounds done) (λ r k h. inr h) folds sound.then_folds)
 
 module _ (scene : Scene) (around : Around) (plan : PlainPlan) (count block : ℕ) (done folds : List Located) (rounds : List Round) (old new : Building)
-    (made : IsMade scene around plan count block (done ++ folds) old new) (holds : HoldsVariables scene plan count) (top : IsTop rounds around)
+    (made : IsBlockMade scene around plan count block (done ++ folds) old new) (holds : HoldsVariables scene plan count) (top : IsTop rounds around)
     (sound : AreSoundHere scene around plan rounds done folds) (stand : SharesStand scene around plan rounds block (done ++ folds) old new made.each) where
   abbrev cs : List Located
   cs = done ++ folds
@@ -119,7 +119,7 @@ module _ (scene : Scene) (around : Around) (plan : PlainPlan) (count block : ℕ
       by rest (inr h) = rest h
 
   -- an access that is found is one of a command
-  found_bare : (x : Step) (N : Ref → Kind → Type 0) (ds : List Located) (a b : Building) (h : DoEach scene around ds a b) (e : Effect) (number : ℕ) (f : Found)
+  found_bare : (x : BlockStep) (N : Ref → Kind → Type 0) (ds : List Located) (a b : Building) (h : DoEach scene around ds a b) (e : Effect) (number : ℕ) (f : Found)
       → AllByRecursion (λ (c : Located). SoundAction scene around.levels.now plan.table N (IsSeen scene around.levels.now) c.command) ds → AllByRecursion (IsBare old.accesses) ds
       → block_found scene x around (arms_each scene around ds a b h) ds e number ≡ Some f → (number < length old.accesses.touched.items) × (touched_in old.accesses number ≡ None)
   found_bare x N [] a b h e number f s bare is = absurd (cc)
@@ -152,8 +152,8 @@ module _ (scene : Scene) (around : Around) (plan : PlainPlan) (count block : ℕ
 
   -- In a step.
   module _ (registers : List ℕ) (memories : List (List ℕ)) (variables : Variables) (st : StandFor plan.registers (slots_in scene) rounds registers variables) where
-    abbrev x : Step
-    x = step_of plan block registers memories
+    abbrev x : BlockStep
+    x = step_of_block plan block registers memories
 
     abbrev first_effect : Effect
     first_effect = effect_begun variables
@@ -164,7 +164,7 @@ module _ (scene : Scene) (around : Around) (plan : PlainPlan) (count block : ℕ
     start : IsStartOf scene x
     start = record { table = holds.table; ways = holds.views }
 
-    abbrev reads : Reads
+    abbrev reads : StepReads
     reads = chosen_reads x find old.accesses
 
     -- names in this step
@@ -177,16 +177,16 @@ module _ (scene : Scene) (around : Around) (plan : PlainPlan) (count block : ℕ
     bare : AreBare find old.accesses
     bare number f is = found_bare x (NamedBy scene around plan rounds done) cs old new made.each first_effect number f (sound_all scene around plan rounds done folds sound) made.bare is
 
-    abbrev fits : Fits x new.draft
+    abbrev fits : FitsStep x new.draft
     fits = fits_here plan count block old new (sets_made new.values.log.items new.values.current.items) made.put registers memories
 
-    abbrev begun : Begun x old.draft
+    abbrev begun : BlockBegun x old.draft
     begun = begun_here plan count block old new (sets_made new.values.log.items new.values.current.items) made.put registers memories
 
     abbrev slot_seen : (e i : ℕ) → IsSeen scene around.levels.now e → i < paths_counted around → slots_in scene e (seen_path scene around e i) ≡ Some (register_in scene around e i)
     slot_seen = slot_here scene around plan count rounds holds top
 
-    abbrev stands_first : Stands scene around x reads old first_effect
+    abbrev stands_first : StandsBeside scene around x reads old first_effect
     stands_first = stands_here scene around plan count block rounds old new (sets_made new.values.log.items new.values.current.items) made.put holds top registers memories variables st find bare
 
     within_all : AreWithin find old.accesses
@@ -213,7 +213,7 @@ module _ (scene : Scene) (around : Around) (plan : PlainPlan) (count block : ℕ
         subst (λ (l : List Located). (h : DoEach scene around l before_folds behind) → AreRising from l
         → ((number : ℕ) → from ≤ number → find number ≡ block_found scene x around (arms_each scene around l before_folds behind h) l e number)
         → EachShares scene around x find l before_folds behind h e
-        → Stands scene around x reads behind (commands_run (begun_of x) (paths_on x around) (core_commands (known_in scene) l) e) × HasChanged scene around before_folds.values behind.values) (append-nil folds)
+        → StandsBeside scene around x reads behind (commands_run (begun_of x) (paths_on x around) (core_commands (known_in scene) l) e) × HasChanged scene around before_folds.values behind.values) (append-nil folds)
         (λ h rising finds sh.
         commands_done scene around x find old.accesses variables folded within_all start paths [] (goes_nowhere scene around x find old.accesses)
         folds from before_folds behind h e rising (named_now folded folds sound.then_folds) (stage folded) (λ i g. refl) (λ i q left. absurd (never left)) finds sh fits_behind begun_before ready_before stands)
@@ -222,7 +222,7 @@ module _ (scene : Scene) (around : Around) (plan : PlainPlan) (count block : ℕ
         never : true ≡ false → ⊥
         never e = cc
 
-    all_done : Stands scene around x reads new last_effect × HasChanged scene around old.values new.values
+    all_done : StandsBeside scene around x reads new last_effect × HasChanged scene around old.values new.values
     all_done =
         commands_done scene around x find old.accesses variables touched within_all start paths folds folds_go
         done 0 old new made.each first_effect made.rising (named_now touched done sound.first) (stage touched) (λ i g. g) (λ i q left. refl) (λ number low. refl) (stand registers memories variables st) fits begun stands_first.ready stands_first
@@ -242,7 +242,7 @@ module _ (scene : Scene) (around : Around) (plan : PlainPlan) (count block : ℕ
         ∙ (append-nil (block_events x.start x.first x.words (drop (length old.draft.operations.items) new.draft.operations.items))
         ∙ ap (λ k. block_events x.start x.first x.words (drop k new.draft.operations.items)) (sym made.put.first))))
 
-    told_alike : told_block plan.faults (events_of_block plan x.start block) ≡ told last_effect.events
+    told_alike : told_block plan.faults (events_of_block plan x.start block) ≡ tales_told last_effect.events
     told_alike = ap (λ es. told_block plan.faults es) events_are ∙ all_done.0.tells
 
     sets_are : sets_of_block plan x.start block ≡ block_sets x.first x.words (sets_made new.values.log.items new.values.current.items)
@@ -262,7 +262,7 @@ module _ (scene : Scene) (around : Around) (plan : PlainPlan) (count block : ℕ
       pub seen : IsSeen scene around.levels.now entity
       pub within : number < paths_counted around
       pub register_is : r ≡ register_in scene around entity number
-      pub shows : shown x v ≡ word_of (held_at scene.held.now entity).kind (last_effect.variables entity (seen_path scene around entity number))
+      pub shows : word_shown x v ≡ word_of (held_at scene.held.now entity).kind (last_effect.variables entity (seen_path scene around entity number))
       pub kind_is : kind_at plan.registers r ≡ (held_at scene.held.now entity).kind
 
     -- a seen variable shows at a path what it holds

@@ -26,10 +26,10 @@ use Rattle.dh_sound.proofs.Makes.{action_counted, makes_within}
 use Rattle.dh_sound.proofs.Trails.{follows_plain}
 use Rattle.dh_expressions.specs.declared.scenes.Around.{Around}
 use Rattle.dh_expressions.specs.declared.scenes.Scene.{Scene}
-use Rattle.dh_expressions.specs.Drafted.{Step}
+use Rattle.dh_expressions.specs.Drafted.{BlockStep}
 use Rattle.dh_commands.specs.declared.buildings.Building.{Building}
 use Rattle.dh_commands.specs.LanesRun.{paths_counted, paths_on}
-use Rattle.dh_commands.specs.ShownVariables.{IsSeen, factors_of}
+use Rattle.dh_commands.specs.ShownVariables.{IsSeen, level_factors}
 use Rattle.dh_commands.specs.Followed.{Arms, effect_of}
 use Rattle.dh_blocks.specs.FoundAccesses.{Found, block_found, found, found_or}
 use Rattle.dh_blocks.specs.BlockGround.{AreFoundAt, SharesIn}
@@ -46,8 +46,8 @@ not_true : (b : Bool) → (b ≡ true → ⊥) → b ≡ false
 not_true true h = absurd (h refl)
 not_true false h = refl
 
-module _ (scene : Scene) (x : Step) (find : ℕ → Option Found) (around : Around) (table : List MemEntry) (Name : Ref → Kind → Type 0)
-    (spread : AreSpread around.levels.now) (sized : paths_counted around ≡ copies_in (factors_of around.levels.now)) where
+module _ (scene : Scene) (x : BlockStep) (find : ℕ → Option Found) (around : Around) (table : List MemEntry) (Name : Ref → Kind → Type 0)
+    (spread : AreSpread around.levels.now) (sized : paths_counted around ≡ copies_in (level_factors around.levels.now)) where
   abbrev p : Program
   p = program_seen scene.program.now
 

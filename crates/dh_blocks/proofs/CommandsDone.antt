@@ -13,8 +13,8 @@ use Rattle.dh_meaning.specs.Phases.{Located}
 use Rattle.dh_expressions.specs.declared.accesses.Accesses.{Accesses}
 use Rattle.dh_expressions.specs.declared.scenes.Around.{Around}
 use Rattle.dh_expressions.specs.declared.scenes.Scene.{Scene}
-use Rattle.dh_expressions.specs.Drafted.{Begun, Extends, Fits, Step}
-use Rattle.dh_expressions.specs.Evaluated.{Reads, begun_of, known_in}
+use Rattle.dh_expressions.specs.Drafted.{BlockBegun, Extends, FitsStep, BlockStep}
+use Rattle.dh_expressions.specs.Evaluated.{StepReads, begun_of, known_in}
 use Rattle.dh_expressions.proofs.Pushing.{begun_later, extends_again, extends_self, fits_before}
 use Rattle.dh_commands.specs.declared.assignments.Change.{Change}
 use Rattle.dh_commands.specs.declared.assignments.Values.{Values}
@@ -23,7 +23,7 @@ use Rattle.dh_commands.specs.LanesRun.{paths_counted, paths_on}
 use Rattle.dh_commands.specs.ShownVariables.{IsSeen}
 use Rattle.dh_commands.specs.Followed.{Follows, Sets, effect_of}
 use Rattle.dh_commands.specs.Undone.{AreReady, Changes, HasRoom, IsChange, undone}
-use Rattle.dh_commands.specs.Done.{Stands}
+use Rattle.dh_commands.specs.Done.{StandsBeside}
 use Rattle.dh_blocks.specs.FoundAccesses.{Found, block_found, found, found_from, found_or}
 use Rattle.dh_blocks.specs.ChosenReads.{chosen_reads}
 use Rattle.dh_blocks.specs.BlockGround.{AreFoundAt, AreWithin}
@@ -111,21 +111,21 @@ own_found first fs i f e = ap (λ b. if b then None else slice_get fs (first + i
     same a i = omega arith
 
 -- What is done by the commands of a list: from what stands at its begin to what stands at its end.
-abbrev pub Goes : (scene : Scene) → (around : Around) → Step → (find : ℕ → Option Found) → (before : Accesses) → List Located → Type 0
+abbrev pub Goes : (scene : Scene) → (around : Around) → BlockStep → (find : ℕ → Option Found) → (before : Accesses) → List Located → Type 0
 Goes scene around x find before cs =
     (from : ℕ) (old new : Building) (h : DoEach scene around cs old new) (e : Effect) → AreRising from cs
     → ((number : ℕ) → from ≤ number → find number ≡ block_found scene x around (arms_each scene around cs old new h) cs e number)
-    → EachShares scene around x find cs old new h e → Fits x new.draft → Begun x old.draft → AreReady old.values → Stands scene around x (chosen_reads x find before) old e
-    → Stands scene around x (chosen_reads x find before) new (commands_run (begun_of x) (paths_on x around) (core_commands (known_in scene) cs) e) × HasChanged scene around old.values new.values
+    → EachShares scene around x find cs old new h e → FitsStep x new.draft → BlockBegun x old.draft → AreReady old.values → StandsBeside scene around x (chosen_reads x find before) old e
+    → StandsBeside scene around x (chosen_reads x find before) new (commands_run (begun_of x) (paths_on x around) (core_commands (known_in scene) cs) e) × HasChanged scene around old.values new.values
 
 -- by no command nothing is done
-pub goes_nowhere : (scene : Scene) (around : Around) (x : Step) (find : ℕ → Option Found) (before : Accesses) → Goes scene around x find before []
+pub goes_nowhere : (scene : Scene) (around : Around) (x : BlockStep) (find : ℕ → Option Found) (before : Accesses) → Goes scene around x find before []
 goes_nowhere scene around x find before from old new h e rising finds sh fits begun ready stands =
-    subst (λ (b : Building). Stands scene around x (chosen_reads x find before) b e × HasChanged scene around old.values b.values) h (stands, changed_none scene around old.values)
+    subst (λ (b : Building). StandsBeside scene around x (chosen_reads x find before) b e × HasChanged scene around old.values b.values) h (stands, changed_none scene around old.values)
 
-module _ (scene : Scene) (around : Around) (x : Step) (find : ℕ → Option Found) (before : Accesses) (v0 : Variables) (touched : ℕ → Bool) (within_all : AreWithin find before)
+module _ (scene : Scene) (around : Around) (x : BlockStep) (find : ℕ → Option Found) (before : Accesses) (v0 : Variables) (touched : ℕ → Bool) (within_all : AreWithin find before)
     (start : IsStartOf scene x) (paths : 0 < paths_counted around) where
-  abbrev reads : Reads
+  abbrev reads : StepReads
   reads = chosen_reads x find before
 
   abbrev Folds : ℕ → Type 0
@@ -164,8 +164,8 @@ module _ (scene : Scene) (around : Around) (x : Step) (find : ℕ → Option Fou
   pub commands_done : (tail : List Located) → Goes scene around x find before tail → (cs : List Located) (from : ℕ) (old new : Building) (h : DoEach scene around (cs ++ tail) old new) (e : Effect) → AreRising from (cs ++ tail)
       → AllByRecursion (λ (c : Located). Sound c.command) cs → Standing → Touches (core_commands (known_in scene) cs) → IsNear v0 touched e
       → ((number : ℕ) → from ≤ number → find number ≡ block_found scene x around (arms_each scene around (cs ++ tail) old new h) (cs ++ tail) e number)
-      → EachShares scene around x find (cs ++ tail) old new h e → Fits x new.draft → Begun x old.draft → AreReady old.values → Stands scene around x reads old e
-      → Stands scene around x reads new (commands_run (begun_of x) (paths_on x around) (core_commands (known_in scene) (cs ++ tail)) e) × HasChanged scene around old.values new.values
+      → EachShares scene around x find (cs ++ tail) old new h e → FitsStep x new.draft → BlockBegun x old.draft → AreReady old.values → StandsBeside scene around x reads old e
+      → StandsBeside scene around x reads new (commands_run (begun_of x) (paths_on x around) (core_commands (known_in scene) (cs ++ tail)) e) × HasChanged scene around old.values new.values
   commands_done tail base [] from old new h e rising sound stage touches near finds sh fits begun ready stands = base from old new h e rising finds sh fits begun ready stands
   commands_done tail base (c ∷ cs) from old new (mid, (next, (d, rest))) e rising sound stage touches near finds sh fits begun ready stands =
       let does = d.so paths rising.1.0 in
@@ -180,7 +180,7 @@ module _ (scene : Scene) (around : Around) (x : Step) (find : ℕ → Option Fou
       (own_found c.first (found scene x around d.arms c.first c.command e) i f is) in
       let premise : Follows scene x reads around d.arms c.first c.command e =
       follows scene x find before v0 touched within_all start around d.arms Folds c.first c.command e stage sound.0 d.shaped touches_one near own sh.0 in
-      let between : Stands scene around x reads mid (effect_of scene x (paths_on x around) c.first c.command e) =
+      let between : StandsBeside scene around x reads mid (effect_of scene x (paths_on x around) c.first c.command e) =
       does.so x reads e (fits_before mid.draft new.draft x further fits) begun premise stands in
       let changed : HasChanged scene around old.values mid.values = seen_changes c.command old.values mid.values sound.0 (does.changes ready) in
       let long : length (found scene x around d.arms c.first c.command e) ≡ accesses_of c.command =
@@ -192,7 +192,7 @@ module _ (scene : Scene) (around : Around) (x : Step) (find : ℕ → Option Fou
       let done = commands_done tail base cs (c.first + accesses_of c.command) mid new rest (effect_of scene x (paths_on x around) c.first c.command e) rising.1.1 sound.1 stage touches_rest
       (near_commands v0 touched x (paths_on x around) (core_action (known_in scene) c.first c.command no_commands) touches_one e near) finds_rest sh.1 fits (begun_later old.draft mid.draft x does.extends begun)
       (still_ready scene around old.values mid.values changed ready) between in (
-        subst (λ (f : Effect). Stands scene around x reads new f) (sym (action_then_run (begun_of x) (known_in scene) (paths_on x around) c.first c.command (core_commands (known_in scene) (cs ++ tail)) e)) done.0,
+        subst (λ (f : Effect). StandsBeside scene around x reads new f) (sym (action_then_run (begun_of x) (known_in scene) (paths_on x around) c.first c.command (core_commands (known_in scene) (cs ++ tail)) e)) done.0,
         changed_then scene around old.values mid.values new.values changed done.1,
       )
     where

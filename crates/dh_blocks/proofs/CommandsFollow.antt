@@ -33,16 +33,16 @@ use Rattle.dh_expressions.specs.declared.accesses.Accesses.{Accesses}
 use Rattle.dh_expressions.specs.declared.paths.Level.{Level}
 use Rattle.dh_expressions.specs.declared.scenes.Around.{Around}
 use Rattle.dh_expressions.specs.declared.scenes.Scene.{Scene}
-use Rattle.dh_expressions.specs.Drafted.{Step}
-use Rattle.dh_expressions.specs.Evaluated.{IsSited, Reads, begun_of, known_in}
+use Rattle.dh_expressions.specs.Drafted.{BlockStep}
+use Rattle.dh_expressions.specs.Evaluated.{IsSited, StepReads, begun_of, known_in}
 use Rattle.dh_expressions.specs.Levels.{path_at, rank_number}
 use Rattle.dh_expressions.specs.Shown.{guard_of, held_shown}
 use Rattle.dh_ways.proofs.KeptVariables.{others_kept}
 use Rattle.dh_commands.proofs.CoreRuns.{offsets_long}
 use Rattle.dh_commands.specs.LanesRun.{IsArm, is_on_at, lane_of, lanes_run, path_in, paths_counted, paths_on, run_if}
-use Rattle.dh_commands.specs.Keeping.{HeldFrom, words_of}
-use Rattle.dh_commands.specs.ShownVariables.{AreBoundAt, ArePlaced, AreTargets, IsOwn, IsSeen, IsTarget, depth_in, factors_of, register_in, seen_path}
-use Rattle.dh_commands.specs.Followed.{Along, AreOwn, Arms, arms_of, arms_then, no_arms, Follows, FollowsAssigned, FollowsGroups, FollowsIndices, FollowsOther, FollowsPart, FollowsReduced, FollowsStored, FollowsTarget, FollowsView, KeepsDeep, KeepsDeepGroups, KeepsDeepOther, KeepsDeepPart, KeptDeep, FitGroups, FitOther, FitPart, FitArms, IsFollowed, IsFollowedBy, KeptWord, Sets, SetsOther, assign_run, effect_of, kept_run, memory_aimed, part_effect, reduced_term, store_run, term_in, test_out, test_run, tested, value_at, view_of}
+use Rattle.dh_commands.specs.Keeping.{HeldFrom, term_words}
+use Rattle.dh_commands.specs.ShownVariables.{AreBoundAt, ArePlaced, AreTargets, HasOwnCopies, IsSeen, IsSetTarget, depth_in, level_factors, register_in, seen_path}
+use Rattle.dh_commands.specs.Followed.{Along, AreOwn, Arms, arms_of, arms_then, no_arms, Follows, FollowsAssigned, FollowsGroups, FollowsIndices, FollowsOther, FollowsPart, FollowsReduced, FollowsStored, FollowsTarget, FollowsView, KeepsDeep, KeepsDeepGroups, KeepsDeepOther, KeepsDeepPart, KeptDeep, FitGroups, FitOther, FitPart, FitArms, IsFollowed, IsFollowedBy, KeptWord, Sets, SetsOther, assign_run, effect_of, kept_run, memory_aimed, part_effect, reduced_term, store_run, term_in, test_out, test_run, tested, value_at, view_at_step}
 use Rattle.dh_blocks.specs.FoundAccesses.{Found, form_of_found, found, groups_found, idle_found, other_found, part_found, target_found, term_found, terms_found, variables_along, view_found, write_found}
 use Rattle.dh_blocks.specs.ChosenReads.{chosen_reads}
 use Rattle.dh_blocks.specs.BlockGround.{AreFoundAt, AreReadAt, AreShared, AreWithin, IsFoundAt, IsGround, SharesIn, SharesInForm, SharesInGroups, SharesInOther, SharesInPart, SharesInView, TargetShares}
@@ -70,7 +70,7 @@ either_of false b h = inr h
 
 -- How many accesses are found: as many as a command makes, where its arms have its shape.
 
-module _ (scene : Scene) (x : Step) (table : List MemEntry) (Name : Ref → Kind → Type 0) where
+module _ (scene : Scene) (x : BlockStep) (table : List MemEntry) (Name : Ref → Kind → Type 0) where
   target_long : (around : Around) (V : ℕ → Variables) (n : ℕ) (target : Term) → IsSoundTarget (known_in scene) table Name target → length (target_found scene around x V n target) ≡ term_accesses target
   target_long around V n (term place k (plain.accessed r ts)) h =
       length-append (terms_found scene around x V n ts) _ ∙ one (length (terms_found scene around x V n ts)) (terms_accesses ts) (terms_long scene around x V n ts)
@@ -155,18 +155,18 @@ module _ (scene : Scene) (x : Step) (table : List MemEntry) (Name : Ref → Kind
 -- Variables that are another at each path.
 
 module _ (scene : Scene) (around : Around) (ground : IsGround scene around) (placed : ArePlaced scene around) (entity : ℕ) (own : IsOwnOf scene around.levels.now entity) where
-  levels_long : (ls : List Level) → length (factors_of ls) ≡ length ls
+  levels_long : (ls : List Level) → length (level_factors ls) ≡ length ls
   levels_long [] = refl
   levels_long (l ∷ ls) = ap suc (levels_long ls)
 
   whole : (i : ℕ) → i < paths_counted around → seen_path scene around entity i ≡ path_in around i
   whole i h =
-      let long = length_path (factors_of around.levels.now) (path_in around i) (numbered around.levels.now ground.spread i (subst (λ (n : ℕ). i < n) ground.counted h)).path in
+      let long = length_path (level_factors around.levels.now) (path_in around i) (numbered around.levels.now ground.spread i (subst (λ (n : ℕ). i < n) ground.counted h)).path in
       let same = levels_long around.levels.now in
       let full = own.full in
       take_all (depth_in scene entity) (path_in around i) (omega (arith, long, same, full))
 
-  pub is_own : IsOwn scene around entity
+  pub is_own : HasOwnCopies scene around entity
   is_own = record {
     placed = placed;
     there = own.seen;
@@ -175,7 +175,7 @@ module _ (scene : Scene) (around : Around) (ground : IsGround scene around) (pla
         number_is around.levels.now ground.spread i j (subst (λ (n : ℕ). i < n) ground.counted h) (subst (λ (n : ℕ). j < n) ground.counted g) (sym (whole i h) ∙ (seen ∙ whole j g));
   }
 
-  pub own_target : IsTarget scene around entity
+  pub own_target : IsSetTarget scene around entity
   own_target = record {
     placed = placed;
     there = own.seen;
@@ -293,7 +293,7 @@ module _ (scene : Scene) (levels : List Level) (table : List MemEntry) (Name : R
 
 -- Along the run.
 
-lanes_keep : (P : Effect → Type 0) (x : Step) (around : Around) (run : Path → Effect → Effect) → ((p : Path) (e : Effect) → P e → P (run p e)) → (n : ℕ) (e : Effect) → P e → P (lanes_run x around run n e)
+lanes_keep : (P : Effect → Type 0) (x : BlockStep) (around : Around) (run : Path → Effect → Effect) → ((p : Path) (e : Effect) → P e → P (run p e)) → (n : ℕ) (e : Effect) → P e → P (lanes_run x around run n e)
 lanes_keep P x around run keeps zero e h = h
 lanes_keep P x around run keeps (suc n) e h = by (is_on_at x around n) (lanes_keep P x around run keeps n e h)
   where
@@ -305,7 +305,7 @@ module _ (v0 : Variables) (touched : ℕ → Bool) where
   abbrev pub IsNear : Effect → Type 0
   IsNear e = IsNearTo v0 touched e.variables
 
-  pub near_assign : (scene : Scene) (x : Step) (r : Ref) (t : CoreTerm) → touched (entity_number r.entity) ≡ true → (p : Path) (e : Effect) → IsNear e → IsNear (assign_run scene x r t p e)
+  pub near_assign : (scene : Scene) (x : BlockStep) (r : Ref) (t : CoreTerm) → touched (entity_number r.entity) ≡ true → (p : Path) (e : Effect) → IsNear e → IsNear (assign_run scene x r t p e)
   near_assign scene x r t touch p e h i q left = set_other e.variables (entity_number r.entity) (take (depth_in scene (entity_number r.entity)) p) _ i q (differ (cases_Bool (i == entity_number r.entity))) ∙ h i q left
     where
       differ : ((i == entity_number r.entity) ≡ true) ⊎ ((i == entity_number r.entity) ≡ false) → (i == entity_number r.entity) ≡ false
@@ -315,7 +315,7 @@ module _ (v0 : Variables) (touched : ℕ → Bool) where
           clash : (b : Bool) → b ≡ true → b ≡ false → ⊥
           clash b e f = cc
 
-  pub near_kept : (scene : Scene) (x : Step) (h : Hidden) (n : ℕ) (ts : List Term)
+  pub near_kept : (scene : Scene) (x : BlockStep) (h : Hidden) (n : ℕ) (ts : List Term)
       → ((entity : ℕ) → assigns_to entity (keep h.depth h.entity (core_terms (known_in scene) n (terms ts))) ≡ true → touched entity ≡ true) → (p : Path) (e : Effect) → IsNear e → IsNear (kept_run scene x h n ts p e)
   near_kept scene x h n ts touches p e near i q left = others_kept (begun_of x) h.depth h.entity (core_terms (known_in scene) n (terms ts)) i q (none (cases_Bool (assigns_to i (keep h.depth h.entity (core_terms (known_in scene) n (terms ts)))))) p e ∙ near i q left
     where
@@ -327,7 +327,7 @@ module _ (v0 : Variables) (touched : ℕ → Bool) where
           clash : (b : Bool) → b ≡ true → b ≡ false → ⊥
           clash b e f = cc
 
-  pub near_store : (scene : Scene) (x : Step) (n : ℕ) (target t : Term) (p : Path) (e : Effect) → IsNear e → IsNear (store_run scene x n target t p e)
+  pub near_store : (scene : Scene) (x : BlockStep) (n : ℕ) (target t : Term) (p : Path) (e : Effect) → IsNear e → IsNear (store_run scene x n target t p e)
   near_store scene x n (term place k (plain.accessed r ts)) t p e h = h
   near_store scene x n (term place k (plain.in_bank r bank at row)) t p e h = h
   near_store scene x n (term place k (plain.number negative z)) t p e h = h
@@ -336,7 +336,7 @@ module _ (v0 : Variables) (touched : ℕ → Bool) where
   near_store scene x n (term place k (plain.applied o l r)) t p e h = h
   near_store scene x n (term place k (plain.converted inner to)) t p e h = h
 
-  pub near_commands : (x : Step) (paths : List Path) (cs : CoreCommands) → ((entity : ℕ) → any_assigns entity cs ≡ true → touched entity ≡ true) → (e : Effect) → IsNear e → IsNear (commands_run (begun_of x) paths cs e)
+  pub near_commands : (x : BlockStep) (paths : List Path) (cs : CoreCommands) → ((entity : ℕ) → any_assigns entity cs ≡ true → touched entity ≡ true) → (e : Effect) → IsNear e → IsNear (commands_run (begun_of x) paths cs e)
   near_commands x paths cs touches e h i q left = commands_spare (begun_of x) i q paths cs e (none (cases_Bool (any_assigns i cs))) ∙ h i q left
     where
       none : (any_assigns i cs ≡ true) ⊎ (any_assigns i cs ≡ false) → any_assigns i cs ≡ false
@@ -346,9 +346,9 @@ module _ (v0 : Variables) (touched : ℕ → Bool) where
           clash : (b : Bool) → b ≡ true → b ≡ false → ⊥
           clash b e f = cc
 
-module _ (scene : Scene) (x : Step) (find : ℕ → Option Found) (before : Accesses) (v0 : Variables) (touched : ℕ → Bool) (within_all : AreWithin find before)
+module _ (scene : Scene) (x : BlockStep) (find : ℕ → Option Found) (before : Accesses) (v0 : Variables) (touched : ℕ → Bool) (within_all : AreWithin find before)
     (start : IsStartOf scene x) where
-  abbrev reads : Reads
+  abbrev reads : StepReads
   reads = chosen_reads x find before
 
   abbrev Named : List Level → Ref → Kind → Type 0
@@ -367,7 +367,7 @@ module _ (scene : Scene) (x : Step) (find : ℕ → Option Found) (before : Acce
   pub record Stage (around : Around) (Folds : ℕ → Type 0) : Type 0 where
     pub ground : IsGround scene around
     pub placed : ArePlaced scene around
-    pub folds : (entity : ℕ) → Folds entity → IsTarget scene around entity
+    pub folds : (entity : ℕ) → Folds entity → IsSetTarget scene around entity
 
   -- in an arm
   arm_stage : (around arm : Around) (holds : Bool) (test : Path → Bool) (Folds : ℕ → Type 0) → IsArm x around arm holds test → Stage around Folds → Stage arm (λ entity. ⊥)
@@ -376,7 +376,7 @@ module _ (scene : Scene) (x : Step) (find : ℕ → Option Found) (before : Acce
       scopes = s.ground.scopes;
       low = subst (λ (ls : List Level). length ls < 2 ^ 63) (sym h.levels) s.ground.low;
       spread = subst (λ (ls : List Level). AreSpread ls) (sym h.levels) s.ground.spread;
-      counted = h.long ∙ (s.ground.counted ∙ ap (λ (ls : List Level). copies_in (factors_of ls)) (sym h.levels));
+      counted = h.long ∙ (s.ground.counted ∙ ap (λ (ls : List Level). copies_in (level_factors ls)) (sym h.levels));
       one = λ e i j seen a b same.
           register_same e i
           ∙ (s.ground.one e i j (subst (λ (ls : List Level). IsSeen scene ls e) h.levels seen) (within i a) (within j b) (sym (seen_same e i) ∙ (same ∙ seen_same e j)) ∙ sym (register_same e j));
@@ -424,7 +424,7 @@ module _ (scene : Scene) (x : Step) (find : ℕ → Option Found) (before : Acce
     }
 
     write_sited : (i m : ℕ) → i < paths_counted around → (place : Place) (memory : ℕ) (form : plain.TermForm) → find m ≡ Some (write_found scene around x V place memory form)
-        → IsSited scene (lane_of around i) (view_of x reads (V i)) memory m place form true
+        → IsSited scene (lane_of around i) (view_at_step x reads (V i)) memory m place form true
     write_sited i m h place memory form is = record {
       scopes = stage.ground.scopes;
       low = stage.ground.low;
@@ -527,7 +527,7 @@ module _ (scene : Scene) (x : Step) (find : ℕ → Option Found) (before : Acce
   kept_targets around ground placed depth first (t ∷ ts) s = (own_target scene around ground placed first s.0.0, kept_targets around ground placed depth (suc first) ts s.1)
 
   kept_held : (ls : List Level) (v : Variables) (path : Path) (depth first n : ℕ) (ts : List Term) → AreSound (known_in scene) x.start.table (Named ls) (terms ts)
-      → CanKeepFrom scene ls x.start.table (Named ls) depth first ts → HeldFrom scene first ts (words_of (begun_of x) v path (core_terms (known_in scene) n (terms ts)))
+      → CanKeepFrom scene ls x.start.table (Named ls) depth first ts → HeldFrom scene first ts (term_words (begun_of x) v path (core_terms (known_in scene) n (terms ts)))
   kept_held ls v path depth first n [] s c = tt
   kept_held ls v path depth first n (t ∷ ts) s c =
       (held_is (begun_of x) v path (known_in scene) (Named ls) n t s.0 (held_at scene.held.now first).kind c.0.1.1, kept_held ls v path depth (suc first) (n + term_accesses t) ts s.1 c.1)
@@ -598,7 +598,7 @@ module _ (scene : Scene) (x : Step) (find : ℕ → Option Found) (before : Acce
     part_deep ls Folds (action_then a rest) s = (keeps_deep ls Folds a s.0, part_deep ls Folds rest s.1)
 
   arms_deep : (around : Around) (chosen : Action) (other : MaybeAction) → SoundAt around.levels.now (λ i. ⊥) chosen → SoundOther scene around.levels.now x.start.table (Named around.levels.now) (λ i. ⊥) other
-      → ((entity : ℕ) → Sets scene chosen entity ⊎ SetsOther scene other entity → IsOwn scene around entity) → AreOwn scene around chosen other
+      → ((entity : ℕ) → Sets scene chosen entity ⊎ SetsOther scene other entity → HasOwnCopies scene around entity) → AreOwn scene around chosen other
   arms_deep around chosen other s o own = record { own = own; chosen_deep = keeps_deep around.levels.now (λ i. ⊥) chosen s; other_deep = other_deep around.levels.now (λ i. ⊥) other o }
 
   -- All forms.

@@ -18,7 +18,7 @@ use Rattle.dh_meaning.specs.CoreOf.{Known, core_action, core_groups, core_other,
 use Rattle.dh_value.specs.Words as words
 use Rattle.dh_meaning.specs.Effects.{Begun, Effect, Variables, commands_run, value_of, values_of}
 use Rattle.dh_meaning.specs.Levels.{any_assigns}
-use Rattle.dh_meaning.specs.OnePhase.{form_makes, groups_make, in_one_phase, is_within, makes, other_makes, part_makes}
+use Rattle.dh_meaning.specs.OnePhase.{form_makes, groups_make, in_one_phase, is_between, makes, other_makes, part_makes}
 use Rattle.dh_meaning.specs.Paths.{Path, copies_in, same_path}
 use Rattle.dh_meaning.specs.Ways.{Hidden, behind_all, hidden_in, part_standings, standings}
 use Rattle.dh_meaning.specs.Sites as sites
@@ -42,11 +42,11 @@ use Rattle.dh_code.proofs.PathsInOrder.{length_path}
 use Rattle.dh_expressions.specs.declared.paths.Level.{Level}
 use Rattle.dh_expressions.specs.declared.scenes.Around.{Around}
 use Rattle.dh_expressions.specs.declared.scenes.Scene.{Scene}
-use Rattle.dh_expressions.specs.Drafted.{Step}
+use Rattle.dh_expressions.specs.Drafted.{BlockStep}
 use Rattle.dh_expressions.specs.Evaluated.{begun_of, known_in}
 use Rattle.dh_expressions.specs.Levels.{path_at}
 use Rattle.dh_commands.specs.LanesRun.{IsArm, comes_out, is_on_at, lanes_run, path_in, paths_counted, paths_on, run_if}
-use Rattle.dh_commands.specs.ShownVariables.{depth_in, factors_of}
+use Rattle.dh_commands.specs.ShownVariables.{depth_in, level_factors}
 use Rattle.dh_commands.specs.Followed.{Arms, arms_of, arms_then, no_arms, FitGroups, FitOther, FitPart, FitArms, assign_run, effect_of, groups_effect, kept_run, other_effect, part_effect, store_run, term_in, test_out, test_run, tested}
 use Rattle.dh_blocks.specs.FoundAccesses.{Found, found, form_of_found, groups_found, other_found, part_found, target_found, term_found, terms_found, variables_along, view_found}
 use Rattle.dh_blocks.specs.BlockGround.{AreFoundAt, IsFoundAt, SharesIn, SharesInForm, SharesInGroups, SharesInOther, SharesInPart, SharesInView, TargetShares, TermShares}
@@ -108,7 +108,7 @@ fresh_arm begun known in_block m (assigned o ∷ before) h = fresh_arm begun kno
 
 -- Along a run at all paths.
 
-module _ (x : Step) (around : Around) where
+module _ (x : BlockStep) (around : Around) where
   lanes_same : (run : Path → Effect → Effect) → ((p : Path) (e : Effect) → (run p e).variables ≡ e.variables) → (n : ℕ) (e : Effect) → (lanes_run x around run n e).variables ≡ e.variables
   lanes_same run same zero e = refl
   lanes_same run same (suc n) e = by (is_on_at x around n) (lanes_same run same n e)
@@ -117,7 +117,7 @@ module _ (x : Step) (around : Around) where
       by true h = same (path_in around n) (lanes_run x around run n e) ∙ h
       by false h = h
 
-store_same : (scene : Scene) (x : Step) (n : ℕ) (target t : Term) (p : Path) (e : Effect) → (store_run scene x n target t p e).variables ≡ e.variables
+store_same : (scene : Scene) (x : BlockStep) (n : ℕ) (target t : Term) (p : Path) (e : Effect) → (store_run scene x n target t p e).variables ≡ e.variables
 store_same scene x n (term place k (plain.accessed r ts)) t p e = refl
 store_same scene x n (term place k (plain.in_bank r bank at row)) t p e = refl
 store_same scene x n (term place k (plain.number negative z)) t p e = refl
@@ -126,7 +126,7 @@ store_same scene x n (term place k (plain.named r)) t p e = refl
 store_same scene x n (term place k (plain.applied o l r)) t p e = refl
 store_same scene x n (term place k (plain.converted inner to)) t p e = refl
 
-module _ (scene : Scene) (x : Step) (around : Around) (r : Ref) (t : CoreTerm) where
+module _ (scene : Scene) (x : BlockStep) (around : Around) (r : Ref) (t : CoreTerm) where
   -- another variable is left
   lanes_other : (m : ℕ) → (m == entity_number r.entity) ≡ false → (n : ℕ) (e : Effect) (q : Path) → (lanes_run x around (assign_run scene x r t) n e).variables m q ≡ e.variables m q
   lanes_other m other zero e q = refl
@@ -138,11 +138,11 @@ module _ (scene : Scene) (x : Step) (around : Around) (r : Ref) (t : CoreTerm) w
       by false h = h
 
   -- and what is seen at a path is left by all paths before it, where the variable is another at each
-  module _ (spread : AreSpread around.levels.now) (counted : paths_counted around ≡ copies_in (factors_of around.levels.now)) (full : length around.levels.now ≤ depth_in scene (entity_number r.entity)) where
+  module _ (spread : AreSpread around.levels.now) (counted : paths_counted around ≡ copies_in (level_factors around.levels.now)) (full : length around.levels.now ≤ depth_in scene (entity_number r.entity)) where
     long : (j : ℕ) → j < paths_counted around → length (path_in around j) ≡ length around.levels.now
-    long j h = length_path (factors_of around.levels.now) (path_in around j) (numbered around.levels.now spread j (subst (λ (n : ℕ). j < n) counted h)).path ∙ long_map around.levels.now
+    long j h = length_path (level_factors around.levels.now) (path_in around j) (numbered around.levels.now spread j (subst (λ (n : ℕ). j < n) counted h)).path ∙ long_map around.levels.now
       where
-        long_map : (ls : List Level) → length (factors_of ls) ≡ length ls
+        long_map : (ls : List Level) → length (level_factors ls) ≡ length ls
         long_map [] = refl
         long_map (l ∷ ls) = ap suc (long_map ls)
 
@@ -183,7 +183,7 @@ module _ (scene : Scene) (x : Step) (around : Around) (r : Ref) (t : CoreTerm) w
         by false g = g
 
 -- a view sets nothing below its first variable
-lanes_below : (scene : Scene) (x : Step) (around : Around) (h : Hidden) (n : ℕ) (ts : List Term) (k : ℕ) (e : Effect) → AgreeBelow h.entity e.variables (lanes_run x around (kept_run scene x h n ts) k e).variables
+lanes_below : (scene : Scene) (x : BlockStep) (around : Around) (h : Hidden) (n : ℕ) (ts : List Term) (k : ℕ) (e : Effect) → AgreeBelow h.entity e.variables (lanes_run x around (kept_run scene x h n ts) k e).variables
 lanes_below scene x around h n ts zero e = λ m below q. refl
 lanes_below scene x around h n ts (suc k) e = λ m below q. lanes_below scene x around h n ts k e m below q ∙ by (is_on_at x around k) m below q
   where
@@ -194,10 +194,10 @@ lanes_below scene x around h n ts (suc k) e = λ m below q. lanes_below scene x 
     by true m below q = kept_above f.variables h.entity (take h.depth (path_in around k)) (values_of (begun_of x) f.variables (path_in around k) (core_terms (known_in scene) n (terms ts))) m below q
     by false m below q = refl
 
-module _ (scene : Scene) (x : Step) (find : ℕ → Option Found) (levels : List Level) (size : ℕ) (in_block : ℕ → Bool)
+module _ (scene : Scene) (x : BlockStep) (find : ℕ → Option Found) (levels : List Level) (size : ℕ) (in_block : ℕ → Bool)
     (share : (j k : ℕ) → in_one_phase (program_seen scene.program.now) j k ≡ true → in_block k ≡ true → in_block j ≡ true)
     (shares_are : (k j : ℕ) → slice_get scene.shares.now k ≡ Some (Some j) → shared (program_seen scene.program.now) k ≡ Some j)
-    (spread : AreSpread levels) (sized : size ≡ copies_in (factors_of levels)) (table : List MemEntry) (Name : Ref → Kind → Type 0) (ways : TellsWays scene) where
+    (spread : AreSpread levels) (sized : size ≡ copies_in (level_factors levels)) (table : List MemEntry) (Name : Ref → Kind → Type 0) (ways : TellsWays scene) where
   abbrev known : Known
   known = known_in scene
 
@@ -240,7 +240,7 @@ module _ (scene : Scene) (x : Step) (find : ℕ → Option Found) (levels : List
   pub then_agrees : (n c d : ℕ) (f g : ℕ → Bool) → Agrees n (c + d) (λ k. f k || g k) → ((k : ℕ) → f k ≡ true → Within k n c) → Agrees (n + c) d g
   then_agrees n c d f g a within k w = a k (let l = w.0 in let u = w.1 in (omega (arith, l), omega (arith, u))) ∙ left_false (f k) (g k) (not_true (f k) (λ t. let y = within k t in let l = w.0 in let u = y.1 in omega (arith, l, u)))
 
-  own_inside : (n c d : ℕ) → Agrees n d (λ k. is_within k n c) → c ≤ d → (k : ℕ) → n ≤ k → k < n + c → in_block k ≡ true
+  own_inside : (n c d : ℕ) → Agrees n d (λ k. is_between k n c) → c ≤ d → (k : ℕ) → n ≤ k → k < n + c → in_block k ≡ true
   own_inside n c d a le k l u = a k (l, omega (arith, le, u)) ∙ is_within_so k n c (l, u)
 
   -- what is round a command, and before it
@@ -273,7 +273,7 @@ module _ (scene : Scene) (x : Step) (find : ℕ → Option Found) (levels : List
 
   -- behind an assignment
   assigned_walk : (around : Around) → Here around → (r : sites.Around) (id y : ℕ) (before : List SourceEvent) (n : ℕ) (q : Ref) (t : Term) (e : Effect) → IsOwn program q × TermBehind program y t → IsBehind program y before → IsNamedTerm t
-      → IsOwnOf scene around.levels.now (entity_number q.entity) → CutAt before (term_events (site_of r id) t ++ assigned q.entity ∷ []) n → Agrees n (term_accesses t + 0) (λ k. is_within k n (term_accesses t))
+      → IsOwnOf scene around.levels.now (entity_number q.entity) → CutAt before (term_events (site_of r id) t ++ assigned q.entity ∷ []) n → Agrees n (term_accesses t + 0) (λ k. is_between k n (term_accesses t))
       → AreFoundAt find n (term_found scene around x (variables_along scene x around (assign_run scene x q (term_in scene x n t)) e) n t) → KnowsAt around r before (λ i. e.variables)
       → (W : Variables) → ((m : ℕ) → (m == entity_number q.entity) ≡ false → (p : Path) → W m p ≡ e.variables m p)
       → TermShares scene x find around (variables_along scene x around (assign_run scene x q (term_in scene x n t)) e) n t × KnowsAt around r (before ++ (term_events (site_of r id) t ++ assigned q.entity ∷ [])) (λ i. W)
@@ -283,7 +283,7 @@ module _ (scene : Scene) (x : Step) (find : ℕ → Option Found) (levels : List
       knows_seen scene x find levels size in_block around r before (λ i. e.variables) V
       (λ i h entity d. sym (ap (λ (ls : List Level). (V i) entity (take d (path_at ls i))) (sym here.levels_are)
       ∙ (lanes_seen scene x around q (term_in scene x n t) (subst (λ (ls : List Level). AreSpread ls) (sym here.levels_are) spread)
-      (here.long ∙ (sized ∙ ap (λ (ls : List Level). copies_in (factors_of ls)) (sym here.levels_are))) own.full i (subst (λ (m : ℕ). i < m) (sym here.long) h) i (same i) e entity d
+      (here.long ∙ (sized ∙ ap (λ (ls : List Level). copies_in (level_factors ls)) (sym here.levels_are))) own.full i (subst (λ (m : ℕ). i < m) (sym here.long) h) i (same i) e entity d
       ∙ ap (λ (ls : List Level). e.variables entity (take d (path_at ls i))) here.levels_are))) knows in
       let w = walk_term scene x find levels size in_block share shares_are around here r id V before n t named (cut_first before (term_events (site_of r id) t) (assigned q.entity ∷ []) n c)
       (own_inside n (term_accesses t) (term_accesses t + 0) agrees (zero_more (term_accesses t))) f seen in (
@@ -472,12 +472,12 @@ module _ (scene : Scene) (x : Step) (find : ℕ → Option Found) (levels : List
       e1_is : e1.variables ≡ e.variables
       e1_is = lanes_same x around (test_run scene x n t) (λ p f. refl) (paths_counted around) e
 
-      tests_agree : Agrees n (term_accesses t) (λ k. is_within k n (term_accesses t))
-      tests_agree = first_agrees n (term_accesses t) (accesses_of chosen + other_accesses other) (λ k. is_within k n (term_accesses t)) (λ k. makes k n1 chosen || other_makes k n2 other) agrees
+      tests_agree : Agrees n (term_accesses t) (λ k. is_between k n (term_accesses t))
+      tests_agree = first_agrees n (term_accesses t) (accesses_of chosen + other_accesses other) (λ k. is_between k n (term_accesses t)) (λ k. makes k n1 chosen || other_makes k n2 other) agrees
           (λ k h. two_within k n1 (accesses_of chosen) (other_accesses other) _ _ h (makes_within k n1 chosen) (other_within k n2 other))
 
       arms_agree : Agrees n1 (accesses_of chosen + other_accesses other) (λ k. makes k n1 chosen || other_makes k n2 other)
-      arms_agree = then_agrees n (term_accesses t) (accesses_of chosen + other_accesses other) (λ k. is_within k n (term_accesses t)) (λ k. makes k n1 chosen || other_makes k n2 other) agrees (λ k h. within_is k n (term_accesses t) h)
+      arms_agree = then_agrees n (term_accesses t) (accesses_of chosen + other_accesses other) (λ k. is_between k n (term_accesses t)) (λ k. makes k n1 chosen || other_makes k n2 other) agrees (λ k h. within_is k n (term_accesses t) h)
 
       chosen_agrees : Agrees n1 (accesses_of chosen) (λ k. makes k n1 chosen)
       chosen_agrees = first_agrees n1 (accesses_of chosen) (other_accesses other) (λ k. makes k n1 chosen) (λ k. other_makes k n2 other) arms_agree (λ k h. other_within k n2 other h)

@@ -13,7 +13,7 @@ use Rattle.dh_meets.specs.Charges.{element_depends, entity_depends, form_depends
 use Rattle.dh_meets.specs.Sharing.{alike, alike_elements, alike_forms, all_alike, element_mentions, mentions, number_of_op, reassigned, same_maybe_kind, terms_mention}
 use Rattle.dh_tree.specs.Kinds.{same_kind}
 use Rattle.dh_meets.specs.SourceEvents.{Element, with_indices, in_row, SourceEvent, accesses, assigned}
-use Rattle.dh_sound.specs.SameKeys.{EachName, EachNameIn, EachNameOf, IsSettled}
+use Rattle.dh_sound.specs.SameKeys.{EachName, EachNameIn, EachNameOf, IsSettledName}
 use Rattle.dh_sound.specs.Straight.{AreNamedTerms, IsNamedTerm}
 use Rattle.dh_sound.proofs.SameKeys.{settled_spot}
 use Rattle.dh_sound.proofs.SourceValues.{IsNamedElement, SameOffsets, entity_is, source_spot}
@@ -164,7 +164,7 @@ module _ (b : Begun) (known : Known) where
   -- variables that agree as they are seen at a path
   pub spot_seen : (v w : Variables) (p : Path) (of : Option ℕ) (e : Element) → ((entity d : ℕ) → v entity (take d p) ≡ w entity (take d p)) → source_spot b known v p of e ≡ source_spot b known w p of e
   spot_seen v w p of e agree =
-      settled_spot b known v w p p (λ entity same. offsets_same b v w p (hidden_in (way_at known.memories known.ways entity)) (each (hidden_in (way_at known.memories known.ways entity)))) of e (λ l small is. refl) (each_at (IsSettled known v w p p) (λ r same. agree (entity_number r.entity) (depth_of known r)) e) (λ l small is. refl)
+      settled_spot b known v w p p (λ entity same. offsets_same b v w p (hidden_in (way_at known.memories known.ways entity)) (each (hidden_in (way_at known.memories known.ways entity)))) of e (λ l small is. refl) (each_at (IsSettledName known v w p p) (λ r same. agree (entity_number r.entity) (depth_of known r)) e) (λ l small is. refl)
     where
       each : (hs : List Hidden) → AllByRecursion (λ (h : Hidden). v h.entity (take h.depth p) ≡ w h.entity (take h.depth p)) hs
       each [] = tt
@@ -175,5 +175,5 @@ module _ (b : Begun) (known : Known) where
       → IsNamedElement b known e → reassigned e es ≡ false → source_spot b known v p of e ≡ source_spot b known w p of e
   spot_kept v w p of e es still agree names h =
       settled_spot b known v w p p (λ entity same. still entity) of e (λ l small is. refl)
-      (clear_element (IsSettled known v w p p) es (λ r m is free same. subst (λ (n : ℕ). v n (take (depth_of known r) p) ≡ w n (take (depth_of known r) p)) (sym (ap entity_number is)) (agree m free (take (depth_of known r) p))) e names h)
+      (clear_element (IsSettledName known v w p p) es (λ r m is free same. subst (λ (n : ℕ). v n (take (depth_of known r) p) ≡ w n (take (depth_of known r) p)) (sym (ap entity_number is)) (agree m free (take (depth_of known r) p))) e names h)
       (λ l small is. refl)

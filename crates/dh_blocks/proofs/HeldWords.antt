@@ -22,7 +22,7 @@ use Rattle.dh_meaning.specs.CoreOf.{Known, core_term, entity_number, extended, o
 use Rattle.dh_meaning.specs.Effects.{Begun, Variables, value_of}
 use Rattle.dh_meaning.specs.Paths.{Path}
 use Rattle.dh_tree.specs.Kinds.{same_kind}
-use Rattle.dh_expressions.specs.Shown.{converted_shown, extended_shown, held_shown, is_kept, is_read_term, kind_written, lowest_bit}
+use Rattle.dh_expressions.specs.Shown.{conversion_shown, extended_shown, held_shown, is_kept, is_read_term, kind_written, lowest_bit}
 use Rattle.dh_blocks.specs.SoundTerms.{IsSound}
 use Rattle.dh_code.specs.Slots.{held_at}
 use Rattle.dh_expressions.specs.declared.scenes.Scene.{Scene}
@@ -62,10 +62,10 @@ module _ (b : Begun) (v : Variables) (path : Path) (known : Known) (Name : Ref �
   abbrev value : Word
   value = value_of b v path (core_term known n t)
 
-  pub converted_is : (to : Kind) → converted_shown t to value ≡ word_of to (words.value_of value)
+  pub converted_is : (to : Kind) → conversion_shown t to value ≡ word_of to (words.value_of value)
   converted_is to = by (cases_Bool (is_kept t to))
     where
-      by : (is_kept t to ≡ true) ⊎ (is_kept t to ≡ false) → converted_shown t to value ≡ word_of to (words.value_of value)
+      by : (is_kept t to ≡ true) ⊎ (is_kept t to ≡ false) → conversion_shown t to value ≡ word_of to (words.value_of value)
       by (inl e) = ap (λ c. if c then value else word_of to (words.value_of value)) e ∙ sym (kept_word b v path known Name n t to s e)
       by (inr e) = ap (λ c. if c then value else word_of to (words.value_of value)) e
 
@@ -88,12 +88,12 @@ module _ (b : Begun) (v : Variables) (path : Path) (known : Known) (Name : Ref �
       ≡ word_of j (words.value_of (binary_of o (value_of b v path (extended w l)) (value_of b v path (extended w (core_term known n t)))))
   reduced_by o j kind.Bool z l u s same h sized is = absurd h
   reduced_by o j (kind.Unsigned m) z l u s same h sized is =
-      ap (λ a. in_own_kind (same_kind j (kind.Unsigned m)) j (binary_of o a (converted_shown t (kind.Unsigned m) value)))
+      ap (λ a. in_own_kind (same_kind j (kind.Unsigned m)) j (binary_of o a (conversion_shown t (kind.Unsigned m) value)))
       (own_is j (kind.Unsigned m) (word_of j z) (of_word j z sized) ∙ ap (λ a. word_of (kind.Unsigned m) (words.value_of a)) (sym is))
       ∙ (ap (λ a. in_own_kind (same_kind j (kind.Unsigned m)) j (binary_of o (word_of (kind.Unsigned m) (words.value_of (value_of b v path l))) a)) (converted_is (kind.Unsigned m))
       ∙ other_is j (kind.Unsigned m) _ (both_word b v path o (kind.Unsigned m) l (core_term known n t) u s same h))
   reduced_by o j (kind.Signed m) z l u s same h sized is =
-      ap (λ a. in_own_kind (same_kind j (kind.Signed m)) j (binary_of o a (converted_shown t (kind.Signed m) value)))
+      ap (λ a. in_own_kind (same_kind j (kind.Signed m)) j (binary_of o a (conversion_shown t (kind.Signed m) value)))
       (own_is j (kind.Signed m) (word_of j z) (of_word j z sized) ∙ ap (λ a. word_of (kind.Signed m) (words.value_of a)) (sym is))
       ∙ (ap (λ a. in_own_kind (same_kind j (kind.Signed m)) j (binary_of o (word_of (kind.Signed m) (words.value_of (value_of b v path l))) a)) (converted_is (kind.Signed m))
       ∙ other_is j (kind.Signed m) _ (both_word b v path o (kind.Signed m) l (core_term known n t) u s same h))

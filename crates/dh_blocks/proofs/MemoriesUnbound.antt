@@ -17,7 +17,7 @@ use Rattle.dh_tree.specs.Scopes.{Scope, after_formals, after_function, after_fun
 use Rattle.dh_tree.specs.ViewOffsets.{offsets_of}
 use Rattle.dh_tree.specs.Views.{map_of}
 use Rattle.dh_meaning.specs.Bindings.{Binding, binding_in, bindings_of, kind_found}
-use Rattle.dh_meaning.specs.Ways.{Led, Standing, Way, all_bindings_of, behind_hidden, hidden_binding, hidden_bindings, hidden_from, hidden_of, led_after, led_behind, led_binding, led_of, shape_named, standings, view_bindings, way_at, way_behind, way_in, ways_of}
+use Rattle.dh_meaning.specs.Ways.{Led, ViewSite, Way, all_bindings_of, behind_hidden, hidden_binding, hidden_bindings, hidden_from, hidden_of, led_after, led_behind, led_binding, led_of, shape_named, standings, view_bindings, way_at, way_behind, way_in, ways_of}
 use Rattle.dh_sound.proofs.IteratorsNamed.{GoesOn, declared_on, goes_on, same_on, then_on}
 use Rattle.dh_sound.proofs.SortedNames.{AllBound, AllStored, AllViewed, body_sorted, is_bound, is_stored, is_viewed, sort_at, stands_as}
 use Rattle.dh_sound.proofs.ViewsBound.{another}
@@ -58,11 +58,11 @@ module _ (es : List Entity) (n : ℕ) where
   none_bound [] a e = refl
   none_bound (b ∷ bs) a e = ap (λ t. if t then Some b else binding_in bs n) (another is_bound es b.entity n a.0 e) ∙ none_bound bs a.1 e
 
-  one_led : (first : ℕ) (s : Standing) (shape : Option Shape) (o : Option Way) → stands_as is_viewed es s.name.entity ≡ true → sort_at is_viewed (slice_get es n) ≡ false → binding_in (map led_binding (led_of first s shape o)) n ≡ None
+  one_led : (first : ℕ) (s : ViewSite) (shape : Option Shape) (o : Option Way) → stands_as is_viewed es s.name.entity ≡ true → sort_at is_viewed (slice_get es n) ≡ false → binding_in (map led_binding (led_of first s shape o)) n ≡ None
   one_led first s None o a e = refl
   one_led first s (Some shape) o a e = ap (λ t. if t then Some (led_binding (record { entity = s.name.entity; way = way_behind first s (map_of s.form shape) o })) else None) (another is_viewed es s.name.entity n a e)
 
-  none_led : (ms : List Memory) (first : ℕ) (before : List Led) (ss : List Standing) → binding_in (map led_binding before) n ≡ None → AllViewed es ss → sort_at is_viewed (slice_get es n) ≡ false
+  none_led : (ms : List Memory) (first : ℕ) (before : List Led) (ss : List ViewSite) → binding_in (map led_binding before) n ≡ None → AllViewed es ss → sort_at is_viewed (slice_get es n) ≡ false
       → binding_in (map led_binding (led_behind ms first before ss)) n ≡ None
   none_led ms first before [] b a e = b
   none_led ms first before (s ∷ ss) b a e =
@@ -87,7 +87,7 @@ none_kept n first depth (t ∷ ts) l =
     other : (a b : ℕ) → b < a → same_entity (Some a) (Some b) ≡ false
     other a b h = grind (arith, nat_tests, h)
 
-none_hidden : (n first : ℕ) (ss : List Standing) → n < first → binding_in (hidden_bindings first ss) n ≡ None
+none_hidden : (n first : ℕ) (ss : List ViewSite) → n < first → binding_in (hidden_bindings first ss) n ≡ None
 none_hidden n first [] l = refl
 none_hidden n first (s ∷ ss) l =
     none_front (map hidden_binding (hidden_of first s)) (hidden_bindings (behind_hidden first s) ss) n (none_kept n first s.depth (offsets_of s.form) l) ∙ none_hidden n (behind_hidden first s) ss (later first (length (offsets_of s.form)) l)

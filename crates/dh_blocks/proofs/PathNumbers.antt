@@ -11,12 +11,12 @@ use Rattle.dh_code.proofs.PathsInOrder.{length_path, length_paths, paths_are}
 use Rattle.dh_sound.specs.SameKeys.{CopiesAgree}
 use Rattle.dh_expressions.specs.declared.paths.Level.{Level}
 use Rattle.dh_expressions.specs.Levels.{copy_number, copy_to, leader_number, part_number, parts_from, path_at, rank_number, rank_to}
-use Rattle.dh_commands.specs.ShownVariables.{factors_of}
+use Rattle.dh_commands.specs.ShownVariables.{level_factors}
 use Rattle.dh_blocks.specs.PathsOfLevels.{AreSpread}
 
-pub some_copies : (levels : List Level) → AreSpread levels → 0 < copies_in (factors_of levels)
+pub some_copies : (levels : List Level) → AreSpread levels → 0 < copies_in (level_factors levels)
 some_copies [] s = omega arith
-some_copies (l ∷ ls) s = more l.factor (copies_in (factors_of ls)) s.0 (some_copies ls s.1.1)
+some_copies (l ∷ ls) s = more l.factor (copies_in (level_factors ls)) s.0 (some_copies ls s.1.1)
   where
     more : (f k : ℕ) → 1 < f → 0 < k → 0 < f * k
     more f k h i = let m : 1 * k ≤ f * k = mul-le-mul_right k (omega (arith, h)) in omega (arith, m, i)
@@ -60,11 +60,11 @@ shifted c f k m h =
     turned : (a b : ℕ) → a + b ≡ b + a
     turned a b = omega arith
 
-pub path_shifted : (levels : List Level) → AreSpread levels → (c m : ℕ) → path_at levels (c * copies_in (factors_of levels) + m) ≡ path_at levels m
+pub path_shifted : (levels : List Level) → AreSpread levels → (c m : ℕ) → path_at levels (c * copies_in (level_factors levels) + m) ≡ path_at levels m
 path_shifted [] s c m = refl
 path_shifted (l ∷ ls) s c m =
-    ap (λ (x : ℕ). x ∷ path_at ls (c * (l.factor * copies_in (factors_of ls)) + m)) first
-    ∙ ap (λ (xs : List ℕ). copy_number l m ∷ xs) (ap (λ n. path_at ls n) (grouped c l.factor (copies_in (factors_of ls)) m) ∙ path_shifted ls s.1.1 (c * l.factor) m)
+    ap (λ (x : ℕ). x ∷ path_at ls (c * (l.factor * copies_in (level_factors ls)) + m)) first
+    ∙ ap (λ (xs : List ℕ). copy_number l m ∷ xs) (ap (λ n. path_at ls n) (grouped c l.factor (copies_in (level_factors ls)) m) ∙ path_shifted ls s.1.1 (c * l.factor) m)
   where
     grouped : (c f k m : ℕ) → c * (f * k) + m ≡ (c * f) * k + m
     grouped c f k m = omega arith
@@ -75,9 +75,9 @@ path_shifted (l ∷ ls) s c m =
     many : 0 < l.factor
     many = let h = s.0 in omega (arith, h)
 
-    first : copy_number l (c * (l.factor * copies_in (factors_of ls)) + m) ≡ copy_number l m
+    first : copy_number l (c * (l.factor * copies_in (level_factors ls)) + m) ≡ copy_number l m
     first =
-        copy_is l (c * (l.factor * copies_in (factors_of ls)) + m) some many
+        copy_is l (c * (l.factor * copies_in (level_factors ls)) + m) some many
         ∙ (ap (λ k. ((c * (l.factor * k) + m) / l.stride) % l.factor) (sym s.1.0)
         ∙ (shifted c l.factor l.stride m some ∙ sym (copy_is l m some many)))
 
@@ -93,14 +93,14 @@ rank_small (f ∷ fs) (c ∷ p) h = by (copies_in fs) _ _ (rank_first f c fs p h
         omega (arith, e, l, n)
 
 -- the path of a rank
-pub path_of_rank : (levels : List Level) → AreSpread levels → (p : Path) → IsPath (factors_of levels) p → path_at levels (rank_of (factors_of levels) p) ≡ p
+pub path_of_rank : (levels : List Level) → AreSpread levels → (p : Path) → IsPath (level_factors levels) p → path_at levels (rank_of (level_factors levels) p) ≡ p
 path_of_rank [] s [] h = refl
 path_of_rank [] s (c ∷ p) h = absurd h
 path_of_rank (l ∷ ls) s [] h = absurd h
 path_of_rank (l ∷ ls) s (c ∷ p) h =
-    ap (λ n. path_at (l ∷ ls) n) (rank_first l.factor c (factors_of ls) p h.1)
-    ∙ (ap (λ (x : ℕ). x ∷ path_at ls (c * copies_in (factors_of ls) + rank_of (factors_of ls) p)) first
-    ∙ ap (λ (xs : List ℕ). c ∷ xs) (path_shifted ls s.1.1 c (rank_of (factors_of ls) p) ∙ path_of_rank ls s.1.1 p h.1))
+    ap (λ n. path_at (l ∷ ls) n) (rank_first l.factor c (level_factors ls) p h.1)
+    ∙ (ap (λ (x : ℕ). x ∷ path_at ls (c * copies_in (level_factors ls) + rank_of (level_factors ls) p)) first
+    ∙ ap (λ (xs : List ℕ). c ∷ xs) (path_shifted ls s.1.1 c (rank_of (level_factors ls) p) ∙ path_of_rank ls s.1.1 p h.1))
   where
     some : 0 < l.stride
     some = subst (λ (n : ℕ). 0 < n) (sym s.1.0) (some_copies ls s.1.1)
@@ -117,30 +117,30 @@ path_of_rank (l ∷ ls) s (c ∷ p) h =
         none : m / k + c ≡ c
         none = let z : m / k ≡ 0 = div-eq_of_lt below in omega (arith, z)
 
-    first : copy_number l (c * copies_in (factors_of ls) + rank_of (factors_of ls) p) ≡ c
+    first : copy_number l (c * copies_in (level_factors ls) + rank_of (level_factors ls) p) ≡ c
     first =
-        copy_is l (c * copies_in (factors_of ls) + rank_of (factors_of ls) p) some many
-        ∙ (ap (λ k. ((c * copies_in (factors_of ls) + rank_of (factors_of ls) p) / k) % l.factor) s.1.0
-        ∙ (ap (λ n. n % l.factor) (quotient (copies_in (factors_of ls)) (rank_of (factors_of ls) p) (rank_small (factors_of ls) p h.1) (some_copies ls s.1.1)) ∙ mod-eq_of_lt h.0))
+        copy_is l (c * copies_in (level_factors ls) + rank_of (level_factors ls) p) some many
+        ∙ (ap (λ k. ((c * copies_in (level_factors ls) + rank_of (level_factors ls) p) / k) % l.factor) s.1.0
+        ∙ (ap (λ n. n % l.factor) (quotient (copies_in (level_factors ls)) (rank_of (level_factors ls) p) (rank_small (level_factors ls) p h.1) (some_copies ls s.1.1)) ∙ mod-eq_of_lt h.0))
 
 -- Each number below that of all copies is that of a path.
 pub record Numbered (levels : List Level) (n : ℕ) : Type 0 where
-  pub path : IsPath (factors_of levels) (path_at levels n)
-  pub rank : rank_of (factors_of levels) (path_at levels n) ≡ n
-  pub listed : get_or (paths_in (factors_of levels)) n [] ≡ path_at levels n
+  pub path : IsPath (level_factors levels) (path_at levels n)
+  pub rank : rank_of (level_factors levels) (path_at levels n) ≡ n
+  pub listed : get_or (paths_in (level_factors levels)) n [] ≡ path_at levels n
 
-pub numbered : (levels : List Level) → AreSpread levels → (n : ℕ) → n < copies_in (factors_of levels) → Numbered levels n
+pub numbered : (levels : List Level) → AreSpread levels → (n : ℕ) → n < copies_in (level_factors levels) → Numbered levels n
 numbered levels s n below =
-    by (get_or (paths_in (factors_of levels)) n [])
-    (ordered.path_at (factors_of levels) 0 (paths_in (factors_of levels)) n (paths_are (factors_of levels)) (subst (λ (m : ℕ). n < m) (sym (length_paths (factors_of levels))) below)) refl
+    by (get_or (paths_in (level_factors levels)) n [])
+    (ordered.path_at (level_factors levels) 0 (paths_in (level_factors levels)) n (paths_are (level_factors levels)) (subst (λ (m : ℕ). n < m) (sym (length_paths (level_factors levels))) below)) refl
   where
-    by : (p : Path) → IsPath (factors_of levels) p × (rank_of (factors_of levels) p ≡ 0 + n) → get_or (paths_in (factors_of levels)) n [] ≡ p → Numbered levels n
+    by : (p : Path) → IsPath (level_factors levels) p × (rank_of (level_factors levels) p ≡ 0 + n) → get_or (paths_in (level_factors levels)) n [] ≡ p → Numbered levels n
     by p h is =
-        let rank : rank_of (factors_of levels) p ≡ n = h.1 ∙ none n in
+        let rank : rank_of (level_factors levels) p ≡ n = h.1 ∙ none n in
         let same : path_at levels n ≡ p = ap (λ m. path_at levels m) (sym rank) ∙ path_of_rank levels s p h.0 in
         record {
-          path = subst (λ (q : Path). IsPath (factors_of levels) q) (sym same) h.0;
-          rank = ap (λ (q : Path). rank_of (factors_of levels) q) same ∙ rank;
+          path = subst (λ (q : Path). IsPath (level_factors levels) q) (sym same) h.0;
+          rank = ap (λ (q : Path). rank_of (level_factors levels) q) same ∙ rank;
           listed = is ∙ sym same;
         }
       where
@@ -148,23 +148,23 @@ numbered levels s n below =
         none n = omega arith
 
 -- paths of two numbers that are one are of one number
-pub number_is : (levels : List Level) → AreSpread levels → (n m : ℕ) → n < copies_in (factors_of levels) → m < copies_in (factors_of levels) → path_at levels n ≡ path_at levels m → n ≡ m
-number_is levels s n m a b e = sym (numbered levels s n a).rank ∙ (ap (λ (q : Path). rank_of (factors_of levels) q) e ∙ (numbered levels s m b).rank)
+pub number_is : (levels : List Level) → AreSpread levels → (n m : ℕ) → n < copies_in (level_factors levels) → m < copies_in (level_factors levels) → path_at levels n ≡ path_at levels m → n ≡ m
+number_is levels s n m a b e = sym (numbered levels s n a).rank ∙ (ap (λ (q : Path). rank_of (level_factors levels) q) e ∙ (numbered levels s m b).rank)
 
 -- The rank of the first copies.
 
-rank_divided : (levels : List Level) → AreSpread levels → (k : ℕ) (l : Level) → slice_get levels k ≡ Some l → (r : ℕ) (p : Path) → IsPath (factors_of levels) p
-    → (0 < l.stride) × (rank_behind r (factors_of levels) p / l.stride ≡ rank_behind r (take (suc k) (factors_of levels)) (take (suc k) p))
+rank_divided : (levels : List Level) → AreSpread levels → (k : ℕ) (l : Level) → slice_get levels k ≡ Some l → (r : ℕ) (p : Path) → IsPath (level_factors levels) p
+    → (0 < l.stride) × (rank_behind r (level_factors levels) p / l.stride ≡ rank_behind r (take (suc k) (level_factors levels)) (take (suc k) p))
 rank_divided [] s k l at r p h = absurd (cc)
 rank_divided (x ∷ ls) s k l at r [] h = absurd h
 rank_divided (x ∷ ls) s zero l at r (c ∷ p) h =
     let some : 0 < x.stride = subst (λ (n : ℕ). 0 < n) (sym s.1.0) (some_copies ls s.1.1) in
     let is : x ≡ l = the x l at in (
       subst (λ (y : Level). 0 < y.stride) is some,
-      ap (λ (y : Level). rank_behind (r * x.factor + c) (factors_of ls) p / y.stride) (sym is)
-          ∙ (ap (λ k. rank_behind (r * x.factor + c) (factors_of ls) p / k) s.1.0
-          ∙ (ap (λ n. n / copies_in (factors_of ls)) (rank_parts (r * x.factor + c) (factors_of ls) p h.1)
-          ∙ quotient (r * x.factor + c) (copies_in (factors_of ls)) (rank_of (factors_of ls) p) (rank_small (factors_of ls) p h.1) (some_copies ls s.1.1))),
+      ap (λ (y : Level). rank_behind (r * x.factor + c) (level_factors ls) p / y.stride) (sym is)
+          ∙ (ap (λ k. rank_behind (r * x.factor + c) (level_factors ls) p / k) s.1.0
+          ∙ (ap (λ n. n / copies_in (level_factors ls)) (rank_parts (r * x.factor + c) (level_factors ls) p h.1)
+          ∙ quotient (r * x.factor + c) (copies_in (level_factors ls)) (rank_of (level_factors ls) p) (rank_small (level_factors ls) p h.1) (some_copies ls s.1.1))),
     )
   where
     the : (y z : Level) → Some y ≡ Some z → y ≡ z
@@ -185,8 +185,8 @@ nothing_at [] k e = omega arith
 nothing_at (l ∷ ls) zero e = absurd (cc)
 nothing_at (l ∷ ls) (suc k) e = let h = nothing_at ls k e in omega (arith, h)
 
-pub rank_first_copies : (levels : List Level) → AreSpread levels → (d n : ℕ) → n < copies_in (factors_of levels) → d ≤ length levels
-    → rank_number levels d n ≡ rank_of (take d (factors_of levels)) (take d (path_at levels n))
+pub rank_first_copies : (levels : List Level) → AreSpread levels → (d n : ℕ) → n < copies_in (level_factors levels) → d ≤ length levels
+    → rank_number levels d n ≡ rank_of (take d (level_factors levels)) (take d (path_at levels n))
 rank_first_copies levels s zero n below deep = refl
 rank_first_copies levels s (suc k) n below deep = by (slice_get levels k) refl
   where
@@ -199,7 +199,7 @@ rank_first_copies levels s (suc k) n below deep = by (slice_get levels k) refl
     clash : length levels ≤ k → ⊥
     clash h = omega (arith, h, deep)
 
-    by : (o : Option Level) → slice_get levels k ≡ o → rank_number levels (suc k) n ≡ rank_of (take (suc k) (factors_of levels)) (take (suc k) (path_at levels n))
+    by : (o : Option Level) → slice_get levels k ≡ o → rank_number levels (suc k) n ≡ rank_of (take (suc k) (level_factors levels)) (take (suc k) (path_at levels n))
     by None e = absurd (clash (nothing_at levels k e))
     by (Some l) e =
         let h = rank_divided levels s k l e 0 (path_at levels n) num.path in
@@ -250,15 +250,15 @@ kept_low counts level (f ∷ fs) (c ∷ p) h =
     by true x y u v e g l = omega (arith, e, g, l)
     by false x y u v e g l = omega (arith, e, g, l)
 
-parts_kept : (levels : List Level) → AreSpread levels → (counts : ℕ → Bool) (level n : ℕ) → IsPath (factors_of levels) (path_at levels n)
-    → parts_from levels counts level n ≡ rank_of (factors_of levels) (kept counts level (path_at levels n))
+parts_kept : (levels : List Level) → AreSpread levels → (counts : ℕ → Bool) (level n : ℕ) → IsPath (level_factors levels) (path_at levels n)
+    → parts_from levels counts level n ≡ rank_of (level_factors levels) (kept counts level (path_at levels n))
 parts_kept [] s counts level n h = refl
 parts_kept (l ∷ ls) s counts level n h =
     by (counts level) (parts_from ls counts (level + 1) n) _ (parts_kept ls s.1.1 counts (level + 1) n h.1)
-    ∙ sym (rank_first l.factor (if counts level then copy_number l n else 0) (factors_of ls) (kept counts (level + 1) (path_at ls n)) (kept_path counts (level + 1) (factors_of ls) (path_at ls n) h.1))
+    ∙ sym (rank_first l.factor (if counts level then copy_number l n else 0) (level_factors ls) (kept counts (level + 1) (path_at ls n)) (kept_path counts (level + 1) (level_factors ls) (path_at ls n) h.1))
   where
-    by : (b : Bool) (x y : ℕ) → x ≡ y → part_number l b n + x ≡ (if b then copy_number l n else 0) * copies_in (factors_of ls) + y
-    by true x y e = ap (λ k. copy_number l n * k + x) s.1.0 ∙ ap (λ m. copy_number l n * copies_in (factors_of ls) + m) e
+    by : (b : Bool) (x y : ℕ) → x ≡ y → part_number l b n + x ≡ (if b then copy_number l n else 0) * copies_in (level_factors ls) + y
+    by true x y e = ap (λ k. copy_number l n * k + x) s.1.0 ∙ ap (λ m. copy_number l n * copies_in (level_factors ls) + m) e
     by false x y e = omega (arith, e)
 
 -- what a leader is
@@ -266,13 +266,13 @@ pub record Leads (levels : List Level) (counts : ℕ → Bool) (n : ℕ) : Type 
   pub path_is : path_at levels (leader_number levels counts n) ≡ kept counts 0 (path_at levels n)
   pub low : leader_number levels counts n ≤ n
 
-pub leads : (levels : List Level) → AreSpread levels → (counts : ℕ → Bool) (n : ℕ) → n < copies_in (factors_of levels) → Leads levels counts n
+pub leads : (levels : List Level) → AreSpread levels → (counts : ℕ → Bool) (n : ℕ) → n < copies_in (level_factors levels) → Leads levels counts n
 leads levels s counts n below =
     let num = numbered levels s n below in
-    let is : leader_number levels counts n ≡ rank_of (factors_of levels) (kept counts 0 (path_at levels n)) =
-    lower _ _ n (parts_kept levels s counts 0 n num.path) (subst (λ (m : ℕ). rank_of (factors_of levels) (kept counts 0 (path_at levels n)) ≤ m) num.rank (kept_low counts 0 (factors_of levels) (path_at levels n) num.path)) in
+    let is : leader_number levels counts n ≡ rank_of (level_factors levels) (kept counts 0 (path_at levels n)) =
+    lower _ _ n (parts_kept levels s counts 0 n num.path) (subst (λ (m : ℕ). rank_of (level_factors levels) (kept counts 0 (path_at levels n)) ≤ m) num.rank (kept_low counts 0 (level_factors levels) (path_at levels n) num.path)) in
     record {
-      path_is = ap (λ m. path_at levels m) is ∙ path_of_rank levels s (kept counts 0 (path_at levels n)) (kept_path counts 0 (factors_of levels) (path_at levels n) num.path);
+      path_is = ap (λ m. path_at levels m) is ∙ path_of_rank levels s (kept counts 0 (path_at levels n)) (kept_path counts 0 (level_factors levels) (path_at levels n) num.path);
       low = least (parts_from levels counts 0 n) n;
     }
   where
@@ -340,11 +340,11 @@ module _ (levels : List Level) (s : AreSpread levels) (counts : ℕ → Bool) wh
   abbrev leader : ℕ → ℕ
   leader n = leader_number levels counts n
 
-  pub leader_within : (n : ℕ) → n < copies_in (factors_of levels) → leader n < copies_in (factors_of levels)
+  pub leader_within : (n : ℕ) → n < copies_in (level_factors levels) → leader n < copies_in (level_factors levels)
   leader_within n below = let l = (leads levels s counts n below).low in omega (arith, l, below)
 
   -- a leader leads itself
-  pub leader_leads : (n : ℕ) → n < copies_in (factors_of levels) → leader (leader n) ≡ leader n
+  pub leader_leads : (n : ℕ) → n < copies_in (level_factors levels) → leader (leader n) ≡ leader n
   leader_leads n below =
       let a = leads levels s counts n below in
       let b = leads levels s counts (leader n) (leader_within n below) in
@@ -352,7 +352,7 @@ module _ (levels : List Level) (s : AreSpread levels) (counts : ℕ → Bool) wh
       (b.path_is ∙ (ap (λ (p : Path). kept counts 0 p) a.path_is ∙ (kept_twice counts 0 (path_at levels n) ∙ sym a.path_is)))
 
   -- paths with one leader agree where a loop counts
-  pub leaders_agree : (n m : ℕ) → n < copies_in (factors_of levels) → m < copies_in (factors_of levels) → leader n ≡ leader m → CopiesAgree counts (path_at levels n) (path_at levels m)
+  pub leaders_agree : (n m : ℕ) → n < copies_in (level_factors levels) → m < copies_in (level_factors levels) → leader n ≡ leader m → CopiesAgree counts (path_at levels n) (path_at levels m)
   leaders_agree n m a b e l small on =
       let one = leads levels s counts n a in
       let two = leads levels s counts m b in
@@ -363,14 +363,14 @@ module _ (levels : List Level) (s : AreSpread levels) (counts : ℕ → Bool) wh
       none n = omega arith
 
   -- and paths that agree so have one leader
-  pub agree_leaders : (n m : ℕ) → n < copies_in (factors_of levels) → m < copies_in (factors_of levels) → CopiesAgree counts (path_at levels n) (path_at levels m) → leader n ≡ leader m
+  pub agree_leaders : (n m : ℕ) → n < copies_in (level_factors levels) → m < copies_in (level_factors levels) → CopiesAgree counts (path_at levels n) (path_at levels m) → leader n ≡ leader m
   agree_leaders n m a b agree =
       let one = leads levels s counts n a in
       let two = leads levels s counts m b in
       number_is levels s (leader n) (leader m) (leader_within n a) (leader_within m b)
       (one.path_is
       ∙ (kept_alike counts 0 (path_at levels n) (path_at levels m)
-      (length_path (factors_of levels) (path_at levels n) (numbered levels s n a).path ∙ sym (length_path (factors_of levels) (path_at levels m) (numbered levels s m b).path))
+      (length_path (level_factors levels) (path_at levels n) (numbered levels s n a).path ∙ sym (length_path (level_factors levels) (path_at levels m) (numbered levels s m b).path))
       (λ l small on. agree l small (ap counts (none l) ∙ on))
       ∙ sym two.path_is))
     where

@@ -12,15 +12,15 @@ use Rattle.dh_expressions.specs.declared.accesses.Accesses.{Accesses}
 use Rattle.dh_expressions.specs.declared.accesses.Touched.{Touched}
 use Rattle.dh_expressions.specs.declared.copies.AccessAt.{AccessAt}
 use Rattle.dh_expressions.specs.Copying.{AreNone, DoneBy, IsCopy}
-use Rattle.dh_expressions.specs.Drafted.{Step, holds}
-use Rattle.dh_expressions.specs.Evaluated.{Knows, Reads}
+use Rattle.dh_expressions.specs.Drafted.{BlockStep, holds}
+use Rattle.dh_expressions.specs.Evaluated.{Knows, StepReads}
 use Rattle.dh_expressions.specs.Noted.{copy_or_alone, given_in, given_to, touched_in, touched_of}
 use Rattle.dh_expressions.specs.Shown.{guard_of, guard_or_none}
-use Rattle.dh_expressions.specs.Standings.{IsTouched, Standing, copy_places}
+use Rattle.dh_expressions.specs.Standings.{IsTouched, AccessStanding, copy_places}
 use Rattle.dh_expressions.proofs.ListPlaces.{place_within, some_same, there}
-use Rattle.dh_commands.specs.Followed.{view_of}
+use Rattle.dh_commands.specs.Followed.{view_at_step}
 use Rattle.dh_blocks.specs.FoundAccesses.{Found}
-use Rattle.dh_laid.specs.LaidAccesses.{AreLaid, IsLaid, copy_in, place_named, standing_of}
+use Rattle.dh_laid.specs.LaidAccesses.{AreLaid, IsLaid, copy_in, place_named, access_standing_of}
 use Rattle.dh_blocks.specs.ChosenReads.{AreBare, chosen_reads, done_of, site_of, sites_to, standing_or_none}
 
 sites_long : (named : List (FaultKind × Place)) (find : ℕ → Option Found) (a : Accesses) (n : ℕ) → length (sites_to named find a n) ≡ n
@@ -30,12 +30,12 @@ sites_long named find a (suc n) = length-append (sites_to named find a n) _ ∙ 
     one : (a b : ℕ) → a ≡ b → a + 1 ≡ suc b
     one a b e = omega (arith, e)
 
-in_front : (xs : List Standing) (y z : Standing) (i : ℕ) → slice_get xs i ≡ Some z → slice_get (xs ++ y ∷ []) i ≡ Some z
+in_front : (xs : List AccessStanding) (y z : AccessStanding) (i : ℕ) → slice_get xs i ≡ Some z → slice_get (xs ++ y ∷ []) i ≡ Some z
 in_front [] y z i e = absurd (cc)
 in_front (w ∷ xs) y z zero e = e
 in_front (w ∷ xs) y z (suc i) e = in_front xs y z i e
 
-at_last : (xs : List Standing) (y : Standing) (i : ℕ) → i ≡ length xs → slice_get (xs ++ y ∷ []) i ≡ Some y
+at_last : (xs : List AccessStanding) (y : AccessStanding) (i : ℕ) → i ≡ length xs → slice_get (xs ++ y ∷ []) i ≡ Some y
 at_last [] y i e = ap (λ j. slice_get (y ∷ []) j) e
 at_last (w ∷ xs) y i e = ap (λ j. slice_get (w ∷ (xs ++ y ∷ [])) j) e ∙ at_last xs y (length xs) refl
 
@@ -69,9 +69,9 @@ mapped f [] k x e = absurd (cc)
 mapped f (y ∷ xs) zero x e = ap (λ z. Some (f z)) (some_same y x e)
 mapped f (y ∷ xs) (suc k) x e = mapped f xs k x e
 
-module _ (x : Step) (t : Touched) (laid : IsLaid x.named t) where
-  abbrev own : Standing
-  own = standing_of x.named t
+module _ (x : BlockStep) (t : Touched) (laid : IsLaid x.named t) where
+  abbrev own : AccessStanding
+  own = access_standing_of x.named t
 
   guard_is : (k : ℕ) (c : AccessAt) → slice_get t.copies k ≡ Some c → guard_of own.guards k ≡ (copy_in t c.leader).guard
   guard_is k c e = ap guard_or_none (mapped (λ (d : AccessAt). (copy_in t d.leader).guard) t.copies k c e)
@@ -122,8 +122,8 @@ module _ (x : Step) (t : Touched) (laid : IsLaid x.named t) where
       fault_at p = Some (OutOfRange, p)
 
 -- The begin.
-pub knows_first : (x : Step) (find : ℕ → Option Found) (before : Accesses) → AreLaid x.named before → AreNone before.counts.items → AreBare find before
-    → (variables : Variables) → Knows (view_of x (chosen_reads x find before) variables) before
+pub knows_first : (x : BlockStep) (find : ℕ → Option Found) (before : Accesses) → AreLaid x.named before → AreNone before.counts.items → AreBare find before
+    → (variables : Variables) → Knows (view_at_step x (chosen_reads x find before) variables) before
 knows_first x find before laid none bare variables = record {
   given = λ number path n given done. absurd (never number path n (find number) refl given done);
   long = sym (sites_long x.named find before (length before.touched.items));
@@ -147,24 +147,24 @@ knows_first x find before laid none bare variables = record {
         none_some : None ≡ Some n → ⊥
         none_some h = cc
 
-    stands : (number : ℕ) (t : Touched) → touched_in before number ≡ Some t → (s : Standing) → slice_get (sites_to x.named find before (length before.touched.items)) number ≡ Some s
+    stands : (number : ℕ) (t : Touched) → touched_in before number ≡ Some t → (s : AccessStanding) → slice_get (sites_to x.named find before (length before.touched.items)) number ≡ Some s
         → (o : Option Found) → find number ≡ o → IsTouched x s t
     stands number t at s is (Some f) e = absurd (nothing number f e t at)
     stands number t at s is None e =
         let here = site_is x.named find before (length before.touched.items) number (touched_within before number t at) in
-        let same : standing_of x.named t ≡ s =
-        some_same (standing_of x.named t) s (sym (ap Some (ap (λ o. site_of x.named o (touched_in before number)) e ∙ ap (λ o. standing_or_none x.named o) at)) ∙ (sym here ∙ is)) in
-        subst (λ (z : Standing). IsTouched x z t) same (laid_touched x t (laid number t at))
+        let same : access_standing_of x.named t ≡ s =
+        some_same (access_standing_of x.named t) s (sym (ap Some (ap (λ o. site_of x.named o (touched_in before number)) e ∙ ap (λ o. standing_or_none x.named o) at)) ∙ (sym here ∙ is)) in
+        subst (λ (z : AccessStanding). IsTouched x z t) same (laid_touched x t (laid number t at))
 
 -- The end.
-pub touched_laid : (x : Step) (s : Standing) (t : Touched) → IsTouched x s t → IsLaid x.named t
+pub touched_laid : (x : BlockStep) (s : AccessStanding) (t : Touched) → IsTouched x s t → IsLaid x.named t
 touched_laid x s t h = record {
   place = s.place;
   fault = h.fault;
   alone = λ k c at other. (h.copies.each k c at).alone (λ e. other ((h.copies.each k c at).leader_is ∙ e));
 }
 
-pub laid_last : (x : Step) (reads : Reads) (after : Accesses) (variables : Variables) → Knows (view_of x reads variables) after → AreLaid x.named after
+pub laid_last : (x : BlockStep) (reads : StepReads) (after : Accesses) (variables : Variables) → Knows (view_at_step x reads variables) after → AreLaid x.named after
 laid_last x reads after variables knows number t at =
     let (s, is) = there reads.sites number (subst (λ (n : ℕ). number < n) knows.long (touched_within after number t at)) in
     touched_laid x s t (knows.touched number t at s is)

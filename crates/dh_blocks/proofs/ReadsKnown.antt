@@ -26,7 +26,7 @@ use Rattle.dh_sound.proofs.ValuesBelow.{AgreeBelow}
 use Rattle.dh_expressions.specs.declared.paths.Level.{Level}
 use Rattle.dh_expressions.specs.declared.scenes.Around.{Around}
 use Rattle.dh_expressions.specs.declared.scenes.Scene.{Scene}
-use Rattle.dh_expressions.specs.Drafted.{Step}
+use Rattle.dh_expressions.specs.Drafted.{BlockStep}
 use Rattle.dh_expressions.specs.Evaluated.{begun_of, known_in}
 use Rattle.dh_expressions.specs.Levels.{leader_number, path_at}
 use Rattle.dh_expressions.specs.Shown.{guard_of}
@@ -69,7 +69,7 @@ cut_both {A} (x ∷ xs) ys (y ∷ before) z rest e = further (cut_both xs ys bef
     further (in_first less r s) = in_first less r (ap (λ w. w ∷ xs) same ∙ ap (λ (l : List A). y ∷ l) s)
     further (in_second more r s) = in_second more (ap (λ (l : List A). y ∷ l) r ∙ ap (λ w. w ∷ (xs ++ more)) (sym same)) s
 
-module _ (scene : Scene) (x : Step) (find : ℕ → Option Found) (levels : List Level) (size : ℕ) (in_block : ℕ → Bool) where
+module _ (scene : Scene) (x : BlockStep) (find : ℕ → Option Found) (levels : List Level) (size : ℕ) (in_block : ℕ → Bool) where
   abbrev known : Known
   known = known_in scene
 

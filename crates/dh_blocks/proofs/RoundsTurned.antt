@@ -22,11 +22,11 @@ use Rattle.dh_sound.specs.IteratorsAt.{IteratorAt}
 use Rattle.dh_sound.proofs.PathParts.{last_of_outer}
 use Rattle.dh_expressions.specs.declared.scenes.Around.{Around}
 use Rattle.dh_expressions.specs.declared.scenes.Scene.{Scene}
-use Rattle.dh_expressions.specs.Drafted.{Step}
+use Rattle.dh_expressions.specs.Drafted.{BlockStep}
 use Rattle.dh_expressions.specs.Levels.{copy_to, last_number, path_at}
 use Rattle.dh_expressions.proofs.ListPlaces.{some_same, there}
 use Rattle.dh_commands.specs.LanesRun.{is_on_at, path_if, path_in, paths_counted, paths_on, paths_to}
-use Rattle.dh_commands.specs.ShownVariables.{factors_of}
+use Rattle.dh_commands.specs.ShownVariables.{level_factors}
 use Rattle.dh_blocks.specs.NamedVariables.{IsNamed, IsNamedHere, IsOfRound, IsTurned, turn_shown}
 use Rattle.dh_blocks.specs.BlockMade.{IsTop}
 use Rattle.dh_blocks.proofs.PathNumbers.{copy_in_path, numbered, rank_small}
@@ -61,7 +61,7 @@ pub rounds_paths : (rounds : List Round) → paths_of_rounds rounds ≡ paths_in
 rounds_paths rounds = within_is [] rounds
 
 -- the paths of a block are all of them, in order
-module _ (x : Step) (rounds : List Round) (around : Around) (top : IsTop rounds around) where
+module _ (x : BlockStep) (rounds : List Round) (around : Around) (top : IsTop rounds around) where
   pub always_on : (number : ℕ) → is_on_at x around number ≡ true
   always_on number = ap (λ g. is_on x.first x.words g) (top.free number)
 
@@ -104,8 +104,8 @@ module _ (x : Step) (rounds : List Round) (around : Around) (top : IsTop rounds 
 
   pub paths_are_rounds : paths_on x around ≡ paths_of_rounds rounds
   paths_are_rounds =
-      all_same (paths_on x around) (paths_in (factors_of around.levels.now))
-      (to_long (paths_counted around) ∙ (top.counted ∙ sym (length_paths (factors_of around.levels.now))))
+      all_same (paths_on x around) (paths_in (level_factors around.levels.now))
+      (to_long (paths_counted around) ∙ (top.counted ∙ sym (length_paths (level_factors around.levels.now))))
       (λ i h. let within = subst (λ (m : ℕ). i < m) (to_long (paths_counted around)) h in
       to_at (paths_counted around) i within ∙ sym (numbered around.levels.now top.spread i (subst (λ (m : ℕ). i < m) top.counted within)).listed)
       ∙ (ap paths_in top.factors_are ∙ sym (rounds_paths rounds))
@@ -226,7 +226,7 @@ index_below (g ∷ fs) [] n f h e = absurd h
 index_below (g ∷ fs) (c ∷ p) zero f h e = subst (λ (m : ℕ). c < m) (some_same g f e) h.0
 index_below (g ∷ fs) (c ∷ p) (suc n) f h e = index_below fs p n f h.1 e
 
-module _ (scene : Scene) (x : Step) (rounds : List Round) (around : Around) (top : IsTop rounds around) (v0 : Variables) (touched : ℕ → Bool)
+module _ (scene : Scene) (x : BlockStep) (rounds : List Round) (around : Around) (top : IsTop rounds around) (v0 : Variables) (touched : ℕ → Bool)
     (counted : AreCounted outer_paths rounds x.start.registers v0) where
   module _ (r : Ref) (k : Kind) (h : IsOfRound scene x.start.kinds rounds touched r k) where
     abbrev loop : Turning
@@ -241,11 +241,11 @@ module _ (scene : Scene) (x : Step) (rounds : List Round) (around : Around) (top
     is_counted : IsCounted (paths_in first) h.round x.start.registers v0
     is_counted = counted_at [] rounds x.start.registers v0 h.index h.round counted h.there
 
-    begins : (number : ℕ) → number < copies_in (factors_of around.levels.now) → IsPath first (take loop.depth (path_in around number))
+    begins : (number : ℕ) → number < copies_in (level_factors around.levels.now) → IsPath first (take loop.depth (path_in around number))
     begins number within =
         subst (λ (fs : List ℕ). IsPath fs (take loop.depth (path_in around number)))
-        (ap (λ d. take d (factors_of around.levels.now)) h.depth ∙ (ap (λ (fs : List ℕ). take (length first) fs) top.factors_are ∙ first_factors rounds (suc h.index)))
-        (path_begins (factors_of around.levels.now) (path_in around number) loop.depth (numbered around.levels.now top.spread number within).path)
+        (ap (λ d. take d (level_factors around.levels.now)) h.depth ∙ (ap (λ (fs : List ℕ). take (length first) fs) top.factors_are ∙ first_factors rounds (suc h.index)))
+        (path_begins (level_factors around.levels.now) (path_in around number) loop.depth (numbered around.levels.now top.spread number within).path)
 
     -- the copy in its loop is that of the part of the path
     copy_same : (p : Path) → last_copy loop (take loop.depth p) ≡ last_copy loop p
@@ -271,7 +271,7 @@ module _ (scene : Scene) (x : Step) (rounds : List Round) (around : Around) (top
         by true e = at loop.depth (deep e)
         by false e = refl
 
-    iterator_at : (number : ℕ) → number < copies_in (factors_of around.levels.now) → IteratorAt loop turn v0 (path_at around.levels.now number)
+    iterator_at : (number : ℕ) → number < copies_in (level_factors around.levels.now) → IteratorAt loop turn v0 (path_at around.levels.now number)
     iterator_at number within = record {
       value =
           is_counted.holds (rank_of first (take loop.depth (path_in around number))) (take loop.depth (path_in around number)) (listed_at first (take loop.depth (path_in around number)) (begins number within))

@@ -30,7 +30,7 @@ use Rattle.dh_expressions.specs.declared.paths.Level.{Level}
 use Rattle.dh_expressions.specs.declared.scenes.Around.{Around}
 use Rattle.dh_expressions.specs.declared.scenes.Scene.{Scene}
 use Rattle.dh_expressions.specs.Copying.{DoneBy, depends_at}
-use Rattle.dh_expressions.specs.Drafted.{Step}
+use Rattle.dh_expressions.specs.Drafted.{BlockStep}
 use Rattle.dh_expressions.specs.Evaluated.{begun_of, known_in}
 use Rattle.dh_expressions.specs.Levels.{leader_number, path_at}
 use Rattle.dh_commands.specs.LanesRun.{path_in, paths_counted}
@@ -71,7 +71,7 @@ share_facts p a c j k between e = parts a.writes c.writes _ _ _ _ _ e
     parts false false true true true false again e = cc
     parts false false true true true true true e = cc
 
-module _ (scene : Scene) (x : Step) (find : ℕ → Option Found) (levels : List Level) (size : ℕ) (in_block : ℕ → Bool)
+module _ (scene : Scene) (x : BlockStep) (find : ℕ → Option Found) (levels : List Level) (size : ℕ) (in_block : ℕ → Bool)
     (share : (j k : ℕ) → in_one_phase (program_seen scene.program.now) j k ≡ true → in_block k ≡ true → in_block j ≡ true)
     (shares_are : (k j : ℕ) → slice_get scene.shares.now k ≡ Some (Some j) → shared (program_seen scene.program.now) k ≡ Some j) where
   abbrev p : Program

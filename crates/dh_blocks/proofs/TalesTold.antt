@@ -8,7 +8,7 @@ use Rattle.dh_meaning.specs.Effects.{Event, reads, writes, faults}
 use Rattle.dh_plan.specs.Blocks.{BlockEvent, fails, puts, Put, first_fault, puts_of}
 use Rattle.dh_plan.specs.PlanPhases.{NamesFault}
 use Rattle.dh_plan.specs.SourceEffects.{failure_of, writes_of}
-use Rattle.dh_expressions.specs.Drafted.{Tale, failed, unnamed, put, fault_told, told, told_block}
+use Rattle.dh_expressions.specs.Drafted.{Tale, failed, unnamed, put, fault_told, tales_told, told_block}
 
 abbrev fault_as : FaultKind → Place → Option (FaultKind × Place)
 fault_as k p = Some (k, p)
@@ -54,7 +54,7 @@ put_is s t b c ps qs e f = ap (λ (l : List Put). record { spot = s; bits = b } 
     bits_in (put s b) d = b
 
 module _ (named : List (FaultKind × Place)) where
-  pub fault_named : (bs : List BlockEvent) (es : List Event) → told_block named bs ≡ told es → NamesFault named (first_fault bs) (failure_of es)
+  pub fault_named : (bs : List BlockEvent) (es : List Event) → told_block named bs ≡ tales_told es → NamesFault named (first_fault bs) (failure_of es)
   fault_named [] [] e = tt
   fault_named (fails f ∷ bs) [] e = absurd (cc)
   fault_named (puts s b ∷ bs) [] e = absurd (cc)
@@ -69,7 +69,7 @@ module _ (named : List (FaultKind × Place)) where
       other : put s b ≡ failed kind place → ⊥
       other h = cc
 
-  pub writes_told : (bs : List BlockEvent) (es : List Event) → told_block named bs ≡ told es → failure_of es ≡ None → puts_of bs ≡ writes_of es
+  pub writes_told : (bs : List BlockEvent) (es : List Event) → told_block named bs ≡ tales_told es → failure_of es ≡ None → puts_of bs ≡ writes_of es
   writes_told [] [] e none = refl
   writes_told (fails f ∷ bs) [] e none = absurd (cc)
   writes_told (puts s b ∷ bs) [] e none = absurd (cc)

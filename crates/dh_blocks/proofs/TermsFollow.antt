@@ -25,23 +25,23 @@ use Rattle.dh_code.specs.Slots.{held_at}
 use Rattle.dh_code.specs.Extended.{extension_of}
 use Rattle.dh_plan.specs.Blocks.{is_on}
 use Rattle.dh_code.proofs.PathsInOrder.{length_path}
-use Rattle.dh_sound.specs.SameKeys.{CopiesAgree, IsNearTo, IsNoIterator, IsSettled, NameAgrees}
+use Rattle.dh_sound.specs.SameKeys.{CopiesAgree, IsNearTo, IsNoIterator, IsSettledName, NameAgrees}
 use Rattle.dh_sound.proofs.SameKeys.{agree_left, agree_right}
 use Rattle.dh_sound.proofs.SettledNames.{full_depth_same, iterator_settled, plain_part, plain_settled}
 use Rattle.dh_expressions.specs.declared.accesses.Accesses.{Accesses}
 use Rattle.dh_expressions.specs.declared.scenes.Around.{Around}
 use Rattle.dh_expressions.specs.declared.scenes.Scene.{Scene}
 use Rattle.dh_expressions.specs.Copying.{DoneBy, depends_at}
-use Rattle.dh_expressions.specs.Drafted.{Step}
-use Rattle.dh_expressions.specs.Evaluated.{EntityTurns, Fair, FairAll, IsDone, IsSited, NamesSmallBank, Reads, Sees, SeesAll, SeesHidden, SeesWay, SeesWayBy, SourceMeans, TurnsBy, View, begun_of, entity_shown, known_in, shown_by, source_at}
+use Rattle.dh_expressions.specs.Drafted.{BlockStep}
+use Rattle.dh_expressions.specs.Evaluated.{EntityTurns, Fair, FairAll, IsDone, IsSited, NamesSmallBank, StepReads, Sees, SeesAll, SeesHidden, SeesWay, SeesWayBy, SourceMeans, TurnsBy, View, begun_of, entity_shown, known_in, shown_by, source_at}
 use Rattle.dh_expressions.specs.Named.{first_view}
 use Rattle.dh_expressions.specs.Noted.{touched_in}
 use Rattle.dh_expressions.proofs.ListPlaces.{some_same}
 use Rattle.dh_expressions.specs.Shown.{guard_of, kind_written, variable_shown}
-use Rattle.dh_expressions.specs.Standings.{Standing, standing_at}
+use Rattle.dh_expressions.specs.Standings.{AccessStanding, standing_at}
 use Rattle.dh_commands.specs.LanesRun.{is_on_at, lane_of, path_in, paths_counted}
-use Rattle.dh_commands.specs.ShownVariables.{Shows, depth_in, factors_of, register_in, seen_path}
-use Rattle.dh_commands.specs.Followed.{IsFollowed, view_of}
+use Rattle.dh_commands.specs.ShownVariables.{ShowsVariables, depth_in, level_factors, register_in, seen_path}
+use Rattle.dh_commands.specs.Followed.{IsFollowed, view_at_step}
 use Rattle.dh_blocks.specs.FoundAccesses.{Found, read_found, term_found, terms_found}
 use Rattle.dh_blocks.specs.ChosenReads.{chosen_reads, done_of, led_on, site_of, sites_to, word_found}
 use Rattle.dh_blocks.specs.BlockGround.{AllFound, AreReadAt, AreWithin, IsGround, IsReadAt}
@@ -72,7 +72,7 @@ both_true : (a b : Bool) → a ≡ true → b ≡ true → (a && b) ≡ true
 both_true true b h i = i
 both_true false b h i = cc
 
-pub led_done : (x : Step) (s : Standing) (first n : ℕ) → led_on x s first n ≡ true → DoneBy x s.leader s.guards n first
+pub led_done : (x : BlockStep) (s : AccessStanding) (first n : ℕ) → led_on x s first n ≡ true → DoneBy x s.leader s.guards n first
 led_done x s first zero e = absurd (cc)
 led_done x s first (suc n) e = by (λ h. led_done x s first n h) (split_or (led_on x s first n) ((s.leader n == first) && is_on x.first x.words (guard_of s.guards n)) e)
   where
@@ -86,7 +86,7 @@ led_done x s first (suc n) e = by (λ h. led_done x s first n h) (split_or (led_
     by before (inl h) = further (before h)
     by before (inr h) = here (split_and (s.leader n == first) (is_on x.first x.words (guard_of s.guards n)) h)
 
-pub done_led : (x : Step) (s : Standing) (first n path : ℕ) → path < n → s.leader path ≡ first → is_on x.first x.words (guard_of s.guards path) ≡ true → led_on x s first n ≡ true
+pub done_led : (x : BlockStep) (s : AccessStanding) (first n path : ℕ) → path < n → s.leader path ≡ first → is_on x.first x.words (guard_of s.guards path) ≡ true → led_on x s first n ≡ true
 done_led x s first zero path within leads on = absurd (none path within)
   where
     none : (m : ℕ) → m < 0 → ⊥
@@ -139,7 +139,7 @@ found_here P n m xs f is h = subst (λ (k : ℕ). P k f) (sym (none m)) (found_t
     none : (m : ℕ) → m ≡ m + 0
     none m = omega arith
 
-module _ (scene : Scene) (around : Around) (x : Step) (V : ℕ → Variables) where
+module _ (scene : Scene) (around : Around) (x : BlockStep) (V : ℕ → Variables) where
   mutual
     pub term_long : (n : ℕ) (t : Term) → length (term_found scene around x V n t) ≡ term_accesses t
     term_long n (term place k (number negative z)) = refl
@@ -164,7 +164,7 @@ module _ (scene : Scene) (around : Around) (x : Step) (V : ℕ → Variables) wh
         length-append (term_found scene around x V n t) (terms_found scene around x V (n + term_accesses t) ts)
         ∙ (ap (λ m. m + length (terms_found scene around x V (n + term_accesses t) ts)) (term_long n t) ∙ ap (λ m. term_accesses t + m) (terms_long (n + term_accesses t) ts))
 
-pub site_there : (x : Step) (find : ℕ → Option Found) (a : Accesses) (size own : ℕ) (f : Found) → own < size → find own ≡ Some f → slice_get (sites_to x.named find a size) own ≡ Some f.standing
+pub site_there : (x : BlockStep) (find : ℕ → Option Found) (a : Accesses) (size own : ℕ) (f : Found) → own < size → find own ≡ Some f → slice_get (sites_to x.named find a size) own ≡ Some f.standing
 site_there x find a zero own f within is = absurd (none own within)
   where
     none : (m : ℕ) → m < 0 → ⊥
@@ -178,12 +178,12 @@ site_there x find a (suc n) own f within is = by (λ l. site_there x find a n ow
         one : (a b : ℕ) → a ≡ b → a + 1 ≡ suc b
         one a b e = omega (arith, e)
 
-    front : (xs : List Standing) (y z : Standing) (i : ℕ) → slice_get xs i ≡ Some z → slice_get (xs ++ y ∷ []) i ≡ Some z
+    front : (xs : List AccessStanding) (y z : AccessStanding) (i : ℕ) → slice_get xs i ≡ Some z → slice_get (xs ++ y ∷ []) i ≡ Some z
     front [] y z i e = absurd (cc)
     front (w ∷ xs) y z zero e = e
     front (w ∷ xs) y z (suc i) e = front xs y z i e
 
-    last : (xs : List Standing) (y : Standing) (i : ℕ) → i ≡ length xs → slice_get (xs ++ y ∷ []) i ≡ Some y
+    last : (xs : List AccessStanding) (y : AccessStanding) (i : ℕ) → i ≡ length xs → slice_get (xs ++ y ∷ []) i ≡ Some y
     last [] y i e = ap (λ j. slice_get (y ∷ []) j) e
     last (w ∷ xs) y i e = ap (λ j. slice_get (w ∷ (xs ++ y ∷ [])) j) e ∙ last xs y (length xs) refl
 
@@ -195,7 +195,7 @@ site_there x find a (suc n) own f within is = by (λ l. site_there x find a n ow
         ∙ ap Some (ap (λ o. site_of x.named o (touched_in a n)) (ap find (sym same) ∙ is))
 
 -- At one path.
-module _ (scene : Scene) (around : Around) (x : Step) (find : ℕ → Option Found) (before : Accesses) (V : ℕ → Variables) (v0 : Variables) (touched : ℕ → Bool)
+module _ (scene : Scene) (around : Around) (x : BlockStep) (find : ℕ → Option Found) (before : Accesses) (V : ℕ → Variables) (v0 : Variables) (touched : ℕ → Bool)
     (ground : IsGround scene around) (within_all : AreWithin find before) (views : HasViews scene x.start.views)
     (near : (i : ℕ) → i < paths_counted around → IsNearTo v0 touched (V i)) where
   abbrev Named : Ref → Kind → Type 0
@@ -213,25 +213,25 @@ module _ (scene : Scene) (around : Around) (x : Step) (find : ℕ → Option Fou
   abbrev SoundWay : Ref → Type 0
   SoundWay = IsSoundWay (known_in scene) x.start.table Named
 
-  abbrev reads : Reads
+  abbrev reads : StepReads
   reads = chosen_reads x find before
 
   abbrev path : ℕ → Path
   path i = path_in around i
 
   abbrev view : ℕ → View
-  view i = view_of x reads (V i)
+  view i = view_at_step x reads (V i)
 
-  inside : (i : ℕ) → i < paths_counted around → i < copies_in (factors_of around.levels.now)
+  inside : (i : ℕ) → i < paths_counted around → i < copies_in (level_factors around.levels.now)
   inside i h = subst (λ (n : ℕ). i < n) ground.counted h
 
-  long_path : (i : ℕ) → i < paths_counted around → length (path i) ≡ length (factors_of around.levels.now)
-  long_path i h = length_path (factors_of around.levels.now) (path i) (numbered around.levels.now ground.spread i (inside i h)).path
+  long_path : (i : ℕ) → i < paths_counted around → length (path i) ≡ length (level_factors around.levels.now)
+  long_path i h = length_path (level_factors around.levels.now) (path i) (numbered around.levels.now ground.spread i (inside i h)).path
 
-  levels_long : length (factors_of around.levels.now) ≡ length around.levels.now
+  levels_long : length (level_factors around.levels.now) ≡ length around.levels.now
   levels_long = long_map around.levels.now
     where
-      long_map : (ls : List _) → length (factors_of ls) ≡ length ls
+      long_map : (ls : List _) → length (level_factors ls) ≡ length ls
       long_map [] = refl
       long_map (l ∷ ls) = ap suc (long_map ls)
 
@@ -252,7 +252,7 @@ module _ (scene : Scene) (around : Around) (x : Step) (find : ℕ → Option Fou
       deep = ap depth_bound (ap (λ o. binding_in (known_in scene).bindings (entity_number o)) t.is.entity ∙ t.is.bound) ∙ t.is.depth
 
   -- a name is shown at a path, where it is at one that agrees where the name depends
-  shown_named : (i q : ℕ) → i < paths_counted around → q < paths_counted around → is_on_at x around q ≡ true → (current : List (Option ℕ)) → Shows scene around x current (V i)
+  shown_named : (i q : ℕ) → i < paths_counted around → q < paths_counted around → is_on_at x around q ≡ true → (current : List (Option ℕ)) → ShowsVariables scene around x current (V i)
       → (r : Ref) (k : Kind) → Named r k → NameAgrees (known_in scene) (path i) (path q) r
       → EntityTurns scene x (entity_number r.entity) k
       × (entity_shown scene (lane_of around i) current x (entity_number r.entity) k ≡ word_of k (V i (entity_number r.entity) (take (depth_of (known_in scene) r) (path i))))
@@ -275,10 +275,10 @@ module _ (scene : Scene) (around : Around) (x : Step) (find : ℕ → Option Fou
   )
 
   -- a name has one value at two paths that agree where it depends
-  settled_name : (l i : ℕ) → l < paths_counted around → i < paths_counted around → (r : Ref) (k : Kind) → Named r k → IsSettled (known_in scene) (V l) (V i) (path l) (path i) r
+  settled_name : (l i : ℕ) → l < paths_counted around → i < paths_counted around → (r : Ref) (k : Kind) → Named r k → IsSettledName (known_in scene) (V l) (V i) (path l) (path i) r
   settled_name l i h g r k (inl p) = by p.free
     where
-      by : (touched (entity_number r.entity) ≡ false) ⊎ (length around.levels.now ≤ depth_in scene (entity_number r.entity)) → IsSettled (known_in scene) (V l) (V i) (path l) (path i) r
+      by : (touched (entity_number r.entity) ≡ false) ⊎ (length around.levels.now ≤ depth_in scene (entity_number r.entity)) → IsSettledName (known_in scene) (V l) (V i) (path l) (path i) r
       by (inl left) = plain_settled (known_in scene) v0 (V l) (V i) touched (path l) (path i) r (entity_number r.entity) (near l h) (near i g) (same_long l i h g) p.is left p.binding
       by (inr full) = λ agree.
           let deep : length (path l) ≤ depth_of (known_in scene) r = let a = long_path l h in let b = levels_long in omega (arith, a, b, full) in
@@ -303,7 +303,7 @@ module _ (scene : Scene) (around : Around) (x : Step) (find : ℕ → Option Fou
       )
 
   -- it is shown as the program has it, where the guard holds at one of them
-  hidden_seen : (i q : ℕ) → i < paths_counted around → q < paths_counted around → is_on_at x around q ≡ true → (current : List (Option ℕ)) → Shows scene around x current (V i)
+  hidden_seen : (i q : ℕ) → i < paths_counted around → q < paths_counted around → is_on_at x around q ≡ true → (current : List (Option ℕ)) → ShowsVariables scene around x current (V i)
       → (r : Ref) (k : Hidden) → SoundHidden r k → CopiesAgree (λ l. entity_depends (known_in scene).bindings l r.entity) (path i) (path q) → SeesHidden scene (lane_of around i) current (view i) k
   hidden_seen i q h g on current sh r k s agree = by s.named
     where
@@ -326,7 +326,7 @@ module _ (scene : Scene) (around : Around) (x : Step) (find : ℕ → Option Fou
           absurd (clash t.is.binding (binding_in (known_in scene).bindings k.entity) t.loop.factor
           (ap (λ o. binding_in (known_in scene).bindings (entity_number o)) t.is.entity ∙ t.is.bound) t.is.iterates s.plain)
 
-  pub way_seen : (i q : ℕ) → i < paths_counted around → q < paths_counted around → is_on_at x around q ≡ true → (current : List (Option ℕ)) → Shows scene around x current (V i)
+  pub way_seen : (i q : ℕ) → i < paths_counted around → q < paths_counted around → is_on_at x around q ≡ true → (current : List (Option ℕ)) → ShowsVariables scene around x current (V i)
       → (r : Ref) → SoundWay r → CopiesAgree (λ l. entity_depends (known_in scene).bindings l r.entity) (path i) (path q) → SeesWay scene (lane_of around i) current (view i) r
   way_seen i q h g on current sh r s agree = by (way_of (known_in scene) r) refl s
     where
@@ -428,7 +428,7 @@ module _ (scene : Scene) (around : Around) (x : Step) (find : ℕ → Option Fou
   of_row r row p q = agree_right (λ l. entity_depends (known_in scene).bindings l r.entity) (λ l. term_depends (known_in scene).bindings l row) p q
 
   mutual
-    pub sees : (i q : ℕ) → i < paths_counted around → q < paths_counted around → is_on_at x around q ≡ true → (current : List (Option ℕ)) → Shows scene around x current (V i)
+    pub sees : (i q : ℕ) → i < paths_counted around → q < paths_counted around → is_on_at x around q ≡ true → (current : List (Option ℕ)) → ShowsVariables scene around x current (V i)
         → (n : ℕ) (t : Term) → Sound t → AreReadAt scene x find n (term_found scene around x V n t) → CopiesAgree (λ l. term_depends (known_in scene).bindings l t) (path i) (path q)
         → Sees scene (lane_of around i) current (view i) n t
     sees i q h g on current sh n (term place k (number negative z)) s f agree = s
@@ -463,7 +463,7 @@ module _ (scene : Scene) (around : Around) (x : Step) (find : ℕ → Option Fou
     sees i q h g on current sh n (term place k (converted inner to)) s f agree =
         (sees i q h g on current sh n inner s.0 f agree, λ kept. kept_word (begun_of x) (V i) (path i) (known_in scene) Named n inner to s.0 kept)
 
-    pub sees_all : (i q : ℕ) → i < paths_counted around → q < paths_counted around → is_on_at x around q ≡ true → (current : List (Option ℕ)) → Shows scene around x current (V i)
+    pub sees_all : (i q : ℕ) → i < paths_counted around → q < paths_counted around → is_on_at x around q ≡ true → (current : List (Option ℕ)) → ShowsVariables scene around x current (V i)
         → (n : ℕ) (ts : Terms) → AllSound ts → AreReadAt scene x find n (terms_found scene around x V n ts) → CopiesAgree (λ l. terms_depend (known_in scene).bindings l ts) (path i) (path q)
         → SeesAll scene (lane_of around i) current (view i) n ts
     sees_all i q h g on current sh n no_terms s f agree = tt
@@ -481,7 +481,7 @@ module _ (scene : Scene) (around : Around) (x : Step) (find : ℕ → Option Fou
       (d.path, (d.within, (d.on, leaders_agree around.levels.now ground.spread (counts form) i d.path (inside i h) (inside d.path d.within) (sym d.leads))))
 
   mutual
-    pub fair : (i : ℕ) → i < paths_counted around → (current : List (Option ℕ)) → Shows scene around x current (V i)
+    pub fair : (i : ℕ) → i < paths_counted around → (current : List (Option ℕ)) → ShowsVariables scene around x current (V i)
         → (n : ℕ) (t : Term) → Sound t → AreReadAt scene x find n (term_found scene around x V n t) → Fair scene (lane_of around i) current (view i) n t
     fair i h current sh n (term place k (number negative z)) s f = tt
     fair i h current sh n (term place k (truth_value b)) s f = tt
@@ -514,7 +514,7 @@ module _ (scene : Scene) (around : Around) (x : Step) (find : ℕ → Option Fou
     )
     fair i h current sh n (term place k (converted inner to)) s f = fair i h current sh n inner s.0 f
 
-    pub fair_all : (i : ℕ) → i < paths_counted around → (current : List (Option ℕ)) → Shows scene around x current (V i)
+    pub fair_all : (i : ℕ) → i < paths_counted around → (current : List (Option ℕ)) → ShowsVariables scene around x current (V i)
         → (n : ℕ) (ts : Terms) → AllSound ts → AreReadAt scene x find n (terms_found scene around x V n ts) → FairAll scene (lane_of around i) current (view i) n ts
     fair_all i h current sh n no_terms s f = tt
     fair_all i h current sh n (term_then t ts) s f = (

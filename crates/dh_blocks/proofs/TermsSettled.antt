@@ -14,7 +14,7 @@ use Rattle.dh_meaning.specs.Paths.{Path}
 use Rattle.dh_meaning.specs.Ways.{Hidden}
 use Rattle.dh_meets.specs.Charges.{entity_depends, term_depends, terms_depend}
 use Rattle.dh_ways.specs.SpotsThrough.{offsets_at, spot_to}
-use Rattle.dh_sound.specs.SameKeys.{CopiesAgree, IsSettled}
+use Rattle.dh_sound.specs.SameKeys.{CopiesAgree, IsSettledName}
 use Rattle.dh_sound.proofs.SameKeys.{agree_left, agree_right}
 use Rattle.dh_sound.proofs.SourceValues.{accessed_is, memory_at, operation_same, read_value, spot_named}
 
@@ -31,7 +31,7 @@ module _ (b : Begun) (known : Known) (v w : Variables) (p q : Path) where
     pub SettlesForm : TermForm → Type 0
     SettlesForm (number negative z) = Unit {0}
     SettlesForm (truth_value t) = Unit {0}
-    SettlesForm (named r) = IsSettled known v w p q r
+    SettlesForm (named r) = IsSettledName known v w p q r
     SettlesForm (accessed r ts) = SettleAll ts × WaySettles r
     SettlesForm (in_bank r bank at t) = Settles t
     SettlesForm (applied o l r) = Settles l × Settles r

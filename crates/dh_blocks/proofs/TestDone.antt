@@ -29,20 +29,20 @@ use Rattle.dh_code.proofs.SlotsHeld.{slot_below}
 use Rattle.dh_expressions.specs.declared.scenes.Around.{Around}
 use Rattle.dh_expressions.specs.declared.scenes.Scene.{Scene}
 use Rattle.dh_expressions.specs.Copying.{AreNone}
-use Rattle.dh_expressions.specs.Drafted.{Begun as IsBegun, Fits, Step, shown, told, told_block}
-use Rattle.dh_expressions.specs.Evaluated.{Reads, begun_of, known_in}
+use Rattle.dh_expressions.specs.Drafted.{FitsStep, BlockStep, word_shown, tales_told, told_block, BlockBegun as IsBegun}
+use Rattle.dh_expressions.specs.Evaluated.{StepReads, begun_of, known_in}
 use Rattle.dh_expressions.specs.Noted.{touched_in}
 use Rattle.dh_expressions.specs.Shown.{is_read_term, kind_written}
 use Rattle.dh_expressions.proofs.ListPlaces.{place_within}
 use Rattle.dh_commands.specs.declared.buildings.Building.{Building}
 use Rattle.dh_commands.specs.LanesRun.{is_on_at, lanes_run, path_if, path_in, paths_counted, paths_to, run_if}
 use Rattle.dh_commands.specs.Followed.{Along, IsFollowedBy, test_run, value_at}
-use Rattle.dh_commands.specs.Done.{Does, Stands}
+use Rattle.dh_commands.specs.Done.{Does, StandsBeside}
 use Rattle.dh_blocks.specs.FoundAccesses.{Found, found_from, term_found, variables_along}
 use Rattle.dh_laid.specs.LaidAccesses.{AreLaid}
 use Rattle.dh_blocks.specs.ChosenReads.{AreBare, chosen_reads}
 use Rattle.dh_blocks.specs.BlockGround.{AreFoundAt, AreWithin}
-use Rattle.dh_blocks.specs.BlockMade.{IsTop, effect_begun, step_of}
+use Rattle.dh_blocks.specs.BlockMade.{IsTop, effect_begun, step_of_block}
 use Rattle.dh_blocks.specs.NamedVariables.{IsNamed, IsNamedHere}
 use Rattle.dh_commands.specs.Setting.{NoVariable}
 use Rattle.dh_blocks.specs.SlotsOfScene.{HoldsVariables, IsStartOf, placing_in, slots_in}
@@ -71,7 +71,7 @@ one_run : (run : Path → Effect → Effect) (b : Bool) (p : Path) (e : Effect) 
 one_run run true p e = refl
 one_run run false p e = refl
 
-lanes_are : (x : Step) (around : Around) (run : Path → Effect → Effect) (n : ℕ) (e : Effect) → lanes_run x around run n e ≡ at_each run (paths_to x around n) e
+lanes_are : (x : BlockStep) (around : Around) (run : Path → Effect → Effect) (n : ℕ) (e : Effect) → lanes_run x around run n e ≡ at_each run (paths_to x around n) e
 lanes_are x around run zero e = refl
 lanes_are x around run (suc n) e =
     one_run run (is_on_at x around n) (path_in around n) (lanes_run x around run n e)
@@ -79,7 +79,7 @@ lanes_are x around run (suc n) e =
     ∙ sym (each_append run (paths_to x around n) (path_if (is_on_at x around n) (path_in around n)) e))
 
 -- tests set nothing
-tested_keeps : (x : Step) (around : Around) (scene : Scene) (first : ℕ) (t : Term) (n : ℕ) (e : Effect) → (lanes_run x around (test_run scene x first t) n e).variables ≡ e.variables
+tested_keeps : (x : BlockStep) (around : Around) (scene : Scene) (first : ℕ) (t : Term) (n : ℕ) (e : Effect) → (lanes_run x around (test_run scene x first t) n e).variables ≡ e.variables
 tested_keeps x around scene first t zero e = refl
 tested_keeps x around scene first t (suc n) e = by (is_on_at x around n) ∙ tested_keeps x around scene first t n e
   where
@@ -88,7 +88,7 @@ tested_keeps x around scene first t (suc n) e = by (is_on_at x around n) ∙ tes
     by false = refl
 
 -- the first path of those at which a guard holds, where it does at the first
-first_of : (x : Step) (around : Around) → is_on_at x around 0 ≡ true → (n : ℕ) → 0 < n → first_path (paths_to x around n) ≡ path_in around 0
+first_of : (x : BlockStep) (around : Around) → is_on_at x around 0 ≡ true → (n : ℕ) → 0 < n → first_path (paths_to x around n) ≡ path_in around 0
 first_of x around on n h = by (begins n h)
   where
     begins : (n : ℕ) → 0 < n → (rest : List Path) × (paths_to x around n ≡ path_in around 0 ∷ rest)
@@ -167,8 +167,8 @@ module _ (scene : Scene) (around : Around) (plan : PlainPlan) (count block flag 
 
   -- In a step.
   module _ (registers : List ℕ) (memories : List (List ℕ)) (variables : Variables) (st : StandFor plan.registers (slots_in scene) rounds registers variables) where
-    abbrev x : Step
-    x = step_of plan block registers memories
+    abbrev x : BlockStep
+    x = step_of_block plan block registers memories
 
     abbrev first_effect : Effect
     first_effect = effect_begun variables
@@ -182,7 +182,7 @@ module _ (scene : Scene) (around : Around) (plan : PlainPlan) (count block flag 
     start : IsStartOf scene x
     start = record { table = holds.table; ways = holds.views }
 
-    abbrev reads : Reads
+    abbrev reads : StepReads
     reads = chosen_reads x find old.accesses
 
     own : AreFoundAt find first (term_found scene around x V first t)
@@ -206,13 +206,13 @@ module _ (scene : Scene) (around : Around) (plan : PlainPlan) (count block flag 
     within_all : AreWithin find old.accesses
     within_all number f is = (bare number f is).0
 
-    fits : Fits x new.draft
+    fits : FitsStep x new.draft
     fits = fits_here plan count block old new more made.put registers memories
 
     begun : IsBegun x old.draft
     begun = begun_here plan count block old new more made.put registers memories
 
-    stands_first : Stands scene around x reads old first_effect
+    stands_first : StandsBeside scene around x reads old first_effect
     stands_first = stands_here scene around plan count block rounds old new more made.put holds top registers memories variables st find bare
 
     stage : Stage scene x find old.accesses variables none_touched within_all start around (λ entity. ⊥)
@@ -235,14 +235,14 @@ module _ (scene : Scene) (around : Around) (plan : PlainPlan) (count block flag 
         (λ y e. lanes_run y around (test_run scene y first t) (paths_counted around) e) old new
     done = made.tested.does.so made.low
 
-    stands_last : Stands scene around x reads new last_effect
+    stands_last : StandsBeside scene around x reads new last_effect
     stands_last = done.so x reads first_effect fits begun along stands_first
 
     pub laid_behind_test : AreLaid plan.faults new.accesses × AreNone new.accesses.counts.items
     laid_behind_test = (laid_last x reads new.accesses variables (stands_last.knows variables), (stands_last.knows variables).none)
 
     -- the value of the test at the first path
-    test_shown : shown x (slice_index values 0) ≡ value_at scene around x variables 0 first t
+    test_shown : word_shown x (slice_index values 0) ≡ value_at scene around x variables 0 first t
     test_shown =
         made.tested.are made.low x reads first_effect fits begun along stands_first 0 (slice_index values 0) paths (always_on x rounds around top 0)
         (get_index values (subst (λ (n : ℕ). 0 < n) (sym made.tested.long) paths))
@@ -301,7 +301,7 @@ module _ (scene : Scene) (around : Around) (plan : PlainPlan) (count block flag 
         ∙ (append-nil (block_events x.start x.first x.words front)
         ∙ ap (λ k. block_events x.start x.first x.words (drop k new.draft.operations.items)) (sym made.put.first))))
 
-    told_alike : told_block plan.faults (events_of_block plan x.start block) ≡ told last_effect.events
+    told_alike : told_block plan.faults (events_of_block plan x.start block) ≡ tales_told last_effect.events
     told_alike = ap (λ es. told_block plan.faults es) events_are ∙ stands_last.tells
 
     sets_are : sets_of_block plan x.start block ≡ record { register = flag; bits = flag_bits } ∷ []

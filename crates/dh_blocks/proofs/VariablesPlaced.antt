@@ -16,7 +16,7 @@ use Rattle.dh_expressions.specs.declared.scenes.Scene.{Scene}
 use Rattle.dh_expressions.specs.Evaluated.{counter_of}
 use Rattle.dh_expressions.specs.Levels.{rank_number}
 use Rattle.dh_commands.specs.LanesRun.{path_in, paths_counted}
-use Rattle.dh_commands.specs.ShownVariables.{ArePlaced, IsSeen, depth_in, factors_of, register_in, seen_path}
+use Rattle.dh_commands.specs.ShownVariables.{ArePlaced, IsSeen, depth_in, level_factors, register_in, seen_path}
 use Rattle.dh_blocks.specs.SlotsOfScene.{is_path, placing_in, slots_in}
 use Rattle.dh_blocks.specs.PathsOfLevels.{AreSpread}
 use Rattle.dh_blocks.proofs.PathNumbers.{numbered, path_of_rank, rank_first_copies, rank_small}
@@ -50,7 +50,7 @@ true_path (f ∷ fs) (c ∷ p) h = let b = both (nat_lt c f) (is_path fs p) h in
     both false b e = cc
 
 -- a path inside the first loops leads on to one inside all
-pub leads_on : (levels : List Level) → AreSpread levels → (d : ℕ) (p : Path) → IsPath (take d (factors_of levels)) p → (q : Path) × (IsPath (factors_of levels) q × (take d q ≡ p))
+pub leads_on : (levels : List Level) → AreSpread levels → (d : ℕ) (p : Path) → IsPath (take d (level_factors levels)) p → (q : Path) × (IsPath (level_factors levels) q × (take d q ≡ p))
 leads_on [] s zero [] h = ([], (tt, refl))
 leads_on [] s (suc d) [] h = ([], (tt, refl))
 leads_on [] s zero (c ∷ p) h = absurd h
@@ -60,7 +60,7 @@ leads_on (l ∷ ls) s zero [] h = let (q, (is, e)) = leads_on ls s.1.1 0 [] (non
     some : (f : ℕ) → 1 < f → 0 < f
     some f h = omega (arith, h)
 
-    none : (ls : List Level) → IsPath (take 0 (factors_of ls)) []
+    none : (ls : List Level) → IsPath (take 0 (level_factors ls)) []
     none [] = tt
     none (l ∷ ls) = tt
 leads_on (l ∷ ls) s zero (c ∷ p) h = absurd h
@@ -68,15 +68,15 @@ leads_on (l ∷ ls) s (suc d) [] h = absurd h
 leads_on (l ∷ ls) s (suc d) (c ∷ p) h = let (q, (is, e)) = leads_on ls s.1.1 d p h.1 in (c ∷ q, ((h.0, is), ap (λ (r : Path). c ∷ r) e))
 
 module _ (scene : Scene) (around : Around) (count : ℕ) (placing : IsPlacing (placing_in scene) count) (small : count < 2 ^ 64) (spread : AreSpread around.levels.now)
-    (counted : paths_counted around ≡ copies_in (factors_of around.levels.now)) where
-  inside : (i : ℕ) → i < paths_counted around → i < copies_in (factors_of around.levels.now)
+    (counted : paths_counted around ≡ copies_in (level_factors around.levels.now)) where
+  inside : (i : ℕ) → i < paths_counted around → i < copies_in (level_factors around.levels.now)
   inside i h = subst (λ (n : ℕ). i < n) counted h
 
   -- the copy that is seen at a path
   pub copy_path : (e i : ℕ) → IsSeen scene around.levels.now e → i < paths_counted around → IsPath ((placing_in scene).factors e) (seen_path scene around e i)
   copy_path e i s h =
       subst (λ (fs : List ℕ). IsPath fs (seen_path scene around e i)) (sym s.round)
-      (path_begins (factors_of around.levels.now) (path_in around i) (depth_in scene e) (numbered around.levels.now spread i (inside i h)).path)
+      (path_begins (level_factors around.levels.now) (path_in around i) (depth_in scene e) (numbered around.levels.now spread i (inside i h)).path)
 
   -- and its register
   pub register_slot : (e i : ℕ) → IsSeen scene around.levels.now e → i < paths_counted around → register_in scene around e i ≡ slot_of (placing_in scene) e (seen_path scene around e i)
@@ -110,9 +110,9 @@ module _ (scene : Scene) (around : Around) (count : ℕ) (placing : IsPlacing (p
   pub seen_at : (e : ℕ) (p : Path) → IsSeen scene around.levels.now e → IsPath ((placing_in scene).factors e) p → (i : ℕ) × ((i < paths_counted around) × (seen_path scene around e i ≡ p))
   seen_at e p s h =
       let (q, (is, begins)) = leads_on around.levels.now spread (depth_in scene e) p (subst (λ (fs : List ℕ). IsPath fs p) s.round h) in (
-        rank_of (factors_of around.levels.now) q,
+        rank_of (level_factors around.levels.now) q,
         (
-          subst (λ (n : ℕ). rank_of (factors_of around.levels.now) q < n) (sym counted) (rank_small (factors_of around.levels.now) q is),
+          subst (λ (n : ℕ). rank_of (level_factors around.levels.now) q < n) (sym counted) (rank_small (level_factors around.levels.now) q is),
           ap (λ (r : Path). take (depth_in scene e) r) (path_of_rank around.levels.now spread q is) ∙ begins,
         ),
       )

@@ -13,10 +13,10 @@ use Rattle.dh_expressions.specs.declared.accesses.Accesses.{Accesses}
 use Rattle.dh_expressions.specs.declared.scenes.Around.{Around}
 use Rattle.dh_expressions.specs.declared.scenes.Scene.{Scene}
 use Rattle.dh_expressions.specs.Copying.{HasScopes}
-use Rattle.dh_expressions.specs.Drafted.{Step}
+use Rattle.dh_expressions.specs.Drafted.{BlockStep}
 use Rattle.dh_expressions.specs.Evaluated.{known_in}
 use Rattle.dh_commands.specs.LanesRun.{IsArm, paths_counted, paths_on}
-use Rattle.dh_commands.specs.ShownVariables.{IsSeen, factors_of, register_in, seen_path}
+use Rattle.dh_commands.specs.ShownVariables.{IsSeen, level_factors, register_in, seen_path}
 use Rattle.dh_commands.specs.Followed.{Arms, no_arms, arms_of, arms_then, assign_run, effect_of, kept_run, part_effect, reduced_term, store_run, term_in, test_out, test_run, tested}
 use Rattle.dh_blocks.specs.FoundAccesses.{Found, term_found, terms_found, variables_along}
 use Rattle.dh_blocks.specs.ChosenReads.{done_of, word_found}
@@ -27,7 +27,7 @@ pub record IsGround (scene : Scene) (around : Around) : Type 0 where
   pub scopes : HasScopes scene
   pub low : length around.levels.now < 2 ^ 63
   pub spread : AreSpread around.levels.now
-  pub counted : paths_counted around ≡ copies_in (factors_of around.levels.now)
+  pub counted : paths_counted around ≡ copies_in (level_factors around.levels.now)
   pub one : (e i j : ℕ) → IsSeen scene around.levels.now e → i < paths_counted around → j < paths_counted around
       → seen_path scene around e i ≡ seen_path scene around e j → register_in scene around e i ≡ register_in scene around e j
 
@@ -45,7 +45,7 @@ AreFoundAt find n fs = AllFound (IsFoundAt find) n fs
 abbrev pub AreWithin : (find : ℕ → Option Found) → Accesses → Type 0
 AreWithin find a = (number : ℕ) (f : Found) → find number ≡ Some f → number < length a.touched.items
 
-module _ (scene : Scene) (x : Step) (find : ℕ → Option Found) where
+module _ (scene : Scene) (x : BlockStep) (find : ℕ → Option Found) where
   -- where a read that shares an earlier one is done that one is, and means the same
   abbrev pub IsShared : (number : ℕ) → Found → Type 0
   IsShared number f =

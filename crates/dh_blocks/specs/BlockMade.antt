@@ -21,13 +21,13 @@ use Rattle.dh_sound.specs.Blocks.{factors}
 use Rattle.dh_expressions.specs.declared.scenes.Around.{Around}
 use Rattle.dh_expressions.specs.declared.scenes.Scene.{Scene}
 use Rattle.dh_expressions.specs.Copying.{AreNone}
-use Rattle.dh_expressions.specs.Drafted.{Step}
+use Rattle.dh_expressions.specs.Drafted.{BlockStep}
 use Rattle.dh_expressions.specs.Evaluated.{known_in}
 use Rattle.dh_expressions.specs.Shown.{guard_of}
 use Rattle.dh_commands.specs.declared.assignments.Change.{Change}
 use Rattle.dh_commands.specs.declared.buildings.Building.{Building}
 use Rattle.dh_commands.specs.LanesRun.{paths_counted, paths_on}
-use Rattle.dh_commands.specs.ShownVariables.{IsSeen, factors_of}
+use Rattle.dh_commands.specs.ShownVariables.{IsSeen, level_factors}
 use Rattle.dh_commands.specs.Followed.{Arms, effect_of}
 use Rattle.dh_commands.specs.Undone.{NoneGiven, given_at}
 use Rattle.dh_commands.specs.Done.{DoesCommand}
@@ -66,8 +66,8 @@ SetsNone o = (first : ℕ) (ws : List Word) → form_sets first ws o.form ≡ []
 -- The paths of a block: those inside the loops round it, without guards.
 pub record IsTop (rounds : List Round) (around : Around) : Type 0 where
   pub spread : AreSpread around.levels.now
-  pub factors_are : factors_of around.levels.now ≡ factors (map (λ (r : Round). r.loop) rounds)
-  pub counted : paths_counted around ≡ copies_in (factors_of around.levels.now)
+  pub factors_are : level_factors around.levels.now ≡ factors (map (λ (r : Round). r.loop) rounds)
+  pub counted : paths_counted around ≡ copies_in (level_factors around.levels.now)
   pub free : (number : ℕ) → guard_of around.guards.now number ≡ None
   pub low : length around.levels.now < 2 ^ 63
 
@@ -86,7 +86,7 @@ pub record IsPut (plan : PlainPlan) (count block : ℕ) (old new : Building) (mo
 
 -- it was put down by these commands, whose accesses have no operations as it begins, and then each register is set that
 -- was given a value
-pub record IsMade (scene : Scene) (around : Around) (plan : PlainPlan) (count block : ℕ) (cs : List Located) (old new : Building) : Type 0 where
+pub record IsBlockMade (scene : Scene) (around : Around) (plan : PlainPlan) (count block : ℕ) (cs : List Located) (old new : Building) : Type 0 where
   pub put : IsPut plan count block old new (sets_made new.values.log.items new.values.current.items)
   pub each : DoEach scene around cs old new
   pub rising : AreRising 0 cs
@@ -103,8 +103,8 @@ pub record AreSoundHere (scene : Scene) (around : Around) (plan : PlainPlan) (ro
   pub then_folds : AreSoundBy (λ entity. true) scene around plan rounds folds
 
 -- The step in which a block of a plan is done.
-abbrev pub step_of : PlainPlan → (block : ℕ) → (registers : List ℕ) → (memories : List (List ℕ)) → Step
-step_of plan block registers memories = record {
+abbrev pub step_of_block : PlainPlan → (block : ℕ) → (registers : List ℕ) → (memories : List (List ℕ)) → BlockStep
+step_of_block plan block registers memories = record {
   start = start_at plan registers memories;
   first = first_in plan block;
   named = plan.faults;
@@ -118,10 +118,10 @@ effect_begun variables = record { variables = variables; events = [] }
 abbrev pub found_in : (scene : Scene) (around : Around) (plan : PlainPlan) (block : ℕ) (cs : List Located) (old new : Building) → DoEach scene around cs old new
     → (registers : List ℕ) → (memories : List (List ℕ)) → Variables → (number : ℕ) → Option Found
 found_in scene around plan block cs old new h registers memories variables =
-    block_found scene (step_of plan block registers memories) around (arms_each scene around cs old new h) cs (effect_begun variables)
+    block_found scene (step_of_block plan block registers memories) around (arms_each scene around cs old new h) cs (effect_begun variables)
 
 -- The shared reads of each command mean the same, along their run.
-abbrev pub EachShares : (scene : Scene) (around : Around) (x : Step) (find : ℕ → Option Found) (cs : List Located) (old new : Building) → DoEach scene around cs old new → Effect → Type 0
+abbrev pub EachShares : (scene : Scene) (around : Around) (x : BlockStep) (find : ℕ → Option Found) (cs : List Located) (old new : Building) → DoEach scene around cs old new → Effect → Type 0
 EachShares scene around x find [] old new h e = Unit {0}
 EachShares scene around x find (c ∷ cs) old new (mid, (next, (d, rest))) e =
     SharesIn scene x find around d.arms c.first c.command e
@@ -131,4 +131,4 @@ EachShares scene around x find (c ∷ cs) old new (mid, (next, (d, rest))) e =
 abbrev pub SharesStand : (scene : Scene) (around : Around) (plan : PlainPlan) (rounds : List Round) (block : ℕ) (cs : List Located) (old new : Building) → DoEach scene around cs old new → Type 0
 SharesStand scene around plan rounds block cs old new h =
     (registers : List ℕ) (memories : List (List ℕ)) (variables : Variables) → StandFor plan.registers (slots_in scene) rounds registers variables
-    → EachShares scene around (step_of plan block registers memories) (found_in scene around plan block cs old new h registers memories variables) cs old new h (effect_begun variables)
+    → EachShares scene around (step_of_block plan block registers memories) (found_in scene around plan block cs old new h registers memories variables) cs old new h (effect_begun variables)

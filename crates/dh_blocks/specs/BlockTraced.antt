@@ -15,8 +15,8 @@ use Rattle.dh_expressions.specs.declared.scenes.Scene.{Scene}
 use Rattle.dh_expressions.specs.Named.{known_in}
 
 -- the scene tells which read shares which
-abbrev pub TellsShares : Scene → Type 0
-TellsShares scene = (k j : ℕ) → slice_get scene.shares.now k ≡ Some (Some j) → shared (program_seen scene.program.now) k ≡ Some j
+abbrev pub SceneTellsShares : Scene → Type 0
+SceneTellsShares scene = (k j : ℕ) → slice_get scene.shares.now k ≡ Some (Some j) → shared (program_seen scene.program.now) k ≡ Some j
 
 -- and the ways of its program
 abbrev pub TellsWays : Scene → Type 0
@@ -29,5 +29,5 @@ pub record IsTraced (scene : Scene) (done folds : List Located) : Type 0 where
   pub joins : AllByRecursion (λ (c : Located). FoldsInJoins c.command) done
   -- reads of one phase are reads of this block
   pub one_phase : (j k : ℕ) → in_one_phase (program_seen scene.program.now) j k ≡ true → any_makes k done ≡ true → any_makes j done ≡ true
-  pub shares : TellsShares scene
+  pub shares : SceneTellsShares scene
   pub ways : TellsWays scene

@@ -18,19 +18,19 @@ use Rattle.dh_meaning.specs.Ways.{Hidden, hidden_in}
 use Rattle.dh_plan.specs.Blocks.{no_word}
 use Rattle.dh_expressions.specs.declared.scenes.Around.{Around}
 use Rattle.dh_expressions.specs.declared.scenes.Scene.{Scene}
-use Rattle.dh_expressions.specs.Drafted.{Step}
+use Rattle.dh_expressions.specs.Drafted.{BlockStep}
 use Rattle.dh_expressions.specs.Evaluated.{begun_of, known_in}
-use Rattle.dh_expressions.specs.Standings.{Standing, standing_at}
+use Rattle.dh_expressions.specs.Standings.{AccessStanding, standing_at}
 use Rattle.dh_commands.specs.LanesRun.{lanes_run, path_in, paths_on}
 use Rattle.dh_commands.specs.Followed.{Arms, no_arms, arms_of, arms_then, assign_run, effect_of, kept_run, part_effect, reduced_term, store_run, term_in, test_run, tested}
 
 -- where an access stands, and of a read what it means at each path
 pub record Found : Type 0 where
-  pub standing : Standing
+  pub standing : AccessStanding
   pub word : (path : ℕ) → Word
 
 -- In an expression that is evaluated at each path by these variables.
-module _ (scene : Scene) (around : Around) (x : Step) (variables : ℕ → Variables) where
+module _ (scene : Scene) (around : Around) (x : BlockStep) (variables : ℕ → Variables) where
   abbrev pub read_found : (n : ℕ) → Place → Kind → (memory : ℕ) → plain.TermForm → Found
   read_found n place k memory form = record {
     standing = standing_at scene around memory place form false;
@@ -82,7 +82,7 @@ found_or None g = g
 found_or (Some f) g = Some f
 
 -- In commands, along their run from an effect.
-module _ (scene : Scene) (x : Step) where
+module _ (scene : Scene) (x : BlockStep) where
   -- the variables at each path, behind what is done at the paths before it
   abbrev pub variables_along : Around → (run : Path → Effect → Effect) → Effect → (path : ℕ) → Variables
   variables_along around run e path = (lanes_run x around run path e).variables

@@ -18,31 +18,31 @@ use Rattle.dh_plan.specs.Correspondence.{Round}
 use Rattle.dh_code.specs.Slots.{held_at}
 use Rattle.dh_expressions.specs.declared.paths.Level.{Level}
 use Rattle.dh_expressions.specs.declared.scenes.Scene.{Scene}
-use Rattle.dh_expressions.specs.Drafted.{Step}
+use Rattle.dh_expressions.specs.Drafted.{BlockStep}
 use Rattle.dh_expressions.specs.Evaluated.{IsTurning, counter_of, known_in}
 use Rattle.dh_expressions.specs.Levels.{last_number, path_at}
 use Rattle.dh_sound.specs.Blocks.{factors}
 use Rattle.dh_sound.specs.IteratorsAt.{IteratorAt}
-use Rattle.dh_sound.specs.SameKeys.{IsIteratorOf, IsNoIterator}
-use Rattle.dh_commands.specs.ShownVariables.{IsSeen, depth_in, factors_of}
+use Rattle.dh_sound.specs.SameKeys.{IsIteratorName, IsNoIterator}
+use Rattle.dh_commands.specs.ShownVariables.{IsSeen, depth_in, level_factors}
 
 -- what the builder shows of an iterator at a path, as a whole number
-abbrev pub turn_shown : Scene → List Level → Step → Counter → (entity number : ℕ) → ℕ
+abbrev pub turn_shown : Scene → List Level → BlockStep → Counter → (entity number : ℕ) → ℕ
 turn_shown scene levels x c entity number =
     c.low + slice_index x.start.registers (held_at scene.held.now entity).first * c.factor
     + (if nat_le c.factor 1 then 0 else last_number levels (held_at scene.held.now entity).depth number)
 
 -- the iterator of a loop in a turn, at the paths inside loops of these levels
-pub record IsTurned (scene : Scene) (levels : List Level) (x : Step) (v0 : Variables) (touched : ℕ → Bool) (r : Ref) (k : Kind) : Type 0 where
+pub record IsTurned (scene : Scene) (levels : List Level) (x : BlockStep) (v0 : Variables) (touched : ℕ → Bool) (r : Ref) (k : Kind) : Type 0 where
   pub loop : Turning
   pub turn : ℕ
   pub counter : Counter
-  pub is : IsIteratorOf (known_in scene) r loop
+  pub is : IsIteratorName (known_in scene) r loop
   pub counted : counter_of scene (entity_number r.entity) ≡ Some counter
   pub left : touched loop.iterator ≡ false
   pub turning : IsTurning x counter (held_at scene.held.now (entity_number r.entity)) k
-  pub at : (number : ℕ) → number < copies_in (factors_of levels) → IteratorAt loop turn v0 (path_at levels number)
-  pub shown : (number : ℕ) → number < copies_in (factors_of levels) → turn_shown scene levels x counter (entity_number r.entity) number ≡ iterator_value loop turn (path_at levels number)
+  pub at : (number : ℕ) → number < copies_in (level_factors levels) → IteratorAt loop turn v0 (path_at levels number)
+  pub shown : (number : ℕ) → number < copies_in (level_factors levels) → turn_shown scene levels x counter (entity_number r.entity) number ≡ iterator_value loop turn (path_at levels number)
 
 -- a variable, which the block does not touch or which is another at each path
 pub record IsPlain (scene : Scene) (levels : List Level) (touched : ℕ → Bool) (r : Ref) (k : Kind) : Type 0 where
@@ -52,7 +52,7 @@ pub record IsPlain (scene : Scene) (levels : List Level) (touched : ℕ → Bool
   pub binding : IsNoIterator (binding_in (known_in scene).bindings (entity_number r.entity))
   pub free : (touched (entity_number r.entity) ≡ false) ⊎ (length levels ≤ depth_in scene (entity_number r.entity))
 
-abbrev pub IsNamed : Scene → List Level → Step → (v0 : Variables) → (touched : ℕ → Bool) → Ref → Kind → Type 0
+abbrev pub IsNamed : Scene → List Level → BlockStep → (v0 : Variables) → (touched : ℕ → Bool) → Ref → Kind → Type 0
 IsNamed scene levels x v0 touched r k = IsPlain scene levels touched r k ⊎ IsTurned scene levels x v0 touched r k
 
 -- The same without the step: a variable that is seen, or the iterator of one of the loops round the block, whose counter
@@ -61,7 +61,7 @@ pub record IsOfRound (scene : Scene) (kinds : List Kind) (rounds : List Round) (
   pub index : ℕ
   pub round : Round
   pub there : slice_get rounds index ≡ Some round
-  pub is : IsIteratorOf (known_in scene) r round.loop
+  pub is : IsIteratorName (known_in scene) r round.loop
   pub counter : Counter
   pub counted : counter_of scene (entity_number r.entity) ≡ Some counter
   pub left : touched round.loop.iterator ≡ false

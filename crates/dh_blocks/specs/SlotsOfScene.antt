@@ -15,7 +15,7 @@ use Rattle.dh_code.specs.Declarations.{placing_of}
 use Rattle.dh_code.specs.Slots.{IsPlacing, Placing, held_at, slot_of}
 use Rattle.dh_expressions.specs.declared.scenes.Scene.{Scene}
 use Rattle.dh_expressions.specs.Copying.{HasScopes}
-use Rattle.dh_expressions.specs.Drafted.{Step}
+use Rattle.dh_expressions.specs.Drafted.{BlockStep}
 use Rattle.dh_expressions.specs.Evaluated.{AreViews, counter_of, known_in}
 use Rattle.dh_expressions.specs.Named.{first_view}
 
@@ -40,7 +40,7 @@ abbrev pub HasViews : Scene → List ViewMap → Type 0
 HasViews scene views = (r : Ref) (w : Way) → way_of (known_in scene) r ≡ Some w → AreViews scene.through.now views (first_view scene r) w.steps
 
 -- a step begins with the memories and the views of the program
-pub record IsStartOf (scene : Scene) (x : Step) : Type 0 where
+pub record IsStartOf (scene : Scene) (x : BlockStep) : Type 0 where
   pub table : x.start.table ≡ table_of (program_seen scene.program.now)
   pub ways : HasViews scene x.start.views
 

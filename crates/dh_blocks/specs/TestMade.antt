@@ -7,7 +7,7 @@ use Rattle.dh_tree.specs.Seen.{program_seen}
 use Rattle.dh_meaning.specs.AccessNumbers.{term_accesses}
 use Rattle.dh_meaning.specs.OnePhase.{in_one_phase, test_makes}
 use Rattle.dh_meaning.specs.Phases.{Located}
-use Rattle.dh_meaning.specs.CoreOf.{core_term, form_of, test_of}
+use Rattle.dh_meaning.specs.CoreOf.{core_term, action_form_of, test_of}
 use Rattle.dh_meaning.specs.Effects.{Variables, tests}
 use Rattle.dh_meets.specs.SourceEvents.{trace}
 use Rattle.dh_plan.specs.declared.operations.Operation.{Operation}
@@ -25,7 +25,7 @@ use Rattle.dh_expressions.specs.Noted.{touched_in}
 use Rattle.dh_expressions.specs.Shown.{is_read_term, kind_written}
 use Rattle.dh_commands.specs.declared.buildings.Building.{Building}
 use Rattle.dh_blocks.specs.BlockMade.{IsPut, IsTop}
-use Rattle.dh_blocks.specs.BlockTraced.{TellsShares}
+use Rattle.dh_blocks.specs.BlockTraced.{SceneTellsShares}
 use Rattle.dh_laid.specs.LaidAccesses.{AreLaid}
 use Rattle.dh_blocks.specs.NamedVariables.{IsNamedHere}
 use Rattle.dh_commands.specs.Setting.{TestsAll}
@@ -57,10 +57,10 @@ pub record IsSoundTest (scene : Scene) (around : Around) (plan : PlainPlan) (rou
 pub record IsTestTraced (scene : Scene) (first : ℕ) (t : Term) : Type 0 where
   pub tested : Located
   pub first_is : tested.first ≡ first
-  pub test_is : test_of (form_of tested.command) ≡ Some t
+  pub test_is : test_of (action_form_of tested.command) ≡ Some t
   pub follows : Follows tested.around [] (trace (program_seen scene.program.now)) (tested ∷ [])
   pub one_phase : (j k : ℕ) → in_one_phase (program_seen scene.program.now) j k ≡ true → test_makes k tested ≡ true → test_makes j tested ≡ true
-  pub shares : TellsShares scene
+  pub shares : SceneTellsShares scene
 
 -- such a block does its test, and sets its flag; and the accesses behind it are laid as a later block asks
 pub record DoesTest (scene : Scene) (plan : PlainPlan) (rounds : List Round) (block flag first : ℕ) (t : Term) (new : Building) : Type 0 where

@@ -22,7 +22,7 @@ use Rattle.dh_datapath.specs.BlockWires.{part_in, layout_of, ShowsPlan}
 use Rattle.dh_datapath.proofs.PartsByBlock.{operations_inside, no_operations}
 use Rattle.dh_control.specs.declared.driving.Times.{Times}
 use Rattle.dh_control.specs.declared.gathering.Keyed.{Keyed}
-use Rattle.dh_control.specs.KeyedItems.{picked}
+use Rattle.dh_control.specs.KeyedItems.{items_picked}
 use Rattle.dh_control.specs.PlanUsers.{users_of}
 use Rattle.dh_control.specs.ThreadHolds.{ControlWires}
 use Rattle.dh_control.specs.WiredNets.{MomentShown}
@@ -81,7 +81,7 @@ module _ (d : PlainCircuit) (plan : PlainPlan) (u : Uses) (t : Timing) (w : Plan
     drives_wired old e before entries lists none driven listed ds p list_at port_at =
         let all : entries ≡ driven.added = driven.behind ∙ ap (λ (l : List (Keyed Driver)). l ++ driven.added) none in
         let within = slice_get_within (ports_of plan.table) q p port_at in
-        let is : ds ≡ picked q driven.added =
-        (let both : Some ds ≡ Some (picked q driven.added) = sym list_at ∙ (listed.each q within ∙ ap (λ (l : List (Keyed Driver)). Some (picked q l)) all) in cc) in
+        let is : ds ≡ items_picked q driven.added =
+        (let both : Some ds ≡ Some (items_picked q driven.added) = sym list_at ∙ (listed.each q within ∙ ap (λ (l : List (Keyed Driver)). Some (items_picked q l)) all) in cc) in
         subst (λ (l : List Driver). DriveFor plan t (λ block. block_shown plan (layout_of plan w) block x.wires) m p x.wires l (users_of plan u q)) (sym is)
         (port_driven d plan u t w times formed addressed ports shows x settled m q p port_at driven.added driven.drive times_shown)

@@ -8,7 +8,7 @@ use Rattle.dh_tree.specs.Tables.{elements_in, most_elements}
 use Rattle.dh_tree.specs.declared.tables.MemEntry.{MemEntry}
 use Rattle.dh_value.specs.declared.kinds.Kind.{Kind}
 use Rattle.dh_extents.specs.Extents.{IsSmallMemory}
-use Rattle.dh_plan.specs.Ways.{Way, resolve}
+use Rattle.dh_plan.specs.Ways.{GraphWay, resolve}
 use Rattle.dh_net.specs.declared.nets.Net.{Net}
 use Rattle.dh_net.specs.declared.nets.Register.{Register}
 use Rattle.dh_net.specs.declared.nets.Driver.{Driver}
@@ -35,7 +35,7 @@ small_ones (e ∷ es) h few = (record { memory = h.0; few = omega (arith, few) }
 pub small_memories : (table now : List MemEntry) → now ≡ table → IsProgramTable table → AllByRecursion IsSmallMemory now
 small_memories table now is h = subst (λ (l : List MemEntry). AllByRecursion IsSmallMemory l) (sym is) (small_ones table h.entries h.elements)
 
-pub initials_long : (ks : List Kind) (way : Way) (n a b : ℕ) (further widths initials : List ℕ) → initials ≡ 0 ∷ 0 ∷ 0 ∷ n ∷ (resolve ks way (replicate (length ks) 0)).registers → widths ≡ a ∷ 1 ∷ 32 ∷ b ∷ further
+pub initials_long : (ks : List Kind) (way : GraphWay) (n a b : ℕ) (further widths initials : List ℕ) → initials ≡ 0 ∷ 0 ∷ 0 ∷ n ∷ (resolve ks way (replicate (length ks) 0)).registers → widths ≡ a ∷ 1 ∷ 32 ∷ b ∷ further
     → length further ≡ length ks → length initials ≡ length widths
 initials_long ks way n a b further widths initials e f same =
     ap (λ (l : List ℕ). length l) e

@@ -43,9 +43,9 @@ use Rattle.dh_datapath.specs.ShownNumbers.{IsShownNumber, kind_at_number, wire_a
 use Rattle.dh_datapath.proofs.PlanWiresKept.{plan_later, taken_are_shown}
 use Rattle.dh_control.specs.declared.driving.Times.{Times}
 use Rattle.dh_control.specs.declared.gathering.Keyed.{Keyed}
-use Rattle.dh_control.specs.KeyedItems.{picked}
+use Rattle.dh_control.specs.KeyedItems.{items_picked}
 use Rattle.dh_control.specs.PlanUsers.{blocks_users, users_of}
-use Rattle.dh_control.specs.WayMoves.{number_of, way_of_decision}
+use Rattle.dh_control.specs.WayMoves.{spot_number, way_of_decision}
 use Rattle.dh_control.specs.WiredNets.{IsStraight}
 use Rattle.dh_control.proofs.ListFacts.{all_back, at_index}
 use Rattle.dh_build.specs.declared.building.Parts.{Parts}
@@ -106,7 +106,7 @@ module _ (plan : PlainPlan) (u : Uses) (states : List State) (first : Decision) 
   first_fit : (j : ℕ) → slice_index (resolve plan.registers (way_of_decision first) (first_registers plan)).registers j < 2 ^ width_of (kind_at plan.registers j)
   first_fit j = (way_fits plan.registers (way_of_decision first) (first_registers plan) (first_stands plan).0).small j
 
-  state_fits : number_of (length states) (resolve plan.registers (way_of_decision first) (first_registers plan)).spot < 2 ^ s.state_width
+  state_fits : spot_number (length states) (resolve plan.registers (way_of_decision first) (first_registers plan)).spot < 2 ^ s.state_width
   state_fits =
       let most = way_within (length states) plan.registers (way_of_decision first) (first_registers plan) straight in
       let few = sizes.states_fit.1 in
@@ -172,9 +172,9 @@ module _ (plan : PlainPlan) (u : Uses) (states : List State) (first : Decision) 
   of_port : (q : ℕ) (ds : List Driver) → q < length (ports_of plan.table) → slice_get net.drivers q ≡ Some ds → (k : ℕ) (e : Driver) → slice_get ds k ≡ Some e
       → IsOfUser built.d plan w.kinds w.values times (users_of plan u q) e
   of_port q ds less at k e there =
-      let is : ds ≡ picked q built.parts.drivers_added.driven.added =
-      (let both : Some ds ≡ Some (picked q built.parts.drivers_added.driven.added) = sym at ∙ (built.drivers.each q less ∙ ap (λ (l : List (Keyed Driver)). Some (picked q l)) all_drivers) in cc) in
-      of_user built.d plan w.kinds w.values times (users_of plan u q) (picked q built.parts.drivers_added.driven.added)
+      let is : ds ≡ items_picked q built.parts.drivers_added.driven.added =
+      (let both : Some ds ≡ Some (items_picked q built.parts.drivers_added.driven.added) = sym at ∙ (built.drivers.each q less ∙ ap (λ (l : List (Keyed Driver)). Some (items_picked q l)) all_drivers) in cc) in
+      of_user built.d plan w.kinds w.values times (users_of plan u q) (items_picked q built.parts.drivers_added.driven.added)
       (picked_both built.d plan w.kinds w.values times q (blocks_users plan u 0 plan.blocks) built.parts.drivers_added.driven.added built.parts.drivers_added.driven.drive) k e
       (subst (λ (l : List Driver). slice_get l k ≡ Some e) is there)
 

@@ -8,7 +8,7 @@ use Rattle.dh_plan.specs.declared.graphs.Group.{Group}
 use Rattle.dh_plan.specs.declared.graphs.State.{State}
 use Rattle.dh_plan.specs.PlainPlans.{PlainPlan}
 use Rattle.dh_plan.specs.SeenGraphs.{IsGraphOf, IsWay, WayWithin, OfFirst, homes_of, parents_of, FitsThread}
-use Rattle.dh_plan.specs.Ways.{Stop}
+use Rattle.dh_plan.specs.Ways.{GraphStop}
 use Rattle.dh_control.specs.WiredNets.{IsStraight}
 use Rattle.dh_control.proofs.StraightWays.{way_is, way_straight, flow_ways, flow_blocks}
 use Rattle.dh_build.specs.GraphFlows.{IsGraphOfThread}
@@ -32,21 +32,21 @@ module _ (plan : PlainPlan) (g : Graph) (group : Group) (h : IsGraphOf plan g) (
   first_straight =
       way_straight g.groups.items (homes_of g) (parents_of g) 0 (length h.flow.states) (length plan.registers) group.first h.flow.first parents_are first_way h.groups.first h.within.first
 
-  state_of : (i : ℕ) (s : Stop) → slice_get h.flow.states i ≡ Some s → (st : State) × (slice_get g.states.items i ≡ Some st)
+  state_of : (i : ℕ) (s : GraphStop) → slice_get h.flow.states i ≡ Some s → (st : State) × (slice_get g.states.items i ≡ Some st)
   state_of i s at =
       elim (slice_get_cases g.states.items i).1 [
         | inl found ↦ (found.0, found.2)
         | inr past ↦ absurd (let beyond = past.0 in let inside = slice_get_within h.flow.states i s at in let same = h.shows.states in omega (arith, beyond, inside, same))
       ]
 
-  stop_of : (i : ℕ) (st : State) → slice_get g.states.items i ≡ Some st → (s : Stop) × (slice_get h.flow.states i ≡ Some s)
+  stop_of : (i : ℕ) (st : State) → slice_get g.states.items i ≡ Some st → (s : GraphStop) × (slice_get h.flow.states i ≡ Some s)
   stop_of i st at =
       elim (slice_get_cases h.flow.states i).1 [
         | inl found ↦ (found.0, found.2)
         | inr past ↦ absurd (let beyond = past.0 in let inside = slice_get_within g.states.items i st at in let same = h.shows.states in omega (arith, beyond, inside, same))
       ]
 
-  straight : (i : ℕ) (s : Stop) → slice_get h.flow.states i ≡ Some s → IsStraight (length h.flow.states) s.way × WayWithin (length h.flow.states) (length plan.registers) s.way
+  straight : (i : ℕ) (s : GraphStop) → slice_get h.flow.states i ≡ Some s → IsStraight (length h.flow.states) s.way × WayWithin (length h.flow.states) (length plan.registers) s.way
   straight i s at =
       let st = state_of i s at in
       let home : slice_get (homes_of g) i ≡ Some st.0.group = slice_get-map (λ (y : State). y.group) g.states.items i ∙ ap (λ (o : Option State). option_map (λ (y : State). y.group) o) st.1 in

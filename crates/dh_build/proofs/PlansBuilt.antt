@@ -10,7 +10,7 @@ use Rattle.dh_plan.specs.BoundPorts.{Uses}
 use Rattle.dh_plan.specs.LegalSchedules.{Timing, IsLegal}
 use Rattle.dh_plan.specs.PlainPlans.{PlainPlan}
 use Rattle.dh_plan.specs.PlayedPlans.{plan_run, PlaysPlan}
-use Rattle.dh_plan.specs.Ways.{Way}
+use Rattle.dh_plan.specs.Ways.{GraphWay}
 use Rattle.dh_cells.specs.NarrowShifts.{HasNarrowShifts}
 use Rattle.dh_lower.proofs.NetSimulates.{net_plays}
 use Rattle.dh_control.specs.ThreadHolds.{holds_thread}
@@ -45,7 +45,7 @@ module _ (plan : PlainPlan) (g : Graph) (t : Timing) (u : Uses) (group : Group) 
   straight : IsStraight (length g.states.items) (way_of_decision group.first)
   straight =
       let thread = one_group plan g group can.may.graph one in
-      subst (λ (w : Way). IsStraight (length g.states.items) w) (sym thread.first_is)
+      subst (λ (w : GraphWay). IsStraight (length g.states.items) w) (sym thread.first_is)
       (subst (λ (n : ℕ). IsStraight n can.may.graph.flow.first) (sym thread.count) thread.one_thread.first)
 
   module _ (s : Sizes) (sizes : AreSizesOf plan (length g.states.items) t s) (net : Net) (built : IsBuilt plan u g.states.items group.first s net) where

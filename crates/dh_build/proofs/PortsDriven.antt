@@ -14,7 +14,7 @@ use Rattle.dh_plan.specs.declared.operations.Operation.{Operation}
 use Rattle.dh_plan.specs.declared.operations.OperationForm.{OperationForm}
 use Rattle.dh_plan.specs.declared.operations.OperationForm.TheVariants.{Constant, Old, Compute, Convert, Select, Check, Probe, Read, Write, Set}
 use Rattle.dh_plan.specs.declared.operations.Reach.{Reach}
-use Rattle.dh_plan.specs.Blocks.{first_bank}
+use Rattle.dh_plan.specs.Blocks.{first_listed_bank}
 use Rattle.dh_plan.specs.BoundPorts.{Uses, ArePorts}
 use Rattle.dh_plan.specs.LegalSchedules.{Timing, clocks_in}
 use Rattle.dh_plan.specs.Ordered.{operation_takes}
@@ -34,7 +34,7 @@ use Rattle.dh_datapath.specs.ShownNumbers.{IsShownNumber}
 use Rattle.dh_datapath.proofs.PlanWiresKept.{taken_are_shown}
 use Rattle.dh_control.specs.declared.driving.Times.{Times}
 use Rattle.dh_control.specs.declared.gathering.Keyed.{Keyed}
-use Rattle.dh_control.specs.KeyedItems.{picked}
+use Rattle.dh_control.specs.KeyedItems.{items_picked}
 use Rattle.dh_control.specs.PlanUsers.{blocks_users, users_of}
 use Rattle.dh_control.specs.UseWires.{DrivesUse}
 use Rattle.dh_control.specs.ValuesShown.{IsShownValue, AreShownWords}
@@ -46,7 +46,7 @@ use Rattle.dh_build.specs.MemoryTables.{row_bits_of}
 
 -- Where there is no select, the one bank is the first.
 
-one_listed : (banks : List (ℕ × ℕ)) (bank place : ℕ) → length banks ≡ 1 → IsListed bank place banks → (first_bank banks == bank) ≡ true
+one_listed : (banks : List (ℕ × ℕ)) (bank place : ℕ) → length banks ≡ 1 → IsListed bank place banks → (first_listed_bank banks == bank) ≡ true
 one_listed [] bank place long h = absurd h
 one_listed (b ∷ []) bank place long h = elim h [
   | inl here ↦ (let e = here.0 in grind (arith, e, nat_tests))
@@ -54,7 +54,7 @@ one_listed (b ∷ []) bank place long h = elim h [
 ]
 one_listed (b ∷ c ∷ bs) bank place long h = absurd (omega (arith, long))
 
-row_alone : (plan : PlainPlan) (first : ℕ) (kinds : List Kind) (r : Reach) (row select : Option ℕ) (bank place : ℕ) → (n : ℕ) × (row ≡ Some n) → PicksBank plan first kinds r row select → IsListed bank place r.banks → select ≡ None → (first_bank r.banks == bank) ≡ true
+row_alone : (plan : PlainPlan) (first : ℕ) (kinds : List Kind) (r : Reach) (row select : Option ℕ) (bank place : ℕ) → (n : ℕ) × (row ≡ Some n) → PicksBank plan first kinds r row select → IsListed bank place r.banks → select ≡ None → (first_listed_bank r.banks == bank) ≡ true
 row_alone plan first kinds r None select bank place named h listed none = absurd (let e : None ≡ Some named.0 = named.1 in cc)
 row_alone plan first kinds r (Some row) (Some v) bank place named h listed none = absurd (let e : Some v ≡ None = none in cc)
 row_alone plan first kinds r (Some row) None bank place named h listed none = one_listed r.banks bank place h listed
@@ -85,18 +85,18 @@ module _ (d : PlainCircuit) (plan : PlainPlan) (kinds : List Kind) (wires : List
   DriveEach (v ∷ vs) [] = ⊥
   DriveEach (v ∷ vs) (e ∷ es) = DrivesUser d plan kinds wires times v e × DriveEach vs es
 
-  pub picked_both : (port : ℕ) (vs : List (Keyed User)) (es : List (Keyed Driver)) → DriveUsers d plan kinds wires times vs es → DriveEach (picked port vs) (picked port es)
+  pub picked_both : (port : ℕ) (vs : List (Keyed User)) (es : List (Keyed Driver)) → DriveUsers d plan kinds wires times vs es → DriveEach (items_picked port vs) (items_picked port es)
   picked_both port [] [] h = tt
   picked_both port [] (e ∷ es) h = absurd h
   picked_both port (v ∷ vs) [] h = absurd h
   picked_both port (v ∷ vs) (e ∷ es) h =
       elim (cases_eq e.key port) [
         | inl same ↦
-            subst (λ (l : List User). DriveEach l (picked port (e ∷ es))) (sym (picked_here port v vs (sym h.0.0 ∙ same)))
-            (subst (λ (l : List Driver). DriveEach (v.item ∷ picked port vs) l) (sym (picked_here port e es same)) (h.0.1, picked_both port vs es h.1))
+            subst (λ (l : List User). DriveEach l (items_picked port (e ∷ es))) (sym (picked_here port v vs (sym h.0.0 ∙ same)))
+            (subst (λ (l : List Driver). DriveEach (v.item ∷ items_picked port vs) l) (sym (picked_here port e es same)) (h.0.1, picked_both port vs es h.1))
         | inr other ↦
-            subst (λ (l : List User). DriveEach l (picked port (e ∷ es))) (sym (picked_past port v vs (λ here. other (h.0.0 ∙ here))))
-            (subst (λ (l : List Driver). DriveEach (picked port vs) l) (sym (picked_past port e es other)) (picked_both port vs es h.1))
+            subst (λ (l : List User). DriveEach l (items_picked port (e ∷ es))) (sym (picked_past port v vs (λ here. other (h.0.0 ∙ here))))
+            (subst (λ (l : List Driver). DriveEach (items_picked port vs) l) (sym (picked_past port e es other)) (picked_both port vs es h.1))
       ]
 
 -- a port that an operation uses is of the memory that it reaches
@@ -161,6 +161,6 @@ module _ (d : PlainCircuit) (plan : PlainPlan) (u : Uses) (t : Timing) (w : Plan
 
   -- the drivers that are gathered for a port are those of its users
   pub port_driven : (es : List (Keyed Driver)) → DriveUsers d plan w.kinds w.values times (blocks_users plan u 0 plan.blocks) es
-      → ((user : User) → HasUser user (users_of plan u q) → TimesShown plan t times x m user) → DriveFor plan t shown_words m p x.wires (picked q es) (users_of plan u q)
+      → ((user : User) → HasUser user (users_of plan u q) → TimesShown plan t times x m user) → DriveFor plan t shown_words m p x.wires (items_picked q es) (users_of plan u q)
   port_driven es h shown =
-      all_driven (users_of plan u q) (picked q es) (λ user there. there) shown (picked_both d plan w.kinds w.values times q (blocks_users plan u 0 plan.blocks) es h)
+      all_driven (users_of plan u q) (items_picked q es) (λ user there. there) shown (picked_both d plan w.kinds w.values times q (blocks_users plan u 0 plan.blocks) es h)

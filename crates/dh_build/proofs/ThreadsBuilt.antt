@@ -11,7 +11,7 @@ use Rattle.dh_plan.specs.BoundPorts.{Uses}
 use Rattle.dh_plan.specs.PlainPlans.{PlainPlan}
 use Rattle.dh_plan.specs.PlanRuns.{flag_holds, counted_up}
 use Rattle.dh_plan.specs.SeenGraphs.{IsGraphOf}
-use Rattle.dh_plan.specs.Ways.{Way, to_state, by_flag, by_count, to_fork, to_end, resolve}
+use Rattle.dh_plan.specs.Ways.{GraphWay, to_state, by_flag, by_count, to_fork, to_end, resolve}
 use Rattle.dh_lower.specs.NetOfPlan.{IsNetOf}
 use Rattle.dh_control.specs.ThreadHolds.{holds_thread, next_wires}
 use Rattle.dh_control.proofs.ThreadNets.{thread_net}
@@ -22,7 +22,7 @@ use Rattle.dh_build.proofs.NetWired.{net_wired}
 use Rattle.dh_build.proofs.OneGroup.{one_group}
 
 -- a way keeps the number of registers
-pub resolve_long : (kinds : List Kind) (w : Way) (registers : List ℕ) → length (resolve kinds w registers).registers ≡ length registers
+pub resolve_long : (kinds : List Kind) (w : GraphWay) (registers : List ℕ) → length (resolve kinds w registers).registers ≡ length registers
 resolve_long kinds (to_state state) registers = refl
 resolve_long kinds (by_flag flag w v) registers = by (flag_holds registers flag) (resolve_long kinds w registers) (resolve_long kinds v registers)
   where

@@ -8,7 +8,7 @@ use Rattle.dh_plan.specs.declared.graphs.State.{State}
 use Rattle.dh_plan.specs.BoundPorts.{Uses}
 use Rattle.dh_plan.specs.PlainPlans.{PlainPlan}
 use Rattle.dh_plan.specs.PlanRuns.{first_registers}
-use Rattle.dh_plan.specs.Ways.{Flow, Stop, Way, resolve}
+use Rattle.dh_plan.specs.Ways.{Flow, GraphStop, GraphWay, resolve}
 use Rattle.dh_cells.specs.NarrowShifts.{HasNarrowShifts}
 use Rattle.dh_cells.specs.PlainCircuits.{PlainCircuit, SuitRegisters}
 use Rattle.dh_cells.specs.Settled.{ValuationSettles}
@@ -19,7 +19,7 @@ use Rattle.dh_control.specs.declared.controlling.Control.{Control}
 use Rattle.dh_control.specs.ControlsWhole.{AreOfMaking, control_wires}
 use Rattle.dh_control.specs.PlanUsers.{users_of}
 use Rattle.dh_control.specs.ThreadHolds.{ControlWires, next_wires}
-use Rattle.dh_control.specs.WayMoves.{number_of, way_of_decision}
+use Rattle.dh_control.specs.WayMoves.{spot_number, way_of_decision}
 use Rattle.dh_control.specs.WiredNets.{IsStraight, IsWired}
 use Rattle.dh_build.specs.declared.building.Parts.{Parts}
 use Rattle.dh_build.specs.declared.building.Sizes.{Sizes}
@@ -40,9 +40,9 @@ abbrev pub nexts_of : Control → List ℕ
 nexts_of c = c.nexts.clock ∷ c.outcome.verdict.commit ∷ c.nexts.fault ∷ slice_index c.results.state 0 ∷ c.results.news
 
 -- where the registers of a net stand first: no clock has passed, and the thread begins by a way
-abbrev pub values_from : PlainPlan → (over : ℕ) → Way → List ℕ
+abbrev pub values_from : PlainPlan → (over : ℕ) → GraphWay → List ℕ
 values_from plan over way =
-    0 ∷ 0 ∷ 0 ∷ number_of over (resolve plan.registers way (first_registers plan)).spot ∷ (resolve plan.registers way (first_registers plan)).registers
+    0 ∷ 0 ∷ 0 ∷ spot_number over (resolve plan.registers way (first_registers plan)).spot ∷ (resolve plan.registers way (first_registers plan)).registers
 
 abbrev pub first_values : PlainPlan → Flow → List ℕ
 first_values plan flow = values_from plan (length flow.states) flow.first
@@ -50,8 +50,8 @@ first_values plan flow = values_from plan (length flow.states) flow.first
 -- a flow of one thread, over blocks that are there
 pub record IsOfOneThread (plan : PlainPlan) (flow : Flow) : Type 0 where
   pub first : IsStraight (length flow.states) flow.first
-  pub states : (i : ℕ) (s : Stop) → slice_get flow.states i ≡ Some s → IsStraight (length flow.states) s.way
-  pub blocks : (i : ℕ) (s : Stop) → slice_get flow.states i ≡ Some s → s.block < length plan.blocks
+  pub states : (i : ℕ) (s : GraphStop) → slice_get flow.states i ≡ Some s → IsStraight (length flow.states) s.way
+  pub blocks : (i : ℕ) (s : GraphStop) → slice_get flow.states i ≡ Some s → s.block < length plan.blocks
 
 -- the net is put together of parts that were added to a circuit
 pub record NetMade (start d : PlainCircuit) (plan : PlainPlan) (flow : Flow) (u : Uses) (states : List State) (s : Sizes) (p : Parts) (net : Net) : Type 0 where

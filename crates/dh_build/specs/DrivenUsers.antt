@@ -15,7 +15,7 @@ use Rattle.dh_control.specs.declared.driving.MemoryPorts.{MemoryPorts}
 use Rattle.dh_control.specs.declared.driving.Times.{Times}
 use Rattle.dh_control.specs.declared.gathering.Keyed.{Keyed}
 use Rattle.dh_control.specs.BlockUses.{times_at}
-use Rattle.dh_control.specs.KeyedItems.{picked}
+use Rattle.dh_control.specs.KeyedItems.{items_picked}
 use Rattle.dh_control.specs.PlanUsers.{blocks_users}
 use Rattle.dh_control.specs.UseWires.{DrivesUse, UseSuits}
 use Rattle.dh_build.specs.MemoryTables.{row_bits_of}
@@ -54,4 +54,4 @@ pub record UsesDriven (old new : PlainCircuit) (plan : PlainPlan) (u : Uses) (ki
 -- the drivers of each port below a count
 pub record AreListed (count : ℕ) (entries : List (Keyed Driver)) (lists : List (List Driver)) : Type 0 where
   pub long : length lists ≡ count
-  pub each : (port : ℕ) → port < count → slice_get lists port ≡ Some (picked port entries)
+  pub each : (port : ℕ) → port < count → slice_get lists port ≡ Some (items_picked port entries)

@@ -7,7 +7,7 @@ use Rattle.dh_plan.specs.declared.graphs.Group.{Group}
 use Rattle.dh_plan.specs.PlainPlans.{PlainPlan}
 use Rattle.dh_plan.specs.SeenGraphs.{IsGraphOf, FitsThread}
 use Rattle.dh_plan.specs.Ways.{Flow, FlowsAs}
-use Rattle.dh_control.specs.AllBlocks.{ways_of}
+use Rattle.dh_control.specs.AllBlocks.{state_ways}
 use Rattle.dh_control.specs.WayMoves.{way_of_decision}
 use Rattle.dh_build.specs.BuiltNets.{IsOfOneThread}
 
@@ -18,7 +18,7 @@ pub record IsGraphOfThread (plan : PlainPlan) (g : Graph) (flow : Flow) (first :
   pub first_is : way_of_decision first ≡ flow.first
   pub count : length g.states.items ≡ length flow.states
   pub blocks_are : map (λ s. s.block) g.states.items ≡ map (λ s. s.block) flow.states
-  pub ways_are : ways_of g.states.items ≡ map (λ s. s.way) flow.states
+  pub ways_are : state_ways g.states.items ≡ map (λ s. s.way) flow.states
   pub fits : AllByRecursion (λ st. FitsThread (length g.states.items) (length plan.registers) st.next) g.states.items
 
 -- so is each graph of a plan that has one group alone

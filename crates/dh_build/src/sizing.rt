@@ -2,7 +2,7 @@
 
 ghost use Rattle.std.specs.Prelude.{◌≡◌, ◌<◌, ◌≤◌, ◌∷◌, ◌++◌, ◌^◌, [], map, IfOk};
 ghost use Rattle.std.specs.List.{AllByRecursion};
-ghost use Rattle.dh_plan.specs.LegalSchedules.{greatest_of};
+ghost use Rattle.dh_plan.specs.LegalSchedules.{greatest_number};
 ghost use Rattle.dh_plan.specs.SeenPlans.{plan_seen};
 ghost use Rattle.dh_value.specs.Words.{width_of};
 ghost use Rattle.dh_build.specs.BuiltPlans.{AreSizesOf, IsScheduled, timing_of};
@@ -24,7 +24,7 @@ fn copied(alloc: Global, numbers: &[u64]) -> Result<Items<u64>, NoMemory>
 
 /// The greatest of numbers, 0 of none.
 pub fn greatest(numbers: &[u64]) -> u64
-    ensures is { result ≡ greatest_of numbers.now }
+    ensures is { result ≡ greatest_number numbers.now }
     ensures all { AllByRecursion (λ n. n ≤ result) numbers.now }
 {
     let mut most = 0;

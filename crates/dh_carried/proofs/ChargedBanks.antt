@@ -14,9 +14,9 @@ use Rattle.dh_tree.specs.ViewShapes.{AreDimsOf, AreSplitOf, IsShapeOf}
 use Rattle.dh_viewing.proofs.BankDigits.{bank_at_below, digits_inside, indices_of}
 use Rattle.dh_viewing.proofs.ViewBanks.{covered_digits, same_inside}
 use Rattle.dh_viewing.specs.Carried.{carried, carried_as, carried_by, largest}
-use Rattle.dh_viewing.specs.ReachedBanks.{can_reach, covering, reach_told}
+use Rattle.dh_viewing.specs.ReachedBanks.{can_reach, covering, is_reached_by_sort}
 use Rattle.dh_meaning.specs.Paths.{Path, same_path, IsPathAmong}
-use Rattle.dh_meaning.specs.Ways.{Step, Way, all_bindings_of}
+use Rattle.dh_meaning.specs.Ways.{WayStep, Way, all_bindings_of}
 use Rattle.dh_meets.specs.Charges.{any_below, bank_named, charge_through, groups_of, key_of, keys_in_group, may_reach, paths_of, sum_over}
 use Rattle.dh_meets.specs.SourceEvents.{SourceAccess}
 use Rattle.dh_ways.specs.Leading.{StepsLead, next_dims}
@@ -36,7 +36,7 @@ record Back (s : ViewSort) (vs ps : List Dim) (charge : ℕ → ℕ) (c : ℕ) :
   pub named : ℕ
   pub inside : named < banks_of vs
   pub charged : 1 ≤ charge named
-  pub reached : reach_told s vs ps named c ≡ true
+  pub reached : is_reached_by_sort s vs ps named c ≡ true
 
 largest_some : (charge : ℕ → ℕ) (n : ℕ) → 1 ≤ largest charge n → (m : ℕ) × ((m < n) × (1 ≤ charge m))
 largest_some charge zero e = absurd (none e)
@@ -128,7 +128,7 @@ back Split (v ∷ w ∷ []) (p ∷ []) (k ∷ (l ∷ ks)) charge c h own dims be
 back Split (v ∷ w ∷ []) (p ∷ (q ∷ ps)) ks charge c h own dims below some = absurd h
 
 -- a bank that is reached from one that is charged is charged
-forth : (s : ViewSort) (vs ps : List Dim) (charge : ℕ → ℕ) (b c : ℕ) → reach_told s vs ps b c ≡ true → b < banks_of vs → 1 ≤ charge b → 1 ≤ carried_as s vs ps charge c
+forth : (s : ViewSort) (vs ps : List Dim) (charge : ℕ → ℕ) (b c : ℕ) → is_reached_by_sort s vs ps b c ≡ true → b < banks_of vs → 1 ≤ charge b → 1 ≤ carried_as s vs ps charge c
 forth Shrink vs ps charge b c r inside some = subst (λ (n : ℕ). 1 ≤ charge n) (sym (eqb-true (covering vs ps c) b r)) some
 forth Split vs ps charge b c r inside some = subst (λ (n : ℕ). 1 ≤ charge n) (sym (eqb-true c b r)) some
 forth Suffix vs ps charge b c r inside some = subst (λ (n : ℕ). 1 ≤ charge n) (sym (eqb-true c b r)) some
@@ -158,7 +158,7 @@ below_found (suc n) test e = by (any_below n test) refl e (below_found n test)
     by true f g rest = let at = rest f in (at.0, (more at.0 n at.1.0, at.1.1))
     by false f g rest = (n, (own n, g))
 
-pub charged_back : (ss : List Step) (dims : List Dim) (charge : ℕ → ℕ) (bank : ℕ) → StepsLead ss dims → bank < banks_of dims → 1 ≤ carried_by (map (λ s. s.is) ss) charge bank → IsChargedFrom ss dims charge bank
+pub charged_back : (ss : List WayStep) (dims : List Dim) (charge : ℕ → ℕ) (bank : ℕ) → StepsLead ss dims → bank < banks_of dims → 1 ≤ carried_by (map (λ s. s.is) ss) charge bank → IsChargedFrom ss dims charge bank
 charged_back [] dims charge bank lead below some = record { named = bank; inside = below; charged = some; reached = eq-eqb bank bank refl }
 charged_back (s ∷ ss) dims charge bank lead below some =
     let behind = charged_back ss dims (carried s.is charge) bank lead.1.1 below some in
@@ -171,7 +171,7 @@ charged_back (s ∷ ss) dims charge bank lead below some =
       reached = any_found (banks_of s.is.parent.dims) behind.named (λ c. can_reach s.is one.named c && may_reach ss c bank) within (both_true (can_reach s.is one.named behind.named) (may_reach ss behind.named bank) one.reached behind.reached);
     }
 
-pub charged_forth : (ss : List Step) (dims : List Dim) (charge : ℕ → ℕ) (bank b : ℕ) → StepsLead ss dims → b < banks_of (next_dims ss dims) → 1 ≤ charge b → may_reach ss b bank ≡ true → 1 ≤ carried_by (map (λ s. s.is) ss) charge bank
+pub charged_forth : (ss : List WayStep) (dims : List Dim) (charge : ℕ → ℕ) (bank b : ℕ) → StepsLead ss dims → b < banks_of (next_dims ss dims) → 1 ≤ charge b → may_reach ss b bank ≡ true → 1 ≤ carried_by (map (λ s. s.is) ss) charge bank
 charged_forth [] dims charge bank b lead inside some r = subst (λ (n : ℕ). 1 ≤ charge n) (eqb-true b bank r) some
 charged_forth (s ∷ ss) dims charge bank b lead inside some r =
     let at = below_found (banks_of s.is.parent.dims) (λ c. can_reach s.is b c && may_reach ss c bank) r in
@@ -180,7 +180,7 @@ charged_forth (s ∷ ss) dims charge bank b lead inside some r =
     (forth s.is.sort s.is.shape.dims s.is.parent.dims charge b at.0 parts.0 inside some) parts.1
 
 -- what may be reached is a bank behind the views
-pub may_below : (ss : List Step) (dims : List Dim) (b c : ℕ) → StepsLead ss dims → b < banks_of (next_dims ss dims) → may_reach ss b c ≡ true → c < banks_of dims
+pub may_below : (ss : List WayStep) (dims : List Dim) (b c : ℕ) → StepsLead ss dims → b < banks_of (next_dims ss dims) → may_reach ss b c ≡ true → c < banks_of dims
 may_below [] dims b c lead inside r = subst (λ (n : ℕ). n < banks_of dims) (eqb-true b c r) inside
 may_below (s ∷ ss) dims b c lead inside r =
     let at = below_found (banks_of s.is.parent.dims) (λ m. can_reach s.is b m && may_reach ss m c) r in

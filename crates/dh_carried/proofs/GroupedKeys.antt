@@ -12,7 +12,7 @@ use Rattle.dh_meaning.specs.Paths.{Path, same_path, IsPathAmong}
 use Rattle.dh_meaning.specs.Ways.{Way, all_bindings_of}
 use Rattle.dh_meets.specs.Charges.{bank_named, charge_through, groups_of, key_of, keys_in_group, paths_of, sum_over}
 use Rattle.dh_meets.specs.SourceEvents.{SourceAccess}
-use Rattle.dh_carried.specs.MadeCopies.{AreCopiesOf, IsCopyOf, MadeCopy, copies_of, in_group, is_of_group, views_on}
+use Rattle.dh_carried.specs.MadeCopies.{AreCopiesOf, IsCopyOf, MadeCopy, copies_of_made, in_group, is_of_group, views_on}
 use Rattle.dh_carried.proofs.CarriedKeys.{all_more, covers, fewer_keys, same_key, same_list, told, whole_list}
 use Rattle.dh_carried.proofs.Pigeons.{Has, NoTwice, has_left, has_mapped, has_right, has_unique, no_longer, unique_has, unique_once}
 
@@ -78,10 +78,10 @@ module _ (w : Way) (cs : List MadeCopy) (level bank : ℕ) where
   by_has k g (x ∷ gs) (inr h) at = has_right k (unique_keys same_key (keys_here (in_group w x cs) level bank)) (keys_by gs) (by_has k g gs h at)
 
   -- a key of a copy is one of its group
-  key_grouped : (gs : List Path) → ((c : MadeCopy) → Has c cs → Has (take w.shifts c.path) gs) → (k : List ℕ) → Has k (keys_here (copies_of cs) level bank) → Has k (keys_by gs)
+  key_grouped : (gs : List Path) → ((c : MadeCopy) → Has c cs → Has (take w.shifts c.path) gs) → (k : List ℕ) → Has k (keys_here (copies_of_made cs) level bank) → Has k (keys_by gs)
   key_grouped gs all k h =
-      let (o, (at, is)) = mapped_has (λ (c : Copy). c.key) k (filter (λ c. bank_in level c == bank) (copies_of cs)) h in
-      let (there, picked) = filtered_has (λ (c : Copy). bank_in level c == bank) o (copies_of cs) at in
+      let (o, (at, is)) = mapped_has (λ (c : Copy). c.key) k (filter (λ c. bank_in level c == bank) (copies_of_made cs)) h in
+      let (there, picked) = filtered_has (λ (c : Copy). bank_in level c == bank) o (copies_of_made cs) at in
       let (c, (among, same)) = mapped_has (λ (c : MadeCopy). c.copy) o cs there in
       let g = take w.shifts c.path in
       let own : Has c.copy (in_group w g cs) = has_mapped (λ (c : MadeCopy). c.copy) c (filter (is_of_group w g) cs) (has_filtered (is_of_group w g) c cs among (whole_list g)) in
@@ -91,10 +91,10 @@ module _ (w : Way) (cs : List MadeCopy) (level bank : ℕ) where
       by_has k g gs (all c among)
       (subst (λ (l : List ℕ). Has l (keys_here (in_group w g cs) level bank)) (sym (is ∙ ap (λ (x : Copy). x.key) same)) (has_mapped (λ (c : Copy). c.key) c.copy (filter (λ (c : Copy). bank_in level c == bank) (in_group w g cs)) here))
 
-  grouped : (gs : List Path) → ((c : MadeCopy) → Has c cs → Has (take w.shifts c.path) gs) → keys_at (copies_of cs) level bank ≤ sum_over gs (λ g. keys_at (in_group w g cs) level bank)
+  grouped : (gs : List Path) → ((c : MadeCopy) → Has c cs → Has (take w.shifts c.path) gs) → keys_at (copies_of_made cs) level bank ≤ sum_over gs (λ g. keys_at (in_group w g cs) level bank)
   grouped gs all =
-      let l = no_longer (unique_keys same_key (keys_here (copies_of cs) level bank)) (keys_by gs) (unique_once same_key same_list whole_list (keys_here (copies_of cs) level bank))
-      (λ k h. key_grouped gs all k (unique_has same_key same_list whole_list k (keys_here (copies_of cs) level bank) h)) in
+      let l = no_longer (unique_keys same_key (keys_here (copies_of_made cs) level bank)) (keys_by gs) (unique_once same_key same_list whole_list (keys_here (copies_of_made cs) level bank))
+      (λ k h. key_grouped gs all k (unique_has same_key same_list whole_list k (keys_here (copies_of_made cs) level bank) h)) in
       let s = by_long gs in
       omega (arith, l, s)
 
@@ -135,11 +135,11 @@ module _ (p : Program) (w : Way) (a : SourceAccess) (cs : List MadeCopy) (copies
       let m = all_more (views_on w) (keys_at (in_group w g cs) 0) (keys_in_group p w a g) (named_fewer g) bank in
       omega (arith, c, m)
 
-  pub groups_cover : (bank : ℕ) → keys_at (copies_of cs) (length (views_on w)) bank ≤ charge_through p w a bank
+  pub groups_cover : (bank : ℕ) → keys_at (copies_of_made cs) (length (views_on w)) bank ≤ charge_through p w a bank
   groups_cover bank =
       let all = grouped w cs (0 + length (views_on w)) bank (groups_of w a) in_groups in
       let more = sum_more (groups_of w a) (λ g. keys_at (in_group w g cs) (0 + length (views_on w)) bank) (λ g. carried_by (views_on w) (keys_in_group p w a g) bank) (group_covered bank) in
-      subst (λ (n : ℕ). keys_at (copies_of cs) n bank ≤ charge_through p w a bank) (plain (length (views_on w))) (omega (arith, all, more))
+      subst (λ (n : ℕ). keys_at (copies_of_made cs) n bank ≤ charge_through p w a bank) (plain (length (views_on w))) (omega (arith, all, more))
     where
       plain : (n : ℕ) → 0 + n ≡ n
       plain n = omega arith

@@ -12,7 +12,7 @@ use Rattle.dh_tree.specs.Shapes.{IsDim}
 use Rattle.dh_tree.specs.declared.viewing.ViewMap.{ViewMap}
 use Rattle.dh_tree.specs.declared.viewing.ViewSort.{ViewSort}
 use Rattle.dh_tree.specs.declared.viewing.ViewSort.TheVariants.{Shrink, Split, Suffix, Shift}
-use Rattle.dh_viewing.specs.ReachedBanks.{bank_at, covering, reach_told}
+use Rattle.dh_viewing.specs.ReachedBanks.{bank_at, covering, is_reached_by_sort}
 use Rattle.dh_tree.specs.ViewElements.{is_index, is_inside, sums, parent_index, first_banks}
 use Rattle.dh_tree.specs.ViewShapes.{IsShapeOf, IsViewMap}
 use Rattle.dh_viewing.proofs.BankDigits.{first_of, rest_of, natural_of, bank_at_below}
@@ -82,7 +82,7 @@ pub record Names (s : ViewSort) (vs ps : List Dim) (ks : List ℕ) (es : List �
   pub is : parent_index s (first_banks ps) ks es p.indices ≡ p.element
 
 module _ (vs ps : List Dim) (ks : List ℕ) (es : List ℤ) (own : AllByRecursion IsDim vs) (dims : AllByRecursion IsDim ps) (Here : Passed → Type 0) where
-  told_at : (s : ViewSort) → IsShapeOf s vs ps ks → (p : Passed) → Names s vs ps ks es p → reach_told s vs ps (bank_at vs p.indices) (bank_at ps p.element) ≡ true
+  told_at : (s : ViewSort) → IsShapeOf s vs ps ks → (p : Passed) → Names s vs ps ks es p → is_reached_by_sort s vs ps (bank_at vs p.indices) (bank_at ps p.element) ≡ true
   told_at s h p n =
       told_all s vs ps ks es p.indices (bank_at vs p.indices) (bank_at ps p.element) h own dims n.inside (subst (λ (l : List ℤ). is_inside ps l ≡ true) (sym n.is) n.there) refl
       (ap (λ (l : List ℤ). bank_at ps l) n.is)

@@ -10,7 +10,7 @@ use Rattle.dh_viewing.proofs.BankDigits.{bank_at_below}
 use Rattle.dh_viewing.proofs.ReachTold.{told_all}
 use Rattle.dh_viewing.specs.ReachedBanks.{bank_at, can_reach}
 use Rattle.dh_meaning.specs.Effects.{indices_through}
-use Rattle.dh_meaning.specs.Ways.{Step}
+use Rattle.dh_meaning.specs.Ways.{WayStep}
 use Rattle.dh_meets.specs.Charges.{any_below, may_reach}
 use Rattle.dh_ways.specs.Leading.{StepsLead, next_dims}
 
@@ -74,7 +74,7 @@ followed (Some inner) follow last h = record { inner = inner; is = refl; rest = 
 
 -- Ways.
 
-through_first : (ss : List Step) (dims : List Dim) (indices offsets last : List ℤ) → indices_through ss indices offsets ≡ Some last → is_inside dims last ≡ true → is_inside (next_dims ss dims) indices ≡ true
+through_first : (ss : List WayStep) (dims : List Dim) (indices offsets last : List ℤ) → indices_through ss indices offsets ≡ Some last → is_inside dims last ≡ true → is_inside (next_dims ss dims) indices ≡ true
 through_first [] dims indices offsets last h there = subst (λ (l : List ℤ). is_inside dims l ≡ true) (sym (same indices last h)) there
   where
     same : (one other : List ℤ) → Some one ≡ Some other → one ≡ other
@@ -87,7 +87,7 @@ both_true : (b c : Bool) → b ≡ true → c ≡ true → (b && c) ≡ true
 both_true true c e f = f
 both_true false c e f = cc
 
-pub ways_reach : (ss : List Step) (dims : List Dim) (indices offsets last : List ℤ) → StepsLead ss dims → indices_through ss indices offsets ≡ Some last → is_inside dims last ≡ true
+pub ways_reach : (ss : List WayStep) (dims : List Dim) (indices offsets last : List ℤ) → StepsLead ss dims → indices_through ss indices offsets ≡ Some last → is_inside dims last ≡ true
     → may_reach ss (bank_at (next_dims ss dims) indices) (bank_at dims last) ≡ true
 ways_reach [] dims indices offsets last leads h there = eq-eqb (bank_at dims indices) (bank_at dims last) (ap (λ (l : List ℤ). bank_at dims l) (same indices last h))
   where

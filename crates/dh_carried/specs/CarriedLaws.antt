@@ -9,11 +9,11 @@ use Rattle.dh_viewing.specs.Carried.{AllLead, Copy, HasShift, carried_by, keys_a
 use Rattle.dh_viewing.specs.ReachedBanks.{bank_at}
 use Rattle.dh_meaning.specs.Effects.{indices_through}
 use Rattle.dh_meaning.specs.Paths.{Path}
-use Rattle.dh_meaning.specs.Ways.{Step, Way}
+use Rattle.dh_meaning.specs.Ways.{WayStep, Way}
 use Rattle.dh_meets.specs.Charges.{bank_named, charge_through, may_reach}
 use Rattle.dh_meets.specs.SourceEvents.{SourceAccess}
 use Rattle.dh_ways.specs.Leading.{StepsLead, next_dims}
-use Rattle.dh_carried.specs.MadeCopies.{AreCopiesOf, MadeCopy, copies_of, views_on}
+use Rattle.dh_carried.specs.MadeCopies.{AreCopiesOf, MadeCopy, copies_of_made, views_on}
 use Rattle.dh_carried.specs.ReachedThrough.{MayReachAt}
 
 -- no more distinct keys lie in a bank behind views than are carried there
@@ -28,13 +28,13 @@ ShiftsChargeEvenly = (vs : List ViewMap) (charge : ℕ → ℕ) (bank other : �
 -- the bank of an element that indices lead to may be reached from theirs
 abbrev pub WaysReachWhatTheyMay : Type 0
 WaysReachWhatTheyMay =
-    (ss : List Step) (dims : List Dim) (indices offsets last : List ℤ) → StepsLead ss dims → indices_through ss indices offsets ≡ Some last → is_inside dims last ≡ true
+    (ss : List WayStep) (dims : List Dim) (indices offsets last : List ℤ) → StepsLead ss dims → indices_through ss indices offsets ≡ Some last → is_inside dims last ≡ true
     → may_reach ss (bank_at (next_dims ss dims) indices) (bank_at dims last) ≡ true
 
 -- of copies of one access through views, no more distinct keys lie in a bank of the memory than the access charges there
 abbrev pub GroupsCoverWhatIsReached : Type 0
 GroupsCoverWhatIsReached =
-    (p : Program) (w : Way) (a : SourceAccess) (cs : List MadeCopy) → AreCopiesOf p w a cs → (bank : ℕ) → keys_at (copies_of cs) (length (views_on w)) bank ≤ charge_through p w a bank
+    (p : Program) (w : Way) (a : SourceAccess) (cs : List MadeCopy) → AreCopiesOf p w a cs → (bank : ℕ) → keys_at (copies_of_made cs) (length (views_on w)) bank ≤ charge_through p w a bank
 
 -- a bank that an access charges may be reached by it at some path
 abbrev pub ChargedBanksAreReached : Type 0

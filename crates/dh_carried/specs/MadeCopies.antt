@@ -22,12 +22,12 @@ pub record IsCopyOf (p : Program) (w : Way) (a : SourceAccess) (c : MadeCopy) : 
 abbrev pub is_of_group : Way → (group : Path) → MadeCopy → Bool
 is_of_group w group c = same_path (take w.shifts c.path) group
 
-abbrev pub copies_of : List MadeCopy → List Copy
-copies_of cs = map (λ c. c.copy) cs
+abbrev pub copies_of_made : List MadeCopy → List Copy
+copies_of_made cs = map (λ c. c.copy) cs
 
 -- those of a group, for which the offsets of shifts are equal
 abbrev pub in_group : Way → (group : Path) → List MadeCopy → List Copy
-in_group w group cs = copies_of (filter (is_of_group w group) cs)
+in_group w group cs = copies_of_made (filter (is_of_group w group) cs)
 
 abbrev pub views_on : Way → List ViewMap
 views_on w = map (λ s. s.is) w.steps

@@ -4,7 +4,7 @@ use Rattle.dh_tree.specs.declared.tables.Dim.{Dim}
 use Rattle.dh_tree.specs.Elements.{banks_of}
 use Rattle.dh_tree.specs.PlainTrees.{Program}
 use Rattle.dh_meaning.specs.Paths.{Path, IsPathAmong}
-use Rattle.dh_meaning.specs.Ways.{Step, Way}
+use Rattle.dh_meaning.specs.Ways.{WayStep, Way}
 use Rattle.dh_meets.specs.Charges.{bank_named, may_reach, paths_of}
 use Rattle.dh_meets.specs.SourceEvents.{SourceAccess}
 use Rattle.dh_ways.specs.Leading.{next_dims}
@@ -15,7 +15,7 @@ pub record MayReachAt (p : Program) (w : Way) (a : SourceAccess) (bank : ℕ) : 
   pub reached : may_reach w.steps (bank_named p w a path) bank ≡ true
 
 -- a bank of what is named that is charged, from which this bank behind the views may be reached
-pub record IsChargedFrom (ss : List Step) (dims : List Dim) (charge : ℕ → ℕ) (bank : ℕ) : Type 0 where
+pub record IsChargedFrom (ss : List WayStep) (dims : List Dim) (charge : ℕ → ℕ) (bank : ℕ) : Type 0 where
   pub named : ℕ
   pub inside : named < banks_of (next_dims ss dims)
   pub charged : 1 ≤ charge named

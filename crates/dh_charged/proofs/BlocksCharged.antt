@@ -17,10 +17,10 @@ use Rattle.dh_expressions.specs.declared.drafts.Draft.{Draft}
 use Rattle.dh_expressions.specs.declared.scenes.Around.{Around}
 use Rattle.dh_expressions.specs.declared.scenes.Scene.{Scene}
 use Rattle.dh_expressions.specs.Levels.{leader_number, path_at}
-use Rattle.dh_formed.specs.Formed.{Site}
+use Rattle.dh_formed.specs.Formed.{BlockSite}
 use Rattle.dh_formed.proofs.ElementsFormed.{all_append}
 use Rattle.dh_commands.specs.LanesRun.{paths_counted}
-use Rattle.dh_commands.specs.ShownVariables.{factors_of}
+use Rattle.dh_commands.specs.ShownVariables.{level_factors}
 use Rattle.dh_laid.specs.BlockSites.{block_sites, test_sites}
 use Rattle.dh_laid.specs.LaidUses.{AddsLedUses, AreLedUses, IsLeadersUse, PathsLead, used_to}
 use Rattle.dh_laid.proofs.BlocksUsed.{blocks_lead, tests_lead}
@@ -44,7 +44,7 @@ paths_lead scene around s path within =
     (leader_leads around.levels.now s.spread (λ l. true) path inside)
     ∙ all_picked 0 (path_at around.levels.now path)))
   where
-    inside : path < copies_in (factors_of around.levels.now)
+    inside : path < copies_in (level_factors around.levels.now)
     inside = subst (λ (n : ℕ). path < n) s.counted within
 
 pub some_paths : (scene : Scene) (around : Around) → StandsAtPaths scene around → 0 < paths_counted around
@@ -52,7 +52,7 @@ some_paths scene around s = subst (λ (n : ℕ). 0 < n) (sym s.counted) (some_co
 
 -- A block.
 
-module _ (scene : Scene) (plan : PlainPlan) (block : ℕ) (sites : ℕ → Option Site) (old new end : Draft) (uses : ℕ → ℕ) (led : AddsLedUses scene sites old new uses) (cut : IsCutFrom plan block old end) (ends : EndsUnused new end) where
+module _ (scene : Scene) (plan : PlainPlan) (block : ℕ) (sites : ℕ → Option BlockSite) (old new end : Draft) (uses : ℕ → ℕ) (led : AddsLedUses scene sites old new uses) (cut : IsCutFrom plan block old end) (ends : EndsUnused new end) where
   unused_led : (os : List Operation) → AllByRecursion (λ (o : Operation). use_in o.form ≡ None) os → AreLedUses scene sites os
   unused_led [] h = tt
   unused_led (o ∷ os) h = ((λ r e. absurd (lost r (sym h.0 ∙ e))), unused_led os h.1)

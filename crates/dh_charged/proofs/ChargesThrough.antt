@@ -11,10 +11,10 @@ use Rattle.dh_tree.specs.Shapes.{IsDim}
 use Rattle.dh_tree.specs.ViewElements.{is_inside}
 use Rattle.dh_tree.specs.ViewShapes.{AreDimsOf, IsShapeOf}
 use Rattle.dh_viewing.specs.Carried.{HasShift, carried, carried_as, carried_by, largest}
-use Rattle.dh_viewing.specs.ReachedBanks.{bank_at, can_reach, covering, reach_told}
+use Rattle.dh_viewing.specs.ReachedBanks.{bank_at, can_reach, covering, is_reached_by_sort}
 use Rattle.dh_viewing.proofs.BankDigits.{bank_at_below, digits_bank, digits_inside, indices_of}
 use Rattle.dh_viewing.proofs.ViewBanks.{covered_element, same_inside}
-use Rattle.dh_meaning.specs.Ways.{Step}
+use Rattle.dh_meaning.specs.Ways.{WayStep}
 use Rattle.dh_meets.specs.Charges.{any_below, may_reach}
 use Rattle.dh_ways.specs.Leading.{StepsLead, next_dims}
 use Rattle.dh_carried.proofs.CarriedKeys.{evenly}
@@ -49,7 +49,7 @@ same_charge : (charge : ℕ → ℕ) (c b : ℕ) → c ≡ b → charge b ≤ ch
 same_charge charge c b e = subst (λ (x : ℕ). charge x ≤ charge c) e (itself (charge c))
 
 -- a bank of the parent is charged no less than a bank of the view from which it is reached
-as_much : (s : ViewSort) (vs ps : List Dim) (charge : ℕ → ℕ) (b c : ℕ) → reach_told s vs ps b c ≡ true → b < banks_of vs → charge b ≤ carried_as s vs ps charge c
+as_much : (s : ViewSort) (vs ps : List Dim) (charge : ℕ → ℕ) (b c : ℕ) → is_reached_by_sort s vs ps b c ≡ true → b < banks_of vs → charge b ≤ carried_as s vs ps charge c
 as_much Shrink vs ps charge b c r inside = same_charge charge (covering vs ps c) b (eqb-true (covering vs ps c) b r)
 as_much Split vs ps charge b c r inside = same_charge charge c b (eqb-true c b r)
 as_much Suffix vs ps charge b c r inside = same_charge charge c b (eqb-true c b r)
@@ -75,7 +75,7 @@ split_banks a w b k e f = ap (λ n. n * (w * 1)) e ∙ (swapped k w ∙ ap (λ n
 record Onto (s : ViewSort) (vs ps : List Dim) (b : ℕ) : Type 0 where
   pub behind : ℕ
   pub inside : behind < banks_of ps
-  pub reached : reach_told s vs ps b behind ≡ true
+  pub reached : is_reached_by_sort s vs ps b behind ≡ true
 
 onto : (s : ViewSort) (vs ps : List Dim) (ks : List ℕ) (b : ℕ) → IsShapeOf s vs ps ks → AllByRecursion IsDim vs → AllByRecursion IsDim ps → b < banks_of vs → Onto s vs ps b
 onto Shrink vs ps ks b h own dims below =
@@ -131,7 +131,7 @@ below_found (suc n) test e = by (any_below n test) refl e (below_found n test)
 through : (a b c : ℕ) → a ≤ b → b ≤ c → a ≤ c
 through a b c e f = omega (arith, e, f)
 
-pub charged_more : (ss : List Step) (dims : List Dim) (charge : ℕ → ℕ) (b c : ℕ) → StepsLead ss dims → b < banks_of (next_dims ss dims) → may_reach ss b c ≡ true → charge b ≤ carried_by (map (λ s. s.is) ss) charge c
+pub charged_more : (ss : List WayStep) (dims : List Dim) (charge : ℕ → ℕ) (b c : ℕ) → StepsLead ss dims → b < banks_of (next_dims ss dims) → may_reach ss b c ≡ true → charge b ≤ carried_by (map (λ s. s.is) ss) charge c
 charged_more [] dims charge b c lead inside r = subst (λ (n : ℕ). charge b ≤ charge n) (eqb-true b c r) (itself (charge b))
 charged_more (s ∷ ss) dims charge b c lead inside r =
     let at = below_found (banks_of s.is.parent.dims) (λ m. can_reach s.is b m && may_reach ss m c) r in
@@ -141,11 +141,11 @@ charged_more (s ∷ ss) dims charge b c lead inside r =
     (charged_more ss dims (carried s.is charge) at.0 c lead.1.1 (subst (λ (ds : List Dim). at.0 < banks_of ds) lead.1.0 at.1.0) parts.1)
 
 -- a bank behind the views that may be reached
-record Behind (ss : List Step) (b : ℕ) : Type 0 where
+record Behind (ss : List WayStep) (b : ℕ) : Type 0 where
   pub bank : ℕ
   pub reached : may_reach ss b bank ≡ true
 
-reached_some : (ss : List Step) (dims : List Dim) (b : ℕ) → StepsLead ss dims → b < banks_of (next_dims ss dims) → Behind ss b
+reached_some : (ss : List WayStep) (dims : List Dim) (b : ℕ) → StepsLead ss dims → b < banks_of (next_dims ss dims) → Behind ss b
 reached_some [] dims b lead inside = record { bank = b; reached = eq-eqb b b refl }
 reached_some (s ∷ ss) dims b lead inside =
     let one = onto s.is.sort s.is.shape.dims s.is.parent.dims s.is.by b lead.0.shape lead.0.own.dims lead.0.parent.dims inside in
@@ -156,7 +156,7 @@ reached_some (s ∷ ss) dims b lead inside =
     }
 
 -- behind a shift every bank is
-pub charged_everywhere : (ss : List Step) (dims : List Dim) (charge : ℕ → ℕ) (b bank : ℕ) → StepsLead ss dims → HasShift (map (λ s. s.is) ss) → b < banks_of (next_dims ss dims) → charge b ≤ carried_by (map (λ s. s.is) ss) charge bank
+pub charged_everywhere : (ss : List WayStep) (dims : List Dim) (charge : ℕ → ℕ) (b bank : ℕ) → StepsLead ss dims → HasShift (map (λ s. s.is) ss) → b < banks_of (next_dims ss dims) → charge b ≤ carried_by (map (λ s. s.is) ss) charge bank
 charged_everywhere ss dims charge b bank lead shift inside =
     let at = reached_some ss dims b lead inside in
     subst (λ (n : ℕ). charge b ≤ n) (evenly (map (λ s. s.is) ss) charge at.bank bank shift) (charged_more ss dims charge b at.bank lead inside at.reached)

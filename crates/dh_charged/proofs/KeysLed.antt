@@ -12,7 +12,7 @@ use Rattle.dh_sound.proofs.SameKeys.{picked_agree}
 use Rattle.dh_expressions.specs.declared.paths.Level.{Level}
 use Rattle.dh_expressions.specs.Counting.{leaders_in}
 use Rattle.dh_expressions.specs.Levels.{leader_number, path_at}
-use Rattle.dh_commands.specs.ShownVariables.{factors_of}
+use Rattle.dh_commands.specs.ShownVariables.{level_factors}
 use Rattle.dh_blocks.specs.PathsOfLevels.{AreSpread}
 use Rattle.dh_blocks.proofs.PathNumbers.{agree_leaders, leader_leads, leaders_agree, leads, numbered}
 use Rattle.dh_charged.specs.LeadersCounted.{AllLeadersAreKeys, leads_below, paths_below}
@@ -361,10 +361,10 @@ seam (x ∷ xs) y = seam xs y
 
 module _ (levels : List Level) (s : AreSpread levels) (counts : ℕ → Bool) where
   abbrev all_copies : ℕ
-  all_copies = copies_in (factors_of levels)
+  all_copies = copies_in (level_factors levels)
 
-  long_path : (n : ℕ) → n < all_copies → length (path_at levels n) ≡ length (factors_of levels)
-  long_path n h = length_path (factors_of levels) (path_at levels n) (numbered levels s n h).path
+  long_path : (n : ℕ) → n < all_copies → length (path_at levels n) ≡ length (level_factors levels)
+  long_path n h = length_path (level_factors levels) (path_at levels n) (numbered levels s n h).path
 
   key_leader : (n m : ℕ) → n < all_copies → m < all_copies → picked counts 0 (path_at levels n) ≡ picked counts 0 (path_at levels m) → leader_number levels counts n ≡ leader_number levels counts m
   key_leader n m a b e =
@@ -403,12 +403,12 @@ module _ (levels : List Level) (s : AreSpread levels) (counts : ℕ → Bool) wh
           last : (n i : ℕ) → i < suc n → n ≤ i → i ≡ n
           last n i a b = omega (arith, a, b)
 
-  pub paths_are_below : paths_in (factors_of levels) ≡ paths_below levels all_copies
+  pub paths_are_below : paths_in (level_factors levels) ≡ paths_below levels all_copies
   paths_are_below =
-      ext_get_or [] (paths_in (factors_of levels)) (paths_below levels all_copies) (length_paths (factors_of levels) ∙ sym (long_below all_copies))
-      (λ i h. at i (subst (λ (n : ℕ). i < n) (length_paths (factors_of levels)) h))
+      ext_get_or [] (paths_in (level_factors levels)) (paths_below levels all_copies) (length_paths (level_factors levels) ∙ sym (long_below all_copies))
+      (λ i h. at i (subst (λ (n : ℕ). i < n) (length_paths (level_factors levels)) h))
     where
-      at : (i : ℕ) → i < all_copies → get_or (paths_in (factors_of levels)) i [] ≡ get_or (paths_below levels all_copies) i []
+      at : (i : ℕ) → i < all_copies → get_or (paths_in (level_factors levels)) i [] ≡ get_or (paths_below levels all_copies) i []
       at i h = (numbered levels s i h).listed ∙ sym (in_front all_copies i h)
 
 pub all_leaders_are_keys : AllLeadersAreKeys
@@ -423,10 +423,10 @@ all_leaders_are_keys levels s counts = record {
 }
   where
     copies : ℕ
-    copies = copies_in (factors_of levels)
+    copies = copies_in (level_factors levels)
 
     least : (n : ℕ) → n ≤ n
     least n = omega arith
 
-    paths_is : paths_in (factors_of levels) ≡ paths_below levels (copies_in (factors_of levels))
+    paths_is : paths_in (level_factors levels) ≡ paths_below levels (copies_in (level_factors levels))
     paths_is = paths_are_below levels s counts

@@ -5,7 +5,7 @@ use Rattle.std.proofs.lemmas.Bool.{cases_lt}
 use Rattle.dh_tree.specs.Meets.{Meets, nothing, access, all, one, In, Before}
 use Rattle.dh_tree.specs.PlainTrees.{Action, action, lets, lets_memory, views, assigns, stores, reduces, calls, blocks, decides, repeats, counts, MaybeAction, no_action, one_action, Actions, no_actions, action_then, Groups, no_groups, group_then, Program}
 use Rattle.dh_meaning.specs.AccessNumbers.{accesses_of, groups_accesses, other_accesses, own_accesses, part_accesses, term_accesses}
-use Rattle.dh_meets.specs.MayMeet.{arms_meet, groups_meet, meets, meets_in, other_meets, part_meets, row_of}
+use Rattle.dh_meets.specs.MayMeet.{arms_meet, groups_meet, meets, meets_in, other_meets, part_meets, row_of_accesses}
 use Rattle.dh_plan.specs.DoneProgram.{MeetsAs}
 use Rattle.dh_plan.specs.PlainPlans.{PlainPlan}
 use Rattle.dh_accesses.specs.Met.{SameMeets}
@@ -75,9 +75,9 @@ counted t n p q e h = subst (λ (i : ℕ). StandInRange t n i) e h
 moved : (t : Meets) (n m p : ℕ) → n ≡ m → StandInRange t n p → StandInRange t m p
 moved t n m p e h = subst (λ (i : ℕ). StandInRange t i p) e h
 
-row_in : (n count : ℕ) → StandInRange (row_of n count) n count
+row_in : (n count : ℕ) → StandInRange (row_of_accesses n count) n count
 row_in n zero = none_in n
-row_in n (suc count) = counted (row_of n (suc count)) n (1 + count) (suc count) (omega arith) (all_in (access n) (row_of (suc n) count) n 1 count (one_in n) (moved (row_of (suc n) count) (suc n) (n + 1) count (omega arith) (row_in (suc n) count)))
+row_in n (suc count) = counted (row_of_accesses n (suc count)) n (1 + count) (suc count) (omega arith) (all_in (access n) (row_of_accesses (suc n) count) n 1 count (one_in n) (moved (row_of_accesses (suc n) count) (suc n) (n + 1) count (omega arith) (row_in (suc n) count)))
 
 own_in : (t : Meets) (n p : ℕ) → StandInRange t n p → StandInRange t n (p + 0)
 own_in t n p h = counted t n p (p + 0) (omega arith) h
@@ -100,11 +100,11 @@ mutual
   command_in unrolled n (action id place (calls function arguments)) = own_in nothing n 0 (none_in n)
   command_in unrolled n (action id place (blocks body)) = inner_in (groups_meet unrolled n body) n (groups_accesses body) (groups_in unrolled n body)
   command_in unrolled n (action id place (decides test chosen other)) =
-      all_in (row_of n (term_accesses test)) _ n (term_accesses test) (accesses_of chosen + other_accesses other) (row_in n (term_accesses test))
+      all_in (row_of_accesses n (term_accesses test)) _ n (term_accesses test) (accesses_of chosen + other_accesses other) (row_in n (term_accesses test))
       (arms_in unrolled (meets unrolled (n + term_accesses test) chosen) (other_meets unrolled (n + term_accesses test + accesses_of chosen) other) (n + term_accesses test) (accesses_of chosen) (other_accesses other)
       (command_in unrolled (n + term_accesses test) chosen) (other_in unrolled (n + term_accesses test + accesses_of chosen) other))
   command_in unrolled n (action id place (repeats test body)) =
-      apart_in (row_of n (term_accesses test)) (meets unrolled (n + term_accesses test) body) n (term_accesses test) (accesses_of body) (row_in n (term_accesses test)) (command_in unrolled (n + term_accesses test) body)
+      apart_in (row_of_accesses n (term_accesses test)) (meets unrolled (n + term_accesses test) body) n (term_accesses test) (accesses_of body) (row_in n (term_accesses test)) (command_in unrolled (n + term_accesses test) body)
   command_in unrolled n (action id place (counts iterator declared low high factor body combine combine_place)) =
       inner_in _ n (accesses_of body + other_accesses combine)
       (all_in (meets (unrolled || nat_lt 1 factor.value) n body) (other_meets (unrolled || nat_lt 1 factor.value) (n + accesses_of body) combine) n (accesses_of body) (other_accesses combine)

@@ -11,7 +11,7 @@ use Rattle.dh_code.proofs.Ranked.{path_begins, ranks_differ}
 use Rattle.dh_expressions.specs.declared.paths.Level.{Level}
 use Rattle.dh_expressions.specs.Copying.{groups_by}
 use Rattle.dh_expressions.specs.Levels.{path_at, rank_to}
-use Rattle.dh_commands.specs.ShownVariables.{factors_of}
+use Rattle.dh_commands.specs.ShownVariables.{level_factors}
 use Rattle.dh_blocks.specs.PathsOfLevels.{AreSpread}
 use Rattle.dh_blocks.proofs.PathNumbers.{numbered, rank_first_copies}
 use Rattle.dh_charged.proofs.KeysLed.{own_path, same_paths}
@@ -68,30 +68,30 @@ module _ (levels : List Level) (s : AreSpread levels) (d : ℕ) where
   abbrev group : ℕ → ℕ
   group n = groups_by levels d n
 
-  pub group_rank : (n : ℕ) → n < copies_in (factors_of levels) → group n ≡ rank_of (take d (factors_of levels)) (begin n)
+  pub group_rank : (n : ℕ) → n < copies_in (level_factors levels) → group n ≡ rank_of (take d (level_factors levels)) (begin n)
   group_rank n below = by (cases_lt (length levels) d)
     where
-      long : length (factors_of levels) ≡ length levels
+      long : length (level_factors levels) ≡ length levels
       long = length-map levels (λ (l : Level). l.factor)
 
       below_it : (a b c : ℕ) → a ≡ b → b < c → a ≤ c
       below_it a b c e l = omega (arith, e, l)
 
-      by : (length levels < d) ⊎ (d ≤ length levels) → group n ≡ rank_of (take d (factors_of levels)) (begin n)
+      by : (length levels < d) ⊎ (d ≤ length levels) → group n ≡ rank_of (take d (level_factors levels)) (begin n)
       by (inl past) =
           last_group levels d n past
           ∙ (sym (numbered levels s n below).rank
-          ∙ (ap (λ (fs : List ℕ). rank_of fs (path_at levels n)) (sym (all_taken d (factors_of levels) (below_it _ _ _ long past)))
-          ∙ ap (λ (q : Path). rank_of (take d (factors_of levels)) q)
-          (sym (all_taken d (path_at levels n) (below_it _ _ _ (length_path (factors_of levels) (path_at levels n) (numbered levels s n below).path ∙ long) past)))))
+          ∙ (ap (λ (fs : List ℕ). rank_of fs (path_at levels n)) (sym (all_taken d (level_factors levels) (below_it _ _ _ long past)))
+          ∙ ap (λ (q : Path). rank_of (take d (level_factors levels)) q)
+          (sym (all_taken d (path_at levels n) (below_it _ _ _ (length_path (level_factors levels) (path_at levels n) (numbered levels s n below).path ∙ long) past)))))
       by (inr within) = rank_first_copies levels s d n below within
 
-  pub one_group : (n m : ℕ) → n < copies_in (factors_of levels) → m < copies_in (factors_of levels) → group n ≡ group m → begin n ≡ begin m
+  pub one_group : (n m : ℕ) → n < copies_in (level_factors levels) → m < copies_in (level_factors levels) → group n ≡ group m → begin n ≡ begin m
   one_group n m a b e =
-      (ranks_differ 0 0 (take d (factors_of levels)) (begin n) (begin m) (path_begins (factors_of levels) (path_at levels n) d (numbered levels s n a).path)
-      (path_begins (factors_of levels) (path_at levels m) d (numbered levels s m b).path) (sym (group_rank n a) ∙ (e ∙ group_rank m b))).1
+      (ranks_differ 0 0 (take d (level_factors levels)) (begin n) (begin m) (path_begins (level_factors levels) (path_at levels n) d (numbered levels s n a).path)
+      (path_begins (level_factors levels) (path_at levels m) d (numbered levels s m b).path) (sym (group_rank n a) ∙ (e ∙ group_rank m b))).1
 
-  pub group_tested : (n m : ℕ) → n < copies_in (factors_of levels) → m < copies_in (factors_of levels) → (group n == group m) ≡ same_path (begin n) (begin m)
+  pub group_tested : (n m : ℕ) → n < copies_in (level_factors levels) → m < copies_in (level_factors levels) → (group n == group m) ≡ same_path (begin n) (begin m)
   group_tested n m a b = by (group n == group m) (same_path (begin n) (begin m)) refl refl
     where
       clash : (t : Bool) → t ≡ true → t ≡ false → ⊥
@@ -103,4 +103,4 @@ module _ (levels : List Level) (s : AreSpread levels) (d : ℕ) where
       by false false e f = refl
       by true false e f = absurd (clash (same_path (begin n) (begin m)) (ap (λ q. same_path q (begin m)) (one_group n m a b (eqb-true (group n) (group m) e)) ∙ own_path (begin m)) f)
       by false true e f =
-          absurd (clash (group n == group m) (eq-eqb (group n) (group m) (group_rank n a ∙ (ap (λ (q : Path). rank_of (take d (factors_of levels)) q) (same_paths (begin n) (begin m) f) ∙ sym (group_rank m b)))) e)
+          absurd (clash (group n == group m) (eq-eqb (group n) (group m) (group_rank n a ∙ (ap (λ (q : Path). rank_of (take d (level_factors levels)) q) (same_paths (begin n) (begin m) f) ∙ sym (group_rank m b)))) e)

@@ -5,16 +5,16 @@ use Rattle.dh_tree.specs.declared.tables.Shape.{Shape}
 use Rattle.dh_tree.specs.declared.viewing.ViewSort.TheVariants.{Shift}
 use Rattle.dh_tree.specs.Memories.{Memory, memories_of, memory_in}
 use Rattle.dh_tree.specs.PlainTrees.{ViewPlan, shrinks, splits, suffixes, shifts, Program}
-use Rattle.dh_tree.specs.ViewOffsets.{is_shift}
+use Rattle.dh_tree.specs.ViewOffsets.{is_shift_view}
 use Rattle.dh_tree.specs.Views.{map_of, sort_of}
 use Rattle.dh_viewing.specs.Carried.{HasShift}
-use Rattle.dh_meaning.specs.Ways.{Led, Standing, Step, Way, behind_hidden, depth_where, led_after, led_behind, led_of, shape_named, standings, way_at, way_behind, way_in, way_to, way_unless, ways_of}
+use Rattle.dh_meaning.specs.Ways.{Led, ViewSite, WayStep, Way, behind_hidden, depth_where, led_after, led_behind, led_of, shape_named, standings, way_at, way_behind, way_in, way_to, way_unless, ways_of}
 use Rattle.dh_sound.proofs.ViewedWays.{found_holds, led_to}
 
 abbrev pub KeepsShifts : Way → Type 0
-KeepsShifts w = (w.shifts ≡ 0) ⊎ HasShift (map (λ (s : Step). s.is) w.steps)
+KeepsShifts w = (w.shifts ≡ 0) ⊎ HasShift (map (λ (s : WayStep). s.is) w.steps)
 
-own_shift : (form : ViewPlan) (depth : ℕ) → (depth_where (is_shift form) depth ≡ 0) ⊎ (sort_of form ≡ Shift)
+own_shift : (form : ViewPlan) (depth : ℕ) → (depth_where (is_shift_view form) depth ≡ 0) ⊎ (sort_of form ≡ Shift)
 own_shift (shrinks by by_place) depth = inl refl
 own_shift (splits by by_place) depth = inl refl
 own_shift (suffixes by by_place) depth = inl refl
@@ -23,11 +23,11 @@ own_shift (shifts by) depth = inr refl
 both_none : (a b : ℕ) → a ≡ 0 → b ≡ 0 → max a b ≡ 0
 both_none a b e f = grind (arith, e, f)
 
-behind_keeps : (first : ℕ) (s : Standing) (shape : Shape) (o : Option Way) → ((w : Way) → o ≡ Some w → KeepsShifts w) → KeepsShifts (way_behind first s (map_of s.form shape) o)
+behind_keeps : (first : ℕ) (s : ViewSite) (shape : Shape) (o : Option Way) → ((w : Way) → o ≡ Some w → KeepsShifts w) → KeepsShifts (way_behind first s (map_of s.form shape) o)
 behind_keeps first s shape None h = elim (own_shift s.form s.depth) [ inl e ↦ inl e | inr e ↦ inr (inl e) ]
 behind_keeps first s shape (Some w) h = by (own_shift s.form s.depth) (h w refl)
   where
-    by : (depth_where (is_shift s.form) s.depth ≡ 0) ⊎ (sort_of s.form ≡ Shift) → KeepsShifts w → KeepsShifts (way_behind first s (map_of s.form shape) (Some w))
+    by : (depth_where (is_shift_view s.form) s.depth ≡ 0) ⊎ (sort_of s.form ≡ Shift) → KeepsShifts w → KeepsShifts (way_behind first s (map_of s.form shape) (Some w))
     by (inl e) (inl f) = inl (both_none _ _ e f)
     by (inl e) (inr k) = inr (inr k)
     by (inr e) k = inr (inl e)
@@ -43,11 +43,11 @@ unless_some : (m : Option Memory) (o : Option Way) (w : Way) → way_unless m o 
 unless_some (Some m) o w e = cc
 unless_some None o w e = e
 
-one_keeps : (first : ℕ) (s : Standing) (shape : Option Shape) (o : Option Way) → ((w : Way) → o ≡ Some w → KeepsShifts w) → AllKeep (led_of first s shape o)
+one_keeps : (first : ℕ) (s : ViewSite) (shape : Option Shape) (o : Option Way) → ((w : Way) → o ≡ Some w → KeepsShifts w) → AllKeep (led_of first s shape o)
 one_keeps first s None o h = tt
 one_keeps first s (Some shape) o h = (behind_keeps first s shape o h, tt)
 
-all_keep : (ms : List Memory) (first : ℕ) (ls : List Led) (ss : List Standing) → AllKeep ls → AllKeep (led_behind ms first ls ss)
+all_keep : (ms : List Memory) (first : ℕ) (ls : List Led) (ss : List ViewSite) → AllKeep ls → AllKeep (led_behind ms first ls ss)
 all_keep ms first ls [] all = all
 all_keep ms first ls (s ∷ ss) all =
     all_keep ms (behind_hidden first s) (ls ++ led_after ms first ls s) ss

@@ -22,7 +22,7 @@ use Rattle.dh_expressions.specs.declared.paths.Level.{Level}
 use Rattle.dh_expressions.specs.Copying.{groups_by}
 use Rattle.dh_expressions.specs.Counting.{carried_before, copy_place, leaders_in, most_in}
 use Rattle.dh_expressions.specs.Levels.{leader_number, path_at}
-use Rattle.dh_commands.specs.ShownVariables.{factors_of}
+use Rattle.dh_commands.specs.ShownVariables.{level_factors}
 use Rattle.dh_blocks.specs.PathsOfLevels.{AreSpread}
 use Rattle.dh_blocks.proofs.PathNumbers.{numbered}
 use Rattle.dh_charged.proofs.ChargesThrough.{charged_everywhere, charged_more}
@@ -83,10 +83,10 @@ module _ (leader bank group : ℕ → ℕ) where
   before_sum (suc k) n = ap (λ m. m + most_in leader bank group k n) (before_sum k n)
 
 -- Of an access through a way, where its loops are these levels, by the banks of what is named that are reached there.
-module _ (p : Program) (w : Way) (a : SourceAccess) (dims : List Dim) (lead : StepsLead w.steps dims) (levels : List Level) (s : AreSpread levels) (paths : paths_of a ≡ paths_in (factors_of levels))
+module _ (p : Program) (w : Way) (a : SourceAccess) (dims : List Dim) (lead : StepsLead w.steps dims) (levels : List Level) (s : AreSpread levels) (paths : paths_of a ≡ paths_in (level_factors levels))
     (bank : ℕ → ℕ) (bank_is : (k : ℕ) → bank k ≡ bank_named p w a (path_at levels k)) (inside : (k : ℕ) → bank k < banks_of (next_dims w.steps dims)) (shifts : (w.shifts ≡ 0) ⊎ HasShift (map (λ s. s.is) w.steps)) where
   abbrev copies : ℕ
-  copies = copies_in (factors_of levels)
+  copies = copies_in (level_factors levels)
 
   abbrev leader : ℕ → ℕ
   leader n = leader_number levels (depends (all_bindings_of p) a) n
@@ -123,10 +123,10 @@ module _ (p : Program) (w : Way) (a : SourceAccess) (dims : List Dim) (lead : St
       less : (m n : ℕ) → suc m < suc n → m < n
       less m n l = omega (arith, l)
 
-  listed : (n : ℕ) → n < copies → Has (path_at levels n) (paths_in (factors_of levels))
+  listed : (n : ℕ) → n < copies → Has (path_at levels n) (paths_in (level_factors levels))
   listed n below =
-      subst (λ (q : Path). Has q (paths_in (factors_of levels))) (numbered levels s n below).listed
-      (has_at (paths_in (factors_of levels)) n (subst (λ (m : ℕ). n < m) (sym (length_paths (factors_of levels))) below))
+      subst (λ (q : Path). Has q (paths_in (level_factors levels))) (numbered levels s n below).listed
+      (has_at (paths_in (level_factors levels)) n (subst (λ (m : ℕ). n < m) (sym (length_paths (level_factors levels))) below))
 
   group_there : (n : ℕ) → n < copies → Has (begin n) (groups_of w a)
   group_there n below =
@@ -139,7 +139,7 @@ module _ (p : Program) (w : Way) (a : SourceAccess) (dims : List Dim) (lead : St
     carries q = carried_by (map (λ s. s.is) w.steps) (keys_in_group p w a q) target
 
     abbrev rank : Path → ℕ
-    rank q = rank_of (take w.shifts (factors_of levels)) q
+    rank q = rank_of (take w.shifts (level_factors levels)) q
 
     -- the most of an earlier group
     earlier : (n g : ℕ) → n < copies → HasShift (map (λ s. s.is) w.steps) → HasCarrier carries rank (groups_of w a) g (most_in leader bank group g n)

@@ -38,8 +38,8 @@ use Rattle.dh_expressions.specs.Named.{shifts_on}
 use Rattle.dh_expressions.specs.Numbers.{narrowed}
 use Rattle.dh_expressions.specs.ReachedBanks.{bank_by, index_first, indices_first, level_with}
 use Rattle.dh_expressions.specs.Standings.{copy_places}
-use Rattle.dh_formed.specs.Formed.{Site}
-use Rattle.dh_commands.specs.ShownVariables.{factors_of}
+use Rattle.dh_formed.specs.Formed.{BlockSite}
+use Rattle.dh_commands.specs.ShownVariables.{level_factors}
 use Rattle.dh_laid.specs.LaidUses.{IsLeadersUse}
 use Rattle.dh_blocks.specs.PathsOfLevels.{AreSpread}
 use Rattle.dh_blocks.proofs.PathNumbers.{copy_in_path}
@@ -172,7 +172,7 @@ below_few n l h g = omega (arith, h, g)
 no_further : (n m limit : ℕ) → n ≤ m → suc m ≤ limit → suc n ≤ limit
 no_further n m limit h k = omega (arith, h, k)
 
-module _ (scene : Scene) (levels : List Level) (sites : ℕ → Option Site) (spread : AreSpread levels) (shares : HasShares scene) (of : AreSitesAt scene levels sites) (r : Reach) (u : IsLeadersUse scene sites r) where
+module _ (scene : Scene) (levels : List Level) (sites : ℕ → Option BlockSite) (spread : AreSpread levels) (shares : HasShares scene) (of : AreSitesAt scene levels sites) (r : Reach) (u : IsLeadersUse scene sites r) where
   abbrev p : Program
   p = program_seen scene.program.now
 
@@ -189,7 +189,7 @@ module _ (scene : Scene) (levels : List Level) (sites : ℕ → Option Site) (sp
   picks = depends (all_bindings_of p) a
 
   abbrev copies : ℕ
-  copies = copies_in (factors_of levels)
+  copies = copies_in (level_factors levels)
 
   abbrev dims : List Dim
   dims = dims_by its.memory.memory.shape.dims way
@@ -217,7 +217,7 @@ module _ (scene : Scene) (levels : List Level) (sites : ℕ → Option Site) (sp
   inside : u.path < copies
   inside = subst (λ (n : ℕ). u.path < n) its.tells.long u.within
 
-  paths_same : paths_of a ≡ paths_in (factors_of levels)
+  paths_same : paths_of a ≡ paths_in (level_factors levels)
   paths_same = sym (ap (λ (fs : List ℕ). paths_in fs) its.tells.loops.factors)
 
   leads_so : leader_number levels picks u.path ≡ u.path

@@ -18,7 +18,7 @@ use Rattle.dh_expressions.specs.declared.scenes.Scene.{Scene}
 use Rattle.dh_commands.specs.declared.buildings.Building.{Building}
 use Rattle.dh_commands.specs.LanesRun.{paths_counted}
 use Rattle.dh_commands.specs.MadeCommands.{MadeTests}
-use Rattle.dh_commands.specs.ShownVariables.{factors_of}
+use Rattle.dh_commands.specs.ShownVariables.{level_factors}
 use Rattle.dh_laid.specs.BlockSites.{MadeEach, block_sites, test_sites}
 use Rattle.dh_laid.specs.LaidQuiet.{StandsIn}
 use Rattle.dh_laid.specs.LaidUses.{AreAlong, HaveNoOperations, SharesInside, WritesAlone}
@@ -29,7 +29,7 @@ use Rattle.dh_charged.specs.ChargedUses.{AreSitesAt, HasShares, OperationsCharge
 pub record StandsAtPaths (scene : Scene) (around : Around) : Type 0 where
   pub stands : StandsIn scene around
   pub spread : AreSpread around.levels.now
-  pub counted : paths_counted around ≡ copies_in (factors_of around.levels.now)
+  pub counted : paths_counted around ≡ copies_in (level_factors around.levels.now)
 
 -- the operations of a block are those behind a draft
 abbrev pub IsCutFrom : PlainPlan → (block : ℕ) → (old end : Draft) → Type 0

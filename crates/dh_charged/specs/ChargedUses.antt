@@ -27,8 +27,8 @@ use Rattle.dh_expressions.specs.Levels.{leader_number}
 use Rattle.dh_expressions.specs.Named.{shifts_on}
 use Rattle.dh_expressions.specs.Numbers.{narrowed}
 use Rattle.dh_expressions.specs.ReachedBanks.{bank_by}
-use Rattle.dh_formed.specs.Formed.{Site}
-use Rattle.dh_commands.specs.ShownVariables.{factors_of}
+use Rattle.dh_formed.specs.Formed.{BlockSite}
+use Rattle.dh_commands.specs.ShownVariables.{level_factors}
 use Rattle.dh_laid.specs.LaidUses.{AreLedUses}
 use Rattle.dh_blocks.specs.PathsOfLevels.{AreSpread}
 
@@ -50,7 +50,7 @@ IsReachedFrom None named place b = (b.0 ≡ named) × (b.1 ≡ place)
 IsReachedFrom (Some w) named place b = (may_reach w.steps named b.0 ≡ true) × (b.1 ≡ place)
 
 -- a site tells where an access of the program stands
-pub record TellsAccess (scene : Scene) (levels : List Level) (site : Site) (a : SourceAccess) : Type 0 where
+pub record TellsAccess (scene : Scene) (levels : List Level) (site : BlockSite) (a : SourceAccess) : Type 0 where
   pub form : TermForm
   pub memory_is : site.memory ≡ entity_number (number_in (memories_of (program_seen scene.program.now)) (base_of (way_to (program_seen scene.program.now) a.entity) a.entity))
   pub element_is : element_in form ≡ a.element
@@ -59,7 +59,7 @@ pub record TellsAccess (scene : Scene) (levels : List Level) (site : Site) (a : 
   pub places_is : (path : ℕ) → site.standing.places path ≡ places_by site.standing.leader site.standing.bank (λ p. groups_by levels (shifts_on (way_to (program_seen scene.program.now) a.entity)) p) path
   pub reaches : (named place : ℕ) → IsBankOf (way_to (program_seen scene.program.now) a.entity) named
       → AllByRecursion (IsReachedFrom (way_to (program_seen scene.program.now) a.entity) named place) (site.standing.reaches named place)
-  pub long : length site.standing.guards ≡ copies_in (factors_of levels)
+  pub long : length site.standing.guards ≡ copies_in (level_factors levels)
   pub loops : AreLevelsOf levels a.site.loops
 
 -- An access is of a memory that is declared, or leads to one through views; memories and banks are few. Its loops round the
@@ -78,14 +78,14 @@ pub record IsOfSmallMemory (p : Program) (a : SourceAccess) : Type 0 where
   pub shifts : (w : Way) → way_to p a.entity ≡ Some w → (w.shifts ≡ 0) ⊎ HasShift (map (λ s. s.is) w.steps)
 
 -- each site of a block is of an access of the program
-pub record IsSiteAt (scene : Scene) (levels : List Level) (number : ℕ) (site : Site) : Type 0 where
+pub record IsSiteAt (scene : Scene) (levels : List Level) (number : ℕ) (site : BlockSite) : Type 0 where
   pub access : SourceAccess
   pub at : slice_get (accesses_in (trace (program_seen scene.program.now))) number ≡ Some access
   pub tells : TellsAccess scene levels site access
   pub memory : IsOfSmallMemory (program_seen scene.program.now) access
 
-abbrev pub AreSitesAt : Scene → List Level → (sites : ℕ → Option Site) → Type 0
-AreSitesAt scene levels sites = (number : ℕ) (s : Site) → sites number ≡ Some s → IsSiteAt scene levels number s
+abbrev pub AreSitesAt : Scene → List Level → (sites : ℕ → Option BlockSite) → Type 0
+AreSitesAt scene levels sites = (number : ℕ) (s : BlockSite) → sites number ≡ Some s → IsSiteAt scene levels number s
 
 -- the scene tells each read that shares an earlier one
 abbrev pub HasShares : Scene → Type 0
@@ -100,5 +100,5 @@ OperationsCharge p os =
 
 abbrev pub LedUsesCharge : Type 0
 LedUsesCharge =
-    (scene : Scene) (levels : List Level) (sites : ℕ → Option Site) (os : List Operation)
+    (scene : Scene) (levels : List Level) (sites : ℕ → Option BlockSite) (os : List Operation)
     → AreSpread levels → HasShares scene → AreLedUses scene sites os → AreSitesAt scene levels sites → OperationsCharge (program_seen scene.program.now) os

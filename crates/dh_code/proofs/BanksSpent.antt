@@ -13,7 +13,7 @@ use Rattle.dh_base.specs.declared.outcomes.Outcome.TheVariants.{Stuck}
 use Rattle.dh_tree.specs.declared.tables.MemEntry.{MemEntry}
 use Rattle.dh_tree.specs.Elements.{Spot, ports_at, banks_of}
 use Rattle.dh_code.specs.Banks.{HasBank}
-use Rattle.dh_meaning.specs.Effects.{Event, reads, writes, faults, is_at, is_beyond, rows_read, writes_made, spent, stop_after}
+use Rattle.dh_meaning.specs.Effects.{Event, reads, writes, faults, is_at, spends_beyond, rows_read, writes_made, spent, stop_after}
 use Rattle.dh_code.specs.declared.spending.Bank.{Bank}
 use Rattle.dh_code.specs.Banks.{first_bank, all_banks}
 use Rattle.dh_code.specs.Spent.{rows_now, left_now, has_row, ReadsRow, WritesRow, HasSpent, HaveSpent, AreUsedBy}
@@ -23,7 +23,7 @@ use Rattle.dh_code.proofs.RowsRead.{extra, read_has, read_length, read_writes, w
 pub stop_more : (table : List MemEntry) (before es rest : List Event) → stop_after table before es ≡ None → stop_after table before (es ++ rest) ≡ stop_after table (before ++ es) rest
 stop_more table before [] rest h = ap (λ l. stop_after table l rest) (sym (append-nil before))
 stop_more table before (reads n p x s ∷ es) rest h =
-    by (is_beyond table (before ++ reads n p x s ∷ []) s) (stop_more table (before ++ reads n p x s ∷ []) es rest) h
+    by (spends_beyond table (before ++ reads n p x s ∷ []) s) (stop_more table (before ++ reads n p x s ∷ []) es rest) h
   where
     by : (t : Bool) → (stop_after table (before ++ reads n p x s ∷ []) es ≡ None → stop_after table (before ++ reads n p x s ∷ []) (es ++ rest) ≡ stop_after table ((before ++ reads n p x s ∷ []) ++ es) rest)
         → (if t then Some (Stuck s.memory s.bank p) else stop_after table (before ++ reads n p x s ∷ []) es) ≡ None
@@ -31,7 +31,7 @@ stop_more table before (reads n p x s ∷ es) rest h =
     by true further h = absurd cc
     by false further h = further h ∙ ap (λ l. stop_after table l rest) (append_assoc before (reads n p x s ∷ []) es)
 stop_more table before (writes n p x s v ∷ es) rest h =
-    by (is_beyond table (before ++ writes n p x s v ∷ []) s) (stop_more table (before ++ writes n p x s v ∷ []) es rest) h
+    by (spends_beyond table (before ++ writes n p x s v ∷ []) s) (stop_more table (before ++ writes n p x s v ∷ []) es rest) h
   where
     by : (t : Bool) → (stop_after table (before ++ writes n p x s v ∷ []) es ≡ None → stop_after table (before ++ writes n p x s v ∷ []) (es ++ rest) ≡ stop_after table ((before ++ writes n p x s v ∷ []) ++ es) rest)
         → (if t then Some (Stuck s.memory s.bank p) else stop_after table (before ++ writes n p x s v ∷ []) es) ≡ None
@@ -44,7 +44,7 @@ stop_more table before (faults n p x kind ∷ es) rest h = absurd cc
 pub stop_stays : (table : List MemEntry) (before es rest : List Event) (o : Outcome) → stop_after table before es ≡ Some o → stop_after table before (es ++ rest) ≡ Some o
 stop_stays table before [] rest o h = absurd cc
 stop_stays table before (reads n p x s ∷ es) rest o h =
-    by (is_beyond table (before ++ reads n p x s ∷ []) s) (stop_stays table (before ++ reads n p x s ∷ []) es rest o) h
+    by (spends_beyond table (before ++ reads n p x s ∷ []) s) (stop_stays table (before ++ reads n p x s ∷ []) es rest o) h
   where
     by : (t : Bool) → (stop_after table (before ++ reads n p x s ∷ []) es ≡ Some o → stop_after table (before ++ reads n p x s ∷ []) (es ++ rest) ≡ Some o)
         → (if t then Some (Stuck s.memory s.bank p) else stop_after table (before ++ reads n p x s ∷ []) es) ≡ Some o
@@ -52,7 +52,7 @@ stop_stays table before (reads n p x s ∷ es) rest o h =
     by true further h = h
     by false further h = further h
 stop_stays table before (writes n p x s v ∷ es) rest o h =
-    by (is_beyond table (before ++ writes n p x s v ∷ []) s) (stop_stays table (before ++ writes n p x s v ∷ []) es rest o) h
+    by (spends_beyond table (before ++ writes n p x s v ∷ []) s) (stop_stays table (before ++ writes n p x s v ∷ []) es rest o) h
   where
     by : (t : Bool) → (stop_after table (before ++ writes n p x s v ∷ []) es ≡ Some o → stop_after table (before ++ writes n p x s v ∷ []) (es ++ rest) ≡ Some o)
         → (if t then Some (Stuck s.memory s.bank p) else stop_after table (before ++ writes n p x s v ∷ []) es) ≡ Some o
@@ -139,7 +139,7 @@ module _ (table : List MemEntry) (es : List Event) (s : Spot) (now : ℕ) (old n
         counted true l l' k n n' p e f g i = omega (arith, e, f, g, i)
         counted false l l' k n n' p e f g i = omega (arith, e, f, g, i)
 
-    pub read_beyond : ReadsRow (rows_now old now) (left_now old ports now) s.row (Ok false) new.rows.items new.left → is_beyond table after_read s ≡ true
+    pub read_beyond : ReadsRow (rows_now old now) (left_now old ports now) s.row (Ok false) new.rows.items new.left → spends_beyond table after_read s ≡ true
     read_beyond r = beyond ports (spent es s.memory s.bank) (spent after_read s.memory s.bank) (none (left_now old ports now) _ _ r.1 h.left) (more_spent ∙ ap (λ (b : Bool). extra (not b) + spent es s.memory s.bank) r.0 ∙ one (spent es s.memory s.bank))
       where
         none : (l n p : ℕ) → l ≡ 0 → l + n ≡ p → n ≡ p
@@ -169,7 +169,7 @@ module _ (table : List MemEntry) (es : List Event) (s : Spot) (now : ℕ) (old n
         counted : (l l' k n n' p : ℕ) → l' ≡ k → l ≡ suc k → n' ≡ suc n → l + n ≡ p → l' + n' ≡ p
         counted l l' k n n' p e f g i = omega (arith, e, f, g, i)
 
-    pub write_beyond : WritesRow (rows_now old now) (left_now old ports now) false new.rows.items new.left → is_beyond table after_write s ≡ true
+    pub write_beyond : WritesRow (rows_now old now) (left_now old ports now) false new.rows.items new.left → spends_beyond table after_write s ≡ true
     write_beyond r = beyond ports (spent es s.memory s.bank) (spent after_write s.memory s.bank) (none (left_now old ports now) _ _ r h.left) more_writes
       where
         none : (l n p : ℕ) → l ≡ 0 → l + n ≡ p → n ≡ p

@@ -13,7 +13,7 @@ use Rattle.dh_code.specs.Coded.{IsFlat}
 use Rattle.dh_code.specs.Ranks.{ArePaths, IsPath, ranks_of}
 use Rattle.dh_code.specs.Scenes.{begun_in}
 use Rattle.dh_code.specs.Slots.{Placing}
-use Rattle.dh_code.specs.States.{AreParts, AreRanks, AreRows, Decides, IsAside, IsReady, Keeps, KeepsBack, Runs}
+use Rattle.dh_code.specs.States.{AreParts, AreRanks, AreRows, Decides, IsAside, IsReadyState, Keeps, KeepsBack, Runs}
 use Rattle.dh_code.specs.Suited.{CanEvaluate}
 use Rattle.dh_code.proofs.PathLoops.{Going, Grows, go_end, go_first, go_stop, go_turn, no_more_rows, row_at}
 
@@ -86,12 +86,12 @@ pub record PartsAt (p : Placing) (s : Scene) (rows : List (List ℕ)) (factors :
   pub second : AreRows factors rows other (paths_where false (holds_at (begun_in s) e.variables t) (take k paths))
 
 pub record PartsSoFar (s : Scene) (old : State) (rows : List (List ℕ)) (numbers : List ℕ) (f : Flat) (k : ℕ) (now : State) (chosen other : List ℕ) : Type 0 where
-  pub ready : IsReady s now
+  pub ready : IsReadyState s now
   pub back : KeepsBack old now
   pub ran : (p : Placing) (factors : List ℕ) (paths : List Path) (t : CoreTerm) → AreRows factors rows numbers paths → IsFlat p.held s.entries.now s.code.now t f → CanEvaluate s.entries.now p factors t
       → (e : Effect) → Keeps p s.entries.now e s.step old → PartsAt p s rows factors paths t e k now chosen other
 
-pub parts_first : (s : Scene) (old : State) (rows : List (List ℕ)) (numbers : List ℕ) (f : Flat) → IsReady s old → PartsSoFar s old rows numbers f 0 old [] []
+pub parts_first : (s : Scene) (old : State) (rows : List (List ℕ)) (numbers : List ℕ) (f : Flat) → IsReadyState s old → PartsSoFar s old rows numbers f 0 old [] []
 parts_first s old rows numbers f ready = record {
   ready = ready;
   back = record { long = refl; back = refl };
@@ -119,7 +119,7 @@ module _ (s : Scene) (old : State) (rows : List (List ℕ)) (numbers : List ℕ)
   next_paths factors paths are = take_next paths k (get_or paths k []) (row_at factors rows numbers paths k i are.are are.inside within).1
 
   -- where the test comes out so
-  module _ (b : Bool) (new : State) (ready : IsReady s new) (back : KeepsBack now new) (d : Decides s now (Ok b) new ranks f) where
+  module _ (b : Bool) (new : State) (ready : IsReadyState s new) (back : KeepsBack now new) (d : Decides s now (Ok b) new ranks f) where
     abbrev so_far : (p : Placing) (factors : List ℕ) (paths : List Path) (t : CoreTerm) → AreRows factors rows numbers paths → IsFlat p.held s.entries.now s.code.now t f → CanEvaluate s.entries.now p factors t → (e : Effect) → Keeps p s.entries.now e s.step old
         → PartsAt p s rows factors paths t e k now chosen other
     so_far p factors paths t are flat can e h = g.ran p factors paths t are flat can e h

@@ -11,7 +11,7 @@ use Rattle.dh_code.specs.declared.codes.Flat.{Flat}
 use Rattle.dh_code.specs.declared.codes.Operation.{Operation}
 use Rattle.dh_code.specs.declared.flattening.Names.{Names}
 use Rattle.dh_code.specs.declared.places.Held.{Held}
-use Rattle.dh_code.specs.Coded.{Extends, IsCoded, IsFlat}
+use Rattle.dh_code.specs.Coded.{ExtendsCode, IsCoded, IsFlat}
 use Rattle.dh_code.specs.Flattening.{Adds, AddsStep, IsFlatMade, IsInFront, table_in}
 use Rattle.dh_code.specs.Made.{Made, term_made}
 use Rattle.dh_code.specs.Operated.{IsOperand, IsOperation}
@@ -60,5 +60,5 @@ in_front names a b c os x next first one rest adds step coded done = record {
       (sound_added (table_in names) a b os adds (done entries).0 s);
 }
   where
-    ext : Extends a b
+    ext : ExtendsCode a b
     ext = adds_extend a b os adds

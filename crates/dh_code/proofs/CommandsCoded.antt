@@ -16,7 +16,7 @@ use Rattle.dh_code.specs.declared.codes.Flat.{Flat}
 use Rattle.dh_code.specs.declared.codes.Operation.{Operation}
 use Rattle.dh_code.specs.declared.codes.Step.{Step}
 use Rattle.dh_code.specs.declared.places.Held.{Held}
-use Rattle.dh_code.specs.Coded.{AreCoded, AreFlat, Extends, IsCoded, IsFlat, IsFlatStore, operands_kept}
+use Rattle.dh_code.specs.Coded.{AreCoded, AreFlat, ExtendsCode, IsCoded, IsFlat, IsFlatStore, operands_kept}
 use Rattle.dh_code.specs.Flattening.{Adds, AddsStep}
 use Rattle.dh_code.specs.Operated.{IsOperation}
 use Rattle.dh_code.specs.Scenes.{IsAction, IsEarlier, IsHeld, IsSoundCode, IsStep}
@@ -66,10 +66,10 @@ range_added (x ∷ xs) ys b is = ap (λ n. take n (drop (length xs) (xs ++ ys)))
     one_less : (b n m : ℕ) → b ≡ suc n + m → b - 1 ≡ n + m
     one_less b n m e = omega (arith, e)
 
-pub extends_none : (c : Code) → Extends c c
+pub extends_none : (c : Code) → ExtendsCode c c
 extends_none c = record { operations = []; are = sym (append-nil c.operations); steps = []; lead = sym (append-nil c.steps) }
 
-pub extends_then : (a b c : Code) → Extends a b → Extends b c → Extends a c
+pub extends_then : (a b c : Code) → ExtendsCode a b → ExtendsCode b c → ExtendsCode a c
 extends_then a b c h k = record {
   operations = h.operations ++ k.operations;
   are = k.are ∙ (ap (λ l. l ++ k.operations) h.are ∙ append_assoc a.operations h.operations k.operations);
@@ -77,25 +77,25 @@ extends_then a b c h k = record {
   lead = k.lead ∙ (ap (λ l. l ++ k.steps) h.lead ∙ append_assoc a.steps h.steps k.steps);
 }
 
-pub adds_extend : (a b : Code) (xs : List Operation) → Adds a b xs → Extends a b
+pub adds_extend : (a b : Code) (xs : List Operation) → Adds a b xs → ExtendsCode a b
 adds_extend a b xs h = record { operations = xs; are = h.operations; steps = []; lead = h.steps ∙ sym (append-nil a.steps) }
 
-pub step_extends : (a b : Code) (x : Action) (next first : Option ℕ) → AddsStep a b x next first → Extends a b
+pub step_extends : (a b : Code) (x : Action) (next first : Option ℕ) → AddsStep a b x next first → ExtendsCode a b
 step_extends a b x next first h = record { operations = []; are = h.operations ∙ sym (append-nil a.operations); steps = record { action = x; next = next } ∷ []; lead = h.steps }
 
-longer : (a b : Code) (n : ℕ) → Extends a b → n ≤ length a.operations → n ≤ length b.operations
+longer : (a b : Code) (n : ℕ) → ExtendsCode a b → n ≤ length a.operations → n ≤ length b.operations
 longer a b n h within = by (length a.operations) (length h.operations) (length b.operations) (ap (λ l. length l) h.are ∙ length-append a.operations h.operations) within
   where
     by : (x y z : ℕ) → z ≡ x + y → n ≤ x → n ≤ z
     by x y z e f = omega (arith, e, f)
 
-pub range_stays : (a b : Code) (from to : ℕ) → Extends a b → from ≤ to → to ≤ length a.operations → slice_range b.operations from to ≡ slice_range a.operations from to
+pub range_stays : (a b : Code) (from to : ℕ) → ExtendsCode a b → from ≤ to → to ≤ length a.operations → slice_range b.operations from to ≡ slice_range a.operations from to
 range_stays a b from to h le within = ap (λ l. slice_range l from to) h.are ∙ range_before a.operations h.operations from to le within
 
-same_range : (a b : Code) (f : Flat) → Extends a b → f.from ≤ f.to → f.to ≤ length a.operations → slice_range b.operations f.from f.to ≡ slice_range a.operations f.from f.to
+same_range : (a b : Code) (f : Flat) → ExtendsCode a b → f.from ≤ f.to → f.to ≤ length a.operations → slice_range b.operations f.from f.to ≡ slice_range a.operations f.from f.to
 same_range a b f h le within = range_stays a b f.from f.to h le within
 
-module _ (held : List Held) (table : List MemEntry) (a b : Code) (h : Extends a b) where
+module _ (held : List Held) (table : List MemEntry) (a b : Code) (h : ExtendsCode a b) where
   pub flat_stays : (t : CoreTerm) (f : Flat) → IsFlat held table a t f → IsFlat held table b t f
   flat_stays t f i = record { within = i.within; there = longer a b f.to h i.there; operations = same_range a b f h i.within i.there ∙ i.operations; value = i.value }
 
@@ -143,15 +143,15 @@ front_coded held table a b x next first c cs h one rest =
     subst (λ (o : Option ℕ). AreCoded held table b o (command_and c cs)) (sym h.first_is)
     (record { action = x; next = next }, (ap (λ l. slice_get l (length a.steps)) h.steps ∙ get_last a.steps (record { action = x; next = next }), (one_stays held table a b e x c one, coded_stays held table a b e next cs rest)))
   where
-    e : Extends a b
+    e : ExtendsCode a b
     e = step_extends a b x next first h
 
 -- Code that can be done.
 
-pub held_stays : (a b : Code) (f : Flat) → Extends a b → IsHeld a.operations f → IsHeld b.operations f
+pub held_stays : (a b : Code) (f : Flat) → ExtendsCode a b → IsHeld a.operations f → IsHeld b.operations f
 held_stays a b f h i = record { within = i.within; there = longer a b f.to h i.there; operand = i.operand }
 
-action_stays : (table : List MemEntry) (a b : Code) (at : ℕ) (x : Action) → Extends a b → IsAction table a.operations at x → IsAction table b.operations at x
+action_stays : (table : List MemEntry) (a b : Code) (at : ℕ) (x : Action) → ExtendsCode a b → IsAction table a.operations at x → IsAction table b.operations at x
 action_stays table a b at (Store f y) h i = (held_stays a b f h i.0, i.1)
 action_stays table a b at (Assign f first depth) h i = held_stays a b f h i
 action_stays table a b at (Keep from to values depth) h i = record { within = i.within; there = longer a b to h i.there; operands = i.operands }

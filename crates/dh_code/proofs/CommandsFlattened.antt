@@ -34,7 +34,7 @@ use Rattle.dh_code.specs.declared.flattening.Names.{Names}
 use Rattle.dh_code.specs.declared.places.Held.{Held}
 use Rattle.dh_code.specs.Coded.{AreSlotsOf}
 use Rattle.dh_code.specs.Extended.{extension_of}
-use Rattle.dh_code.specs.Flattening.{Adds, AddsBinary, AddsStep, Aims, AreMade, ExtendsTo, FlattensCommand, IsAimed, IsFlatMade, IsInFront, IsMade, IsPlacingOf, IsStillAt, aimed_at, is_aimed, known_in, table_in}
+use Rattle.dh_code.specs.Flattening.{Adds, AddsBinary, AddsStep, Aims, AreMade, ExtendsTo, FlattensCommand, IsAimed, IsFlatMade, IsInFront, IsMade, IsPlacingOf, IsStillAt, aimed_at, is_aimed, known_by_names, table_in}
 use Rattle.dh_code.specs.Made.{Aimed, Made, access_to, aimed_target, target_made, term_made, terms_made, variable_operand}
 use Rattle.dh_code.specs.Operated.{IsAccess, IsOperand, IsOperation}
 use Rattle.dh_code.specs.Slots.{Placing, held_at}
@@ -73,31 +73,31 @@ pub own_base : (ms : List Memory) (entity : Option ℕ) → base_of (way_at ms [
 own_base ms entity = ap (λ w. base_of w entity) (no_way ms entity)
 
 -- an access by indices, and in a row of a bank
-pub aimed_by_indices : (names : Names) (old new : Code) (n : ℕ) (target : plain.Term) (place : _) (kind : Option Kind) (r : Ref) (indices : List plain.Term) (memory : ℕ) (os : List Operand) (t : Target) → target ≡ plain.term place kind (plain.accessed r (terms indices)) → memory ≡ memory_of (known_in names) r
-    → ((n : ℕ) → AreSuited (table_in names) (core_terms (known_in names) n (terms indices)) → AreMade old new os (terms_made names.places.now (table_in names) (length old.operations) (core_terms (known_in names) n (terms indices))))
-    → Aims names r os t → IsAimed names old new (aimed_at (known_in names) n target) (Some (record { place = place; memory = memory; target = t }))
+pub aimed_by_indices : (names : Names) (old new : Code) (n : ℕ) (target : plain.Term) (place : _) (kind : Option Kind) (r : Ref) (indices : List plain.Term) (memory : ℕ) (os : List Operand) (t : Target) → target ≡ plain.term place kind (plain.accessed r (terms indices)) → memory ≡ memory_of (known_by_names names) r
+    → ((n : ℕ) → AreSuited (table_in names) (core_terms (known_by_names names) n (terms indices)) → AreMade old new os (terms_made names.places.now (table_in names) (length old.operations) (core_terms (known_by_names names) n (terms indices))))
+    → Aims names r os t → IsAimed names old new (aimed_at (known_by_names names) n target) (Some (record { place = place; memory = memory; target = t }))
 aimed_by_indices names old new n target place kind r indices memory os t is number_is flat aims =
-    subst (λ (x : plain.Term). IsAimed names old new (aimed_at (known_in names) n x) (Some (record { place = place; memory = memory; target = t }))) (sym is)
+    subst (λ (x : plain.Term). IsAimed names old new (aimed_at (known_by_names names) n x) (Some (record { place = place; memory = memory; target = t }))) (sym is)
     (λ suits.
-    let w = way_of (known_in names) r in
-    let ts = core_terms (known_in names) n (terms indices) in
-    let reach = reach_of (known_in names) (n + terms_accesses (terms indices)) place r in
-    let m = flat n (first_suited (table_in names) (memory_of (known_in names) r) w ts suits) in
+    let w = way_of (known_by_names names) r in
+    let ts = core_terms (known_by_names names) n (terms indices) in
+    let reach = reach_of (known_by_names names) (n + terms_accesses (terms indices)) place r in
+    let m = flat n (first_suited (table_in names) (memory_of (known_by_names names) r) w ts suits) in
     let made = aimed_made names.places.now (table_in names) (length old.operations) w ts in (
       subst (λ (x : Aimed). Adds old new x.operations) (sym made) m.adds,
       ap (λ x. record { place = place; memory = x; target = t }) number_is
-          ∙ (ap (λ x. record { place = place; memory = memory_of (known_in names) r; target = x }) (aims ∙ ap (λ l. aimed_target names.places.now w l) m.values)
+          ∙ (ap (λ x. record { place = place; memory = memory_of (known_by_names names) r; target = x }) (aims ∙ ap (λ l. aimed_target names.places.now w l) m.values)
           ∙ ap (λ (x : Aimed). access_to reach x.target) (sym made)),
     ))
 
-pub aimed_by_row : (names : Names) (old new : Code) (n : ℕ) (target : plain.Term) (place : _) (kind : Option Kind) (r : Ref) (bank : ℕ) (bank_place : _) (row : plain.Term) (memory : ℕ) (o : Operand) → target ≡ plain.term place kind (plain.in_bank r bank bank_place row) → memory ≡ memory_of (known_in names) r
-    → ((n : ℕ) → IsSuited (table_in names) (core_term (known_in names) n row) → IsMade old new o (term_made names.places.now (table_in names) (length old.operations) (core_term (known_in names) n row)))
-    → IsAimed names old new (aimed_at (known_in names) n target) (Some (record { place = place; memory = memory; target = Row bank o }))
+pub aimed_by_row : (names : Names) (old new : Code) (n : ℕ) (target : plain.Term) (place : _) (kind : Option Kind) (r : Ref) (bank : ℕ) (bank_place : _) (row : plain.Term) (memory : ℕ) (o : Operand) → target ≡ plain.term place kind (plain.in_bank r bank bank_place row) → memory ≡ memory_of (known_by_names names) r
+    → ((n : ℕ) → IsSuited (table_in names) (core_term (known_by_names names) n row) → IsMade old new o (term_made names.places.now (table_in names) (length old.operations) (core_term (known_by_names names) n row)))
+    → IsAimed names old new (aimed_at (known_by_names names) n target) (Some (record { place = place; memory = memory; target = Row bank o }))
 aimed_by_row names old new n target place kind r bank bank_place row memory o is number_is flat =
-    subst (λ (t : plain.Term). IsAimed names old new (aimed_at (known_in names) n t) (Some (record { place = place; memory = memory; target = Row bank o }))) (sym is)
+    subst (λ (t : plain.Term). IsAimed names old new (aimed_at (known_by_names names) n t) (Some (record { place = place; memory = memory; target = Row bank o }))) (sym is)
     (λ suits.
     let m = flat n suits.1 in
-    (m.adds, ap (λ x. record { place = place; memory = x; target = Row bank o }) number_is ∙ ap (λ x. record { place = place; memory = memory_of (known_in names) r; target = Row bank x }) m.value))
+    (m.adds, ap (λ x. record { place = place; memory = x; target = Row bank o }) number_is ∙ ap (λ x. record { place = place; memory = memory_of (known_by_names names) r; target = Row bank x }) m.value))
 
 -- An assignment of what was made.
 module _ (names : Names) (p : Placing) (loops : List ℕ) (same : p.held ≡ names.places.now) where
@@ -115,15 +115,15 @@ module _ (names : Names) (p : Placing) (loops : List ℕ) (same : p.held ≡ nam
 
 -- A reducer.
 module _ (names : Names) (p : Placing) (loops : List ℕ) (placing : IsPlacingOf p names) where
-  reduced_flat : (a b b' c c' : Code) (r : Ref) (o : Op) (k to kind : Kind) (t : CoreTerm) (x' y y' z : Operand) → kind ≡ kind_of (known_in names) r → to ≡ extension_of o kind k
+  reduced_flat : (a b b' c c' : Code) (r : Ref) (o : Op) (k to kind : Kind) (t : CoreTerm) (x' y y' z : Operand) → kind ≡ kind_of (known_by_names names) r → to ≡ extension_of o kind k
       → ExtendsTo a b (variable_operand names.places.now kind (entity_number r.entity)) to x' → (IsSuited (table_in names) t → IsMade b c y (term_made names.places.now (table_in names) (length b.operations) t)) → ExtendsTo c c' y to y' → AddsBinary c' b' o x' y' z
-      → IsSuited (table_in names) (operation_of o (kind_of (known_in names) r) k (variable (kind_of (known_in names) r) (depth_of (known_in names) r) (entity_number r.entity)) t)
-      → IsMade a b' z (term_made names.places.now (table_in names) (length a.operations) (operation_of o (kind_of (known_in names) r) k (variable (kind_of (known_in names) r) (depth_of (known_in names) r) (entity_number r.entity)) t))
+      → IsSuited (table_in names) (operation_of o (kind_of (known_by_names names) r) k (variable (kind_of (known_by_names names) r) (depth_of (known_by_names names) r) (entity_number r.entity)) t)
+      → IsMade a b' z (term_made names.places.now (table_in names) (length a.operations) (operation_of o (kind_of (known_by_names names) r) k (variable (kind_of (known_by_names names) r) (depth_of (known_by_names names) r) (entity_number r.entity)) t))
   reduced_flat a b b' c c' r o k to kind t x' y y' z kinds is first flat second adds suits =
       let held = names.places.now in
       let table = table_in names in
-      let j = kind_of (known_in names) r in
-      let v = variable j (depth_of (known_in names) r) (entity_number r.entity) in
+      let j = kind_of (known_by_names names) r in
+      let v = variable j (depth_of (known_by_names names) r) (entity_number r.entity) in
       let both = operands_suited held table o j k v t suits in
       let start : IsMade a a (variable_operand held kind (entity_number r.entity)) (term_made held table (length a.operations) v) = record { adds = adds_none a; value = ap (λ q. variable_operand held q (entity_number r.entity)) kinds } in
       let one = first a (term_made held table (length a.operations) v) start in
@@ -131,16 +131,16 @@ module _ (names : Names) (p : Placing) (loops : List ℕ) (placing : IsPlacingOf
       binary_flat held table a b b' z o j k to v t x' (is ∙ ap (λ q. extension_of o q k) kinds) one (adds a b _ _ one two)
 
   pub reduce_front : (a b b' c c' new : Code) (r : Ref) (o : Op) (k to : Kind) (t : CoreTerm) (x' y y' z : Operand) (next first : Option ℕ) (rest : CoreCommands)
-      → CanDoAll (table_in names) p loops (command_and (folded_into (known_in names) r o k t) rest) → to ≡ extension_of o (held_at names.places.now (entity_number r.entity)).kind k
+      → CanDoAll (table_in names) p loops (command_and (folded_into (known_by_names names) r o k t) rest) → to ≡ extension_of o (held_at names.places.now (entity_number r.entity)).kind k
       → ExtendsTo a b (variable_operand names.places.now (held_at names.places.now (entity_number r.entity)).kind (entity_number r.entity)) to x'
       → (IsSuited (table_in names) t → IsMade b c y (term_made names.places.now (table_in names) (length b.operations) t)) → ExtendsTo c c' y to y' → AddsBinary c' b' o x' y' z
       → AddsStep b' new (Assign (record { from = length a.operations; to = length b'.operations; value = z }) (held_at names.places.now (entity_number r.entity)).first (held_at names.places.now (entity_number r.entity)).depth) next first
-      → IsInFront names a new first next (command_and (folded_into (known_in names) r o k t) rest) rest
+      → IsInFront names a new first next (command_and (folded_into (known_by_names names) r o k t) rest) rest
   reduce_front a b b' c c' new r o k to t x' y y' z next first rest can is extends flat extends' adds step =
       let e = entity_number r.entity in
-      let kinds : (held_at names.places.now e).kind ≡ kind_of (known_in names) r = ap (λ l. (held_at l e).kind) (sym placing.held) ∙ placing.kinds e can.0.0.known in
-      let whole = operation_of o (kind_of (known_in names) r) k (variable (kind_of (known_in names) r) (depth_of (known_in names) r) e) t in
-      assign_front names p loops placing.held a b' new e (depth_of (known_in names) r) whole (record { from = length a.operations; to = length b'.operations; value = z }) next first rest can
+      let kinds : (held_at names.places.now e).kind ≡ kind_of (known_by_names names) r = ap (λ l. (held_at l e).kind) (sym placing.held) ∙ placing.kinds e can.0.0.known in
+      let whole = operation_of o (kind_of (known_by_names names) r) k (variable (kind_of (known_by_names names) r) (depth_of (known_by_names names) r) e) t in
+      assign_front names p loops placing.held a b' new e (depth_of (known_by_names names) r) whole (record { from = length a.operations; to = length b'.operations; value = z }) next first rest can
       (λ suits. let m = reduced_flat a b b' c c' r o k to (held_at names.places.now e).kind t x' y y' z kinds is extends flat extends' adds suits in record { adds = m.adds; from = refl; to = refl; value = m.value }) step
 
 -- A store.
@@ -201,7 +201,7 @@ nothing_front names old new f next first rest step still =
     (flat_is names.places.now (table_in names) old old (truth_literal false) f made, (tt, tt))
     (λ entries. (tt, (flat_held names.places.now (table_in names) old old (truth_literal false) f entries tt made, (tt, tt))))
 
-pub aimed_somewhere : (names : Names) (old new : Code) (n : ℕ) (target : plain.Term) → is_aimed target ≡ true → IsAimed names old new (aimed_at (known_in names) n target) None → ⊥
+pub aimed_somewhere : (names : Names) (old new : Code) (n : ℕ) (target : plain.Term) → is_aimed target ≡ true → IsAimed names old new (aimed_at (known_by_names names) n target) None → ⊥
 aimed_somewhere names old new n (plain.term at kind (plain.accessed r indices)) e h = h
 aimed_somewhere names old new n (plain.term at kind (plain.in_bank r bank bank_place row)) e h = h
 aimed_somewhere names old new n (plain.term at kind (plain.number negative v)) e h = absurd cc
@@ -295,21 +295,21 @@ module _ (known : Known) (table : List MemEntry) (p : Placing) (loops : List ℕ
 
 -- a command by what is seen of its form
 pub front_as : (names : Names) (old new : Code) (c : Command) (first next : Option ℕ) (form : ActionForm) → action_form_seen c.form ≡ form
-    → ((p : Placing) (loops : List ℕ) (n : ℕ) (rest : CoreCommands) → IsPlacingOf p names → CanDoAll (table_in names) p loops (core_action_form (known_in names) n form rest) → IsInFront names old new first next (core_action_form (known_in names) n form rest) rest)
+    → ((p : Placing) (loops : List ℕ) (n : ℕ) (rest : CoreCommands) → IsPlacingOf p names → CanDoAll (table_in names) p loops (core_action_form (known_by_names names) n form rest) → IsInFront names old new first next (core_action_form (known_by_names names) n form rest) rest)
     → FlattensCommand names old new c first next
 front_as names old new c first next form is h p loops n rest placing can =
-    subst (λ (f : ActionForm). IsInFront names old new first next (core_action_form (known_in names) n f rest) rest) (sym is) (h p loops n rest placing (subst (λ (f : ActionForm). CanDoAll (table_in names) p loops (core_action_form (known_in names) n f rest)) is can))
+    subst (λ (f : ActionForm). IsInFront names old new first next (core_action_form (known_by_names names) n f rest) rest) (sym is) (h p loops n rest placing (subst (λ (f : ActionForm). CanDoAll (table_in names) p loops (core_action_form (known_by_names names) n f rest)) is can))
 
 -- parts and commands from one on
 abbrev pub FlattensPart : Names → (old new : Code) → List Command → (first next : Option ℕ) → Type 0
 FlattensPart names old new cs first next =
-    (p : Placing) (loops : List ℕ) (n : ℕ) (rest : CoreCommands) → IsPlacingOf p names → CanDoAll (table_in names) p loops (core_part (known_in names) n (actions (map action_seen cs)) rest)
-    → IsInFront names old new first next (core_part (known_in names) n (actions (map action_seen cs)) rest) rest
+    (p : Placing) (loops : List ℕ) (n : ℕ) (rest : CoreCommands) → IsPlacingOf p names → CanDoAll (table_in names) p loops (core_part (known_by_names names) n (actions (map action_seen cs)) rest)
+    → IsInFront names old new first next (core_part (known_by_names names) n (actions (map action_seen cs)) rest) rest
 
 abbrev pub FlattensGroups : Names → (old new : Code) → List (Vec Command Global) → (first next : Option ℕ) → Type 0
 FlattensGroups names old new parts first next =
-    (p : Placing) (loops : List ℕ) (n : ℕ) (rest : CoreCommands) → IsPlacingOf p names → CanDoAll (table_in names) p loops (core_groups (known_in names) n (groups (map part_seen parts)) rest)
-    → IsInFront names old new first next (core_groups (known_in names) n (groups (map part_seen parts)) rest) rest
+    (p : Placing) (loops : List ℕ) (n : ℕ) (rest : CoreCommands) → IsPlacingOf p names → CanDoAll (table_in names) p loops (core_groups (known_by_names names) n (groups (map part_seen parts)) rest)
+    → IsInFront names old new first next (core_groups (known_by_names names) n (groups (map part_seen parts)) rest) rest
 
 drop_back : {A : Type 0} (xs : List A) (i : ℕ) (d : A) → 0 < i → i ≤ length xs → drop (i - 1) xs ≡ get_or xs (i - 1) d ∷ drop i xs
 drop_back xs i d some within = drop-cons xs (i - 1) d (omega (arith, some, within)) ∙ ap (λ n. get_or xs (i - 1) d ∷ drop n xs) (back i some)
@@ -331,8 +331,8 @@ part_turn names old now new cs i c next first before some within is flattens h =
     (λ p loops n rest placing can.
     let behind = actions (map action_seen (drop i cs)) in
     let m = n + accesses_of (action_seen c) in
-    let less = can_behind (known_in names) (table_in names) p loops n (action_seen c) (core_part (known_in names) m behind rest) can in
-    front_then names old now new next first before rest (core_part (known_in names) m behind rest) _ (h p loops m rest placing less) (flattens p loops n (core_part (known_in names) m behind rest) placing can))
+    let less = can_behind (known_by_names names) (table_in names) p loops n (action_seen c) (core_part (known_by_names names) m behind rest) can in
+    front_then names old now new next first before rest (core_part (known_by_names names) m behind rest) _ (h p loops m rest placing less) (flattens p loops n (core_part (known_by_names names) m behind rest) placing can))
 
 pub groups_begin : (names : Names) (c : Code) (parts : List (Vec Command Global)) (first : Option ℕ) → FlattensGroups names c c (drop (length parts) parts) first first
 groups_begin names c parts first = subst (λ (l : List (Vec Command Global)). FlattensGroups names c c l first first) (sym (drop_all parts)) (λ p loops n rest placing can. front_none names c first rest)
@@ -344,13 +344,13 @@ groups_turn names old now new parts i part next first before some within is flat
     (λ p loops n rest placing can.
     let behind = groups (map part_seen (drop i parts)) in
     let m = n + part_accesses (part_seen part) in
-    let less = can_behind_part (known_in names) (table_in names) p loops n (part_seen part) (core_groups (known_in names) m behind rest) can in
-    front_then names old now new next first before rest (core_groups (known_in names) m behind rest) _ (h p loops m rest placing less) (flattens p loops n (core_groups (known_in names) m behind rest) placing can))
+    let less = can_behind_part (known_by_names names) (table_in names) p loops n (part_seen part) (core_groups (known_by_names names) m behind rest) can in
+    front_then names old now new next first before rest (core_groups (known_by_names names) m behind rest) _ (h p loops m rest placing less) (flattens p loops n (core_groups (known_by_names names) m behind rest) placing can))
 
 -- commands of a straight phase from one on
 pub record CommandsFrom (names : Names) (old new : Code) (cs : List (Bor Command)) (i : ℕ) (first : Option ℕ) : Type 0 where
-  pub so : (p : Placing) (loops : List ℕ) (ls : List Located) → map (λ l. l.command) ls ≡ map (λ c. action_seen c.now) cs → IsPlacingOf p names → CanDoAll (table_in names) p loops (core_commands (known_in names) (drop i ls))
-      → IsInFront names old new first None (core_commands (known_in names) (drop i ls)) no_commands
+  pub so : (p : Placing) (loops : List ℕ) (ls : List Located) → map (λ l. l.command) ls ≡ map (λ c. action_seen c.now) cs → IsPlacingOf p names → CanDoAll (table_in names) p loops (core_commands (known_by_names names) (drop i ls))
+      → IsInFront names old new first None (core_commands (known_by_names names) (drop i ls)) no_commands
 
 located_at : (cs : List (Bor Command)) (ls : List Located) (i : ℕ) (c : Bor Command) → map (λ l. l.command) ls ≡ map (λ x. action_seen x.now) cs → i < length cs → (l : Located) × ((drop i ls ≡ l ∷ drop (suc i) ls) × (l.command ≡ action_seen (get_or cs i c).now))
 located_at [] ls i c e within = absurd (none i within)
@@ -380,7 +380,7 @@ located_none (x ∷ cs) (l ∷ ls) e = located_none cs ls (rest e)
     rest e = cc
 
 pub commands_begin : (names : Names) (c : Code) (cs : List (Bor Command)) → CommandsFrom names c c cs (length cs) None
-commands_begin names c cs = record { so = λ p loops ls same placing can. subst (λ (l : List Located). IsInFront names c c None None (core_commands (known_in names) l) no_commands) (sym (located_none cs ls same)) (front_none names c None no_commands) }
+commands_begin names c cs = record { so = λ p loops ls same placing can. subst (λ (l : List Located). IsInFront names c c None None (core_commands (known_by_names names) l) no_commands) (sym (located_none cs ls same)) (front_none names c None no_commands) }
 
 pub commands_turn : (names : Names) (old now new : Code) (cs : List (Bor Command)) (i : ℕ) (c : Bor Command) (x : Command) (first before : Option ℕ) → 0 < i → i ≤ length cs → x ≡ (get_or cs (i - 1) c).now → FlattensCommand names now new x before first → CommandsFrom names old now cs i first → CommandsFrom names old new cs (i - 1) before
 commands_turn names old now new cs i c x first before some within is flattens h = record { so = λ p loops ls same placing can. by p loops ls same placing can (located_at cs ls (i - 1) c same (omega (arith, some, within))) }
@@ -388,13 +388,13 @@ commands_turn names old now new cs i c x first before some within is flattens h 
     back : suc (i - 1) ≡ i
     back = omega (arith, some)
 
-    by : (p : Placing) (loops : List ℕ) (ls : List Located) → map (λ l. l.command) ls ≡ map (λ c. action_seen c.now) cs → IsPlacingOf p names → CanDoAll (table_in names) p loops (core_commands (known_in names) (drop (i - 1) ls))
-        → (l : Located) × ((drop (i - 1) ls ≡ l ∷ drop (suc (i - 1)) ls) × (l.command ≡ action_seen (get_or cs (i - 1) c).now)) → IsInFront names old new before None (core_commands (known_in names) (drop (i - 1) ls)) no_commands
+    by : (p : Placing) (loops : List ℕ) (ls : List Located) → map (λ l. l.command) ls ≡ map (λ c. action_seen c.now) cs → IsPlacingOf p names → CanDoAll (table_in names) p loops (core_commands (known_by_names names) (drop (i - 1) ls))
+        → (l : Located) × ((drop (i - 1) ls ≡ l ∷ drop (suc (i - 1)) ls) × (l.command ≡ action_seen (get_or cs (i - 1) c).now)) → IsInFront names old new before None (core_commands (known_by_names names) (drop (i - 1) ls)) no_commands
     by p loops ls same placing can (l, (split, command)) =
-        let all = core_commands (known_in names) (drop i ls) in
-        let whole : core_commands (known_in names) (drop (i - 1) ls) ≡ core_action (known_in names) l.first (action_seen x) all =
-        ap (λ d. core_commands (known_in names) d) (split ∙ ap (λ n. l ∷ drop n ls) back) ∙ ap (λ a. core_action (known_in names) l.first a all) (command ∙ ap action_seen (sym is)) in
+        let all = core_commands (known_by_names names) (drop i ls) in
+        let whole : core_commands (known_by_names names) (drop (i - 1) ls) ≡ core_action (known_by_names names) l.first (action_seen x) all =
+        ap (λ d. core_commands (known_by_names names) d) (split ∙ ap (λ n. l ∷ drop n ls) back) ∙ ap (λ a. core_action (known_by_names names) l.first a all) (command ∙ ap action_seen (sym is)) in
         let can' = subst (λ (d : CoreCommands). CanDoAll (table_in names) p loops d) whole can in
-        let less = can_behind (known_in names) (table_in names) p loops l.first (action_seen x) all can' in
+        let less = can_behind (known_by_names names) (table_in names) p loops l.first (action_seen x) all can' in
         subst (λ (d : CoreCommands). IsInFront names old new before None d no_commands) (sym whole)
         (front_then names old now new None first before no_commands all _ (h.so p loops ls same placing less) (flattens p loops l.first all placing can'))

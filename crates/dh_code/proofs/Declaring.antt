@@ -11,7 +11,7 @@ use Rattle.dh_value.specs.declared.kinds.Kind.{Kind}
 use Rattle.dh_tree.proofs.Collecting.{one_more}
 use Rattle.dh_code.specs.declared.places.Declared.{Declared}
 use Rattle.dh_code.specs.declared.places.Held.{Held}
-use Rattle.dh_code.specs.Declarations.{Declaration, all_held, declaration_in, declared_of, factors_inside, factors_of, form_declarations, held_behind, slots_counted}
+use Rattle.dh_code.specs.Declarations.{Declaration, all_held, declaration_in, declared_of, factors_inside, declared_factors, form_declarations, held_behind, slots_counted}
 use Rattle.dh_code.specs.Placed.{AreFew, AreFound, AreLaid, Declares, IsRound, KeepsFound, copies_held, held_of}
 use Rattle.dh_code.specs.Ranks.{copies_in}
 use Rattle.dh_base.specs.Limits.{most_copies}
@@ -77,7 +77,7 @@ held_is : (d : Option Declaration) (first : ℕ) → held_of (option_map declare
 held_is None first = refl
 held_is (Some d) first = refl
 
-copies_are : (d : Option Declaration) → copies_held (option_map declared_of d) ≡ copies_in (factors_of d)
+copies_are : (d : Option Declaration) → copies_held (option_map declared_of d) ≡ copies_in (declared_factors d)
 copies_are None = refl
 copies_are (Some d) = refl
 
@@ -112,7 +112,7 @@ lays_turn found i count held held' count' v within is added counted l = record {
     next : (n : ℕ) → suc i + n ≡ length found → i + suc n ≡ length found
     next n e = omega (arith, e)
 
-    more : (ds : List Declaration) → v ≡ option_map declared_of (declaration_in ds i) → count' ≡ count + copies_in (factors_of (declaration_in ds i))
+    more : (ds : List Declaration) → v ≡ option_map declared_of (declaration_in ds i) → count' ≡ count + copies_in (declared_factors (declaration_in ds i))
     more ds e = counted ∙ ap (λ k. count + k) (ap copies_held e ∙ copies_are (declaration_in ds i))
 
 pub lays_end : (found : List (Option Declared)) (i count : ℕ) (held : List Held) → i ≡ length found → Lays found i held count → AreLaid found held count

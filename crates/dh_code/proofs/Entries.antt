@@ -22,7 +22,7 @@ use Rattle.dh_code.specs.Scenes.{Spends}
 use Rattle.dh_code.specs.Spent.{rows_now, left_now, ReadsRow, WritesRow, HaveSpent}
 use Rattle.dh_extents.proofs.DimSizes.{banks_fit, elements_some}
 use Rattle.dh_tree.specs.Memories.{Memory, number_in, same_entity}
-use Rattle.dh_tree.specs.Memories.{memory_of}
+use Rattle.dh_tree.specs.Memories.{memory_of_name}
 use Rattle.dh_tree.specs.Scopes.{entity_number}
 use Rattle.dh_tree.specs.declared.trees.expressions.Ref.{Ref}
 use Rattle.dh_code.proofs.BanksSpent.{number_within, banks_read, banks_stuck, banks_written, banks_full}
@@ -147,7 +147,7 @@ pub none_stands : (ms : List Memory) → number_in ms None ≡ None
 none_stands [] = refl
 none_stands (m ∷ ms) = no_match m.name.entity (number_in ms None) (none_stands ms)
 
-pub nothing_meant : (ms : List Memory) (r : Ref) → r.entity ≡ None → 0 ≡ memory_of ms r
+pub nothing_meant : (ms : List Memory) (r : Ref) → r.entity ≡ None → 0 ≡ memory_of_name ms r
 nothing_meant ms r none = sym (ap (λ o. entity_number (number_in ms o)) none ∙ ap entity_number (none_stands ms))
 
 -- accesses of banks, as the code makes them

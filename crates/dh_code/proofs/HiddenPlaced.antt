@@ -9,9 +9,9 @@ use Rattle.dh_tree.specs.Memories.{same_entity}
 use Rattle.dh_tree.specs.PlainTrees.{Term, Action, action, ActionForm, lets, lets_memory, views, assigns, stores, reduces, calls, blocks, decides, repeats, counts, MaybeAction, no_action, one_action, Actions, no_actions, action_then, Groups, no_groups, group_then, Program}
 use Rattle.dh_tree.specs.ViewOffsets.{offsets_of}
 use Rattle.dh_meaning.specs.Bindings.{Binding, binding_in, bindings, bindings_of, depth_inside, kind_bound, kind_found}
-use Rattle.dh_meaning.specs.Ways.{Hidden, Led, Standing, all_bindings_of, all_entities_of, hidden_binding, hidden_bindings, hidden_from, led_binding, standings, ways_of}
+use Rattle.dh_meaning.specs.Ways.{Hidden, Led, ViewSite, all_bindings_of, all_entities_of, hidden_binding, hidden_bindings, hidden_from, led_binding, standings, ways_of}
 use Rattle.dh_ways.specs.declared.ways.Hidden as own
-use Rattle.dh_ways.specs.Stands.{Stand, all_own, copies_inside, form_stands, groups_stands, hidden_at, hidden_of_program, other_stands, part_stands, standing_of, stands}
+use Rattle.dh_ways.specs.Stands.{Stand, all_own, copies_inside, form_stands, groups_stands, hidden_at, hidden_of_program, other_stands, part_stands, view_site_of, stands}
 use Rattle.dh_ways.specs.Seen.{hidden_seen}
 use Rattle.dh_ways.proofs.HiddenApart.{are_counted}
 use Rattle.dh_ways.proofs.StandsFound.{hidden_are, stands_told}
@@ -115,23 +115,23 @@ offsets_alike : (first depth : ℕ) (fs : List ℕ) (ts : List Term) → Alike (
 offsets_alike first depth fs [] = refl
 offsets_alike first depth fs (t ∷ ts) = ap (λ (l : List Kinded). record { entity = Some first; kind_is = kind_found t } ∷ l) (offsets_alike (suc first) depth fs ts)
 
-hidden_alike : (first : ℕ) (fs : List Factored) → Alike (all_hidden_declared first fs) (hidden_bindings first (map (λ f. standing_of (stand_of f)) fs))
+hidden_alike : (first : ℕ) (fs : List Factored) → Alike (all_hidden_declared first fs) (hidden_bindings first (map (λ f. view_site_of (stand_of f)) fs))
 hidden_alike first [] = refl
 hidden_alike first (f ∷ fs) =
     map-append declared_kind (hidden_declared first f.factors ts) (all_hidden_declared (first + length ts) fs)
     ∙ (ap (λ l. l ++ map declared_kind (all_hidden_declared (first + length ts) fs)) (offsets_alike first (length f.factors) f.factors ts)
     ∙ (ap (λ l. map bound_kind (map hidden_binding (hidden_from first (length f.factors) ts)) ++ l) (hidden_alike (first + length ts) fs)
-    ∙ sym (map-append bound_kind (map hidden_binding (hidden_from first (length f.factors) ts)) (hidden_bindings (first + length ts) (map (λ f. standing_of (stand_of f)) fs)))))
+    ∙ sym (map-append bound_kind (map hidden_binding (hidden_from first (length f.factors) ts)) (hidden_bindings (first + length ts) (map (λ f. view_site_of (stand_of f)) fs)))))
   where
     ts : List Term
     ts = offsets_of f.form
 
-pub standings_so : (p : Program) → map (λ f. standing_of (stand_of f)) (factored [] p.body) ≡ standings 0 p.body
-standings_so p = twice (factored [] p.body) ∙ (ap (map standing_of) (stand_so [] p.body) ∙ stands_told 0 1 p.body)
+pub standings_so : (p : Program) → map (λ f. view_site_of (stand_of f)) (factored [] p.body) ≡ standings 0 p.body
+standings_so p = twice (factored [] p.body) ∙ (ap (map view_site_of) (stand_so [] p.body) ∙ stands_told 0 1 p.body)
   where
-    twice : (fs : List Factored) → map (λ f. standing_of (stand_of f)) fs ≡ map standing_of (map stand_of fs)
+    twice : (fs : List Factored) → map (λ f. view_site_of (stand_of f)) fs ≡ map view_site_of (map stand_of fs)
     twice [] = refl
-    twice (f ∷ fs) = ap (λ l. standing_of (stand_of f) ∷ l) (twice fs)
+    twice (f ∷ fs) = ap (λ l. view_site_of (stand_of f) ∷ l) (twice fs)
 
 both_alike : (ds es : List Declaration) (bs cs : List Binding) → Alike ds bs → Alike es cs → Alike (ds ++ es) (bs ++ cs)
 both_alike ds es bs cs h k = map-append declared_kind ds es ∙ (ap (λ l. l ++ map declared_kind es) h ∙ (ap (λ l. map bound_kind bs ++ l) k ∙ sym (map-append bound_kind bs cs)))
@@ -152,7 +152,7 @@ offsets_none first depth e (t ∷ ts) rest less =
     ap (λ b. if b then Some (hidden_binding (record { entity = first; kind = kind_found t; depth = depth })) else binding_in (map hidden_binding (hidden_from (suc first) depth ts) ++ rest) e) (other_number first e less)
     ∙ offsets_none (suc first) depth e ts rest (omega (arith, less))
 
-hidden_none : (first e : ℕ) (ss : List Standing) → e < first → binding_in (hidden_bindings first ss) e ≡ None
+hidden_none : (first e : ℕ) (ss : List ViewSite) → e < first → binding_in (hidden_bindings first ss) e ≡ None
 hidden_none first e [] less = refl
 hidden_none first e (s ∷ ss) less = offsets_none first s.depth e (offsets_of s.form) (hidden_bindings (first + length (offsets_of s.form)) ss) less ∙ hidden_none (first + length (offsets_of s.form)) e ss (more first (length (offsets_of s.form)) less)
   where

@@ -23,7 +23,7 @@ use Rattle.dh_code.specs.Plain.{all_plain}
 use Rattle.dh_code.specs.Scenes.{IsScene, Spends, begun_in, flat_events, flat_sight}
 use Rattle.dh_code.specs.Slots.{Holds, Placing}
 use Rattle.dh_code.specs.Spent.{HaveSpent}
-use Rattle.dh_code.specs.States.{AreRanks, Ends, GoBackAlike, IsReady, Keeps, KeepsVariables, SpendsFlat, bits_kept, sight_in, slots_kept}
+use Rattle.dh_code.specs.States.{AreRanks, Ends, GoBackAlike, IsReadyState, Keeps, KeepsVariables, SpendsFlat, bits_kept, sight_in, slots_kept}
 use Rattle.dh_code.specs.Suited.{AreInsideFrom, CanEvaluateAll}
 use Rattle.dh_code.proofs.FlatMeaning.{assigned_slot, kept_events, none_in, path_of, stopped_events}
 use Rattle.dh_code.proofs.Ranges.{drop_past, get_whatever, items_same, length_range}
@@ -127,7 +127,7 @@ all_held p factors ranks path deep depth at (k ∷ ks) (term_and t ts) (z ∷ zs
 
 -- Values, as they stand in code.
 module _ (s : Scene) (scene : IsScene s) (p : Placing) (factors ranks : List ℕ) (path : Path) (ts : CoreTerms) (from to : ℕ) (ks : List Kept) (value : Operand) (e : Effect) (old middle : State)
-    (at : AreRanks factors ranks path) (are : AreFlat p.held s.entries.now s.code.now ts from to (operands_kept ks)) (can : CanEvaluateAll s.entries.now p factors ts) (k : Keeps p s.entries.now e s.step old) (ready : IsReady s old) where
+    (at : AreRanks factors ranks path) (are : AreFlat p.held s.entries.now s.code.now ts from to (operands_kept ks)) (can : CanEvaluateAll s.entries.now p factors ts) (k : Keeps p s.entries.now e s.step old) (ready : IsReadyState s old) where
   abbrev all : Flat
   all = record { from = from; to = to; value = value }
 

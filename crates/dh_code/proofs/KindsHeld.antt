@@ -8,7 +8,7 @@ use Rattle.dh_tree.specs.Memories.{same_entity}
 use Rattle.dh_tree.specs.PlainTrees.{Action, action, ActionForm, lets, lets_memory, views, assigns, stores, reduces, calls, blocks, decides, repeats, counts, MaybeAction, no_action, one_action, Actions, no_actions, action_then, Groups, no_groups, group_then}
 use Rattle.dh_meaning.specs.Bindings.{Binding, binding_in, bindings, depth_inside, form_bindings, groups_bindings, kind_bound, other_bindings, part_bindings}
 use Rattle.dh_tree.specs.Kinds.{iterator_kind}
-use Rattle.dh_code.specs.Declarations.{Declaration, all_held, declaration_in, declarations, factors_inside, factors_of, form_declarations, groups_declarations, kind_declared, other_declarations, part_declarations}
+use Rattle.dh_code.specs.Declarations.{Declaration, all_held, declaration_in, declarations, factors_inside, declared_factors, form_declarations, groups_declarations, kind_declared, other_declarations, part_declarations}
 use Rattle.dh_code.specs.Ranks.{copies_in}
 use Rattle.dh_code.specs.Slots.{held_at}
 
@@ -92,7 +92,7 @@ held_kind ds count from (suc n) zero within = ap (λ k. kind_declared (declarati
     none : (n : ℕ) → n ≡ n + 0
     none n = omega arith
 held_kind ds count from (suc n) (suc e) within =
-    held_kind ds (count + copies_in (factors_of (declaration_in ds from))) (suc from) n e (less e n within) ∙ ap (λ k. kind_declared (declaration_in ds k)) (moved from e)
+    held_kind ds (count + copies_in (declared_factors (declaration_in ds from))) (suc from) n e (less e n within) ∙ ap (λ k. kind_declared (declaration_in ds k)) (moved from e)
   where
     less : (m l : ℕ) → suc m < suc l → m < l
     less m l e = omega (arith, e)
@@ -102,7 +102,7 @@ held_kind ds count from (suc n) (suc e) within =
 
 pub length_held : (ds : List Declaration) (count from n : ℕ) → length (all_held ds count from n) ≡ n
 length_held ds count from zero = refl
-length_held ds count from (suc n) = ap suc (length_held ds (count + copies_in (factors_of (declaration_in ds from))) (suc from) n)
+length_held ds count from (suc n) = ap suc (length_held ds (count + copies_in (declared_factors (declaration_in ds from))) (suc from) n)
 
 -- each variable's slots are of its kind
 pub kinds_held : (body : Action) (entities e : ℕ) → e < entities → (held_at (all_held (declarations [] body) 0 0 entities) e).kind ≡ kind_bound (binding_in (bindings 0 body) e)

@@ -14,7 +14,7 @@ use Rattle.dh_tree.specs.ViewShapes.{IsViewMap}
 use Rattle.dh_viewing.specs.declared.numbers.Index.{Index}
 use Rattle.dh_viewing.specs.Numbers.{numbers_in}
 use Rattle.dh_meaning.specs.Effects.{indices_through}
-use Rattle.dh_meaning.specs.Ways.{Step, step_of}
+use Rattle.dh_meaning.specs.Ways.{WayStep, step_of}
 use Rattle.dh_ways.specs.Leading.{StepsLead, next_dims, offsets_on}
 use Rattle.dh_code.specs.declared.codes.Operand.{Operand}
 use Rattle.dh_code.specs.declared.spots.Spread.{Spread}
@@ -139,7 +139,7 @@ element_none v es is inner e f = by (is_inside v.shape.dims is) e f
     by false e f = absurd cc
 
 -- what is out of range in the first view on the rest of a way, or in the memory, leads nowhere
-outside_leads : (ss : List Step) (dims ds : List Dim) → ds ≡ next_dims ss dims → (inner os : List ℤ) → is_inside ds inner ≡ false → PassesTo dims (indices_through ss inner os) None
+outside_leads : (ss : List WayStep) (dims ds : List Dim) → ds ≡ next_dims ss dims → (inner os : List ℤ) → is_inside ds inner ≡ false → PassesTo dims (indices_through ss inner os) None
 outside_leads [] dims ds e inner os h = ap (λ l. is_inside l inner) (sym e) ∙ h
 outside_leads (s ∷ ss) dims ds e inner os h =
     subst (λ (b : Bool). PassesTo dims (where_inside (if b then Some (named_by s.is (take s.offsets os) inner) else None) (λ i. indices_through ss i (drop s.offsets os))) None)
@@ -160,7 +160,7 @@ links_first w dims links offsets index lead long left operands = record { same =
 
 module _ (w : Sight) (dims : List Dim) (links : List ViewMap) (named : List ℤ) (offsets rest : List Operand) (i : ℕ) (index : Index) (link : ViewMap) (there : i < length links) (is : link ≡ get_or links i link)
     (h : LinksSoFar w dims links named offsets rest i index) where
-  abbrev later : List Step
+  abbrev later : List WayStep
   later = steps_of (drop (suc i) links)
 
   abbrev left_values : List ℤ
@@ -244,11 +244,11 @@ links_end w dims links named offsets rest i index over h =
 
 -- What is located behind them.
 
-pub named_few : (dims : List Dim) (steps : List Step) → StepsLead steps dims → length dims ≤ 6 → length (next_dims steps dims) ≤ 6
+pub named_few : (dims : List Dim) (steps : List WayStep) → StepsLead steps dims → length dims ≤ 6 → length (next_dims steps dims) ≤ 6
 named_few dims [] h few = few
 named_few dims (s ∷ ss) h few = h.0.own.few_dims
 
-module _ (dims : List Dim) (steps : List Step) (count values : ℕ) (fits : StepsFit dims steps count values) where
+module _ (dims : List Dim) (steps : List WayStep) (count values : ℕ) (fits : StepsFit dims steps count values) where
   pub indices_within : count ≤ values
   indices_within = by (offsets_on steps) fits.all
     where

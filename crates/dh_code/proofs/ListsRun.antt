@@ -18,7 +18,7 @@ use Rattle.dh_code.specs.Coded.{AreCoded, IsCoded, IsFlat}
 use Rattle.dh_code.specs.Ranks.{ranks_of}
 use Rattle.dh_code.specs.Scenes.{IsAction, IsEarlier, IsScene, begun_in}
 use Rattle.dh_code.specs.Slots.{Placing}
-use Rattle.dh_code.specs.States.{AreParts, AreRanks, AreRows, CanBeDone, Decides, DoesAll, DoesOne, Ends, IsReady, Keeps, KeepsBack, Runs}
+use Rattle.dh_code.specs.States.{AreParts, AreRanks, AreRows, CanBeDone, Decides, DoesAll, DoesOne, Ends, IsReadyState, Keeps, KeepsBack, Runs}
 use Rattle.dh_code.specs.Suited.{CanDoAll, CanEvaluate}
 pub use Rattle.dh_code.specs.Underway.{RunSoFar, list_depth}
 use Rattle.dh_code.proofs.ChoicesDone.{all_nowhere}
@@ -133,7 +133,7 @@ abbrev pub list_rest : CoreCommands → CoreCommands
 list_rest no_commands = no_commands
 list_rest (command_and c cs) = cs
 
-pub run_first : (s : Scene) (old : State) (rows : List (List ℕ)) (numbers : List ℕ) (first : Option ℕ) → IsReady s old → RunSoFar s old rows numbers first old first
+pub run_first : (s : Scene) (old : State) (rows : List (List ℕ)) (numbers : List ℕ) (first : Option ℕ) → IsReadyState s old → RunSoFar s old rows numbers first old first
 run_first s old rows numbers first ready = record {
   ready = ready;
   back = record { long = refl; back = refl };
@@ -146,7 +146,7 @@ module _ (s : Scene) (old : State) (rows : List (List ℕ)) (numbers : List ℕ)
   same_step a b e = cc
 
   module _ (n : ℕ) (step : Step) (is : list ≡ Some n) (get : slice_get s.code.now.steps n ≡ Some step) where
-    pub run_turn : (A : Type 0) (a : A) (new : State) → IsReady s new → KeepsBack now new → list_depth step.next ≤ n → DoesOne {A = A} s now (Ok a) new rows numbers step.action → RunSoFar s old rows numbers first new step.next
+    pub run_turn : (A : Type 0) (a : A) (new : State) → IsReadyState s new → KeepsBack now new → list_depth step.next ≤ n → DoesOne {A = A} s now (Ok a) new rows numbers step.action → RunSoFar s old rows numbers first new step.next
     run_turn A a new ready back lower does = record {
       ready = ready;
       back = record { long = back.long ∙ g.back.long; back = back.back ∙ g.back.back };
@@ -231,7 +231,7 @@ run_more s old middle now rows numbers first list rest g h = record {
     under x y z a b = omega (arith, a, b)
 
 -- nothing is done where there is no command
-pub run_nothing : {A : Type 0} (s : Scene) (state : State) (rows : List (List ℕ)) (numbers : List ℕ) (a : A) → IsReady s state → DoesAll {A = A} s state (Ok a) state rows numbers None
+pub run_nothing : {A : Type 0} (s : Scene) (state : State) (rows : List (List ℕ)) (numbers : List ℕ) (a : A) → IsReadyState s state → DoesAll {A = A} s state (Ok a) state rows numbers None
 run_nothing {A} s state rows numbers a ready = run_end s state rows numbers None state None (run_first s state rows numbers None ready) A a refl
 
 pub none_is : (o : Option ℕ) (t : Bool) → is_some o ≡ not t → t ≡ true → o ≡ None

@@ -13,7 +13,7 @@ use Rattle.dh_tree.specs.declared.tables.MemEntry.{MemEntry}
 use Rattle.dh_tree.specs.WiderKinds.{wider}
 use Rattle.dh_tree.specs.Shapes.{IsMemory}
 use Rattle.dh_tree.specs.Elements.{dims_at}
-use Rattle.dh_meaning.specs.Ways.{Step}
+use Rattle.dh_meaning.specs.Ways.{WayStep}
 use Rattle.dh_code.specs.Passing.{StepsFit}
 use Rattle.dh_meaning.specs.Core.{Reach, CoreTerm, literal, truth_literal, variable, read, binary, convert, by_indices, by_row, by_views, CoreTerms, no_terms, term_and, count_terms}
 use Rattle.dh_meaning.specs.Core as core
@@ -180,7 +180,7 @@ module _ (held : List Held) (table : List MemEntry) (entries : AllByRecursion Is
           (
             h.0,
             (
-              subst (λ (ss : List Step). StepsFit (dims_at table memory) ss n (length (terms_made held table at terms).values)) (sym h.1.0.are)
+              subst (λ (ss : List WayStep). StepsFit (dims_at table memory) ss n (length (terms_made held table at terms).values)) (sym h.1.0.are)
                   (subst (λ (k : ℕ). StepsFit (dims_at table memory) steps n k) (sym (values_made held table at terms)) h.1.0),
               a.1,
             ),

@@ -20,7 +20,7 @@ use Rattle.dh_code.specs.declared.spending.Bank.{Bank}
 use Rattle.dh_code.specs.Coded.{IsCoded}
 use Rattle.dh_code.specs.Scenes.{IsScene, begun_in, flat_events, flat_word}
 use Rattle.dh_code.specs.Slots.{Placing}
-use Rattle.dh_code.specs.States.{AreRanks, AreRows, DoesOne, Ends, GoBackAlike, IsAssigned, IsReady, IsSmallWrite, Keeps, Runs, sight_in}
+use Rattle.dh_code.specs.States.{AreRanks, AreRows, DoesOne, Ends, GoBackAlike, IsAssigned, IsReadyState, IsSmallWrite, Keeps, Runs, sight_in}
 use Rattle.dh_code.specs.Spent.{AreUsedBy}
 use Rattle.dh_code.specs.Suited.{CanDo}
 use Rattle.dh_code.specs.Underway.{RunSoFar}
@@ -43,7 +43,7 @@ done_alone {A} s old new result rows n action ranks row one p factors paths c ar
         let at = subst (λ (l : List ℕ). AreRanks factors l path) (sym row) (row_at factors rows (n ∷ []) (path ∷ []) 0 n are'.are are'.inside (omega arith)).0 in
         subst (λ (ps : List Path). Ends {A = A} p s.entries.now (at_each (at_one (begun_in s) c) ps e) s.step result new) (sym is) (one p factors path c at coded can e k)
 
-pub assigned_alone : (s : Scene) (scene : IsScene s) (old new : State) (rows : List (List ℕ)) (numbers ranks : List ℕ) (f : Flat) (first depth slot bits : ℕ) (word : Word) → length numbers ≡ 1 → ranks ≡ slice_index_or rows (get_or numbers 0 0) [] → IsReady s old
+pub assigned_alone : (s : Scene) (scene : IsScene s) (old new : State) (rows : List (List ℕ)) (numbers ranks : List ℕ) (f : Flat) (first depth slot bits : ℕ) (word : Word) → length numbers ≡ 1 → ranks ≡ slice_index_or rows (get_or numbers 0 0) [] → IsReadyState s old
     → word ≡ flat_word s (sight_in old ranks) f → flat_events s (sight_in old ranks) f ≡ [] → slot ≡ first + slice_index ranks depth → bits ≡ residue (2 ^ 64) (words.value_of word)
     → new.banks ≡ old.banks → new.writes ≡ old.writes → IsAssigned old new slot bits → DoesOne {A = Unit {0}} s old (Ok tt) new rows numbers (Assign f first depth)
 assigned_alone s scene old new rows numbers ranks f first depth slot bits word one row ready worth none there whole banks written set =
@@ -56,7 +56,7 @@ assigned_alone s scene old new rows numbers ranks f first depth slot bits word o
     (worth_spends {A = Word} s (sight_in old ranks) f old.banks.items word none) there whole banks written set))))
 
 -- a state stays one of its step
-ready_still : (s : Scene) (old new : State) → IsReady s old → new.banks ≡ old.banks → new.given ≡ old.given → new.writes ≡ old.writes → IsReady s new
+ready_still : (s : Scene) (old new : State) → IsReadyState s old → new.banks ≡ old.banks → new.given ≡ old.given → new.writes ≡ old.writes → IsReadyState s new
 ready_still s old new r banks given written = record {
   long = ap (λ (l : List Bank). length l) (items_same _ _ banks) ∙ r.long;
   room = subst (λ (l : List ℕ). length s.code.now.operations ≤ length l) (sym (items_same _ _ given)) r.room;

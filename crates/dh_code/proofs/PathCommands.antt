@@ -15,7 +15,7 @@ use Rattle.dh_code.specs.declared.running.State.{State}
 use Rattle.dh_code.specs.Coded.{IsCoded}
 use Rattle.dh_code.specs.Scenes.{begun_in}
 use Rattle.dh_code.specs.Slots.{Placing}
-use Rattle.dh_code.specs.States.{AreRanks, AreRows, Assigns, DoesOne, Ends, IsReady, Keeps, KeepsAll, KeepsBack, Runs, Stores}
+use Rattle.dh_code.specs.States.{AreRanks, AreRows, Assigns, DoesOne, Ends, IsReadyState, Keeps, KeepsAll, KeepsBack, Runs, Stores}
 use Rattle.dh_code.specs.Suited.{CanDo}
 use Rattle.dh_code.proofs.PathLoops.{Going, Grows, go_end, go_first, go_stop, go_turn, ranks_now}
 
@@ -34,12 +34,12 @@ one_grows b (choose test chosen other) path e = record { more = _; is = refl }
 
 -- a command was done at the paths up to one
 pub record DoneSoFar (s : Scene) (old : State) (rows : List (List ℕ)) (numbers : List ℕ) (action : Action) (k : ℕ) (now : State) : Type 0 where
-  pub ready : IsReady s now
+  pub ready : IsReadyState s now
   pub back : KeepsBack old now
   pub ran : (p : Placing) (factors : List ℕ) (paths : List Path) (c : CoreCommand) → AreRows factors rows numbers paths → IsCoded p.held s.entries.now s.code.now action c → CanDo s.entries.now p factors c
       → (e : Effect) → Keeps p s.entries.now e s.step old → Going p s (at_one (begun_in s) c) paths e k now
 
-pub done_first : (s : Scene) (old : State) (rows : List (List ℕ)) (numbers : List ℕ) (action : Action) → IsReady s old → DoneSoFar s old rows numbers action 0 old
+pub done_first : (s : Scene) (old : State) (rows : List (List ℕ)) (numbers : List ℕ) (action : Action) → IsReadyState s old → DoneSoFar s old rows numbers action 0 old
 done_first s old rows numbers action ready = record {
   ready = ready;
   back = record { long = refl; back = refl };
@@ -61,7 +61,7 @@ module _ (s : Scene) (old : State) (rows : List (List ℕ)) (numbers : List ℕ)
       subst (λ (l : List ℕ). AreRanks factors l (get_or paths k [])) (sym (row ∙ ap (λ n. slice_index_or rows n []) item))
       (ranks_now p s (at_one (begun_in s) c) (one_grows (begun_in s) c) factors rows numbers paths are e k now h i within)
 
-  pub done_turn : (A : Type 0) (a : A) (new : State) → IsReady s new → KeepsBack now new → RunsOne {A = A} (Ok a) new → DoneSoFar s old rows numbers action (suc k) new
+  pub done_turn : (A : Type 0) (a : A) (new : State) → IsReadyState s new → KeepsBack now new → RunsOne {A = A} (Ok a) new → DoneSoFar s old rows numbers action (suc k) new
   done_turn A a new ready back one = record {
     ready = ready;
     back = back_then old now new g.back back;

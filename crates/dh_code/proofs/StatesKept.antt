@@ -18,14 +18,14 @@ use Rattle.dh_code.specs.Plain.{all_plain}
 use Rattle.dh_code.specs.Scenes.{IsScene, Spends, begun_in, flat_events, flat_sight, flat_word}
 use Rattle.dh_code.specs.Slots.{Holds, Placing}
 use Rattle.dh_code.specs.Spent.{HaveSpent}
-use Rattle.dh_code.specs.States.{AreRanks, Ends, IsAssigned, IsReady, Keeps, KeepsVariables, SpendsFlat, sight_in}
+use Rattle.dh_code.specs.States.{AreRanks, Ends, IsAssigned, IsReadyState, Keeps, KeepsVariables, SpendsFlat, sight_in}
 use Rattle.dh_code.specs.Suited.{CanEvaluate, IsInside}
 use Rattle.dh_code.proofs.FlatMeaning.{assigned_slot, flat_happens, flat_value, kept_events, none_written, path_of, stopped_events}
 use Rattle.dh_code.proofs.Ranges.{items_same}
 use Rattle.dh_code.proofs.SlotsHeld.{held_more}
 
 module _ (s : Scene) (scene : IsScene s) (p : Placing) (factors ranks : List ℕ) (path : Path) (t : CoreTerm) (f : Flat) (e : Effect) (old middle : State)
-    (at : AreRanks factors ranks path) (is : IsFlat p.held s.entries.now s.code.now t f) (can : CanEvaluate s.entries.now p factors t) (k : Keeps p s.entries.now e s.step old) (ready : IsReady s old) where
+    (at : AreRanks factors ranks path) (is : IsFlat p.held s.entries.now s.code.now t f) (can : CanEvaluate s.entries.now p factors t) (k : Keeps p s.entries.now e s.step old) (ready : IsReadyState s old) where
   abbrev value : Word
   value = value_of (begun_in s) e.variables path t
 

@@ -27,7 +27,7 @@ use Rattle.dh_code.specs.Rows.{spot_seen}
 use Rattle.dh_code.specs.Scenes.{IsScene, Spends, begun_in, flat_events, flat_sight, flat_word, placed, spread_spot}
 use Rattle.dh_code.specs.Slots.{Holds, Placing}
 use Rattle.dh_code.specs.Spent.{HaveSpent}
-use Rattle.dh_code.specs.States.{AreRanks, Ends, IsReady, Keeps, KeepsSlots, KeepsVariables, Puts, SpendsFlat, sight_in, writes_in}
+use Rattle.dh_code.specs.States.{AreRanks, Ends, IsReadyState, Keeps, KeepsSlots, KeepsVariables, Puts, SpendsFlat, sight_in, writes_in}
 use Rattle.dh_code.specs.Suited.{CanEvaluate, IsSuitedTarget, TargetInside}
 use Rattle.dh_code.proofs.BanksSpent.{stop_more}
 use Rattle.dh_code.proofs.FlatMeaning.{none_aimed, none_written, stopped_events, written_append, written_both}
@@ -39,7 +39,7 @@ use Rattle.dh_code.proofs.ValuesOfTerms.{of_memory}
 
 module _ (s : Scene) (scene : IsScene s) (p : Placing) (factors ranks : List ℕ) (path : Path) (reach : Reach) (target : core.Target) (t : CoreTerm) (f : Flat) (a : Access) (e : Effect) (old middle : State)
     (at : AreRanks factors ranks path) (is : IsFlatStore p.held s.entries.now s.code.now reach target t f a) (suits : IsSuitedTarget s.entries.now reach.memory target) (inside : TargetInside p factors target)
-    (can : CanEvaluate s.entries.now p factors t) (k : Keeps p s.entries.now e s.step old) (ready : IsReady s old) where
+    (can : CanEvaluate s.entries.now p factors t) (k : Keeps p s.entries.now e s.step old) (ready : IsReadyState s old) where
   abbrev w : Sight
   w = sight_in old ranks
 

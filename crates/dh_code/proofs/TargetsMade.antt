@@ -54,7 +54,7 @@ offsets_seen : (held : List Held) (hs : List ways.Hidden) → map (λ h. hidden_
 offsets_seen held [] = refl
 offsets_seen held (h ∷ hs) = ap (λ l. hidden_operand held (hidden_seen h) ∷ l) (offsets_seen held hs)
 
-pub through_made : (held : List Held) (w : ways_kept.Way) (os all : List Operand) (vs : List ViewMap) (n : ℕ) → n ≡ length os → all ≡ os ++ map (λ h. hidden_operand held (hidden_seen h)) w.hidden → vs ≡ w.view ∷ w.behind
+pub through_made : (held : List Held) (w : ways_kept.KeptWay) (os all : List Operand) (vs : List ViewMap) (n : ℕ) → n ≡ length os → all ≡ os ++ map (λ h. hidden_operand held (hidden_seen h)) w.hidden → vs ≡ w.view ∷ w.behind
     → Through vs n all ≡ aimed_target held (Some (way_seen w)) os
 through_made held w os all vs n long both views =
     ap (λ k. Through vs k all) long

@@ -8,14 +8,14 @@ use Rattle.dh_tree.specs.declared.tables.MemEntry.{MemEntry}
 use Rattle.dh_tree.specs.declared.trees.commands.ViewForm.{ViewForm}
 use Rattle.dh_tree.specs.declared.trees.expressions.Expr.{Expr}
 use Rattle.dh_tree.specs.PlainTrees as plain
-use Rattle.dh_tree.specs.Seen.{factor_seen, plan_seen, term_seen, terms}
+use Rattle.dh_tree.specs.Seen.{factor_seen, view_plan, term_seen, terms}
 use Rattle.dh_tree.specs.ViewOffsets.{offsets_of}
 use Rattle.dh_meaning.specs.Core.{CoreTerms, no_terms, term_and, count_terms, keep, CoreCommands, command_and}
 use Rattle.dh_meaning.specs.CoreOf.{core_terms, kept_by}
 use Rattle.dh_meaning.specs.Ways as definitions
 use Rattle.dh_meaning.specs.Ways.{Hidden, hidden_in}
 use Rattle.dh_ways.specs.declared.ways.Hidden as ways
-use Rattle.dh_ways.specs.Kept.{Way}
+use Rattle.dh_ways.specs.Kept.{KeptWay}
 use Rattle.dh_ways.specs.Seen.{hidden_seen, way_seen}
 use Rattle.dh_code.specs.declared.codes.Action.TheVariants.{Keep}
 use Rattle.dh_code.specs.declared.codes.Code.{Code}
@@ -25,7 +25,7 @@ use Rattle.dh_code.specs.declared.codes.Operation.{Operation}
 use Rattle.dh_code.specs.declared.flattening.Names.{Names}
 use Rattle.dh_code.specs.declared.places.Held.{Held}
 use Rattle.dh_code.specs.Coded.{AreFlat, AreSlotsFrom, operands_kept}
-use Rattle.dh_code.specs.Flattening.{AddsStep, AreMade, FlattensAll, FlattensOffsets, IsInFront, kept_from, known_in, offsets_by, table_in}
+use Rattle.dh_code.specs.Flattening.{AddsStep, AreMade, FlattensAll, FlattensOffsets, IsInFront, kept_from, known_by_names, offsets_by, table_in}
 use Rattle.dh_code.specs.Made.{AllMade, terms_made}
 use Rattle.dh_code.specs.Operated.{IsOperand}
 use Rattle.dh_code.specs.Slots.{Placing, held_at}
@@ -54,7 +54,7 @@ pub mapped_end : {A B : Type 0} (f : A → B) (xs : List A) (i : ℕ) (now all :
 mapped_end f xs i now all over h = sym (append-nil now) ∙ (ap (λ l. now ++ map f l) (sym (drop_past xs i over)) ∙ h)
 
 -- The first variable on a way.
-pub hidden_found : (way : Option definitions.Way) (w : Way) (x : Option ways.Hidden) → Some (way_seen w) ≡ way → x ≡ slice_get w.hidden 0 → option_map hidden_seen x ≡ slice_get (hidden_in way) 0
+pub hidden_found : (way : Option definitions.Way) (w : KeptWay) (x : Option ways.Hidden) → Some (way_seen w) ≡ way → x ≡ slice_get w.hidden 0 → option_map hidden_seen x ≡ slice_get (hidden_in way) 0
 hidden_found way w x is e = ap (option_map hidden_seen) e ∙ (sym (slice_get-map hidden_seen w.hidden 0) ∙ ap (λ o. slice_get (hidden_in o) 0) is)
 
 pub hidden_nowhere : (way : Option definitions.Way) → None ≡ way → None ≡ slice_get (hidden_in way) 0
@@ -66,14 +66,14 @@ pub pairs_seen : (pairs : List (ℕ × Expr)) → map (λ s. s.offset) (map fact
 pairs_seen [] = refl
 pairs_seen ((n, e) ∷ pairs) = ap (λ l. term_seen e ∷ l) (pairs_seen pairs)
 
-pub offsets_as : (names : Names) (old new : Code) (form : ViewForm) (es : List Expr) (os : List Operand) → offsets_of (plan_seen form) ≡ map term_seen es → FlattensAll names old new es os → FlattensOffsets names old new form os
+pub offsets_as : (names : Names) (old new : Code) (form : ViewForm) (es : List Expr) (os : List Operand) → offsets_of (view_plan form) ≡ map term_seen es → FlattensAll names old new es os → FlattensOffsets names old new form os
 offsets_as names old new form es os same flat n h =
-    subst (λ (l : List plain.Term). AreMade old new os (terms_made names.places.now (table_in names) (length old.operations) (core_terms (known_in names) n (terms l)))) (sym same)
-    (flat n (subst (λ (l : List plain.Term). AreSuited (table_in names) (core_terms (known_in names) n (terms l))) same h))
+    subst (λ (l : List plain.Term). AreMade old new os (terms_made names.places.now (table_in names) (length old.operations) (core_terms (known_by_names names) n (terms l)))) (sym same)
+    (flat n (subst (λ (l : List plain.Term). AreSuited (table_in names) (core_terms (known_by_names names) n (terms l))) same h))
 
-pub no_offsets : (names : Names) (c : Code) (form : ViewForm) (os : List Operand) → offsets_of (plan_seen form) ≡ [] → os ≡ [] → FlattensOffsets names c c form os
+pub no_offsets : (names : Names) (c : Code) (form : ViewForm) (os : List Operand) → offsets_of (view_plan form) ≡ [] → os ≡ [] → FlattensOffsets names c c form os
 no_offsets names c form os same none n h =
-    subst (λ (l : List plain.Term). AreMade c c os (terms_made names.places.now (table_in names) (length c.operations) (core_terms (known_in names) n (terms l)))) (sym same) (record { adds = adds_none c; values = none })
+    subst (λ (l : List plain.Term). AreMade c c os (terms_made names.places.now (table_in names) (length c.operations) (core_terms (known_by_names names) n (terms l)))) (sym same) (record { adds = adds_none c; values = none })
 
 -- Where they are kept.
 

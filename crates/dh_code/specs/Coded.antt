@@ -17,7 +17,7 @@ use Rattle.dh_code.specs.Slots.{held_at}
 use Rattle.dh_code.specs.Made.{term_made, terms_made, target_made, access_to}
 
 -- further operations and commands behind those that there are
-pub record Extends (old new : Code) : Type 0 where
+pub record ExtendsCode (old new : Code) : Type 0 where
   pub operations : List Operation
   pub are : new.operations ≡ old.operations ++ operations
   pub steps : List Step

@@ -121,9 +121,9 @@ declaration_in (d ∷ ds) entity = if same_entity d.entity (Some entity) then So
 abbrev pub declared_of : Declaration → Declared
 declared_of d = record { entity = d.entity; kind = d.kind_is; depth = length d.factors; copies = copies_in d.factors }
 
-abbrev pub factors_of : Option Declaration → List ℕ
-factors_of None = []
-factors_of (Some d) = d.factors
+abbrev pub declared_factors : Option Declaration → List ℕ
+declared_factors None = []
+declared_factors (Some d) = d.factors
 
 abbrev pub kind_declared : Option Declaration → Kind
 kind_declared None = kind.Bool
@@ -131,23 +131,23 @@ kind_declared (Some d) = d.kind_is
 
 -- the slots of a variable behind so many; what is no variable has one
 abbrev pub held_behind : (count : ℕ) → Option Declaration → Held
-held_behind count d = record { kind = kind_declared d; depth = length (factors_of d); first = count }
+held_behind count d = record { kind = kind_declared d; depth = length (declared_factors d); first = count }
 
 -- those of so many entities, from a number on, behind so many slots
 abbrev pub all_held : List Declaration → (count from entities : ℕ) → List Held
 all_held ds count from zero = []
 all_held ds count from (suc entities) =
-    held_behind count (declaration_in ds from) ∷ all_held ds (count + copies_in (factors_of (declaration_in ds from))) (suc from) entities
+    held_behind count (declaration_in ds from) ∷ all_held ds (count + copies_in (declared_factors (declaration_in ds from))) (suc from) entities
 
 abbrev pub slots_counted : List Declaration → (count from entities : ℕ) → ℕ
 slots_counted ds count from zero = count
-slots_counted ds count from (suc entities) = slots_counted ds (count + copies_in (factors_of (declaration_in ds from))) (suc from) entities
+slots_counted ds count from (suc entities) = slots_counted ds (count + copies_in (declared_factors (declaration_in ds from))) (suc from) entities
 
 -- the slots of a program's variables
 abbrev pub placing_of : Program → Placing
 placing_of p = record {
   held = all_held (all_declarations_of p) 0 0 (all_entities_of p);
-  factors = λ entity. factors_of (declaration_in (all_declarations_of p) entity);
+  factors = λ entity. declared_factors (declaration_in (all_declarations_of p) entity);
 }
 
 abbrev pub slots_of : Program → ℕ

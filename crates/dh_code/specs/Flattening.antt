@@ -13,7 +13,7 @@ use Rattle.dh_tree.specs.Memories.{memories_of, table_of}
 use Rattle.dh_tree.specs.Shapes.{IsMemory}
 use Rattle.dh_tree.specs.PlainTrees as plain
 use Rattle.dh_tree.specs.declared.trees.commands.ViewForm.{ViewForm}
-use Rattle.dh_tree.specs.Seen.{action_seen, maybe_seen, plan_seen, program_seen, term_seen, terms}
+use Rattle.dh_tree.specs.Seen.{action_seen, maybe_seen, view_plan, program_seen, term_seen, terms}
 use Rattle.dh_tree.specs.ViewOffsets.{offsets_of}
 use denote.Ref.{Bor}
 use Rattle.dh_meaning.specs.AccessNumbers.{term_accesses, terms_accesses}
@@ -37,7 +37,7 @@ use Rattle.dh_code.specs.declared.codes.Operand.TheVariants.{Constant, Given}
 use Rattle.dh_code.specs.declared.codes.Operation.{Operation}
 use Rattle.dh_code.specs.declared.codes.Flat.{Flat}
 use Rattle.dh_code.specs.declared.flattening.Names.{Names}
-use Rattle.dh_code.specs.Coded.{AreCoded, Extends}
+use Rattle.dh_code.specs.Coded.{AreCoded, ExtendsCode}
 use Rattle.dh_code.specs.Made.{AllMade, Made, access_to, aimed_target, binary_made, converted_made, hidden_operand, target_made, term_made, terms_made}
 use Rattle.dh_code.specs.Operated.{mask_of}
 use Rattle.dh_code.specs.Scenes.{IsSoundCode}
@@ -46,8 +46,8 @@ use Rattle.dh_code.specs.Slots.{Placing, held_at}
 use Rattle.dh_code.specs.Suited.{AreSuited, CanDoAll, IsSuited, IsSuitedTarget}
 
 -- what code knows of the names of a program
-abbrev pub known_in : Names → Known
-known_in names = record { memories = memories_of (program_seen names.program.now); bindings = all_bindings_of (program_seen names.program.now); ways = map led_seen names.ways.now }
+abbrev pub known_by_names : Names → Known
+known_by_names names = record { memories = memories_of (program_seen names.program.now); bindings = all_bindings_of (program_seen names.program.now); ways = map led_seen names.ways.now }
 
 abbrev pub table_in : Names → List MemEntry
 table_in names = table_of (program_seen names.program.now)
@@ -74,17 +74,17 @@ pub record IsOneMore (old new : Code) (operation : Operation) (kind : Kind) (o :
 -- the code of an expression, wherever its accesses are numbered from
 abbrev pub Flattens : Names → (old new : Code) → Expr → Operand → Type 0
 Flattens names old new e o =
-    (n : ℕ) → IsSuited (table_in names) (core_term (known_in names) n (term_seen e))
-    → IsMade old new o (term_made names.places.now (table_in names) (length old.operations) (core_term (known_in names) n (term_seen e)))
+    (n : ℕ) → IsSuited (table_in names) (core_term (known_by_names names) n (term_seen e))
+    → IsMade old new o (term_made names.places.now (table_in names) (length old.operations) (core_term (known_by_names names) n (term_seen e)))
 
 abbrev pub FlattensAll : Names → (old new : Code) → List Expr → List Operand → Type 0
 FlattensAll names old new es os =
-    (n : ℕ) → AreSuited (table_in names) (core_terms (known_in names) n (terms (map term_seen es)))
-    → AreMade old new os (terms_made names.places.now (table_in names) (length old.operations) (core_terms (known_in names) n (terms (map term_seen es))))
+    (n : ℕ) → AreSuited (table_in names) (core_terms (known_by_names names) n (terms (map term_seen es)))
+    → AreMade old new os (terms_made names.places.now (table_in names) (length old.operations) (core_terms (known_by_names names) n (terms (map term_seen es))))
 
 -- the element that operands name
 abbrev pub Aims : Names → Ref → List Operand → Target → Type 0
-Aims names r os t = t ≡ aimed_target names.places.now (way_of (known_in names) r) os
+Aims names r os t = t ≡ aimed_target names.places.now (way_of (known_by_names names) r) os
 
 -- what variables hold that keep offsets
 abbrev pub hidden_operands : List Held → List Hidden → List Operand
@@ -97,8 +97,8 @@ offsets_by pairs = map (λ p. p.1) pairs
 -- the code of the offsets of a view
 abbrev pub FlattensOffsets : Names → (old new : Code) → ViewForm → List Operand → Type 0
 FlattensOffsets names old new form os =
-    (n : ℕ) → AreSuited (table_in names) (core_terms (known_in names) n (terms (offsets_of (plan_seen form))))
-    → AreMade old new os (terms_made names.places.now (table_in names) (length old.operations) (core_terms (known_in names) n (terms (offsets_of (plan_seen form)))))
+    (n : ℕ) → AreSuited (table_in names) (core_terms (known_by_names names) n (terms (offsets_of (view_plan form))))
+    → AreMade old new os (terms_made names.places.now (table_in names) (length old.operations) (core_terms (known_by_names names) n (terms (offsets_of (view_plan form)))))
 
 -- operands that are kept in variables whose entities follow one another
 abbrev pub kept_from : List Held → (entity : ℕ) → List Operand → List Kept
@@ -131,38 +131,38 @@ pub record IsFlatMade (old new : Code) (m : Made) (f : Flat) : Type 0 where
 
 abbrev pub HoldsFlat : Names → (old new : Code) → Expr → Flat → Type 0
 HoldsFlat names old new e f =
-    (n : ℕ) → IsSuited (table_in names) (core_term (known_in names) n (term_seen e))
-    → IsFlatMade old new (term_made names.places.now (table_in names) (length old.operations) (core_term (known_in names) n (term_seen e))) f
+    (n : ℕ) → IsSuited (table_in names) (core_term (known_by_names names) n (term_seen e))
+    → IsFlatMade old new (term_made names.places.now (table_in names) (length old.operations) (core_term (known_by_names names) n (term_seen e))) f
 
 -- what a `let` sets its variable to
 abbrev pub HoldsFirst : Names → (old new : Code) → Option Kind → Option Expr → Flat → Type 0
 HoldsFirst names old new declared value f =
-    (n : ℕ) → IsSuited (table_in names) (first_value (known_in names) n declared (option_map term_seen value))
-    → IsFlatMade old new (term_made names.places.now (table_in names) (length old.operations) (first_value (known_in names) n declared (option_map term_seen value))) f
+    (n : ℕ) → IsSuited (table_in names) (first_value (known_by_names names) n declared (option_map term_seen value))
+    → IsFlatMade old new (term_made names.places.now (table_in names) (length old.operations) (first_value (known_by_names names) n declared (option_map term_seen value))) f
 
 -- the slots of a program's variables, each of the variable's kind
 pub record IsPlacingOf (p : Placing) (names : Names) : Type 0 where
   pub held : p.held ≡ names.places.now
-  pub kinds : (entity : ℕ) → entity < length p.held → (held_at p.held entity).kind ≡ kind_bound (binding_in (known_in names).bindings entity)
+  pub kinds : (entity : ℕ) → entity < length p.held → (held_at p.held entity).kind ≡ kind_bound (binding_in (known_by_names names).bindings entity)
 
 -- the commands of a command stand in front of those behind it, wherever its accesses are numbered from
 pub record IsInFront (names : Names) (old new : Code) (first next : Option ℕ) (cs rest : CoreCommands) : Type 0 where
-  pub extends : Extends old new
+  pub extends : ExtendsCode old new
   pub coded : AreCoded names.places.now (table_in names) old next rest → AreCoded names.places.now (table_in names) new first cs
   pub sound : AllByRecursion IsMemory (table_in names) → AreCoded names.places.now (table_in names) old next rest → IsSoundCode (table_in names) old → IsSoundCode (table_in names) new
 
 abbrev pub FlattensCommand : Names → (old new : Code) → Command → (first next : Option ℕ) → Type 0
 FlattensCommand names old new c first next =
     (p : Placing) (loops : List ℕ) (n : ℕ) (rest : CoreCommands) → IsPlacingOf p names
-    → CanDoAll (table_in names) p loops (core_action (known_in names) n (action_seen c) rest)
-    → IsInFront names old new first next (core_action (known_in names) n (action_seen c) rest) rest
+    → CanDoAll (table_in names) p loops (core_action (known_by_names names) n (action_seen c) rest)
+    → IsInFront names old new first next (core_action (known_by_names names) n (action_seen c) rest) rest
 
 -- the commands of an arm that may lack
 abbrev pub FlattensOther : Names → (old new : Code) → Option (Box Command Global) → (first : Option ℕ) → Type 0
 FlattensOther names old new other first =
     (p : Placing) (loops : List ℕ) (n : ℕ) → IsPlacingOf p names
-    → CanDoAll (table_in names) p loops (core_other (known_in names) n (maybe_seen (option_map (λ b. action_seen b.value) other)))
-    → IsInFront names old new first None (core_other (known_in names) n (maybe_seen (option_map (λ b. action_seen b.value) other))) no_commands
+    → CanDoAll (table_in names) p loops (core_other (known_by_names names) n (maybe_seen (option_map (λ b. action_seen b.value) other)))
+    → IsInFront names old new first None (core_other (known_by_names names) n (maybe_seen (option_map (λ b. action_seen b.value) other))) no_commands
 
 -- a value without operations
 pub record IsStillAt (code : Code) (value : Operand) (f : Flat) : Type 0 where
@@ -196,19 +196,19 @@ StandsInFront names old new first next cs rest =
 abbrev pub IsReducedIn : Names → (old new : Code) → Ref → Op → Expr → (next first : Option ℕ) → Type 0
 IsReducedIn names old new r o value next first =
     (n : ℕ) (rest : CoreCommands)
-    → StandsInFront names old new first next (command_and (folded_into (known_in names) r o (kind_found (term_seen value)) (core_term (known_in names) n (term_seen value))) rest) rest
+    → StandsInFront names old new first next (command_and (folded_into (known_by_names names) r o (kind_found (term_seen value)) (core_term (known_by_names names) n (term_seen value))) rest) rest
 
 -- a store
 abbrev pub IsStoredIn : Names → (old new : Code) → (target value : Expr) → (next first : Option ℕ) → Type 0
 IsStoredIn names old new target value next first =
     (n : ℕ) (rest : CoreCommands)
-    → StandsInFront names old new first next (command_and (store_to (known_in names) (n + term_accesses (term_seen value)) (term_seen target) (core_term (known_in names) n (term_seen value))) rest) rest
+    → StandsInFront names old new first next (command_and (store_to (known_by_names names) (n + term_accesses (term_seen value)) (term_seen target) (core_term (known_by_names names) n (term_seen value))) rest) rest
 
 -- a view
 abbrev pub IsKeptIn : Names → (old new : Code) → Ref → ViewForm → (next first : Option ℕ) → Type 0
 IsKeptIn names old new r form next first =
     (n : ℕ) (rest : CoreCommands)
-    → StandsInFront names old new first next (kept_by (hidden_in (way_of (known_in names) r)) (core_terms (known_in names) n (terms (offsets_of (plan_seen form)))) rest) rest
+    → StandsInFront names old new first next (kept_by (hidden_in (way_of (known_by_names names) r)) (core_terms (known_by_names names) n (terms (offsets_of (view_plan form)))) rest) rest
 
 -- the access that a target is, or that it is none
 abbrev pub aimed_at : Known → (n : ℕ) → plain.Term → Option (Reach × core.Target)
@@ -239,11 +239,11 @@ IsAimed names old new (Some (r, t)) (Some a) =
     × (a ≡ access_to r (target_made names.places.now (table_in names) (length old.operations) t).target)
 
 abbrev pub IsAimedAt : Names → (old new : Code) → Expr → Option Access → Type 0
-IsAimedAt names old new e a = (n : ℕ) → IsAimed names old new (aimed_at (known_in names) n (term_seen e)) a
+IsAimedAt names old new e a = (n : ℕ) → IsAimed names old new (aimed_at (known_by_names names) n (term_seen e)) a
 
 -- the commands of a straight phase, wherever the accesses of each are numbered from
 abbrev pub FlattensCommands : Names → (old new : Code) → List (Bor Command) → (first : Option ℕ) → Type 0
 FlattensCommands names old new cs first =
     (p : Placing) (loops : List ℕ) (ls : List Located) → map (λ l. l.command) ls ≡ map (λ c. action_seen c.now) cs → IsPlacingOf p names
-    → CanDoAll (table_in names) p loops (core_commands (known_in names) ls)
-    → IsInFront names old new first None (core_commands (known_in names) ls) no_commands
+    → CanDoAll (table_in names) p loops (core_commands (known_by_names names) ls)
+    → IsInFront names old new first None (core_commands (known_by_names names) ls) no_commands

@@ -4,21 +4,21 @@ use Rattle.std.specs.Prelude.{◌≡◌, ℕ, ◌+◌, List, length, map, Option
 use Rattle.dh_tree.specs.declared.tables.Dim.{Dim}
 use Rattle.dh_tree.specs.declared.viewing.ViewMap.{ViewMap}
 use Rattle.dh_tree.specs.ViewElements.{element_through}
-use Rattle.dh_meaning.specs.Ways.{Step, step_of}
+use Rattle.dh_meaning.specs.Ways.{WayStep, step_of}
 use Rattle.dh_ways.specs.Leading.{StepsLead, next_dims, offsets_on}
 use Rattle.dh_code.specs.declared.spots.Spread.{Spread}
 use Rattle.dh_code.specs.Banks.{Spreads}
 
 -- the views of steps, and the steps of views
-abbrev pub views_of : List Step → List ViewMap
+abbrev pub views_of : List WayStep → List ViewMap
 views_of steps = map (λ s. s.is) steps
 
-abbrev pub steps_of : List ViewMap → List Step
+abbrev pub steps_of : List ViewMap → List WayStep
 steps_of views = map step_of views
 
 -- steps that follow one another to a memory of these dimensions, with as many indices as what is named has dimensions,
 -- and with the offsets so many values
-pub record StepsFit (memory : List Dim) (steps : List Step) (indices values : ℕ) : Type 0 where
+pub record StepsFit (memory : List Dim) (steps : List WayStep) (indices values : ℕ) : Type 0 where
   pub are : steps_of (views_of steps) ≡ steps
   pub lead : StepsLead steps memory
   pub named : indices ≡ length (next_dims steps memory)

@@ -9,8 +9,8 @@ abbrev pub contents_of : List (Vec ℕ Global) → List (List ℕ)
 contents_of lists = map (λ v. v.items) lists
 
 -- an element of memories
-abbrev pub element_in : List (List ℕ) → (memory position : ℕ) → ℕ
-element_in memories memory position = slice_index (slice_index_or memories memory []) position
+abbrev pub memory_element : List (List ℕ) → (memory position : ℕ) → ℕ
+memory_element memories memory position = slice_index (slice_index_or memories memory []) position
 
 -- where an element lies
 abbrev pub spot_seen : Element → Spot

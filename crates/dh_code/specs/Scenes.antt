@@ -26,7 +26,7 @@ use Rattle.dh_code.specs.declared.spots.Spread.{Spread}
 use Rattle.dh_code.specs.Banks.{AreFirsts, HasBank}
 use Rattle.dh_code.specs.Operated.{IsAccess, IsOperand, IsOperation, Sight, access_spot, events_after, operand_word, operation_events, operation_word, sight, sight_after}
 use Rattle.dh_code.specs.declared.codes.Operation.TheVariants.{Read}
-use Rattle.dh_code.specs.Rows.{contents_of, element_in, spot_seen}
+use Rattle.dh_code.specs.Rows.{contents_of, memory_element, spot_seen}
 use Rattle.dh_code.specs.Spent.{HaveSpent}
 
 -- what the step began with
@@ -35,7 +35,7 @@ begun_in s = record { table = s.entries.now; memories = contents_of s.memories.n
 
 -- every element is a value of its memory's kind
 abbrev pub AreSmall : List MemEntry → List (List ℕ) → Type 0
-AreSmall table memories = (memory position : ℕ) → element_in memories memory position < 2 ^ width_of (kind_in table memory)
+AreSmall table memories = (memory position : ℕ) → memory_element memories memory position < 2 ^ width_of (kind_in table memory)
 
 -- the operations of an expression stand in code, and its value is an operand
 pub record IsHeld (os : List Operation) (f : Flat) : Type 0 where

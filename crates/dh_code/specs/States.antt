@@ -42,13 +42,13 @@ writes_in (writes number place path s value ∷ es) = record { memory = s.memory
 writes_in (faults number place path kind ∷ es) = writes_in es
 
 -- the memories after writes, in order
-abbrev pub written_by : List Write → List (List ℕ) → List (List ℕ)
-written_by [] memories = memories
-written_by (w ∷ ws) memories = written_by ws (slice_set memories w.memory (slice_set (slice_index_or memories w.memory []) w.position w.bits))
+abbrev pub memories_written : List Write → List (List ℕ) → List (List ℕ)
+memories_written [] memories = memories
+memories_written (w ∷ ws) memories = memories_written ws (slice_set memories w.memory (slice_set (slice_index_or memories w.memory []) w.position w.bits))
 
 -- memories have these writes, in order
 abbrev pub AreWritten : (old new : Vec (Vec ℕ Global) Global) → List Write → Type 0
-AreWritten old new ws = contents_of new.items ≡ written_by ws (contents_of old.items)
+AreWritten old new ws = contents_of new.items ≡ memories_written ws (contents_of old.items)
 
 -- the slots before changes were made to them, in order
 abbrev pub undone : List Change → List ℕ → List ℕ
@@ -60,7 +60,7 @@ abbrev pub IsSmallWrite : List MemEntry → Write → Type 0
 IsSmallWrite table w = w.bits < 2 ^ width_of (kind_in table w.memory)
 
 -- a state of a step of this scene
-pub record IsReady (s : Scene) (state : State) : Type 0 where
+pub record IsReadyState (s : Scene) (state : State) : Type 0 where
   pub long : length state.banks.items ≡ all_banks s.entries.now
   pub room : length s.code.now.operations ≤ length state.given.items
   pub used : AreUsedBy s.step state.banks.items

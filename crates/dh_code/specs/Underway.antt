@@ -8,7 +8,7 @@ use Rattle.dh_code.specs.declared.running.State.{State}
 use Rattle.dh_code.specs.Coded.{AreCoded}
 use Rattle.dh_code.specs.Scenes.{begun_in}
 use Rattle.dh_code.specs.Slots.{Placing}
-use Rattle.dh_code.specs.States.{AreRows, IsReady, Keeps, KeepsBack}
+use Rattle.dh_code.specs.States.{AreRows, IsReadyState, Keeps, KeepsBack}
 use Rattle.dh_code.specs.Suited.{CanDoAll}
 
 -- how many numbers there are up to the beginning of a list
@@ -18,7 +18,7 @@ list_depth (Some n) = n + 1
 
 -- commands that were done up to one
 pub record RunSoFar (s : Scene) (old : State) (rows : List (List ℕ)) (numbers : List ℕ) (first : Option ℕ) (now : State) (list : Option ℕ) : Type 0 where
-  pub ready : IsReady s now
+  pub ready : IsReadyState s now
   pub back : KeepsBack old now
   pub low : list_depth list ≤ list_depth first
   pub ran : (p : Placing) (factors : List ℕ) (paths : List Path) (cs : CoreCommands) → AreRows factors rows numbers paths → AreCoded p.held s.entries.now s.code.now first cs → CanDoAll s.entries.now p factors cs

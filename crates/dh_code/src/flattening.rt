@@ -10,7 +10,7 @@ ghost use Rattle.dh_ways.specs.Seen.{hidden_seen, way_seen};
 ghost use Rattle.dh_meaning.specs.Effects.{kind_in};
 ghost use Rattle.dh_code.specs.declared.codes.Operation.TheVariants.{Read};
 ghost use Rattle.dh_code.specs.declared.codes.Target.TheVariants.{Row, Through};
-ghost use Rattle.dh_code.specs.Flattening.{Aims, FlattensOffsets, IsKeptIn, kept_from, offsets_by, AddsBinary, AddsNothing, ConvertsTo, ExtendsTo, Flattens, FlattensAll, FlattensCommand, FlattensCommands, FlattensOther, HoldsFirst, HoldsFlat, IsAimedAt, IsAssignedIn, IsOneMore, IsReducedIn, IsStillAt, IsStoredIn, AddsStep, hidden_operands, is_aimed, known_in, table_in};
+ghost use Rattle.dh_code.specs.Flattening.{Aims, FlattensOffsets, IsKeptIn, kept_from, offsets_by, AddsBinary, AddsNothing, ConvertsTo, ExtendsTo, Flattens, FlattensAll, FlattensCommand, FlattensCommands, FlattensOther, HoldsFirst, HoldsFlat, IsAimedAt, IsAssignedIn, IsOneMore, IsReducedIn, IsStillAt, IsStoredIn, AddsStep, hidden_operands, is_aimed, known_by_names, table_in};
 ghost use Rattle.dh_code.specs.Made.{aimed_target, hidden_operand, variable_operand};
 ghost use Rattle.dh_tree.specs.Kinds.{same_kind};
 
@@ -43,7 +43,7 @@ pub struct Names<'a> {
 
 /// The number of the memory that an entity is; that of every access of a typed program is one.
 fn number_of(names: &Names<'_>, of: Option<u32>) -> usize
-    ensures { result ≡ entity_number (number_in (known_in names.now).memories of) }
+    ensures { result ≡ entity_number (number_in (known_by_names names.now).memories of) }
 {
     let Some(entity) = of else {
         return 0;
@@ -56,7 +56,7 @@ fn number_of(names: &Names<'_>, of: Option<u32>) -> usize
 
 /// Whether an entity is a memory.
 fn is_memory(names: &Names<'_>, of: Option<u32>) -> bool
-    ensures { result ≡ is_some (memory_in (known_in names.now).memories of) }
+    ensures { result ≡ is_some (memory_in (known_by_names names.now).memories of) }
 {
     let Some(entity) = of else {
         return false;
@@ -66,7 +66,7 @@ fn is_memory(names: &Names<'_>, of: Option<u32>) -> bool
 
 /// The way of what a name stands for, where that is a view.
 pub fn way_of<'a>(names: &Names<'a>, of: &Ref) -> Option<WayRef<'a>>
-    ensures { option_map way_seen result ≡ way_of (known_in names.now) of.now }
+    ensures { option_map way_seen result ≡ way_of (known_by_names names.now) of.now }
 {
     if is_memory(names, of.entity) {
         None
@@ -77,7 +77,7 @@ pub fn way_of<'a>(names: &Names<'a>, of: &Ref) -> Option<WayRef<'a>>
 
 /// The number of the memory that a name stands for, or leads to.
 pub fn memory_of(names: &Names<'_>, of: &Ref) -> usize
-    ensures { result ≡ memory_of (known_in names.now) of.now }
+    ensures { result ≡ memory_of (known_by_names names.now) of.now }
 {
     match way_of(names, of) {
         Some(way) => number_of(names, way.memory()),
@@ -567,7 +567,7 @@ fn flatten_offsets(
 /// The first variable that keeps an offset on the way of a view, if there is one.
 pub fn first_hidden(names: &Names<'_>, of: &Ref) -> Option<Hidden>
     ensures { option_map hidden_seen result
-        ≡ slice_get (hidden_in (way_of (known_in names.now) of.now)) 0 }
+        ≡ slice_get (hidden_in (way_of (known_by_names names.now) of.now)) 0 }
 {
     match way_of(names, of) {
         Some(way) => way.first_hidden(),

@@ -9,7 +9,7 @@ ghost use Rattle.dh_meaning.specs.CoreOf.{entity_number};
 ghost use Rattle.dh_meaning.specs.Effects.{bits_of};
 ghost use Rattle.dh_code.specs.Operated.{IsOperand, kind_of_operand, mask_of, operand_word, view_seen};
 ghost use Rattle.dh_code.specs.Extended.{extension_of};
-ghost use Rattle.dh_code.specs.Rows.{contents_of, element_in};
+ghost use Rattle.dh_code.specs.Rows.{contents_of, memory_element};
 
 use crate::codes::Operand;
 use dh_tree::{Kind, Ref};
@@ -232,7 +232,7 @@ pub fn number_at(list: &[u64], at: usize) -> u64
 
 /// An element of memories; 0 where there is none.
 pub fn element_of(memories: &[Vec<u64>], memory: usize, position: u64) -> u64
-    ensures { result ≡ element_in (contents_of memories.now) memory position }
+    ensures { result ≡ memory_element (contents_of memories.now) memory position }
 {
     match memories.get(memory) {
         Some(values) => number_at(values.as_slice(), position as usize),

@@ -9,7 +9,7 @@ ghost use Rattle.dh_code.specs.Operated.{IsAccess, IsOperand};
 ghost use Rattle.dh_code.specs.Rows.{contents_of};
 ghost use Rattle.dh_code.specs.Scenes.{AreHeld, IsHeld, IsScene, LeadsTo, SpendsWrite};
 ghost use Rattle.dh_code.specs.Spent.{StayUsed};
-ghost use Rattle.dh_code.specs.States.{AreWritten, Assigns, CanBeDone, Decides, DoesAll, DoesOne, GoBackAlike, IsAside, IsAssigned, IsReady, KeepsAll, KeepsBack, KeepsSlots, KeepsVariables, Parts, Puts, SetsKept, ShowsFlat, SpendsFlat, Stores, bits_found, sight_in, undone};
+ghost use Rattle.dh_code.specs.States.{AreWritten, Assigns, CanBeDone, Decides, DoesAll, DoesOne, GoBackAlike, IsAside, IsAssigned, IsReadyState, KeepsAll, KeepsBack, KeepsSlots, KeepsVariables, Parts, Puts, SetsKept, ShowsFlat, SpendsFlat, Stores, bits_found, sight_in, undone};
 
 use crate::codes::{Access, Action, Flat, Kept, Operand};
 use crate::evaluating::{
@@ -127,9 +127,9 @@ fn evaluate_all(
     value: &Flat,
 ) -> Result<(), Stop>
     requires scene { IsScene scene.now }
-    requires ready { IsReady scene.now state.old }
+    requires ready { IsReadyState scene.now state.old }
     requires held { IsHeld scene.now.code.now.operations value.now }
-    ensures ready { IsReady scene.now state.new }
+    ensures ready { IsReadyState scene.now state.new }
     ensures kept { KeepsVariables state.old state.new }
     ensures seen { IfOk result
         (λ _. ShowsFlat scene.now state.old state.new ranks.now value.now) }
@@ -151,9 +151,9 @@ fn evaluate_all(
 #[inline(always)]
 fn evaluate(scene: &Scene<'_>, state: &mut State, ranks: &[u32], value: &Flat) -> Result<(), Stop>
     requires scene { IsScene scene.now }
-    requires ready { IsReady scene.now state.old }
+    requires ready { IsReadyState scene.now state.old }
     requires held { IsHeld scene.now.code.now.operations value.now }
-    ensures ready { IsReady scene.now state.new }
+    ensures ready { IsReadyState scene.now state.new }
     ensures kept { KeepsVariables state.old state.new }
     ensures seen { IfOk result
         (λ _. ShowsFlat scene.now state.old state.new ranks.now value.now) }
@@ -176,9 +176,9 @@ fn assign_any(
     depth: u32,
 ) -> Result<(), Stop>
     requires scene { IsScene scene.now }
-    requires ready { IsReady scene.now state.old }
+    requires ready { IsReadyState scene.now state.old }
     requires held { IsHeld scene.now.code.now.operations value.now }
-    ensures ready { IsReady scene.now state.new }
+    ensures ready { IsReadyState scene.now state.new }
     ensures back { KeepsBack state.old state.new }
     ensures ran { Assigns scene.now state.old result state.new ranks.now value.now first depth }
 {
@@ -198,9 +198,9 @@ fn assign(
     depth: u32,
 ) -> Result<(), Stop>
     requires scene { IsScene scene.now }
-    requires ready { IsReady scene.now state.old }
+    requires ready { IsReadyState scene.now state.old }
     requires held { IsHeld scene.now.code.now.operations value.now }
-    ensures ready { IsReady scene.now state.new }
+    ensures ready { IsReadyState scene.now state.new }
     ensures back { KeepsBack state.old state.new }
     ensures ran { Assigns scene.now state.old result state.new ranks.now value.now first depth }
 {
@@ -260,9 +260,9 @@ fn keep(
     found: &mut Vec<u64>,
 ) -> Result<(), Stop>
     requires scene { IsScene scene.now }
-    requires ready { IsReady scene.now state.old }
+    requires ready { IsReadyState scene.now state.old }
     requires held { AreHeld scene.now.code.now.operations range.0 range.1 values.now }
-    ensures ready { IsReady scene.now state.new }
+    ensures ready { IsReadyState scene.now state.new }
     ensures back { KeepsBack state.old state.new }
     ensures ran { KeepsAll scene.now state.old result state.new ranks.now range.0 range.1
         values.now depth }
@@ -307,10 +307,10 @@ fn put(
     value: Word,
 ) -> Result<(), Stop>
     requires scene { IsScene scene.now }
-    requires ready { IsReady scene.now state.old }
+    requires ready { IsReadyState scene.now state.old }
     requires there { HasBank scene.now.entries.now element.memory element.bank }
     requires word { IsWord value }
-    ensures ready { IsReady scene.now state.new }
+    ensures ready { IsReadyState scene.now state.new }
     ensures kept { KeepsSlots state.old state.new }
     ensures puts { Puts scene.now state.old result state.new place element value }
 {
@@ -350,10 +350,10 @@ fn store(
     access: &Access,
 ) -> Result<(), Stop>
     requires scene { IsScene scene.now }
-    requires ready { IsReady scene.now state.old }
+    requires ready { IsReadyState scene.now state.old }
     requires held { IsHeld scene.now.code.now.operations value.now }
     requires access { IsAccess scene.now.entries.now access.now }
-    ensures ready { IsReady scene.now state.new }
+    ensures ready { IsReadyState scene.now state.new }
     ensures back { KeepsBack state.old state.new }
     ensures ran { Stores scene.now state.old result state.new ranks.now value.now access.now }
 {
@@ -380,9 +380,9 @@ fn decide_any(
     test: &Flat,
 ) -> Result<bool, Stop>
     requires scene { IsScene scene.now }
-    requires ready { IsReady scene.now state.old }
+    requires ready { IsReadyState scene.now state.old }
     requires held { IsHeld scene.now.code.now.operations test.now }
-    ensures ready { IsReady scene.now state.new }
+    ensures ready { IsReadyState scene.now state.new }
     ensures back { KeepsBack state.old state.new }
     ensures decides { Decides scene.now state.old result state.new ranks.now test.now }
 {
@@ -399,9 +399,9 @@ pub fn decide(
     test: &Flat,
 ) -> Result<bool, Stop>
     requires scene { IsScene scene.now }
-    requires ready { IsReady scene.now state.old }
+    requires ready { IsReadyState scene.now state.old }
     requires held { IsHeld scene.now.code.now.operations test.now }
-    ensures ready { IsReady scene.now state.new }
+    ensures ready { IsReadyState scene.now state.new }
     ensures back { KeepsBack state.old state.new }
     ensures decides { Decides scene.now state.old result state.new ranks.now test.now }
 {
@@ -434,10 +434,10 @@ fn assign_at(
     depth: u32,
 ) -> Result<(), Stop>
     requires scene { IsScene scene.now }
-    requires ready { IsReady scene.now state.old }
+    requires ready { IsReadyState scene.now state.old }
     requires held { IsHeld scene.now.code.now.operations value.now }
     requires one { length paths.now ≡ 1 }
-    ensures ready { IsReady scene.now state.new }
+    ensures ready { IsReadyState scene.now state.new }
     ensures back { KeepsBack state.old state.new }
     ensures ran { DoesOne scene.now state.old result state.new (contents_of rows.now) paths.now
         (Assign value.now first depth) }
@@ -457,9 +457,9 @@ fn assign_all(
     depth: u32,
 ) -> Result<(), Stop>
     requires scene { IsScene scene.now }
-    requires ready { IsReady scene.now state.old }
+    requires ready { IsReadyState scene.now state.old }
     requires held { IsHeld scene.now.code.now.operations value.now }
-    ensures ready { IsReady scene.now state.new }
+    ensures ready { IsReadyState scene.now state.new }
     ensures back { KeepsBack state.old state.new }
     ensures ran { DoesOne scene.now state.old result state.new (contents_of rows.now) paths.now
         (Assign value.now first depth) }
@@ -482,9 +482,9 @@ fn keep_all(
     depth: u32,
 ) -> Result<(), Stop>
     requires scene { IsScene scene.now }
-    requires ready { IsReady scene.now state.old }
+    requires ready { IsReadyState scene.now state.old }
     requires held { AreHeld scene.now.code.now.operations range.0 range.1 values.now }
-    ensures ready { IsReady scene.now state.new }
+    ensures ready { IsReadyState scene.now state.new }
     ensures back { KeepsBack state.old state.new }
     ensures ran { DoesOne scene.now state.old result state.new (contents_of rows.now) paths.now
         (Keep range.0 range.1 values.now depth) }
@@ -515,11 +515,11 @@ fn store_at(
     access: &Access,
 ) -> Result<(), Stop>
     requires scene { IsScene scene.now }
-    requires ready { IsReady scene.now state.old }
+    requires ready { IsReadyState scene.now state.old }
     requires held { IsHeld scene.now.code.now.operations value.now }
     requires access { IsAccess scene.now.entries.now access.now }
     requires one { length paths.now ≡ 1 }
-    ensures ready { IsReady scene.now state.new }
+    ensures ready { IsReadyState scene.now state.new }
     ensures back { KeepsBack state.old state.new }
     ensures ran { DoesOne scene.now state.old result state.new (contents_of rows.now) paths.now
         (Store value.now access.now) }
@@ -538,10 +538,10 @@ fn store_all(
     access: &Access,
 ) -> Result<(), Stop>
     requires scene { IsScene scene.now }
-    requires ready { IsReady scene.now state.old }
+    requires ready { IsReadyState scene.now state.old }
     requires held { IsHeld scene.now.code.now.operations value.now }
     requires access { IsAccess scene.now.entries.now access.now }
-    ensures ready { IsReady scene.now state.new }
+    ensures ready { IsReadyState scene.now state.new }
     ensures back { KeepsBack state.old state.new }
     ensures ran { DoesOne scene.now state.old result state.new (contents_of rows.now) paths.now
         (Store value.now access.now) }
@@ -579,9 +579,9 @@ fn part(
     test: &Flat,
 ) -> Result<(Vec<usize>, Vec<usize>), Stop>
     requires scene { IsScene scene.now }
-    requires ready { IsReady scene.now state.old }
+    requires ready { IsReadyState scene.now state.old }
     requires held { IsHeld scene.now.code.now.operations test.now }
-    ensures ready { IsReady scene.now state.new }
+    ensures ready { IsReadyState scene.now state.new }
     ensures back { KeepsBack state.old state.new }
     ensures parts { Parts scene.now state.old result state.new (contents_of rows.now) paths.now
         test.now }
@@ -614,10 +614,10 @@ fn choose_at(
     other: Option<usize>,
 ) -> Result<(), Stop>
     requires scene { IsScene scene.now }
-    requires ready { IsReady scene.now state.old }
+    requires ready { IsReadyState scene.now state.old }
     requires held { IsHeld scene.now.code.now.operations test.now }
     requires one { length paths.now ≡ 1 }
-    ensures ready { IsReady scene.now state.new }
+    ensures ready { IsReadyState scene.now state.new }
     ensures back { KeepsBack state.old state.new }
     ensures ran { DoesOne scene.now state.old result state.new (contents_of rows.now) paths.now
         (Choose test.now chosen other) }
@@ -642,9 +642,9 @@ fn choose(
     other: Option<usize>,
 ) -> Result<(), Stop>
     requires scene { IsScene scene.now }
-    requires ready { IsReady scene.now state.old }
+    requires ready { IsReadyState scene.now state.old }
     requires held { IsHeld scene.now.code.now.operations test.now }
-    ensures ready { IsReady scene.now state.new }
+    ensures ready { IsReadyState scene.now state.new }
     ensures back { KeepsBack state.old state.new }
     ensures ran { DoesOne scene.now state.old result state.new (contents_of rows.now) paths.now
         (Choose test.now chosen other) }
@@ -664,9 +664,9 @@ fn run_one(
     action: &Action,
 ) -> Result<(), Stop>
     requires scene { IsScene scene.now }
-    requires ready { IsReady scene.now state.old }
+    requires ready { IsReadyState scene.now state.old }
     requires done { CanBeDone scene.now action.now }
-    ensures ready { IsReady scene.now state.new }
+    ensures ready { IsReadyState scene.now state.new }
     ensures back { KeepsBack state.old state.new }
     ensures ran { DoesOne scene.now state.old result state.new (contents_of rows.now) paths.now
         action.now }
@@ -728,8 +728,8 @@ pub fn run(
     mut list: Option<usize>,
 ) -> Result<(), Stop>
     requires scene { IsScene scene.now }
-    requires ready { IsReady scene.now state.old }
-    ensures ready { IsReady scene.now state.new }
+    requires ready { IsReadyState scene.now state.old }
+    ensures ready { IsReadyState scene.now state.new }
     ensures back { KeepsBack state.old state.new }
     ensures ran { DoesAll scene.now state.old result state.new (contents_of rows.now) paths.now
         list }

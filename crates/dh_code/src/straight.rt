@@ -2,7 +2,7 @@
 
 ghost use Rattle.dh_code.specs.Rows.{contents_of};
 ghost use Rattle.dh_code.specs.Scenes.{IsScene};
-ghost use Rattle.dh_code.specs.States.{IsReady};
+ghost use Rattle.dh_code.specs.States.{IsReadyState};
 ghost use Rattle.dh_code.specs.Underway.{RunSoFar};
 
 use crate::codes::Action;
@@ -23,7 +23,7 @@ pub fn assign_on(
     mut list: Option<usize>,
 ) -> Option<usize>
     requires scene { IsScene scene.now }
-    requires ready { IsReady scene.now state.old }
+    requires ready { IsReadyState scene.now state.old }
     ensures { RunSoFar scene.now state.old (contents_of rows.now) paths.now list state.new result }
 {
     if paths.len() != 1 {

@@ -5,7 +5,7 @@ ghost use Rattle.dh_value.specs.Operations.{Suits};
 ghost use Rattle.dh_value.specs.Words.{IsWord};
 ghost use Rattle.dh_code.specs.Operated.{IsOperand, IsOperation, combined_word, kind_of_operand, operand_word};
 ghost use Rattle.dh_code.specs.Scenes.{IsHeld, IsScene};
-ghost use Rattle.dh_code.specs.States.{IsReady, sight_in};
+ghost use Rattle.dh_code.specs.States.{IsReadyState, sight_in};
 ghost use Rattle.dh_code.specs.Worths.{IsGivenBy, IsSingle, IsWorth};
 
 use crate::codes::{Flat, Operand, Operation};
@@ -142,7 +142,7 @@ fn single_value(
 #[inline(always)]
 pub fn plain_value(scene: &Scene<'_>, state: &State, ranks: &[u32], value: &Flat) -> Option<Word>
     requires scene { IsScene scene.now }
-    requires ready { IsReady scene.now state.now }
+    requires ready { IsReadyState scene.now state.now }
     requires held { IsHeld scene.now.code.now.operations value.now }
     ensures { IsWorth scene.now (sight_in state.now ranks.now) value.now result }
 {

@@ -12,16 +12,16 @@ use Rattle.dh_plan.proofs.SourceMoves.{and_left}
 use Rattle.dh_expressions.specs.declared.paths.Level.{Level}
 use Rattle.dh_expressions.specs.declared.scenes.Around.{Around}
 use Rattle.dh_expressions.specs.declared.scenes.Scene.{Scene}
-use Rattle.dh_expressions.specs.Drafted.{Step}
-use Rattle.dh_expressions.specs.Evaluated.{Reads, counter_of, shown_by}
+use Rattle.dh_expressions.specs.Drafted.{BlockStep}
+use Rattle.dh_expressions.specs.Evaluated.{StepReads, counter_of, shown_by}
 use Rattle.dh_expressions.specs.Levels.{last_number, path_at, rank_number}
 use Rattle.dh_expressions.specs.Shown.{variable_shown}
 use Rattle.dh_commands.specs.declared.buildings.Building.{Building}
 use Rattle.dh_commands.specs.LanesRun.{IsArm, comes_out, is_on_at, lane_of, path_in, paths_counted}
-use Rattle.dh_commands.specs.ShownVariables.{IsSeen, Shows, depth_in, register_in, seen_path}
-use Rattle.dh_commands.specs.Done.{Stands}
+use Rattle.dh_commands.specs.ShownVariables.{IsSeen, ShowsVariables, depth_in, register_in, seen_path}
+use Rattle.dh_commands.specs.Done.{StandsBeside}
 
-module _ (scene : Scene) (around arm : Around) (x : Step) (holds : Bool) (test : Path → Bool) (h : IsArm x around arm holds test) where
+module _ (scene : Scene) (around arm : Around) (x : BlockStep) (holds : Bool) (test : Path → Bool) (h : IsArm x around arm holds test) where
   pub register_same : (e j : ℕ) → register_in scene arm e j ≡ register_in scene around e j
   register_same e j = ap (λ (ls : List Level). min ((held_at scene.held.now e).first + rank_number ls (held_at scene.held.now e).depth j) (2 ^ 64 - 1)) h.levels
 
@@ -42,7 +42,7 @@ module _ (scene : Scene) (around arm : Around) (x : Step) (holds : Bool) (test :
   pub seen_inside : (e : ℕ) → IsSeen scene around.levels.now e → IsSeen scene arm.levels.now e
   seen_inside e s = subst (λ (ls : List Level). IsSeen scene ls e) (sym h.levels) s
 
-  pub shows_arm : (current : List (Option ℕ)) (variables : Variables) → Shows scene around x current variables → Shows scene arm x current variables
+  pub shows_arm : (current : List (Option ℕ)) (variables : Variables) → ShowsVariables scene around x current variables → ShowsVariables scene arm x current variables
   shows_arm current variables s = record {
     each = λ e j there inside on.
         let within : j < paths_counted around = subst (λ (n : ℕ). j < n) h.long inside in
@@ -50,7 +50,7 @@ module _ (scene : Scene) (around arm : Around) (x : Step) (holds : Bool) (test :
         ∙ (s.each e j (seen_around e there) within (on_around j within on) ∙ ap (λ (p : Path). word_of (held_at scene.held.now e).kind (variables e p)) (sym (seen_same e j)));
   }
 
-  pub stands_arm : (reads : Reads) (b : Building) (e : Effect) → Stands scene around x reads b e → Stands scene arm x reads b e
+  pub stands_arm : (reads : StepReads) (b : Building) (e : Effect) → StandsBeside scene around x reads b e → StandsBeside scene arm x reads b e
   stands_arm reads b e s = record {
     knows = s.knows;
     shows = shows_arm b.values.current.items e.variables s.shows;

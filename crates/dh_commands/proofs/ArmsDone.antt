@@ -17,18 +17,18 @@ use Rattle.dh_expressions.specs.declared.paths.Level.{Level}
 use Rattle.dh_expressions.specs.declared.scenes.Around.{Around}
 use Rattle.dh_expressions.specs.declared.scenes.Scene.{Scene}
 use Rattle.dh_expressions.specs.declared.accesses.Accesses.{Accesses}
-use Rattle.dh_expressions.specs.Drafted.{Begun, Extends, Fits, Step, tale, told}
-use Rattle.dh_expressions.specs.Evaluated.{Knows, Reads, begun_of, counter_of, known_in}
+use Rattle.dh_expressions.specs.Drafted.{BlockBegun, Extends, FitsStep, BlockStep, tale, tales_told}
+use Rattle.dh_expressions.specs.Evaluated.{Knows, StepReads, begun_of, counter_of, known_in}
 use Rattle.dh_expressions.specs.Levels.{rank_number}
 use Rattle.dh_commands.specs.declared.assignments.Change.{Change}
 use Rattle.dh_commands.specs.declared.assignments.Values.{Values}
 use Rattle.dh_commands.specs.declared.buildings.Building.{Building}
 use Rattle.dh_commands.specs.declared.choices.Left.{Left}
 use Rattle.dh_commands.specs.LanesRun.{IsArm, comes_out, is_on_at, path_in, paths_counted, paths_on}
-use Rattle.dh_commands.specs.ShownVariables.{IsOwn, IsSeen, ShowsAt, register_in, seen_path}
+use Rattle.dh_commands.specs.ShownVariables.{HasOwnCopies, IsSeen, ShowsAt, register_in, seen_path}
 use Rattle.dh_commands.specs.Undone.{AreReady, Changes, IsChange}
-use Rattle.dh_commands.specs.Followed.{Follows, KeepsDeep, Sets, effect_of, view_of}
-use Rattle.dh_commands.specs.Done.{Stands}
+use Rattle.dh_commands.specs.Followed.{Follows, KeepsDeep, Sets, effect_of, view_at_step}
+use Rattle.dh_commands.specs.Done.{StandsBeside}
 use Rattle.dh_commands.specs.Parted.{DoesArm, ShowsTests}
 use Rattle.dh_commands.proofs.ArmsBegun.{register_same, seen_around, seen_inside, seen_same, shown_same}
 use Rattle.dh_commands.proofs.ArmsLeft.{AreSame, ArmLeft, arm_ended}
@@ -57,7 +57,7 @@ registers_by : (scene : Scene) (arm around : Around) → arm.levels.now ≡ arou
 registers_by scene arm around same e j = ap (λ (ls : List Level). min ((held_at scene.held.now e).first + rank_number ls (held_at scene.held.now e).depth j) (2 ^ 64 - 1)) same
 
 -- what is another at each path is so in an arm
-pub own_in_arm : (scene : Scene) (around arm : Around) (x : Step) (holds : Bool) (test : Path → Bool) (h : IsArm x around arm holds test) (entity : ℕ) → IsOwn scene around entity → IsOwn scene arm entity
+pub own_in_arm : (scene : Scene) (around arm : Around) (x : BlockStep) (holds : Bool) (test : Path → Bool) (h : IsArm x around arm holds test) (entity : ℕ) → HasOwnCopies scene around entity → HasOwnCopies scene arm entity
 own_in_arm scene around arm x holds test h entity own = record {
   placed = record {
     apart = λ e f i j te tf ii ij same.
@@ -82,14 +82,14 @@ own_in_arm scene around arm x holds test h entity own = record {
     inside i l = subst (λ (n : ℕ). i < n) h.long l
 
 -- what stands of an arm's paths, before it
-pub record Halfway (scene : Scene) (around : Around) (x : Step) (reads : Reads) (truths : Path → Bool) (holds : Bool) (b : Building) (e : Effect) : Type 0 where
-  pub knows : (variables : Variables) → Knows (view_of x reads variables) b.accesses
+pub record Halfway (scene : Scene) (around : Around) (x : BlockStep) (reads : StepReads) (truths : Path → Bool) (holds : Bool) (b : Building) (e : Effect) : Type 0 where
+  pub knows : (variables : Variables) → Knows (view_at_step x reads variables) b.accesses
   pub shows : (entity j : ℕ) → IsSeen scene around.levels.now entity → j < paths_counted around → is_on_at x around j ≡ true → truths (path_in around j) ≡ holds → ShowsAt scene around x b.values.current.items e.variables entity j
-  pub tells : tale x b.draft ≡ told e.events
+  pub tells : tale x b.draft ≡ tales_told e.events
   pub room : (entity number : ℕ) → IsSeen scene around.levels.now entity → number < paths_counted around → register_in scene around entity number < length b.values.current.items
   pub ready : AreReady b.values
 
-pub halfway : (scene : Scene) (around : Around) (x : Step) (reads : Reads) (truths : Path → Bool) (holds : Bool) (b : Building) (e : Effect) → Stands scene around x reads b e → Halfway scene around x reads truths holds b e
+pub halfway : (scene : Scene) (around : Around) (x : BlockStep) (reads : StepReads) (truths : Path → Bool) (holds : Bool) (b : Building) (e : Effect) → StandsBeside scene around x reads b e → Halfway scene around x reads truths holds b e
 halfway scene around x reads truths holds b e s = record { knows = s.knows; shows = λ entity j there inside on is. s.shows.each entity j there inside on; tells = s.tells; room = s.room; ready = s.ready }
 
 comes_true : (holds t : Bool) → comes_out holds t ≡ true → t ≡ holds
@@ -120,10 +120,10 @@ module _ (scene : Scene) (around : Around) (tests : List ℕ) (holds : Bool) (a 
       arm_ended scene arm.arm around May old.values inside.values new.values lefts (registers_by scene arm.arm around arm.levels) (arm.long ∙ long)
       (changes_wider scene arm.arm (Sets scene a) May old.values inside.values wider ((arm.so some few).changes ready)) arm.ends
 
-  module _ (x : Step) (reads : Reads) (e : Effect) (fits : Fits x new.draft) (begun : Begun x old.draft) (truths : Path → Bool) (shown_tests : ShowsTests x around tests truths)
+  module _ (x : BlockStep) (reads : StepReads) (e : Effect) (fits : FitsStep x new.draft) (begun : BlockBegun x old.draft) (truths : Path → Bool) (shown_tests : ShowsTests x around tests truths)
       (half : Halfway scene around x reads truths holds old e) where
-    fits_inside : Fits x inside.draft
-    fits_inside = subst (λ (d : Draft). Fits x d) arm.draft fits
+    fits_inside : FitsStep x inside.draft
+    fits_inside = subst (λ (d : Draft). FitsStep x d) arm.draft fits
 
     pub is_arm : IsArm x around arm.arm holds truths
     is_arm = arm.is_arm some few long x fits_inside begun truths shown_tests
@@ -143,7 +143,7 @@ module _ (scene : Scene) (around : Around) (tests : List ℕ) (holds : Bool) (a 
     down : (entity : ℕ) → IsSeen scene around.levels.now entity → IsSeen scene arm.arm.levels.now entity
     down = seen_inside scene around arm.arm x holds truths is_arm
 
-    begins : Stands scene arm.arm x reads old e
+    begins : StandsBeside scene arm.arm x reads old e
     begins = record {
       knows = half.knows;
       shows = record {
@@ -161,13 +161,13 @@ module _ (scene : Scene) (around : Around) (tests : List ℕ) (holds : Bool) (a 
     }
 
     module _ (follows : Follows scene x reads arm.arm arm.arms first a e) where
-      ends : Stands scene arm.arm x reads inside after
+      ends : StandsBeside scene arm.arm x reads inside after
       ends = (arm.so some few).so x reads e fits_inside begun follows begins
 
-      pub ends_knows : (variables : Variables) → Knows (view_of x reads variables) new.accesses
-      ends_knows variables = subst (λ (s : Accesses). Knows (view_of x reads variables) s) (sym arm.accesses) (ends.knows variables)
+      pub ends_knows : (variables : Variables) → Knows (view_at_step x reads variables) new.accesses
+      ends_knows variables = subst (λ (s : Accesses). Knows (view_at_step x reads variables) s) (sym arm.accesses) (ends.knows variables)
 
-      pub ends_tells : tale x new.draft ≡ told after.events
+      pub ends_tells : tale x new.draft ≡ tales_told after.events
       ends_tells = ap (λ (d : Draft). tale x d) arm.draft ∙ ends.tells
 
       pub ends_shows : (entity j : ℕ) → IsSeen scene around.levels.now entity → j < paths_counted around → is_on_at x around j ≡ true → truths (path_in around j) ≡ holds → ShowsAt scene around x inside.values.current.items after.variables entity j
@@ -177,7 +177,7 @@ module _ (scene : Scene) (around : Around) (tests : List ℕ) (holds : Bool) (a 
           (is_arm.on j l ∙ (ap (λ (b : Bool). b && comes_out holds (truths (path_in around j))) on ∙ comes_same holds (truths (path_in around j)) is))
           ∙ ap (λ (p : Path). word_of (held_at scene.held.now entity).kind (after.variables entity p)) (seen_same scene around arm.arm x holds truths is_arm entity j))
 
-      pub ends_kept : KeepsDeep scene a → ((entity : ℕ) → Sets scene a entity → IsOwn scene around entity) → (entity j : ℕ) → IsSeen scene around.levels.now entity → j < paths_counted around → is_on_at x around j ≡ true → truths (path_in around j) ≡ not holds
+      pub ends_kept : KeepsDeep scene a → ((entity : ℕ) → Sets scene a entity → HasOwnCopies scene around entity) → (entity j : ℕ) → IsSeen scene around.levels.now entity → j < paths_counted around → is_on_at x around j ≡ true → truths (path_in around j) ≡ not holds
           → after.variables entity (seen_path scene around entity j) ≡ e.variables entity (seen_path scene around entity j)
       ends_kept deep own entity j there l on is =
           subst (λ (p : Path). after.variables entity p ≡ e.variables entity p) (seen_same scene around arm.arm x holds truths is_arm entity j)

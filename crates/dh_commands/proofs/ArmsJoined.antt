@@ -9,7 +9,7 @@ use Rattle.dh_code.specs.Slots.{held_at}
 use Rattle.dh_expressions.specs.declared.drafts.Draft.{Draft}
 use Rattle.dh_expressions.specs.declared.scenes.Around.{Around}
 use Rattle.dh_expressions.specs.declared.scenes.Scene.{Scene}
-use Rattle.dh_expressions.specs.Drafted.{Begun, Fits, Step, shown}
+use Rattle.dh_expressions.specs.Drafted.{BlockBegun, FitsStep, BlockStep, word_shown}
 use Rattle.dh_expressions.specs.Evaluated.{counter_of}
 use Rattle.dh_expressions.specs.Shown.{current_shown, variable_shown}
 use Rattle.dh_expressions.proofs.ListPlaces.{place_within, there}
@@ -17,7 +17,7 @@ use Rattle.dh_commands.specs.declared.assignments.Values.{Values}
 use Rattle.dh_commands.specs.declared.choices.Choice.{Choice}
 use Rattle.dh_commands.specs.declared.choices.Left.{Left}
 use Rattle.dh_commands.specs.LanesRun.{is_on_at, lane_of, path_in, paths_counted}
-use Rattle.dh_commands.specs.ShownVariables.{IsOwn, IsSeen, Shows, ShowsAt, register_in}
+use Rattle.dh_commands.specs.ShownVariables.{HasOwnCopies, IsSeen, ShowsVariables, ShowsAt, register_in}
 use Rattle.dh_commands.specs.Undone.{first_left, lefts_of, value_left}
 use Rattle.dh_commands.specs.Joined.{AreChoices, IsLeft}
 use Rattle.dh_commands.specs.Choosing.{Chooses, behind_shown, test_shown}
@@ -32,7 +32,7 @@ slot_given None v h = absurd (cc)
 slot_given (Some o) v h = ap Some h
 
 -- what is chosen of an arm is what a variable showed as it ended
-pub behind_is : (scene : Scene) (around : Around) (May : ℕ → Type 0) (x : Step) (base behind : List (Option ℕ)) (lefts : List Left) (r : ℕ) → ArmLeft scene around May base behind lefts
+pub behind_is : (scene : Scene) (around : Around) (May : ℕ → Type 0) (x : BlockStep) (base behind : List (Option ℕ)) (lefts : List Left) (r : ℕ) → ArmLeft scene around May base behind lefts
     → behind_shown x base r (value_left (first_left lefts r)) ≡ variable_shown x behind r
 behind_is scene around May x base behind lefts r arm =
     ap (λ (ls : List Left). behind_shown x base r (value_left (first_left ls r))) arm.lefts_are ∙ by (first_left (lefts_of arm.more behind) r) refl
@@ -67,11 +67,11 @@ choice_set scene around May chosen other base one two arm_one arm_two choices ar
     by l (inl found) = left_at_path scene around May base one chosen c.register l arm_one found
     by l (inr found) = left_at_path scene around May base two other c.register l arm_two found
 
-module _ (scene : Scene) (around : Around) (May : ℕ → Type 0) (x : Step) (tests : List ℕ) (chosen other : List Left) (base one two : List (Option ℕ))
+module _ (scene : Scene) (around : Around) (May : ℕ → Type 0) (x : BlockStep) (tests : List ℕ) (chosen other : List Left) (base one two : List (Option ℕ))
     (arm_one : ArmLeft scene around May base one chosen) (arm_two : ArmLeft scene around May base two other)
     (choices : List Choice) (are : AreChoices chosen other choices) (old new : Draft) (before after : Values)
     (chooses : Chooses old new before after tests choices (length choices)) (same : before.current.items ≡ base) (long : length tests ≡ paths_counted around)
-    (fits : Fits x new) (begun : Begun x old) (truths : Path → Bool) (shows_tests : ShowsTests x around tests truths) (own : (entity : ℕ) → May entity → IsOwn scene around entity) where
+    (fits : FitsStep x new) (begun : BlockBegun x old) (truths : Path → Bool) (shows_tests : ShowsTests x around tests truths) (own : (entity : ℕ) → May entity → HasOwnCopies scene around entity) where
   -- the test at the path of a choice of a variable there
   module _ (e j : ℕ) (there_e : IsSeen scene around.levels.now e) (inside : j < paths_counted around) (on : is_on_at x around j ≡ true) where
     abbrev r : ℕ
@@ -87,7 +87,7 @@ module _ (scene : Scene) (around : Around) (May : ℕ → Type 0) (x : Step) (te
     test_is : test_shown x tests j ≡ truths (path_in around j)
     test_is =
         let t = there tests j (subst (λ (n : ℕ). j < n) (sym long) inside) in
-        ap (λ n. is_true (shown x n)) (test_at tests j t.0 t.1) ∙ shows_tests j t.0 inside on t.1
+        ap (λ n. is_true (word_shown x n)) (test_at tests j t.0 t.1) ∙ shows_tests j t.0 inside on t.1
 
     abbrev Picks : Bool → Type 0
     Picks b = variable_shown x after.current.items r ≡ variable_shown x (if b then one else two) r
@@ -149,7 +149,7 @@ module _ (scene : Scene) (around : Around) (May : ℕ → Type 0) (x : Step) (te
   pub joined_shows : (variables : Variables)
       → ((e j : ℕ) → IsSeen scene around.levels.now e → j < paths_counted around → is_on_at x around j ≡ true → truths (path_in around j) ≡ true → ShowsAt scene around x one variables e j)
       → ((e j : ℕ) → IsSeen scene around.levels.now e → j < paths_counted around → is_on_at x around j ≡ true → truths (path_in around j) ≡ false → ShowsAt scene around x two variables e j)
-      → Shows scene around x after.current.items variables
+      → ShowsVariables scene around x after.current.items variables
   joined_shows variables shows_one shows_two = record { each = λ e j there_e inside on. by e j there_e inside on (truths (path_in around j)) refl (picks e j there_e inside on) }
     where
       by : (e j : ℕ) → IsSeen scene around.levels.now e → j < paths_counted around → is_on_at x around j ≡ true → (b : Bool) → truths (path_in around j) ≡ b

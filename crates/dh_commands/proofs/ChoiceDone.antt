@@ -17,8 +17,8 @@ use Rattle.dh_code.specs.Slots.{held_at}
 use Rattle.dh_expressions.specs.declared.accesses.Accesses.{Accesses}
 use Rattle.dh_expressions.specs.declared.scenes.Around.{Around}
 use Rattle.dh_expressions.specs.declared.scenes.Scene.{Scene}
-use Rattle.dh_expressions.specs.Drafted.{Begun, Extends, Fits, Step}
-use Rattle.dh_expressions.specs.Evaluated.{Knows, Reads, begun_of, known_in}
+use Rattle.dh_expressions.specs.Drafted.{BlockBegun, Extends, FitsStep, BlockStep}
+use Rattle.dh_expressions.specs.Evaluated.{Knows, StepReads, begun_of, known_in}
 use Rattle.dh_expressions.proofs.Pushing.{begun_later, extends_again, fits_before}
 use Rattle.dh_commands.specs.declared.assignments.Change.{Change}
 use Rattle.dh_commands.specs.declared.assignments.Values.{Values}
@@ -26,12 +26,12 @@ use Rattle.dh_commands.specs.declared.buildings.Building.{Building}
 use Rattle.dh_commands.specs.declared.choices.Choice.{Choice}
 use Rattle.dh_commands.specs.declared.choices.Left.{Left}
 use Rattle.dh_commands.specs.LanesRun.{IsArm, is_on_at, lanes_run, path_in, paths_counted, paths_on}
-use Rattle.dh_commands.specs.ShownVariables.{IsOwn, IsSeen, Shows, ShowsAt, register_in}
+use Rattle.dh_commands.specs.ShownVariables.{HasOwnCopies, IsSeen, ShowsVariables, ShowsAt, register_in}
 use Rattle.dh_commands.specs.Undone.{AreReady, Changes, HasRoom, IsChange}
-use Rattle.dh_commands.specs.Followed.{Arms, arms_of, Follows, FollowsOther, Sets, SetsOther, effect_of, other_effect, test_out, test_run, view_of}
+use Rattle.dh_commands.specs.Followed.{Arms, arms_of, Follows, FollowsOther, Sets, SetsOther, effect_of, other_effect, test_out, test_run, view_at_step}
 use Rattle.dh_commands.specs.Joined.{AreChoices, IsLeft, JoinsArms}
 use Rattle.dh_commands.specs.Choosing.{Chooses, IsOfChoice}
-use Rattle.dh_commands.specs.Done.{DoesCommand, Stands}
+use Rattle.dh_commands.specs.Done.{DoesCommand, StandsBeside}
 use Rattle.dh_commands.specs.Setting.{TestsAll}
 use Rattle.dh_commands.specs.Parted.{DoesArm, DoesOther, ShowsTests}
 use Rattle.dh_commands.proofs.ArmsDone.{Halfway, arm_extends, arm_values, ends_kept, ends_knows, ends_shows, ends_tells, halfway, is_arm}
@@ -186,36 +186,36 @@ module _ (scene : Scene) (around : Around) (first n1 n2 n3 : ℕ) (t : plain.Ter
       long_new = chooses.logs.long ∙ ap (λ (os : List (Option ℕ)). length os) same_all.current
 
     -- A step.
-    module _ (id : ℕ) (place : Place) (x : Step) (reads : Reads) (e : Effect) (fits : Fits x new.draft) (begun : Begun x old.draft)
-        (follows : Follows scene x reads around (arms_of one.arm arm_two one.arms arms_two) first (action id place (decides t chosen other)) e) (stands : Stands scene around x reads old e) where
-      fits3 : Fits x b3.draft
+    module _ (id : ℕ) (place : Place) (x : BlockStep) (reads : StepReads) (e : Effect) (fits : FitsStep x new.draft) (begun : BlockBegun x old.draft)
+        (follows : Follows scene x reads around (arms_of one.arm arm_two one.arms arms_two) first (action id place (decides t chosen other)) e) (stands : StandsBeside scene around x reads old e) where
+      fits3 : FitsStep x b3.draft
       fits3 = fits_before b3.draft new.draft x chooses.adds.extends fits
 
-      fits2 : Fits x b2.draft
+      fits2 : FitsStep x b2.draft
       fits2 = fits_before b2.draft b3.draft x done.extends fits3
 
-      fits1 : Fits x b1.draft
+      fits1 : FitsStep x b1.draft
       fits1 = fits_before b1.draft b2.draft x extends_one fits2
 
-      begun1 : Begun x b1.draft
+      begun1 : BlockBegun x b1.draft
       begun1 = begun_later old.draft b1.draft x (does_tests.does.so few_test).extends begun
 
-      begun2 : Begun x b2.draft
+      begun2 : BlockBegun x b2.draft
       begun2 = begun_later b1.draft b2.draft x extends_one begun1
 
-      begun3 : Begun x b3.draft
+      begun3 : BlockBegun x b3.draft
       begun3 = begun_later b2.draft b3.draft x done.extends begun2
 
       abbrev e1 : Effect
       e1 = lanes_run x around (test_run scene x first t) (paths_counted around) e
 
-      stands1 : Stands scene around x reads b1 e1
+      stands1 : StandsBeside scene around x reads b1 e1
       stands1 = (does_tests.does.so few_test).so x reads e fits1 begun follows.0 stands
 
       abbrev truths : Path → Bool
       truths = test_out scene x first t e
 
-      own : (entity : ℕ) → May entity → IsOwn scene around entity
+      own : (entity : ℕ) → May entity → HasOwnCopies scene around entity
       own = follows.1.0.own
 
       shown_tests : ShowsTests x around tests truths
@@ -264,7 +264,7 @@ module _ (scene : Scene) (around : Around) (first n1 n2 n3 : ℕ) (t : plain.Ter
       ends2 : OtherEnds scene around x reads truths b3 done.behind e2 e3
       ends2 = done.so x reads e2 fits3 begun2 truths shown_tests half2 follows.1.0.other_deep own follows2
 
-      shows_new : Shows scene around x new.values.current.items e3.variables
+      shows_new : ShowsVariables scene around x new.values.current.items e3.variables
       shows_new =
           joined_shows scene around May x tests lefts others b3.values.current.items one.inside.values.current.items done.behind (left_one stands.ready) (left_two stands.ready) choices (are stands.ready) b3.draft new.draft v4 new.values
           chooses (same_four stands.ready).current does_tests.long fits begun3 truths shown_tests own e3.variables
@@ -273,9 +273,9 @@ module _ (scene : Scene) (around : Around) (first n1 n2 n3 : ℕ) (t : plain.Ter
           ∙ ap (λ z. word_of (held_at scene.held.now entity).kind z) (sym (ends2.kept entity j there inside on is)))
           ends2.shows
 
-      stands_new : Stands scene around x reads new e3
+      stands_new : StandsBeside scene around x reads new e3
       stands_new = record {
-        knows = λ variables. subst (λ (a : Accesses). Knows (view_of x reads variables) a) (sym accesses) (ends2.knows variables);
+        knows = λ variables. subst (λ (a : Accesses). Knows (view_at_step x reads variables) a) (sym accesses) (ends2.knows variables);
         shows = shows_new;
         tells = chooses.adds.quiet x fits begun3 ∙ ends2.tells;
         room = λ entity j there inside. subst (λ (n : ℕ). register_in scene around entity j < n) (sym (long_new stands.ready)) (stands.room entity j there inside);
@@ -291,8 +291,8 @@ module _ (scene : Scene) (around : Around) (first n1 n2 n3 : ℕ) (t : plain.Ter
           ∙ ap (λ f. commands_run (begun_of x) (paths_where true truths (paths_on x around)) (core_action (known_in scene) (first + term_accesses t) chosen no_commands) f)
           (lanes_are x around (test_run scene x first t) (paths_counted around) e)))
 
-      pub all_stands : Stands scene around x reads new (effect_of scene x (paths_on x around) first (action id place (decides t chosen other)) e)
-      all_stands = subst (λ (f : Effect). Stands scene around x reads new f) same_effect stands_new
+      pub all_stands : StandsBeside scene around x reads new (effect_of scene x (paths_on x around) first (action id place (decides t chosen other)) e)
+      all_stands = subst (λ (f : Effect). StandsBeside scene around x reads new f) same_effect stands_new
 
   choice_sets : (id : ℕ) (place : Place) (entity : ℕ) → May entity → Sets scene (action id place (decides t chosen other)) entity
   choice_sets id place entity may = or_none _ ∙ either_true _ _ (by may)

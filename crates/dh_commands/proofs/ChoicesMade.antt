@@ -2,7 +2,7 @@
 use Rattle.std.proofs.Common.{ℕ, if◌then◌else◌, ap, ◌∙◌}
 use Rattle.dh_value.specs.Operations.{is_true}
 use Rattle.dh_expressions.specs.declared.drafts.Draft.{Draft}
-use Rattle.dh_expressions.specs.Drafted.{Computes, Gives, shown}
+use Rattle.dh_expressions.specs.Drafted.{Computes, Gives, word_shown}
 use Rattle.dh_expressions.proofs.Pushing.{begun_later, extends_again, fits_before}
 use Rattle.dh_commands.specs.declared.assignments.Values.{Values}
 use Rattle.dh_commands.specs.declared.choices.Choice.{Choice}
@@ -10,7 +10,7 @@ use Rattle.dh_commands.specs.Undone.{Assigns}
 use Rattle.dh_commands.specs.Choosing.{ChoosesOne, behind_shown}
 
 pub chosen_one : (a b c d : Draft) (before after : Values) (test one other value : ℕ) (choice : Choice) → Gives a b one (λ x. behind_shown x before.current.items choice.register choice.chosen)
-    → Gives b c other (λ x. behind_shown x before.current.items choice.register choice.other) → Computes c d value (λ x. if is_true (shown x test) then shown x one else shown x other)
+    → Gives b c other (λ x. behind_shown x before.current.items choice.register choice.other) → Computes c d value (λ x. if is_true (word_shown x test) then word_shown x one else word_shown x other)
     → Assigns before after choice.register choice.path value → ChoosesOne a d before after test choice
 chosen_one a b c d before after test one other value choice h k l s = record {
   adds = record {
@@ -23,7 +23,7 @@ chosen_one a b c d before after test one other value choice h k l s = record {
   is = λ x f begun.
       let fc = fits_before c d x l.extends f in
       l.is x f (begun_later b c x k.extends (begun_later a b x h.extends begun))
-      ∙ (ap (λ w. if is_true (shown x test) then w else shown x other) (h.is x (fits_before b c x k.extends fc) begun)
-      ∙ ap (λ w. if is_true (shown x test) then behind_shown x before.current.items choice.register choice.chosen else w) (k.is x fc (begun_later a b x h.extends begun)));
+      ∙ (ap (λ w. if is_true (word_shown x test) then w else word_shown x other) (h.is x (fits_before b c x k.extends fc) begun)
+      ∙ ap (λ w. if is_true (word_shown x test) then behind_shown x before.current.items choice.register choice.chosen else w) (k.is x fc (begun_later a b x h.extends begun)));
   assigns = s;
 }

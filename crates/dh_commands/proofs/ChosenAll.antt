@@ -6,18 +6,18 @@ use Rattle.std.proofs.lemmas.Bool.{cases_lt}
 use Rattle.std.proofs.lemmas.Bool.Decides.{nat_tests}
 use Rattle.dh_value.specs.Operations.{is_true}
 use Rattle.dh_expressions.specs.declared.drafts.Draft.{Draft}
-use Rattle.dh_expressions.specs.Drafted.{Begun, Fits, Step, shown}
+use Rattle.dh_expressions.specs.Drafted.{BlockBegun, FitsStep, BlockStep, word_shown}
 use Rattle.dh_expressions.specs.Shown.{current_shown, variable_shown}
 use Rattle.dh_expressions.proofs.ListPlaces.{set_here, set_other, some_same}
 use Rattle.dh_expressions.proofs.Pushing.{begun_later, fits_before}
 use Rattle.dh_commands.specs.declared.assignments.Values.{Values}
 use Rattle.dh_commands.specs.declared.choices.Choice.{Choice}
-use Rattle.dh_commands.specs.Joined.{AreApart}
+use Rattle.dh_commands.specs.Joined.{AreApartChoices}
 use Rattle.dh_commands.specs.Choosing.{Chooses, ChoosesOne, IsOfChoice, behind_shown, choice_shown, test_shown}
 use Rattle.dh_commands.proofs.ArmGuards.{quiet_again, quiet_self}
 use Rattle.dh_commands.proofs.ChangesBack.{logs_again, logs_none, logs_one}
 
-behind_same : (x : Step) (before after : List (Option ℕ)) (register : ℕ) (o : Option ℕ) → slice_get after register ≡ slice_get before register → behind_shown x after register o ≡ behind_shown x before register o
+behind_same : (x : BlockStep) (before after : List (Option ℕ)) (register : ℕ) (o : Option ℕ) → slice_get after register ≡ slice_get before register → behind_shown x after register o ≡ behind_shown x before register o
 behind_same x before after register None same = ap (λ p. current_shown x p register) same
 behind_same x before after register (Some value) same = refl
 
@@ -51,7 +51,7 @@ module _ (tests : List ℕ) (choices : List Choice) where
         never : (p n : ℕ) → p < n → n ≤ p → ⊥
         never p n a b = omega (arith, a, b)
 
-        by : AreApart choices → (x : Step) → Fits x e → Begun x d → (j : ℕ) (a : Choice) → slice_get choices j ≡ Some a → a.register < length v.current.items → a.path < length tests → j < suc k → (j < k) ⊎ (k ≤ j)
+        by : AreApartChoices choices → (x : BlockStep) → FitsStep x e → BlockBegun x d → (j : ℕ) (a : Choice) → slice_get choices j ≡ Some a → a.register < length v.current.items → a.path < length tests → j < suc k → (j < k) ⊎ (k ≤ j)
             → variable_shown x w.current.items a.register ≡ choice_shown x tests v.current.items a
         by apart x f b j a at room path few (inl less) = h.picked apart x f b j a less at room path
         by apart x f b j a at room path few (inr more) =
@@ -75,7 +75,7 @@ module _ (tests : List ℕ) (choices : List Choice) where
         never : (n : ℕ) → n < n → ⊥
         never n l = omega (arith, l)
 
-        by : AreApart choices → (x : Step) → Fits x f → Begun x d → (j : ℕ) (a : Choice) → j < suc k → slice_get choices j ≡ Some a → a.register < length v.current.items → a.path < length tests → (j < k) ⊎ (k ≤ j)
+        by : AreApartChoices choices → (x : BlockStep) → FitsStep x f → BlockBegun x d → (j : ℕ) (a : Choice) → j < suc k → slice_get choices j ≡ Some a → a.register < length v.current.items → a.path < length tests → (j < k) ⊎ (k ≤ j)
             → variable_shown x u.current.items a.register ≡ choice_shown x tests v.current.items a
         by apart x fits begun j a few at room path (inl less) =
             let differ : a.register ≡ c.register → ⊥ = λ same. never k (subst (λ (n : ℕ). n < k) (apart j k a c at at_k same) less) in
@@ -93,7 +93,7 @@ module _ (tests : List ℕ) (choices : List Choice) where
                 ap (λ o. current_shown x o c.register)
                 (ap (λ (os : List (Option ℕ)). slice_get os c.register) one.assigns.current ∙ set_here w.current.items c.register (Some one.value) (subst (λ (n : ℕ). c.register < n) (sym h.logs.long) room_c))
                 ∙ (one.is x fits (begun_later d e x h.adds.extends begun)
-                ∙ (ap (λ t. if is_true (shown x t) then behind_shown x w.current.items c.register c.chosen else behind_shown x w.current.items c.register c.other) (sym (test_at tests c.path test at_path))
+                ∙ (ap (λ t. if is_true (word_shown x t) then behind_shown x w.current.items c.register c.chosen else behind_shown x w.current.items c.register c.other) (sym (test_at tests c.path test at_path))
                 ∙ (ap (λ p. if test_shown x tests c.path then p else behind_shown x w.current.items c.register c.other) (behind_same x v.current.items w.current.items c.register c.chosen untouched)
                 ∙ ap (λ p. if test_shown x tests c.path then behind_shown x v.current.items c.register c.chosen else p) (behind_same x v.current.items w.current.items c.register c.other untouched))))
 

@@ -13,12 +13,12 @@ use Rattle.dh_code.specs.Slots.{held_at}
 use Rattle.dh_expressions.specs.declared.accesses.Accesses.{Accesses}
 use Rattle.dh_expressions.specs.declared.scenes.Lane.{Lane}
 use Rattle.dh_expressions.specs.declared.scenes.Scene.{Scene}
-use Rattle.dh_expressions.specs.Drafted.{Begun, Computes, Fits, Step, tale}
-use Rattle.dh_expressions.specs.Evaluated.{Knows, Reads, begun_of}
+use Rattle.dh_expressions.specs.Drafted.{BlockBegun, Computes, FitsStep, BlockStep, tale}
+use Rattle.dh_expressions.specs.Evaluated.{Knows, StepReads, begun_of}
 use Rattle.dh_commands.specs.declared.buildings.Building.{Building}
 use Rattle.dh_commands.specs.LanesRun.{is_on_at, path_in, paths_counted, run_if}
-use Rattle.dh_commands.specs.Followed.{FollowsCleared, view_of}
-use Rattle.dh_commands.specs.Done.{Stands}
+use Rattle.dh_commands.specs.Followed.{FollowsCleared, view_at_step}
+use Rattle.dh_commands.specs.Done.{StandsBeside}
 use Rattle.dh_commands.specs.Setting.{ClearsOne, SetsAt, assigned_run, zero_of}
 use Rattle.dh_commands.proofs.Assigned.{set_off, set_on}
 use Rattle.dh_commands.proofs.ChangesBack.{changes_one}
@@ -39,15 +39,15 @@ cleared_one scene lane old new entity value w is c same s = record {
   };
 }
   where
-    by : lane.number < paths_counted lane.around → (x : Step) (reads : Reads) (f : Effect) → Fits x new.draft → Begun x old.draft → FollowsCleared scene lane.around entity
-        → Stands scene lane.around x reads old f → (on : Bool) → is_on_at x lane.around lane.number ≡ on
-        → Stands scene lane.around x reads new (run_if on (assigned_run scene entity (zero_of scene entity) x) (path_in lane.around lane.number) f)
+    by : lane.number < paths_counted lane.around → (x : BlockStep) (reads : StepReads) (f : Effect) → FitsStep x new.draft → BlockBegun x old.draft → FollowsCleared scene lane.around entity
+        → StandsBeside scene lane.around x reads old f → (on : Bool) → is_on_at x lane.around lane.number ≡ on
+        → StandsBeside scene lane.around x reads new (run_if on (assigned_run scene entity (zero_of scene entity) x) (path_in lane.around lane.number) f)
     by within x reads f fits begun p stands = cases
       where
-        knows : (variables : Variables) → Knows (view_of x reads variables) new.accesses
-        knows variables = subst (λ (a : Accesses). Knows (view_of x reads variables) a) (sym same) (stands.knows variables)
+        knows : (variables : Variables) → Knows (view_at_step x reads variables) new.accesses
+        knows variables = subst (λ (a : Accesses). Knows (view_at_step x reads variables) a) (sym same) (stands.knows variables)
 
-        cases : (on : Bool) → is_on_at x lane.around lane.number ≡ on → Stands scene lane.around x reads new (run_if on (assigned_run scene entity (zero_of scene entity) x) (path_in lane.around lane.number) f)
+        cases : (on : Bool) → is_on_at x lane.around lane.number ≡ on → StandsBeside scene lane.around x reads new (run_if on (assigned_run scene entity (zero_of scene entity) x) (path_in lane.around lane.number) f)
         cases true on =
             set_on scene lane entity value old new s within p.target x reads f stands knows
             (words.value_of (value_of (begun_of x) f.variables (path_in lane.around lane.number) (zero_of scene entity))) []

@@ -22,15 +22,15 @@ use Rattle.dh_meaning.specs.Ways.{Hidden, hidden_in}
 use Rattle.dh_code.specs.Slots.{held_at}
 use Rattle.dh_expressions.specs.declared.scenes.Around.{Around}
 use Rattle.dh_expressions.specs.declared.scenes.Scene.{Scene}
-use Rattle.dh_expressions.specs.Drafted.{Step}
-use Rattle.dh_expressions.specs.Evaluated.{Reads, begun_of, known_in}
+use Rattle.dh_expressions.specs.Drafted.{BlockStep}
+use Rattle.dh_expressions.specs.Evaluated.{StepReads, begun_of, known_in}
 use Rattle.dh_expressions.proofs.Pushing.{begun_later, extends_again, extends_self, fits_before}
 use Rattle.dh_commands.specs.declared.buildings.Building.{Building}
 use Rattle.dh_commands.specs.LanesRun.{paths_counted, paths_on}
 use Rattle.dh_commands.specs.ShownVariables.{depth_in}
 use Rattle.dh_commands.specs.Followed.{Along, Arms, no_arms, arms_of, arms_then, FitArms, FitGroups, Follows, FollowsGroups, FollowsView, Sets, effect_of, groups_effect, part_effect, store_run}
-use Rattle.dh_commands.specs.Done.{Does, DoesAll, DoesCommand, IsNext, Stands}
-use Rattle.dh_commands.specs.Setting.{AssignsAll, ClearsAll, IsAmong, KeepsAll, KeepsView, ReducesAll, StoresAll}
+use Rattle.dh_commands.specs.Done.{Does, DoesAll, DoesCommand, IsNext, StandsBeside}
+use Rattle.dh_commands.specs.Setting.{AssignsAll, ClearsAll, IsVariableAmong, KeepsAll, KeepsView, ReducesAll, StoresAll}
 use Rattle.dh_commands.specs.Parted.{DoesGroups, SetsGroups}
 use Rattle.dh_commands.proofs.ArmsDone.{changes_wider}
 use Rattle.dh_commands.proofs.ChangesBack.{changes_again, changes_none, ready_after}
@@ -38,10 +38,10 @@ use Rattle.dh_commands.proofs.CoreRuns.{action_any, action_runs, action_sets, gr
 use Rattle.dh_commands.proofs.LanesInOrder.{lanes_are}
 
 -- A command without arms.
-pub as_command : (scene : Scene) (around : Around) (a : Action) (first count next : ℕ) (old new : Building) (May : ℕ → Type 0) (Premise : ℕ → Step → Reads → Variables → Type 0) (run : Step → Path → Effect → Effect)
+pub as_command : (scene : Scene) (around : Around) (a : Action) (first count next : ℕ) (old new : Building) (May : ℕ → Type 0) (Premise : ℕ → BlockStep → StepReads → Variables → Type 0) (run : BlockStep → Path → Effect → Effect)
     → DoesAll scene around May Premise run first count next (paths_counted around) old new → accesses_of a ≡ count → FitArms a no_arms → ((entity : ℕ) → May entity → Sets scene a entity)
-    → ((x : Step) (reads : Reads) (e : Effect) → Follows scene x reads around no_arms first a e → Along around x reads Premise (run x) e (paths_counted around))
-    → ((x : Step) (e : Effect) → at_each (run x) (paths_on x around) e ≡ effect_of scene x (paths_on x around) first a e) → DoesCommand scene around a first next old new
+    → ((x : BlockStep) (reads : StepReads) (e : Effect) → Follows scene x reads around no_arms first a e → Along around x reads Premise (run x) e (paths_counted around))
+    → ((x : BlockStep) (e : Effect) → at_each (run x) (paths_on x around) e ≡ effect_of scene x (paths_on x around) first a e) → DoesCommand scene around a first next old new
 as_command scene around a first count next old new May Premise run d count_is shaped wider follows runs = record {
   next_is = λ some few. d.next_is some (fewer few) ∙ ap (λ n. first + n) (sym count_is);
   arms = no_arms;
@@ -50,7 +50,7 @@ as_command scene around a first count next old new May Premise run d count_is sh
     extends = k.extends;
     changes = λ ready. changes_wider scene around May (Sets scene a) old.values new.values wider (k.changes ready);
     so = λ x reads e fits begun p stands.
-        subst (λ (f : Effect). Stands scene around x reads new f) (lanes_are x around (run x) (paths_counted around) e ∙ runs x e) (k.so x reads e fits begun (follows x reads e p) stands);
+        subst (λ (f : Effect). StandsBeside scene around x reads new f) (lanes_are x around (run x) (paths_counted around) e ∙ runs x e) (k.so x reads e fits begun (follows x reads e p) stands);
   };
 }
   where
@@ -68,7 +68,7 @@ no_events : (f : Effect) → f ≡ record { variables = f.variables; events = f.
 no_events f = ap (λ (es : List Event). record { variables = f.variables; events = es }) (sym (append-nil f.events))
 
 -- a test that reads nothing
-tested_still : (x : Step) (ps : List Path) (f : Effect) → at_each (tested_at (begun_of x) (truth_literal false)) ps f ≡ f
+tested_still : (x : BlockStep) (ps : List Path) (f : Effect) → at_each (tested_at (begun_of x) (truth_literal false)) ps f ≡ f
 tested_still x [] f = refl
 tested_still x (p ∷ ps) f = ap (λ g. at_each (tested_at (begun_of x) (truth_literal false)) ps g) (sym (no_events f)) ∙ tested_still x ps f
 
@@ -88,7 +88,7 @@ module _ (scene : Scene) (around : Around) (id : ℕ) (place : Place) (first nex
       as_command scene around (action id place (reduces r op t)) first (term_accesses t) next old new _ _ _ d (add-zero (term_accesses t)) tt
       (λ e same. sets_one e (entity_number r.entity) same) (λ x reads e p. p) (λ x e. refl)
 
-  store_runs : (target t : plain.Term) (x : Step) (e : Effect) → at_each (store_run scene x first target t) (paths_on x around) e ≡ command_run (begun_of x) (paths_on x around) (store_to (known_in scene) (first + term_accesses t) target (core_term (known_in scene) first t)) e
+  store_runs : (target t : plain.Term) (x : BlockStep) (e : Effect) → at_each (store_run scene x first target t) (paths_on x around) e ≡ command_run (begun_of x) (paths_on x around) (store_to (known_in scene) (first + term_accesses t) target (core_term (known_in scene) first t)) e
   store_runs (plain.term at k (plain.accessed r ts)) t x e = refl
   store_runs (plain.term at k (plain.in_bank r bank at_bank row)) t x e = refl
   store_runs (plain.term at k (plain.number negative z)) t x e = each_same _ (tested_at (begun_of x) (truth_literal false)) (λ p f. no_events f) (paths_on x around) e
@@ -113,7 +113,7 @@ clear_done scene around id place first old new r declared d = record {
     extends = k.extends;
     changes = λ ready. changes_wider scene around (λ e. e ≡ entity_number r.entity) (Sets scene (action id place (lets r declared None))) old.values new.values (λ e same. sets_one e (entity_number r.entity) same) (k.changes ready);
     so = λ x reads e fits begun p stands.
-        subst (λ (f : Effect). Stands scene around x reads new f)
+        subst (λ (f : Effect). StandsBeside scene around x reads new f)
         (lanes_are x around (assigned_at (begun_of x) (depth_in scene (entity_number r.entity)) (entity_number r.entity) (literal (held_at scene.held.now (entity_number r.entity)).kind false 0)) (paths_counted around) e
         ∙ ap (λ (k : Kind). at_each (assigned_at (begun_of x) (depth_in scene (entity_number r.entity)) (entity_number r.entity) (literal k false 0)) (paths_on x around) e) (sym p.1))
         (k.so x reads e fits begun (λ number l. p.0) stands);
@@ -125,11 +125,11 @@ module _ (scene : Scene) (around : Around) (id : ℕ) (place : Place) (first nex
   abbrev View : Action
   View = action id place (views name parent form)
 
-  kept_runs : (ts : CoreTerms) (x : Step) (e : Effect) → at_each (kept_at (begun_of x) h.depth h.entity ts) (paths_on x around) e ≡ commands_run (begun_of x) (paths_on x around) (kept_by (h ∷ hs) ts no_commands) e
+  kept_runs : (ts : CoreTerms) (x : BlockStep) (e : Effect) → at_each (kept_at (begun_of x) h.depth h.entity ts) (paths_on x around) e ≡ commands_run (begun_of x) (paths_on x around) (kept_by (h ∷ hs) ts no_commands) e
   kept_runs no_terms x e = each_same (kept_at (begun_of x) h.depth h.entity no_terms) (tested_at (begun_of x) (truth_literal false)) (λ p f. refl) (paths_on x around) e ∙ tested_still x (paths_on x around) e
   kept_runs (term_and t ts) x e = refl
 
-  kept_sets_them : (os : List plain.Term) (e : ℕ) → IsAmong h.entity (length os) e → kept_sets e (h ∷ hs) os ≡ true
+  kept_sets_them : (os : List plain.Term) (e : ℕ) → IsVariableAmong h.entity (length os) e → kept_sets e (h ∷ hs) os ≡ true
   kept_sets_them [] e among = absurd (never among.0 among.1)
     where
       never : h.entity ≤ e → e < h.entity + 0 → ⊥
@@ -139,7 +139,7 @@ module _ (scene : Scene) (around : Around) (id : ℕ) (place : Place) (first nex
       inside : h.entity ≤ e → e < h.entity + suc (length os) → (nat_le h.entity e && nat_lt e (h.entity + suc (length os))) ≡ true
       inside from below = grind (arith, nat_tests, from, below)
 
-  view_sets : (e : ℕ) → IsAmong h.entity (length (offsets_of form)) e → Sets scene (action id place (views name parent form)) e
+  view_sets : (e : ℕ) → IsVariableAmong h.entity (length (offsets_of form)) e → Sets scene (action id place (views name parent form)) e
   view_sets e among = action_any scene e 0 (action id place (views name parent form)) ∙ (ap (λ hidden. kept_sets e hidden (offsets_of form)) found ∙ kept_sets_them (offsets_of form) e among)
 
   pub view_done : KeepsAll scene around old new first next h (offsets_of form) → DoesCommand scene around (action id place (views name parent form)) first next old new
@@ -167,7 +167,7 @@ nothing_done scene around a first next b next_is shaped none = record {
   so = λ some few. record {
     extends = extends_self b.draft;
     changes = λ ready. changes_none scene around (Sets scene a) b.values;
-    so = λ x reads e fits begun p stands. subst (λ (f : Effect). Stands scene around x reads b f) (sym (ap (λ (cs : CoreCommands). commands_run (begun_of x) (paths_on x around) cs e) (none first))) stands;
+    so = λ x reads e fits begun p stands. subst (λ (f : Effect). StandsBeside scene around x reads b f) (sym (ap (λ (cs : CoreCommands). commands_run (begun_of x) (paths_on x around) cs e) (none first))) stands;
   };
 }
 
@@ -214,7 +214,7 @@ module _ (scene : Scene) (around : Around) where
       changes = λ ready. changes_wider scene around (SetsGroups scene gs) (SetsGroups scene (group_then no_actions gs)) old.values new.values
           (λ e sets. groups_any scene e 0 (group_then no_actions gs) ∙ (sym (groups_any scene e 0 gs) ∙ sets)) (k.changes ready);
       so = λ x reads e fits begun p stands.
-          subst (λ (n : ℕ). Stands scene around x reads new (groups_effect scene x (paths_on x around) n gs e)) (sym (add-zero first))
+          subst (λ (n : ℕ). StandsBeside scene around x reads new (groups_effect scene x (paths_on x around) n gs e)) (sym (add-zero first))
           (k.so x reads e fits begun (subst (λ (n : ℕ). FollowsGroups scene x reads around d.arms n gs e) (add-zero first) p.1) stands);
     };
   }
@@ -258,7 +258,7 @@ module _ (scene : Scene) (around : Around) where
             (changes_wider scene around (SetsGroups scene (group_then cs gs)) (SetsGroups scene All) mid.values new.values (λ e sets. sets_rest e sets) (k.changes (ready_after scene around (Sets scene a) old.values mid.values first ready)));
         so = λ x reads e fits begun follows stands.
             let middle = h.so x reads e (fits_before mid.draft new.draft x k.extends fits) begun follows.0.0 stands in
-            subst (λ (f : Effect). Stands scene around x reads new f) (all_runs x e (here some few))
+            subst (λ (f : Effect). StandsBeside scene around x reads new f) (all_runs x e (here some few))
             (k.so x reads (effect_of scene x (paths_on x around) now a e) fits (begun_later old.draft mid.draft x h.extends begun) (rest_follows x reads e (here some few) follows) middle);
       };
     }
@@ -274,7 +274,7 @@ module _ (scene : Scene) (around : Around) where
             ∙ (sym (or_same (action_sets (known_in scene) e a) (part_sets (known_in scene) e cs) (groups_set (known_in scene) e gs))
             ∙ or_either (action_sets (known_in scene) e a) (part_sets (known_in scene) e cs || groups_set (known_in scene) e gs) (inr (sym (groups_any scene e 0 (group_then cs gs)) ∙ sets)))
 
-        rest_follows : (x : Step) (reads : Reads) (e : Effect) → n1 ≡ now + accesses_of a → FollowsGroups scene x reads around (arms_then (arms_then c.arms p) g) now All e
+        rest_follows : (x : BlockStep) (reads : StepReads) (e : Effect) → n1 ≡ now + accesses_of a → FollowsGroups scene x reads around (arms_then (arms_then c.arms p) g) now All e
             → FollowsGroups scene x reads around (arms_then p g) n1 (group_then cs gs) (effect_of scene x (paths_on x around) now a e)
         rest_follows x reads e is follows =
             subst (λ (n : ℕ). FollowsGroups scene x reads around (arms_then p g) n (group_then cs gs) (effect_of scene x (paths_on x around) now a e)) (sym is) (
@@ -284,7 +284,7 @@ module _ (scene : Scene) (around : Around) where
                   (subst (λ (n : ℕ). FollowsGroups scene x reads around g n gs (part_effect scene x (paths_on x around) now (action_then a cs) e)) (sym (add_assoc now (accesses_of a) (part_accesses cs))) follows.1),
             )
 
-        all_runs : (x : Step) (e : Effect) → n1 ≡ now + accesses_of a → groups_effect scene x (paths_on x around) n1 (group_then cs gs) (effect_of scene x (paths_on x around) now a e) ≡ groups_effect scene x (paths_on x around) now All e
+        all_runs : (x : BlockStep) (e : Effect) → n1 ≡ now + accesses_of a → groups_effect scene x (paths_on x around) n1 (group_then cs gs) (effect_of scene x (paths_on x around) now a e) ≡ groups_effect scene x (paths_on x around) now All e
         all_runs x e is =
             ap (λ n. groups_effect scene x (paths_on x around) n (group_then cs gs) (effect_of scene x (paths_on x around) now a e)) is
             ∙ (ap (λ n. commands_run (begun_of x) (paths_on x around) (core_part (known_in scene) (now + accesses_of a) cs (core_groups (known_in scene) n gs no_commands)) (effect_of scene x (paths_on x around) now a e))

@@ -7,7 +7,7 @@ use Rattle.dh_value.specs.declared.words.Word.{Word}
 use Rattle.dh_tree.specs.declared.trees.commands.ViewForm.{ViewForm}
 use Rattle.dh_tree.specs.declared.trees.expressions.Expr.{Expr}
 use Rattle.dh_tree.specs.PlainTrees as plain
-use Rattle.dh_tree.specs.Seen.{factor_seen, plan_seen, term_seen, terms}
+use Rattle.dh_tree.specs.Seen.{factor_seen, view_plan, term_seen, terms}
 use Rattle.dh_tree.specs.ViewOffsets.{offsets_of}
 use Rattle.dh_meaning.specs.AccessNumbers.{term_accesses, terms_accesses}
 use Rattle.dh_meaning.specs.Ways.{Hidden}
@@ -20,7 +20,7 @@ use Rattle.dh_expressions.specs.declared.scenes.Around.{Around}
 use Rattle.dh_expressions.specs.declared.scenes.Lane.{Lane}
 use Rattle.dh_expressions.specs.declared.scenes.Scene.{Scene}
 use Rattle.dh_expressions.specs.declared.terms.Valued.{Valued}
-use Rattle.dh_expressions.specs.Drafted.{Gives, Tale, shown, tale, told}
+use Rattle.dh_expressions.specs.Drafted.{Gives, Tale, word_shown, tale, tales_told}
 use Rattle.dh_expressions.specs.Evaluated.{EvaluatesTerm, GivesAll, term_told, term_value, terms_told}
 use Rattle.dh_expressions.specs.MadeTerms.{MadeTerm, MadeTerms}
 use Rattle.dh_expressions.specs.MadeValues.{MadeHeld}
@@ -68,13 +68,13 @@ module _ (scene : Scene) (lane : Lane) (current : List (Option ℕ)) where
           extends = extends_again d0 d1 d2 one.extends more.extends;
           knows = λ v f b known fair. more.knows v f (begun_later d0 d1 v.step one.extends b) (one.knows v (fits_before d1 d2 v.step more.extends f) b known fair.0) fair.1;
           are = λ v f b known fair sees.
-              ap (λ (w : Word). w ∷ map (λ i. shown v.step i) values) (one.is v (fits_before d1 d2 v.step more.extends f) b known fair.0 sees.0)
+              ap (λ (w : Word). w ∷ map (λ i. word_shown v.step i) values) (one.is v (fits_before d1 d2 v.step more.extends f) b known fair.0 sees.0)
               ∙ ap (λ (ws : List Word). term_value scene lane v n t ∷ ws)
               (more.are v f (begun_later d0 d1 v.step one.extends b) (one.knows v (fits_before d1 d2 v.step more.extends f) b known fair.0) fair.1 sees.1);
           tells = λ v f b known fair sees on.
               more.tells v f (begun_later d0 d1 v.step one.extends b) (one.knows v (fits_before d1 d2 v.step more.extends f) b known fair.0) fair.1 sees.1 on
-              ∙ (ap (λ (us : List Tale). us ++ told (terms_told scene lane v (n + term_accesses t) (terms os))) (one.tells v (fits_before d1 d2 v.step more.extends f) b known fair.0 sees.0 on)
-              ∙ (append_assoc (tale v.step d0) (told (term_told scene lane v n t)) _
+              ∙ (ap (λ (us : List Tale). us ++ tales_told (terms_told scene lane v (n + term_accesses t) (terms os))) (one.tells v (fits_before d1 d2 v.step more.extends f) b known fair.0 sees.0 on)
+              ∙ (append_assoc (tale v.step d0) (tales_told (term_told scene lane v n t)) _
               ∙ ap (λ (us : List Tale). tale v.step d0 ++ us) (sym (told_append (term_told scene lane v n t) (terms_told scene lane v (n + term_accesses t) (terms os))))));
           quiet = λ v f b off. more.quiet v f (begun_later d0 d1 v.step one.extends b) off ∙ one.quiet v (fits_before d1 d2 v.step more.extends f) b off;
         };
@@ -132,21 +132,21 @@ module _ (scene : Scene) (lane : Lane) (current : List (Option ℕ)) where
 
 -- Forms of views as the code has them.
 
-pub words_as : (scene : Scene) (lane : Lane) (current : List (Option ℕ)) (d e : Draft) (a b : Accesses) (n : ℕ) (form : ViewForm) (os : List plain.Term) (values : List ℕ) (next : ℕ) → offsets_of (plan_seen form) ≡ os
-    → EvaluatesWords scene lane current d e a b n os values next → EvaluatesWords scene lane current d e a b n (offsets_of (plan_seen form)) values next
+pub words_as : (scene : Scene) (lane : Lane) (current : List (Option ℕ)) (d e : Draft) (a b : Accesses) (n : ℕ) (form : ViewForm) (os : List plain.Term) (values : List ℕ) (next : ℕ) → offsets_of (view_plan form) ≡ os
+    → EvaluatesWords scene lane current d e a b n os values next → EvaluatesWords scene lane current d e a b n (offsets_of (view_plan form)) values next
 words_as scene lane current d e a b n form os values next same h = subst (λ (l : List plain.Term). EvaluatesWords scene lane current d e a b n l values next) (sym same) h
 
-pub made_as : (scene : Scene) (lane : Lane) (current : List (Option ℕ)) (d e : Draft) (a b : Accesses) (n : ℕ) (form : ViewForm) (os : List plain.Term) (values : List ℕ) (next : ℕ) → offsets_of (plan_seen form) ≡ os
-    → MadeTerms scene lane current (terms os) d e a b n next values → MadeTerms scene lane current (terms (offsets_of (plan_seen form))) d e a b n next values
+pub made_as : (scene : Scene) (lane : Lane) (current : List (Option ℕ)) (d e : Draft) (a b : Accesses) (n : ℕ) (form : ViewForm) (os : List plain.Term) (values : List ℕ) (next : ℕ) → offsets_of (view_plan form) ≡ os
+    → MadeTerms scene lane current (terms os) d e a b n next values → MadeTerms scene lane current (terms (offsets_of (view_plan form))) d e a b n next values
 made_as scene lane current d e a b n form os values next same h = subst (λ (l : List plain.Term). MadeTerms scene lane current (terms l) d e a b n next values) (sym same) h
 
-pub words_nothing : (scene : Scene) (lane : Lane) (current : List (Option ℕ)) (d : Draft) (a : Accesses) (n : ℕ) (form : ViewForm) (values : List ℕ) → offsets_of (plan_seen form) ≡ [] → values ≡ []
-    → EvaluatesWords scene lane current d d a a n (offsets_of (plan_seen form)) values n
+pub words_nothing : (scene : Scene) (lane : Lane) (current : List (Option ℕ)) (d : Draft) (a : Accesses) (n : ℕ) (form : ViewForm) (values : List ℕ) → offsets_of (view_plan form) ≡ [] → values ≡ []
+    → EvaluatesWords scene lane current d d a a n (offsets_of (view_plan form)) values n
 words_nothing scene lane current d a n form values same none =
     words_as scene lane current d d a a n form [] values n same (subst (λ (vs : List ℕ). EvaluatesWords scene lane current d d a a n [] vs n) (sym none) (words_none scene lane current d a n))
 
-pub made_nothing : (scene : Scene) (lane : Lane) (current : List (Option ℕ)) (d : Draft) (a : Accesses) (n : ℕ) (form : ViewForm) (values : List ℕ) → offsets_of (plan_seen form) ≡ [] → values ≡ []
-    → MadeTerms scene lane current (terms (offsets_of (plan_seen form))) d d a a n n values
+pub made_nothing : (scene : Scene) (lane : Lane) (current : List (Option ℕ)) (d : Draft) (a : Accesses) (n : ℕ) (form : ViewForm) (values : List ℕ) → offsets_of (view_plan form) ≡ [] → values ≡ []
+    → MadeTerms scene lane current (terms (offsets_of (view_plan form))) d d a a n n values
 made_nothing scene lane current d a n form values same none = made_as scene lane current d d a a n form [] values n same (record { still = refl; same = refl; next_is = refl; none = none })
 
 -- Their values as variables hold them, one after the other.
@@ -183,23 +183,23 @@ module _ (scene : Scene) where
   holds_one n [] value v values more d e new one rest = (rest.0 ∙ one.0, ap (λ (i : ℕ). i ∷ more) one.1 ∙ ap (λ (vs : List ℕ). value ∷ vs) rest.1)
   holds_one n (t ∷ ts) value v values more d e new one rest = (e, (v, (more, (one, (rest, refl)))))
 
-  held_one : (n : ℕ) (os : List plain.Term) (value v : ℕ) (values more : List ℕ) (d e new : Draft) → Gives d e v (λ x. kept_shown scene n (slice_get os 0) (shown x value))
-      → GivesAll e new more (λ x. held_words scene (suc n) (rest_of os) (map (λ i. shown x i) values)) → GivesAll d new (v ∷ more) (λ x. held_words scene n os (map (λ i. shown x i) (value ∷ values)))
-  held_one n [] value v values more d e new one rest = gives_then d e new v more (λ x. shown x value) (λ x. map (λ i. shown x i) values) one rest
+  held_one : (n : ℕ) (os : List plain.Term) (value v : ℕ) (values more : List ℕ) (d e new : Draft) → Gives d e v (λ x. kept_shown scene n (slice_get os 0) (word_shown x value))
+      → GivesAll e new more (λ x. held_words scene (suc n) (rest_of os) (map (λ i. word_shown x i) values)) → GivesAll d new (v ∷ more) (λ x. held_words scene n os (map (λ i. word_shown x i) (value ∷ values)))
+  held_one n [] value v values more d e new one rest = gives_then d e new v more (λ x. word_shown x value) (λ x. map (λ i. word_shown x i) values) one rest
   held_one n (t ∷ ts) value v values more d e new one rest =
-      gives_then d e new v more (λ x. held_shown t (held_at scene.held.now n).kind (shown x value)) (λ x. held_words scene (suc n) ts (map (λ i. shown x i) values)) one rest
+      gives_then d e new v more (λ x. held_shown t (held_at scene.held.now n).kind (word_shown x value)) (λ x. held_words scene (suc n) ts (map (λ i. word_shown x i) values)) one rest
 
   -- one is held by the offset of its number, where that is there
-  pub hold_found : (n : ℕ) (o : Option plain.Term) (t : plain.Term) (h : Held) (value v : ℕ) (d e : Draft) → Some t ≡ o → h ≡ held_at scene.held.now n → Gives d e v (λ x. held_shown t h.kind (shown x value))
-      → Gives d e v (λ x. kept_shown scene n o (shown x value))
+  pub hold_found : (n : ℕ) (o : Option plain.Term) (t : plain.Term) (h : Held) (value v : ℕ) (d e : Draft) → Some t ≡ o → h ≡ held_at scene.held.now n → Gives d e v (λ x. held_shown t h.kind (word_shown x value))
+      → Gives d e v (λ x. kept_shown scene n o (word_shown x value))
   hold_found n o t h value v d e is same g =
-      subst (λ (p : Option plain.Term). Gives d e v (λ x. kept_shown scene n p (shown x value))) is (subst (λ (k : Held). Gives d e v (λ x. held_shown t k.kind (shown x value))) same g)
+      subst (λ (p : Option plain.Term). Gives d e v (λ x. kept_shown scene n p (word_shown x value))) is (subst (λ (k : Held). Gives d e v (λ x. held_shown t k.kind (word_shown x value))) same g)
 
   pub hold_made : (n : ℕ) (o : Option plain.Term) (t : plain.Term) (h : Held) (value v : ℕ) (d e : Draft) → Some t ≡ o → h ≡ held_at scene.held.now n → MadeHeld t h.kind value d e v → MadeHold scene n o value d e v
   hold_made n o t h value v d e is same m = subst (λ (p : Option plain.Term). MadeHold scene n p value d e v) is (subst (λ (k : Held). MadeHeld t k.kind value d e v) same m)
 
-  pub hold_nowhere : (n : ℕ) (o : Option plain.Term) (value : ℕ) (d : Draft) → None ≡ o → Gives d d value (λ x. kept_shown scene n o (shown x value))
-  hold_nowhere n o value d is = subst (λ (p : Option plain.Term). Gives d d value (λ x. kept_shown scene n p (shown x value))) is (gives_still d value)
+  pub hold_nowhere : (n : ℕ) (o : Option plain.Term) (value : ℕ) (d : Draft) → None ≡ o → Gives d d value (λ x. kept_shown scene n o (word_shown x value))
+  hold_nowhere n o value d is = subst (λ (p : Option plain.Term). Gives d d value (λ x. kept_shown scene n p (word_shown x value))) is (gives_still d value)
 
   pub made_nowhere : (n : ℕ) (o : Option plain.Term) (value : ℕ) (d : Draft) → None ≡ o → MadeHold scene n o value d d value
   made_nowhere n o value d is = subst (λ (p : Option plain.Term). MadeHold scene n p value d d value) is (refl, refl)
@@ -214,13 +214,13 @@ module _ (scene : Scene) where
 
 module _ (scene : Scene) (first : ℕ) (all : List plain.Term) (values : List ℕ) where
   pub record HoldsSoFar (i : ℕ) (d0 d : Draft) (held : List ℕ) : Type 0 where
-    pub gives : (new : Draft) (more : List ℕ) → GivesAll d new more (λ x. held_words scene (first + i) (drop i all) (map (λ n. shown x n) (drop i values)))
-        → GivesAll d0 new (held ++ more) (λ x. held_words scene first all (map (λ n. shown x n) values))
+    pub gives : (new : Draft) (more : List ℕ) → GivesAll d new more (λ x. held_words scene (first + i) (drop i all) (map (λ n. word_shown x n) (drop i values)))
+        → GivesAll d0 new (held ++ more) (λ x. held_words scene first all (map (λ n. word_shown x n) values))
     pub makes : (new : Draft) (more : List ℕ) → MadeHolds scene (first + i) (drop i all) (drop i values) d new more → MadeHolds scene first all values d0 new (held ++ more)
 
   pub holds_first : (d : Draft) (held : List ℕ) → held ≡ [] → HoldsSoFar 0 d d held
   holds_first d held none = subst (λ (vs : List ℕ). HoldsSoFar 0 d d vs) (sym none) (record {
-    gives = λ new more h. subst (λ (n : ℕ). GivesAll d new more (λ x. held_words scene n all (map (λ k. shown x k) values))) (same first) h;
+    gives = λ new more h. subst (λ (n : ℕ). GivesAll d new more (λ x. held_words scene n all (map (λ k. word_shown x k) values))) (same first) h;
     makes = λ new more h. subst (λ (n : ℕ). MadeHolds scene n all values d new more) (same first) h;
   })
     where
@@ -228,17 +228,17 @@ module _ (scene : Scene) (first : ℕ) (all : List plain.Term) (values : List �
       same n = omega arith
 
   pub holds_on : (i : ℕ) (d0 d e : Draft) (held grown : List ℕ) (value v : ℕ) → i < length values → grown ≡ held ++ v ∷ []
-      → Gives d e v (λ x. kept_shown scene (first + i) (slice_get all i) (shown x (get_or values i value))) → MadeHold scene (first + i) (slice_get all i) (get_or values i value) d e v
+      → Gives d e v (λ x. kept_shown scene (first + i) (slice_get all i) (word_shown x (get_or values i value))) → MadeHold scene (first + i) (slice_get all i) (get_or values i value) d e v
       → HoldsSoFar i d0 d held → HoldsSoFar (suc i) d0 e grown
   holds_on i d0 d e held grown value v within added given made l = record {
     gives = λ new more h.
-        subst (λ (vs : List ℕ). GivesAll d0 new vs (λ x. held_words scene first all (map (λ n. shown x n) values))) (grown_is more)
+        subst (λ (vs : List ℕ). GivesAll d0 new vs (λ x. held_words scene first all (map (λ n. word_shown x n) values))) (grown_is more)
         (l.gives new (v ∷ more)
-        (subst (λ (vs : List ℕ). GivesAll d new (v ∷ more) (λ x. held_words scene (first + i) (drop i all) (map (λ n. shown x n) vs))) (sym split)
+        (subst (λ (vs : List ℕ). GivesAll d new (v ∷ more) (λ x. held_words scene (first + i) (drop i all) (map (λ n. word_shown x n) vs))) (sym split)
         (held_one scene (first + i) (drop i all) (get_or values i value) v (drop (suc i) values) more d e new
-        (subst (λ (o : Option plain.Term). Gives d e v (λ x. kept_shown scene (first + i) o (shown x (get_or values i value)))) (get_dropped all i) given)
-        (subst (λ (os : List plain.Term). GivesAll e new more (λ x. held_words scene (suc (first + i)) os (map (λ n. shown x n) (drop (suc i) values)))) (rest_dropped all i)
-        (subst (λ (n : ℕ). GivesAll e new more (λ x. held_words scene n (drop (suc i) all) (map (λ k. shown x k) (drop (suc i) values)))) (moved first i) h)))));
+        (subst (λ (o : Option plain.Term). Gives d e v (λ x. kept_shown scene (first + i) o (word_shown x (get_or values i value)))) (get_dropped all i) given)
+        (subst (λ (os : List plain.Term). GivesAll e new more (λ x. held_words scene (suc (first + i)) os (map (λ n. word_shown x n) (drop (suc i) values)))) (rest_dropped all i)
+        (subst (λ (n : ℕ). GivesAll e new more (λ x. held_words scene n (drop (suc i) all) (map (λ k. word_shown x k) (drop (suc i) values)))) (moved first i) h)))));
     makes = λ new more h.
         subst (λ (vs : List ℕ). MadeHolds scene first all values d0 new vs) (grown_is more)
         (l.makes new (v ∷ more)
@@ -258,10 +258,10 @@ module _ (scene : Scene) (first : ℕ) (all : List plain.Term) (values : List �
       grown_is : (more : List ℕ) → held ++ (v ∷ more) ≡ grown ++ more
       grown_is more = sym (ap (λ (vs : List ℕ). vs ++ more) added ∙ append_assoc held (v ∷ []) more)
 
-  pub holds_last : (i : ℕ) (d0 d : Draft) (held : List ℕ) → length values ≤ i → HoldsSoFar i d0 d held → GivesAll d0 d held (λ x. held_words scene first all (map (λ n. shown x n) values))
+  pub holds_last : (i : ℕ) (d0 d : Draft) (held : List ℕ) → length values ≤ i → HoldsSoFar i d0 d held → GivesAll d0 d held (λ x. held_words scene first all (map (λ n. word_shown x n) values))
   holds_last i d0 d held over l =
-      subst (λ (vs : List ℕ). GivesAll d0 d vs (λ x. held_words scene first all (map (λ n. shown x n) values))) (append-nil held)
-      (l.gives d [] (subst (λ (vs : List ℕ). GivesAll d d [] (λ x. held_words scene (first + i) (drop i all) (map (λ n. shown x n) vs))) (sym (drop_past values i over))
+      subst (λ (vs : List ℕ). GivesAll d0 d vs (λ x. held_words scene first all (map (λ n. word_shown x n) values))) (append-nil held)
+      (l.gives d [] (subst (λ (vs : List ℕ). GivesAll d d [] (λ x. held_words scene (first + i) (drop i all) (map (λ n. word_shown x n) vs))) (sym (drop_past values i over))
       (gives_none d (λ x. held_words scene (first + i) (drop i all) []) (λ x. no_words scene (first + i) (drop i all)))))
 
   pub holds_made : (i : ℕ) (d0 d : Draft) (held : List ℕ) → length values ≤ i → HoldsSoFar i d0 d held → MadeHolds scene first all values d0 d held

@@ -6,7 +6,7 @@ use Rattle.dh_meaning.specs.Paths.{Path}
 use Rattle.dh_meaning.specs.Effects.{Effect, at_each, paths_where}
 use Rattle.dh_expressions.specs.declared.paths.Level.{Level}
 use Rattle.dh_expressions.specs.declared.scenes.Around.{Around}
-use Rattle.dh_expressions.specs.Drafted.{Step}
+use Rattle.dh_expressions.specs.Drafted.{BlockStep}
 use Rattle.dh_expressions.specs.Levels.{path_at}
 use Rattle.dh_commands.specs.LanesRun.{IsArm, comes_out, is_on_at, lanes_run, path_if, path_in, paths_counted, paths_on, paths_to, run_if}
 
@@ -18,7 +18,7 @@ one_run : (run : Path → Effect → Effect) (b : Bool) (p : Path) (e : Effect) 
 one_run run true p e = refl
 one_run run false p e = refl
 
-pub lanes_are : (x : Step) (around : Around) (run : Path → Effect → Effect) (n : ℕ) (e : Effect) → lanes_run x around run n e ≡ at_each run (paths_to x around n) e
+pub lanes_are : (x : BlockStep) (around : Around) (run : Path → Effect → Effect) (n : ℕ) (e : Effect) → lanes_run x around run n e ≡ at_each run (paths_to x around n) e
 lanes_are x around run zero e = refl
 lanes_are x around run (suc n) e =
     one_run run (is_on_at x around n) (path_in around n) (lanes_run x around run n e)
@@ -53,7 +53,7 @@ where_one false test true p = by (test p)
     by true = refl
     by false = refl
 
-module _ (x : Step) (around arm : Around) (holds : Bool) (test : Path → Bool) (h : IsArm x around arm holds test) where
+module _ (x : BlockStep) (around arm : Around) (holds : Bool) (test : Path → Bool) (h : IsArm x around arm holds test) where
   path_same : (n : ℕ) → path_in arm n ≡ path_in around n
   path_same n = ap (λ (ls : List Level). path_at ls n) h.levels
 

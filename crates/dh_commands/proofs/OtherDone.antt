@@ -8,24 +8,24 @@ use Rattle.dh_meaning.specs.Effects.{Effect, Variables, paths_where}
 use Rattle.dh_meaning.specs.Paths.{Path}
 use Rattle.dh_expressions.specs.declared.scenes.Around.{Around}
 use Rattle.dh_expressions.specs.declared.scenes.Scene.{Scene}
-use Rattle.dh_expressions.specs.Drafted.{Begun, Extends, Fits, Step, tale, told}
-use Rattle.dh_expressions.specs.Evaluated.{Knows, Reads}
+use Rattle.dh_expressions.specs.Drafted.{BlockBegun, Extends, FitsStep, BlockStep, tale, tales_told}
+use Rattle.dh_expressions.specs.Evaluated.{Knows, StepReads}
 use Rattle.dh_expressions.proofs.Pushing.{extends_self}
 use Rattle.dh_commands.specs.declared.buildings.Building.{Building}
 use Rattle.dh_commands.specs.declared.choices.Left.{Left}
 use Rattle.dh_commands.specs.LanesRun.{IsArm, is_on_at, path_in, paths_counted, paths_on}
-use Rattle.dh_commands.specs.ShownVariables.{IsOwn, IsSeen, ShowsAt, seen_path}
+use Rattle.dh_commands.specs.ShownVariables.{HasOwnCopies, IsSeen, ShowsAt, seen_path}
 use Rattle.dh_commands.specs.Undone.{AreReady}
-use Rattle.dh_commands.specs.Followed.{Arms, no_arms, FitOther, FollowsOther, KeepsDeepOther, SetsOther, effect_of, other_effect, view_of}
+use Rattle.dh_commands.specs.Followed.{Arms, no_arms, FitOther, FollowsOther, KeepsDeepOther, SetsOther, effect_of, other_effect, view_at_step}
 use Rattle.dh_commands.specs.Parted.{DoesOther, ShowsTests}
 use Rattle.dh_commands.proofs.ArmsDone.{Halfway, arm_extends, arm_values, ends_kept, ends_knows, ends_shows, ends_tells, is_arm}
 use Rattle.dh_commands.proofs.ArmsLeft.{AreSame, ArmLeft, nothing_left}
 use Rattle.dh_commands.proofs.LanesInOrder.{arm_paths}
 
 -- what stands behind it
-pub record OtherEnds (scene : Scene) (around : Around) (x : Step) (reads : Reads) (truths : Path → Bool) (new : Building) (behind : List (Option ℕ)) (e after : Effect) : Type 0 where
-  pub knows : (variables : Variables) → Knows (view_of x reads variables) new.accesses
-  pub tells : tale x new.draft ≡ told after.events
+pub record OtherEnds (scene : Scene) (around : Around) (x : BlockStep) (reads : StepReads) (truths : Path → Bool) (new : Building) (behind : List (Option ℕ)) (e after : Effect) : Type 0 where
+  pub knows : (variables : Variables) → Knows (view_at_step x reads variables) new.accesses
+  pub tells : tale x new.draft ≡ tales_told after.events
   pub shows : (entity j : ℕ) → IsSeen scene around.levels.now entity → j < paths_counted around → is_on_at x around j ≡ true → truths (path_in around j) ≡ false → ShowsAt scene around x behind after.variables entity j
   pub kept : (entity j : ℕ) → IsSeen scene around.levels.now entity → j < paths_counted around → is_on_at x around j ≡ true → truths (path_in around j) ≡ true
       → after.variables entity (seen_path scene around entity j) ≡ e.variables entity (seen_path scene around entity j)
@@ -34,8 +34,8 @@ pub record OtherDone (scene : Scene) (around : Around) (tests : List ℕ) (May :
   pub extends : Extends old.draft new.draft
   pub behind : List (Option ℕ)
   pub values : AreReady old.values → AreSame old.values new.values × ArmLeft scene around May old.values.current.items behind lefts
-  pub so : (x : Step) (reads : Reads) (e : Effect) → Fits x new.draft → Begun x old.draft → (truths : Path → Bool) → ShowsTests x around tests truths → Halfway scene around x reads truths false old e
-      → KeepsDeepOther scene other → ((entity : ℕ) → May entity → IsOwn scene around entity) → (IsArm x around arm false truths → FollowsOther scene x reads arm arms first other e)
+  pub so : (x : BlockStep) (reads : StepReads) (e : Effect) → FitsStep x new.draft → BlockBegun x old.draft → (truths : Path → Bool) → ShowsTests x around tests truths → Halfway scene around x reads truths false old e
+      → KeepsDeepOther scene other → ((entity : ℕ) → May entity → HasOwnCopies scene around entity) → (IsArm x around arm false truths → FollowsOther scene x reads arm arms first other e)
       → OtherEnds scene around x reads truths new behind e (other_effect scene x (paths_where false truths (paths_on x around)) first other e)
 
 abbrev pub other_arm : (scene : Scene) (around : Around) (tests : List ℕ) (other : MaybeAction) (first next : ℕ) (old new : Building) (lefts : List Left) → DoesOther scene around tests other first next old new lefts → Around

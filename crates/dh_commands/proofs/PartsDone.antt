@@ -19,7 +19,7 @@ use Rattle.dh_accesses.proofs.CountedParts.{behind_few}
 use Rattle.dh_plan.specs.Blocks.{is_on}
 use Rattle.dh_expressions.specs.declared.scenes.Around.{Around}
 use Rattle.dh_expressions.specs.declared.scenes.Scene.{Scene}
-use Rattle.dh_expressions.specs.Drafted.{Begun, Fits, Step, shown}
+use Rattle.dh_expressions.specs.Drafted.{BlockBegun, FitsStep, BlockStep, word_shown}
 use Rattle.dh_expressions.specs.Evaluated.{Knows, known_in}
 use Rattle.dh_expressions.specs.Shown.{guard_of}
 use Rattle.dh_expressions.proofs.ListPlaces.{there}
@@ -28,7 +28,7 @@ use Rattle.dh_commands.specs.declared.buildings.Building.{Building}
 use Rattle.dh_commands.specs.declared.choices.Left.{Left}
 use Rattle.dh_commands.specs.LanesRun.{IsArm, comes_out, is_on_at, path_in, paths_counted}
 use Rattle.dh_commands.specs.Undone.{AreReady, Changes, EndsArm}
-use Rattle.dh_commands.specs.Followed.{FitArms, no_arms, Sets, view_of}
+use Rattle.dh_commands.specs.Followed.{FitArms, no_arms, Sets, view_at_step}
 use Rattle.dh_commands.specs.Choosing.{MakesGuards}
 use Rattle.dh_commands.specs.Done.{DoesCommand}
 use Rattle.dh_commands.specs.Setting.{KeepsView}
@@ -63,7 +63,7 @@ module _ (scene : Scene) (around arm : Around) (tests : List ℕ) (holds : Bool)
   both_same true c d h = h refl
   both_same false c d h = refl
 
-  arm_is : 0 < length tests → first + accesses_of a < 2 ^ 32 → length tests ≡ paths_counted around → (x : Step) → Fits x inside.draft → Begun x old.draft → (truths : Path → Bool) → ShowsTests x around tests truths → IsArm x around arm holds truths
+  arm_is : 0 < length tests → first + accesses_of a < 2 ^ 32 → length tests ≡ paths_counted around → (x : BlockStep) → FitsStep x inside.draft → BlockBegun x old.draft → (truths : Path → Bool) → ShowsTests x around tests truths → IsArm x around arm holds truths
   arm_is some few long x fits begun truths shows = record {
     levels = levels;
     long = long_arm ∙ long;
@@ -72,7 +72,7 @@ module _ (scene : Scene) (around arm : Around) (tests : List ℕ) (holds : Bool)
         let t = there tests number inside_tests in
         ap (λ (gs : List (Option ℕ)). is_on x.first x.words (guard_of gs number)) guards_are
         ∙ (makes.on x (fits_before begun_at.draft inside.draft x (does.so (some_arm some) few).extends fits) begun number t.0 inside_tests t.1
-        ∙ both_same (is_on_at x around number) (comes_out holds (is_true (shown x t.0))) (comes_out holds (truths (path_in around number))) (λ on. ap (λ b. comes_out holds b) (shows number t.0 within on t.1)));
+        ∙ both_same (is_on_at x around number) (comes_out holds (is_true (word_shown x t.0))) (comes_out holds (truths (path_in around number))) (λ on. ap (λ b. comes_out holds b) (shows number t.0 within on t.1)));
   }
 
   pub arm_done : DoesArm scene around tests holds a first next old new lefts
@@ -90,7 +90,7 @@ module _ (scene : Scene) (around arm : Around) (tests : List ℕ) (holds : Bool)
       changes = λ ready. subst (λ v. Changes scene arm (Sets scene a) v inside.values) values (k.changes (subst (λ v. AreReady v) (sym values) ready));
       so = λ x reads e fits begun follows stands.
           k.so x reads e fits (begun_later old.draft begun_at.draft x makes.adds.extends begun) follows
-          (quiet_stands scene arm x reads old begun_at e values (λ variables. subst (λ s. Knows (view_of x reads variables) s) (sym accesses) (stands.knows variables))
+          (quiet_stands scene arm x reads old begun_at e values (λ variables. subst (λ s. Knows (view_at_step x reads variables) s) (sym accesses) (stands.knows variables))
           (makes.adds.quiet x (fits_before begun_at.draft inside.draft x k.extends fits) begun) stands);
     };
     draft = draft_same;

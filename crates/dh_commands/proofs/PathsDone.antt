@@ -5,20 +5,20 @@ use Rattle.dh_meaning.specs.Paths.{Path}
 use Rattle.dh_expressions.specs.declared.accesses.Accesses.{Accesses}
 use Rattle.dh_expressions.specs.declared.scenes.Around.{Around}
 use Rattle.dh_expressions.specs.declared.scenes.Scene.{Scene}
-use Rattle.dh_expressions.specs.Drafted.{Step}
-use Rattle.dh_expressions.specs.Evaluated.{Knows, Reads}
+use Rattle.dh_expressions.specs.Drafted.{BlockStep}
+use Rattle.dh_expressions.specs.Evaluated.{Knows, StepReads}
 use Rattle.dh_expressions.proofs.Pushing.{begun_later, extends_again, extends_self, fits_before}
 use Rattle.dh_commands.specs.declared.buildings.Building.{Building}
 use Rattle.dh_commands.specs.LanesRun.{lane_of, lanes_run, paths_counted}
-use Rattle.dh_commands.specs.Followed.{view_of}
+use Rattle.dh_commands.specs.Followed.{view_at_step}
 use Rattle.dh_commands.specs.Done.{DoesAll, DoesOne, DoesPath, DoesPaths}
 use Rattle.dh_commands.proofs.ChangesBack.{changes_again, changes_none, ready_after}
 
 -- what is known is known whatever variables hold
-pub knows_all : (x : Step) (reads : Reads) (a : Accesses) (vs : Variables) → Knows (view_of x reads vs) a → (ws : Variables) → Knows (view_of x reads ws) a
+pub knows_all : (x : BlockStep) (reads : StepReads) (a : Accesses) (vs : Variables) → Knows (view_at_step x reads vs) a → (ws : Variables) → Knows (view_at_step x reads ws) a
 knows_all x reads a vs k ws = record { given = k.given; long = k.long; touched = k.touched; none = k.none }
 
-module _ (scene : Scene) (around : Around) (May : ℕ → Type 0) (Premise : ℕ → Step → Reads → Variables → Type 0) (run : Step → Path → Effect → Effect) where
+module _ (scene : Scene) (around : Around) (May : ℕ → Type 0) (Premise : ℕ → BlockStep → StepReads → Variables → Type 0) (run : BlockStep → Path → Effect → Effect) where
   pub paths_none : (b : Building) → DoesPaths scene around May Premise run 0 b b
   paths_none b = record { extends = extends_self b.draft; changes = λ ready. changes_none scene around May b.values; so = λ x reads e f s along stands. stands }
 

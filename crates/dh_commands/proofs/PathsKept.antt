@@ -14,9 +14,9 @@ use Rattle.dh_meaning.specs.Paths.{Path, same_path}
 use Rattle.dh_plan.proofs.SourceMoves.{same_is}
 use Rattle.dh_expressions.specs.declared.scenes.Around.{Around}
 use Rattle.dh_expressions.specs.declared.scenes.Scene.{Scene}
-use Rattle.dh_expressions.specs.Drafted.{Step}
+use Rattle.dh_expressions.specs.Drafted.{BlockStep}
 use Rattle.dh_commands.specs.LanesRun.{is_on_at, path_if, path_in, paths_counted, paths_on, paths_to}
-use Rattle.dh_commands.specs.ShownVariables.{AreBoundAt, IsOwn, IsSeen, depth_in, register_in, seen_path}
+use Rattle.dh_commands.specs.ShownVariables.{AreBoundAt, HasOwnCopies, IsSeen, depth_in, register_in, seen_path}
 
 -- a copy of a variable is not the one that is set at a path
 abbrev pub IsOther : (e : ℕ) → (p : Path) → (depth entity : ℕ) → Path → Type 0
@@ -104,7 +104,7 @@ all_if : (P : Path → Type 0) (on : Bool) (q : Path) → (on ≡ true → P q) 
 all_if P true q h = (h refl, tt)
 all_if P false q h = tt
 
-all_to : (x : Step) (around : Around) (P : Path → Type 0) (count : ℕ) → ((i : ℕ) → i < count → is_on_at x around i ≡ true → P (path_in around i)) → AllByRecursion P (paths_to x around count)
+all_to : (x : BlockStep) (around : Around) (P : Path → Type 0) (count : ℕ) → ((i : ℕ) → i < count → is_on_at x around i ≡ true → P (path_in around i)) → AllByRecursion P (paths_to x around count)
 all_to x around P zero h = tt
 all_to x around P (suc n) h =
     all_behind P (paths_to x around n) (path_if (is_on_at x around n) (path_in around n))
@@ -120,8 +120,8 @@ none_both true false h = refl
 none_both false b h = refl
 
 -- a variable is set at no copy that is seen where the guard does not hold
-pub others_at : (scene : Scene) (around : Around) (x : Step) (e entity j : ℕ) → IsSeen scene around.levels.now e → j < paths_counted around → is_on_at x around j ≡ false
-    → IsOwn scene around entity → AllByRecursion (IsOther e (seen_path scene around e j) (depth_in scene entity) entity) (paths_on x around)
+pub others_at : (scene : Scene) (around : Around) (x : BlockStep) (e entity j : ℕ) → IsSeen scene around.levels.now e → j < paths_counted around → is_on_at x around j ≡ false
+    → HasOwnCopies scene around entity → AllByRecursion (IsOther e (seen_path scene around e j) (depth_in scene entity) entity) (paths_on x around)
 others_at scene around x e entity j there inside off own =
     all_to x around (IsOther e (seen_path scene around e j) (depth_in scene entity) entity) (paths_counted around)
     (λ i l on. none_both (e == entity) (same_path (seen_path scene around e j) (seen_path scene around entity i)) (never i l on))
@@ -169,9 +169,9 @@ or_second : (a b : Bool) → b ≡ true → (a || b) ≡ true
 or_second true b h = refl
 or_second false b h = h
 
-module _ (scene : Scene) (around : Around) (x : Step) (e j : ℕ) (there : IsSeen scene around.levels.now e) (inside : j < paths_counted around) (off : is_on_at x around j ≡ false) where
+module _ (scene : Scene) (around : Around) (x : BlockStep) (e j : ℕ) (there : IsSeen scene around.levels.now e) (inside : j < paths_counted around) (off : is_on_at x around j ≡ false) where
   -- variables that keep offsets are others, too
-  none_set : (depth first count : ℕ) → AreBoundAt scene depth first count → ((entity : ℕ) → first ≤ entity → entity < first + count → IsOwn scene around entity)
+  none_set : (depth first count : ℕ) → AreBoundAt scene depth first count → ((entity : ℕ) → first ≤ entity → entity < first + count → HasOwnCopies scene around entity)
       → AllByRecursion (λ q. IsNone e (seen_path scene around e j) depth first count q) (paths_on x around)
   none_set depth first zero bound own = all_each (λ q. IsNone e (seen_path scene around e j) depth first zero q) (λ q. tt) (paths_on x around)
   none_set depth first (suc n) bound own =
@@ -180,7 +180,7 @@ module _ (scene : Scene) (around : Around) (x : Step) (e j : ℕ) (there : IsSee
       (none_set depth (suc first) n bound.1 (λ entity from below. own entity (omega (arith, from)) (omega (arith, below))))
 
   mutual
-    keeps_one : (c : CoreCommand) → IsDeep scene c → ((entity : ℕ) → assigns_to entity c ≡ true → IsOwn scene around entity) → KeepsAt e (seen_path scene around e j) (paths_on x around) c
+    keeps_one : (c : CoreCommand) → IsDeep scene c → ((entity : ℕ) → assigns_to entity c ≡ true → HasOwnCopies scene around entity) → KeepsAt e (seen_path scene around e j) (paths_on x around) c
     keeps_one (store r target value) deep own = tt
     keeps_one (assign depth entity value) deep own =
         subst (λ (d : ℕ). AllByRecursion (IsOther e (seen_path scene around e j) d entity) (paths_on x around)) (sym deep) (others_at scene around x e entity j there inside off (own entity (eq-eqb entity entity refl)))
@@ -191,7 +191,7 @@ module _ (scene : Scene) (around : Around) (x : Step) (e j : ℕ) (there : IsSee
       keeps_own other deep.1 (λ entity sets. own entity (or_second (any_assigns entity chosen) (any_assigns entity other) sets)),
     )
 
-    pub keeps_own : (cs : CoreCommands) → AreDeep scene cs → ((entity : ℕ) → any_assigns entity cs ≡ true → IsOwn scene around entity) → KeepsAll e (seen_path scene around e j) (paths_on x around) cs
+    pub keeps_own : (cs : CoreCommands) → AreDeep scene cs → ((entity : ℕ) → any_assigns entity cs ≡ true → HasOwnCopies scene around entity) → KeepsAll e (seen_path scene around e j) (paths_on x around) cs
     keeps_own no_commands deep own = tt
     keeps_own (command_and c cs) deep own = (
       keeps_one c deep.0 (λ entity sets. own entity (or_first (assigns_to entity c) (any_assigns entity cs) sets)),

@@ -20,8 +20,8 @@ use Rattle.dh_expressions.specs.declared.elements.Aim.{Aim}
 use Rattle.dh_expressions.specs.declared.scenes.Lane.{Lane}
 use Rattle.dh_expressions.specs.declared.scenes.Scene.{Scene}
 use Rattle.dh_expressions.specs.declared.terms.Valued.{Valued}
-use Rattle.dh_expressions.specs.Drafted.{Begun, Extends, Fits, Gives, Step, shown}
-use Rattle.dh_expressions.specs.Evaluated.{AimsByIndices, AimsByRow, AimsThrough, EvaluatesAll, EvaluatesTerm, Fair, FairAll, IsSited, Knows, Reads, Sees, View, begun_of, known_in, lane_guard, term_told, term_value, terms_values}
+use Rattle.dh_expressions.specs.Drafted.{BlockBegun, Extends, FitsStep, Gives, BlockStep, word_shown}
+use Rattle.dh_expressions.specs.Evaluated.{AimsByIndices, AimsByRow, AimsThrough, EvaluatesAll, EvaluatesTerm, Fair, FairAll, IsSited, Knows, StepReads, Sees, View, begun_of, known_in, lane_guard, term_told, term_value, terms_values}
 use Rattle.dh_expressions.specs.Reaching.{AimsAt, HasTarget, RowIs, StoresAt, Tells, reach_at}
 use Rattle.dh_expressions.specs.Shown.{held_shown}
 use Rattle.dh_expressions.proofs.Evaluating.{SeesNamed, aimed_events, has_target, named_aims, named_all}
@@ -30,8 +30,8 @@ use Rattle.dh_accesses.proofs.CountedParts.{behind_few}
 use Rattle.dh_commands.specs.declared.assignments.Values.{Values}
 use Rattle.dh_commands.specs.declared.buildings.Building.{Building}
 use Rattle.dh_commands.specs.LanesRun.{is_on_at, path_in, run_if}
-use Rattle.dh_commands.specs.Followed.{FollowsStored, FollowsTarget, store_run, view_of}
-use Rattle.dh_commands.specs.Done.{Stands}
+use Rattle.dh_commands.specs.Followed.{FollowsStored, FollowsTarget, store_run, view_at_step}
+use Rattle.dh_commands.specs.Done.{StandsBeside}
 use Rattle.dh_commands.specs.Setting.{AimsAtTarget, NoVariable, StoresOne}
 use Rattle.dh_commands.specs.Undone.{Changes}
 use Rattle.dh_commands.proofs.ChangesBack.{changes_none}
@@ -50,7 +50,7 @@ module _ (scene : Scene) (lane : Lane) (old new : Building) (d1 d2 d3 : Draft) (
   make w = held_shown t (entry_kind (slice_get (table_of (program_seen scene.program.now)) memory)) w
 
   module _ (ts : plain.Terms) (a : AimsThrough scene lane old.values.current.items d1 d2 a1 a2 own.next r ts aim)
-      (g : Gives d2 d3 held (λ x. make (shown x own.value))) (w : StoresAt scene lane d3 new.draft a2 new.accesses (plain.term place k (plain.accessed r ts)) memory aim held) where
+      (g : Gives d2 d3 held (λ x. make (word_shown x own.value))) (w : StoresAt scene lane d3 new.draft a2 new.accesses (plain.term place k (plain.accessed r ts)) memory aim held) where
     abbrev access : plain.Term
     access = plain.term place k (plain.accessed r ts)
 
@@ -90,20 +90,20 @@ module _ (scene : Scene) (lane : Lane) (old new : Building) (d1 d2 d3 : Draft) (
     told : Few → Tells (lane_guard lane) d1 d2 a1 a2 (λ v. NamedFair v) (λ v. NamedSees v) (λ v. aimed_events scene lane old.values.current.items from r ts v)
     told few = let i = evaluates few in record { extends = i.extends; knows = i.knows; tells = i.tells; quiet = i.quiet }
 
-    aims : Few → (v : View) → Fits v.step d2 → Begun v.step d1 → Knows v a1 → NamedFair v → NamedSees v → AimsAt lane v aim target
+    aims : Few → (v : View) → FitsStep v.step d2 → BlockBegun v.step d1 → Knows v a1 → NamedFair v → NamedSees v → AimsAt lane v aim target
     aims few v f b known fair sees =
         named_aims scene lane old.values.current.items d1 a.middle d2 a1 a2 from r ts a.listed aim (few_here few) (indices few) a.passes v f b sees ((evaluates few).are v f b known fair sees)
 
-    by : Few → (x : Step) (reads : Reads) (f : Effect) → Fits x new.draft → Begun x old.draft → FollowsStored scene lane.around first access t lane.number x reads f.variables → Stands scene lane.around x reads old f
-        → (on : Bool) → is_on_at x lane.around lane.number ≡ on → Stands scene lane.around x reads new (run_if on (store_run scene x first access t) (path_in lane.around lane.number) f)
+    by : Few → (x : BlockStep) (reads : StepReads) (f : Effect) → FitsStep x new.draft → BlockBegun x old.draft → FollowsStored scene lane.around first access t lane.number x reads f.variables → StandsBeside scene lane.around x reads old f
+        → (on : Bool) → is_on_at x lane.around lane.number ≡ on → StandsBeside scene lane.around x reads new (run_if on (store_run scene x first access t) (path_in lane.around lane.number) f)
     by few x reads f fits begun p stands = cases
       where
-        sited : IsSited scene lane (view_of x reads f.variables) memory aim.number place (plain.accessed r ts) true
-        sited = subst (λ (n : ℕ). IsSited scene lane (view_of x reads f.variables) memory n place (plain.accessed r ts) true) (sym (number_is few)) p.target_is.1.0
+        sited : IsSited scene lane (view_at_step x reads f.variables) memory aim.number place (plain.accessed r ts) true
+        sited = subst (λ (n : ℕ). IsSited scene lane (view_at_step x reads f.variables) memory n place (plain.accessed r ts) true) (sym (number_is few)) p.target_is.1.0
 
-        cases : (on : Bool) → is_on_at x lane.around lane.number ≡ on → Stands scene lane.around x reads new (run_if on (store_run scene x first access t) (path_in lane.around lane.number) f)
+        cases : (on : Bool) → is_on_at x lane.around lane.number ≡ on → StandsBeside scene lane.around x reads new (run_if on (store_run scene x first access t) (path_in lane.around lane.number) f)
         cases true on =
-            subst (λ (n : ℕ). Stands scene lane.around x reads new (stored_at (begun_of x) (reach_at place memory n) target (core_term (known_in scene) first t) (path_in lane.around lane.number) f)) (number_is few)
+            subst (λ (n : ℕ). StandsBeside scene lane.around x reads new (stored_at (begun_of x) (reach_at place memory n) target (core_term (known_in scene) first t) (path_in lane.around lane.number) f)) (number_is few)
             (stored_on scene lane old new d1 d2 d3 a1 a2 first t access own aim memory held target has make (λ v. NamedFair v) (λ v. NamedSees v) (λ v. aimed_events scene lane old.values.current.items from r ts v) same (fewer few) e (told few) (aims few) g w
             x reads f fits begun stands p.value (p.target_is.0.indices.fair old.values.current.items stands.shows) sited on
             (p.target_is.0.indices.sees on old.values.current.items stands.shows, p.target_is.0.way on old.values.current.items stands.shows) p.target_is.1.1.0 p.target_is.1.1.1 (p.held on) refl)
@@ -123,7 +123,7 @@ module _ (scene : Scene) (lane : Lane) (old new : Building) (d1 d2 d3 : Draft) (
 
   -- the same by a row of a bank
   module _ (bank : ℕ) (at : Place) (row : plain.Term) (a : AimsByRow scene lane old.values.current.items d1 d2 a1 a2 own.next row aim)
-      (g : Gives d2 d3 held (λ x. make (shown x own.value))) (w : StoresAt scene lane d3 new.draft a2 new.accesses (plain.term place k (plain.in_bank r bank at row)) memory aim held) where
+      (g : Gives d2 d3 held (λ x. make (word_shown x own.value))) (w : StoresAt scene lane d3 new.draft a2 new.accesses (plain.term place k (plain.in_bank r bank at row)) memory aim held) where
     abbrev access_row : plain.Term
     access_row = plain.term place k (plain.in_bank r bank at row)
 
@@ -151,21 +151,21 @@ module _ (scene : Scene) (lane : Lane) (old new : Building) (d1 d2 d3 : Draft) (
     told_row : FewRow → Tells (lane_guard lane) d1 d2 a1 a2 (λ v. Fair scene lane old.values.current.items v from_row row) (λ v. Sees scene lane old.values.current.items v from_row row) (λ v. term_told scene lane v from_row row)
     told_row few = let i = (row_term few).so (few_there few) in record { extends = i.extends; knows = i.knows; tells = i.tells; quiet = i.quiet }
 
-    aims_row : FewRow → (v : View) → Fits v.step d2 → Begun v.step d1 → Knows v a1 → Fair scene lane old.values.current.items v from_row row → Sees scene lane old.values.current.items v from_row row → AimsAt lane v aim target_row
+    aims_row : FewRow → (v : View) → FitsStep v.step d2 → BlockBegun v.step d1 → Knows v a1 → Fair scene lane old.values.current.items v from_row row → Sees scene lane old.values.current.items v from_row row → AimsAt lane v aim target_row
     aims_row few v f b known fair sees =
         subst (λ (o : Option ℕ). RowIs v o (words.value_of (term_value scene lane v from_row row))) (sym a.row)
         (ap (λ (u : Word). words.value_of u) (((row_term few).so (few_there few)).is v f b known fair sees))
 
-    by_row_at : FewRow → (x : Step) (reads : Reads) (f : Effect) → Fits x new.draft → Begun x old.draft → FollowsStored scene lane.around first access_row t lane.number x reads f.variables → Stands scene lane.around x reads old f
-        → (on : Bool) → is_on_at x lane.around lane.number ≡ on → Stands scene lane.around x reads new (run_if on (store_run scene x first access_row t) (path_in lane.around lane.number) f)
+    by_row_at : FewRow → (x : BlockStep) (reads : StepReads) (f : Effect) → FitsStep x new.draft → BlockBegun x old.draft → FollowsStored scene lane.around first access_row t lane.number x reads f.variables → StandsBeside scene lane.around x reads old f
+        → (on : Bool) → is_on_at x lane.around lane.number ≡ on → StandsBeside scene lane.around x reads new (run_if on (store_run scene x first access_row t) (path_in lane.around lane.number) f)
     by_row_at few x reads f fits begun p stands = cases
       where
-        sited : IsSited scene lane (view_of x reads f.variables) memory aim.number place (plain.in_bank r bank at row) true
-        sited = subst (λ (n : ℕ). IsSited scene lane (view_of x reads f.variables) memory n place (plain.in_bank r bank at row) true) (sym (row_number few)) p.target_is.1.0
+        sited : IsSited scene lane (view_at_step x reads f.variables) memory aim.number place (plain.in_bank r bank at row) true
+        sited = subst (λ (n : ℕ). IsSited scene lane (view_at_step x reads f.variables) memory n place (plain.in_bank r bank at row) true) (sym (row_number few)) p.target_is.1.0
 
-        cases : (on : Bool) → is_on_at x lane.around lane.number ≡ on → Stands scene lane.around x reads new (run_if on (store_run scene x first access_row t) (path_in lane.around lane.number) f)
+        cases : (on : Bool) → is_on_at x lane.around lane.number ≡ on → StandsBeside scene lane.around x reads new (run_if on (store_run scene x first access_row t) (path_in lane.around lane.number) f)
         cases true on =
-            subst (λ (n : ℕ). Stands scene lane.around x reads new (stored_at (begun_of x) (reach_at place memory n) target_row (core_term (known_in scene) first t) (path_in lane.around lane.number) f)) (row_number few)
+            subst (λ (n : ℕ). StandsBeside scene lane.around x reads new (stored_at (begun_of x) (reach_at place memory n) target_row (core_term (known_in scene) first t) (path_in lane.around lane.number) f)) (row_number few)
             (stored_on scene lane old new d1 d2 d3 a1 a2 first t access_row own aim memory held target_row refl make _ _ (λ v. term_told scene lane v from_row row) same (fewer_row few) e (told_row few) (aims_row few) g w
             x reads f fits begun stands p.value (p.target_is.0.fair old.values.current.items stands.shows) sited on (p.target_is.0.sees on old.values.current.items stands.shows) p.target_is.1.1.0 p.target_is.1.1.1 (p.held on) refl)
         cases false off =
@@ -186,7 +186,7 @@ module _ (scene : Scene) (lane : Lane) (old new : Building) (d1 d2 d3 : Draft) (
 module _ (scene : Scene) (lane : Lane) (old new : Building) (d1 d2 d3 : Draft) (a1 a2 : Accesses) (first : ℕ) (t : plain.Term) (own : Valued) (aim : Aim) (memory held : ℕ)
     (same : new.values ≡ old.values) (e : EvaluatesTerm scene lane old.values.current.items old.draft d1 old.accesses a1 first t own) where
   abbrev GivesHeld : ℕ → Type 0
-  GivesHeld n = Gives d2 d3 held (λ x. held_shown t (entry_kind (slice_get (table_of (program_seen scene.program.now)) n)) (shown x own.value))
+  GivesHeld n = Gives d2 d3 held (λ x. held_shown t (entry_kind (slice_get (table_of (program_seen scene.program.now)) n)) (word_shown x own.value))
 
   pub stored_some : (target : plain.Term) → AimsAtTarget scene lane old.values.current.items d1 d2 a1 a2 own.next target (Some (aim, memory)) → GivesHeld memory
       → StoresAt scene lane d3 new.draft a2 new.accesses target memory aim held → StoresOne scene lane old new first (min (aim.number + 1) (2 ^ 32 - 1)) target t
@@ -204,7 +204,7 @@ module _ (scene : Scene) (lane : Lane) (old new : Building) (d1 d2 d3 : Draft) (
 
 -- A store of any other: no program does it. Its accesses have their numbers.
 aimed_none : (scene : Scene) (lane : Lane) (current : List (Option ℕ)) (d1 d2 : Draft) (a1 a2 : Accesses) (n : ℕ) (target : plain.Term) → AimsAtTarget scene lane current d1 d2 a1 a2 n target None
-    → ((d2 ≡ d1) × (a2 ≡ a1)) × ((x : Step) (reads : Reads) (variables : Variables) (m : ℕ) → FollowsTarget scene lane.around lane.number x reads variables m target → ⊥)
+    → ((d2 ≡ d1) × (a2 ≡ a1)) × ((x : BlockStep) (reads : StepReads) (variables : Variables) (m : ℕ) → FollowsTarget scene lane.around lane.number x reads variables m target → ⊥)
 aimed_none scene lane current d1 d2 a1 a2 n (plain.term place k (plain.accessed r ts)) h = absurd h
 aimed_none scene lane current d1 d2 a1 a2 n (plain.term place k (plain.in_bank r bank at row)) h = absurd h
 aimed_none scene lane current d1 d2 a1 a2 n (plain.term place k (plain.number negative z)) h = (h, λ x reads variables m f. f)
@@ -227,7 +227,7 @@ stored_none scene lane old new d a first next target t own same e m counted = re
   };
 }
   where
-    none : ((new.draft ≡ d) × (new.accesses ≡ a)) × ((x : Step) (reads : Reads) (variables : Variables) (m : ℕ) → FollowsTarget scene lane.around lane.number x reads variables m target → ⊥)
+    none : ((new.draft ≡ d) × (new.accesses ≡ a)) × ((x : BlockStep) (reads : StepReads) (variables : Variables) (m : ℕ) → FollowsTarget scene lane.around lane.number x reads variables m target → ⊥)
     none = aimed_none scene lane old.values.current.items d new.draft a new.accesses own.next target m
 
     fewer : first + (term_accesses t + term_accesses target) < 2 ^ 32 → first + term_accesses t < 2 ^ 32

@@ -9,24 +9,24 @@ use Rattle.dh_meaning.specs.Paths.{Path}
 use Rattle.dh_expressions.specs.declared.scenes.Around.{Around}
 use Rattle.dh_expressions.specs.declared.scenes.Scene.{Scene}
 use Rattle.dh_expressions.specs.declared.terms.Valued.{Valued}
-use Rattle.dh_expressions.specs.Drafted.{Begun, Fits, Step, shown}
-use Rattle.dh_expressions.specs.Evaluated.{Reads}
+use Rattle.dh_expressions.specs.Drafted.{BlockBegun, FitsStep, BlockStep, word_shown}
+use Rattle.dh_expressions.specs.Evaluated.{StepReads}
 use Rattle.dh_expressions.proofs.ListPlaces.{place_of_more, place_within}
 use Rattle.dh_expressions.proofs.Pushing.{begun_later, fits_before}
 use Rattle.dh_commands.specs.declared.buildings.Building.{Building}
 use Rattle.dh_commands.specs.LanesRun.{is_on_at, lane_of, lanes_run, path_in, paths_counted, run_if}
 use Rattle.dh_commands.specs.Followed.{Along, IsFollowedBy, test_run, value_at}
-use Rattle.dh_commands.specs.Done.{Stands}
+use Rattle.dh_commands.specs.Done.{StandsBeside}
 use Rattle.dh_commands.specs.Setting.{NoVariable, TestsFirst, TestsOne}
 use Rattle.dh_commands.proofs.PathsDone.{all_more, all_none}
 
 module _ (scene : Scene) (around : Around) (first : ℕ) (t : plain.Term) where
-  one_same : (x : Step) (b : Bool) (p : Path) (f : Effect) → (run_if b (test_run scene x first t) p f).variables ≡ f.variables
+  one_same : (x : BlockStep) (b : Bool) (p : Path) (f : Effect) → (run_if b (test_run scene x first t) p f).variables ≡ f.variables
   one_same x true p f = refl
   one_same x false p f = refl
 
   -- tests set no variable
-  pub tests_same : (x : Step) (n : ℕ) (e : Effect) → (lanes_run x around (test_run scene x first t) n e).variables ≡ e.variables
+  pub tests_same : (x : BlockStep) (n : ℕ) (e : Effect) → (lanes_run x around (test_run scene x first t) n e).variables ≡ e.variables
   tests_same x zero e = refl
   tests_same x (suc n) e = one_same x (is_on_at x around n) (path_in around n) (lanes_run x around (test_run scene x first t) n e) ∙ tests_same x n e
 
@@ -48,20 +48,20 @@ module _ (scene : Scene) (around : Around) (first : ℕ) (t : plain.Term) where
     are = λ few x reads e fits begun along stands number test less on at. by few x reads e fits begun along stands number test on at (place_of_more tests own.value test number at);
   }
     where
-      by : first + term_accesses t < 2 ^ 32 → (x : Step) (reads : Reads) (e : Effect) → Fits x c.draft → Begun x a.draft
-          → Along around x reads (IsFollowedBy scene around first t) (test_run scene x first t) e (suc n) → Stands scene around x reads a e
+      by : first + term_accesses t < 2 ^ 32 → (x : BlockStep) (reads : StepReads) (e : Effect) → FitsStep x c.draft → BlockBegun x a.draft
+          → Along around x reads (IsFollowedBy scene around first t) (test_run scene x first t) e (suc n) → StandsBeside scene around x reads a e
           → (number test : ℕ) → is_on_at x around number ≡ true → slice_get (tests ++ own.value ∷ []) number ≡ Some test
           → (slice_get tests number ≡ Some test) ⊎ ((number ≡ length tests) × (test ≡ own.value))
-          → shown x test ≡ value_at scene around x e.variables number first t
+          → word_shown x test ≡ value_at scene around x e.variables number first t
       by few x reads e fits begun along stands number test on at (inl found) =
           let inside = place_within tests number test found in
           let l = h.long in
           h.are few x reads e (fits_before b.draft c.draft x (one.does.so few within).extends fits) begun (λ i m. along i (omega (arith, m))) stands number test (omega (arith, inside, l)) on found
       by few x reads e fits begun along stands number test on at (inr last) =
           let is : number ≡ n = last.0 ∙ h.long in
-          let before : Stands scene around x reads b (lanes_run x around (test_run scene x first t) n e) =
+          let before : StandsBeside scene around x reads b (lanes_run x around (test_run scene x first t) n e) =
           (h.does.so few).so x reads e (fits_before b.draft c.draft x (one.does.so few within).extends fits) begun (λ i m. along i (omega (arith, m))) stands in
-          ap (λ k. shown x k) last.1
+          ap (λ k. word_shown x k) last.1
           ∙ (one.is few x reads (lanes_run x around (test_run scene x first t) n e) fits (begun_later a.draft b.draft x (h.does.so few).extends begun) (along n (omega arith)) before
           (ap (λ k. is_on_at x around k) (sym is) ∙ on)
           ∙ (ap (λ (vs : Variables). value_at scene around x vs n first t) (tests_same x n e)

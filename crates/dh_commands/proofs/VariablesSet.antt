@@ -16,15 +16,15 @@ use Rattle.dh_plan.proofs.SourceMoves.{same_is, same_self}
 use Rattle.dh_expressions.specs.declared.scenes.Around.{Around}
 use Rattle.dh_expressions.specs.declared.scenes.Lane.{Lane}
 use Rattle.dh_expressions.specs.declared.scenes.Scene.{Scene}
-use Rattle.dh_expressions.specs.Drafted.{Step, shown}
+use Rattle.dh_expressions.specs.Drafted.{BlockStep, word_shown}
 use Rattle.dh_expressions.specs.Evaluated.{counter_of, entity_shown, shown_by}
 use Rattle.dh_expressions.specs.Shown.{current_shown, guard_of, register_at, variable_shown}
 use Rattle.dh_expressions.proofs.ListPlaces.{set_here, set_other}
 use Rattle.dh_commands.specs.LanesRun.{is_on_at, lane_of, paths_counted}
-use Rattle.dh_commands.specs.ShownVariables.{IsSeen, IsTarget, Shows, ShowsAt, register_in, seen_path}
+use Rattle.dh_commands.specs.ShownVariables.{IsSeen, IsSetTarget, ShowsVariables, ShowsAt, register_in, seen_path}
 
 -- what is shown of a variable follows from what its register shows
-pub shown_alike : (x : Step) (o : Option Counter) (held : Held) (lane : Lane) (current more : List (Option ℕ)) (kind : Kind) → variable_shown x more (register_at held lane) ≡ variable_shown x current (register_at held lane)
+pub shown_alike : (x : BlockStep) (o : Option Counter) (held : Held) (lane : Lane) (current more : List (Option ℕ)) (kind : Kind) → variable_shown x more (register_at held lane) ≡ variable_shown x current (register_at held lane)
     → shown_by x o held lane more kind ≡ shown_by x o held lane current kind
 shown_alike x None held lane current more kind same = same
 shown_alike x (Some c) held lane current more kind same = refl
@@ -38,9 +38,9 @@ both_false true true h = absurd (h refl refl)
 both_false true false h = refl
 both_false false b h = refl
 
-module _ (scene : Scene) (around : Around) (x : Step) (current : List (Option ℕ)) (variables : Variables) (entity number value : ℕ) (z : ℤ)
-    (t : IsTarget scene around entity) (within : number < paths_counted around) (room : register_in scene around entity number < length current)
-    (shows : Shows scene around x current variables) where
+module _ (scene : Scene) (around : Around) (x : BlockStep) (current : List (Option ℕ)) (variables : Variables) (entity number value : ℕ) (z : ℤ)
+    (t : IsSetTarget scene around entity) (within : number < paths_counted around) (room : register_in scene around entity number < length current)
+    (shows : ShowsVariables scene around x current variables) where
   abbrev register : ℕ
   register = register_in scene around entity number
 
@@ -73,7 +73,7 @@ module _ (scene : Scene) (around : Around) (x : Step) (current : List (Option �
 
   -- the register that is set shows the value
   own_shown : (e j : ℕ) → e ≡ entity → register_in scene around e j ≡ register
-      → entity_shown scene (lane_of around j) after x e (held_at scene.held.now e).kind ≡ shown x value
+      → entity_shown scene (lane_of around j) after x e (held_at scene.held.now e).kind ≡ word_shown x value
   own_shown e j is same =
       ap (λ o. shown_by x o (held_at scene.held.now e) (lane_of around j) after (held_at scene.held.now e).kind) (ap (λ i. counter_of scene i) is ∙ t.no_counter)
       ∙ ap (λ o. current_shown x o (register_in scene around e j)) (ap (λ r. slice_get after r) same ∙ set_here current register (Some value) room)
@@ -84,7 +84,7 @@ module _ (scene : Scene) (around : Around) (x : Step) (current : List (Option �
       (ap (λ (b : Bool). b && same_path (seen_path scene around e j) (seen_path scene around entity number)) (eq-eqb e entity is)
       ∙ (ap (λ p. same_path p (seen_path scene around entity number)) path ∙ same_self (seen_path scene around entity number)))
 
-  pub shows_on : shown x value ≡ word_of (held_at scene.held.now entity).kind z → Shows scene around x after set
+  pub shows_on : word_shown x value ≡ word_of (held_at scene.held.now entity).kind z → ShowsVariables scene around x after set
   shows_on is = record { each = λ e j there inside on. by e j there inside on (cases_Bool (register_in scene around e j == register)) }
     where
       by : (e j : ℕ) → IsSeen scene around.levels.now e → j < paths_counted around → is_on_at x around j ≡ true
@@ -102,7 +102,7 @@ module _ (scene : Scene) (around : Around) (x : Step) (current : List (Option �
           ∙ (shows.each e j there inside on
           ∙ ap (λ w. word_of (held_at scene.held.now e).kind w) (sym (other_held e j there inside differ)))
 
-  pub shows_off : is_on_at x around number ≡ false → Shows scene around x after variables
+  pub shows_off : is_on_at x around number ≡ false → ShowsVariables scene around x after variables
   shows_off off = record { each = λ e j there inside on. other_shown e j (differ e j there inside on) ∙ shows.each e j there inside on }
     where
       differ : (e j : ℕ) → IsSeen scene around.levels.now e → j < paths_counted around → is_on_at x around j ≡ true → register_in scene around e j ≡ register → ⊥

@@ -7,38 +7,38 @@ use Rattle.dh_meaning.specs.Paths.{Path}
 use Rattle.dh_expressions.specs.declared.scenes.Around.{Around}
 use Rattle.dh_expressions.specs.declared.scenes.Lane.{Lane}
 use Rattle.dh_expressions.specs.declared.scenes.Scene.{Scene}
-use Rattle.dh_expressions.specs.Drafted.{Begun, Extends, Fits, Step, tale, told}
-use Rattle.dh_expressions.specs.Evaluated.{Knows, Reads}
+use Rattle.dh_expressions.specs.Drafted.{BlockBegun, Extends, FitsStep, BlockStep, tale, tales_told}
+use Rattle.dh_expressions.specs.Evaluated.{Knows, StepReads}
 use Rattle.dh_commands.specs.declared.buildings.Building.{Building}
 use Rattle.dh_commands.specs.LanesRun.{is_on_at, lanes_run, path_in, paths_counted, paths_on, run_if}
-use Rattle.dh_commands.specs.ShownVariables.{IsSeen, Shows, register_in}
+use Rattle.dh_commands.specs.ShownVariables.{IsSeen, ShowsVariables, register_in}
 use Rattle.dh_commands.specs.Undone.{AreReady, Changes}
-use Rattle.dh_commands.specs.Followed.{Along, Arms, FitArms, Follows, Sets, effect_of, view_of}
+use Rattle.dh_commands.specs.Followed.{Along, Arms, FitArms, Follows, Sets, effect_of, view_at_step}
 
 -- Beside a program that has come so far in this step: what is noted of reads is known, variables show what the
 -- program's hold, the tale is that of its events, each copy of a variable has a register, and no choice is marked.
-pub record Stands (scene : Scene) (around : Around) (x : Step) (reads : Reads) (b : Building) (e : Effect) : Type 0 where
-  pub knows : (variables : Variables) → Knows (view_of x reads variables) b.accesses
-  pub shows : Shows scene around x b.values.current.items e.variables
-  pub tells : tale x b.draft ≡ told e.events
+pub record StandsBeside (scene : Scene) (around : Around) (x : BlockStep) (reads : StepReads) (b : Building) (e : Effect) : Type 0 where
+  pub knows : (variables : Variables) → Knows (view_at_step x reads variables) b.accesses
+  pub shows : ShowsVariables scene around x b.values.current.items e.variables
+  pub tells : tale x b.draft ≡ tales_told e.events
   pub room : (entity number : ℕ) → IsSeen scene around.levels.now entity → number < paths_counted around → register_in scene around entity number < length b.values.current.items
   pub ready : AreReady b.values
 
 -- from one building to another what stood beside an effect stands beside what a run makes of it
-pub record Does (scene : Scene) (around : Around) (May : ℕ → Type 0) (Premise : Step → Reads → Effect → Type 0) (run : Step → Effect → Effect) (old new : Building) : Type 0 where
+pub record Does (scene : Scene) (around : Around) (May : ℕ → Type 0) (Premise : BlockStep → StepReads → Effect → Type 0) (run : BlockStep → Effect → Effect) (old new : Building) : Type 0 where
   pub extends : Extends old.draft new.draft
   pub changes : AreReady old.values → Changes scene around May old.values new.values
-  pub so : (x : Step) (reads : Reads) (e : Effect) → Fits x new.draft → Begun x old.draft → Premise x reads e
-      → Stands scene around x reads old e → Stands scene around x reads new (run x e)
+  pub so : (x : BlockStep) (reads : StepReads) (e : Effect) → FitsStep x new.draft → BlockBegun x old.draft → Premise x reads e
+      → StandsBeside scene around x reads old e → StandsBeside scene around x reads new (run x e)
 
 -- at one path, where its guard holds
-abbrev pub DoesPath : Scene → Around → (May : ℕ → Type 0) → (Premise : ℕ → Step → Reads → Variables → Type 0) → (run : Step → Path → Effect → Effect) → (number : ℕ) → (old new : Building) → Type 0
+abbrev pub DoesPath : Scene → Around → (May : ℕ → Type 0) → (Premise : ℕ → BlockStep → StepReads → Variables → Type 0) → (run : BlockStep → Path → Effect → Effect) → (number : ℕ) → (old new : Building) → Type 0
 DoesPath scene around May Premise run number old new =
     number < paths_counted around
     → Does scene around May (λ x reads e. Premise number x reads e.variables) (λ x e. run_if (is_on_at x around number) (run x) (path_in around number) e) old new
 
 -- at the first paths, so many
-abbrev pub DoesPaths : Scene → Around → (May : ℕ → Type 0) → (Premise : ℕ → Step → Reads → Variables → Type 0) → (run : Step → Path → Effect → Effect) → (count : ℕ) → (old new : Building) → Type 0
+abbrev pub DoesPaths : Scene → Around → (May : ℕ → Type 0) → (Premise : ℕ → BlockStep → StepReads → Variables → Type 0) → (run : BlockStep → Path → Effect → Effect) → (count : ℕ) → (old new : Building) → Type 0
 DoesPaths scene around May Premise run count old new =
     Does scene around May (λ x reads e. Along around x reads Premise (run x) e count) (λ x e. lanes_run x around (run x) count e) old new
 
@@ -47,11 +47,11 @@ abbrev pub IsNext : (first count next : ℕ) → Type 0
 IsNext first count next = first + count < 2 ^ 32 → next ≡ first + count
 
 -- a command of which each path makes so many accesses, from a first one on: at one path, and at the first so many
-pub record DoesOne (scene : Scene) (lane : Lane) (May : ℕ → Type 0) (Premise : ℕ → Step → Reads → Variables → Type 0) (run : Step → Path → Effect → Effect) (first count next : ℕ) (old new : Building) : Type 0 where
+pub record DoesOne (scene : Scene) (lane : Lane) (May : ℕ → Type 0) (Premise : ℕ → BlockStep → StepReads → Variables → Type 0) (run : BlockStep → Path → Effect → Effect) (first count next : ℕ) (old new : Building) : Type 0 where
   pub next_is : IsNext first count next
   pub so : first + count < 2 ^ 32 → DoesPath scene lane.around May Premise run lane.number old new
 
-pub record DoesAll (scene : Scene) (around : Around) (May : ℕ → Type 0) (Premise : ℕ → Step → Reads → Variables → Type 0) (run : Step → Path → Effect → Effect) (first count next paths : ℕ) (old new : Building) : Type 0 where
+pub record DoesAll (scene : Scene) (around : Around) (May : ℕ → Type 0) (Premise : ℕ → BlockStep → StepReads → Variables → Type 0) (run : BlockStep → Path → Effect → Effect) (first count next paths : ℕ) (old new : Building) : Type 0 where
   pub next_is : 0 < paths → IsNext first count next
   pub so : first + count < 2 ^ 32 → DoesPaths scene around May Premise run paths old new
 

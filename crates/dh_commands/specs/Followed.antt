@@ -31,24 +31,24 @@ use Rattle.dh_tree.specs.Kinds.{same_kind}
 use Rattle.dh_code.specs.Slots.{held_at}
 use Rattle.dh_expressions.specs.declared.scenes.Around.{Around}
 use Rattle.dh_expressions.specs.declared.scenes.Scene.{Scene}
-use Rattle.dh_expressions.specs.Drafted.{Step}
-use Rattle.dh_expressions.specs.Evaluated.{Fair, FairAll, IsSited, NamesSmallBank, Reads, Sees, SeesAll, SeesWay, View, begun_of, known_in}
+use Rattle.dh_expressions.specs.Drafted.{BlockStep}
+use Rattle.dh_expressions.specs.Evaluated.{Fair, FairAll, IsSited, NamesSmallBank, StepReads, Sees, SeesAll, SeesWay, View, begun_of, known_in}
 use Rattle.dh_expressions.specs.Shown.{extended_shown, held_shown}
 use Rattle.dh_commands.specs.LanesRun.{IsArm, is_on_at, lane_of, lanes_run, path_in, paths_counted, paths_on}
-use Rattle.dh_commands.specs.ShownVariables.{AreBoundAt, AreTargets, IsOwn, IsTarget, Shows, depth_in}
-use Rattle.dh_commands.specs.Keeping.{HeldFrom, words_of}
+use Rattle.dh_commands.specs.ShownVariables.{AreBoundAt, AreTargets, HasOwnCopies, IsSetTarget, ShowsVariables, depth_in}
+use Rattle.dh_commands.specs.Keeping.{HeldFrom, term_words}
 
-abbrev pub view_of : Step → Reads → Variables → View
-view_of x reads variables = record { step = x; variables = variables; reads = reads }
+abbrev pub view_at_step : BlockStep → StepReads → Variables → View
+view_at_step x reads variables = record { step = x; variables = variables; reads = reads }
 
 -- An expression at one path.
 
-pub record IsFollowed (scene : Scene) (around : Around) (x : Step) (reads : Reads) (variables : Variables) (number n : ℕ) (t : plain.Term) : Type 0 where
-  pub fair : (current : List (Option ℕ)) → Shows scene around x current variables → Fair scene (lane_of around number) current (view_of x reads variables) n t
-  pub sees : is_on_at x around number ≡ true → (current : List (Option ℕ)) → Shows scene around x current variables → Sees scene (lane_of around number) current (view_of x reads variables) n t
+pub record IsFollowed (scene : Scene) (around : Around) (x : BlockStep) (reads : StepReads) (variables : Variables) (number n : ℕ) (t : plain.Term) : Type 0 where
+  pub fair : (current : List (Option ℕ)) → ShowsVariables scene around x current variables → Fair scene (lane_of around number) current (view_at_step x reads variables) n t
+  pub sees : is_on_at x around number ≡ true → (current : List (Option ℕ)) → ShowsVariables scene around x current variables → Sees scene (lane_of around number) current (view_at_step x reads variables) n t
 
 -- its value at a path
-abbrev pub value_at : Scene → Around → Step → Variables → (number n : ℕ) → plain.Term → Word
+abbrev pub value_at : Scene → Around → BlockStep → Variables → (number n : ℕ) → plain.Term → Word
 value_at scene around x variables number n t = value_of (begun_of x) variables (path_in around number) (core_term (known_in scene) n t)
 
 -- What the operations of a reducer show.
@@ -80,8 +80,8 @@ reduced_term scene r op n t =
 
 module _ (scene : Scene) (around : Around) where
   -- an assignment of an expression
-  pub record FollowsAssigned (entity n : ℕ) (t : plain.Term) (number : ℕ) (x : Step) (reads : Reads) (variables : Variables) : Type 0 where
-    pub target : IsTarget scene around entity
+  pub record FollowsAssigned (entity n : ℕ) (t : plain.Term) (number : ℕ) (x : BlockStep) (reads : StepReads) (variables : Variables) : Type 0 where
+    pub target : IsSetTarget scene around entity
     pub value : IsFollowed scene around x reads variables number n t
     pub held : is_on_at x around number ≡ true
         → held_shown t (held_at scene.held.now entity).kind (value_at scene around x variables number n t)
@@ -89,33 +89,33 @@ module _ (scene : Scene) (around : Around) where
 
   -- a `let` without a right side, of a kind
   pub record FollowsCleared (entity : ℕ) : Type 0 where
-    pub target : IsTarget scene around entity
+    pub target : IsSetTarget scene around entity
     pub sized : IsKind (held_at scene.held.now entity).kind
 
   abbrev pub old_word : (entity number : ℕ) → Variables → Word
   old_word entity number variables = word_of (held_at scene.held.now entity).kind (variables entity (take (depth_in scene entity) (path_in around number)))
 
-  pub record FollowsReduced (r : Ref) (op : Op) (n : ℕ) (t : plain.Term) (number : ℕ) (x : Step) (reads : Reads) (variables : Variables) : Type 0 where
-    pub target : IsTarget scene around (entity_number r.entity)
+  pub record FollowsReduced (r : Ref) (op : Op) (n : ℕ) (t : plain.Term) (number : ℕ) (x : BlockStep) (reads : StepReads) (variables : Variables) : Type 0 where
+    pub target : IsSetTarget scene around (entity_number r.entity)
     pub value : IsFollowed scene around x reads variables number n t
     pub held : is_on_at x around number ≡ true
         → reduced_shown scene (entity_number r.entity) op t (old_word (entity_number r.entity) number variables) (value_at scene around x variables number n t)
         ≡ word_of (held_at scene.held.now (entity_number r.entity)).kind (words.value_of (value_of (begun_of x) variables (path_in around number) (reduced_term scene r op n t)))
 
   -- the indices or the row of a store's target, and where its write stands; no text has a target that is no access
-  module _ (number : ℕ) (x : Step) (reads : Reads) (variables : Variables) where
+  module _ (number : ℕ) (x : BlockStep) (reads : StepReads) (variables : Variables) where
     abbrev pub Written : (n memory : ℕ) → Place → plain.TermForm → Type 0
     Written own memory place form =
-        IsSited scene (lane_of around number) (view_of x reads variables) memory own place form true × ((memory < 2 ^ 32) × NamesSmallBank form)
+        IsSited scene (lane_of around number) (view_at_step x reads variables) memory own place form true × ((memory < 2 ^ 32) × NamesSmallBank form)
 
     pub record FollowsIndices (n : ℕ) (ts : plain.Terms) : Type 0 where
-      pub fair : (current : List (Option ℕ)) → Shows scene around x current variables → FairAll scene (lane_of around number) current (view_of x reads variables) n ts
-      pub sees : is_on_at x around number ≡ true → (current : List (Option ℕ)) → Shows scene around x current variables → SeesAll scene (lane_of around number) current (view_of x reads variables) n ts
+      pub fair : (current : List (Option ℕ)) → ShowsVariables scene around x current variables → FairAll scene (lane_of around number) current (view_at_step x reads variables) n ts
+      pub sees : is_on_at x around number ≡ true → (current : List (Option ℕ)) → ShowsVariables scene around x current variables → SeesAll scene (lane_of around number) current (view_at_step x reads variables) n ts
 
     -- indices of what a name stands for: what keeps the offsets on its way shows them
     pub record FollowsNamed (n : ℕ) (r : Ref) (ts : plain.Terms) : Type 0 where
       pub indices : FollowsIndices n ts
-      pub way : is_on_at x around number ≡ true → (current : List (Option ℕ)) → Shows scene around x current variables → SeesWay scene (lane_of around number) current (view_of x reads variables) r
+      pub way : is_on_at x around number ≡ true → (current : List (Option ℕ)) → ShowsVariables scene around x current variables → SeesWay scene (lane_of around number) current (view_at_step x reads variables) r
 
     abbrev pub FollowsTarget : (n : ℕ) → plain.Term → Type 0
     FollowsTarget n (plain.term place k (plain.accessed r ts)) =
@@ -143,27 +143,27 @@ module _ (scene : Scene) (around : Around) where
   KeptWord (Some memory) t w table =
       (held_shown t (entry_kind (slice_get (table_of (program_seen scene.program.now)) memory)) w).bits ≡ kept_bits table memory w
 
-  pub record FollowsStored (n : ℕ) (target t : plain.Term) (number : ℕ) (x : Step) (reads : Reads) (variables : Variables) : Type 0 where
+  pub record FollowsStored (n : ℕ) (target t : plain.Term) (number : ℕ) (x : BlockStep) (reads : StepReads) (variables : Variables) : Type 0 where
     pub value : IsFollowed scene around x reads variables number n t
     pub target_is : FollowsTarget number x reads variables (n + term_accesses t) target
     pub held : is_on_at x around number ≡ true
         → KeptWord (memory_aimed (form_of target)) t (value_at scene around x variables number n t) x.start.table
 
   -- a view that keeps its offsets, the first of them in this variable
-  pub record FollowsKept (h : Hidden) (n : ℕ) (offsets : List plain.Term) (number : ℕ) (x : Step) (reads : Reads) (variables : Variables) : Type 0 where
+  pub record FollowsKept (h : Hidden) (n : ℕ) (offsets : List plain.Term) (number : ℕ) (x : BlockStep) (reads : StepReads) (variables : Variables) : Type 0 where
     pub targets : AreTargets scene around h.entity (length offsets)
     pub bound : AreBoundAt scene h.depth h.entity (length offsets)
     pub values : FollowsIndices number x reads variables n (terms offsets)
-    pub held : is_on_at x around number ≡ true → HeldFrom scene h.entity offsets (words_of (begun_of x) variables (path_in around number) (core_terms (known_in scene) n (terms offsets)))
+    pub held : is_on_at x around number ≡ true → HeldFrom scene h.entity offsets (term_words (begun_of x) variables (path_in around number) (core_terms (known_in scene) n (terms offsets)))
 
 -- a test
-abbrev pub IsFollowedBy : Scene → Around → (n : ℕ) → plain.Term → (number : ℕ) → Step → Reads → Variables → Type 0
+abbrev pub IsFollowedBy : Scene → Around → (n : ℕ) → plain.Term → (number : ℕ) → BlockStep → StepReads → Variables → Type 0
 IsFollowedBy scene around n t number x reads variables = IsFollowed scene around x reads variables number n t
 
 -- Commands at all paths.
 
 -- the premise of each path, along a run through the paths before it
-abbrev pub Along : Around → Step → Reads → (Premise : ℕ → Step → Reads → Variables → Type 0) → (run : Path → Effect → Effect) → Effect → (count : ℕ) → Type 0
+abbrev pub Along : Around → BlockStep → StepReads → (Premise : ℕ → BlockStep → StepReads → Variables → Type 0) → (run : Path → Effect → Effect) → Effect → (count : ℕ) → Type 0
 Along around x reads Premise run e count = (number : ℕ) → number < count → Premise number x reads (lanes_run x around run number e).variables
 
 -- what stands round the arms of each `if` of a command, as its parts stand
@@ -209,16 +209,16 @@ abbrev mutual
   FitPart (action_then a rest) (arms_then first behind) = FitArms a first × FitPart rest behind
 
 -- the effect of a command at these paths, and of parts
-abbrev pub effect_of : Scene → Step → (paths : List Path) → (n : ℕ) → Action → Effect → Effect
+abbrev pub effect_of : Scene → BlockStep → (paths : List Path) → (n : ℕ) → Action → Effect → Effect
 effect_of scene x paths n a e = commands_run (begun_of x) paths (core_action (known_in scene) n a no_commands) e
 
-abbrev pub other_effect : Scene → Step → (paths : List Path) → (n : ℕ) → MaybeAction → Effect → Effect
+abbrev pub other_effect : Scene → BlockStep → (paths : List Path) → (n : ℕ) → MaybeAction → Effect → Effect
 other_effect scene x paths n a e = commands_run (begun_of x) paths (core_other (known_in scene) n a) e
 
-abbrev pub part_effect : Scene → Step → (paths : List Path) → (n : ℕ) → Actions → Effect → Effect
+abbrev pub part_effect : Scene → BlockStep → (paths : List Path) → (n : ℕ) → Actions → Effect → Effect
 part_effect scene x paths n cs e = commands_run (begun_of x) paths (core_part (known_in scene) n cs no_commands) e
 
-abbrev pub groups_effect : Scene → Step → (paths : List Path) → (n : ℕ) → Groups → Effect → Effect
+abbrev pub groups_effect : Scene → BlockStep → (paths : List Path) → (n : ℕ) → Groups → Effect → Effect
 groups_effect scene x paths n gs e = commands_run (begun_of x) paths (core_groups (known_in scene) n gs no_commands) e
 
 -- a command may set a variable
@@ -265,12 +265,12 @@ abbrev mutual
 
 -- the variables that arms set are others at each path, and views in them keep offsets where they stand
 pub record AreOwn (scene : Scene) (around : Around) (chosen : Action) (other : MaybeAction) : Type 0 where
-  pub own : (entity : ℕ) → Sets scene chosen entity ⊎ SetsOther scene other entity → IsOwn scene around entity
+  pub own : (entity : ℕ) → Sets scene chosen entity ⊎ SetsOther scene other entity → HasOwnCopies scene around entity
   pub chosen_deep : KeepsDeep scene chosen
   pub other_deep : KeepsDeepOther scene other
 
 -- At one path.
-module _ (scene : Scene) (x : Step) where
+module _ (scene : Scene) (x : BlockStep) where
   abbrev pub term_in : (n : ℕ) → plain.Term → CoreTerm
   term_in n t = core_term (known_in scene) n t
 
@@ -302,7 +302,7 @@ module _ (scene : Scene) (x : Step) where
   abbrev pub tested : Around → (n : ℕ) → plain.Term → Effect → Effect
   tested around n t e = lanes_run x around (test_run n t) (paths_counted around) e
 
-module _ (scene : Scene) (x : Step) (reads : Reads) where
+module _ (scene : Scene) (x : BlockStep) (reads : StepReads) where
   abbrev pub FollowsLet : Around → (n : ℕ) → Ref → Option Kind → Option plain.Term → Effect → Type 0
   FollowsLet around n r declared None e = FollowsCleared scene around (entity_number r.entity) × (kind_or_first declared ≡ (held_at scene.held.now (entity_number r.entity)).kind)
   FollowsLet around n r declared (Some t) e =

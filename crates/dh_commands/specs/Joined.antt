@@ -51,8 +51,8 @@ all_unmarked [] marks = marks
 all_unmarked (c ∷ cs) marks = all_unmarked cs (slice_set marks c.register 0)
 
 -- no two choices are of one register
-abbrev pub AreApart : List Choice → Type 0
-AreApart choices = (k m : ℕ) (c d : Choice) → slice_get choices k ≡ Some c → slice_get choices m ≡ Some d → c.register ≡ d.register → k ≡ m
+abbrev pub AreApartChoices : List Choice → Type 0
+AreApartChoices choices = (k m : ℕ) (c d : Choice) → slice_get choices k ≡ Some c → slice_get choices m ≡ Some d → c.register ≡ d.register → k ≡ m
 
 -- The variables that arms left, each once.
 pub record AreChoices (chosen other : List Left) (choices : List Choice) : Type 0 where
@@ -60,7 +60,7 @@ pub record AreChoices (chosen other : List Left) (choices : List Choice) : Type 
   -- each stands at the path at which its register was left
   pub left : (k : ℕ) (c : Choice) → slice_get choices k ≡ Some c
       → (l : Left) × ((l.path ≡ c.path) × ((first_left chosen c.register ≡ Some l) ⊎ (first_left other c.register ≡ Some l)))
-  pub one : AreApart choices
+  pub one : AreApartChoices choices
   pub all : (register : ℕ) (l : Left) → (first_left chosen register ≡ Some l) ⊎ (first_left other register ≡ Some l)
       → (k : ℕ) × ((c : Choice) × ((slice_get choices k ≡ Some c) × (c.register ≡ register)))
 

@@ -16,7 +16,7 @@ use Rattle.dh_expressions.specs.declared.accesses.Accesses.{Accesses}
 use Rattle.dh_expressions.specs.declared.drafts.Draft.{Draft}
 use Rattle.dh_expressions.specs.declared.scenes.Lane.{Lane}
 use Rattle.dh_expressions.specs.declared.scenes.Scene.{Scene}
-use Rattle.dh_expressions.specs.Drafted.{Begun, Extends, Fits, fails_to_hold, holds, shown, tale, told}
+use Rattle.dh_expressions.specs.Drafted.{BlockBegun, Extends, FitsStep, fails_to_hold, holds, word_shown, tale, tales_told}
 use Rattle.dh_expressions.specs.Evaluated.{FairAll, Knows, SeesAll, View, begun_of, known_in, lane_guard, lane_path, terms_told}
 use Rattle.dh_expressions.specs.Shown.{held_shown}
 
@@ -25,20 +25,20 @@ abbrev pub paired : List (ℕ × Expr) → List plain.Term
 paired by = map (λ p. term_seen p.1) by
 
 -- the words of terms at a path
-abbrev pub words_of : Start → Variables → Path → CoreTerms → List Word
-words_of b v path no_terms = []
-words_of b v path (term_and t ts) = value_of b v path t ∷ words_of b v path ts
+abbrev pub term_words : Start → Variables → Path → CoreTerms → List Word
+term_words b v path no_terms = []
+term_words b v path (term_and t ts) = value_of b v path t ∷ term_words b v path ts
 
 abbrev pub terms_words : Scene → Lane → View → (n : ℕ) → plain.Terms → List Word
-terms_words scene lane v n ts = words_of (begun_of v.step) v.variables (lane_path lane) (core_terms (known_in scene) n ts)
+terms_words scene lane v n ts = term_words (begun_of v.step) v.variables (lane_path lane) (core_terms (known_in scene) n ts)
 
 -- Operations that give several words where `Fair` and `Sees` hold, and tell these events under the guard.
 pub record GivesWords (guard : Option ℕ) (old new : Draft) (before after : Accesses) (values : List ℕ) (Fair Sees : View → Type 0) (all : View → List Word) (events : View → List Event) : Type 0 where
   pub extends : Extends old new
-  pub knows : (v : View) → Fits v.step new → Begun v.step old → Knows v before → Fair v → Knows v after
-  pub are : (v : View) → Fits v.step new → Begun v.step old → Knows v before → Fair v → Sees v → map (λ n. shown v.step n) values ≡ all v
-  pub tells : (v : View) → Fits v.step new → Begun v.step old → Knows v before → Fair v → Sees v → holds v.step guard → tale v.step new ≡ tale v.step old ++ told (events v)
-  pub quiet : (v : View) → Fits v.step new → Begun v.step old → fails_to_hold v.step guard → tale v.step new ≡ tale v.step old
+  pub knows : (v : View) → FitsStep v.step new → BlockBegun v.step old → Knows v before → Fair v → Knows v after
+  pub are : (v : View) → FitsStep v.step new → BlockBegun v.step old → Knows v before → Fair v → Sees v → map (λ n. word_shown v.step n) values ≡ all v
+  pub tells : (v : View) → FitsStep v.step new → BlockBegun v.step old → Knows v before → Fair v → Sees v → holds v.step guard → tale v.step new ≡ tale v.step old ++ tales_told (events v)
+  pub quiet : (v : View) → FitsStep v.step new → BlockBegun v.step old → fails_to_hold v.step guard → tale v.step new ≡ tale v.step old
 
 -- offsets whose accesses are numbered from n on, with the number of the next access
 pub record EvaluatesWords (scene : Scene) (lane : Lane) (current : List (Option ℕ)) (old new : Draft) (before after : Accesses) (n : ℕ) (offsets : List plain.Term) (values : List ℕ) (next : ℕ) : Type 0 where

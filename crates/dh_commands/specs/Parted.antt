@@ -9,7 +9,7 @@ use Rattle.dh_meaning.specs.Levels.{any_assigns}
 use Rattle.dh_meaning.specs.Paths.{Path}
 use Rattle.dh_expressions.specs.declared.scenes.Around.{Around}
 use Rattle.dh_expressions.specs.declared.scenes.Scene.{Scene}
-use Rattle.dh_expressions.specs.Drafted.{Begun, Fits, Step, shown}
+use Rattle.dh_expressions.specs.Drafted.{BlockBegun, FitsStep, BlockStep, word_shown}
 use Rattle.dh_expressions.specs.Evaluated.{known_in}
 use Rattle.dh_commands.specs.declared.buildings.Building.{Building}
 use Rattle.dh_commands.specs.declared.assignments.Values.{Values}
@@ -23,9 +23,9 @@ use Rattle.dh_commands.specs.Choosing.{Chooses}
 use Rattle.dh_commands.specs.Done.{Does, IsNext}
 
 -- the values of a test show its truths, at each path where the guard holds
-abbrev pub ShowsTests : Step → Around → (tests : List ℕ) → (truths : Path → Truth) → Type 0
+abbrev pub ShowsTests : BlockStep → Around → (tests : List ℕ) → (truths : Path → Truth) → Type 0
 ShowsTests x around tests truths =
-    (number test : ℕ) → number < paths_counted around → is_on_at x around number ≡ true → slice_get tests number ≡ Some test → is_true (shown x test) ≡ truths (path_in around number)
+    (number test : ℕ) → number < paths_counted around → is_on_at x around number ≡ true → slice_get tests number ≡ Some test → is_true (word_shown x test) ≡ truths (path_in around number)
 
 -- A command as an arm of an `if`, where its test comes out so. What it assigned is taken back, and left behind.
 pub record DoesArm (scene : Scene) (around : Around) (tests : List ℕ) (holds : Truth) (a : Action) (first next : ℕ) (old new : Building) (lefts : List Left) : Type 0 where
@@ -37,7 +37,7 @@ pub record DoesArm (scene : Scene) (around : Around) (tests : List ℕ) (holds :
   pub shaped : FitArms a arms
   -- as the arm ends
   pub inside : Building
-  pub is_arm : 0 < length tests → first + accesses_of a < 2 ^ 32 → length tests ≡ paths_counted around → (x : Step) → Fits x inside.draft → Begun x old.draft → (truths : Path → Truth) → ShowsTests x around tests truths → IsArm x around arm holds truths
+  pub is_arm : 0 < length tests → first + accesses_of a < 2 ^ 32 → length tests ≡ paths_counted around → (x : BlockStep) → FitsStep x inside.draft → BlockBegun x old.draft → (truths : Path → Truth) → ShowsTests x around tests truths → IsArm x around arm holds truths
   pub so : 0 < length tests → first + accesses_of a < 2 ^ 32
       → Does scene arm (Sets scene a) (λ x reads e. Follows scene x reads arm arms first a e) (λ x e. effect_of scene x (paths_on x arm) first a e) old inside
   pub draft : new.draft ≡ inside.draft

@@ -19,8 +19,8 @@ use Rattle.dh_expressions.specs.declared.scenes.Around.{Around}
 use Rattle.dh_expressions.specs.declared.scenes.Lane.{Lane}
 use Rattle.dh_expressions.specs.declared.scenes.Scene.{Scene}
 use Rattle.dh_expressions.specs.declared.terms.Valued.{Valued}
-use Rattle.dh_expressions.specs.Drafted.{Begun, Fits, Gives, Step, shown}
-use Rattle.dh_expressions.specs.Evaluated.{AimsByRow, AimsThrough, Reads, begun_of, known_in}
+use Rattle.dh_expressions.specs.Drafted.{BlockBegun, FitsStep, Gives, BlockStep, word_shown}
+use Rattle.dh_expressions.specs.Evaluated.{AimsByRow, AimsThrough, StepReads, begun_of, known_in}
 use Rattle.dh_expressions.specs.Shown.{register_at, variable_shown}
 use Rattle.dh_commands.specs.declared.assignments.Values.{Values}
 use Rattle.dh_commands.specs.declared.buildings.Building.{Building}
@@ -28,7 +28,7 @@ use Rattle.dh_commands.specs.LanesRun.{is_on_at, paths_counted}
 use Rattle.dh_commands.specs.ShownVariables.{depth_in}
 use Rattle.dh_commands.specs.Undone.{Assigns}
 use Rattle.dh_commands.specs.Followed.{Along, FollowsAssigned, FollowsCleared, FollowsKept, FollowsReduced, FollowsStored, IsFollowedBy, kept_run, reduced_shown, reduced_term, store_run, test_run, value_at}
-use Rattle.dh_commands.specs.Done.{DoesAll, DoesOne, Stands}
+use Rattle.dh_commands.specs.Done.{DoesAll, DoesOne, StandsBeside}
 
 -- a variable is given a value at a path
 abbrev pub SetsAt : Scene → Lane → (old new : Values) → (entity value : ℕ) → Type 0
@@ -40,7 +40,7 @@ SetsFrom scene lane old new first [] = new ≡ old
 SetsFrom scene lane old new first (v ∷ vs) = (middle : Values) × (SetsAt scene lane old middle first v × SetsFrom scene lane middle new (suc first) vs)
 
 -- a variable is set to the value of an expression
-abbrev pub assigned_run : Scene → (entity : ℕ) → CoreTerm → Step → Path → Effect → Effect
+abbrev pub assigned_run : Scene → (entity : ℕ) → CoreTerm → BlockStep → Path → Effect → Effect
 assigned_run scene entity t x = assigned_at (begun_of x) (depth_in scene entity) entity t
 
 abbrev pub AssignsOne : Scene → Lane → (old new : Building) → (first next entity : ℕ) → plain.Term → Type 0
@@ -58,7 +58,7 @@ AssignsAll scene around old new first next entity t = AssignsFirst scene around 
 abbrev pub zero_of : Scene → (entity : ℕ) → CoreTerm
 zero_of scene entity = literal (held_at scene.held.now entity).kind false 0
 
-abbrev pub clears_at : Scene → Around → (entity number : ℕ) → Step → Reads → Variables → Type 0
+abbrev pub clears_at : Scene → Around → (entity number : ℕ) → BlockStep → StepReads → Variables → Type 0
 clears_at scene around entity number x reads variables = FollowsCleared scene around entity
 
 abbrev pub ClearsOne : Scene → Lane → (old new : Building) → (entity : ℕ) → Type 0
@@ -87,20 +87,20 @@ ReducesAll scene around old new first next r op t = ReducesFirst scene around ol
 -- what a reducer puts together, from its variable and its value
 abbrev pub GivesReduced : Scene → Lane → (current : List (Option ℕ)) → (old new : Draft) → (value made entity : ℕ) → Op → plain.Term → Type 0
 GivesReduced scene lane current old new value made entity op t =
-    Gives old new made (λ x. reduced_shown scene entity op t (variable_shown x current (register_at (held_at scene.held.now entity) lane)) (shown x value))
+    Gives old new made (λ x. reduced_shown scene entity op t (variable_shown x current (register_at (held_at scene.held.now entity) lane)) (word_shown x value))
 
 -- one of these variables, so many
-abbrev pub IsAmong : (first count entity : ℕ) → Type 0
-IsAmong first count entity = (first ≤ entity) × (entity < first + count)
+abbrev pub IsVariableAmong : (first count entity : ℕ) → Type 0
+IsVariableAmong first count entity = (first ≤ entity) × (entity < first + count)
 
 -- a view keeps its offsets, the first of them in this variable
 abbrev pub KeepsOne : Scene → Lane → (old new : Building) → (first next : ℕ) → Hidden → (offsets : List plain.Term) → Type 0
 KeepsOne scene lane old new first next h offsets =
-    DoesOne scene lane (λ e. IsAmong h.entity (length offsets) e) (FollowsKept scene lane.around h first offsets) (λ x. kept_run scene x h first offsets) first (terms_accesses (terms offsets)) next old new
+    DoesOne scene lane (λ e. IsVariableAmong h.entity (length offsets) e) (FollowsKept scene lane.around h first offsets) (λ x. kept_run scene x h first offsets) first (terms_accesses (terms offsets)) next old new
 
 abbrev pub KeepsFirst : Scene → Around → (old new : Building) → (first next : ℕ) → Hidden → (offsets : List plain.Term) → (paths : ℕ) → Type 0
 KeepsFirst scene around old new first next h offsets paths =
-    DoesAll scene around (λ e. IsAmong h.entity (length offsets) e) (FollowsKept scene around h first offsets) (λ x. kept_run scene x h first offsets) first (terms_accesses (terms offsets)) next paths old new
+    DoesAll scene around (λ e. IsVariableAmong h.entity (length offsets) e) (FollowsKept scene around h first offsets) (λ x. kept_run scene x h first offsets) first (terms_accesses (terms offsets)) next paths old new
 
 abbrev pub KeepsAll : Scene → Around → (old new : Building) → (first next : ℕ) → Hidden → (offsets : List plain.Term) → Type 0
 KeepsAll scene around old new first next h offsets = KeepsFirst scene around old new first next h offsets (paths_counted around)
@@ -145,10 +145,10 @@ AimsAtTarget scene lane current old new before after n target aimed = AimsForm s
 pub record TestsFirst (scene : Scene) (around : Around) (old new : Building) (first next : ℕ) (t : plain.Term) (tests : List ℕ) (paths : ℕ) : Type 0 where
   pub does : DoesAll scene around NoVariable (IsFollowedBy scene around first t) (λ x. test_run scene x first t) first (term_accesses t) next paths old new
   pub long : length tests ≡ paths
-  pub are : first + term_accesses t < 2 ^ 32 → (x : Step) (reads : Reads) (e : Effect) → Fits x new.draft → Begun x old.draft
-      → Along around x reads (IsFollowedBy scene around first t) (test_run scene x first t) e paths → Stands scene around x reads old e
+  pub are : first + term_accesses t < 2 ^ 32 → (x : BlockStep) (reads : StepReads) (e : Effect) → FitsStep x new.draft → BlockBegun x old.draft
+      → Along around x reads (IsFollowedBy scene around first t) (test_run scene x first t) e paths → StandsBeside scene around x reads old e
       → (number test : ℕ) → number < paths → is_on_at x around number ≡ true → slice_get tests number ≡ Some test
-      → shown x test ≡ value_at scene around x e.variables number first t
+      → word_shown x test ≡ value_at scene around x e.variables number first t
 
 abbrev pub TestsAll : Scene → Around → (old new : Building) → (first next : ℕ) → plain.Term → (tests : List ℕ) → Type 0
 TestsAll scene around old new first next t tests = TestsFirst scene around old new first next t tests (paths_counted around)
@@ -156,6 +156,6 @@ TestsAll scene around old new first next t tests = TestsFirst scene around old n
 -- a test at one path, with its value there
 pub record TestsOne (scene : Scene) (lane : Lane) (old new : Building) (first : ℕ) (t : plain.Term) (own : Valued) : Type 0 where
   pub does : DoesOne scene lane NoVariable (IsFollowedBy scene lane.around first t) (λ x. test_run scene x first t) first (term_accesses t) own.next old new
-  pub is : first + term_accesses t < 2 ^ 32 → (x : Step) (reads : Reads) (e : Effect) → Fits x new.draft → Begun x old.draft
-      → IsFollowedBy scene lane.around first t lane.number x reads e.variables → Stands scene lane.around x reads old e
-      → is_on_at x lane.around lane.number ≡ true → shown x own.value ≡ value_at scene lane.around x e.variables lane.number first t
+  pub is : first + term_accesses t < 2 ^ 32 → (x : BlockStep) (reads : StepReads) (e : Effect) → FitsStep x new.draft → BlockBegun x old.draft
+      → IsFollowedBy scene lane.around first t lane.number x reads e.variables → StandsBeside scene lane.around x reads old e
+      → is_on_at x lane.around lane.number ≡ true → word_shown x own.value ≡ value_at scene lane.around x e.variables lane.number first t

@@ -10,7 +10,7 @@ use Rattle.dh_tree.specs.Seen.{program_seen}
 use Rattle.dh_expressions.specs.declared.paths.Level.{Level}
 use Rattle.dh_expressions.specs.declared.scenes.Around.{Around}
 use Rattle.dh_expressions.specs.declared.scenes.Scene.{Scene}
-use Rattle.dh_expressions.specs.Drafted.{Step}
+use Rattle.dh_expressions.specs.Drafted.{BlockStep}
 use Rattle.dh_expressions.specs.Evaluated.{counter_of, entity_shown, known_in}
 use Rattle.dh_expressions.specs.Shown.{guard_of, register_at}
 use Rattle.dh_commands.specs.LanesRun.{is_on_at, lane_of, path_in, paths_counted}
@@ -27,8 +27,8 @@ seen_path scene around entity number = take (depth_in scene entity) (path_in aro
 abbrev pub register_in : Scene → Around → (entity number : ℕ) → ℕ
 register_in scene around entity number = register_at (held_at scene.held.now entity) (lane_of around number)
 
-abbrev pub factors_of : List Level → List ℕ
-factors_of levels = map (λ (l : Level). l.factor) levels
+abbrev pub level_factors : List Level → List ℕ
+level_factors levels = map (λ (l : Level). l.factor) levels
 
 -- A variable that is seen where these loops stand round: it is no iterator, and the loops round its declaration are
 -- the first of these. (What iterators show depends on no value that is given in the step.)
@@ -37,14 +37,14 @@ pub record IsSeen (scene : Scene) (levels : List Level) (entity : ℕ) : Type 0 
   pub no_counter : counter_of scene entity ≡ None
   pub deep : depth_in scene entity ≤ length levels
   pub held : (held_at scene.held.now entity).depth ≡ depth_in scene entity
-  pub round : (placing_of (program_seen scene.program.now)).factors entity ≡ take (depth_in scene entity) (factors_of levels)
+  pub round : (placing_of (program_seen scene.program.now)).factors entity ≡ take (depth_in scene entity) (level_factors levels)
 
-abbrev pub ShowsAt : Scene → Around → Step → (current : List (Option ℕ)) → Variables → (entity number : ℕ) → Type 0
+abbrev pub ShowsAt : Scene → Around → BlockStep → (current : List (Option ℕ)) → Variables → (entity number : ℕ) → Type 0
 ShowsAt scene around x current variables entity number =
     entity_shown scene (lane_of around number) current x entity (held_at scene.held.now entity).kind
     ≡ word_of (held_at scene.held.now entity).kind (variables entity (seen_path scene around entity number))
 
-pub record Shows (scene : Scene) (around : Around) (x : Step) (current : List (Option ℕ)) (variables : Variables) : Type 0 where
+pub record ShowsVariables (scene : Scene) (around : Around) (x : BlockStep) (current : List (Option ℕ)) (variables : Variables) : Type 0 where
   pub each : (entity number : ℕ) → IsSeen scene around.levels.now entity → number < paths_counted around → is_on_at x around number ≡ true
       → ShowsAt scene around x current variables entity number
 
@@ -56,7 +56,7 @@ pub record ArePlaced (scene : Scene) (around : Around) : Type 0 where
       → seen_path scene around e i ≡ seen_path scene around e j → register_in scene around e i ≡ register_in scene around e j
 
 -- A variable that is set at these paths is no iterator, and is one at several of them only where these have one guard.
-pub record IsTarget (scene : Scene) (around : Around) (entity : ℕ) : Type 0 where
+pub record IsSetTarget (scene : Scene) (around : Around) (entity : ℕ) : Type 0 where
   pub placed : ArePlaced scene around
   pub there : IsSeen scene around.levels.now entity
   pub no_counter : counter_of scene entity ≡ None
@@ -64,7 +64,7 @@ pub record IsTarget (scene : Scene) (around : Around) (entity : ℕ) : Type 0 wh
       → register_in scene around entity i ≡ register_in scene around entity j → guard_of around.guards.now i ≡ guard_of around.guards.now j
 
 -- a variable that is another at each path
-pub record IsOwn (scene : Scene) (around : Around) (entity : ℕ) : Type 0 where
+pub record HasOwnCopies (scene : Scene) (around : Around) (entity : ℕ) : Type 0 where
   pub placed : ArePlaced scene around
   pub there : IsSeen scene around.levels.now entity
   pub own : (i j : ℕ) → i < paths_counted around → j < paths_counted around
@@ -79,4 +79,4 @@ AreBoundAt scene depth first (suc n) = (depth ≡ depth_in scene first) × AreBo
 
 abbrev pub AreTargets : Scene → Around → (first count : ℕ) → Type 0
 AreTargets scene around first zero = Unit {0}
-AreTargets scene around first (suc n) = IsTarget scene around first × AreTargets scene around (suc first) n
+AreTargets scene around first (suc n) = IsSetTarget scene around first × AreTargets scene around (suc first) n

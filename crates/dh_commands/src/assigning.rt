@@ -3,7 +3,7 @@
 ghost use Rattle.std.specs.Prelude.{ℕ, IfOk, OnOk};
 ghost use Rattle.dh_tree.specs.Seen.{term_seen};
 ghost use Rattle.dh_meaning.specs.CoreOf.{entity_number};
-ghost use Rattle.dh_expressions.specs.Drafted.{Gives, shown};
+ghost use Rattle.dh_expressions.specs.Drafted.{Gives, word_shown};
 ghost use Rattle.dh_expressions.specs.Shown.{extended_shown};
 ghost use Rattle.dh_commands.specs.Followed.{in_own_kind, old_extended};
 ghost use Rattle.dh_commands.specs.Setting.{AssignsAll, AssignsOne, ClearsAll, ClearsOne, GivesReduced, ReducesAll, ReducesOne, SetsAt};
@@ -136,7 +136,7 @@ pub fn clear_all(
 
 /// Adds what a variable of a kind holds, as an operand that is extended to an integer kind.
 fn push_old_operand(draft: &mut Draft, old: u64, kind: Kind, to: Kind) -> Result<u64, NoMemory>
-    ensures means { IfOk result (λ v. Gives draft.old draft.new v (λ x. old_extended kind to (shown
+    ensures means { IfOk result (λ v. Gives draft.old draft.new v (λ x. old_extended kind to (word_shown
         x old))) }
     ensures made { IfOk result (λ v. MadeOldOperand kind to old draft.old draft.new v) }
 {
@@ -149,7 +149,7 @@ fn push_old_operand(draft: &mut Draft, old: u64, kind: Kind, to: Kind) -> Result
 
 /// Adds a value in a kind; nothing is done where it is one of that kind.
 fn push_own(draft: &mut Draft, value: u64, own: bool, to: Kind) -> Result<u64, NoMemory>
-    ensures means { IfOk result (λ v. Gives draft.old draft.new v (λ x. in_own_kind own to (shown x
+    ensures means { IfOk result (λ v. Gives draft.old draft.new v (λ x. in_own_kind own to (word_shown x
         value))) }
     ensures made { IfOk result (λ v. MadeConverted own to value draft.old draft.new v) }
 {
@@ -162,7 +162,7 @@ fn push_own(draft: &mut Draft, value: u64, own: bool, to: Kind) -> Result<u64, N
 /// Adds an operand, extended to an integer kind; as it is for Bool.
 fn push_operand(draft: &mut Draft, from: &Expr, value: u64, to: Kind) -> Result<u64, NoMemory>
     ensures means { IfOk result (λ v. Gives draft.old draft.new v (λ x. extended_shown (term_seen
-        from.now) to (shown x value))) }
+        from.now) to (word_shown x value))) }
     ensures made { IfOk result (λ v. MadeOperand (term_seen from.now) to value draft.old draft.new
         v) }
 {

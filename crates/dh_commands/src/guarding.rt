@@ -2,7 +2,7 @@
 
 ghost use Rattle.std.specs.Prelude.{IfOk, length, not, true, false};
 ghost use Rattle.dh_value.specs.Operations.{is_true};
-ghost use Rattle.dh_expressions.specs.Drafted.{Gives, shown};
+ghost use Rattle.dh_expressions.specs.Drafted.{Gives, word_shown};
 ghost use Rattle.dh_value.specs.Operations.{truth as truth_of};
 ghost use Rattle.dh_commands.specs.Choosing.{MakesGuard, MakesGuards};
 ghost use Rattle.dh_commands.specs.MadeCommands.{MadeArmGuards, MadeGuard, MadeNot};
@@ -14,7 +14,7 @@ use std::alloc::Global;
 
 /// Adds the guard of what is done where a guard holds and a truth.
 fn push_both(draft: &mut Draft, guard: Option<u64>, truth: u64) -> Result<u64, NoMemory>
-    ensures means { IfOk result (λ n. MakesGuard draft.old draft.new guard (λ x. is_true (shown x
+    ensures means { IfOk result (λ n. MakesGuard draft.old draft.new guard (λ x. is_true (word_shown x
         truth)) n) }
     ensures made { IfOk result (λ n. MadeGuard guard truth draft.old draft.new n) }
 {
@@ -27,7 +27,7 @@ fn push_both(draft: &mut Draft, guard: Option<u64>, truth: u64) -> Result<u64, N
 /// Adds the truth that another is not true.
 fn push_not(draft: &mut Draft, test: u64) -> Result<u64, NoMemory>
     ensures means { IfOk result (λ n. Gives draft.old draft.new n (λ x. truth_of (not (is_true
-        (shown x test))))) }
+        (word_shown x test))))) }
     ensures made { IfOk result (λ n. MadeNot test draft.old draft.new n) }
 {
     let no = push_constant(draft, truth(false))?;

@@ -1,12 +1,12 @@
 //! Views that move, at each path in turn: their offsets are evaluated, and variables keep them.
 
 ghost use Rattle.std.specs.Prelude.{◌≡◌, ◌+◌, map, option_map, slice_get, IfOk, OnOk};
-ghost use Rattle.dh_tree.specs.Seen.{plan_seen, term_seen, terms};
+ghost use Rattle.dh_tree.specs.Seen.{view_plan, term_seen, terms};
 ghost use Rattle.dh_tree.specs.ViewOffsets.{offsets_of};
 ghost use Rattle.dh_meaning.specs.CoreOf.{way_of};
 ghost use Rattle.dh_meaning.specs.Ways.{hidden_in};
 ghost use Rattle.dh_ways.specs.Seen.{hidden_seen};
-ghost use Rattle.dh_expressions.specs.Drafted.{Gives, shown};
+ghost use Rattle.dh_expressions.specs.Drafted.{Gives, word_shown};
 ghost use Rattle.dh_expressions.specs.Evaluated.{GivesAll, known_in};
 ghost use Rattle.dh_expressions.specs.MadeTerms.{MadeTerms};
 ghost use Rattle.dh_commands.specs.Keeping.{EvaluatesWords, held_words, kept_shown, paired};
@@ -85,9 +85,9 @@ fn push_offsets(
     form: &ViewForm,
 ) -> Result<(Vec<u64>, u32), NoMemory>
     ensures means { IfOk result (λ r. EvaluatesWords scene.now lane.now current.now draft.old
-        draft.new accesses.old accesses.new first (offsets_of (plan_seen form.now)) r.0.items r.1) }
+        draft.new accesses.old accesses.new first (offsets_of (view_plan form.now)) r.0.items r.1) }
     ensures made { IfOk result (λ r. MadeTerms scene.now lane.now current.now (terms (offsets_of
-        (plan_seen form.now))) draft.old draft.new accesses.old accesses.new first r.1 r.0.items) }
+        (view_plan form.now))) draft.old draft.new accesses.old accesses.new first r.1 r.0.items) }
 {
     match form {
         ViewForm::Shrink { .. } => Ok((Vec::new(scene.alloc), first)),
@@ -124,7 +124,7 @@ fn offset_listed(by: &[Expr], number: usize) -> Option<&Expr>
 /// The offset of a view of this number.
 fn offset_at(form: &ViewForm, number: usize) -> Option<&Expr>
     ensures { option_map (λ t. term_seen t.now) result
-        ≡ slice_get (offsets_of (plan_seen form.now)) number }
+        ≡ slice_get (offsets_of (view_plan form.now)) number }
 {
     match form {
         ViewForm::Shrink { .. } => None,
@@ -144,9 +144,9 @@ fn hold_behind(
     value: u64,
 ) -> Result<u64, NoMemory>
     ensures means { IfOk result (λ v. Gives draft.old draft.new v (λ x. kept_shown scene.now (first
-        + number) (slice_get (offsets_of (plan_seen form.now)) number) (shown x value))) }
+        + number) (slice_get (offsets_of (view_plan form.now)) number) (word_shown x value))) }
     ensures made { IfOk result (λ v. MadeHold scene.now (first + number) (slice_get (offsets_of
-        (plan_seen form.now)) number) value draft.old draft.new v) }
+        (view_plan form.now)) number) value draft.old draft.new v) }
 {
     match offset_at(form, number) {
         Some(offset) => {
@@ -166,8 +166,8 @@ fn hold_each(
     values: &[u64],
 ) -> Result<Vec<u64>, NoMemory>
     ensures means { IfOk result (λ held. GivesAll draft.old draft.new held.items (λ x. held_words
-        scene.now first (offsets_of (plan_seen form.now)) (map (λ n. shown x n) values.now))) }
-    ensures made { IfOk result (λ held. MadeHolds scene.now first (offsets_of (plan_seen form.now))
+        scene.now first (offsets_of (view_plan form.now)) (map (λ n. word_shown x n) values.now))) }
+    ensures made { IfOk result (λ held. MadeHolds scene.now first (offsets_of (view_plan form.now))
         values.now draft.old draft.new held.items) }
 {
     let mut held = Vec::new(scene.alloc);
@@ -220,9 +220,9 @@ fn keep_at(
     form: &ViewForm,
 ) -> Result<u32, NoMemory>
     ensures means { IfOk result (λ next. KeepsOne scene.now lane.now building.old building.new first
-        next (hidden_seen hidden) (offsets_of (plan_seen form.now))) }
+        next (hidden_seen hidden) (offsets_of (view_plan form.now))) }
     ensures made { IfOk result (λ next. MadeKept scene.now lane.now first hidden.entity (offsets_of
-        (plan_seen form.now)) building.old building.new next) }
+        (view_plan form.now)) building.old building.new next) }
 {
     let current = building.values.current.as_slice();
     let accesses = &mut building.accesses;
@@ -245,9 +245,9 @@ fn keep_all(
     form: &ViewForm,
 ) -> Result<u32, NoMemory>
     ensures means { IfOk result (λ next. KeepsAll scene.now around.entry building.old building.new
-        first next (hidden_seen hidden) (offsets_of (plan_seen form.now))) }
+        first next (hidden_seen hidden) (offsets_of (view_plan form.now))) }
     ensures made { IfOk result (λ next. KeptTo scene.now around.entry first hidden.entity
-        (offsets_of (plan_seen form.now)) (paths_counted around.entry) building.old building.new
+        (offsets_of (view_plan form.now)) (paths_counted around.entry) building.old building.new
         next) }
 {
     let mut next = first;
@@ -273,10 +273,10 @@ pub fn keep_view(
     form: &ViewForm,
 ) -> Result<u32, NoMemory>
     ensures means { IfOk result (λ next. KeepsView scene.now around.entry building.old building.new
-        first idle next (hidden_in (way_of (known_in scene.now) name.now)) (offsets_of (plan_seen
+        first idle next (hidden_in (way_of (known_in scene.now) name.now)) (offsets_of (view_plan
         form.now))) }
     ensures made { IfOk result (λ next. KeptView scene.now around.entry building.old building.new
-        first idle next (hidden_in (way_of (known_in scene.now) name.now)) (offsets_of (plan_seen
+        first idle next (hidden_in (way_of (known_in scene.now) name.now)) (offsets_of (view_plan
         form.now))) }
 {
     match first_kept(scene, name) {

@@ -14,9 +14,9 @@ use Rattle.dh_cells.proofs.WireTrees.{tests_stay}
 use Rattle.dh_control.specs.declared.gathering.Keyed.{Keyed}
 use Rattle.dh_control.specs.declared.stepping.Pace.{Pace}
 use Rattle.dh_control.specs.declared.stepping.Verdict.{Verdict}
-use Rattle.dh_control.specs.AllBlocks.{ways_of, AllChecksAdded, AllSetsAdded, WaysAdded}
+use Rattle.dh_control.specs.AllBlocks.{state_ways, AllChecksAdded, AllSetsAdded, WaysAdded}
 use Rattle.dh_control.specs.ControlsMade.{ActivityMade, OutcomeMade, AfterMade, ResultsMade}
-use Rattle.dh_control.specs.KeyedItems.{picked}
+use Rattle.dh_control.specs.KeyedItems.{items_picked}
 use Rattle.dh_control.specs.MovedValues.{Move, moved, AreMoves, MovesMade}
 use Rattle.dh_control.specs.SizedWires.{AreSized, shown_all}
 use Rattle.dh_control.specs.StateWires.{AreStands, StandsMade, active_shown, with_each_shown}
@@ -43,7 +43,7 @@ activity_made d e f state blocks count stands list active h same a = record {
   wires = each_wires e f (active_shown list) count active a;
   active_is = λ x b s less.
       bit_tells (shown x (slice_index active b)) _ ((a.each b less).is x s)
-      ∙ (ap (λ l. any_one x (picked b l)) same ∙ stands_tell e x (settled_fewer e f x a.grows s) state b 0 (shown x state) blocks stands (omega arith) h.stands_are);
+      ∙ (ap (λ l. any_one x (items_picked b l)) same ∙ stands_tell e x (settled_fewer e f x a.grows s) state b 0 (shown x state) blocks stands (omega arith) h.stands_are);
 }
 
 -- What becomes of a step.
@@ -118,15 +118,15 @@ one_sized d e width wire g h = record {
     by (suc i) less = absurd (omega (arith, less))
 
 pub results_made : (d e f g h : PlainCircuit) (widths after copy : List ℕ) (width state : ℕ) (v : Verdict) (states : List State) (start moves list start2 leads leads2 more : List Move) (news next : List ℕ) → copy ≡ after
-    → start ≡ [] → start2 ≡ [] → WaysAdded d e widths width (length states) state v.commit copy (ways_of states) (length states) start moves start2 leads → LeadAdded e f width v.faulted (length states) leads leads2 → list ≡ moves
+    → start ≡ [] → start2 ≡ [] → WaysAdded d e widths width (length states) state v.commit copy (state_ways states) (length states) start moves start2 leads → LeadAdded e f width v.faulted (length states) leads leads2 → list ≡ moves
     → MovesMade f g widths after list news → more ≡ leads2 → MovesMade g h (width ∷ []) (state ∷ []) more next
     → ResultsMade d h widths after width state v states (record { news = news; state = next })
 results_made d e f g h widths after copy width state v states start moves list start2 leads leads2 more news next copied none none2 a1 b same c other m =
-    let a0 : WaysAdded d e widths width (length states) state v.commit copy (ways_of states) (length states) [] moves [] leads =
-    subst (λ (l : List Move). WaysAdded d e widths width (length states) state v.commit copy (ways_of states) (length states) [] moves l leads) none2
-    (subst (λ (l : List Move). WaysAdded d e widths width (length states) state v.commit copy (ways_of states) (length states) l moves start2 leads) none a1) in
-    let a : WaysAdded d e widths width (length states) state v.commit after (ways_of states) (length states) [] moves [] leads =
-    subst (λ (l : List ℕ). WaysAdded d e widths width (length states) state v.commit l (ways_of states) (length states) [] moves [] leads) copied a0 in
+    let a0 : WaysAdded d e widths width (length states) state v.commit copy (state_ways states) (length states) [] moves [] leads =
+    subst (λ (l : List Move). WaysAdded d e widths width (length states) state v.commit copy (state_ways states) (length states) [] moves l leads) none2
+    (subst (λ (l : List Move). WaysAdded d e widths width (length states) state v.commit copy (state_ways states) (length states) l moves start2 leads) none a1) in
+    let a : WaysAdded d e widths width (length states) state v.commit after (state_ways states) (length states) [] moves [] leads =
+    subst (λ (l : List ℕ). WaysAdded d e widths width (length states) state v.commit l (state_ways states) (length states) [] moves [] leads) copied a0 in
     let in_g : (x : Signals) → IsSettled h x → IsSettled g x = (λ x s. settled_fewer g h x m.grows s) in
     let in_f : (x : Signals) → IsSettled h x → IsSettled f x = (λ x s. settled_fewer f g x c.grows (in_g x s)) in
     let in_e : (x : Signals) → IsSettled h x → IsSettled e x = (λ x s. settled_fewer e f x b.grows (in_f x s)) in

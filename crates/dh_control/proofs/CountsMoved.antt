@@ -8,7 +8,7 @@ use Rattle.dh_value.specs.declared.kinds.Kind.TheVariants as kind
 use Rattle.dh_value.specs.Words.{width_of}
 use Rattle.dh_plan.specs.Blocks.{kind_at}
 use Rattle.dh_plan.specs.PlanRuns.{counted_up}
-use Rattle.dh_plan.specs.Ways.{Way, by_count, Led, resolve}
+use Rattle.dh_plan.specs.Ways.{GraphWay, by_count, GraphLed, resolve}
 use Rattle.dh_cells.specs.PlainCircuits.{PlainCircuit}
 use Rattle.dh_cells.specs.Settled.{Signals, IsSettled, Grows, IsWire, shown}
 use Rattle.dh_cells.specs.ShownValues.{is_one}
@@ -17,7 +17,7 @@ use Rattle.dh_control.specs.declared.leading.Branch.{Branch}
 use Rattle.dh_control.specs.declared.leading.Counted.{Counted}
 use Rattle.dh_control.specs.MovedValues.{Move, set_where, moved, MoveFits, AreMoves}
 use Rattle.dh_control.specs.SizedWires.{AreSized, shown_all}
-use Rattle.dh_control.specs.WayMoves.{number_of, BranchMade, CountedMade, WayAdded, counts}
+use Rattle.dh_control.specs.WayMoves.{spot_number, BranchMade, CountedMade, WayAdded, counts}
 use Rattle.dh_control.proofs.ListFacts.{all_both}
 use Rattle.dh_control.proofs.MovedLists.{moves_stay, shown_at}
 use Rattle.dh_control.proofs.SetsMoved.{moved_behind}
@@ -34,7 +34,7 @@ width_at kinds widths r same less =
     let mapped = length-map kinds width_of in
     ap (λ l. slice_index l r) (sym same) ∙ get_or-map width_of kinds r kind.Bool 0 (omega (arith, long, mapped, less))
 
-module _ (d d1 e f g : PlainCircuit) (widths : List ℕ) (width states active : ℕ) (after after1 after2 : List ℕ) (counter last : ℕ) (again past : Way) (b : Branch) (c : Counted)
+module _ (d d1 e f g : PlainCircuit) (widths : List ℕ) (width states active : ℕ) (after after1 after2 : List ℕ) (counter last : ℕ) (again past : GraphWay) (b : Branch) (c : Counted)
     (m0 m1 m2 m3 l0 l1 l2 : List Move) (inside : counter < length widths) (sized : AreSized d widths after) (a : BranchMade d d1 active (slice_index after counter) last b)
     (made : CountedMade d1 e (slice_index widths counter) (slice_index after counter) c) (first : after1 ≡ slice_set after counter c.none) (second : after2 ≡ slice_set after counter c.more)
     (p : WayAdded e f widths width states b.chosen after1 past m0 m1 l0 l1) (q : WayAdded f g widths width states b.other after2 again m1 m2 l1 l2) (put : m3 ≡ m2 ++ counts counter b c) where
@@ -98,7 +98,7 @@ module _ (d d1 e f g : PlainCircuit) (widths : List ℕ) (width states active : 
   moved_counts : (x : Signals) (values : List ℕ) → moved x m3 values ≡ moved x m2 (set_where (is_one x b.chosen) counter (shown x c.none) (set_where (is_one x b.other) counter (shown x c.more) values))
   moved_counts x values = ap (λ l. moved x l values) put ∙ moved_behind x m2 (counts counter b c) values
 
-  abbrev led_by : (kinds : List Kind) → List ℕ → Bool → Led
+  abbrev led_by : (kinds : List Kind) → List ℕ → Bool → GraphLed
   led_by kinds values t = if t then resolve kinds past (slice_set values counter 0) else resolve kinds again (counted_up kinds counter values)
 
   moves_at_last : (x : Signals) → IsSettled g x → is_one x active ≡ true → at_last x ≡ true
@@ -147,12 +147,12 @@ module _ (d d1 e f g : PlainCircuit) (widths : List ℕ) (width states active : 
       | inl holds ↦
           q.stays x (n ∷ []) s (other_off x s holds)
           ∙ (p.goes x kinds n (in_f x s) same (chosen_on x s on holds)
-          ∙ (ap (λ vs. moved x l0 (number_of states (resolve kinds past vs).spot ∷ [])) (past_shown x s) ∙ sym (ap (λ t. moved x l0 (number_of states (led_by kinds (shown_all x after) t).spot ∷ [])) holds)))
+          ∙ (ap (λ vs. moved x l0 (spot_number states (resolve kinds past vs).spot ∷ [])) (past_shown x s) ∙ sym (ap (λ t. moved x l0 (spot_number states (led_by kinds (shown_all x after) t).spot ∷ [])) holds)))
       | inr none ↦
           q.goes x kinds n s same (other_on x s on none)
           ∙ (p.stays x _ (in_f x s) (chosen_off x s none)
-          ∙ (ap (λ vs. moved x l0 (number_of states (resolve kinds again vs).spot ∷ [])) (again_shown x kinds s same)
-          ∙ sym (ap (λ t. moved x l0 (number_of states (led_by kinds (shown_all x after) t).spot ∷ [])) none)))
+          ∙ (ap (λ vs. moved x l0 (spot_number states (resolve kinds again vs).spot ∷ [])) (again_shown x kinds s same)
+          ∙ sym (ap (λ t. moved x l0 (spot_number states (led_by kinds (shown_all x after) t).spot ∷ [])) none)))
     ];
     keeps = λ x values s off.
         moved_counts x values
@@ -189,13 +189,13 @@ pub set_back : (after set2 kept set3 : List ℕ) (place b wire : ℕ) → set2 �
 set_back after set2 kept set3 place b wire p q r is =
     second_set after set2 kept set3 place b wire p q r ∙ (ap (λ w. slice_set after place w) is ∙ set-get_or after place 0)
 
-pub count_done : (d d1 e f g : PlainCircuit) (widths : List ℕ) (width states active : ℕ) (after after1 after2 wires : List ℕ) (counter last : ℕ) (whole again past : Way) (b : Branch) (c : Counted)
+pub count_done : (d d1 e f g : PlainCircuit) (widths : List ℕ) (width states active : ℕ) (after after1 after2 wires : List ℕ) (counter last : ℕ) (whole again past : GraphWay) (b : Branch) (c : Counted)
     (m0 m1 m2 m3 l0 l1 l2 : List Move) → counter < length widths → AreSized d widths after → wires ≡ after → BranchMade d d1 active (slice_index wires counter) last b
     → CountedMade d1 e (slice_index widths counter) (slice_index wires counter) c → after1 ≡ slice_set after counter c.none → after2 ≡ slice_set after counter c.more
     → WayAdded e f widths width states b.chosen after1 past m0 m1 l0 l1 → WayAdded f g widths width states b.other after2 again m1 m2 l1 l2 → m3 ≡ m2 ++ counts counter b c
     → whole ≡ by_count counter last again past → WayAdded d g widths width states active after whole m0 m3 l0 l2
 count_done d d1 e f g widths width states active after after1 after2 wires counter last whole again past b c m0 m1 m2 m3 l0 l1 l2 inside sized same a made first second p q put is =
-    subst (λ (y : Way). WayAdded d g widths width states active after y m0 m3 l0 l2) (sym is)
+    subst (λ (y : GraphWay). WayAdded d g widths width states active after y m0 m3 l0 l2) (sym is)
     (count_way d d1 e f g widths width states active after after1 after2 counter last again past b c m0 m1 m2 m3 l0 l1 l2 inside sized
     (subst (λ (l : List ℕ). BranchMade d d1 active (slice_index l counter) last b) same a)
     (subst (λ (l : List ℕ). CountedMade d1 e (slice_index widths counter) (slice_index l counter) c) same made) first second p q put)

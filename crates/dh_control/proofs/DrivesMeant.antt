@@ -9,7 +9,7 @@ use Rattle.dh_plan.specs.declared.operations.Operation.{Operation}
 use Rattle.dh_plan.specs.declared.operations.OperationForm.{OperationForm}
 use Rattle.dh_plan.specs.declared.operations.OperationForm.TheVariants.{Constant, Old, Compute, Convert, Select, Check, Probe, Read, Write, Set}
 use Rattle.dh_plan.specs.declared.operations.Reach.{Reach}
-use Rattle.dh_plan.specs.Blocks.{is_on, first_bank, bank_picked}
+use Rattle.dh_plan.specs.Blocks.{is_on, first_listed_bank, bank_picked}
 use Rattle.dh_plan.specs.LegalSchedules.{Timing, clocks_in}
 use Rattle.dh_plan.specs.PlainPlans.{PlainPlan, first_in, operations_in}
 use Rattle.dh_plan.specs.SoundPlans.{use_in}
@@ -54,9 +54,9 @@ bit_number (suc (suc n)) t less e = absurd (omega (arith, less))
 -- without a select the first bank is the one that is driven
 abbrev pub PicksAlone : (bank : ℕ) → Option Reach → Type 0
 PicksAlone bank None = Unit {0}
-PicksAlone bank (Some r) = r.select ≡ None → (first_bank r.banks == bank) ≡ true
+PicksAlone bank (Some r) = r.select ≡ None → (first_listed_bank r.banks == bank) ≡ true
 
-picks_is : (first : ℕ) (ws : List Word) (banks : List (ℕ × ℕ)) (bank : ℕ) (select : Option ℕ) → (select ≡ None → (first_bank banks == bank) ≡ true)
+picks_is : (first : ℕ) (ws : List Word) (banks : List (ℕ × ℕ)) (bank : ℕ) (select : Option ℕ) → (select ≡ None → (first_listed_bank banks == bank) ≡ true)
     → select_picks first ws select bank ≡ (bank_picked first ws banks select == bank)
 picks_is first ws banks bank None alone = sym (alone refl)
 picks_is first ws banks bank (Some v) alone = refl

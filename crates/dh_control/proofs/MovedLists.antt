@@ -10,7 +10,7 @@ use Rattle.dh_cells.specs.ShownValues.{is_one, first_of, first_shown}
 use Rattle.dh_cells.specs.declared.trees.Tested.{Tested}
 use Rattle.dh_cells.proofs.CellsAppended.{grows_none, grows_then, wire_stays}
 use Rattle.dh_cells.proofs.WireTrees.{tested_stays}
-use Rattle.dh_control.specs.KeyedItems.{picked}
+use Rattle.dh_control.specs.KeyedItems.{items_picked}
 use Rattle.dh_control.specs.MovedValues.{Move, set_where, moved, AreMoves, MovesMade}
 use Rattle.dh_control.specs.SizedWires.{AreSized, shown_all}
 use Rattle.dh_control.specs.WireLists.{EachShows}
@@ -39,7 +39,7 @@ set_other true place value i values other = get_or-set_other values place i valu
 set_other false place value i values other = refl
 
 pub moved_at : (x : Signals) (ms : List Move) (values : List ℕ) (i : ℕ) → i < length values
-    → slice_index (moved x ms values) i ≡ first_of x (picked i ms) (slice_index values i)
+    → slice_index (moved x ms values) i ≡ first_of x (items_picked i ms) (slice_index values i)
 moved_at x [] values i less = refl
 moved_at x (m ∷ ms) values i less =
     let before = moved_at x ms values i less in
@@ -64,7 +64,7 @@ shown_at x (w ∷ ws) (suc i) less = shown_at x ws i (omega (arith, less))
 
 -- Moves of one value.
 
-tested_picked : (d : PlainCircuit) (widths : List ℕ) (ms : List Move) (i : ℕ) → i < length widths → AreMoves d widths ms → AreTested d (picked i ms) (slice_index widths i)
+tested_picked : (d : PlainCircuit) (widths : List ℕ) (ms : List Move) (i : ℕ) → i < length widths → AreMoves d widths ms → AreTested d (items_picked i ms) (slice_index widths i)
 tested_picked d widths [] i less h = tt
 tested_picked d widths (m ∷ ms) i less h =
     elim (cases_eq m.key i) [
@@ -75,7 +75,7 @@ tested_picked d widths (m ∷ ms) i less h =
           subst (λ (l : List Tested). AreTested d l (slice_index widths i)) (sym (picked_past i m ms other)) (tested_picked d widths ms i less h.1)
     ]
 
-pub picked_tested : (d : PlainCircuit) (widths : List ℕ) (ms : List Move) (i : ℕ) (list : List Tested) → i < length widths → AreMoves d widths ms → list ≡ picked i ms → AreTested d list (slice_index widths i)
+pub picked_tested : (d : PlainCircuit) (widths : List ℕ) (ms : List Move) (i : ℕ) (list : List Tested) → i < length widths → AreMoves d widths ms → list ≡ items_picked i ms → AreTested d list (slice_index widths i)
 picked_tested d widths ms i list less h is = subst (λ (l : List Tested). AreTested d l (slice_index widths i)) (sym is) (tested_picked d widths ms i less h)
 
 pub moves_stay : (d e : PlainCircuit) (widths : List ℕ) (ms : List Move) → Grows d e → AreMoves d widths ms → AreMoves e widths ms
@@ -90,18 +90,18 @@ sized_stay d e widths wires g h = record { long = h.long; each = λ i less. wire
 -- the values below a number are moved
 pub record MovedSoFar (old now : PlainCircuit) (widths wires : List ℕ) (moves : List Move) (count : ℕ) (news : List ℕ) : Type 0 where
   pub grows : Grows old now
-  pub listed : EachShows old now (λ i. slice_index widths i) (λ i. first_shown (picked i moves) (slice_index wires i)) count news
+  pub listed : EachShows old now (λ i. slice_index widths i) (λ i. first_shown (items_picked i moves) (slice_index wires i)) count news
 
 pub none_moved : (d : PlainCircuit) (widths wires : List ℕ) (moves : List Move) → MovedSoFar d d widths wires moves 0 []
 none_moved d widths wires moves = record { grows = grows_none d; listed = none_listed d _ _ }
 
-pub next_moved : (old now new : PlainCircuit) (widths wires : List ℕ) (moves : List Move) (count wire : ℕ) (list : List Tested) (news more : List ℕ) → list ≡ picked count moves
+pub next_moved : (old now new : PlainCircuit) (widths wires : List ℕ) (moves : List Move) (count wire : ℕ) (list : List Tested) (news more : List ℕ) → list ≡ items_picked count moves
     → MovedSoFar old now widths wires moves count news → Adds now new wire (slice_index widths count) (first_shown list (slice_index wires count)) → more ≡ news ++ wire ∷ []
     → MovedSoFar old new widths wires moves (count + 1) more
 next_moved old now new widths wires moves count wire list news more is h a put = record {
   grows = grows_then old now new h.grows a.grows;
   listed =
-      next_listed old now new (λ i. slice_index widths i) (λ i. first_shown (picked i moves) (slice_index wires i)) count wire news more h.listed
+      next_listed old now new (λ i. slice_index widths i) (λ i. first_shown (items_picked i moves) (slice_index wires i)) count wire news more h.listed
       (subst (λ (l : List Tested). Adds now new wire (slice_index widths count) (first_shown l (slice_index wires count))) is a) put;
 }
 
@@ -120,7 +120,7 @@ made_all old new widths wires moves news long made = let h = made.listed in reco
       let small : i < length wires = omega (arith, less, a, l) in
       shown_at x news i (omega (arith, small, l))
       ∙ ((h.each i small).is x s
-      ∙ (sym (ap (λ v. first_of x (picked i moves) v) (shown_at x wires i small))
+      ∙ (sym (ap (λ v. first_of x (items_picked i moves) v) (shown_at x wires i small))
       ∙ sym (moved_at x moves (shown_all x wires) i (omega (arith, small, b))))));
 }
 

@@ -15,7 +15,7 @@ use Rattle.dh_lower.specs.PortUsers.{is_among}
 use Rattle.dh_net.specs.declared.nets.CellForm.TheVariants.{LtU}
 use Rattle.dh_plan.specs.declared.graphs.State.{State}
 use Rattle.dh_control.specs.declared.gathering.Keyed.{Keyed}
-use Rattle.dh_control.specs.KeyedItems.{picked}
+use Rattle.dh_control.specs.KeyedItems.{items_picked}
 use Rattle.dh_control.specs.StateWires.{AreStands, StandsMade, blocks_active, waits_shown}
 use Rattle.dh_control.proofs.GatheredItems.{picked_here, picked_past}
 use Rattle.dh_control.proofs.ListFacts.{all_same}
@@ -96,7 +96,7 @@ stands_bits d state first [] (k ∷ ks) h = absurd h
 stands_bits d state first (b ∷ bs) [] h = tt
 stands_bits d state first (b ∷ bs) (k ∷ ks) h = (h.0.1.there, stands_bits d state (suc first) bs ks h.1)
 
-bits_picked : (d : PlainCircuit) (ks : List (Keyed ℕ)) (block : ℕ) → AreBits d ks → AreWires d (picked block ks) 1
+bits_picked : (d : PlainCircuit) (ks : List (Keyed ℕ)) (block : ℕ) → AreBits d ks → AreWires d (items_picked block ks) 1
 bits_picked d [] block h = tt
 bits_picked d (k ∷ ks) block h =
     elim (cases_eq k.key block) [
@@ -104,7 +104,7 @@ bits_picked d (k ∷ ks) block h =
       | inr other ↦ subst (λ (l : List ℕ). AreWires d l 1) (sym (picked_past block k ks other)) (bits_picked d ks block h.1)
     ]
 
-pub picked_wires : (d e : PlainCircuit) (ks : List (Keyed ℕ)) (block : ℕ) → Grows d e → AreBits d ks → AreWires e (picked block ks) 1
+pub picked_wires : (d e : PlainCircuit) (ks : List (Keyed ℕ)) (block : ℕ) → Grows d e → AreBits d ks → AreWires e (items_picked block ks) 1
 picked_wires d e ks block g h = bits_picked e ks block (all_same (λ k. IsWire d k.item 1) (λ k. IsWire e k.item 1) ks (λ k a. wire_stays d e k.item 1 g a) h)
 
 -- What the wires of states tell.
@@ -120,7 +120,7 @@ module _ (d : PlainCircuit) (x : Signals) (settled : IsSettled d x) (state block
   stand_is k first h = bit_tells (shown x k.item) (shown x state == first) (h.is x settled)
 
   -- behind the state where the graph stands none is active
-  none_behind : (first : ℕ) (bs : List ℕ) (ks : List (Keyed ℕ)) → shown x state < first → AreStands d state first bs ks → any_one x (picked block ks) ≡ false
+  none_behind : (first : ℕ) (bs : List ℕ) (ks : List (Keyed ℕ)) → shown x state < first → AreStands d state first bs ks → any_one x (items_picked block ks) ≡ false
   none_behind first [] [] less h = refl
   none_behind first [] (k ∷ ks) less h = absurd h
   none_behind first (b ∷ bs) [] less h = refl
@@ -133,7 +133,7 @@ module _ (d : PlainCircuit) (x : Signals) (settled : IsSettled d x) (state block
       ]
 
   pub stands_tell : (first n : ℕ) (bs : List ℕ) (ks : List (Keyed ℕ)) → shown x state ≡ first + n → AreStands d state first bs ks
-      → any_one x (picked block ks) ≡ is_among block (blocks_active bs n)
+      → any_one x (items_picked block ks) ≡ is_among block (blocks_active bs n)
   stands_tell first n [] [] at h = refl
   stands_tell first n [] (k ∷ ks) at h = absurd h
   stands_tell first n (b ∷ bs) [] at h = absurd h
@@ -142,7 +142,7 @@ module _ (d : PlainCircuit) (x : Signals) (settled : IsSettled d x) (state block
       let on : is_one x k.item ≡ true = stand_is k first h.0.1 ∙ same_test (shown x state) first (omega (arith, at)) in
       elim (cases_eq k.key block) [
         | inl same ↦
-            ap (λ l. any_one x l) (picked_here block k ks same) ∙ ((λ i. on i || any_one x (picked block ks))
+            ap (λ l. any_one x l) (picked_here block k ks same) ∙ ((λ i. on i || any_one x (items_picked block ks))
             ∙ sym (ap (λ t. t || false) (same_test block b (sym same ∙ h.0.0))))
         | inr other ↦
             ap (λ l. any_one x l) (picked_past block k ks other) ∙ (rest
@@ -152,7 +152,7 @@ module _ (d : PlainCircuit) (x : Signals) (settled : IsSettled d x) (state block
       let rest = stands_tell (suc first) n bs ks (omega (arith, at)) h.1 in
       let off : is_one x k.item ≡ false = stand_is k first h.0.1 ∙ other_test (shown x state) first (λ e. let f : ⊥ = omega (arith, e, at) in f) in
       elim (cases_eq k.key block) [
-        | inl same ↦ ap (λ l. any_one x l) (picked_here block k ks same) ∙ ((λ i. off i || any_one x (picked block ks)) ∙ rest)
+        | inl same ↦ ap (λ l. any_one x l) (picked_here block k ks same) ∙ ((λ i. off i || any_one x (items_picked block ks)) ∙ rest)
         | inr other ↦ ap (λ l. any_one x l) (picked_past block k ks other) ∙ rest
       ]
 

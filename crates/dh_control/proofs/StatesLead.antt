@@ -5,18 +5,18 @@ use Rattle.std.proofs.lemmas.Bool.{cases_eq}
 use Rattle.std.proofs.lemmas.Bool.Decides.{nat_tests}
 use Rattle.std.proofs.lemmas.List.{get_or-map}
 use Rattle.dh_plan.specs.declared.graphs.State.{State}
-use Rattle.dh_plan.specs.Ways.{Way, to_end, resolve}
+use Rattle.dh_plan.specs.Ways.{GraphWay, to_end, resolve}
 use Rattle.dh_cells.specs.PlainCircuits.{PlainCircuit}
 use Rattle.dh_cells.specs.Settled.{Signals, IsSettled, Grows, Shows, Adds, shown}
 use Rattle.dh_cells.specs.ShownValues.{is_one, both_shown, match_shown}
 use Rattle.dh_cells.proofs.CellsAppended.{grows_none, grows_then, settled_fewer}
 use Rattle.dh_cells.proofs.OperatorBits.{bit_tells}
 use Rattle.dh_control.specs.declared.gathering.Keyed.{Keyed}
-use Rattle.dh_control.specs.AllBlocks.{ways_of, way_at, WaysAdded}
+use Rattle.dh_control.specs.AllBlocks.{state_ways, way_at, WaysAdded}
 use Rattle.dh_control.specs.MovedValues.{Move, moved}
 use Rattle.dh_control.specs.SizedWires.{shown_all}
 use Rattle.dh_control.specs.StateWires.{AreStands}
-use Rattle.dh_control.specs.WayMoves.{number_of, way_of_decision, WayAdded}
+use Rattle.dh_control.specs.WayMoves.{spot_number, way_of_decision, WayAdded}
 use Rattle.dh_control.proofs.MovedLists.{moves_stay}
 use Rattle.dh_control.proofs.WaysMoved.{both_true, both_no_test, both_no_first}
 
@@ -42,10 +42,10 @@ stands_long d state first [] (k ∷ ks) h = absurd h
 stands_long d state first (b ∷ bs) [] h = absurd h
 stands_long d state first (b ∷ bs) (k ∷ ks) h = ap suc (stands_long d state (suc first) bs ks h.1)
 
-pub way_of_state : (states : List State) (i : ℕ) (s : State) → i < length states → way_at (ways_of states) i ≡ way_of_decision (get_or states i s).next
+pub way_of_state : (states : List State) (i : ℕ) (s : State) → i < length states → way_at (state_ways states) i ≡ way_of_decision (get_or states i s).next
 way_of_state states i s less = get_or-map (λ s. way_of_decision s.next) states i s to_end less
 
-pub no_ways : (d : PlainCircuit) (widths : List ℕ) (width states state commit : ℕ) (after : List ℕ) (ways : List Way) (moves leads : List Move)
+pub no_ways : (d : PlainCircuit) (widths : List ℕ) (width states state commit : ℕ) (after : List ℕ) (ways : List GraphWay) (moves leads : List Move)
     → WaysAdded d d widths width states state commit after ways 0 moves moves leads leads
 no_ways d widths width states state commit after ways moves leads = record {
   grows = grows_none d;
@@ -57,7 +57,7 @@ no_ways d widths width states state commit after ways moves leads = record {
   stays = λ x values s off. refl;
 }
 
-module _ (d e f g : PlainCircuit) (widths : List ℕ) (width states state commit : ℕ) (after again : List ℕ) (ways : List Way) (count active stand : ℕ) (way : Way) (m0 m1 m2 l0 l1 l2 : List Move)
+module _ (d e f g : PlainCircuit) (widths : List ℕ) (width states state commit : ℕ) (after again : List ℕ) (ways : List GraphWay) (count active stand : ℕ) (way : GraphWay) (m0 m1 m2 l0 l1 l2 : List Move)
     (p : WaysAdded d e widths width states state commit after ways count m0 m1 l0 l1) (b : Adds e f active 1 (both_shown commit stand))
     (stands : Shows d stand 1 (match_shown state count)) (same_after : again ≡ after) (q : WayAdded f g widths width states active again way m1 m2 l1 l2) (is : way_at ways count ≡ way) where
   q' : WayAdded f g widths width states active after way m1 m2 l1 l2
@@ -111,7 +111,7 @@ module _ (d e f g : PlainCircuit) (widths : List ℕ) (width states state commit
       | inl here ↦
           q'.goes x kinds k s same (active_on x s on (at ∙ here))
           ∙ (p.stays x _ (in_e x s) (inr (let m : count ≤ shown x state = omega (arith, at, here) in m))
-          ∙ sym (ap (λ w. moved x l0 (number_of states (resolve kinds w (shown_all x after)).spot ∷ [])) (ap (λ k. way_at ways k) here ∙ is)))
+          ∙ sym (ap (λ w. moved x l0 (spot_number states (resolve kinds w (shown_all x after)).spot ∷ [])) (ap (λ k. way_at ways k) here ∙ is)))
       | inr other ↦
           q'.stays x (k ∷ []) s (active_off x s (λ e. other (sym at ∙ e)))
           ∙ p.goes x kinds n k (in_e x s) same on at (omega (arith, less, other))

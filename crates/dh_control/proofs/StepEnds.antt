@@ -11,7 +11,7 @@ use Rattle.dh_plan.specs.Blocks.{BlockEvent, block_events, block_sets, first_fau
 use Rattle.dh_plan.specs.PlainPlans.{first_in, operations_in}
 use Rattle.dh_plan.specs.PlanRuns.{start_at}
 use Rattle.dh_plan.specs.PlayedPlans.{longest}
-use Rattle.dh_plan.specs.Ways.{Stop, in_state, resolve, block_of_stop, way_of_stop}
+use Rattle.dh_plan.specs.Ways.{GraphStop, in_state, resolve, block_of_stop, way_of_stop}
 use Rattle.dh_cells.specs.Settled.{Signals, shown}
 use Rattle.dh_cells.specs.ShownValues.{bit, is_one, any_one}
 use Rattle.dh_lower.specs.NetOfPlan.{Making, words_of, sets_by, spot_length, fault_seen, led_on}
@@ -22,7 +22,7 @@ use Rattle.dh_control.specs.SizedWires.{shown_all}
 use Rattle.dh_control.specs.StateWires.{blocks_active}
 use Rattle.dh_control.specs.StepWires.{any_waits}
 use Rattle.dh_control.specs.ThreadHolds.{own_registers, ControlWires, next_wires, shown_blocks, state_blocks, ControlShows}
-use Rattle.dh_control.specs.WayMoves.{number_of}
+use Rattle.dh_control.specs.WayMoves.{spot_number}
 use Rattle.dh_control.proofs.OneActive.{state_active, none_active, ShowsOnly, ShowNone, some_active, none_going, never_waits, one_waits, one_fails, one_sets, none_sets}
 
 -- Truths.
@@ -61,7 +61,7 @@ some_test n m e = grind (arith, e, nat_tests)
 
 -- A step of one block.
 
-module _ (k : Making) (c : ControlWires) (x : Signals) (shows : ControlShows k c x) (clock tick n : ℕ) (registers : List ℕ) (stop : Stop)
+module _ (k : Making) (c : ControlWires) (x : Signals) (shows : ControlShows k c x) (clock tick n : ℕ) (registers : List ℕ) (stop : GraphStop)
     (holds : x.registers ≡ clock ∷ tick ∷ 0 ∷ n ∷ registers) (at : slice_get k.flow.states n ≡ Some stop) (there : stop.block < length k.plan.blocks)
     (wide : slice_index k.timing.lengths stop.block ≤ 2 ^ c.clock_width) where
   clock_is : shown x c.clock ≡ clock
@@ -103,7 +103,7 @@ module _ (k : Making) (c : ControlWires) (x : Signals) (shows : ControlShows k c
       ∙ ap (λ m. nat_lt (m + 1) (slice_index k.timing.lengths stop.block)) clock_is
 
   long_is : spot_length k (in_state n) ≡ slice_index k.timing.lengths stop.block
-  long_is = ap (λ (o : Option Stop). longest k.timing.lengths (block_of_stop o ∷ [])) at ∙ alone (slice_index k.timing.lengths stop.block)
+  long_is = ap (λ (o : Option GraphStop). longest k.timing.lengths (block_of_stop o ∷ [])) at ∙ alone (slice_index k.timing.lengths stop.block)
     where
       alone : (m : ℕ) → max m 0 ≡ m
       alone m = omega arith
@@ -114,7 +114,7 @@ module _ (k : Making) (c : ControlWires) (x : Signals) (shows : ControlShows k c
   fault_is_seen : fault_seen k (in_state n) registers x.wires ≡ first_fault events
   unfolding events
   fault_is_seen =
-      ap (λ (o : Option Stop). first_fault (block_events (start_at k.plan registers []) (first_in k.plan (block_of_stop o)) (words_of k x.wires (block_of_stop o)) (operations_in k.plan (block_of_stop o)) ++ [])) at
+      ap (λ (o : Option GraphStop). first_fault (block_events (start_at k.plan registers []) (first_in k.plan (block_of_stop o)) (words_of k x.wires (block_of_stop o)) (operations_in k.plan (block_of_stop o)) ++ [])) at
       ∙ ap first_fault (append-nil (block_events (start_at k.plan registers []) (first_in k.plan stop.block) (words_of k x.wires stop.block) (operations_in k.plan stop.block)))
 
   failed_is : shown x c.verdict.failed ≡ code_or (fault_seen k (in_state n) registers x.wires) 0
@@ -200,17 +200,17 @@ module _ (k : Making) (c : ControlWires) (x : Signals) (shows : ControlShows k c
 
       pub led_is : led_on k (in_state n) registers x.wires ≡ resolve k.plan.registers stop.way (shown_all x c.after)
       led_is =
-          ap (λ (o : Option Stop). resolve k.plan.registers (way_of_stop o) (all_set (sets_by k.plan (words_of k x.wires) (block_of_stop o ∷ [])) registers)) at
+          ap (λ (o : Option GraphStop). resolve k.plan.registers (way_of_stop o) (all_set (sets_by k.plan (words_of k x.wires) (block_of_stop o ∷ [])) registers)) at
           ∙ ap (λ rs. resolve k.plan.registers stop.way rs)
           (ap (λ l. all_set l registers) (append-nil (block_sets (first_in k.plan stop.block) (words_of k x.wires stop.block) (operations_in k.plan stop.block))) ∙ sym after_is)
 
       pub goes_on_next : shown_all x (next_wires c)
-          ≡ 0 ∷ 1 ∷ 0 ∷ number_of (length k.flow.states) (led_on k (in_state n) registers x.wires).spot ∷ (led_on k (in_state n) registers x.wires).registers
+          ≡ 0 ∷ 1 ∷ 0 ∷ spot_number (length k.flow.states) (led_on k (in_state n) registers x.wires).spot ∷ (led_on k (in_state n) registers x.wires).registers
       goes_on_next =
           let b : shown x c.verdict.commit ≡ 1 = bit_number (shown x c.verdict.commit) true shows.commit_fits commits in
           let f : shown x c.nexts.fault ≡ 0 = fault_next ∙ not_failed in
-          let s : shown x c.next_state ≡ number_of (length k.flow.states) (led_on k (in_state n) registers x.wires).spot =
-          (shows.goes commits stop here ∙ sym (ap (λ l. number_of (length k.flow.states) l.spot) led_is)) in
+          let s : shown x c.next_state ≡ spot_number (length k.flow.states) (led_on k (in_state n) registers x.wires).spot =
+          (shows.goes commits stop here ∙ sym (ap (λ l. spot_number (length k.flow.states) l.spot) led_is)) in
           let r : shown_all x c.news ≡ (led_on k (in_state n) registers x.wires).registers = shows.turns commits stop here ∙ sym (ap (λ l. l.registers) led_is) in
           (λ i. clock_none i ∷ b i ∷ f i ∷ s i ∷ r i)
 
@@ -259,7 +259,7 @@ module _ (k : Making) (c : ControlWires) (x : Signals) (shows : ControlShows k c
 
   -- which blocks are active, and whose writes are made
   pub active_as : (b : ℕ) → b < length k.plan.blocks → is_one x (slice_index c.active b) ≡ is_among b (blocks_of_spot k.flow.states (in_state n))
-  active_as b less = shows.active_is b less ∙ (ap (λ bs. is_among b bs) blocks_are ∙ sym (ap (λ (o : Option Stop). is_among b (block_of_stop o ∷ [])) at))
+  active_as b less = shows.active_is b less ∙ (ap (λ bs. is_among b bs) blocks_are ∙ sym (ap (λ (o : Option GraphStop). is_among b (block_of_stop o ∷ [])) at))
 
   pub clock_as : shown x c.clock ≡ clock
   clock_as = clock_is

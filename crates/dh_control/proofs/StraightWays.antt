@@ -9,14 +9,14 @@ use Rattle.dh_plan.specs.declared.graphs.Graph.{Graph}
 use Rattle.dh_plan.specs.declared.graphs.Group.{Group}
 use Rattle.dh_plan.specs.declared.graphs.State.{State}
 use Rattle.dh_plan.specs.SeenGraphs.{IsWay, IsFlowOf, WayWithin, StaysInGroup, BeginsGroups, HasFirst, FitsThread}
-use Rattle.dh_plan.specs.Ways.{Way, to_state, by_flag, by_count, to_fork, to_end, AllWays, no_ways, way_then, Stop, Flow}
-use Rattle.dh_control.specs.AllBlocks.{ways_of}
+use Rattle.dh_plan.specs.Ways.{GraphWay, to_state, by_flag, by_count, to_fork, to_end, AllWays, no_ways, way_then, GraphStop, Flow}
+use Rattle.dh_control.specs.AllBlocks.{state_ways}
 use Rattle.dh_control.specs.WayMoves.{way_of_decision}
 use Rattle.dh_control.specs.WiredNets.{IsStraight}
 
 -- A decision is its way.
 
-pub way_is : (groups : List Group) (states registers : ℕ) (d : Decision) (w : Way) → IsWay groups d w → IsStraight states w → WayWithin states registers w
+pub way_is : (groups : List Group) (states registers : ℕ) (d : Decision) (w : GraphWay) → IsWay groups d w → IsStraight states w → WayWithin states registers w
     → (way_of_decision d ≡ w) × FitsThread states registers d
 unfolding IsWay way_of_decision FitsThread
 way_is groups n r (Go state) (to_state s) h straight within = (ap to_state h, subst (λ (k : ℕ). k < n) (sym h) straight)
@@ -53,7 +53,7 @@ way_is groups n r Rest to_end h straight within = (refl, tt)
 
 -- Where there is one group alone, no way forks.
 
-no_fork : (homes : List ℕ) (parents : List (Option ℕ)) (group f : ℕ) (w : Way) (ws : AllWays) → parents ≡ None ∷ [] → BeginsGroups homes parents group f (way_then w ws) → ⊥
+no_fork : (homes : List ℕ) (parents : List (Option ℕ)) (group f : ℕ) (w : GraphWay) (ws : AllWays) → parents ≡ None ∷ [] → BeginsGroups homes parents group f (way_then w ws) → ⊥
 no_fork homes parents group zero w ws one h = let e : Some None ≡ Some (Some group) = subst (λ (l : List (Option ℕ)). slice_get l 0 ≡ Some (Some group)) one h.0 in cc
 no_fork homes parents group (suc f) w ws one h = let e : None ≡ Some (Some group) = subst (λ (l : List (Option ℕ)). slice_get l (suc f) ≡ Some (Some group)) one h.0 in cc
 
@@ -61,7 +61,7 @@ none_first : (forked : List ℕ) (f : ℕ) → HasFirst f forked → forked ≡ 
 none_first [] f h e = h
 none_first (g ∷ gs) f h e = cc
 
-pub way_straight : (groups : List Group) (homes : List ℕ) (parents : List (Option ℕ)) (group states registers : ℕ) (d : Decision) (w : Way) → parents ≡ None ∷ [] → IsWay groups d w
+pub way_straight : (groups : List Group) (homes : List ℕ) (parents : List (Option ℕ)) (group states registers : ℕ) (d : Decision) (w : GraphWay) → parents ≡ None ∷ [] → IsWay groups d w
     → StaysInGroup homes parents group w → WayWithin states registers w → IsStraight states w
 unfolding IsWay
 way_straight groups homes parents group n r d (to_state s) one h stays within = within
@@ -88,32 +88,32 @@ way_straight groups homes parents group n r Rest (to_fork f ws) one h stays with
 -- The lists of a graph of one group.
 
 module _ (g : Graph) (f : Flow) (registers : ℕ) (shows : IsFlowOf g f)
-    (so : (i : ℕ) (s : Stop) → slice_get f.states i ≡ Some s → IsStraight (length f.states) s.way × WayWithin (length f.states) registers s.way) where
-  way_at_index : (i : ℕ) → i < length f.states → get_or (ways_of g.states.items) i to_end ≡ get_or (map (λ (s : Stop). s.way) f.states) i to_end
+    (so : (i : ℕ) (s : GraphStop) → slice_get f.states i ≡ Some s → IsStraight (length f.states) s.way × WayWithin (length f.states) registers s.way) where
+  way_at_index : (i : ℕ) → i < length f.states → get_or (state_ways g.states.items) i to_end ≡ get_or (map (λ (s : GraphStop). s.way) f.states) i to_end
   way_at_index i less =
       elim (slice_get_cases g.states.items i).1 [
         | inl found ↦ elim (slice_get_cases f.states i).1 [
           | inl stop ↦
               let each = shows.each i found.0 stop.0 found.2 stop.2 in
               let p = so i stop.0 stop.2 in
-              get_or_from_slice_get (ways_of g.states.items) i (way_of_decision found.0.next) to_end
+              get_or_from_slice_get (state_ways g.states.items) i (way_of_decision found.0.next) to_end
               (slice_get-map (λ (s : State). way_of_decision s.next) g.states.items i ∙ ap (option_map (λ (s : State). way_of_decision s.next)) found.2)
               ∙ ((way_is g.groups.items (length f.states) registers found.0.next stop.0.way each.next p.0 p.1).0
-              ∙ sym (get_or_from_slice_get (map (λ (s : Stop). s.way) f.states) i stop.0.way to_end
-              (slice_get-map (λ (s : Stop). s.way) f.states i ∙ ap (option_map (λ (s : Stop). s.way)) stop.2)))
+              ∙ sym (get_or_from_slice_get (map (λ (s : GraphStop). s.way) f.states) i stop.0.way to_end
+              (slice_get-map (λ (s : GraphStop). s.way) f.states i ∙ ap (option_map (λ (s : GraphStop). s.way)) stop.2)))
           | inr past ↦ absurd (let beyond = past.0 in omega (arith, beyond, less))
         ]
         | inr past ↦ absurd (let beyond = past.0 in let l = shows.states in omega (arith, beyond, less, l))
       ]
 
-  pub flow_ways : ways_of g.states.items ≡ map (λ (s : Stop). s.way) f.states
+  pub flow_ways : state_ways g.states.items ≡ map (λ (s : GraphStop). s.way) f.states
   flow_ways =
       let a = length-map g.states.items (λ (s : State). way_of_decision s.next) in
-      let b = length-map f.states (λ (s : Stop). s.way) in
+      let b = length-map f.states (λ (s : GraphStop). s.way) in
       let l = shows.states in
-      ext_get_or to_end (ways_of g.states.items) (map (λ (s : Stop). s.way) f.states) (omega (arith, a, b, l)) (λ i less. way_at_index i (omega (arith, less, a, l)))
+      ext_get_or to_end (state_ways g.states.items) (map (λ (s : GraphStop). s.way) f.states) (omega (arith, a, b, l)) (λ i less. way_at_index i (omega (arith, less, a, l)))
 
-  block_at_index : (i : ℕ) → i < length f.states → get_or (map (λ (s : State). s.block) g.states.items) i 0 ≡ get_or (map (λ (s : Stop). s.block) f.states) i 0
+  block_at_index : (i : ℕ) → i < length f.states → get_or (map (λ (s : State). s.block) g.states.items) i 0 ≡ get_or (map (λ (s : GraphStop). s.block) f.states) i 0
   block_at_index i less =
       elim (slice_get_cases g.states.items i).1 [
         | inl found ↦ elim (slice_get_cases f.states i).1 [
@@ -121,16 +121,16 @@ module _ (g : Graph) (f : Flow) (registers : ℕ) (shows : IsFlowOf g f)
               get_or_from_slice_get (map (λ (s : State). s.block) g.states.items) i found.0.block 0
               (slice_get-map (λ (s : State). s.block) g.states.items i ∙ ap (option_map (λ (s : State). s.block)) found.2)
               ∙ ((shows.each i found.0 stop.0 found.2 stop.2).block
-              ∙ sym (get_or_from_slice_get (map (λ (s : Stop). s.block) f.states) i stop.0.block 0
-              (slice_get-map (λ (s : Stop). s.block) f.states i ∙ ap (option_map (λ (s : Stop). s.block)) stop.2)))
+              ∙ sym (get_or_from_slice_get (map (λ (s : GraphStop). s.block) f.states) i stop.0.block 0
+              (slice_get-map (λ (s : GraphStop). s.block) f.states i ∙ ap (option_map (λ (s : GraphStop). s.block)) stop.2)))
           | inr past ↦ absurd (let beyond = past.0 in omega (arith, beyond, less))
         ]
         | inr past ↦ absurd (let beyond = past.0 in let l = shows.states in omega (arith, beyond, less, l))
       ]
 
-  pub flow_blocks : map (λ (s : State). s.block) g.states.items ≡ map (λ (s : Stop). s.block) f.states
+  pub flow_blocks : map (λ (s : State). s.block) g.states.items ≡ map (λ (s : GraphStop). s.block) f.states
   flow_blocks =
       let a = length-map g.states.items (λ (s : State). s.block) in
-      let b = length-map f.states (λ (s : Stop). s.block) in
+      let b = length-map f.states (λ (s : GraphStop). s.block) in
       let l = shows.states in
-      ext_get_or 0 (map (λ (s : State). s.block) g.states.items) (map (λ (s : Stop). s.block) f.states) (omega (arith, a, b, l)) (λ i less. block_at_index i (omega (arith, less, a, l)))
+      ext_get_or 0 (map (λ (s : State). s.block) g.states.items) (map (λ (s : GraphStop). s.block) f.states) (omega (arith, a, b, l)) (λ i less. block_at_index i (omega (arith, less, a, l)))

@@ -16,31 +16,31 @@ use Rattle.dh_plan.specs.Blocks.{AreValues, all_set}
 use Rattle.dh_plan.specs.LegalSchedules.{Timing, clocks_in}
 use Rattle.dh_plan.specs.PlainPlans.{PlainPlan, first_in, operations_in}
 use Rattle.dh_plan.specs.PlanRuns.{start_at, first_registers, flag_holds, counted_up}
-use Rattle.dh_plan.specs.Ways.{Stop, Spot, rests, in_state, in_fork, Way, to_state, by_flag, by_count, to_fork, to_end, resolve, way_of_stop}
+use Rattle.dh_plan.specs.Ways.{GraphStop, GraphSpot, rests, in_state, in_fork, GraphWay, to_state, by_flag, by_count, to_fork, to_end, resolve, way_of_stop}
 use Rattle.dh_cells.specs.Settled.{Signals, signals, shown}
 use Rattle.dh_cells.specs.ShownValues.{is_one}
-use Rattle.dh_lower.specs.NetOfPlan.{Making, Standing, words_of, sets_by, spot_length, fault_seen, led_on, moment_at, next_registers, ShowsAtClock, ShowsOver, IsNetOf}
+use Rattle.dh_lower.specs.NetOfPlan.{Making, RegisterMeaning, words_of, sets_by, spot_length, fault_seen, led_on, moment_at, next_registers, ShowsAtClock, ShowsOver, IsNetOf}
 use Rattle.dh_lower.specs.PortUsers.{User, Moment, DriveFor, is_among, operation_asks, user_asks}
 use Rattle.dh_lower.specs.ShownWords.{in_ports}
 use Rattle.dh_lower.specs.SpotsDone.{blocks_of_spot}
 use Rattle.dh_control.specs.SizedWires.{shown_all}
 use Rattle.dh_control.specs.ThreadHolds.{StandsAt, holds_thread, own_registers, ControlWires, next_wires, ControlShows}
-use Rattle.dh_control.specs.WayMoves.{number_of}
+use Rattle.dh_control.specs.WayMoves.{spot_number}
 use Rattle.dh_control.specs.WiredNets.{IsStraight, MomentShown, IsWired}
 use Rattle.dh_control.proofs.StepEnds.{waits_next, goes_on_next, faults_next, commits_as, active_as, clock_as, outputs, over_next, over_outputs, over_active, over_commit}
 
 -- Where a way of one thread leads.
 
-led_stands : (states : ℕ) (kinds : List Kind) (w : Way) (registers : List ℕ) → IsStraight states w
-    → StandsAt states (resolve kinds w registers).spot (number_of states (resolve kinds w registers).spot) × (length (resolve kinds w registers).registers ≡ length registers)
+led_stands : (states : ℕ) (kinds : List Kind) (w : GraphWay) (registers : List ℕ) → IsStraight states w
+    → StandsAt states (resolve kinds w registers).spot (spot_number states (resolve kinds w registers).spot) × (length (resolve kinds w registers).registers ≡ length registers)
 led_stands states kinds (to_state state) registers h = ((refl, h), refl)
 led_stands states kinds (by_flag flag w v) registers h =
     by (flag_holds registers flag) (led_stands states kinds w registers h.0) (led_stands states kinds v registers h.1)
   where
     by : (t : Bool)
-        → StandsAt states (resolve kinds w registers).spot (number_of states (resolve kinds w registers).spot) × (length (resolve kinds w registers).registers ≡ length registers)
-        → StandsAt states (resolve kinds v registers).spot (number_of states (resolve kinds v registers).spot) × (length (resolve kinds v registers).registers ≡ length registers)
-        → StandsAt states (if t then resolve kinds w registers else resolve kinds v registers).spot (number_of states (if t then resolve kinds w registers else resolve kinds v registers).spot)
+        → StandsAt states (resolve kinds w registers).spot (spot_number states (resolve kinds w registers).spot) × (length (resolve kinds w registers).registers ≡ length registers)
+        → StandsAt states (resolve kinds v registers).spot (spot_number states (resolve kinds v registers).spot) × (length (resolve kinds v registers).registers ≡ length registers)
+        → StandsAt states (if t then resolve kinds w registers else resolve kinds v registers).spot (spot_number states (if t then resolve kinds w registers else resolve kinds v registers).spot)
         × (length (if t then resolve kinds w registers else resolve kinds v registers).registers ≡ length registers)
     by true p q = p
     by false p q = q
@@ -50,12 +50,12 @@ led_stands states kinds (by_count counter last w v) registers h =
     by (slice_index registers counter == last) (past.0, past.1 ∙ length-set registers counter 0) (again.0, again.1 ∙ length-set registers counter _)
   where
     by : (t : Bool)
-        → StandsAt states (resolve kinds v (slice_set registers counter 0)).spot (number_of states (resolve kinds v (slice_set registers counter 0)).spot)
+        → StandsAt states (resolve kinds v (slice_set registers counter 0)).spot (spot_number states (resolve kinds v (slice_set registers counter 0)).spot)
         × (length (resolve kinds v (slice_set registers counter 0)).registers ≡ length registers)
-        → StandsAt states (resolve kinds w (counted_up kinds counter registers)).spot (number_of states (resolve kinds w (counted_up kinds counter registers)).spot)
+        → StandsAt states (resolve kinds w (counted_up kinds counter registers)).spot (spot_number states (resolve kinds w (counted_up kinds counter registers)).spot)
         × (length (resolve kinds w (counted_up kinds counter registers)).registers ≡ length registers)
         → StandsAt states (if t then resolve kinds v (slice_set registers counter 0) else resolve kinds w (counted_up kinds counter registers)).spot
-        (number_of states (if t then resolve kinds v (slice_set registers counter 0) else resolve kinds w (counted_up kinds counter registers)).spot)
+        (spot_number states (if t then resolve kinds v (slice_set registers counter 0) else resolve kinds w (counted_up kinds counter registers)).spot)
         × (length (if t then resolve kinds v (slice_set registers counter 0) else resolve kinds w (counted_up kinds counter registers)).registers ≡ length registers)
     by true p q = p
     by false p q = q
@@ -93,7 +93,7 @@ module _ (k : Making) (net : Net) (c : ControlWires) (w : IsWired k net c) where
   abbrev states : ℕ
   states = length k.flow.states
 
-  abbrev Holds : Standing
+  abbrev Holds : RegisterMeaning
   Holds = holds_thread (length k.flow.states) (length k.plan.registers)
 
   nexts : (wires held registers : List ℕ) → next_registers k net Holds wires ≡ shown_all (signals registers held wires) (next_wires c)
@@ -101,7 +101,7 @@ module _ (k : Making) (net : Net) (c : ControlWires) (w : IsWired k net c) where
 
   -- in a state
   module _ (s : State) (wires : List ℕ) (fits : FitsNet net s) (v : IsValuation net.table net.cells s.registers s.held wires)
-      (n clock tick : ℕ) (registers : List ℕ) (stop : Stop) (less : n < length k.flow.states) (at : slice_get k.flow.states n ≡ Some stop)
+      (n clock tick : ℕ) (registers : List ℕ) (stop : GraphStop) (less : n < length k.flow.states) (at : slice_get k.flow.states n ≡ Some stop)
       (long : length registers ≡ length k.plan.registers) (holds : s.registers ≡ clock ∷ tick ∷ 0 ∷ n ∷ registers) (early : clock < spot_length k (in_state n)) where
     abbrev x : Signals
     x = signals s.registers s.held wires
@@ -122,12 +122,12 @@ module _ (k : Making) (net : Net) (c : ControlWires) (w : IsWired k net c) where
     }
 
     led_there : fault_seen k (in_state n) registers wires ≡ None
-        → StandsAt (length k.flow.states) (led_on k (in_state n) registers wires).spot (number_of (length k.flow.states) (led_on k (in_state n) registers wires).spot)
+        → StandsAt (length k.flow.states) (led_on k (in_state n) registers wires).spot (spot_number (length k.flow.states) (led_on k (in_state n) registers wires).spot)
         × (length (led_on k (in_state n) registers wires).registers ≡ length k.plan.registers)
     led_there fine =
         let so = led_stands (length k.flow.states) k.plan.registers (way_of_stop (slice_get k.flow.states n))
         (all_set (sets_by k.plan (words_of k wires) (blocks_of_spot k.flow.states (in_state n))) registers)
-        (subst (λ (o : Option Stop). IsStraight (length k.flow.states) (way_of_stop o)) (sym at) (w.straight n stop at)) in
+        (subst (λ (o : Option GraphStop). IsStraight (length k.flow.states) (way_of_stop o)) (sym at) (w.straight n stop at)) in
         (so.0, so.1 ∙ (sets_long (sets_by k.plan (words_of k wires) (blocks_of_spot k.flow.states (in_state n))) registers ∙ long))
 
     shows_clock : ShowsAtClock k net Holds (in_state n) clock tick registers s.held wires
@@ -139,7 +139,7 @@ module _ (k : Making) (net : Net) (c : ControlWires) (w : IsWired k net c) where
               (ap (λ l. drop own_registers l) holds) (w.words s wires fits v block);
           waits = λ before. (n, ((refl, less), (long, nexts wires s.held s.registers ∙ waits_next k c x shows clock tick n registers stop holds at there (w.wide stop.block) before)));
           goes_on = λ last fine. (
-            number_of (length k.flow.states) (led_on k (in_state n) registers wires).spot,
+            spot_number (length k.flow.states) (led_on k (in_state n) registers wires).spot,
             ((led_there fine).0, ((led_there fine).1, nexts wires s.held s.registers ∙ goes_on_next k c x shows clock tick n registers stop holds at there (w.wide stop.block) last fine)),
           );
           faults = λ fault last seen.
@@ -150,7 +150,7 @@ module _ (k : Making) (net : Net) (c : ControlWires) (w : IsWired k net c) where
           no_fault = ap (λ n. slice_index wires n) w.fault_is ∙ outs.1.1;
         }
 
-  at_clock : (spot : Spot) (clock tick : ℕ) (registers : List ℕ) (s : State) (wires : List ℕ)
+  at_clock : (spot : GraphSpot) (clock tick : ℕ) (registers : List ℕ) (s : State) (wires : List ℕ)
       → (blocks_of_spot k.flow.states spot ≡ [] → ⊥) → clock < spot_length k spot → Holds spot clock tick 0 registers s.registers
       → FitsNet net s → IsValuation net.table net.cells s.registers s.held wires → ShowsAtClock k net Holds spot clock tick registers s.held wires
   at_clock rests clock tick registers s wires some early h fits v = absurd (some refl)
@@ -197,7 +197,7 @@ module _ (k : Making) (net : Net) (c : ControlWires) (w : IsWired k net c) where
         fault_names = w.fault_names;
         users = w.users;
         starts = (
-          number_of (length k.flow.states) (resolve k.plan.registers k.flow.first (first_registers k.plan)).spot,
+          spot_number (length k.flow.states) (resolve k.plan.registers k.flow.first (first_registers k.plan)).spot,
           (first.0, (first.1 ∙ length-replicate (length k.plan.registers) 0, w.initials_are)),
         );
         at_clock = at_clock;

@@ -11,7 +11,7 @@ use Rattle.dh_plan.specs.SoundPlans.{use_in, HasUse, IsFormed}
 use Rattle.dh_lower.specs.PortUsers.{User, HasUser, AreApart, AreUsers}
 use Rattle.dh_lower.proofs.BoundPortFacts.{reach_suits}
 use Rattle.dh_control.specs.declared.gathering.Keyed.{Keyed}
-use Rattle.dh_control.specs.KeyedItems.{picked}
+use Rattle.dh_control.specs.KeyedItems.{items_picked}
 use Rattle.dh_control.specs.PlanUsers.{user_at, bank_users, use_users, operations_users, blocks_users, users_of}
 use Rattle.dh_control.proofs.GatheredItems.{picked_here, picked_past}
 use Rattle.dh_control.proofs.UsersListed.{all_listed, own_listed}
@@ -24,7 +24,7 @@ abbrev AllApart : List (Keyed User) → Type 0
 AllApart [] = Unit {0}
 AllApart (e ∷ es) = (ItemIn e.item es → ⊥) × AllApart es
 
-picked_item : (port : ℕ) (v : User) (es : List (Keyed User)) → HasUser v (picked port es) → ItemIn v es
+picked_item : (port : ℕ) (v : User) (es : List (Keyed User)) → HasUser v (items_picked port es) → ItemIn v es
 picked_item port v [] h = absurd h
 picked_item port v (e ∷ es) h = elim (cases_eq e.key port) [
   | inl same ↦ elim (subst (λ (l : List User). HasUser v l) (picked_here port e es same) h) [
@@ -34,7 +34,7 @@ picked_item port v (e ∷ es) h = elim (cases_eq e.key port) [
   | inr other ↦ inr (picked_item port v es (subst (λ (l : List User). HasUser v l) (picked_past port e es other) h))
 ]
 
-picked_apart : (port : ℕ) (es : List (Keyed User)) → AllApart es → AreApart (picked port es)
+picked_apart : (port : ℕ) (es : List (Keyed User)) → AllApart es → AreApart (items_picked port es)
 picked_apart port [] h = tt
 picked_apart port (e ∷ es) h = elim (cases_eq e.key port) [
   | inl same ↦ subst (λ (l : List User). AreApart l) (sym (picked_here port e es same)) ((λ a. h.0 (picked_item port e.item es a)), picked_apart port es h.1)

@@ -12,7 +12,7 @@ use Rattle.dh_plan.specs.SoundPlans.{use_in, HasUse, IsListed}
 use Rattle.dh_lower.specs.PortUsers.{User, HasUser}
 use Rattle.dh_lower.specs.ShownWords.{port_bound}
 use Rattle.dh_control.specs.declared.gathering.Keyed.{Keyed}
-use Rattle.dh_control.specs.KeyedItems.{picked}
+use Rattle.dh_control.specs.KeyedItems.{items_picked}
 use Rattle.dh_control.specs.PlanUsers.{user_at, bank_users, use_users, operations_users, blocks_users, users_of}
 use Rattle.dh_control.proofs.GatheredItems.{picked_here, picked_past}
 
@@ -43,7 +43,7 @@ in_either k (e ∷ es) fs h = elim h [
   ]
 ]
 
-picked_has : (k : Keyed User) (es : List (Keyed User)) → InKeyed k es → HasUser k.item (picked k.key es)
+picked_has : (k : Keyed User) (es : List (Keyed User)) → InKeyed k es → HasUser k.item (items_picked k.key es)
 picked_has k [] h = absurd h
 picked_has k (e ∷ es) h = elim h [
   | inl here ↦ subst (λ (l : List User). HasUser k.item l) (sym (picked_here k.key e es (ap (λ y. y.key) (sym here)))) (inl (ap (λ y. y.item) here))
@@ -59,7 +59,7 @@ record PickedFrom (port : ℕ) (user : User) (es : List (Keyed User)) : Type 0 w
   pub port_is : keyed.key ≡ port
   pub user_is : user ≡ keyed.item
 
-picked_from : (port : ℕ) (user : User) (es : List (Keyed User)) → HasUser user (picked port es) → PickedFrom port user es
+picked_from : (port : ℕ) (user : User) (es : List (Keyed User)) → HasUser user (items_picked port es) → PickedFrom port user es
 picked_from port user [] h = absurd h
 picked_from port user (e ∷ es) h = elim (cases_eq e.key port) [
   | inl same ↦ elim (subst (λ (l : List User). HasUser user l) (picked_here port e es same) h) [

@@ -4,7 +4,7 @@ use Rattle.std.specs.Prelude.{slice_index, slice_set}
 use Rattle.std.proofs.lemmas.Bool.{cases_Bool}
 use Rattle.dh_value.specs.declared.kinds.Kind.{Kind}
 use Rattle.dh_plan.specs.PlanRuns.{flag_holds}
-use Rattle.dh_plan.specs.Ways.{Way, to_state, by_flag, to_end, Led, resolve}
+use Rattle.dh_plan.specs.Ways.{GraphWay, to_state, by_flag, to_end, GraphLed, resolve}
 use Rattle.dh_cells.specs.PlainCircuits.{PlainCircuit}
 use Rattle.dh_cells.specs.Settled.{Signals, IsSettled, Grows, IsWire, Adds, shown}
 use Rattle.dh_cells.specs.ShownValues.{is_one, number_shown, more_shown, match_shown, both_shown, not_shown}
@@ -13,7 +13,7 @@ use Rattle.dh_cells.proofs.OperatorBits.{bit_tells}
 use Rattle.dh_control.specs.declared.leading.Branch.{Branch}
 use Rattle.dh_control.specs.MovedValues.{Move, set_where, moved, MoveFits, AreMoves}
 use Rattle.dh_control.specs.SizedWires.{AreSized, shown_all}
-use Rattle.dh_control.specs.WayMoves.{HoldsStates, number_of, BranchMade, CountedMade, LeadAdded, WayAdded}
+use Rattle.dh_control.specs.WayMoves.{HoldsStates, spot_number, BranchMade, CountedMade, LeadAdded, WayAdded}
 use Rattle.dh_control.proofs.ListFacts.{all_both}
 use Rattle.dh_control.proofs.MovedLists.{moves_stay, sized_stay, shown_at}
 use Rattle.dh_control.proofs.SetsMoved.{moved_behind}
@@ -78,8 +78,8 @@ lead_added d e width active number value before after test a put = record {
 }
 
 -- where a way only leads to a number
-pub lead_way : (d e : PlainCircuit) (widths : List ℕ) (width states active : ℕ) (after : List ℕ) (w : Way) (number : ℕ) (moves leads further : List Move)
-    → ((kinds : List Kind) (values : List ℕ) → ((resolve kinds w values).registers ≡ values) × (number_of states (resolve kinds w values).spot ≡ number))
+pub lead_way : (d e : PlainCircuit) (widths : List ℕ) (width states active : ℕ) (after : List ℕ) (w : GraphWay) (number : ℕ) (moves leads further : List Move)
+    → ((kinds : List Kind) (values : List ℕ) → ((resolve kinds w values).registers ≡ values) × (spot_number states (resolve kinds w values).spot ≡ number))
     → LeadAdded d e width active number leads further → WayAdded d e widths width states active after w moves moves leads further
 lead_way d e widths width states active after w number moves leads further so a = record {
   grows = a.grows;
@@ -91,16 +91,16 @@ lead_way d e widths width states active after w number moves leads further so a 
   stays = a.stays;
 }
 
-pub go_way : (d e : PlainCircuit) (widths : List ℕ) (width states active : ℕ) (after : List ℕ) (w : Way) (state : ℕ) (moves leads further : List Move) → w ≡ to_state state
+pub go_way : (d e : PlainCircuit) (widths : List ℕ) (width states active : ℕ) (after : List ℕ) (w : GraphWay) (state : ℕ) (moves leads further : List Move) → w ≡ to_state state
     → LeadAdded d e width active state leads further → WayAdded d e widths width states active after w moves moves leads further
 go_way d e widths width states active after w state moves leads further is a =
-    subst (λ (v : Way). WayAdded d e widths width states active after v moves moves leads further) (sym is)
+    subst (λ (v : GraphWay). WayAdded d e widths width states active after v moves moves leads further) (sym is)
     (lead_way d e widths width states active after (to_state state) state moves leads further (λ kinds values. (refl, refl)) a)
 
-pub rest_way : (d e : PlainCircuit) (widths : List ℕ) (width states active : ℕ) (after : List ℕ) (w : Way) (moves leads further : List Move) → w ≡ to_end
+pub rest_way : (d e : PlainCircuit) (widths : List ℕ) (width states active : ℕ) (after : List ℕ) (w : GraphWay) (moves leads further : List Move) → w ≡ to_end
     → LeadAdded d e width active states leads further → WayAdded d e widths width states active after w moves moves leads further
 rest_way d e widths width states active after w moves leads further is a =
-    subst (λ (v : Way). WayAdded d e widths width states active after v moves moves leads further) (sym is)
+    subst (λ (v : GraphWay). WayAdded d e widths width states active after v moves moves leads further) (sym is)
     (lead_way d e widths width states active after to_end states moves leads further (λ kinds values. (refl, refl)) a)
 
 -- Tests of a branch.
@@ -127,7 +127,7 @@ not_false t e = ap not e
 
 -- By a flag.
 
-module _ (d e f g : PlainCircuit) (widths : List ℕ) (width states active : ℕ) (after : List ℕ) (flag : ℕ) (w v : Way) (b : Branch) (m0 m1 m2 l0 l1 l2 : List Move)
+module _ (d e f g : PlainCircuit) (widths : List ℕ) (width states active : ℕ) (after : List ℕ) (flag : ℕ) (w v : GraphWay) (b : Branch) (m0 m1 m2 l0 l1 l2 : List Move)
     (inside : flag < length after) (a : BranchMade d e active (slice_index after flag) 1 b)
     (p : WayAdded e f widths width states b.chosen after w m0 m1 l0 l1) (q : WayAdded f g widths width states b.other after v m1 m2 l1 l2) where
   e_g : Grows e g
@@ -157,7 +157,7 @@ module _ (d e f g : PlainCircuit) (widths : List ℕ) (width states active : ℕ
   none_other : (x : Signals) → IsSettled g x → is_one x active ≡ false → is_one x b.other ≡ false
   none_other x s off = both_no_first (is_one x active) _ (is_one x b.other) (a.other_is x (settled_fewer e g x e_g s)) off
 
-  abbrev led_by : (kinds : List Kind) → List ℕ → Bool → Led
+  abbrev led_by : (kinds : List Kind) → List ℕ → Bool → GraphLed
   led_by kinds values t = if t then resolve kinds w values else resolve kinds v values
 
   pub test_way : WayAdded d g widths width states active after (by_flag flag w v) m0 m2 l0 l2
@@ -176,21 +176,21 @@ module _ (d e f g : PlainCircuit) (widths : List ℕ) (width states active : ℕ
     goes = λ x kinds n s same on. elim (cases_Bool (flag_holds (shown_all x after) flag)) [
       | inl holds ↦
           q.stays x (n ∷ []) s (other_off x s holds)
-          ∙ (p.goes x kinds n (in_f x s) same (chosen_on x s on holds) ∙ sym (ap (λ t. moved x l0 (number_of states (led_by kinds (shown_all x after) t).spot ∷ [])) holds))
+          ∙ (p.goes x kinds n (in_f x s) same (chosen_on x s on holds) ∙ sym (ap (λ t. moved x l0 (spot_number states (led_by kinds (shown_all x after) t).spot ∷ [])) holds))
       | inr none ↦
           q.goes x kinds n s same (other_on x s on none)
-          ∙ (p.stays x _ (in_f x s) (chosen_off x s none) ∙ sym (ap (λ t. moved x l0 (number_of states (led_by kinds (shown_all x after) t).spot ∷ [])) none))
+          ∙ (p.stays x _ (in_f x s) (chosen_off x s none) ∙ sym (ap (λ t. moved x l0 (spot_number states (led_by kinds (shown_all x after) t).spot ∷ [])) none))
     ];
     keeps = λ x values s off. q.keeps x values s (none_other x s off) ∙ p.keeps x values (in_f x s) (none_chosen x s off);
     stays = λ x values s off. q.stays x values s (none_other x s off) ∙ p.stays x values (in_f x s) (none_chosen x s off);
   }
 
 -- a decision by a flag, where registers stand as they did when its second way is added
-pub test_done : (d e f g : PlainCircuit) (widths : List ℕ) (width states active : ℕ) (after again : List ℕ) (flag : ℕ) (whole w v : Way) (b : Branch) (m0 m1 m2 l0 l1 l2 : List Move)
+pub test_done : (d e f g : PlainCircuit) (widths : List ℕ) (width states active : ℕ) (after again : List ℕ) (flag : ℕ) (whole w v : GraphWay) (b : Branch) (m0 m1 m2 l0 l1 l2 : List Move)
     → flag < length after → BranchMade d e active (slice_index after flag) 1 b → WayAdded e f widths width states b.chosen after w m0 m1 l0 l1 → again ≡ after
     → WayAdded f g widths width states b.other again v m1 m2 l1 l2 → whole ≡ by_flag flag w v → WayAdded d g widths width states active after whole m0 m2 l0 l2
 test_done d e f g widths width states active after again flag whole w v b m0 m1 m2 l0 l1 l2 inside a p same q is =
-    subst (λ (y : Way). WayAdded d g widths width states active after y m0 m2 l0 l2) (sym is)
+    subst (λ (y : GraphWay). WayAdded d g widths width states active after y m0 m2 l0 l2) (sym is)
     (test_way d e f g widths width states active after flag w v b m0 m1 m2 l0 l1 l2 inside a p (subst (λ (l : List ℕ). WayAdded f g widths width states b.other l v m1 m2 l1 l2) same q))
 
 pub after_sized : (d e : PlainCircuit) (widths wires : List ℕ) (items : List ℕ) → Grows d e → wires ≡ items → AreSized d widths items → AreSized e widths wires

@@ -7,7 +7,7 @@ use Rattle.dh_value.specs.declared.words.Word.{Word}
 use Rattle.dh_plan.specs.declared.graphs.State.{State}
 use Rattle.dh_plan.specs.declared.operations.PlanBlock.{PlanBlock}
 use Rattle.dh_plan.specs.Blocks.{StepStart, block_events, block_sets, first_fault}
-use Rattle.dh_plan.specs.Ways.{Way, to_end, resolve}
+use Rattle.dh_plan.specs.Ways.{GraphWay, to_end, resolve}
 use Rattle.dh_cells.specs.FirstTests.{AreTested}
 use Rattle.dh_cells.specs.PlainCircuits.{PlainCircuit}
 use Rattle.dh_cells.specs.Settled.{Signals, IsSettled, Grows, shown}
@@ -18,7 +18,7 @@ use Rattle.dh_control.specs.MovedValues.{Move, moved, AreMoves}
 use Rattle.dh_control.specs.RegisterSets.{all_set_where, SetSuits}
 use Rattle.dh_control.specs.SizedWires.{shown_all}
 use Rattle.dh_control.specs.ValuesShown.{AreShownWords}
-use Rattle.dh_control.specs.WayMoves.{number_of, way_of_decision}
+use Rattle.dh_control.specs.WayMoves.{spot_number, way_of_decision}
 
 -- of each block the number of its first value, and the words of its values
 pub record BlockWords : Type 0 where
@@ -63,21 +63,21 @@ pub record AllChecksAdded (old new : PlainCircuit) (active wires : List ℕ) (bl
       → first_of x after default ≡ first_of x before (blocks_code x active s w 0 blocks default)
 
 -- the ways behind states
-abbrev pub ways_of : List State → List Way
-ways_of states = map (λ s. way_of_decision s.next) states
+abbrev pub state_ways : List State → List GraphWay
+state_ways states = map (λ s. way_of_decision s.next) states
 
-abbrev pub way_at : List Way → (state : ℕ) → Way
+abbrev pub way_at : List GraphWay → (state : ℕ) → GraphWay
 way_at ways state = slice_index_or ways state to_end
 
 -- Moves were added, in front of those that were there, for the ways behind the states below a number: they are made where
 -- a wire shows 1 and the graph stands in one of those states.
-pub record WaysAdded (old new : PlainCircuit) (widths : List ℕ) (width states state commit : ℕ) (after : List ℕ) (ways : List Way) (count : ℕ) (moves more leads further : List Move) : Type 0 where
+pub record WaysAdded (old new : PlainCircuit) (widths : List ℕ) (width states state commit : ℕ) (after : List ℕ) (ways : List GraphWay) (count : ℕ) (moves more leads further : List Move) : Type 0 where
   pub grows : Grows old new
   pub moves_fit : AreMoves old widths moves → AreMoves new widths more
   pub leads_fit : AreMoves old (width ∷ []) leads → AreMoves new (width ∷ []) further
   pub turns : (x : Signals) (kinds : List Kind) (n : ℕ) → IsSettled new x → map width_of kinds ≡ widths → is_one x commit ≡ true → shown x state ≡ n → n < count
       → moved x more (shown_all x after) ≡ moved x moves (resolve kinds (way_at ways n) (shown_all x after)).registers
   pub goes : (x : Signals) (kinds : List Kind) (n k : ℕ) → IsSettled new x → map width_of kinds ≡ widths → is_one x commit ≡ true → shown x state ≡ n → n < count
-      → moved x further (k ∷ []) ≡ moved x leads (number_of states (resolve kinds (way_at ways n) (shown_all x after)).spot ∷ [])
+      → moved x further (k ∷ []) ≡ moved x leads (spot_number states (resolve kinds (way_at ways n) (shown_all x after)).spot ∷ [])
   pub keeps : (x : Signals) (values : List ℕ) → IsSettled new x → (is_one x commit ≡ false) ⊎ (count ≤ shown x state) → moved x more values ≡ moved x moves values
   pub stays : (x : Signals) (values : List ℕ) → IsSettled new x → (is_one x commit ≡ false) ⊎ (count ≤ shown x state) → moved x further values ≡ moved x leads values

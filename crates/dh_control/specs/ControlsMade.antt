@@ -14,11 +14,11 @@ use Rattle.dh_control.specs.declared.controlling.Activity.{Activity}
 use Rattle.dh_control.specs.declared.controlling.Outcome.{Outcome}
 use Rattle.dh_control.specs.declared.controlling.Results.{Results}
 use Rattle.dh_control.specs.declared.stepping.Verdict.{Verdict}
-use Rattle.dh_control.specs.AllBlocks.{BlockWords, AreBlockWords, blocks_set, blocks_code, ways_of, way_at}
+use Rattle.dh_control.specs.AllBlocks.{BlockWords, AreBlockWords, blocks_set, blocks_code, state_ways, way_at}
 use Rattle.dh_control.specs.SizedWires.{AreSized, shown_all}
 use Rattle.dh_control.specs.StateWires.{AreStands, blocks_active}
 use Rattle.dh_control.specs.StepWires.{any_waits}
-use Rattle.dh_control.specs.WayMoves.{number_of}
+use Rattle.dh_control.specs.WayMoves.{spot_number}
 
 -- where the graph stands; `blocks` are those of the states, and `count` is how many there are in the plan
 pub record ActivityMade (old new : PlainCircuit) (state : ℕ) (blocks : List ℕ) (count : ℕ) (a : Activity) : Type 0 where
@@ -61,9 +61,9 @@ pub record ResultsMade (old new : PlainCircuit) (widths after : List ℕ) (width
   pub news : AreSized new widths r.news
   pub next : AreSized new (width ∷ []) r.state
   pub turns : (x : Signals) (kinds : List Kind) (n : ℕ) → IsSettled new x → map width_of kinds ≡ widths → is_one x v.commit ≡ true → shown x state ≡ n → n < length states
-      → shown_all x r.news ≡ (resolve kinds (way_at (ways_of states) n) (shown_all x after)).registers
+      → shown_all x r.news ≡ (resolve kinds (way_at (state_ways states) n) (shown_all x after)).registers
   pub keeps : (x : Signals) → IsSettled new x → is_one x v.commit ≡ false → shown_all x r.news ≡ shown_all x after
   pub goes : (x : Signals) (kinds : List Kind) (n : ℕ) → IsSettled new x → map width_of kinds ≡ widths → is_one x v.commit ≡ true → is_one x v.faulted ≡ false → shown x state ≡ n → n < length states
-      → shown_all x r.state ≡ number_of (length states) (resolve kinds (way_at (ways_of states) n) (shown_all x after)).spot ∷ []
+      → shown_all x r.state ≡ spot_number (length states) (resolve kinds (way_at (state_ways states) n) (shown_all x after)).spot ∷ []
   pub halts : (x : Signals) → IsSettled new x → is_one x v.commit ≡ false → is_one x v.faulted ≡ true → shown_all x r.state ≡ length states ∷ []
   pub stays : (x : Signals) → IsSettled new x → is_one x v.commit ≡ false → is_one x v.faulted ≡ false → shown_all x r.state ≡ shown x state ∷ []

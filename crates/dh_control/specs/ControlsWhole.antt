@@ -9,7 +9,7 @@ use Rattle.dh_cells.specs.Settled.{Signals, IsSettled, Grows, IsWire, AreWires, 
 use Rattle.dh_lower.specs.NetOfPlan.{Making}
 use Rattle.dh_control.specs.declared.controlling.Control.{Control}
 use Rattle.dh_control.specs.declared.controlling.Own.{Own}
-use Rattle.dh_control.specs.AllBlocks.{AreBlockWords, ways_of}
+use Rattle.dh_control.specs.AllBlocks.{AreBlockWords, state_ways}
 use Rattle.dh_control.specs.SizedWires.{AreSized, shown_all}
 use Rattle.dh_control.specs.ThreadHolds.{own_registers, ControlWires, ControlShows, shown_blocks, state_blocks}
 use Rattle.dh_control.specs.WayMoves.{HoldsStates}
@@ -35,7 +35,7 @@ pub record AreOfMaking (k : Making) (widths : List ℕ) (blocks : List PlanBlock
   pub lengths_are : lengths ≡ k.timing.lengths
   pub widths_are : map width_of k.plan.registers ≡ widths
   pub state_blocks_are : map (λ s. s.block) states ≡ state_blocks k
-  pub ways_are : ways_of states ≡ map (λ s. s.way) k.flow.states
+  pub ways_are : state_ways states ≡ map (λ s. s.way) k.flow.states
 
 abbrev pub control_wires : Own → (registers : List ℕ) → Control → ControlWires
 control_wires own registers c = record {

@@ -10,7 +10,7 @@ use Rattle.dh_lower.specs.PortUsers.{User, AreUsers}
 use Rattle.dh_lower.specs.ShownWords.{port_bound}
 use Rattle.dh_plan.specs.SoundPlans.{IsFormed}
 use Rattle.dh_control.specs.declared.gathering.Keyed.{Keyed}
-use Rattle.dh_control.specs.KeyedItems.{picked}
+use Rattle.dh_control.specs.KeyedItems.{items_picked}
 
 abbrev pub user_at : (block place bank : ℕ) → User
 user_at block place bank = record { block = block; place = place; bank = bank }
@@ -36,7 +36,7 @@ blocks_users plan u from (b ∷ bs) = operations_users plan u from 0 b.operation
 
 -- those of one port
 abbrev pub users_of : PlainPlan → Uses → (port : ℕ) → List User
-users_of plan u port = picked port (blocks_users plan u 0 plan.blocks)
+users_of plan u port = items_picked port (blocks_users plan u 0 plan.blocks)
 
 -- these are the users of ports
 abbrev pub PlansHaveUsers : Type 0

@@ -4,7 +4,7 @@ use Rattle.dh_cells.specs.PlainCircuits.{PlainCircuit}
 use Rattle.dh_cells.specs.Settled.{Signals, Grows, Shows, shown}
 use Rattle.dh_cells.specs.ShownValues.{bit, is_one, any_shown, match_shown}
 use Rattle.dh_control.specs.declared.gathering.Keyed.{Keyed}
-use Rattle.dh_control.specs.KeyedItems.{picked}
+use Rattle.dh_control.specs.KeyedItems.{items_picked}
 
 -- for each state of these blocks a wire that is 1 where the graph stands there; states are numbered from a first one
 abbrev pub AreStands : PlainCircuit → (state first : ℕ) → (blocks : List ℕ) → List (Keyed ℕ) → Type 0
@@ -25,7 +25,7 @@ blocks_active (b ∷ bs) (suc n) = blocks_active bs n
 
 -- a block is active, by the states that do it
 abbrev pub active_shown : List (Keyed ℕ) → (block : ℕ) → Signals → ℕ
-active_shown stands block = any_shown (picked block stands)
+active_shown stands block = any_shown (items_picked block stands)
 
 -- a block is active and not in its last clock
 abbrev pub waits_shown : (clock active length : ℕ) → Signals → ℕ

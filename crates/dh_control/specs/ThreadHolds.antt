@@ -4,10 +4,10 @@
 use Rattle.std.specs.Prelude.{◌≡◌, ℕ, ◌<◌, ◌==◌, ◌&&◌, not, true, false, List, ◌∷◌, length, drop, map, slice_get, slice_index, Some}
 use Rattle.dh_plan.specs.Blocks.{StepStart}
 use Rattle.dh_plan.specs.PlainPlans.{first_in}
-use Rattle.dh_plan.specs.Ways.{Stop, Spot, rests, in_state, in_fork, resolve}
+use Rattle.dh_plan.specs.Ways.{GraphStop, GraphSpot, rests, in_state, in_fork, resolve}
 use Rattle.dh_cells.specs.Settled.{Signals, shown}
 use Rattle.dh_cells.specs.ShownValues.{is_one, any_one}
-use Rattle.dh_lower.specs.NetOfPlan.{Making, Standing, words_of}
+use Rattle.dh_lower.specs.NetOfPlan.{Making, RegisterMeaning, words_of}
 use Rattle.dh_lower.specs.PortUsers.{is_among}
 use Rattle.dh_control.specs.declared.stepping.Nexts.{Nexts}
 use Rattle.dh_control.specs.declared.stepping.Pace.{Pace}
@@ -16,16 +16,16 @@ use Rattle.dh_control.specs.AllBlocks.{BlockWords, blocks_set, blocks_code}
 use Rattle.dh_control.specs.SizedWires.{shown_all}
 use Rattle.dh_control.specs.StateWires.{blocks_active}
 use Rattle.dh_control.specs.StepWires.{any_waits, next_clock_shown, next_fault_shown, done_shown}
-use Rattle.dh_control.specs.WayMoves.{number_of}
+use Rattle.dh_control.specs.WayMoves.{spot_number}
 
 -- a thread stands where its number says
-abbrev pub StandsAt : (states : ℕ) → Spot → (number : ℕ) → Type 0
+abbrev pub StandsAt : (states : ℕ) → GraphSpot → (number : ℕ) → Type 0
 StandsAt states rests n = n ≡ states
 StandsAt states (in_state state) n = (n ≡ state) × (state < states)
 StandsAt states (in_fork fork ss) n = ⊥
 
 -- the registers are the clock of the step, the tick, the fault, the state, and then so many of the plan
-abbrev pub holds_thread : (states count : ℕ) → Standing
+abbrev pub holds_thread : (states count : ℕ) → RegisterMeaning
 holds_thread states count spot clock tick fault registers net_registers =
     (n : ℕ) × (StandsAt states spot n × ((length registers ≡ count) × (net_registers ≡ clock ∷ tick ∷ fault ∷ n ∷ registers)))
 
@@ -82,11 +82,11 @@ pub record ControlShows (k : Making) (c : ControlWires) (x : Signals) : Type 0 w
   pub commits_are : (b : ℕ) → b < length k.plan.blocks → is_one x (slice_index c.commits b) ≡ (is_one x c.verdict.commit && is_one x (slice_index c.active b))
   pub after_is : shown_all x c.after ≡ blocks_set x c.commits (shown_blocks k x) 0 k.plan.blocks (shown_all x c.registers)
   -- where the step leads
-  pub turns : is_one x c.verdict.commit ≡ true → (s : Stop) → slice_get k.flow.states (shown x c.state) ≡ Some s
+  pub turns : is_one x c.verdict.commit ≡ true → (s : GraphStop) → slice_get k.flow.states (shown x c.state) ≡ Some s
       → shown_all x c.news ≡ (resolve k.plan.registers s.way (shown_all x c.after)).registers
   pub keeps : is_one x c.verdict.commit ≡ false → shown_all x c.news ≡ shown_all x c.after
-  pub goes : is_one x c.verdict.commit ≡ true → (s : Stop) → slice_get k.flow.states (shown x c.state) ≡ Some s
-      → shown x c.next_state ≡ number_of (length k.flow.states) (resolve k.plan.registers s.way (shown_all x c.after)).spot
+  pub goes : is_one x c.verdict.commit ≡ true → (s : GraphStop) → slice_get k.flow.states (shown x c.state) ≡ Some s
+      → shown x c.next_state ≡ spot_number (length k.flow.states) (resolve k.plan.registers s.way (shown_all x c.after)).spot
   pub halts : is_one x c.verdict.faulted ≡ true → shown x c.next_state ≡ length k.flow.states
   pub stays : is_one x c.verdict.commit ≡ false → is_one x c.verdict.faulted ≡ false → shown x c.next_state ≡ shown x c.state
   pub next_clock : shown x c.nexts.clock ≡ next_clock_shown c.clock_width c.clock c.pace.waiting x

@@ -6,7 +6,7 @@ use Rattle.dh_value.specs.Words.{IsWidth, width_of}
 use Rattle.dh_value.specs.declared.kinds.Kind.{Kind}
 use Rattle.dh_plan.specs.declared.graphs.Decision.{Decision}
 use Rattle.dh_plan.specs.declared.graphs.Decision.TheVariants.{Go, Test', Count', Fork, Rest}
-use Rattle.dh_plan.specs.Ways.{Way, to_state, by_flag, by_count, to_fork, to_end, Spot, rests, in_state, in_fork, resolve}
+use Rattle.dh_plan.specs.Ways.{GraphWay, to_state, by_flag, by_count, to_fork, to_end, GraphSpot, rests, in_state, in_fork, resolve}
 use Rattle.dh_cells.specs.PlainCircuits.{PlainCircuit}
 use Rattle.dh_cells.specs.Settled.{Signals, IsSettled, Grows, IsWire, Shows, shown}
 use Rattle.dh_cells.specs.ShownValues.{is_one, number_shown, more_shown}
@@ -16,7 +16,7 @@ use Rattle.dh_control.specs.MovedValues.{Move, moved, AreMoves}
 use Rattle.dh_control.specs.SizedWires.{shown_all}
 
 -- the way that a decision of one thread is
-unfoldable pub way_of_decision : Decision → Way
+unfoldable pub way_of_decision : Decision → GraphWay
 way_of_decision (Go state) = to_state state
 way_of_decision (Test' flag at a at' b) = by_flag flag (way_of_decision a) (way_of_decision b)
 way_of_decision (Count' counter last at a at' b) = by_count counter last (way_of_decision a) (way_of_decision b)
@@ -24,7 +24,7 @@ way_of_decision (Fork groups) = to_end
 way_of_decision Rest = to_end
 
 -- how many decisions a way has
-abbrev pub way_weight : Way → ℕ
+abbrev pub way_weight : GraphWay → ℕ
 way_weight (to_state state) = 0
 way_weight (by_flag flag w v) = suc (way_weight w + way_weight v)
 way_weight (by_count counter last w v) = suc (way_weight w + way_weight v)
@@ -32,10 +32,10 @@ way_weight (to_fork fork ws) = 0
 way_weight to_end = 0
 
 -- the number of where a thread stands: that of its state, or the one behind all states
-abbrev pub number_of : (states : ℕ) → Spot → ℕ
-number_of states rests = states
-number_of states (in_state state) = state
-number_of states (in_fork fork ss) = states
+abbrev pub spot_number : (states : ℕ) → GraphSpot → ℕ
+spot_number states rests = states
+spot_number states (in_state state) = state
+spot_number states (in_fork fork ss) = states
 
 -- numbers of states, and the one behind them, have this width
 abbrev pub HoldsStates : (width states : ℕ) → Type 0
@@ -68,7 +68,7 @@ pub record LeadAdded (old new : PlainCircuit) (width active number : ℕ) (befor
   pub stays : (x : Signals) (values : List ℕ) → IsSettled new x → is_one x active ≡ false → moved x after values ≡ moved x before values
 
 -- Moves were added, in front of those that were there, for a way from registers that wires show.
-pub record WayAdded (old new : PlainCircuit) (widths : List ℕ) (width states active : ℕ) (after : List ℕ) (way : Way) (moves more leads further : List Move) : Type 0 where
+pub record WayAdded (old new : PlainCircuit) (widths : List ℕ) (width states active : ℕ) (after : List ℕ) (way : GraphWay) (moves more leads further : List Move) : Type 0 where
   pub grows : Grows old new
   pub moves_fit : AreMoves old widths moves → AreMoves new widths more
   pub leads_fit : AreMoves old (width ∷ []) leads → AreMoves new (width ∷ []) further
@@ -76,7 +76,7 @@ pub record WayAdded (old new : PlainCircuit) (widths : List ℕ) (width states a
   pub turns : (x : Signals) (kinds : List Kind) → IsSettled new x → map width_of kinds ≡ widths → is_one x active ≡ true
       → moved x more (shown_all x after) ≡ moved x moves (resolve kinds way (shown_all x after)).registers
   pub goes : (x : Signals) (kinds : List Kind) (n : ℕ) → IsSettled new x → map width_of kinds ≡ widths → is_one x active ≡ true
-      → moved x further (n ∷ []) ≡ moved x leads (number_of states (resolve kinds way (shown_all x after)).spot ∷ [])
+      → moved x further (n ∷ []) ≡ moved x leads (spot_number states (resolve kinds way (shown_all x after)).spot ∷ [])
   -- in any other
   pub keeps : (x : Signals) (values : List ℕ) → IsSettled new x → is_one x active ≡ false → moved x more values ≡ moved x moves values
   pub stays : (x : Signals) (values : List ℕ) → IsSettled new x → is_one x active ≡ false → moved x further values ≡ moved x leads values

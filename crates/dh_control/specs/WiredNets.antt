@@ -11,17 +11,17 @@ use Rattle.dh_net.specs.declared.ports.Port.{Port}
 use Rattle.dh_plan.specs.Blocks.{AreValues}
 use Rattle.dh_plan.specs.PlainPlans.{first_in, operations_in}
 use Rattle.dh_plan.specs.PlanRuns.{start_at, first_registers}
-use Rattle.dh_plan.specs.Ways.{Stop, Way, to_state, by_flag, by_count, to_fork, to_end, resolve}
+use Rattle.dh_plan.specs.Ways.{GraphStop, GraphWay, to_state, by_flag, by_count, to_fork, to_end, resolve}
 use Rattle.dh_cells.specs.Settled.{Signals, signals, shown}
 use Rattle.dh_cells.specs.ShownValues.{is_one}
 use Rattle.dh_lower.specs.NetOfPlan.{Making, words_of}
 use Rattle.dh_lower.specs.PortUsers.{AreUsers, Moment, DriveFor, is_among}
 use Rattle.dh_lower.specs.ShownWords.{in_ports}
 use Rattle.dh_control.specs.ThreadHolds.{ControlWires, ControlShows, next_wires, own_registers}
-use Rattle.dh_control.specs.WayMoves.{number_of}
+use Rattle.dh_control.specs.WayMoves.{spot_number}
 
 -- a way of one thread, to states that are there
-abbrev pub IsStraight : (states : ℕ) → Way → Type 0
+abbrev pub IsStraight : (states : ℕ) → GraphWay → Type 0
 IsStraight states (to_state state) = state < states
 IsStraight states (by_flag flag w v) = IsStraight states w × IsStraight states v
 IsStraight states (by_count counter last w v) = IsStraight states w × IsStraight states v
@@ -41,13 +41,13 @@ pub record IsWired (k : Making) (net : Net) (c : ControlWires) : Type 0 where
   pub users : AreUsers k.plan k.uses k.users
   -- the graph is of one thread
   pub first_straight : IsStraight (length k.flow.states) k.flow.first
-  pub straight : (i : ℕ) (s : Stop) → slice_get k.flow.states i ≡ Some s → IsStraight (length k.flow.states) s.way
-  pub blocks : (i : ℕ) (s : Stop) → slice_get k.flow.states i ≡ Some s → s.block < length k.plan.blocks
+  pub straight : (i : ℕ) (s : GraphStop) → slice_get k.flow.states i ≡ Some s → IsStraight (length k.flow.states) s.way
+  pub blocks : (i : ℕ) (s : GraphStop) → slice_get k.flow.states i ≡ Some s → s.block < length k.plan.blocks
   pub wide : (b : ℕ) → slice_index k.timing.lengths b ≤ 2 ^ c.clock_width
   -- its registers, and its outputs
   pub nexts_are : map (λ r. r.next) net.registers ≡ next_wires c
   pub initials_are : map (λ r. r.initial) net.registers
-      ≡ 0 ∷ 0 ∷ 0 ∷ number_of (length k.flow.states) (resolve k.plan.registers k.flow.first (first_registers k.plan)).spot
+      ≡ 0 ∷ 0 ∷ 0 ∷ spot_number (length k.flow.states) (resolve k.plan.registers k.flow.first (first_registers k.plan)).spot
       ∷ (resolve k.plan.registers k.flow.first (first_registers k.plan)).registers
   pub tick_is : net.tick ≡ c.tick
   pub done_is : net.done ≡ c.nexts.done

@@ -3,7 +3,7 @@
 ghost use Rattle.std.specs.Prelude.{◌≡◌, length, map, OnOk};
 ghost use Rattle.std.specs.List.{AllByRecursion};
 ghost use Rattle.dh_cells.specs.Settled.{AreWires, IsWire};
-ghost use Rattle.dh_control.specs.AllBlocks.{AllChecksAdded, AllSetsAdded, ChecksSuit, SetsSuit, WaysAdded, ways_of};
+ghost use Rattle.dh_control.specs.AllBlocks.{AllChecksAdded, AllSetsAdded, ChecksSuit, SetsSuit, WaysAdded, state_ways};
 ghost use Rattle.dh_control.specs.SizedWires.{AreSized};
 ghost use Rattle.dh_control.specs.StateWires.{AreStands};
 ghost use Rattle.dh_plan.specs.SeenGraphs.{FitsThread};
@@ -80,7 +80,7 @@ pub fn push_ways(
     requires ways { AllByRecursion
         (λ s. FitsThread (length states.now) (length widths.now) s.next) states.now }
     ensures { OnOk result (WaysAdded circuit.old circuit.new widths.now width (length states.now)
-        state commit after.old.items (ways_of states.now) (length states.now)
+        state commit after.old.items (state_ways states.now) (length states.now)
         moves.old moves.new leads.old leads.new) }
 {
     let count = states.len() as u64;

@@ -1,7 +1,7 @@
 //! Items that belong to numbers, gathered by number in one pass.
 
 ghost use Rattle.std.specs.Prelude.{◌≡◌, [], IfOk, OnOk, length, replicate};
-ghost use Rattle.dh_control.specs.KeyedItems.{AreGathered, PutsBehind, items_of};
+ghost use Rattle.dh_control.specs.KeyedItems.{AreGathered, PutsBehind, vector_items};
 
 use dh_base::NoMemory;
 use std::alloc::Global;
@@ -19,7 +19,7 @@ pub struct Keyed<T> {
 fn empty_lists<T>(alloc: Global, count: usize) -> Result<Vec<Vec<T>>, NoMemory>
 where
     T: Drop,
-    ensures { IfOk result (λ lists. items_of lists.items ≡ replicate count []) }
+    ensures { IfOk result (λ lists. vector_items lists.items ≡ replicate count []) }
 {
     let mut lists = Vec::new(alloc);
     for i in 0..count {
@@ -47,7 +47,7 @@ pub fn gather<T: Copy>(
     entries: &[Keyed<T>],
 ) -> Result<Vec<Vec<T>>, NoMemory>
     ensures each { IfOk result (λ lists. AreGathered count entries.now lists.items) }
-    ensures long { IfOk result (λ lists. length (items_of lists.items) ≡ count) }
+    ensures long { IfOk result (λ lists. length (vector_items lists.items) ≡ count) }
 {
     let mut lists = empty_lists(alloc, count)?;
     for entry in entries {

@@ -218,8 +218,8 @@ Means table bytes (Err (Value i position)) = AreSaid table bytes (Err (Value i p
 Means table bytes (Err NoMemory) = ⊥
 
 -- the bytes hold these contents
-abbrev pub Holds : List MemEntry → List ℕ → List (List ℕ) → Type 0
-Holds table bytes memories = Means table bytes (Ok memories)
+abbrev pub HoldsContents : List MemEntry → List ℕ → List (List ℕ) → Type 0
+HoldsContents table bytes memories = Means table bytes (Ok memories)
 
 -- this holds, but where memory was refused
 abbrev pub IfTold : {A : Type 0} → Result A DataFault → Type 0 → Type 0

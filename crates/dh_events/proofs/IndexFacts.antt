@@ -6,7 +6,7 @@ use Rattle.dh_events.specs.declared.structures.Structure.{Structure}
 use Rattle.dh_events.specs.declared.structures.Sort.TheVariants as sort
 use Rattle.dh_events.specs.declared.structures.Form.TheVariants as form
 use Rattle.dh_events.specs.declared.known.Known.{Known}
-use Rattle.dh_events.specs.Structures.{Stands, Describes, DescribesFrom, DescribesAll, IsNameless, AnyNameless, newest_in, newest_behind}
+use Rattle.dh_events.specs.Structures.{StructureStands, Describes, DescribesFrom, DescribesAll, IsNameless, AnyNameless, newest_in, newest_behind}
 use Rattle.dh_events.specs.Elements.{IsNumberOf, IsKnown, AreKnown, AreKnownSoFar, IsMade, MakesFrom, MakesIndex, both_known, terms_behind}
 use Rattle.dh_events.proofs.ElementFacts.{describes_still, from_still}
 
@@ -14,9 +14,9 @@ absurd : {A : Type 0} → ⊥ → A
 absurd e = elim e [ ]
 
 -- one more index behind those of a number
-from_more : (known : List Structure) (b0 : Option ℕ) (us : Terms) (u t : Term) (b l n : ℕ) → DescribesFrom known b0 (term_then u us) b → Describes known l t → Stands known n sort.Unknown (form.Index (Some b) l) → DescribesFrom known b0 (terms_behind (term_then u us) t) n
+from_more : (known : List Structure) (b0 : Option ℕ) (us : Terms) (u t : Term) (b l n : ℕ) → DescribesFrom known b0 (term_then u us) b → Describes known l t → StructureStands known n sort.Unknown (form.Index (Some b) l) → DescribesFrom known b0 (terms_behind (term_then u us) t) n
 from_more known b0 no_terms u t b l n (l1, (m1, (d1, (s1, e)))) d s =
-    (l1, (m1, (d1, (s1, (l, (n, (d, (subst (λ (x : ℕ). Stands known n sort.Unknown (form.Index (Some x) l)) (sym e) s, refl))))))))
+    (l1, (m1, (d1, (s1, (l, (n, (d, (subst (λ (x : ℕ). StructureStands known n sort.Unknown (form.Index (Some x) l)) (sym e) s, refl))))))))
 from_more known b0 (term_then v us) u t b l n (l1, (m1, (d1, (s1, r)))) d s = (l1, (m1, (d1, (s1, from_more known (Some m1) us v t b l n r d s))))
 
 newest_more : (clocks : ℕ → ℕ) (b : ℕ) (ts : Terms) (t : Term) → newest_behind clocks b (terms_behind ts t) ≡ max (newest_behind clocks b ts) (newest_in clocks t)

@@ -15,15 +15,15 @@ use Rattle.dh_events.specs.declared.structures.Form.{Form}
 use Rattle.dh_events.specs.declared.structures.Form.TheVariants as form
 use Rattle.dh_events.specs.declared.known.Known.{Known}
 use Rattle.dh_events.specs.Accesses.{entity_in, element_in}
-use Rattle.dh_events.specs.Structures.{sort_of, sort_found, Stands, Describes, DescribesAll, DescribesElement, IsNameless, AnyNameless, entity_newest, newest_in, element_newest}
+use Rattle.dh_events.specs.Structures.{kind_sort, sort_found, StructureStands, Describes, DescribesAll, DescribesElement, IsNameless, AnyNameless, entity_newest, newest_in, element_newest}
 use Rattle.dh_events.specs.Elements.{IsNumberOf, ElementNameless, IsAccess, IsMade, MakesFrom, MakesNumber, MakesTruth, MakesVariable, MakesRead, MakesOperation, MakesCast, MakesNoIndex, MakesRow, both_known}
 use Rattle.dh_events.proofs.ElementFacts.{describes_still, from_still}
 
 absurd : {A : Type 0} → ⊥ → A
 absurd e = elim e [ ]
 
-at_sort : (known : List Structure) (n : ℕ) (s s1 : Sort) (f : Form) → s ≡ s1 → Stands known n s f → Stands known n s1 f
-at_sort known n s s1 f e d = subst (λ (x : Sort). Stands known n x f) e d
+at_sort : (known : List Structure) (n : ℕ) (s s1 : Sort) (f : Form) → s ≡ s1 → StructureStands known n s f → StructureStands known n s1 f
+at_sort known n s s1 f e d = subst (λ (x : Sort). StructureStands known n x f) e d
 
 module _ (old new : List Structure) (s : Sort) where
   pub number_made : (negative : Bool) (value : ℕ) (k : Known) → MakesFrom old new s (Some (form.Number negative value)) 0 k → MakesNumber old new s negative value k
@@ -71,13 +71,13 @@ module _ (old new : List Structure) (s : Sort) where
       told (Some l) (Some r) (Some n) place j t u e i h d =
           (l, (r, (describes_still old new m.extends l t i, (describes_still old new m.extends r u h, at_sort new n s (sort_found j) _ e d))))
 
-  pub cast_made : (to : Kind) (inner k : Known) → MakesFrom old new s (option_map (λ n. form.Cast (sort_of to) n) inner.structure) inner.newest k → MakesCast old new s to inner k
+  pub cast_made : (to : Kind) (inner k : Known) → MakesFrom old new s (option_map (λ n. form.Cast (kind_sort to) n) inner.structure) inner.newest k → MakesCast old new s to inner k
   cast_made to inner k m = record {
     extends = m.extends;
     known = λ clocks place j t e i. record { number = told inner.structure k.structure place j t e i.number m.made; newest = m.same ∙ i.newest };
   }
     where
-      told : (a c : Option ℕ) (place : Place) (j : Option Kind) (t : Term) → s ≡ sort_found j → IsNumberOf (λ n. Describes old n) IsNameless a t → IsMade new s (option_map (λ n. form.Cast (sort_of to) n) a) c
+      told : (a c : Option ℕ) (place : Place) (j : Option Kind) (t : Term) → s ≡ sort_found j → IsNumberOf (λ n. Describes old n) IsNameless a t → IsMade new s (option_map (λ n. form.Cast (kind_sort to) n) a) c
           → IsNumberOf (λ n. Describes new n) IsNameless c (term place j (converted t to))
       told None None place j t e i d = i
       told None (Some n) place j t e i d = absurd d

@@ -13,7 +13,7 @@ use Rattle.dh_tree.proofs.Collecting.{found_both}
 use Rattle.dh_events.specs.declared.events.Notes.{Notes}
 use Rattle.dh_events.specs.declared.noting.Open.{Open}
 use Rattle.dh_events.specs.Elements.{StaysNoted, StaysRead}
-use Rattle.dh_events.specs.Incidents.{Incident, assigned, arm_begins, arm_ends, begins, next, ends, site_at, is_stepped, closed, released, tested, inside_choice, behind_loop, round_inside, when_parted, has_other, arms_part, are_parts, open_after, form_open, groups_open, open_combine, incidents, command_incidents, other_incidents, combine_incidents, groups_incidents, term_incidents}
+use Rattle.dh_events.specs.Incidents.{PortEvent, assigned, arm_begins, arm_ends, begins, next, ends, site_at, is_stepped, closed, released, tested, inside_choice, behind_loop, round_inside, when_parted, has_other, arms_part, are_parts, open_after, form_open, groups_open, open_combine, incidents, command_incidents, other_incidents, combine_incidents, groups_incidents, term_incidents}
 use Rattle.dh_events.proofs.ElementFacts.{extends_both}
 
 -- an `if` has another arm where the code sees one
@@ -41,14 +41,14 @@ other_told : (f : ℕ → ℕ) (round : Option ℕ) (g : Open) (other : MaybeAct
 other_told f round g no_action = refl
 other_told f round g (one_action a) = refl
 
-regrouped : (x y : Incident) (test parted chosen between begun second ended last : List Incident)
+regrouped : (x y : PortEvent) (test parted chosen between begun second ended last : List PortEvent)
     → (test ++ (parted ++ x ∷ [])) ++ (chosen ++ ((y ∷ (between ++ begun)) ++ (second ++ (ended ++ last)))) ≡ test ++ (parted ++ (x ∷ (chosen ++ (y ∷ (between ++ ((begun ++ (second ++ ended)) ++ last))))))
 regrouped x y test parted chosen between begun second ended last = simp append_assoc
 
 -- commands with commands inside
 module _ (f : ℕ → ℕ) (round : Option ℕ) (g : Open) (id : ℕ) (form : ActionForm) where
   module _ (test : Term) (chosen : Action) (other : MaybeAction) (is : form ≡ decides test chosen other) (inside : Open) (inside_is : inside ≡ inside_choice (is_stepped f id) (tested (is_stepped f id) g id)) where
-    pub choice_noted : (old x1 x2 x3 x4 new : List Incident) → x1 ≡ old ++ (term_incidents (site_at (tested (is_stepped f id) g id) round) test ++ (when_parted (arms_part round other) begins ++ arm_begins ∷ []))
+    pub choice_noted : (old x1 x2 x3 x4 new : List PortEvent) → x1 ≡ old ++ (term_incidents (site_at (tested (is_stepped f id) g id) round) test ++ (when_parted (arms_part round other) begins ++ arm_begins ∷ []))
         → x2 ≡ x1 ++ incidents f round inside chosen → x3 ≡ x2 ++ arm_ends ∷ (when_parted (arms_part round other) next ++ when_parted (has_other other) arm_begins)
         → x4 ≡ x3 ++ combine_incidents f round inside other → new ≡ x4 ++ (when_parted (has_other other) arm_ends ++ when_parted (arms_part round other) ends)
         → new ≡ old ++ command_incidents f round g id form
@@ -60,7 +60,7 @@ module _ (f : ℕ → ℕ) (round : Option ℕ) (g : Open) (id : ℕ) (form : Ac
         (regrouped arm_begins arm_ends (term_incidents (site_at (tested (is_stepped f id) g id) round) test) (when_parted (arms_part round other) begins) (incidents f round (inside_choice (is_stepped f id) (tested (is_stepped f id) g id)) chosen)
         (when_parted (arms_part round other) next) (when_parted (has_other other) arm_begins) (combine_incidents f round (inside_choice (is_stepped f id) (tested (is_stepped f id) g id)) other) (when_parted (has_other other) arm_ends) (when_parted (arms_part round other) ends))
         ∙ (ap
-        (λ (o : List Incident). old ++ (term_incidents (site_at (tested (is_stepped f id) g id) round) test ++ (when_parted (arms_part round other) begins ++ (arm_begins ∷ (incidents f round (inside_choice (is_stepped f id) (tested (is_stepped f id) g id)) chosen
+        (λ (o : List PortEvent). old ++ (term_incidents (site_at (tested (is_stepped f id) g id) round) test ++ (when_parted (arms_part round other) begins ++ (arm_begins ∷ (incidents f round (inside_choice (is_stepped f id) (tested (is_stepped f id) g id)) chosen
         ++ (arm_ends ∷ (when_parted (arms_part round other) next ++ (o ++ when_parted (arms_part round other) ends))))))))
         (other_told f round (inside_choice (is_stepped f id) (tested (is_stepped f id) g id)) other)
         ∙ ap (λ t. old ++ command_incidents f round g id t) (sym is)))
@@ -68,7 +68,7 @@ module _ (f : ℕ → ℕ) (round : Option ℕ) (g : Open) (id : ℕ) (form : Ac
     pub choice_opens : (after : Open) → after ≡ inside → after ≡ form_open f g id form
     choice_opens after e = e ∙ (inside_is ∙ ap (λ t. form_open f g id t) (sym is))
 
-  pub while_noted : (test : Term) (body : Action) → form ≡ repeats test body → (old x1 x2 new : List Incident) → x1 ≡ old ++ begins ∷ (term_incidents (site_at id round) test ++ next ∷ [])
+  pub while_noted : (test : Term) (body : Action) → form ≡ repeats test body → (old x1 x2 new : List PortEvent) → x1 ≡ old ++ begins ∷ (term_incidents (site_at id round) test ++ next ∷ [])
       → x2 ≡ x1 ++ incidents f round closed body → new ≡ x2 ++ ends ∷ [] → new ≡ old ++ command_incidents f round g id form
   while_noted test body is old x1 x2 new f1 f2 f3 =
       found_both new x1 old (begins ∷ (term_incidents (site_at id round) test ++ next ∷ [])) _ f1 (found_both new x2 x1 _ _ f2 f3)
@@ -78,7 +78,7 @@ module _ (f : ℕ → ℕ) (round : Option ℕ) (g : Open) (id : ℕ) (form : Ac
   while_opens test body is after e = e ∙ ap (λ t. form_open f g id t) (sym is)
 
   module _ (iterator : Ref) (declared : Option Kind) (low high : Placed) (factor : Unrolled) (body : Action) (combine : MaybeAction) (combine_place : Place) (is : form ≡ counts iterator declared low high factor body combine combine_place) where
-    pub loop_noted : (inner : Option ℕ) (turn joins : Open) → inner ≡ round_inside round id factor.value → turn ≡ open_after f closed body → joins ≡ open_combine f turn combine → (old x1 x2 new : List Incident) → x1 ≡ old ++ assigned iterator.entity ∷ []
+    pub loop_noted : (inner : Option ℕ) (turn joins : Open) → inner ≡ round_inside round id factor.value → turn ≡ open_after f closed body → joins ≡ open_combine f turn combine → (old x1 x2 new : List PortEvent) → x1 ≡ old ++ assigned iterator.entity ∷ []
         → x2 ≡ x1 ++ incidents f inner closed body → new ≡ x2 ++ combine_incidents f inner joins combine → new ≡ old ++ command_incidents f round g id form
     loop_noted inner turn joins inner_is turn_is joins_are old x1 x2 new f1 f2 f3 =
         found_both new x1 old (assigned iterator.entity ∷ []) _ f1
@@ -89,7 +89,7 @@ module _ (f : ℕ → ℕ) (round : Option ℕ) (g : Open) (id : ℕ) (form : Ac
     pub loop_opens : (stepped : Bool) (after : Open) → stepped ≡ is_stepped f id → after ≡ behind_loop stepped g → after ≡ form_open f g id form
     loop_opens stepped after stepped_is e = e ∙ (ap (λ s. behind_loop s g) stepped_is ∙ ap (λ t. form_open f g id t) (sym is))
 
-  pub block_noted : (body : Groups) → form ≡ blocks body → (stepped parted : Bool) (inside : Open) → stepped ≡ is_stepped f id → parted ≡ are_parts body → inside ≡ released stepped g → (old x1 x2 new : List Incident)
+  pub block_noted : (body : Groups) → form ≡ blocks body → (stepped parted : Bool) (inside : Open) → stepped ≡ is_stepped f id → parted ≡ are_parts body → inside ≡ released stepped g → (old x1 x2 new : List PortEvent)
       → x1 ≡ old ++ when_parted parted begins → x2 ≡ x1 ++ groups_incidents f round stepped parted inside body → new ≡ x2 ++ when_parted parted ends → new ≡ old ++ command_incidents f round g id form
   block_noted body is stepped parted inside stepped_is parted_is inside_is old x1 x2 new f1 f2 f3 =
       found_both new x1 old _ _ (f1 ∙ ap (λ b. old ++ when_parted b begins) parted_is)

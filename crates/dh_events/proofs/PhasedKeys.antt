@@ -6,7 +6,7 @@ use Rattle.std.proofs.lemmas.List.{append-nil}
 use Rattle.std.proofs.lemmas.Option.{slice_get_within}
 use Rattle.indexmap.specs.IndexSet.{insert_all, insert_key}
 use Rattle.dh_events.specs.declared.classes.Key.{Key}
-use Rattle.dh_events.specs.Classes.{all_keys, is_same, AreDistinct, ArePhased, Finds, IsTurnedTo, IsTurnedToAll, Numbers}
+use Rattle.dh_events.specs.Classes.{all_keys, is_same, KeysAreDistinct, ArePhased, Finds, IsTurnedTo, IsTurnedToAll, NumbersKey}
 use Rattle.dh_events.proofs.KeyFacts.{absurd, all_there, only_there, own_key, same_key, some_same, stays}
 
 -- Elements of two lists, one behind the other.
@@ -76,10 +76,10 @@ any_none (x ∷ ks) k n e f = by (is_same k x) refl (λ m g h. any_none ks k m g
     by false g more h zero f = clash (is_same k x) (ap (is_same k) (some_same x k f) ∙ own_key k) g
     by false g more h (suc n) f = more n h f
 
-left_distinct : (xs ys : List Key) → AreDistinct (xs ++ ys) → AreDistinct xs
+left_distinct : (xs ys : List Key) → KeysAreDistinct (xs ++ ys) → KeysAreDistinct xs
 left_distinct xs ys d m n k e f = d m n k (at_left xs ys m k e) (at_left xs ys n k f)
 
-more_distinct : (xs : List Key) (y : Key) → AreDistinct xs → ((n : ℕ) → slice_get xs n ≡ Some y → ⊥) → AreDistinct (xs ++ y ∷ [])
+more_distinct : (xs : List Key) (y : Key) → KeysAreDistinct xs → ((n : ℕ) → slice_get xs n ≡ Some y → ⊥) → KeysAreDistinct (xs ++ y ∷ [])
 more_distinct xs y d new m n k e f = by (last_or xs y m k e) (last_or xs y n k f)
   where
     by : (slice_get xs m ≡ Some k) ⊎ ((k ≡ y) × (m ≡ length xs)) → (slice_get xs n ≡ Some k) ⊎ ((k ≡ y) × (n ≡ length xs)) → m ≡ n
@@ -89,7 +89,7 @@ more_distinct xs y d new m n k e f = by (last_or xs y m k e) (last_or xs y n k f
     by (inr (i, g)) (inr (j, h)) = g ∙ sym h
 
 -- a key behind others is none of them
-not_before : (xs ys : List Key) (y : Key) → AreDistinct (xs ++ y ∷ ys) → list_any (is_same y) xs ≡ false
+not_before : (xs ys : List Key) (y : Key) → KeysAreDistinct (xs ++ y ∷ ys) → list_any (is_same y) xs ≡ false
 not_before xs ys y d = by (list_any (is_same y) xs) refl
   where
     none : (n : ℕ) → n + 0 ≡ n
@@ -108,12 +108,12 @@ not_before xs ys y d = by (list_any (is_same y) xs) refl
         absurd (same_place r.0 (length xs) (slice_get_within xs r.0 y r.1) (d r.0 (length xs) y (at_left xs (y ∷ ys) r.0 y r.1) own))
 
 -- keys without repeats, put behind others in turn
-inserts : (xs ys : List Key) → AreDistinct (xs ++ ys) → insert_all is_same xs ys ≡ xs ++ ys
+inserts : (xs ys : List Key) → KeysAreDistinct (xs ++ ys) → insert_all is_same xs ys ≡ xs ++ ys
 inserts xs [] d = sym (append-nil xs)
 inserts xs (y ∷ ys) d =
     let regroup = append_assoc xs (y ∷ []) ys in
     ap (λ (b : Bool). insert_all is_same (if b then xs else xs ++ y ∷ []) ys) (not_before xs ys y d)
-    ∙ (inserts (xs ++ y ∷ []) ys (subst (λ (l : List Key). AreDistinct l) (sym regroup) d) ∙ regroup)
+    ∙ (inserts (xs ++ y ∷ []) ys (subst (λ (l : List Key). KeysAreDistinct l) (sym regroup) d) ∙ regroup)
 
 -- No key is past yet.
 
@@ -139,7 +139,7 @@ module _ (past known : List Key) (newest phase : ℕ) (phased : ArePhased past k
 
   pub passed : phase < 2 ^ 32 → ArePhased past1 known1 phase
   passed small = record {
-    distinct = subst (λ (l : List Key). AreDistinct l) (sym passed_same) phased.distinct;
+    distinct = subst (λ (l : List Key). KeysAreDistinct l) (sym passed_same) phased.distinct;
     before = passed_before;
     within = subst (λ (l : List Key). AllByRecursion (λ (k : Key). k.phase ≤ phase) l) (sym none) tt;
     low = small;
@@ -178,7 +178,7 @@ module _ (past known : List Key) (newest most : ℕ) (phased : ArePhased past kn
 
   pub gathered : ArePhased past1 known1 most
   gathered = record {
-    distinct = subst (λ (l : List Key). AreDistinct l) (sym gathered_same) phased.distinct;
+    distinct = subst (λ (l : List Key). KeysAreDistinct l) (sym gathered_same) phased.distinct;
     before = subst (λ (l : List Key). AllByRecursion (λ (k : Key). k.phase < most) l) (sym none) tt;
     within = gathered_within;
     low = most_below (2 ^ 32) greatest;
@@ -221,10 +221,10 @@ module _ (past known : List Key) (newest : ℕ) (key : Key) (phased : ArePhased 
   not_there : there ≡ false → (n : ℕ) → slice_get (all_keys past known) n ≡ Some key → ⊥
   not_there none n e = elim (either past known n key e) [ inl (m, h) ↦ not_past m h | inr (m, h) ↦ any_none known key m none h ]
 
-  numbered_distinct : AreDistinct (all_keys past known1)
-  numbered_distinct = subst (λ (l : List Key). AreDistinct l) (sym numbered_all) (by there refl)
+  numbered_distinct : KeysAreDistinct (all_keys past known1)
+  numbered_distinct = subst (λ (l : List Key). KeysAreDistinct l) (sym numbered_all) (by there refl)
     where
-      by : (b : Bool) → there ≡ b → AreDistinct (if b then all_keys past known else all_keys past known ++ key ∷ [])
+      by : (b : Bool) → there ≡ b → KeysAreDistinct (if b then all_keys past known else all_keys past known ++ key ∷ [])
       by true e = phased.distinct
       by false e = more_distinct (all_keys past known) key phased.distinct (not_there e)
 
@@ -238,9 +238,9 @@ module _ (past known : List Key) (newest : ℕ) (key : Key) (phased : ArePhased 
   pub numbered_phased : ArePhased past known1 newest
   numbered_phased = record { distinct = numbered_distinct; before = phased.before; within = numbered_within; low = phased.low }
 
-  pub numbers : (old : List Key) → all_keys past known ≡ old → (place n : ℕ) (k : Key) → n ≡ length past + place → slice_get known1 place ≡ Some k → is_same key k ≡ true → Numbers old (all_keys past known1) key n
+  pub numbers : (old : List Key) → all_keys past known ≡ old → (place n : ℕ) (k : Key) → n ≡ length past + place → slice_get known1 place ≡ Some k → is_same key k ≡ true → NumbersKey old (all_keys past known1) key n
   numbers old same place n k e at alike =
-      subst (λ (l : List Key). Numbers l (all_keys past known1) key n) same (record {
+      subst (λ (l : List Key). NumbersKey l (all_keys past known1) key n) same (record {
         extends = λ m x h. ap (λ (l : List Key). slice_get l m) numbered_all ∙ stays there (all_keys past known) key m x h;
         stands = ap (slice_get (all_keys past known1)) e ∙ (at_right past known1 place ∙ (at ∙ ap Some (sym (same_key key k alike))));
         only = only_there there (all_keys past known) _ (all_keys past known1) key refl numbered_all;

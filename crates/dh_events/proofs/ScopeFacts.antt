@@ -10,7 +10,7 @@ use Rattle.dh_tree.specs.PlainTrees.{Action, action, ActionForm, lets, lets_memo
 use Rattle.dh_meaning.specs.Bindings.{Binding, binding_in, depth_inside, bindings, form_bindings, other_bindings, groups_bindings, part_bindings}
 use Rattle.dh_meaning.specs.Ways.{hidden_binding, led_binding}
 use Rattle.dh_ways.specs.declared.ways.Hidden.{Hidden}
-use Rattle.dh_ways.specs.Kept.{Led, Way}
+use Rattle.dh_ways.specs.Kept.{KeptLed, KeptWay}
 use Rattle.dh_ways.specs.Linked.{way_there}
 use Rattle.dh_ways.specs.Seen.{hidden_seen, led_seen}
 use Rattle.dh_ways.proofs.LinksTold.{stands_in}
@@ -154,7 +154,7 @@ nothing : (o : Option Scope) → over None o ≡ o
 unfolding over
 nothing o = refl
 
-led_declared : (ls : List Led) (f : ℕ → Option Scope) → led_scopes ls f ≡ declared (map led_binding (map led_seen ls)) f
+led_declared : (ls : List KeptLed) (f : ℕ → Option Scope) → led_scopes ls f ≡ declared (map led_binding (map led_seen ls)) f
 led_declared [] f = refl
 led_declared (l ∷ ls) f = led_declared ls (with_scope f l.entity (scope (min l.way.deepest most_depth) None))
 
@@ -163,26 +163,26 @@ hidden_declared [] f = refl
 hidden_declared (h ∷ hs) f = hidden_declared hs (with_scope f (Some h.entity) (scope (min h.depth most_depth) None))
 
 -- one more view, and one more of what they keep
-pub led_turn : (rest all : List Led) (l : Led) (f g : ℕ → Option Scope) (depth : ℕ) (total : ℕ → Option Scope) → rest ≡ l ∷ all → depth ≡ min l.way.deepest most_depth → g ≡ with_scope f l.entity (scope depth None) → led_scopes rest f ≡ total
+pub led_turn : (rest all : List KeptLed) (l : KeptLed) (f g : ℕ → Option Scope) (depth : ℕ) (total : ℕ → Option Scope) → rest ≡ l ∷ all → depth ≡ min l.way.deepest most_depth → g ≡ with_scope f l.entity (scope depth None) → led_scopes rest f ≡ total
     → led_scopes all g ≡ total
 led_turn rest all l f g depth total is told noted before = ap (led_scopes all) (noted ∙ ap (λ n. with_scope f l.entity (scope n None)) told) ∙ (ap (λ ls. led_scopes ls f) (sym is) ∙ before)
 
 -- by the place of a view, its entity and its way
-pub place_turn : (ls : List Led) (place : ℕ) (entity : Option ℕ) (w : Way) (f g : ℕ → Option Scope) (deepest depth : ℕ) (total : ℕ → Option Scope) → place < length ls → Some entity ≡ option_map (λ (l : Led). l.entity) (slice_get ls place) → Some w ≡ way_there ls (Some place)
+pub place_turn : (ls : List KeptLed) (place : ℕ) (entity : Option ℕ) (w : KeptWay) (f g : ℕ → Option Scope) (deepest depth : ℕ) (total : ℕ → Option Scope) → place < length ls → Some entity ≡ option_map (λ (l : KeptLed). l.entity) (slice_get ls place) → Some w ≡ way_there ls (Some place)
     → deepest ≡ w.deepest → depth ≡ min deepest most_depth → g ≡ with_scope f entity (scope depth None) → led_scopes (drop place ls) f ≡ total → led_scopes (drop (place + 1) ls) g ≡ total
 place_turn ls place entity w f g deepest depth total inside named there deep told noted before =
     let at = stands_in ls place inside in
-    let entity_is : entity ≡ at.item.entity = same_Some entity at.item.entity (named ∙ ap (option_map (λ (l : Led). l.entity)) at.there) in
-    let way_is : w ≡ at.item.way = same_Some w at.item.way (there ∙ ap (option_map (λ (l : Led). l.way)) at.there) in
+    let entity_is : entity ≡ at.item.entity = same_Some entity at.item.entity (named ∙ ap (option_map (λ (l : KeptLed). l.entity)) at.there) in
+    let way_is : w ≡ at.item.way = same_Some w at.item.way (there ∙ ap (option_map (λ (l : KeptLed). l.way)) at.there) in
     led_turn (drop place ls) (drop (place + 1) ls) at.item f g depth total (at_item ls place at.item inside (sym (get_or_from_slice_get ls place at.item at.item at.there)))
-    (told ∙ ap (λ n. min n most_depth) (deep ∙ ap (λ (x : Way). x.deepest) way_is)) (noted ∙ ap (λ e. with_scope f e (scope depth None)) entity_is) before
+    (told ∙ ap (λ n. min n most_depth) (deep ∙ ap (λ (x : KeptWay). x.deepest) way_is)) (noted ∙ ap (λ e. with_scope f e (scope depth None)) entity_is) before
 
 pub hidden_turn : (rest all : List Hidden) (h : Hidden) (f g : ℕ → Option Scope) (depth : ℕ) (total : ℕ → Option Scope) → rest ≡ h ∷ all → depth ≡ min h.depth most_depth → g ≡ with_scope f (Some h.entity) (scope depth None)
     → hidden_scopes rest f ≡ total → hidden_scopes all g ≡ total
 hidden_turn rest all h f g depth total is told noted before = ap (hidden_scopes all) (noted ∙ ap (λ n. with_scope f (Some h.entity) (scope n None)) told) ∙ (ap (λ hs. hidden_scopes hs f) (sym is) ∙ before)
 
 -- what is noted of a body from nothing, and of views and what they keep behind it
-module _ (a : Action) (ls : List Led) (hs : List Hidden) (none s1 s2 s3 : List (Option Scope)) (empty : none ≡ []) (first : scope_at s1 ≡ scopes_in 0 a (scope_at none)) (second : scope_at s2 ≡ led_scopes ls (scope_at s1))
+module _ (a : Action) (ls : List KeptLed) (hs : List Hidden) (none s1 s2 s3 : List (Option Scope)) (empty : none ≡ []) (first : scope_at s1 ≡ scopes_in 0 a (scope_at none)) (second : scope_at s2 ≡ led_scopes ls (scope_at s1))
     (third : scope_at s3 ≡ hidden_scopes hs (scope_at s2)) where
   abbrev of_led : List Binding
   of_led = map led_binding (map led_seen ls)

@@ -29,6 +29,6 @@ abbrev pub loops_found : Option (Vec Counter Global) → List Counter
 loops_found None = []
 loops_found (Some loops) = loops.items
 
-abbrev pub loops_in : List (Vec Counter Global) → Option ℕ → List Counter
-loops_in rounds None = []
-loops_in rounds (Some id) = loops_found (slice_get rounds id)
+abbrev pub loops_listed : List (Vec Counter Global) → Option ℕ → List Counter
+loops_listed rounds None = []
+loops_listed rounds (Some id) = loops_found (slice_get rounds id)

@@ -4,16 +4,16 @@ use Rattle.std.specs.List.{AllByRecursion}
 use Rattle.dh_events.specs.declared.classes.Key.{Key}
 
 -- no key has two numbers
-abbrev pub AreDistinct : List Key → Type 0
-AreDistinct known = (m n : ℕ) (k : Key) → slice_get known m ≡ Some k → slice_get known n ≡ Some k → m ≡ n
+abbrev pub KeysAreDistinct : List Key → Type 0
+KeysAreDistinct known = (m n : ℕ) (k : Key) → slice_get known m ≡ Some k → slice_get known n ≡ Some k → m ≡ n
 
 -- keys are only added
-abbrev pub Extends : (old new : List Key) → Type 0
-Extends old new = (n : ℕ) (k : Key) → slice_get old n ≡ Some k → slice_get new n ≡ Some k
+abbrev pub ExtendsKeys : (old new : List Key) → Type 0
+ExtendsKeys old new = (n : ℕ) (k : Key) → slice_get old n ≡ Some k → slice_get new n ≡ Some k
 
 -- the number of a key is found or made, and no other key is added
-pub record Numbers (old new : List Key) (k : Key) (n : ℕ) : Type 0 where
-  pub extends : Extends old new
+pub record NumbersKey (old new : List Key) (k : Key) (n : ℕ) : Type 0 where
+  pub extends : ExtendsKeys old new
   pub stands : slice_get new n ≡ Some k
   pub only : (m : ℕ) (x : Key) → slice_get new m ≡ Some x → (slice_get old m ≡ Some x) ⊎ (x ≡ k)
 
@@ -36,7 +36,7 @@ KeepsAllKeys past known past_then known_then = all_keys past_then known_then ≡
 
 -- no key has two numbers; those of past phases are of phases before the newest, and the others of none behind it
 pub record ArePhased (past known : List Key) (newest : ℕ) : Type 0 where
-  pub distinct : AreDistinct (all_keys past known)
+  pub distinct : KeysAreDistinct (all_keys past known)
   pub before : AllByRecursion (λ (k : Key). k.phase < newest) past
   pub within : AllByRecursion (λ (k : Key). k.phase ≤ newest) known
   pub low : newest < 2 ^ 32

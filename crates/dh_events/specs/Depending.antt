@@ -7,18 +7,18 @@ use Rattle.dh_meaning.specs.Bindings.{bindings, Binding}
 use Rattle.dh_meaning.specs.Ways.{hidden_binding, led_binding}
 use Rattle.dh_meets.specs.Charges.{variable_depends, entity_depends, term_depends, terms_depend, element_depends}
 use Rattle.dh_ways.specs.declared.ways.Hidden.{Hidden}
-use Rattle.dh_ways.specs.Kept.{Led}
+use Rattle.dh_ways.specs.Kept.{KeptLed}
 use Rattle.dh_ways.specs.Seen.{hidden_seen, led_seen}
 use Rattle.dh_events.specs.declared.dependence.Scope.{Scope}
 use Rattle.dh_events.specs.Accesses.{element_in, entity_in}
 use Rattle.dh_events.specs.Scopes.{scope_at, scopes_in, AreScopes, IsDepth, IsLow}
 
 -- the variables of a body, and behind them its views and the variables that keep their offsets
-abbrev pub all_bindings : Action → List Led → List Hidden → List Binding
+abbrev pub all_bindings : Action → List KeptLed → List Hidden → List Binding
 all_bindings body ways hidden = bindings 0 body ++ (map led_binding (map led_seen ways) ++ map hidden_binding (map hidden_seen hidden))
 
 -- where the variables of a body are noted, the views and the variables that keep their offsets are noted behind them
-abbrev pub AddsWays : List Led → List Hidden → (old new : List (Option Scope)) → Type 0
+abbrev pub AddsWays : List KeptLed → List Hidden → (old new : List (Option Scope)) → Type 0
 AddsWays ways hidden old new = (body : Action) → scope_at old ≡ scopes_in 0 body (scope_at []) → AreScopes (all_bindings body ways hidden) new
 
 -- it is told whether the variable declared there depends on the loop of a level

@@ -17,18 +17,18 @@ use Rattle.dh_events.specs.declared.events.Event.TheVariants as event
 use Rattle.dh_events.specs.declared.known.Known.{Known}
 use Rattle.dh_events.specs.declared.events.Notes.{Notes}
 use Rattle.dh_events.specs.Accesses.{entity_in, element_in}
-use Rattle.dh_events.specs.Structures.{sort_found, Stands, Describes, DescribesAll, DescribesElement, Extends, IsNameless, AnyNameless, newest_in, newest_behind, element_newest}
-use Rattle.dh_events.specs.Tables.{numbered, with_number}
+use Rattle.dh_events.specs.Structures.{sort_found, StructureStands, Describes, DescribesAll, DescribesElement, Extends, IsNameless, AnyNameless, newest_in, newest_behind, element_newest}
+use Rattle.dh_events.specs.Tables.{kept_at, with_number}
 
 -- the moments of variables after an assignment
-abbrev pub assigned_at : (clocks : ℕ → ℕ) → (moment : ℕ) → Option ℕ → ℕ → ℕ
-assigned_at clocks moment None = clocks
-assigned_at clocks moment (Some e) = with_number clocks e moment
+abbrev pub moment_assigned_at : (clocks : ℕ → ℕ) → (moment : ℕ) → Option ℕ → ℕ → ℕ
+moment_assigned_at clocks moment None = clocks
+moment_assigned_at clocks moment (Some e) = with_number clocks e moment
 
 -- after an event at a place
 abbrev pub clocks_after : (clocks : ℕ → ℕ) → (place : ℕ) → Event → ℕ → ℕ
 clocks_after clocks place (event.Touch writes phase round access element newest) = clocks
-clocks_after clocks place (event.Assigned entity) = assigned_at clocks (place + 1) entity
+clocks_after clocks place (event.Assigned entity) = moment_assigned_at clocks (place + 1) entity
 clocks_after clocks place event.ArmBegins = clocks
 clocks_after clocks place event.ArmEnds = clocks
 clocks_after clocks place event.Begins = clocks
@@ -84,7 +84,7 @@ no_clocks e = 0
 
 -- what is noted is right: the moments of variables, and of each read its indices
 pub record IsNoted (notes : Notes) : Type 0 where
-  pub clocks : numbered notes.clocks.items ≡ clocks_from no_clocks 0 notes.events.items
+  pub clocks : kept_at notes.clocks.items ≡ clocks_from no_clocks 0 notes.events.items
   pub reads : AreReads notes.structures no_clocks 0 notes.events.items
 
 -- more is noted, and stays right
@@ -95,7 +95,7 @@ pub record StaysNoted (old new : Notes) : Type 0 where
 -- the same, and no variable was assigned
 pub record StaysRead (old new : Notes) : Type 0 where
   pub extends : Extends old.structures new.structures
-  pub clocks : numbered new.clocks.items ≡ numbered old.clocks.items
+  pub clocks : kept_at new.clocks.items ≡ kept_at old.clocks.items
   pub noted : IsNoted old → IsNoted new
 
 -- an event that is no access and no assignment
@@ -110,7 +110,7 @@ IsStep event.Ends = Unit {0}
 
 -- an event that is an access, and of a read the number and the moment of its indices
 abbrev pub IsTouch : Notes → Event → Type 0
-IsTouch notes (event.Touch writes phase round access element newest) = IsRead notes.structures (numbered notes.clocks.items) (event.Touch writes phase round access element newest)
+IsTouch notes (event.Touch writes phase round access element newest) = IsRead notes.structures (kept_at notes.clocks.items) (event.Touch writes phase round access element newest)
 IsTouch notes (event.Assigned entity) = ⊥
 IsTouch notes event.ArmBegins = ⊥
 IsTouch notes event.ArmEnds = ⊥
@@ -120,7 +120,7 @@ IsTouch notes event.Ends = ⊥
 
 -- this is known of the element of an access
 abbrev pub IsElementOf : Notes → Expr → Known → Type 0
-IsElementOf notes access k = IsElement notes.structures (numbered notes.clocks.items) (element_of (term_seen access)) k.structure k.newest
+IsElementOf notes access k = IsElement notes.structures (kept_at notes.clocks.items) (element_of (term_seen access)) k.structure k.newest
 
 -- a form is an access
 abbrev pub IsAccess : TermForm → Type 0
@@ -156,7 +156,7 @@ abbrev pub IsMade : List Structure → Sort → Option Form → Option ℕ → T
 IsMade known s None None = Unit {0}
 IsMade known s None (Some n) = ⊥
 IsMade known s (Some f) None = ⊥
-IsMade known s (Some f) (Some n) = Stands known n s f
+IsMade known s (Some f) (Some n) = StructureStands known n s f
 
 pub record MakesFrom (old new : List Structure) (s : Sort) (f : Option Form) (newest : ℕ) (k : Known) : Type 0 where
   pub extends : Extends old new

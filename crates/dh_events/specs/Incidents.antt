@@ -12,16 +12,16 @@ use Rattle.dh_tree.specs.ViewOffsets.{moves, offsets_of}
 use Rattle.dh_events.specs.declared.events.Site.{Site}
 use Rattle.dh_events.specs.declared.noting.Open.{Open}
 
-pub data Incident : Type 0 where
-  touches : (access : Term) → (writes : Bool) → (site : Site) → Incident
-  assigned : (entity : Option ℕ) → Incident
+pub data PortEvent : Type 0 where
+  touches : (access : Term) → (writes : Bool) → (site : Site) → PortEvent
+  assigned : (entity : Option ℕ) → PortEvent
   -- an arm of an `if`
-  arm_begins : Incident
-  arm_ends : Incident
+  arm_begins : PortEvent
+  arm_ends : PortEvent
   -- parts of which no two accesses meet
-  begins : Incident
-  next : Incident
-  ends : Incident
+  begins : PortEvent
+  next : PortEvent
+  ends : PortEvent
 
 abbrev pub site_at : (phase : ℕ) → (round : Option ℕ) → Site
 site_at phase round = record { phase = phase; round = round }
@@ -30,10 +30,10 @@ site_at phase round = record { phase = phase; round = round }
 
 abbrev mutual
   -- what an expression reads
-  pub term_incidents : Site → Term → List Incident
+  pub term_incidents : Site → Term → List PortEvent
   term_incidents site (term place kind form) = form_incidents site place kind form
 
-  pub form_incidents : Site → Place → Option Kind → TermForm → List Incident
+  pub form_incidents : Site → Place → Option Kind → TermForm → List PortEvent
   form_incidents site place kind (number negative n) = []
   form_incidents site place kind (truth_value value) = []
   form_incidents site place kind (named r) = []
@@ -43,16 +43,16 @@ abbrev mutual
   form_incidents site place kind (applied op left right) = term_incidents site left ++ term_incidents site right
   form_incidents site place kind (converted inner to) = term_incidents site inner
 
-  pub terms_incidents : Site → Terms → List Incident
+  pub terms_incidents : Site → Terms → List PortEvent
   terms_incidents site no_terms = []
   terms_incidents site (term_then t rest) = term_incidents site t ++ terms_incidents site rest
 
-abbrev pub maybe_incidents : Site → Option Term → List Incident
+abbrev pub maybe_incidents : Site → Option Term → List PortEvent
 maybe_incidents site None = []
 maybe_incidents site (Some t) = term_incidents site t
 
 -- a write: what its indices read, and itself; what is no access is read
-abbrev pub target_incidents : Site → Term → List Incident
+abbrev pub target_incidents : Site → Term → List PortEvent
 target_incidents site (term place kind (accessed r indices)) = terms_incidents site indices ++ touches (term place kind (accessed r indices)) true site ∷ []
 target_incidents site (term place kind (in_bank r bank bank_place row)) =
     term_incidents site row ++ touches (term place kind (in_bank r bank bank_place row)) true site ∷ []
@@ -114,7 +114,7 @@ into_combine false behind = open_at behind.last
 
 -- Parts.
 
-abbrev pub when_parted : Bool → Incident → List Incident
+abbrev pub when_parted : Bool → PortEvent → List PortEvent
 when_parted true x = x ∷ []
 when_parted false x = []
 
@@ -168,10 +168,10 @@ open_combine stages behind (one_action (action id place form)) = into_combine (i
 
 abbrev mutual
   -- what happens in a command inside this loop, behind open phases
-  pub incidents : (ℕ → ℕ) → (round : Option ℕ) → Open → Action → List Incident
+  pub incidents : (ℕ → ℕ) → (round : Option ℕ) → Open → Action → List PortEvent
   incidents stages round behind (action id place form) = command_incidents stages round behind id form
 
-  pub command_incidents : (ℕ → ℕ) → (round : Option ℕ) → Open → ℕ → ActionForm → List Incident
+  pub command_incidents : (ℕ → ℕ) → (round : Option ℕ) → Open → ℕ → ActionForm → List PortEvent
   command_incidents stages round behind id (lets name declared value) = maybe_incidents (site_at (phase_of behind id) round) value ++ assigned name.entity ∷ []
   command_incidents stages round behind id (lets_memory name shape shape_places value) = []
   command_incidents stages round behind id (views name parent form) = terms_incidents (site_at (phase_of behind id) round) (terms (offsets_of form))
@@ -199,22 +199,22 @@ abbrev mutual
       ++ combine_incidents stages (round_inside round id factor.value) (open_combine stages (open_after stages closed body) combine) combine)
 
   -- in an arm that may lack
-  pub other_incidents : (ℕ → ℕ) → (round : Option ℕ) → Open → MaybeAction → List Incident
+  pub other_incidents : (ℕ → ℕ) → (round : Option ℕ) → Open → MaybeAction → List PortEvent
   other_incidents stages round behind no_action = []
   other_incidents stages round behind (one_action a) = arm_begins ∷ (incidents stages round behind a ++ arm_ends ∷ [])
 
   -- in a block that joins copies
-  pub combine_incidents : (ℕ → ℕ) → (round : Option ℕ) → Open → MaybeAction → List Incident
+  pub combine_incidents : (ℕ → ℕ) → (round : Option ℕ) → Open → MaybeAction → List PortEvent
   combine_incidents stages round behind no_action = []
   combine_incidents stages round behind (one_action a) = incidents stages round behind a
 
-  pub groups_incidents : (ℕ → ℕ) → (round : Option ℕ) → (stepped parted : Bool) → Open → Groups → List Incident
+  pub groups_incidents : (ℕ → ℕ) → (round : Option ℕ) → (stepped parted : Bool) → Open → Groups → List PortEvent
   groups_incidents stages round stepped parted behind no_groups = []
   groups_incidents stages round stepped parted behind (group_then part rest) =
       part_incidents stages round (released stepped behind) part
       ++ (when_parted parted next
       ++ groups_incidents stages round stepped parted (part_open stages (released stepped behind) part) rest)
 
-  pub part_incidents : (ℕ → ℕ) → (round : Option ℕ) → Open → Actions → List Incident
+  pub part_incidents : (ℕ → ℕ) → (round : Option ℕ) → Open → Actions → List PortEvent
   part_incidents stages round behind no_actions = []
   part_incidents stages round behind (action_then a rest) = incidents stages round behind a ++ part_incidents stages round (open_after stages behind a) rest

@@ -6,11 +6,11 @@ use Rattle.dh_tree.specs.declared.trees.commands.LoopHeader.{LoopHeader}
 use Rattle.dh_tree.specs.Seen.{low_seen, high_seen, unroll_seen}
 use Rattle.dh_tree.specs.PlainTrees.{Action, action, ActionForm, lets, lets_memory, views, assigns, stores, reduces, calls, blocks, decides, repeats, counts, MaybeAction, no_action, one_action, Actions, no_actions, action_then, Groups, no_groups, group_then}
 use Rattle.dh_meaning.specs.Sites.{loop_of}
-use Rattle.dh_events.specs.Accesses.{loops_in}
+use Rattle.dh_events.specs.Accesses.{loops_listed}
 
 -- the loops round each number
 abbrev pub rounds_of : List (Vec Counter Global) → ℕ → List Counter
-rounds_of rounds id = loops_in rounds (Some id)
+rounds_of rounds id = loops_listed rounds (Some id)
 
 -- the loops are those that this change makes of the ones before
 abbrev pub AreRounds : (old new : Vec (Vec Counter Global) Global) → ((ℕ → List Counter) → ℕ → List Counter) → Type 0

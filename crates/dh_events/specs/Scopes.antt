@@ -5,7 +5,7 @@ use Rattle.std.specs.Global.{Global}
 use Rattle.dh_meaning.specs.Bindings.{Binding, binding_in}
 use Rattle.dh_tree.specs.PlainTrees.{Action, action, ActionForm, lets, lets_memory, views, assigns, stores, reduces, calls, blocks, decides, repeats, counts, MaybeAction, no_action, one_action, Actions, no_actions, action_then, Groups, no_groups, group_then}
 use Rattle.dh_ways.specs.declared.ways.Hidden.{Hidden}
-use Rattle.dh_ways.specs.Kept.{Led}
+use Rattle.dh_ways.specs.Kept.{KeptLed}
 use Rattle.dh_events.specs.declared.dependence.Scope.{Scope}
 
 abbrev pub most_depth : ℕ
@@ -83,7 +83,7 @@ abbrev mutual
   part_scopes told (action_then a rest) f = part_scopes told rest (scopes_in told a f)
 
 -- what is noted of views with their ways, and of the variables that keep their offsets
-abbrev pub led_scopes : List Led → (ℕ → Option Scope) → ℕ → Option Scope
+abbrev pub led_scopes : List KeptLed → (ℕ → Option Scope) → ℕ → Option Scope
 led_scopes [] f = f
 led_scopes (l ∷ ls) f = led_scopes ls (with_scope f l.entity (scope (min l.way.deepest most_depth) None))
 

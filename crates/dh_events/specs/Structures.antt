@@ -12,25 +12,25 @@ use Rattle.dh_events.specs.declared.structures.Sort.TheVariants as sort
 use Rattle.dh_events.specs.declared.structures.Form.{Form}
 use Rattle.dh_events.specs.declared.structures.Form.TheVariants as form
 
-abbrev pub sort_of : Kind → Sort
-sort_of kind.Bool = sort.Truth
-sort_of (kind.Unsigned width) = sort.Unsigned width
-sort_of (kind.Signed width) = sort.Signed width
+abbrev pub kind_sort : Kind → Sort
+kind_sort kind.Bool = sort.Truth
+kind_sort (kind.Unsigned width) = sort.Unsigned width
+kind_sort (kind.Signed width) = sort.Signed width
 
 abbrev pub sort_found : Option Kind → Sort
 sort_found None = sort.Unknown
-sort_found (Some k) = sort_of k
+sort_found (Some k) = kind_sort k
 
 abbrev pub structure : Sort → Form → Structure
 structure s f = record { sort = s; form = f }
 
 -- a structure has this number
-abbrev pub Stands : List Structure → (number : ℕ) → Sort → Form → Type 0
-Stands known n s f = slice_get known n ≡ Some (structure s f)
+abbrev pub StructureStands : List Structure → (number : ℕ) → Sort → Form → Type 0
+StructureStands known n s f = slice_get known n ≡ Some (structure s f)
 
 -- behind all indices: the number of the last one, or that of none
 abbrev pub IsLast : List Structure → (before : Option ℕ) → (number : ℕ) → Type 0
-IsLast known None n = Stands known n sort.Unknown form.NoIndex
+IsLast known None n = StructureStands known n sort.Unknown form.NoIndex
 IsLast known (Some b) n = b ≡ n
 
 abbrev mutual
@@ -39,22 +39,22 @@ abbrev mutual
   Describes known n (term place k f) = DescribesForm known n (sort_found k) f
 
   pub DescribesForm : List Structure → (number : ℕ) → Sort → TermForm → Type 0
-  DescribesForm known n s (number negative value) = Stands known n s (form.Number negative value)
-  DescribesForm known n s (truth_value value) = Stands known n s (form.Truth value)
-  DescribesForm known n s (named r) = (e : ℕ) × ((r.entity ≡ Some e) × Stands known n s (form.Variable e))
+  DescribesForm known n s (number negative value) = StructureStands known n s (form.Number negative value)
+  DescribesForm known n s (truth_value value) = StructureStands known n s (form.Truth value)
+  DescribesForm known n s (named r) = (e : ℕ) × ((r.entity ≡ Some e) × StructureStands known n s (form.Variable e))
   DescribesForm known n s (accessed r indices) =
-      (e : ℕ) × ((m : ℕ) × ((r.entity ≡ Some e) × (DescribesFrom known None indices m × Stands known n s (form.Read e m))))
+      (e : ℕ) × ((m : ℕ) × ((r.entity ≡ Some e) × (DescribesFrom known None indices m × StructureStands known n s (form.Read e m))))
   DescribesForm known n s (in_bank r bank bank_place row) =
-      (e : ℕ) × ((m : ℕ) × ((l : ℕ) × ((r.entity ≡ Some e) × (Describes known l row × (Stands known m sort.Unknown (form.Row bank l) × Stands known n s (form.Read e m))))))
+      (e : ℕ) × ((m : ℕ) × ((l : ℕ) × ((r.entity ≡ Some e) × (Describes known l row × (StructureStands known m sort.Unknown (form.Row bank l) × StructureStands known n s (form.Read e m))))))
   DescribesForm known n s (applied op left right) =
-      (l : ℕ) × ((r : ℕ) × (Describes known l left × (Describes known r right × Stands known n s (form.Operation (number_of_op op) l r))))
-  DescribesForm known n s (converted inner to) = (m : ℕ) × (Describes known m inner × Stands known n s (form.Cast (sort_of to) m))
+      (l : ℕ) × ((r : ℕ) × (Describes known l left × (Describes known r right × StructureStands known n s (form.Operation (number_of_op op) l r))))
+  DescribesForm known n s (converted inner to) = (m : ℕ) × (Describes known m inner × StructureStands known n s (form.Cast (kind_sort to) m))
 
   -- of indices behind those of a number, if there are any before them
   pub DescribesFrom : List Structure → (before : Option ℕ) → Terms → (number : ℕ) → Type 0
   DescribesFrom known b no_terms n = IsLast known b n
   DescribesFrom known b (term_then t ts) n =
-      (l : ℕ) × ((m : ℕ) × (Describes known l t × (Stands known m sort.Unknown (form.Index b l) × DescribesFrom known (Some m) ts n)))
+      (l : ℕ) × ((m : ℕ) × (Describes known l t × (StructureStands known m sort.Unknown (form.Index b l) × DescribesFrom known (Some m) ts n)))
 
 -- of all indices of an access
 abbrev pub DescribesAll : List Structure → (number : ℕ) → Terms → Type 0
@@ -63,15 +63,15 @@ DescribesAll known n ts = DescribesFrom known None ts n
 -- a number is that of the structure of an element's indices
 abbrev pub DescribesElement : List Structure → (number : ℕ) → Element → Type 0
 DescribesElement known n (with_indices indices) = DescribesAll known n indices
-DescribesElement known n (in_row bank row) = (l : ℕ) × (Describes known l row × Stands known n sort.Unknown (form.Row bank l))
+DescribesElement known n (in_row bank row) = (l : ℕ) × (Describes known l row × StructureStands known n sort.Unknown (form.Row bank l))
 
 -- structures are only added
 abbrev pub Extends : (old new : List Structure) → Type 0
 Extends old new = (n : ℕ) (s : Structure) → slice_get old n ≡ Some s → slice_get new n ≡ Some s
 
 -- no structure has two numbers
-abbrev pub AreDistinct : List Structure → Type 0
-AreDistinct known = (m n : ℕ) (s : Structure) → slice_get known m ≡ Some s → slice_get known n ≡ Some s → m ≡ n
+abbrev pub StructuresAreDistinct : List Structure → Type 0
+StructuresAreDistinct known = (m n : ℕ) (s : Structure) → slice_get known m ≡ Some s → slice_get known n ≡ Some s → m ≡ n
 
 -- the number of a structure is found or made
 pub record Numbers (old new : List Structure) (s : Structure) (n : ℕ) : Type 0 where

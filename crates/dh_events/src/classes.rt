@@ -5,7 +5,7 @@
 
 ghost use Rattle.std.specs.Prelude.{◌≡◌, ◌<◌, [], IfOk, OnOk, length};
 ghost use Rattle.indexmap.specs.IndexSet.{insert_all};
-ghost use Rattle.dh_events.specs.Classes.{AreDistinct, ArePhased, Finds, IsTurnedTo, IsTurnedToAll, KeepsAllKeys, Numbers, all_keys, is_same};
+ghost use Rattle.dh_events.specs.Classes.{KeysAreDistinct, ArePhased, Finds, IsTurnedTo, IsTurnedToAll, KeepsAllKeys, NumbersKey, all_keys, is_same};
 ghost use Rattle.dh_events.specs.Digests as digests;
 
 use crate::digests::joined;
@@ -155,7 +155,7 @@ fn turn_to(parts: &mut Phased, phase: u32) -> Result<(), NoMemory>
 fn number_in(parts: &mut Phased, key: Key) -> Result<usize, NoMemory>
     requires phased { ArePhased parts.old.past.items parts.old.known.keys parts.old.newest }
     ensures phased { ArePhased parts.new.past.items parts.new.known.keys parts.new.newest }
-    ensures numbers { IfOk result (λ n. Numbers (all_keys parts.old.past.items parts.old.known.keys)
+    ensures numbers { IfOk result (λ n. NumbersKey (all_keys parts.old.past.items parts.old.known.keys)
         (all_keys parts.new.past.items parts.new.known.keys) key n) }
 {
     turn_to(parts, key.phase)?;
@@ -216,7 +216,7 @@ impl Classes {
 
     /// The number of a key.
     pub fn number(&mut self, key: Key) -> Result<usize, NoMemory>
-        ensures numbers { IfOk result (λ n. Numbers self.old self.new key n) }
+        ensures numbers { IfOk result (λ n. NumbersKey self.old self.new key n) }
     {
         number_in(&mut self.parts, key)
     }
@@ -236,7 +236,7 @@ impl Classes {
     /// How many there are.
     pub fn len(&self) -> usize
         ensures long { result ≡ length self.now }
-        ensures distinct { AreDistinct self.now }
+        ensures distinct { KeysAreDistinct self.now }
     {
         self.parts.past.len() + self.parts.known.len()
     }

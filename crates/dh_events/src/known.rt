@@ -6,7 +6,7 @@ ghost use Rattle.dh_meets.specs.Sharing.{number_of_op};
 ghost use Rattle.dh_events.specs.declared.structures.Form.TheVariants as form;
 ghost use Rattle.dh_events.specs.Structures as definitions;
 ghost use Rattle.dh_events.specs.Elements.{both_known, MakesCast, MakesIndex, MakesNoIndex, MakesNumber, MakesOperation, MakesRead, MakesRow, MakesTruth, MakesVariable, MakesFrom};
-ghost use Rattle.dh_events.specs.Tables.{numbered};
+ghost use Rattle.dh_events.specs.Tables.{kept_at};
 
 use crate::structures::{Form, Sort, Structure, Structures, op_number, sort_of};
 use crate::tables::get_at;
@@ -74,7 +74,7 @@ pub fn variable(
     entity: Option<u32>,
 ) -> Result<Known, NoMemory>
     ensures { IfOk result (λ k. MakesVariable structures.old structures.new
-        (numbered clocks.now) sort entity k) }
+        (kept_at clocks.now) sort entity k) }
 {
     match entity {
         Some(entity) => {
@@ -141,7 +141,7 @@ pub fn operation(
 
 /// The form of a cast.
 fn cast_form(to: Kind, inner: Known) -> Option<Form>
-    ensures { result ≡ option_map (λ n. form.Cast (definitions.sort_of to) n) inner.structure }
+    ensures { result ≡ option_map (λ n. form.Cast (definitions.kind_sort to) n) inner.structure }
 {
     let to = sort_of(to);
     match inner.structure {

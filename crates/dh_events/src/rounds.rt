@@ -2,7 +2,7 @@
 
 ghost use Rattle.std.specs.Prelude.{◌≡◌, ◌++◌, ◌∷◌, [], ◌≤◌, IfOk, OnOk, length, map};
 ghost use Rattle.dh_tree.specs.Seen.{action_seen, part_seen, groups, maybe_block_seen};
-ghost use Rattle.dh_events.specs.Accesses.{loops_in};
+ghost use Rattle.dh_events.specs.Accesses.{loops_listed};
 ghost use Rattle.dh_events.specs.Rounds.{groups_rounds, other_rounds, rounds_in, with_round, AreRounds};
 
 use dh_base::NoMemory;
@@ -141,7 +141,7 @@ fn note_parts(
 
 /// The unrolled loops inside which something stands, from the outside.
 pub fn loops_round(rounds: &[Vec<Counter>], round: Option<u32>) -> &[Counter]
-    ensures { result.now ≡ loops_in rounds.now round }
+    ensures { result.now ≡ loops_listed rounds.now round }
 {
     match round {
         Some(id) => {

@@ -1,7 +1,7 @@
 //! How many phases the commands of a program have, by their numbers.
 
 ghost use Rattle.std.specs.Prelude.{◌≡◌, ◌+◌, if◌then◌else◌, IfOk, OnOk, map, min};
-ghost use Rattle.dh_tree.specs.Seen.{action_form_seen, action_seen, part_seen, plan_seen, groups, maybe_block_seen};
+ghost use Rattle.dh_tree.specs.Seen.{action_form_seen, action_seen, part_seen, view_plan, groups, maybe_block_seen};
 ghost use Rattle.dh_tree.specs.ViewOffsets as offsets;
 ghost use Rattle.dh_events.specs.Stages.{form_stages, groups_stages, other_stages, stages_in};
 ghost use Rattle.dh_tree.specs.PhaseKinds.{phase_kind, form_phase_kind, other_phase_kind, groups_phase_kind, choice_kind, turns_kind};
@@ -34,7 +34,7 @@ pub(crate) fn choice_stages(chosen: usize, other: usize) -> usize
 
 /// How many phases a view has: one where it moves.
 pub(crate) fn view_stages(form: &ViewForm) -> usize
-    ensures { result ≡ (if offsets.moves (plan_seen form.now) then 1 else 0) }
+    ensures { result ≡ (if offsets.moves (view_plan form.now) then 1 else 0) }
 {
     if moves(form) { 1 } else { 0 }
 }

@@ -5,7 +5,7 @@ ghost use Rattle.std.specs.Prelude.{◌≡◌, [], IfOk};
 ghost use Rattle.dh_meets.specs.Sharing.{number_of_op};
 ghost use Rattle.dh_events.specs.Digests as digests;
 ghost use Rattle.dh_events.specs.Structures as definitions;
-ghost use Rattle.dh_events.specs.Structures.{AreDistinct, Numbers};
+ghost use Rattle.dh_events.specs.Structures.{StructuresAreDistinct, Numbers};
 
 use crate::digests::joined;
 use dh_base::NoMemory;
@@ -144,13 +144,13 @@ pub struct Structures {
 impl Model for Structures {
     ghost use Rattle.std.specs.Prelude.{List};
     ghost use Rattle.dh_events.specs.declared.structures.Structure.{Structure};
-    ghost use Rattle.dh_events.specs.Structures.{AreDistinct};
+    ghost use Rattle.dh_events.specs.Structures.{StructuresAreDistinct};
 
     ghost Value = { List Structure };
 
     ghost view = { λ s. s.known.keys };
 
-    ghost invariant = { λ s. AreDistinct s.known.keys };
+    ghost invariant = { λ s. StructuresAreDistinct s.known.keys };
 }
 
 impl Structures {
@@ -166,7 +166,7 @@ impl Structures {
     /// The number of a structure.
     pub fn number(&mut self, structure: Structure) -> Result<usize, NoMemory>
         ensures numbers { IfOk result (λ n. Numbers self.old self.new structure n) }
-        ensures distinct { AreDistinct self.new }
+        ensures distinct { StructuresAreDistinct self.new }
     {
         let found = self.known.insert_full(structure)?;
         Ok(found.0)
@@ -175,7 +175,7 @@ impl Structures {
 
 /// The sort of a kind.
 pub fn sort_of(kind: Kind) -> Sort
-    ensures { result ≡ definitions.sort_of kind }
+    ensures { result ≡ definitions.kind_sort kind }
 {
     match kind {
         Kind::Bool => Sort::Truth,

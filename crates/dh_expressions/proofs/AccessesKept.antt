@@ -17,10 +17,10 @@ use Rattle.dh_expressions.specs.declared.drafts.Draft.{Draft}
 use Rattle.dh_expressions.specs.declared.scenes.Around.{Around}
 use Rattle.dh_expressions.specs.declared.scenes.Scene.{Scene}
 use Rattle.dh_expressions.specs.Copying.{AddsAllCopies, AreCopies, AreNone}
-use Rattle.dh_expressions.specs.Drafted.{Begun, Extends, Fits, Names, Step, shown, tale, told_block}
+use Rattle.dh_expressions.specs.Drafted.{BlockBegun, Extends, FitsStep, Names, BlockStep, word_shown, tale, told_block}
 use Rattle.dh_expressions.specs.Evaluated.{Knows, View}
 use Rattle.dh_expressions.specs.Noted.{Notes, given_in, given_then, given_to, is_bare, is_bare_of, noted_in, touched_in, touched_of}
-use Rattle.dh_expressions.specs.Standings.{IsTouched, Standing, copy_places}
+use Rattle.dh_expressions.specs.Standings.{IsTouched, AccessStanding, copy_places}
 use Rattle.dh_expressions.specs.Touching.{AddsTouched, IsNew, MakesCopies, TouchesAt}
 use Rattle.dh_expressions.proofs.ListPlaces.{place_of_more, place_within, set_here, set_long, set_other, some_same, there}
 use Rattle.dh_expressions.proofs.Pushing.{at_seam, begun_later, extends_again, extends_self, in_front}
@@ -34,11 +34,11 @@ named_extends d e number place h = record {
   longer = let l : length e.operations.items ≡ length d.operations.items = ap (λ (os : List Operation). length os) h.operations in omega (arith, l);
 }
 
-named_quiet : (d e : Draft) (number : ℕ) (place : Place) → Names d e number place → (x : Step) → tale x e ≡ tale x d
+named_quiet : (d e : Draft) (number : ℕ) (place : Place) → Names d e number place → (x : BlockStep) → tale x e ≡ tale x d
 named_quiet d e number place h x = ap (λ (os : List Operation). told_block x.named (block_events x.start x.first x.words (drop x.first os))) h.operations
 
 -- the plan has the fault under the number that was given
-named_there : (d e k : Draft) (number : ℕ) (place : Place) → Names d e number place → Extends e k → (x : Step) → Fits x k → slice_get x.named number ≡ Some (OutOfRange, place)
+named_there : (d e k : Draft) (number : ℕ) (place : Place) → Names d e number place → Extends e k → (x : BlockStep) → FitsStep x k → slice_get x.named number ≡ Some (OutOfRange, place)
 named_there d e k number place h more x f =
     ap (λ n. slice_get x.named n) (h.number_is (let w = place_within x.named (length d.faults) (OutOfRange, place) found in let l = f.few in omega (arith, w, l))) ∙ found
   where
@@ -56,7 +56,7 @@ bare_within a number e = by (slice_get a.touched.items number) refl e
     by None is e = absurd (cc)
     by (Some t) is e = place_within a.touched.items number t is
 
-pub touched_already : (scene : Scene) (around : Around) (s : Standing) (d : Draft) (a : Accesses) (number : ℕ) → is_bare a number ≡ false → TouchesAt scene around s d d a a number
+pub touched_already : (scene : Scene) (around : Around) (s : AccessStanding) (d : Draft) (a : Accesses) (number : ℕ) → is_bare a number ≡ false → TouchesAt scene around s d d a a number
 touched_already scene around s d a number e = record {
   adds = inl refl;
   fresh = inl refl;
@@ -77,7 +77,7 @@ touched_already scene around s d a number e = record {
     by (Some None) is within e = absurd (cc)
     by (Some (Some t)) is within e = (t, refl)
 
-pub touched_first : (scene : Scene) (around : Around) (s : Standing) (d e k : Draft) (before after : Accesses) (number fault : ℕ) (copies : List AccessAt) (numbers : List ℕ) (t : Touched)
+pub touched_first : (scene : Scene) (around : Around) (s : AccessStanding) (d e k : Draft) (before after : Accesses) (number fault : ℕ) (copies : List AccessAt) (numbers : List ℕ) (t : Touched)
     → is_bare before number ≡ true → Names d e fault s.place → MakesCopies e k scene around numbers s copies
     → t.fault ≡ fault → t.copies ≡ copies → t.given ≡ [] → after.touched.items ≡ slice_set before.touched.items number (Some t) → after.counts.items ≡ numbers
     → TouchesAt scene around s d k before after number
@@ -135,9 +135,9 @@ touched_first scene around s d e k before after number fault copies numbers t ba
         }
 
 -- what was known stays known
-pub touched_knows : (scene : Scene) (around : Around) (s : Standing) (d k : Draft) (before after : Accesses) (number : ℕ) (v : View)
-    → TouchesAt scene around s d k before after number → Fits v.step k → Begun v.step d
-    → ((m : ℕ) (t : Touched) → IsNew d k scene around s number m t → (o : Standing) → slice_get v.reads.sites m ≡ Some o → IsTouched v.step o t)
+pub touched_knows : (scene : Scene) (around : Around) (s : AccessStanding) (d k : Draft) (before after : Accesses) (number : ℕ) (v : View)
+    → TouchesAt scene around s d k before after number → FitsStep v.step k → BlockBegun v.step d
+    → ((m : ℕ) (t : Touched) → IsNew d k scene around s number m t → (o : AccessStanding) → slice_get v.reads.sites m ≡ Some o → IsTouched v.step o t)
     → Knows v before → Knows v after
 touched_knows scene around s d k before after number v t f b new known = record {
   given = λ m path n is done. known.given m path n (given_before m path n is) done;
@@ -203,7 +203,7 @@ module _ (before after : Accesses) (number path value : ℕ) (h : Notes before a
       own : m ≡ number → (touched_in after m ≡ touched_in before m) ⊎ ((m ≡ number) × (touched_in after m ≡ noted_in (touched_in before m) path value))
       own same = within_or_past (cases_lt number (length before.touched.items)) same
 
-  pub noted_knows : (v : View) → (v.reads.done number path ≡ true → shown v.step value ≡ v.reads.means number path) → Knows v before → Knows v after
+  pub noted_knows : (v : View) → (v.reads.done number path ≡ true → word_shown v.step value ≡ v.reads.means number path) → Knows v before → Knows v after
   noted_knows v means known = record {
     given = λ m q n is done. given_now m q n (place_noted m) is done;
     long = ap length h.touched ∙ (set_long before.touched.items number _ ∙ known.long);
@@ -212,15 +212,15 @@ module _ (before after : Accesses) (number path value : ℕ) (h : Notes before a
   }
     where
       given_now : (m q n : ℕ) → (touched_in after m ≡ touched_in before m) ⊎ ((m ≡ number) × (touched_in after m ≡ noted_in (touched_in before m) path value))
-          → given_in after m q ≡ Some n → v.reads.done m q ≡ true → shown v.step n ≡ v.reads.means m q
+          → given_in after m q ≡ Some n → v.reads.done m q ≡ true → word_shown v.step n ≡ v.reads.means m q
       given_now m q n (inl same) is done = known.given m q n (ap (λ o. given_to o q) (sym same) ∙ is) done
       given_now m q n (inr p) is done =
           ⊎_elim (λ old. known.given m q n old done)
-          (λ new. ap (λ k. shown v.step k) new.1 ∙ (means (ap (λ k. v.reads.done number k) (sym new.0) ∙ (ap (λ k. v.reads.done k q) (sym p.0) ∙ done)) ∙ (ap (λ k. v.reads.means number k) (sym new.0) ∙ ap (λ k. v.reads.means k q) (sym p.0))))
+          (λ new. ap (λ k. word_shown v.step k) new.1 ∙ (means (ap (λ k. v.reads.done number k) (sym new.0) ∙ (ap (λ k. v.reads.done k q) (sym p.0) ∙ done)) ∙ (ap (λ k. v.reads.means number k) (sym new.0) ∙ ap (λ k. v.reads.means k q) (sym p.0))))
           (noted_given (touched_in before m) path value q n (ap (λ o. given_to o q) (sym p.1) ∙ is))
 
       touched_now : (m : ℕ) (u : Touched) → (touched_in after m ≡ touched_in before m) ⊎ ((m ≡ number) × (touched_in after m ≡ noted_in (touched_in before m) path value))
-          → touched_in after m ≡ Some u → (s : Standing) → slice_get v.reads.sites m ≡ Some s → IsTouched v.step s u
+          → touched_in after m ≡ Some u → (s : AccessStanding) → slice_get v.reads.sites m ≡ Some s → IsTouched v.step s u
       touched_now m u (inl same) is s site = known.touched m u (sym same ∙ is) s site
       touched_now m u (inr p) is s site =
           let old = noted_touched (touched_in before m) path value u (sym p.1 ∙ is) in

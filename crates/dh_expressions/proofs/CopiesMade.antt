@@ -17,7 +17,7 @@ use Rattle.dh_expressions.specs.declared.scenes.Scene.{Scene}
 use Rattle.dh_expressions.specs.declared.tallies.Tally.{Tally}
 use Rattle.dh_expressions.specs.Copying.{AddsCopies, AddsCopy, AddsEither, AddsLeader, AddsOther, AreCopies, CopiesSoFar, Counts as Flags, DoneBy, HasScopes, IsCopy, JoinsGuards, JoinsLeader, MakesCopiesBy, depends_at, guard_put, with_guard}
 use Rattle.dh_expressions.specs.Counting.{IsTally, PlacesNext, places_by}
-use Rattle.dh_expressions.specs.Drafted.{Begun, Computes, Extends, Fits, Pushes, Step, holds, shown, tale}
+use Rattle.dh_expressions.specs.Drafted.{BlockBegun, Computes, Extends, FitsStep, Pushes, BlockStep, holds, word_shown, tale}
 use Rattle.dh_expressions.specs.Levels.{counted}
 use Rattle.dh_expressions.specs.Shown.{guard_of}
 use Rattle.dh_expressions.proofs.CopiesCounted.{Counts, counted_next, tally_first}
@@ -39,19 +39,19 @@ or_by : (a b : Bool) → (a || b) ≡ true → (a ≡ true) ⊎ (b ≡ true)
 or_by true b e = inl refl
 or_by false b e = inr e
 
-pub either_made : (d e : Draft) (one other n : ℕ) → Pushes d e n None (Compute Either one other) → Computes d e n (λ x. binary_of Either (shown x one) (shown x other))
+pub either_made : (d e : Draft) (one other n : ℕ) → Pushes d e n None (Compute Either one other) → Computes d e n (λ x. binary_of Either (word_shown x one) (word_shown x other))
     → JoinsGuards d e (Some one) (Some other) (Some n)
 either_made d e one other n p c = record {
   adds = (n, (refl, p));
   extends = c.extends;
   quiet = c.quiet;
   none = λ e. absurd (cc);
-  on = λ x f b h. same x f b ∙ or_on (is_true (shown x one)) (is_true (shown x other)) h;
-  by = λ x f b h. or_by (is_true (shown x one)) (is_true (shown x other)) (sym (same x f b) ∙ h);
+  on = λ x f b h. same x f b ∙ or_on (is_true (word_shown x one)) (is_true (word_shown x other)) h;
+  by = λ x f b h. or_by (is_true (word_shown x one)) (is_true (word_shown x other)) (sym (same x f b) ∙ h);
 }
   where
-    same : (x : Step) → Fits x e → Begun x d → is_true (shown x n) ≡ (is_true (shown x one) || is_true (shown x other))
-    same x f b = ap (λ (w : Word). is_true w) (c.is x f b) ∙ truth_back (is_true (shown x one) || is_true (shown x other))
+    same : (x : BlockStep) → FitsStep x e → BlockBegun x d → is_true (word_shown x n) ≡ (is_true (word_shown x one) || is_true (word_shown x other))
+    same x f b = ap (λ (w : Word). is_true w) (c.is x f b) ∙ truth_back (is_true (word_shown x one) || is_true (word_shown x other))
 
 pub first_always : (d : Draft) (one other : Option ℕ) → one ≡ None → JoinsGuards d d one other None
 first_always d one other e = record {
@@ -174,11 +174,11 @@ module _ (leader bank place : ℕ → ℕ) (guards : List (Option ℕ)) where
       lost : (k : ℕ) (c : AccessAt) → slice_get [] k ≡ Some c → ⊥
       lost k c e = cc
 
-  later : (x : Step) (n first : ℕ) → DoneBy x leader guards n first → DoneBy x leader guards (suc n) first
+  later : (x : BlockStep) (n first : ℕ) → DoneBy x leader guards n first → DoneBy x leader guards (suc n) first
   later x n first d = record { path = d.path; within = let w = d.within in omega (arith, w); leads = d.leads; on = d.on }
 
   -- the path is one of those before, or the last one
-  earlier_or_last : (x : Step) (n first : ℕ) → DoneBy x leader guards (suc n) first → DoneBy x leader guards n first ⊎ ((leader n ≡ first) × holds x (guard_of guards n))
+  earlier_or_last : (x : BlockStep) (n first : ℕ) → DoneBy x leader guards (suc n) first → DoneBy x leader guards n first ⊎ ((leader n ≡ first) × holds x (guard_of guards n))
   earlier_or_last x n first d = ⊎_elim (λ same. inr (ap leader (sym same) ∙ d.leads, subst (λ (p : ℕ). holds x (guard_of guards p)) same d.on))
       (λ other. inl (record { path = d.path; within = less d.path other d.within; leads = d.leads; on = d.on })) (cases_eq d.path n)
     where
@@ -210,11 +210,11 @@ module _ (leader bank place : ℕ → ℕ) (guards : List (Option ℕ)) where
     leads_itself s = record {
       adds = added (inl s);
       extends = subst (λ (k : Draft). Extends old k) (sym s.same) h.extends;
-      quiet = subst (λ (k : Draft). (x : Step) → Fits x k → Begun x old → tale x k ≡ tale x old) (sym s.same) h.quiet;
+      quiet = subst (λ (k : Draft). (x : BlockStep) → FitsStep x k → BlockBegun x old → tale x k ≡ tale x old) (sym s.same) h.quiet;
       long = ap length s.copies_are ∙ (length-append copies _ ∙ (ap (λ m. m + 1) h.long ∙ add-one n));
       are = λ x f s0. record {
         long = ap length s.copies_are ∙ (length-append copies _ ∙ (ap (λ m. m + 1) h.long ∙ add-one n));
-        each = λ k c there. copy_at x (subst (λ (k : Draft). Fits x k) s.same f) s0 k c (place_of_more copies (placed g) c k (sym (ap (λ cs. slice_get cs k) s.copies_are) ∙ there));
+        each = λ k c there. copy_at x (subst (λ (k : Draft). FitsStep x k) s.same f) s0 k c (place_of_more copies (placed g) c k (sym (ap (λ cs. slice_get cs k) s.copies_are) ∙ there));
       };
     }
       where
@@ -231,7 +231,7 @@ module _ (leader bank place : ℕ → ℕ) (guards : List (Option ℕ)) where
             never : (k j : ℕ) → k < length copies → length copies ≡ n → j ≤ k → j ≡ n → ⊥
             never k j w long first same = omega (arith, w, long, first, same)
 
-        newest : (x : Step) → IsCopy x leader bank place guards (suc n) n (placed g)
+        newest : (x : BlockStep) → IsCopy x leader bank place guards (suc n) n (placed g)
         newest x = record {
           leader_is = is;
           bank_is = at;
@@ -248,7 +248,7 @@ module _ (leader bank place : ℕ → ℕ) (guards : List (Option ℕ)) where
                 never p j w first same = omega (arith, w, first, same)
             by done (inr p) = subst (λ (o : Option ℕ). holds x o) (sym guard) p.1
 
-        copy_at : (x : Step) → Fits x d → Begun x old → (k : ℕ) (c : AccessAt) → (slice_get copies k ≡ Some c) ⊎ ((k ≡ length copies) × (c ≡ placed g)) → IsCopy x leader bank place guards (suc n) k c
+        copy_at : (x : BlockStep) → FitsStep x d → BlockBegun x old → (k : ℕ) (c : AccessAt) → (slice_get copies k ≡ Some c) ⊎ ((k ≡ length copies) × (c ≡ placed g)) → IsCopy x leader bank place guards (suc n) k c
         copy_at x f s0 k c (inl there) = record {
           leader_is = kept.leader_is;
           bank_is = kept.bank_is;
@@ -292,7 +292,7 @@ module _ (leader bank place : ℕ → ℕ) (guards : List (Option ℕ)) where
             → ((slice_get copies k ≡ Some c) × (k ≡ l → ⊥)) ⊎ ((k ≡ l) × ((a : AccessAt) × ((slice_get copies l ≡ Some a) × (c ≡ record { leader = a.leader; bank = a.bank; place = a.place; guard = s.joins.joined }))))
         place_changed k c there = guard_place copies l k s.joins.joined c (sym (ap (λ cs. slice_get cs k) s.joins.changed_is) ∙ there)
 
-        newest : (x : Step) → IsCopy x leader bank place guards (suc n) n (placed None)
+        newest : (x : BlockStep) → IsCopy x leader bank place guards (suc n) n (placed None)
         newest x = record {
           leader_is = is;
           bank_is = at;
@@ -302,7 +302,7 @@ module _ (leader bank place : ℕ → ℕ) (guards : List (Option ℕ)) where
           by = λ same on. absurd (other same);
         }
 
-        stays : (x : Step) → Fits x e → Begun x old → (k : ℕ) (c : AccessAt) → slice_get copies k ≡ Some c → (k ≡ l → ⊥) → IsCopy x leader bank place guards (suc n) k c
+        stays : (x : BlockStep) → FitsStep x e → BlockBegun x old → (k : ℕ) (c : AccessAt) → slice_get copies k ≡ Some c → (k ≡ l → ⊥) → IsCopy x leader bank place guards (suc n) k c
         stays x f s0 k c there apart = record {
           leader_is = kept.leader_is;
           bank_is = kept.bank_is;
@@ -319,7 +319,7 @@ module _ (leader bank place : ℕ → ℕ) (guards : List (Option ℕ)) where
             by (inl d) = kept.on d
             by (inr p) = subst (λ (o : Option ℕ). holds x o) (sym (kept.alone (λ leads. apart (sym leads ∙ (sym p.0 ∙ sym is))))) refl
 
-        joined : (x : Step) → Fits x e → Begun x old → (a : AccessAt) → slice_get copies l ≡ Some a
+        joined : (x : BlockStep) → FitsStep x e → BlockBegun x old → (a : AccessAt) → slice_get copies l ≡ Some a
             → IsCopy x leader bank place guards (suc n) l (record { leader = a.leader; bank = a.bank; place = a.place; guard = s.joins.joined })
         joined x f s0 a there = record {
           leader_is = kept.leader_is;
@@ -330,7 +330,7 @@ module _ (leader bank place : ℕ → ℕ) (guards : List (Option ℕ)) where
           by = λ same on. back same (j.by x f sd on);
         }
           where
-            sd : Begun x d
+            sd : BlockBegun x d
             sd = begun_later old d x h.extends s0
 
             kept : IsCopy x leader bank place guards n l a
@@ -347,7 +347,7 @@ module _ (leader bank place : ℕ → ℕ) (guards : List (Option ℕ)) where
             back same (inl on) = later x n l (kept.by same on)
             back same (inr on) = record { path = n; within = omega arith; leads = sym is; on = subst (λ (o : Option ℕ). holds x o) guard on }
 
-        copy_at : (x : Step) → Fits x e → Begun x old → (k : ℕ) (c : AccessAt) → (slice_get s.changed k ≡ Some c) ⊎ ((k ≡ length s.changed) × (c ≡ placed None)) → IsCopy x leader bank place guards (suc n) k c
+        copy_at : (x : BlockStep) → FitsStep x e → BlockBegun x old → (k : ℕ) (c : AccessAt) → (slice_get s.changed k ≡ Some c) ⊎ ((k ≡ length s.changed) × (c ≡ placed None)) → IsCopy x leader bank place guards (suc n) k c
         copy_at x f s0 k c (inl there) = by (place_changed k c there)
           where
             by : ((slice_get copies k ≡ Some c) × (k ≡ l → ⊥)) ⊎ ((k ≡ l) × ((a : AccessAt) × ((slice_get copies l ≡ Some a) × (c ≡ record { leader = a.leader; bank = a.bank; place = a.place; guard = s.joins.joined })))) → IsCopy x leader bank place guards (suc n) k c

@@ -17,14 +17,14 @@ use Rattle.dh_tree.specs.Seen.{program_seen}
 use Rattle.dh_meaning.specs.Core.{CoreTerm, CoreTerms, Target, by_indices, by_row, by_views, read}
 use Rattle.dh_meaning.specs.Effects.{bits_at, is_row, kind_in, read_made, spot_by_indices, spot_by_row, spot_if_inside, spot_reached, value_of, values_of, write_made}
 use Rattle.dh_meaning.specs.Paths.{Path}
-use Rattle.dh_meaning.specs.Ways.{Step as ViewStep}
+use Rattle.dh_meaning.specs.Ways.{WayStep as ViewStep}
 use Rattle.dh_viewing.specs.declared.bank_sets.BankSet.{BankSet}
 use Rattle.dh_viewing.specs.ReachedBanks.{is_in}
 use Rattle.dh_plan.specs.declared.operations.OperationForm.{OperationForm}
 use Rattle.dh_plan.specs.declared.operations.OperationForm.TheVariants.{Probe, Write}
 use Rattle.dh_plan.specs.declared.operations.Reach as plans
 use Rattle.dh_plan.specs.declared.operations.ReachStep.{ReachStep}
-use Rattle.dh_plan.specs.Blocks.{BlockEvent, fails, puts, block_events, fails_outside, first_bank, form_events, guarded, is_on, puts_inside, spot_in_row, spot_of_reach}
+use Rattle.dh_plan.specs.Blocks.{BlockEvent, fails, puts, block_events, fails_outside, first_listed_bank, form_events, guarded, is_on, puts_inside, spot_in_row, spot_of_reach}
 use Rattle.dh_plan.specs.Passages.{indices_behind}
 use Rattle.dh_plan.proofs.ViewsPassed.{passed}
 use Rattle.dh_expressions.specs.declared.accesses.Accesses.{Accesses}
@@ -35,14 +35,14 @@ use Rattle.dh_expressions.specs.declared.elements.Aim.{Aim}
 use Rattle.dh_expressions.specs.declared.scenes.Lane.{Lane}
 use Rattle.dh_expressions.specs.declared.scenes.Scene.{Scene}
 use Rattle.dh_expressions.specs.Copying.{IsCopy}
-use Rattle.dh_expressions.specs.Drafted.{Begun, Extends, Fits, Pushes, Step, Tale, fails_to_hold, fault_told, form_shown, holds, put, shown, tale, told, told_block}
+use Rattle.dh_expressions.specs.Drafted.{BlockBegun, Extends, FitsStep, Pushes, BlockStep, Tale, fails_to_hold, fault_told, form_shown, holds, put, word_shown, tale, tales_told, told_block}
 use Rattle.dh_expressions.specs.Evaluated.{IsSited, Knows, NamesSmallBank, SourceMeans, View, begun_of, lane_guard, lane_path, numbers_shown, source_at}
 use Rattle.dh_expressions.specs.Named.{banks_below, known_in, way_named}
 use Rattle.dh_expressions.specs.Noted.{Notes, copied_in, copied_of, copy_or_alone, fault_in, fault_of_touched, given_by, touched_in}
 use Rattle.dh_expressions.specs.Numbers.{narrowed}
 use Rattle.dh_expressions.specs.ReachedBanks.{bank_by}
 use Rattle.dh_expressions.specs.Reaching.{AimsAt, Finds, FormHasTarget, IsAimed, IsRead, ReadsElement, RowIs, Tells, copy_banks, reach_at, reach_told, steps_shown}
-use Rattle.dh_expressions.specs.Standings.{IsTouched, Standing, copy_places, standing_at}
+use Rattle.dh_expressions.specs.Standings.{IsTouched, AccessStanding, copy_places, standing_at}
 use Rattle.dh_expressions.specs.Touching.{IsNew, TouchesAt}
 use Rattle.dh_expressions.proofs.AccessesKept.{noted_knows, touched_knows}
 use Rattle.dh_expressions.proofs.ListPlaces.{place_within, some_same, there}
@@ -59,19 +59,19 @@ abbrev no_events : List BlockEvent
 no_events = []
 
 module _ (d e : Draft) (number : ℕ) (guard : Option ℕ) (form : OperationForm) (p : Pushes d e number guard form) where
-  pushed_tale : (x : Step) → Begun x d → tale x e ≡ tale x d ++ told_block x.named (if is_on x.first x.words guard then form_events x.start x.first x.words form else [])
+  pushed_tale : (x : BlockStep) → BlockBegun x d → tale x e ≡ tale x d ++ told_block x.named (if is_on x.first x.words guard then form_events x.start x.first x.words form else [])
   pushed_tale x b =
       ap (λ (es : List BlockEvent). told_block x.named es) (pushed_events d e number guard form p x b)
       ∙ (told_behind x.named (block_events x.start x.first x.words (drop x.first d.operations.items)) _
       ∙ ap (λ (es : List BlockEvent). tale x d ++ told_block x.named es) (append-nil _))
 
-  pub pushed_on : (x : Step) → Begun x d → holds x guard → tale x e ≡ tale x d ++ told_block x.named (form_events x.start x.first x.words form)
+  pub pushed_on : (x : BlockStep) → BlockBegun x d → holds x guard → tale x e ≡ tale x d ++ told_block x.named (form_events x.start x.first x.words form)
   pushed_on x b on = pushed_tale x b ∙ ap (λ (t : Bool). tale x d ++ told_block x.named (if t then form_events x.start x.first x.words form else [])) on
 
-  pub pushed_off : (x : Step) → Begun x d → fails_to_hold x guard → tale x e ≡ tale x d
+  pub pushed_off : (x : BlockStep) → BlockBegun x d → fails_to_hold x guard → tale x e ≡ tale x d
   pushed_off x b off = pushed_tale x b ∙ (ap (λ (t : Bool). tale x d ++ told_block x.named (if t then form_events x.start x.first x.words form else [])) off ∙ append-nil (tale x d))
 
-  pub pushed_silent : (x : Step) → Begun x d → form_events x.start x.first x.words form ≡ [] → tale x e ≡ tale x d
+  pub pushed_silent : (x : BlockStep) → BlockBegun x d → form_events x.start x.first x.words form ≡ [] → tale x e ≡ tale x d
   pushed_silent x b none =
       pushed_tale x b
       ∙ (ap (λ (es : List BlockEvent). tale x d ++ told_block x.named (if is_on x.first x.words guard then es else [])) none
@@ -82,7 +82,7 @@ module _ (d e : Draft) (number : ℕ) (guard : Option ℕ) (form : OperationForm
       nothing false = refl
 
   -- a word that is guarded by what holds
-  pub pushed_word : (x : Step) → Fits x e → Begun x d → holds x guard → shown x number ≡ form_shown x number form
+  pub pushed_word : (x : BlockStep) → FitsStep x e → BlockBegun x d → holds x guard → word_shown x number ≡ form_shown x number form
   pushed_word x f b on =
       f.solves number (record { guard = guard; form = form }) (let m = p.number_is in omega (arith, m, b)) (pushed_there d e number guard form p)
       ∙ ap (λ (t : Bool). guarded t (form_shown x number form)) on
@@ -122,19 +122,19 @@ module _ (lane : Lane) (v : View) (aim : Aim) (memory : ℕ) (banks : List (ℕ 
       (passed v.step.start.views steps (steps_shown v.step aim.steps) (drop n (values_of (begun_of v.step) v.variables (lane_path lane) ts)) (take n (values_of (begun_of v.step) v.variables (lane_path lane) ts)) aims.1.0)))
 
   led_by_row : (t : CoreTerm) (own : ℕ) → memory < 2 ^ 32 → AimsAt lane v aim (by_row own t)
-      → led ≡ spot_by_row v.step.start.table memory (first_bank banks) (words.value_of (value_of (begun_of v.step) v.variables (lane_path lane) t))
+      → led ≡ spot_by_row v.step.start.table memory (first_listed_bank banks) (words.value_of (value_of (begun_of v.step) v.variables (lane_path lane) t))
   led_by_row t own small aims = by aim.row refl aims
     where
       by : (row : Option ℕ) → aim.row ≡ row → RowIs v row (words.value_of (value_of (begun_of v.step) v.variables (lane_path lane) t))
-          → led ≡ spot_by_row v.step.start.table memory (first_bank banks) (words.value_of (value_of (begun_of v.step) v.variables (lane_path lane) t))
+          → led ≡ spot_by_row v.step.start.table memory (first_listed_bank banks) (words.value_of (value_of (begun_of v.step) v.variables (lane_path lane) t))
       by None e h = absurd h
       by (Some row) e h =
           ap (λ r. spot_in_row v.step.start v.step.first v.step.words planned r) e
-          ∙ (ap (λ m. spot_by_row v.step.start.table m (first_bank banks) (words.value_of (shown v.step row))) (kept small)
-          ∙ ap (λ (z : ℤ). spot_by_row v.step.start.table memory (first_bank banks) z) h)
+          ∙ (ap (λ m. spot_by_row v.step.start.table m (first_listed_bank banks) (words.value_of (word_shown v.step row))) (kept small)
+          ∙ ap (λ (z : ℤ). spot_by_row v.step.start.table memory (first_listed_bank banks) z) h)
 
 pub read_led : (lane : Lane) (v : View) (aim : Aim) (memory : ℕ) (banks : List (ℕ × ℕ)) (place : Place) (form : plain.TermForm) (target : Target) → FormHasTarget form target → memory < 2 ^ 32
-    → AimsAt lane v aim target → ((r : Ref) (bank : ℕ) (p : Place) (row : plain.Term) → form ≡ plain.in_bank r bank p row → first_bank banks ≡ bank)
+    → AimsAt lane v aim target → ((r : Ref) (bank : ℕ) (p : Place) (row : plain.Term) → form ≡ plain.in_bank r bank p row → first_listed_bank banks ≡ bank)
     → spot_of_reach v.step.start v.step.first v.step.words (reach_told memory aim banks) ≡ spot_reached (begun_of v.step) v.variables (lane_path lane) (reach_at place memory aim.number) target
 read_led lane v aim memory banks place (plain.accessed r indices) (by_indices ts) has small aims banked = led_by_indices lane v aim memory banks place ts small aims
 read_led lane v aim memory banks place (plain.accessed r indices) (by_views steps n ts) has small aims banked = led_by_views lane v aim memory banks place steps n ts small aims
@@ -177,28 +177,28 @@ probe_led lane v aim memory fault place (plain.converted inner to) target has sm
 
 -- what a probe tells
 probe_told : (named : List (FaultKind × Place)) (fault number : ℕ) (place : Place) (path : Path) (memory : ℕ) (spot : Option Spot) → slice_get named fault ≡ Some (OutOfRange, place)
-    → told_block named (fails_outside fault spot) ≡ told (read_made (reach_at place memory number) path spot ∷ [])
+    → told_block named (fails_outside fault spot) ≡ tales_told (read_made (reach_at place memory number) path spot ∷ [])
 probe_told named fault number place path memory None is = ap (λ (f : Option (FaultKind × Place)). fault_told f ∷ []) is
 probe_told named fault number place path memory (Some s) is = refl
 
 -- what a probe and the write behind it tell
 write_told : (named : List (FaultKind × Place)) (fault number : ℕ) (place : Place) (path : Path) (memory bits : ℕ) (spot : Option Spot) → slice_get named fault ≡ Some (OutOfRange, place)
-    → told_block named (fails_outside fault spot) ++ told_block named (puts_inside bits spot) ≡ told (write_made (reach_at place memory number) path bits spot ∷ [])
+    → told_block named (fails_outside fault spot) ++ told_block named (puts_inside bits spot) ≡ tales_told (write_made (reach_at place memory number) path bits spot ∷ [])
 write_told named fault number place path memory bits None is = ap (λ (f : Option (FaultKind × Place)). fault_told f ∷ []) is
 write_told named fault number place path memory bits (Some s) is = refl
 
 -- An access with operations, as it stands.
 module _ (scene : Scene) (lane : Lane) (place : Place) (form : plain.TermForm) (memory : ℕ) (aim : Aim) (writes : Bool) (d0 d1 : Draft) (a0 a1 : Accesses)
     (t : TouchesAt scene lane.around (standing_at scene lane.around memory place form writes) d0 d1 a0 a1 aim.number) where
-  abbrev stands : Standing
+  abbrev stands : AccessStanding
   stands = standing_at scene lane.around memory place form writes
 
-  known_touched : (v : View) → Fits v.step d1 → Begun v.step d0 → Knows v a0 → IsSited scene lane v memory aim.number place form writes → Knows v a1
+  known_touched : (v : View) → FitsStep v.step d1 → BlockBegun v.step d0 → Knows v a0 → IsSited scene lane v memory aim.number place form writes → Knows v a1
   known_touched v f b known sited = touched_knows scene lane.around stands d0 d1 a0 a1 aim.number v t f b (λ m u new o site. new_one m u new o site) known
     where
-      new_one : (m : ℕ) (u : Touched) → IsNew d0 d1 scene lane.around stands aim.number m u → (o : Standing) → slice_get v.reads.sites m ≡ Some o → IsTouched v.step o u
+      new_one : (m : ℕ) (u : Touched) → IsNew d0 d1 scene lane.around stands aim.number m u → (o : AccessStanding) → slice_get v.reads.sites m ≡ Some o → IsTouched v.step o u
       new_one m u new o site =
-          subst (λ (s : Standing). IsTouched v.step s u) (some_same stands o (sym sited.site ∙ (ap (λ n. slice_get v.reads.sites n) (sym new.own) ∙ site)))
+          subst (λ (s : AccessStanding). IsTouched v.step s u) (some_same stands o (sym sited.site ∙ (ap (λ n. slice_get v.reads.sites n) (sym new.own) ∙ site)))
           (new.is sited.scopes sited.low v.step f b)
 
   record Here (v : View) : Type 0 where
@@ -206,7 +206,7 @@ module _ (scene : Scene) (lane : Lane) (place : Place) (form : plain.TermForm) (
     there_is : touched_in a1 aim.number ≡ Some touched
     as_it_stands : IsTouched v.step stands touched
 
-  here : (v : View) → Fits v.step d1 → Begun v.step d0 → Knows v a0 → IsSited scene lane v memory aim.number place form writes → Here v
+  here : (v : View) → FitsStep v.step d1 → BlockBegun v.step d0 → Knows v a0 → IsSited scene lane v memory aim.number place form writes → Here v
   here v f b known sited =
       let found = t.there (subst (λ (n : ℕ). aim.number < n) (sym known.long) (place_within v.reads.sites aim.number stands sited.site)) in
       record { touched = found.0; there_is = found.1; as_it_stands = (known_touched v f b known sited).touched aim.number found.0 found.1 stands sited.site }
@@ -224,9 +224,9 @@ module _ (scene : Scene) (lane : Lane) (place : Place) (form : plain.TermForm) (
 
   -- the bank that an access names is that of its copy, and the one that it reaches
   bank_named : (v : View) (copy : AccessAt) → IsCopy v.step stands.leader stands.bank (copy_places stands) stands.guards (length stands.guards) lane.number copy → NamesSmallBank form
-      → (r : Ref) (bank : ℕ) (p : Place) (row : plain.Term) → form ≡ plain.in_bank r bank p row → first_bank (copy_banks scene form copy) ≡ bank
+      → (r : Ref) (bank : ℕ) (p : Place) (row : plain.Term) → form ≡ plain.in_bank r bank p row → first_listed_bank (copy_banks scene form copy) ≡ bank
   bank_named v copy c small r bank p row is =
-      ap (λ (f : plain.TermForm). first_bank (copy_banks scene f copy)) is
+      ap (λ (f : plain.TermForm). first_listed_bank (copy_banks scene f copy)) is
       ∙ (c.bank_is
       ∙ (ap (λ (f : plain.TermForm). narrowed (bank_by (program_seen scene.program.now) (way_named (known_in scene) f) lane.around.levels.now memory f lane.number)) is
       ∙ kept bank (subst (λ (f : plain.TermForm). NamesSmallBank f) is small)))
@@ -240,7 +240,7 @@ module _ (scene : Scene) (form : plain.TermForm) (d e : Draft) (memory : ℕ) (a
   finds_extends (Some n) r = subst (λ (k : Draft). Extends d k) (sym r.0) (extends_self d)
   finds_extends None r = pushed_extends d e value copy.guard _ r
 
-  finds_quiet : (found : Option ℕ) → Finds scene form d e memory aim copy found value → (x : Step) → Begun x d → tale x e ≡ tale x d
+  finds_quiet : (found : Option ℕ) → Finds scene form d e memory aim copy found value → (x : BlockStep) → BlockBegun x d → tale x e ≡ tale x d
   finds_quiet (Some n) r x b = ap (λ (k : Draft). tale x k) r.0
   finds_quiet None r x b = pushed_silent d e value copy.guard _ r x b refl
 
@@ -260,34 +260,34 @@ module _ (scene : Scene) (lane : Lane) (place : Place) (form : plain.TermForm) (
   found_extends : Extends d2 d3
   found_extends = finds_extends scene form d2 d3 memory aim copy value found r
 
-  fits2 : (v : View) → Fits v.step d3 → Fits v.step d2
+  fits2 : (v : View) → FitsStep v.step d3 → FitsStep v.step d2
   fits2 v f = fits_before d2 d3 v.step found_extends f
 
-  fits1 : (v : View) → Fits v.step d3 → Fits v.step d1
+  fits1 : (v : View) → FitsStep v.step d3 → FitsStep v.step d1
   fits1 v f = fits_before d1 d2 v.step probed (fits2 v f)
 
-  begun1 : (v : View) → Begun v.step d0 → Begun v.step d1
+  begun1 : (v : View) → BlockBegun v.step d0 → BlockBegun v.step d1
   begun1 v b = begun_later d0 d1 v.step t.extends b
 
-  begun2 : (v : View) → Begun v.step d0 → Begun v.step d2
+  begun2 : (v : View) → BlockBegun v.step d0 → BlockBegun v.step d2
   begun2 v b = begun_later d1 d2 v.step probed (begun1 v b)
 
-  known1 : (v : View) → Fits v.step d3 → Begun v.step d0 → Knows v a0 → IsSited scene lane v memory aim.number place form false → Knows v a1
+  known1 : (v : View) → FitsStep v.step d3 → BlockBegun v.step d0 → Knows v a0 → IsSited scene lane v memory aim.number place form false → Knows v a1
   known1 v f b known sited = known_touched scene lane place form memory aim false d0 d1 a0 a1 t v (fits1 v f) b known sited
 
-  value_is : (v : View) → Fits v.step d3 → Begun v.step d0 → Knows v a0 → IsSited scene lane v memory aim.number place form false → IsRead scene lane place form memory aim target v → shown v.step value ≡ word_read v
+  value_is : (v : View) → FitsStep v.step d3 → BlockBegun v.step d0 → Knows v a0 → IsSited scene lane v memory aim.number place form false → IsRead scene lane place form memory aim target v → word_shown v.step value ≡ word_read v
   value_is v f b known sited sees = by found found_is r
     where
       stood : IsCopy v.step (standing_at scene lane.around memory place form false).leader (standing_at scene lane.around memory place form false).bank (copy_places (standing_at scene lane.around memory place form false)) lane.around.guards.now (length lane.around.guards.now) lane.number copy
       stood = copy_stands scene lane place form memory aim false d0 d1 a0 a1 t v copy copy_is sited.within (here scene lane place form memory aim false d0 d1 a0 a1 t v (fits1 v f) b known sited)
 
-      given : (n : ℕ) (o : Option (ℕ × ℕ)) → Some n ≡ given_by a1 o → SourceMeans v.reads o (word_read v) → shown v.step n ≡ word_read v
+      given : (n : ℕ) (o : Option (ℕ × ℕ)) → Some n ≡ given_by a1 o → SourceMeans v.reads o (word_read v) → word_shown v.step n ≡ word_read v
       given n None e m = absurd (cc)
       given n (Some s) e m = (known1 v f b known sited).given s.0 s.1 n (sym e) m.0 ∙ m.1
 
-      by : (o : Option ℕ) → o ≡ given_by a1 (source_at (slice_get scene.shares.now aim.number) aim.number lane.number copy.leader) → Finds scene form d2 d3 memory aim copy o value → shown v.step value ≡ word_read v
+      by : (o : Option ℕ) → o ≡ given_by a1 (source_at (slice_get scene.shares.now aim.number) aim.number lane.number copy.leader) → Finds scene form d2 d3 memory aim copy o value → word_shown v.step value ≡ word_read v
       by (Some n) is h =
-          ap (λ k. shown v.step k) h.1
+          ap (λ k. word_shown v.step k) h.1
           ∙ given n (source_at (slice_get scene.shares.now aim.number) aim.number lane.number copy.leader) is
           (subst (λ (l : ℕ). SourceMeans v.reads (source_at (slice_get scene.shares.now aim.number) aim.number lane.number l) (word_read v)) (sym stood.leader_is) sees.done.source)
       by None is h =
@@ -312,7 +312,7 @@ module _ (scene : Scene) (lane : Lane) (place : Place) (form : plain.TermForm) (
         ∙ (ap (λ (ts : List Tale). tale v.step d1 ++ ts)
         (probe_told v.step.named fault aim.number place (lane_path lane) memory (spot_reached (begun_of v.step) v.variables (lane_path lane) (reach_at place memory aim.number) target)
         (fault_named scene lane place form memory aim false d0 d1 a0 a1 t v fault fault_is (here scene lane place form memory aim false d0 d1 a0 a1 t v (fits1 v f) b known fair.sited)))
-        ∙ ap (λ (ts : List Tale). ts ++ told (read_made (reach_at place memory aim.number) (lane_path lane) (spot_reached (begun_of v.step) v.variables (lane_path lane) (reach_at place memory aim.number) target) ∷ [])) (t.quiet v.step (fits1 v f) b))));
+        ∙ ap (λ (ts : List Tale). ts ++ tales_told (read_made (reach_at place memory aim.number) (lane_path lane) (spot_reached (begun_of v.step) v.variables (lane_path lane) (reach_at place memory aim.number) target) ∷ [])) (t.quiet v.step (fits1 v f) b))));
     quiet = λ v f b off.
         finds_quiet scene form d2 d3 memory aim copy value found r v.step (begun2 v b) ∙ (pushed_off d1 d2 probe (lane_guard lane) _ p v.step (begun1 v b) off ∙ t.quiet v.step (fits1 v f) b);
   }
@@ -327,17 +327,17 @@ module _ (scene : Scene) (lane : Lane) (place : Place) (form : plain.TermForm) (
   abbrev spot_meant : View → Option Spot
   spot_meant v = spot_reached (begun_of v.step) v.variables (lane_path lane) (reach_at place memory aim.number) target
 
-  begun_at : (v : View) → Begun v.step d0 → Begun v.step d1
+  begun_at : (v : View) → BlockBegun v.step d0 → BlockBegun v.step d1
   begun_at v b = begun_later d0 d1 v.step t.extends b
 
-  begun_behind : (v : View) → Begun v.step d0 → Begun v.step d2
+  begun_behind : (v : View) → BlockBegun v.step d0 → BlockBegun v.step d2
   begun_behind v b = begun_later d1 d2 v.step (pushed_extends d1 d2 probe (lane_guard lane) _ p) (begun_at v b)
 
-  fits_touched : (v : View) → Fits v.step d3 → Fits v.step d1
+  fits_touched : (v : View) → FitsStep v.step d3 → FitsStep v.step d1
   fits_touched v f = fits_before d1 d2 v.step (pushed_extends d1 d2 probe (lane_guard lane) _ p) (fits_before d2 d3 v.step (pushed_extends d2 d3 number (lane_guard lane) _ w) f)
 
   pub write_made_at : Tells (lane_guard lane) d0 d3 a0 a1 (λ v. IsSited scene lane v memory aim.number place form true) (λ v. IsAimed lane form memory aim target v)
-      (λ v. write_made (reach_at place memory aim.number) (lane_path lane) (shown v.step value).bits (spot_meant v) ∷ [])
+      (λ v. write_made (reach_at place memory aim.number) (lane_path lane) (word_shown v.step value).bits (spot_meant v) ∷ [])
   write_made_at = record {
     extends = extends_again d0 d1 d3 t.extends (extends_again d1 d2 d3 (pushed_extends d1 d2 probe (lane_guard lane) _ p) (pushed_extends d2 d3 number (lane_guard lane) _ w));
     knows = λ v f b known sited. known_touched scene lane place form memory aim true d0 d1 a0 a1 t v (fits_touched v f) b known sited;
@@ -345,16 +345,16 @@ module _ (scene : Scene) (lane : Lane) (place : Place) (form : plain.TermForm) (
         let h = here scene lane place form memory aim true d0 d1 a0 a1 t v (fits_touched v f) b known sited in
         let stood = copy_stands scene lane place form memory aim true d0 d1 a0 a1 t v copy copy_is sited.within h in
         pushed_on d2 d3 number (lane_guard lane) _ w v.step (begun_behind v b) on
-        ∙ (ap (λ (ts : List Tale). ts ++ told_block v.step.named (puts_inside (shown v.step value).bits (spot_of_reach v.step.start v.step.first v.step.words (reach_told memory aim (copy_banks scene form copy)))))
+        ∙ (ap (λ (ts : List Tale). ts ++ told_block v.step.named (puts_inside (word_shown v.step value).bits (spot_of_reach v.step.start v.step.first v.step.words (reach_told memory aim (copy_banks scene form copy)))))
         (pushed_on d1 d2 probe (lane_guard lane) _ p v.step (begun_at v b) on)
         ∙ (append_assoc (tale v.step d1) _ _
-        ∙ (ap (λ (es : List BlockEvent). tale v.step d1 ++ (told_block v.step.named es ++ told_block v.step.named (puts_inside (shown v.step value).bits (spot_of_reach v.step.start v.step.first v.step.words (reach_told memory aim (copy_banks scene form copy))))))
+        ∙ (ap (λ (es : List BlockEvent). tale v.step d1 ++ (told_block v.step.named es ++ told_block v.step.named (puts_inside (word_shown v.step value).bits (spot_of_reach v.step.start v.step.first v.step.words (reach_told memory aim (copy_banks scene form copy))))))
         (probe_led lane v aim memory fault place form target has sees.small sees.aims)
-        ∙ (ap (λ s. tale v.step d1 ++ (told_block v.step.named (fails_outside fault (spot_meant v)) ++ told_block v.step.named (puts_inside (shown v.step value).bits s)))
+        ∙ (ap (λ s. tale v.step d1 ++ (told_block v.step.named (fails_outside fault (spot_meant v)) ++ told_block v.step.named (puts_inside (word_shown v.step value).bits s)))
         (read_led lane v aim memory (copy_banks scene form copy) place form target has sees.small sees.aims (bank_named scene lane place form memory aim true d0 d1 a0 a1 t v copy stood sees.bank))
         ∙ (ap (λ (ts : List Tale). tale v.step d1 ++ ts)
-        (write_told v.step.named fault aim.number place (lane_path lane) memory (shown v.step value).bits (spot_meant v) (fault_named scene lane place form memory aim true d0 d1 a0 a1 t v fault fault_is h))
-        ∙ ap (λ (ts : List Tale). ts ++ told (write_made (reach_at place memory aim.number) (lane_path lane) (shown v.step value).bits (spot_meant v) ∷ [])) (t.quiet v.step (fits_touched v f) b))))));
+        (write_told v.step.named fault aim.number place (lane_path lane) memory (word_shown v.step value).bits (spot_meant v) (fault_named scene lane place form memory aim true d0 d1 a0 a1 t v fault fault_is h))
+        ∙ ap (λ (ts : List Tale). ts ++ tales_told (write_made (reach_at place memory aim.number) (lane_path lane) (word_shown v.step value).bits (spot_meant v) ∷ [])) (t.quiet v.step (fits_touched v f) b))))));
     quiet = λ v f b off.
         pushed_off d2 d3 number (lane_guard lane) _ w v.step (begun_behind v b) off ∙ (pushed_off d1 d2 probe (lane_guard lane) _ p v.step (begun_at v b) off ∙ t.quiet v.step (fits_touched v f) b);
   }

@@ -35,22 +35,22 @@ use Rattle.dh_expressions.specs.declared.scenes.Lane.{Lane}
 use Rattle.dh_expressions.specs.declared.scenes.Scene.{Scene}
 use Rattle.dh_expressions.specs.declared.elements.Aim.{Aim}
 use Rattle.dh_expressions.specs.declared.terms.Valued.{Valued}
-use Rattle.dh_expressions.specs.Drafted.{Begun, Computes, Extends, Fits, Gives, Step, Tale, failed, put, shown, tale, told}
-use Rattle.dh_expressions.specs.Shown.{applied_shown, converted_shown, extended_shown, is_kept, kind_written}
+use Rattle.dh_expressions.specs.Drafted.{BlockBegun, Computes, Extends, FitsStep, Gives, BlockStep, Tale, failed, put, word_shown, tale, tales_told}
+use Rattle.dh_expressions.specs.Shown.{applied_shown, conversion_shown, extended_shown, is_kept, kind_written}
 use Rattle.dh_expressions.specs.Evaluated.{AimsByIndices, AimsByRow, Evaluates, EvaluatesAll, EvaluatesIndices, EvaluatesTerm, Fair, FairAll, IsDone, IsSited, Knows, PassesWay, Sees, SeesAll, SeesWay, ShowsVariable, View, begun_of, known_in, lane_guard, lane_path, numbers_shown, term_told, term_value, terms_told, terms_values}
 use Rattle.dh_expressions.specs.Named.{first_view}
 use Rattle.dh_expressions.specs.Reaching.{AimsAt, HasTarget, IsFairRead, IsRead, ReadsAt, ReadsElement, ReadsNext, RowIs, reach_at}
 use Rattle.dh_expressions.proofs.Pushing.{begun_later, extends_again, extends_self, fits_before, gives}
 use Rattle.dh_expressions.proofs.WaysShown.{way_aims, way_extends, way_quiet}
 
-pub told_append : (xs ys : List Event) → told (xs ++ ys) ≡ told xs ++ told ys
+pub told_append : (xs ys : List Event) → tales_told (xs ++ ys) ≡ tales_told xs ++ tales_told ys
 told_append [] ys = refl
 told_append (reads number place path spot ∷ xs) ys = told_append xs ys
 told_append (writes number place path spot value ∷ xs) ys = ap (λ (ts : List Tale). put spot value ∷ ts) (told_append xs ys)
 told_append (faults number place path fault ∷ xs) ys = ap (λ (ts : List Tale). failed fault place ∷ ts) (told_append xs ys)
 
 -- a value that reads nothing
-pub evaluates_still : (guard : Option ℕ) (old new : Draft) (a : Accesses) (n : ℕ) (made : Step → Word) (Fair Sees : View → Type 0) (word : View → Word)
+pub evaluates_still : (guard : Option ℕ) (old new : Draft) (a : Accesses) (n : ℕ) (made : BlockStep → Word) (Fair Sees : View → Type 0) (word : View → Word)
     → Gives old new n made → ((v : View) → Sees v → made v.step ≡ word v) → Evaluates guard old new a a n Fair Sees word (λ v. [])
 evaluates_still guard old new a n made Fair Sees word g same = record {
   extends = g.extends;
@@ -62,7 +62,7 @@ evaluates_still guard old new a n made Fair Sees word g same = record {
 
 -- a value made of one
 pub evaluates_by : (guard : Option ℕ) (old middle new : Draft) (a b : Accesses) (n m : ℕ) (Fair Sees : View → Type 0) (word : View → Word) (events : View → List Event) (make : Word → Word)
-    → Evaluates guard old middle a b n Fair Sees word events → Gives middle new m (λ x. make (shown x n)) → Evaluates guard old new a b m Fair Sees (λ v. make (word v)) events
+    → Evaluates guard old middle a b n Fair Sees word events → Gives middle new m (λ x. make (word_shown x n)) → Evaluates guard old new a b m Fair Sees (λ v. make (word v)) events
 evaluates_by guard old middle new a b n m Fair Sees word events make e g = record {
   extends = extends_again old middle new e.extends g.extends;
   knows = λ v f s k fair. e.knows v (fits_before middle new v.step g.extends f) s k fair;
@@ -79,7 +79,7 @@ evaluates_same guard old new a b n Fair Sees FairOf SeesOf word of events told_o
   extends = e.extends;
   knows = λ v f s k fair. e.knows v f s k (fairly v fair);
   is = λ v f s k fair sees. e.is v f s k (fairly v fair) (surely v sees) ∙ same v sees;
-  tells = λ v f s k fair sees on. e.tells v f s k (fairly v fair) (surely v sees) on ∙ ap (λ (es : List Event). tale v.step old ++ told es) (alike v);
+  tells = λ v f s k fair sees on. e.tells v f s k (fairly v fair) (surely v sees) on ∙ ap (λ (es : List Event). tale v.step old ++ tales_told es) (alike v);
   quiet = e.quiet;
 }
 
@@ -87,17 +87,17 @@ evaluates_same guard old new a b n Fair Sees FairOf SeesOf word of events told_o
 module _ (guard : Option ℕ) (d0 d1 d2 d3 : Draft) (a0 a1 a2 : Accesses) (l r z : ℕ)
     (Fair Also Sees With : View → Type 0) (first second : View → Word) (events more : View → List Event) (h : Word → Word → Word)
     (e : Evaluates guard d0 d1 a0 a1 l Fair Sees first events) (k : Evaluates guard d1 d2 a1 a2 r Also With second more)
-    (g : Gives d2 d3 z (λ s. h (shown s l) (shown s r))) where
-  fits2 : (v : View) → Fits v.step d3 → Fits v.step d2
+    (g : Gives d2 d3 z (λ s. h (word_shown s l) (word_shown s r))) where
+  fits2 : (v : View) → FitsStep v.step d3 → FitsStep v.step d2
   fits2 v s = fits_before d2 d3 v.step g.extends s
 
-  fits1 : (v : View) → Fits v.step d3 → Fits v.step d1
+  fits1 : (v : View) → FitsStep v.step d3 → FitsStep v.step d1
   fits1 v s = fits_before d1 d2 v.step k.extends (fits2 v s)
 
-  begun1 : (v : View) → Begun v.step d0 → Begun v.step d1
+  begun1 : (v : View) → BlockBegun v.step d0 → BlockBegun v.step d1
   begun1 v b = begun_later d0 d1 v.step e.extends b
 
-  begun2 : (v : View) → Begun v.step d0 → Begun v.step d2
+  begun2 : (v : View) → BlockBegun v.step d0 → BlockBegun v.step d2
   begun2 v b = begun_later d1 d2 v.step k.extends (begun1 v b)
 
   pub evaluates_two : Evaluates guard d0 d3 a0 a2 z (λ v. Fair v × Also v) (λ v. Sees v × With v) (λ v. h (first v) (second v)) (λ v. events v ++ more v)
@@ -106,13 +106,13 @@ module _ (guard : Option ℕ) (d0 d1 d2 d3 : Draft) (a0 a1 a2 : Accesses) (l r z
     knows = λ v s b known fair. k.knows v (fits2 v s) (begun1 v b) (e.knows v (fits1 v s) b known fair.0) fair.1;
     is = λ v s b known fair sees.
         g.is v.step s (begun2 v b)
-        ∙ (ap (λ w. h w (shown v.step r)) (e.is v (fits1 v s) b known fair.0 sees.0)
+        ∙ (ap (λ w. h w (word_shown v.step r)) (e.is v (fits1 v s) b known fair.0 sees.0)
         ∙ ap (λ w. h (first v) w) (k.is v (fits2 v s) (begun1 v b) (e.knows v (fits1 v s) b known fair.0) fair.1 sees.1));
     tells = λ v s b known fair sees on.
         g.quiet v.step s (begun2 v b)
         ∙ (k.tells v (fits2 v s) (begun1 v b) (e.knows v (fits1 v s) b known fair.0) fair.1 sees.1 on
-        ∙ (ap (λ (ts : List Tale). ts ++ told (more v)) (e.tells v (fits1 v s) b known fair.0 sees.0 on)
-        ∙ (append_assoc (tale v.step d0) (told (events v)) (told (more v)) ∙ ap (λ (ts : List Tale). tale v.step d0 ++ ts) (sym (told_append (events v) (more v))))));
+        ∙ (ap (λ (ts : List Tale). ts ++ tales_told (more v)) (e.tells v (fits1 v s) b known fair.0 sees.0 on)
+        ∙ (append_assoc (tale v.step d0) (tales_told (events v)) (tales_told (more v)) ∙ ap (λ (ts : List Tale). tale v.step d0 ++ ts) (sym (told_append (events v) (more v))))));
     quiet = λ v s b off. g.quiet v.step s (begun2 v b) ∙ (k.quiet v (fits2 v s) (begun1 v b) off ∙ e.quiet v (fits1 v s) b off);
   }
 
@@ -189,18 +189,18 @@ extended_same t (kind.Signed m) w same = kept_same (is_kept t (kind.Signed m)) (
 -- Expressions.
 module _ (scene : Scene) (lane : Lane) (current : List (Option ℕ)) where
   pub cast_done : (d0 d1 d2 : Draft) (a b : Accesses) (n : ℕ) (place : Place) (k : Option Kind) (inner : plain.Term) (to : Kind) (r : Valued) (m : ℕ)
-      → EvaluatesTerm scene lane current d0 d1 a b n inner r → Gives d1 d2 m (λ x. converted_shown inner to (shown x r.value))
+      → EvaluatesTerm scene lane current d0 d1 a b n inner r → Gives d1 d2 m (λ x. conversion_shown inner to (word_shown x r.value))
       → EvaluatesTerm scene lane current d0 d2 a b n (plain.term place k (plain.converted inner to)) (record { value = m; next = r.next })
   cast_done d0 d1 d2 a b n place k inner to r m e g = record {
     next = e.next;
     so = λ few. evaluates_same (lane_guard lane) d0 d2 a b m _ _ _ _ _ _ _ _ (λ v fair. fair) (λ v sees. sees.0)
         (λ v sees. kept_same (is_kept inner to) to (term_value scene lane v n inner) sees.1) (λ v. refl)
-        (evaluates_by (lane_guard lane) d0 d1 d2 a b r.value m _ _ _ _ (λ w. converted_shown inner to w) (e.so few) g);
+        (evaluates_by (lane_guard lane) d0 d1 d2 a b r.value m _ _ _ _ (λ w. conversion_shown inner to w) (e.so few) g);
   }
 
   pub binary_done : (d0 d1 d2 d3 : Draft) (a0 a1 a2 : Accesses) (n : ℕ) (place : Place) (k : Option Kind) (o : Op) (left right : plain.Term) (l r : Valued) (z : ℕ)
       → EvaluatesTerm scene lane current d0 d1 a0 a1 n left l → EvaluatesTerm scene lane current d1 d2 a1 a2 l.next right r
-      → Gives d2 d3 z (λ s. applied_shown o left right (shown s l.value) (shown s r.value))
+      → Gives d2 d3 z (λ s. applied_shown o left right (word_shown s l.value) (word_shown s r.value))
       → EvaluatesTerm scene lane current d0 d3 a0 a2 n (plain.term place k (plain.applied o left right)) (record { value = z; next = r.next })
   binary_done d0 d1 d2 d3 a0 a1 a2 n place k o left right l r z e h g = record {
     next = λ few. (moved few).next (second few) ∙ omega arith;
@@ -285,8 +285,8 @@ module _ (scene : Scene) (lane : Lane) (current : List (Option ℕ)) where
               (more.are v f (begun_later d0 d1 v.step one.extends b) (one.knows v (fits_before d1 d2 v.step more.extends f) b known fair.0) fair.1 sees.1);
           tells = λ v f b known fair sees on.
               more.tells v f (begun_later d0 d1 v.step one.extends b) (one.knows v (fits_before d1 d2 v.step more.extends f) b known fair.0) fair.1 sees.1 on
-              ∙ (ap (λ (us : List Tale). us ++ told (terms_told scene lane v (n + term_accesses t) ts)) (one.tells v (fits_before d1 d2 v.step more.extends f) b known fair.0 sees.0 on)
-              ∙ (append_assoc (tale v.step d0) (told (term_told scene lane v n t)) _
+              ∙ (ap (λ (us : List Tale). us ++ tales_told (terms_told scene lane v (n + term_accesses t) ts)) (one.tells v (fits_before d1 d2 v.step more.extends f) b known fair.0 sees.0 on)
+              ∙ (append_assoc (tale v.step d0) (tales_told (term_told scene lane v n t)) _
               ∙ ap (λ (us : List Tale). tale v.step d0 ++ us) (sym (told_append (term_told scene lane v n t) (terms_told scene lane v (n + term_accesses t) ts)))));
           quiet = λ v f b off. more.quiet v f (begun_later d0 d1 v.step one.extends b) off ∙ one.quiet v (fits_before d1 d2 v.step more.extends f) b off;
         };
@@ -322,7 +322,7 @@ module _ (scene : Scene) (lane : Lane) (current : List (Option ℕ)) where
 
   read_behind : (d0 d1 d2 : Draft) (a0 a1 a2 : Accesses) (values : List ℕ) (FairOf SeesOf : View → Type 0) (all : View → List ℤ) (events : View → List Event) (target : Target) (aim : Aim) (m : ℕ) (place : Place) (form : plain.TermForm) (memory : ℕ)
       → EvaluatesAll (lane_guard lane) d0 d1 a0 a1 values FairOf SeesOf all events
-      → ((v : View) → Fits v.step d1 → Begun v.step d0 → SeesOf v → numbers_shown v.step values ≡ all v → AimsAt lane v aim target)
+      → ((v : View) → FitsStep v.step d1 → BlockBegun v.step d0 → SeesOf v → numbers_shown v.step values ≡ all v → AimsAt lane v aim target)
       → ReadsElement scene lane place form memory aim target d1 d2 a1 a2 m
       → ReadBehind d0 d2 a0 a2 FairOf SeesOf events target m place form memory aim.number
   read_behind d0 d1 d2 a0 a1 a2 values FairOf SeesOf all events target aim m place form memory e aims h = record {
@@ -332,19 +332,19 @@ module _ (scene : Scene) (lane : Lane) (current : List (Option ℕ)) where
         h.is v f (begun_later d0 d1 v.step e.extends b) (e.knows v (fits_before d1 d2 v.step h.extends f) b known fair.0.0) (fairly v f b known fair) (both v f b known fair.0.0 sees);
     tells = λ v f b known fair sees on.
         h.tells v f (begun_later d0 d1 v.step e.extends b) (e.knows v (fits_before d1 d2 v.step h.extends f) b known fair.0.0) (fairly v f b known fair) (both v f b known fair.0.0 sees) on
-        ∙ (ap (λ (us : List Tale). us ++ told (read_told v place memory aim.number target)) (e.tells v (fits_before d1 d2 v.step h.extends f) b known fair.0.0 sees.0 on)
-        ∙ (append_assoc (tale v.step d0) (told (events v)) _ ∙ ap (λ (us : List Tale). tale v.step d0 ++ us) (sym (told_append (events v) (read_told v place memory aim.number target)))));
+        ∙ (ap (λ (us : List Tale). us ++ tales_told (read_told v place memory aim.number target)) (e.tells v (fits_before d1 d2 v.step h.extends f) b known fair.0.0 sees.0 on)
+        ∙ (append_assoc (tale v.step d0) (tales_told (events v)) _ ∙ ap (λ (us : List Tale). tale v.step d0 ++ us) (sym (told_append (events v) (read_told v place memory aim.number target)))));
     quiet = λ v f b off. h.quiet v f (begun_later d0 d1 v.step e.extends b) off ∙ e.quiet v (fits_before d1 d2 v.step h.extends f) b off;
   }
     where
-      both : (v : View) → Fits v.step d2 → Begun v.step d0 → Knows v a0 → FairOf v → SeesOf v × IsDone scene lane v memory aim.number place form (read_value v place memory aim.number target)
+      both : (v : View) → FitsStep v.step d2 → BlockBegun v.step d0 → Knows v a0 → FairOf v → SeesOf v × IsDone scene lane v memory aim.number place form (read_value v place memory aim.number target)
           → IsRead scene lane place form memory aim target v
       both v f b known fair sees = record {
         aims = aims v (fits_before d1 d2 v.step h.extends f) b sees.0 (e.are v (fits_before d1 d2 v.step h.extends f) b known fair sees.0);
         done = sees.1;
       }
 
-      fairly : (v : View) → Fits v.step d2 → Begun v.step d0 → Knows v a0
+      fairly : (v : View) → FitsStep v.step d2 → BlockBegun v.step d0 → Knows v a0
           → (FairOf v × IsSited scene lane v memory aim.number place form false)
           × (v.reads.done aim.number lane.number ≡ true → SeesOf v × IsDone scene lane v memory aim.number place form (read_value v place memory aim.number target))
           → IsFairRead scene lane place form memory aim target v
@@ -361,7 +361,7 @@ module _ (scene : Scene) (lane : Lane) (current : List (Option ℕ)) where
 
   -- values with more behind them, which tell nothing
   all_later : (d0 d1 d2 : Draft) (a b : Accesses) (values : List ℕ) (FairOf SeesOf More : View → Type 0) (all : View → List ℤ) (events : View → List Event)
-      → EvaluatesAll (lane_guard lane) d0 d1 a b values FairOf SeesOf all events → Extends d1 d2 → ((x : Step) → Fits x d2 → Begun x d1 → tale x d2 ≡ tale x d1)
+      → EvaluatesAll (lane_guard lane) d0 d1 a b values FairOf SeesOf all events → Extends d1 d2 → ((x : BlockStep) → FitsStep x d2 → BlockBegun x d1 → tale x d2 ≡ tale x d1)
       → EvaluatesAll (lane_guard lane) d0 d2 a b values FairOf (λ v. SeesOf v × More v) all events
   all_later d0 d1 d2 a b values FairOf SeesOf More all events e behind quiet = record {
     extends = extends_again d0 d1 d2 e.extends behind;
@@ -378,7 +378,7 @@ module _ (scene : Scene) (lane : Lane) (current : List (Option ℕ)) where
     extends = e.extends;
     knows = e.knows;
     are = e.are;
-    tells = λ v f s known fair sees on. e.tells v f s known fair sees on ∙ ap (λ (es : List Event). tale v.step d0 ++ told es) (same v);
+    tells = λ v f s known fair sees on. e.tells v f s known fair sees on ∙ ap (λ (es : List Event). tale v.step d0 ++ tales_told es) (same v);
     quiet = e.quiet;
   }
 
@@ -413,7 +413,7 @@ module _ (scene : Scene) (lane : Lane) (current : List (Option ℕ)) where
   -- they name its element
   pub named_aims : (d0 d1 d2 : Draft) (a0 a1 : Accesses) (n : ℕ) (r : Ref) (ts : plain.Terms) (listed aim : Aim) → n + terms_accesses ts < 2 ^ 32
       → AimsByIndices scene lane current d0 d1 a0 a1 n ts listed → PassesWay scene lane current d1 d2 r listed aim
-      → (v : View) → Fits v.step d2 → Begun v.step d0 → SeesNamed n r ts v → numbers_shown v.step aim.indices ≡ terms_values scene lane v n ts → AimsAt lane v aim (aimed_at n r ts)
+      → (v : View) → FitsStep v.step d2 → BlockBegun v.step d0 → SeesNamed n r ts v → numbers_shown v.step aim.indices ≡ terms_values scene lane v n ts → AimsAt lane v aim (aimed_at n r ts)
   named_aims d0 d1 d2 a0 a1 n r ts listed aim few e p v f b sees same =
       way_aims scene lane current d1 d2 (first_view scene r) listed.steps (way_here r) aim (core_terms (known_in scene) n ts) v e.steps (p.row_is ∙ e.row) p.steps f (begun_later d0 d1 v.step (e.indices.so few).extends b) sees.1 same
 
@@ -451,7 +451,7 @@ module _ (scene : Scene) (lane : Lane) (current : List (Option ℕ)) where
     quiet = e.quiet;
   }
 
-  row_is : (v : View) (aim : Aim) (value : ℕ) (z : ℤ) → aim.row ≡ Some value → words.value_of (shown v.step value) ≡ z → RowIs v aim.row z
+  row_is : (v : View) (aim : Aim) (value : ℕ) (z : ℤ) → aim.row ≡ Some value → words.value_of (word_shown v.step value) ≡ z → RowIs v aim.row z
   row_is v aim value z is same = subst (λ (o : Option ℕ). RowIs v o z) (sym is) same
 
   pub bank_done : (d0 d1 d2 : Draft) (a0 a1 a2 : Accesses) (n : ℕ) (place : Place) (k : Option Kind) (r : Ref) (bank : ℕ) (at : Place) (t : plain.Term) (aim : Aim) (memory m : ℕ)

@@ -16,10 +16,10 @@ use Rattle.dh_meaning.specs.Phases.{turn_count}
 use Rattle.dh_code.specs.declared.places.Held.{Held}
 use Rattle.dh_expressions.specs.declared.drafts.Draft.{Draft}
 use Rattle.dh_expressions.specs.declared.scenes.Lane.{Lane}
-use Rattle.dh_expressions.specs.Drafted.{Begun, Computes, Extends, Fits, Step, shown, tale}
+use Rattle.dh_expressions.specs.Drafted.{BlockBegun, Computes, Extends, FitsStep, BlockStep, word_shown, tale}
 use Rattle.dh_expressions.specs.Evaluated.{GivesWhere, IsTurning, copy_in_turn, iterator_shown}
 use Rattle.dh_expressions.specs.Multiples.{Multiplies}
-use Rattle.dh_expressions.specs.Shown.{register_shown}
+use Rattle.dh_expressions.specs.Shown.{register_as_begun}
 use Rattle.dh_expressions.proofs.Multiplying.{number_word, sum_word}
 use Rattle.dh_expressions.proofs.Pushing.{begun_later, extends_again, fits_before}
 
@@ -31,7 +31,7 @@ start_word k start n w whole is made =
     ∙ sym (number_word k n))
 
 module _ (c : Counter) (held : Held) (lane : Lane) (kind : Kind) where
-  abbrev turn_in : Step → ℕ
+  abbrev turn_in : BlockStep → ℕ
   turn_in x = slice_index x.start.registers held.first
 
   pub iterator_constant : (d0 d1 : Draft) (n start : ℕ) (w : Word) → turn_count c.low c.high c.factor ≤ 1 → start ≡ (c.low + copy_in_turn c held lane) % 2 ^ 64
@@ -50,7 +50,7 @@ module _ (c : Counter) (held : Held) (lane : Lane) (kind : Kind) where
       still r none = alone c.low c.factor (copy_in_turn c held lane) ∙ ap (λ m. c.low + m * c.factor + copy_in_turn c held lane) (sym none)
 
   -- the turn as a value of the kind
-  turn_word : (x : Step) → IsTurning x c held kind → word_of kind (value_of (register_shown x held.first)) ≡ word_of kind (pos (turn_in x))
+  turn_word : (x : BlockStep) → IsTurning x c held kind → word_of kind (value_of (register_as_begun x held.first)) ≡ word_of kind (pos (turn_in x))
   turn_word x t = ap (λ (k : Kind). word_of kind (value_of (with_bits k (turn_in x)))) t.counter
 
   pub some_factor : (turns : ℕ) → turns ≡ turn_count c.low c.high c.factor → 1 < turns → 1 ≤ c.factor
@@ -63,12 +63,12 @@ module _ (c : Counter) (held : Held) (lane : Lane) (kind : Kind) where
           none l = omega (arith, l)
       by (suc f) less = omega arith
 
-  module _ (d0 d1 d2 d3 : Draft) (old turn multiple : ℕ) (o : Computes d0 d1 old (λ x. register_shown x held.first))
-      (g : Computes d1 d2 turn (λ x. word_of kind (value_of (shown x old)))) (m : Multiplies d2 d3 turn multiple c.factor) where
+  module _ (d0 d1 d2 d3 : Draft) (old turn multiple : ℕ) (o : Computes d0 d1 old (λ x. register_as_begun x held.first))
+      (g : Computes d1 d2 turn (λ x. word_of kind (value_of (word_shown x old)))) (m : Multiplies d2 d3 turn multiple c.factor) where
     extends2 : Extends d0 d2
     extends2 = extends_again d0 d1 d2 o.extends g.extends
 
-    multiple_is : (x : Step) → Fits x d3 → Begun x d0 → IsTurning x c held kind → shown x multiple ≡ word_of kind (pos (turn_in x * c.factor))
+    multiple_is : (x : BlockStep) → FitsStep x d3 → BlockBegun x d0 → IsTurning x c held kind → word_shown x multiple ≡ word_of kind (pos (turn_in x * c.factor))
     multiple_is x f b t =
         let f2 = fits_before d2 d3 x m.extends f in
         let f1 = fits_before d1 d2 x g.extends f2 in
@@ -76,7 +76,7 @@ module _ (c : Counter) (held : Held) (lane : Lane) (kind : Kind) where
         m.is x f (begun_later d1 d2 x g.extends b1) kind t.integer (turn_in x)
         (g.is x f2 b1 ∙ (ap (λ (w : Word). word_of kind (value_of w)) (o.is x f1 b) ∙ turn_word x t))
 
-    quiet3 : (x : Step) → Fits x d3 → Begun x d0 → tale x d3 ≡ tale x d0
+    quiet3 : (x : BlockStep) → FitsStep x d3 → BlockBegun x d0 → tale x d3 ≡ tale x d0
     quiet3 x f b =
         let f2 = fits_before d2 d3 x m.extends f in
         let b1 = begun_later d0 d1 x o.extends b in
@@ -107,7 +107,7 @@ module _ (c : Counter) (held : Held) (lane : Lane) (kind : Kind) where
 
     pub iterator_sum : (d4 d5 : Draft) (amount sum start : ℕ) (w : Word) → start ≡ (c.low + copy_in_turn c held lane) % 2 ^ 64
         → (IsKind kind → w ≡ with_bits kind (bits_of kind false start)) → Computes d3 d4 amount (λ x. w)
-        → Computes d4 d5 sum (λ x. binary_of Add (shown x multiple) (shown x amount))
+        → Computes d4 d5 sum (λ x. binary_of Add (word_shown x multiple) (word_shown x amount))
         → GivesWhere d0 d5 sum (λ x. IsTurning x c held kind) (λ x. iterator_shown x c held lane kind)
     iterator_sum d4 d5 amount sum start w is made k s = record {
       extends = extends_again d0 d3 d5 (extends_again d0 d2 d3 extends2 m.extends) (extends_again d3 d4 d5 k.extends s.extends);
@@ -115,7 +115,7 @@ module _ (c : Counter) (held : Held) (lane : Lane) (kind : Kind) where
           let f4 = fits_before d4 d5 x s.extends f in
           let b3 = begun3 x b in
           s.is x f (begun_later d3 d4 x k.extends b3)
-          ∙ (ap (λ (u : Word). binary_of Add u (shown x amount)) (multiple_is x (fits_before d3 d4 x k.extends f4) b t)
+          ∙ (ap (λ (u : Word). binary_of Add u (word_shown x amount)) (multiple_is x (fits_before d3 d4 x k.extends f4) b t)
           ∙ (ap (λ (u : Word). binary_of Add (word_of kind (pos (turn_in x * c.factor))) u) (k.is x f4 b3 ∙ start_word kind start (c.low + copy_in_turn c held lane) w t.integer is made)
           ∙ (sum_word kind (turn_in x * c.factor) (c.low + copy_in_turn c held lane) t.integer
           ∙ ap (λ n. word_of kind (pos n)) (around (turn_in x * c.factor)))));
@@ -125,7 +125,7 @@ module _ (c : Counter) (held : Held) (lane : Lane) (kind : Kind) where
           s.quiet x f (begun_later d3 d4 x k.extends b3) ∙ (k.quiet x f4 b3 ∙ quiet3 x (fits_before d3 d4 x k.extends f4) b);
     }
       where
-        begun3 : (x : Step) → Begun x d0 → Begun x d3
+        begun3 : (x : BlockStep) → BlockBegun x d0 → BlockBegun x d3
         begun3 x b = begun_later d0 d3 x (extends_again d0 d2 d3 extends2 m.extends) b
 
         around : (r : ℕ) → r + (c.low + copy_in_turn c held lane) ≡ c.low + r + copy_in_turn c held lane

@@ -13,7 +13,7 @@ use Rattle.dh_value.proofs.Masks.{cut_first, half}
 use Rattle.dh_value.proofs.Residues.{residue_is}
 use Rattle.dh_value.proofs.Values.{above_value, integer_width, shl_bits, sum_bits}
 use Rattle.dh_expressions.specs.declared.drafts.Draft.{Draft}
-use Rattle.dh_expressions.specs.Drafted.{Computes, shown}
+use Rattle.dh_expressions.specs.Drafted.{Computes, word_shown}
 use Rattle.dh_expressions.specs.Multiples.{Multiplies, ShowsNumber, ShowsSum, SumSoFar, Sums}
 use Rattle.dh_expressions.proofs.Pushing.{begun_later, extends_again, extends_self, fits_before}
 
@@ -51,12 +51,12 @@ shifted_none d value by none = record {
 }
 
 pub shifted_by : (d0 d1 d2 : Draft) (value amount number by : ℕ) (w : Word) → w ≡ with_bits (kind.Unsigned 6) by
-    → Computes d0 d1 amount (λ x. w) → Computes d1 d2 number (λ x. binary_of Shl (shown x value) (shown x amount)) → Multiplies d0 d2 value number (2 ^ by)
+    → Computes d0 d1 amount (λ x. w) → Computes d1 d2 number (λ x. binary_of Shl (word_shown x value) (word_shown x amount)) → Multiplies d0 d2 value number (2 ^ by)
 shifted_by d0 d1 d2 value amount number by w is c k = record {
   extends = extends_again d0 d1 d2 c.extends k.extends;
   is = λ x f b j h t shows.
       k.is x f (begun_later d0 d1 x c.extends b)
-      ∙ (ap (λ (a : Word). binary_of Shl a (shown x amount)) shows
+      ∙ (ap (λ (a : Word). binary_of Shl a (word_shown x amount)) shows
       ∙ (ap (λ (a : Word). binary_of Shl (word_of j (pos t)) a) (c.is x (fits_before d1 d2 x k.extends f) b ∙ is) ∙ shift_word j t by (integer_width j h)));
   quiet = λ x f b. k.quiet x f (begun_later d0 d1 x c.extends b) ∙ c.quiet x (fits_before d1 d2 x k.extends f) b;
 }
@@ -71,11 +71,11 @@ sum_none d sum value none = subst (λ (o : Option ℕ). Sums d d o value value) 
     sum_is : (s t : ℕ) → s ≡ 0 → t ≡ s + t
     sum_is s t none = omega (arith, none)
 
-pub sum_some : (d0 d1 : Draft) (sum : Option ℕ) (first value number : ℕ) → sum ≡ Some first → Computes d0 d1 number (λ x. binary_of Add (shown x first) (shown x value)) → Sums d0 d1 sum value number
+pub sum_some : (d0 d1 : Draft) (sum : Option ℕ) (first value number : ℕ) → sum ≡ Some first → Computes d0 d1 number (λ x. binary_of Add (word_shown x first) (word_shown x value)) → Sums d0 d1 sum value number
 sum_some d0 d1 sum first value number is c = subst (λ (o : Option ℕ). Sums d0 d1 o value number) (sym is) (record {
   extends = c.extends;
   is = λ x f b k h s t one shows.
-      c.is x f b ∙ (ap (λ (a : Word). binary_of Add a (shown x value)) one ∙ (ap (λ (a : Word). binary_of Add (word_of k (pos s)) a) shows ∙ sum_word k s t h));
+      c.is x f b ∙ (ap (λ (a : Word). binary_of Add a (word_shown x value)) one ∙ (ap (λ (a : Word). binary_of Add (word_of k (pos s)) a) shows ∙ sum_word k s t h));
   quiet = c.quiet;
 })
 

@@ -11,7 +11,7 @@ use Rattle.dh_plan.specs.declared.operations.OperationForm.{OperationForm}
 use Rattle.dh_plan.specs.Blocks.{StepStart, BlockEvent, block_events, form_events}
 use Rattle.dh_plan.proofs.Appends.{events_behind}
 use Rattle.dh_expressions.specs.declared.drafts.Draft.{Draft}
-use Rattle.dh_expressions.specs.Drafted.{Step, shown, form_shown, Fits, Begun, told_block, Extends, Pushes, Computes, Gives}
+use Rattle.dh_expressions.specs.Drafted.{BlockStep, word_shown, form_shown, FitsStep, BlockBegun, told_block, Extends, Pushes, Computes, Gives}
 
 pub in_front : {A : Type 0} (xs ys : List A) (i : ℕ) (y : A) → slice_get xs i ≡ Some y → slice_get (xs ++ ys) i ≡ Some y
 in_front [] ys i y e = absurd (cc)
@@ -23,14 +23,14 @@ at_seam [] y = refl
 at_seam (x ∷ xs) y = at_seam xs y
 
 -- facts of operations in front
-pub fits_before : (old new : Draft) (x : Step) → Extends old new → Fits x new → Fits x old
+pub fits_before : (old new : Draft) (x : BlockStep) → Extends old new → FitsStep x new → FitsStep x old
 fits_before old new x e f = record {
   solves = λ n o b at. f.solves n o b (e.operations n o at);
   names = λ n k at. f.names n k (e.faults n k at);
   few = f.few;
 }
 
-pub begun_later : (old new : Draft) (x : Step) → Extends old new → Begun x old → Begun x new
+pub begun_later : (old new : Draft) (x : BlockStep) → Extends old new → BlockBegun x old → BlockBegun x new
 begun_later old new x e b = let l = e.longer in omega (arith, b, l)
 
 pub extends_again : (a b c : Draft) → Extends a b → Extends b c → Extends a c
@@ -59,7 +59,7 @@ module _ (old new : Draft) (number : ℕ) (guard : Option ℕ) (form : Operation
       (subst (λ n. slice_get (old.operations.items ++ record { guard = guard; form = form } ∷ []) n ≡ Some (record { guard = guard; form = form })) (sym p.number_is)
       (at_seam old.operations.items _))
 
-  pub pushed_events : (x : Step) → Begun x old
+  pub pushed_events : (x : BlockStep) → BlockBegun x old
       → block_events x.start x.first x.words (drop x.first new.operations.items)
       ≡ block_events x.start x.first x.words (drop x.first old.operations.items) ++ block_events x.start x.first x.words (record { guard = guard; form = form } ∷ [])
   pushed_events x b =
@@ -82,14 +82,14 @@ computes old new number form p still = record {
 }
 
 -- one thing computed from another
-pub gives : (old new : Draft) (value : ℕ) (word : Step → Word) → Computes old new value word → Gives old new value word
+pub gives : (old new : Draft) (value : ℕ) (word : BlockStep → Word) → Computes old new value word → Gives old new value word
 gives old new value word c = record { extends = c.extends; is = c.is; quiet = c.quiet }
 
-pub gives_still : (d : Draft) (value : ℕ) → Gives d d value (λ x. shown x value)
+pub gives_still : (d : Draft) (value : ℕ) → Gives d d value (λ x. word_shown x value)
 gives_still d value = record { extends = extends_self d; is = λ x f b. refl; quiet = λ x f b. refl }
 
 -- a value made of another one
-pub gives_by : (a b c : Draft) (u v : ℕ) (first : Step → Word) (make : Word → Word) → Gives a b u first → Computes b c v (λ x. make (shown x u)) → Gives a c v (λ x. make (first x))
+pub gives_by : (a b c : Draft) (u v : ℕ) (first : BlockStep → Word) (make : Word → Word) → Gives a b u first → Computes b c v (λ x. make (word_shown x u)) → Gives a c v (λ x. make (first x))
 gives_by a b c u v first make g h = record {
   extends = extends_again a b c g.extends h.extends;
   is = λ x f s. h.is x f (begun_later a b x g.extends s) ∙ ap make (g.is x (fits_before b c x h.extends f) s);
@@ -97,19 +97,19 @@ gives_by a b c u v first make g h = record {
 }
 
 -- the same word, told otherwise
-pub gives_same : (a b : Draft) (v : ℕ) (word other : Step → Word) → ((x : Step) → word x ≡ other x) → Gives a b v word → Gives a b v other
+pub gives_same : (a b : Draft) (v : ℕ) (word other : BlockStep → Word) → ((x : BlockStep) → word x ≡ other x) → Gives a b v word → Gives a b v other
 gives_same a b v word other same g = record { extends = g.extends; is = λ x f s. g.is x f s ∙ same x; quiet = g.quiet }
 
 -- one value made of two, of which the first was made before
-pub gives_both : (a b c d : Draft) (u v w : ℕ) (first second : Step → Word) (make : Word → Word → Word)
-    → Gives a b u first → Gives b c v second → Computes c d w (λ x. make (shown x u) (shown x v)) → Gives a d w (λ x. make (first x) (second x))
+pub gives_both : (a b c d : Draft) (u v w : ℕ) (first second : BlockStep → Word) (make : Word → Word → Word)
+    → Gives a b u first → Gives b c v second → Computes c d w (λ x. make (word_shown x u) (word_shown x v)) → Gives a d w (λ x. make (first x) (second x))
 gives_both a b c d u v w first second make g h k = record {
   extends = extends_again a b d g.extends (extends_again b c d h.extends k.extends);
   is = λ x f s.
       let fc = fits_before c d x k.extends f in
       let fb = fits_before b c x h.extends fc in
       k.is x f (begun_later b c x h.extends (begun_later a b x g.extends s))
-      ∙ (ap (λ y. make y (shown x v)) (g.is x fb s) ∙ ap (λ y. make (first x) y) (h.is x fc (begun_later a b x g.extends s)));
+      ∙ (ap (λ y. make y (word_shown x v)) (g.is x fb s) ∙ ap (λ y. make (first x) y) (h.is x fc (begun_later a b x g.extends s)));
   quiet = λ x f s.
       let fc = fits_before c d x k.extends f in
       let fb = fits_before b c x h.extends fc in

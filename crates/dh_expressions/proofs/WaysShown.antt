@@ -17,7 +17,7 @@ use Rattle.dh_meaning.specs.Core.{CoreTerms, count_terms, no_terms, term_and}
 use Rattle.dh_meaning.specs.CoreOf.{kept_terms, target_to, terms_both, way_of}
 use Rattle.dh_meaning.specs.Effects.{Begun as Start, Variables, value_of, values_of}
 use Rattle.dh_meaning.specs.Paths.{Path}
-use Rattle.dh_meaning.specs.Ways.{Hidden, Step as ViewStep, Way, step_of}
+use Rattle.dh_meaning.specs.Ways.{Hidden, Way, step_of, WayStep as ViewStep}
 use Rattle.dh_ways.specs.declared.ways.Hidden as ways
 use Rattle.dh_ways.specs.Kept as ways_way
 use Rattle.dh_ways.specs.Seen.{hidden_seen, way_seen}
@@ -30,7 +30,7 @@ use Rattle.dh_expressions.specs.declared.elements.Aim.{Aim}
 use Rattle.dh_expressions.specs.declared.scenes.Lane.{Lane}
 use Rattle.dh_expressions.specs.declared.scenes.Scene.{Scene}
 use Rattle.dh_expressions.specs.declared.scenes.Through.{Through}
-use Rattle.dh_expressions.specs.Drafted.{Begun, Extends, Fits, Gives, Step, shown, tale}
+use Rattle.dh_expressions.specs.Drafted.{BlockBegun, Extends, FitsStep, Gives, BlockStep, word_shown, tale}
 use Rattle.dh_expressions.specs.Evaluated.{AreViews, GivesAll, PassesWay, SeesHidden, SeesWayBy, ShowsHidden, ShowsSteps, ShowsWay, View, begun_of, hidden_register, hidden_shown, known_in, lane_path, numbers_shown, steps_told}
 use Rattle.dh_expressions.specs.MadeTerms.{MadeHidden, MadePassing, MadeSteps, MadeWay}
 use Rattle.dh_expressions.specs.MadeValues.{MadeShown}
@@ -41,13 +41,13 @@ use Rattle.dh_expressions.proofs.Pushing.{begun_later, extends_again, extends_se
 
 -- Variables that keep offsets, one after the other.
 
-pub gives_none : (d : Draft) (words : Step → List Word) → ((x : Step) → [] ≡ words x) → GivesAll d d [] words
+pub gives_none : (d : Draft) (words : BlockStep → List Word) → ((x : BlockStep) → [] ≡ words x) → GivesAll d d [] words
 gives_none d words none = record { extends = extends_self d; are = λ x f b. none x; quiet = λ x f b. refl }
 
-pub gives_then : (d0 d1 d2 : Draft) (v : ℕ) (vs : List ℕ) (word : Step → Word) (words : Step → List Word) → Gives d0 d1 v word → GivesAll d1 d2 vs words → GivesAll d0 d2 (v ∷ vs) (λ x. word x ∷ words x)
+pub gives_then : (d0 d1 d2 : Draft) (v : ℕ) (vs : List ℕ) (word : BlockStep → Word) (words : BlockStep → List Word) → Gives d0 d1 v word → GivesAll d1 d2 vs words → GivesAll d0 d2 (v ∷ vs) (λ x. word x ∷ words x)
 gives_then d0 d1 d2 v vs word words g h = record {
   extends = extends_again d0 d1 d2 g.extends h.extends;
-  are = λ x f b. ap (λ w. w ∷ map (λ n. shown x n) vs) (g.is x (fits_before d1 d2 x h.extends f) b) ∙ ap (λ ws. word x ∷ ws) (h.are x f (begun_later d0 d1 x g.extends b));
+  are = λ x f b. ap (λ w. w ∷ map (λ n. word_shown x n) vs) (g.is x (fits_before d1 d2 x h.extends f) b) ∙ ap (λ ws. word x ∷ ws) (h.are x f (begun_later d0 d1 x g.extends b));
   quiet = λ x f b. h.quiet x f (begun_later d0 d1 x g.extends b) ∙ g.quiet x (fits_before d1 d2 x h.extends f) b;
 }
 
@@ -176,17 +176,17 @@ dropped b v path (term_and t ts) us = dropped b v path ts us
 
 -- What steps show.
 
-numbers_taken : (x : Step) (n : ℕ) (values : List ℕ) → numbers_shown x (take n values) ≡ take n (numbers_shown x values)
+numbers_taken : (x : BlockStep) (n : ℕ) (values : List ℕ) → numbers_shown x (take n values) ≡ take n (numbers_shown x values)
 numbers_taken x zero values = refl
 numbers_taken x (suc n) [] = refl
-numbers_taken x (suc n) (v ∷ values) = ap (λ zs. words.value_of (shown x v) ∷ zs) (numbers_taken x n values)
+numbers_taken x (suc n) (v ∷ values) = ap (λ zs. words.value_of (word_shown x v) ∷ zs) (numbers_taken x n values)
 
-numbers_dropped : (x : Step) (n : ℕ) (values : List ℕ) → numbers_shown x (drop n values) ≡ drop n (numbers_shown x values)
+numbers_dropped : (x : BlockStep) (n : ℕ) (values : List ℕ) → numbers_shown x (drop n values) ≡ drop n (numbers_shown x values)
 numbers_dropped x zero values = refl
 numbers_dropped x (suc n) [] = refl
 numbers_dropped x (suc n) (v ∷ values) = numbers_dropped x n values
 
-steps_pass : (x : Step) (through : List Through) (views : List ViewMap) (steps : List ViewStep) (first : ℕ) (values : List ℕ) (zs : List ℤ) → AreViews through views first steps → numbers_shown x values ≡ zs → AreOfSteps views steps (steps_shown x (steps_told through first steps values)) zs
+steps_pass : (x : BlockStep) (through : List Through) (views : List ViewMap) (steps : List ViewStep) (first : ℕ) (values : List ℕ) (zs : List ℤ) → AreViews through views first steps → numbers_shown x values ≡ zs → AreOfSteps views steps (steps_shown x (steps_told through first steps values)) zs
 steps_pass x through views [] first values zs there same = tt
 steps_pass x through views (s ∷ ss) first values zs there same = (
   there.0,
@@ -204,9 +204,9 @@ offsets_are scene lane current v (h ∷ hs) sees =
     ap (λ w. words.value_of w ∷ map (λ u. words.value_of u) (map (λ k. hidden_shown scene lane current v.step k) hs)) sees.0
     ∙ ap (λ zs. words.value_of (word_of h.kind (v.variables h.entity (take h.depth (lane_path lane)))) ∷ zs) (offsets_are scene lane current v hs sees.1)
 
-numbers_of_words : (x : Step) (values : List ℕ) → numbers_shown x values ≡ map (λ w. words.value_of w) (map (λ n. shown x n) values)
+numbers_of_words : (x : BlockStep) (values : List ℕ) → numbers_shown x values ≡ map (λ w. words.value_of w) (map (λ n. word_shown x n) values)
 numbers_of_words x [] = refl
-numbers_of_words x (v ∷ values) = ap (λ zs. words.value_of (shown x v) ∷ zs) (numbers_of_words x values)
+numbers_of_words x (v ∷ values) = ap (λ zs. words.value_of (word_shown x v) ∷ zs) (numbers_of_words x values)
 
 -- the offsets behind indices
 abbrev offsets_behind : Lane → View → Way → CoreTerms → List ℤ
@@ -218,11 +218,11 @@ module _ (scene : Scene) (lane : Lane) (current : List (Option ℕ)) (old new : 
   way_extends None steps h = subst (λ (d : Draft). Extends old d) (sym h.0) (extends_self old)
   way_extends (Some w) steps h = h.shows.extends
 
-  pub way_quiet : (way : Option Way) (steps : List ReachStep) → ShowsWay scene lane current old new first way before steps → (x : Step) → Fits x new → Begun x old → tale x new ≡ tale x old
+  pub way_quiet : (way : Option Way) (steps : List ReachStep) → ShowsWay scene lane current old new first way before steps → (x : BlockStep) → FitsStep x new → BlockBegun x old → tale x new ≡ tale x old
   way_quiet None steps h x f b = ap (λ (d : Draft). tale x d) h.0
   way_quiet (Some w) steps h x f b = h.shows.quiet x f b
 
-  pub way_aims : (way : Option Way) (aim : Aim) (ts : CoreTerms) (v : View) → before ≡ [] → aim.row ≡ None → ShowsWay scene lane current old new first way before aim.steps → Fits v.step new → Begun v.step old
+  pub way_aims : (way : Option Way) (aim : Aim) (ts : CoreTerms) (v : View) → before ≡ [] → aim.row ≡ None → ShowsWay scene lane current old new first way before aim.steps → FitsStep v.step new → BlockBegun v.step old
       → SeesWayBy scene lane current v first way → numbers_shown v.step aim.indices ≡ values_of (begun_of v.step) v.variables (lane_path lane) ts → AimsAt lane v aim (target_to way ts)
   way_aims None aim ts v none row h f b sees same = (same, (h.1 ∙ none, row))
   way_aims (Some w) aim ts v none row h f b sees same = (
@@ -279,7 +279,7 @@ module _ (scene : Scene) (lane : Lane) (current : List (Option ℕ)) (old new : 
 
 -- The banks that an access can reach.
 
-pub reached_through : (w : ways_way.Way) (way : Option Way) (own s : BankSet) (bank place : ℕ) (banks : List (ℕ × ℕ)) → Some (way_seen w) ≡ way → own ≡ s → banks ≡ banks_below own place 64 → banks ≡ banks_reached way s bank place
+pub reached_through : (w : ways_way.KeptWay) (way : Option Way) (own s : BankSet) (bank place : ℕ) (banks : List (ℕ × ℕ)) → Some (way_seen w) ≡ way → own ≡ s → banks ≡ banks_below own place 64 → banks ≡ banks_reached way s bank place
 reached_through w way own s bank place banks is same made = made ∙ (ap (λ k. banks_below k place 64) same ∙ ap (λ o. banks_reached o s bank place) is)
 
 pub reached_alone : (way : Option Way) (s : BankSet) (bank place : ℕ) (banks : List (ℕ × ℕ)) → None ≡ way → banks ≡ (bank, place) ∷ [] → banks ≡ banks_reached way s bank place

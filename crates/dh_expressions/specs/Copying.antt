@@ -15,7 +15,7 @@ use Rattle.dh_expressions.specs.declared.drafts.Draft.{Draft}
 use Rattle.dh_expressions.specs.declared.paths.Level.{Level}
 use Rattle.dh_expressions.specs.declared.scenes.Scene.{Scene}
 use Rattle.dh_expressions.specs.Counting.{places_by}
-use Rattle.dh_expressions.specs.Drafted.{Begun, Extends, Fits, Pushes, Step, holds, tale}
+use Rattle.dh_expressions.specs.Drafted.{BlockBegun, Extends, FitsStep, Pushes, BlockStep, holds, tale}
 use Rattle.dh_expressions.specs.Levels.{counted, leader_number, rank_number}
 use Rattle.dh_expressions.specs.Numbers.{narrowed}
 use Rattle.dh_expressions.specs.ReachedBanks.{spans_number}
@@ -50,7 +50,7 @@ groups_by levels shifts path = rank_number levels shifts path
 -- Copies.
 
 -- at one of the first paths that a path leads, so many, the guard holds
-pub record DoneBy (x : Step) (leader : ℕ → ℕ) (guards : List (Option ℕ)) (n first : ℕ) : Type 0 where
+pub record DoneBy (x : BlockStep) (leader : ℕ → ℕ) (guards : List (Option ℕ)) (n first : ℕ) : Type 0 where
   pub path : ℕ
   pub within : path < n
   pub leads : leader path ≡ first
@@ -58,7 +58,7 @@ pub record DoneBy (x : Step) (leader : ℕ → ℕ) (guards : List (Option ℕ))
 
 -- The copy at path k, when the first n paths are copied. A leader is done where one of the paths is that it leads;
 -- the others have no guard.
-pub record IsCopy (x : Step) (leader bank place : ℕ → ℕ) (guards : List (Option ℕ)) (n k : ℕ) (c : AccessAt) : Type 0 where
+pub record IsCopy (x : BlockStep) (leader bank place : ℕ → ℕ) (guards : List (Option ℕ)) (n k : ℕ) (c : AccessAt) : Type 0 where
   pub leader_is : c.leader ≡ leader k
   pub bank_is : c.bank ≡ bank k
   pub place_is : c.place ≡ place k
@@ -67,7 +67,7 @@ pub record IsCopy (x : Step) (leader bank place : ℕ → ℕ) (guards : List (O
   pub by : leader k ≡ k → holds x c.guard → DoneBy x leader guards n k
 
 -- the copies at the first n paths
-pub record AreCopies (x : Step) (leader bank place : ℕ → ℕ) (guards : List (Option ℕ)) (n : ℕ) (copies : List AccessAt) : Type 0 where
+pub record AreCopies (x : BlockStep) (leader bank place : ℕ → ℕ) (guards : List (Option ℕ)) (n : ℕ) (copies : List AccessAt) : Type 0 where
   pub long : length copies ≡ n
   pub each : (k : ℕ) (c : AccessAt) → slice_get copies k ≡ Some c → IsCopy x leader bank place guards n k c
 
@@ -87,10 +87,10 @@ AddsEither old new (Some one) (Some other) joined = (number : ℕ) × ((joined �
 pub record JoinsGuards (old new : Draft) (one other joined : Option ℕ) : Type 0 where
   pub adds : AddsEither old new one other joined
   pub extends : Extends old new
-  pub quiet : (x : Step) → Fits x new → Begun x old → tale x new ≡ tale x old
+  pub quiet : (x : BlockStep) → FitsStep x new → BlockBegun x old → tale x new ≡ tale x old
   pub none : one ≡ None → joined ≡ None
-  pub on : (x : Step) → Fits x new → Begun x old → holds x one ⊎ holds x other → holds x joined
-  pub by : (x : Step) → Fits x new → Begun x old → holds x joined → holds x one ⊎ holds x other
+  pub on : (x : BlockStep) → FitsStep x new → BlockBegun x old → holds x one ⊎ holds x other → holds x joined
+  pub by : (x : BlockStep) → FitsStep x new → BlockBegun x old → holds x joined → holds x one ⊎ holds x other
 
 abbrev pub guard_put : Option AccessAt → List AccessAt → (at : ℕ) → Option ℕ → List AccessAt
 guard_put None copies at guard = copies
@@ -103,7 +103,7 @@ with_guard copies at guard = guard_put (slice_get copies at) copies at guard
 -- a further guard joins that of a leader
 pub record JoinsLeader (old new : Draft) (copies changed : List AccessAt) (leader : ℕ) (guard : Option ℕ) : Type 0 where
   pub extends : Extends old new
-  pub quiet : (x : Step) → Fits x new → Begun x old → tale x new ≡ tale x old
+  pub quiet : (x : BlockStep) → FitsStep x new → BlockBegun x old → tale x new ≡ tale x old
   pub joined : Option ℕ
   pub changed_is : changed ≡ with_guard copies leader joined
   pub joins : (c : AccessAt) → slice_get copies leader ≡ Some c → JoinsGuards old new c.guard guard joined
@@ -139,14 +139,14 @@ AddsAllCopies leader bank place guards old new copies = AddsCopies leader bank p
 pub record MakesCopiesBy (old new : Draft) (after : List ℕ) (guards : List (Option ℕ)) (leader bank group : ℕ → ℕ) (copies : List AccessAt) : Type 0 where
   pub adds : AddsAllCopies leader bank (places_by leader bank group) guards old new copies
   pub extends : Extends old new
-  pub quiet : (x : Step) → Fits x new → Begun x old → tale x new ≡ tale x old
+  pub quiet : (x : BlockStep) → FitsStep x new → BlockBegun x old → tale x new ≡ tale x old
   pub none : AreNone after
-  pub are : (x : Step) → Fits x new → Begun x old → AreCopies x leader bank (places_by leader bank group) guards (length guards) copies
+  pub are : (x : BlockStep) → FitsStep x new → BlockBegun x old → AreCopies x leader bank (places_by leader bank group) guards (length guards) copies
 
 -- the copies at the first n paths
 pub record CopiesSoFar (old new : Draft) (guards : List (Option ℕ)) (leader bank place : ℕ → ℕ) (n : ℕ) (copies : List AccessAt) : Type 0 where
   pub adds : AddsCopies leader bank place guards n old new copies
   pub extends : Extends old new
-  pub quiet : (x : Step) → Fits x new → Begun x old → tale x new ≡ tale x old
+  pub quiet : (x : BlockStep) → FitsStep x new → BlockBegun x old → tale x new ≡ tale x old
   pub long : length copies ≡ n
-  pub are : (x : Step) → Fits x new → Begun x old → AreCopies x leader bank place guards n copies
+  pub are : (x : BlockStep) → FitsStep x new → BlockBegun x old → AreCopies x leader bank place guards n copies

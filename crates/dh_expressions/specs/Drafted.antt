@@ -15,38 +15,38 @@ use Rattle.dh_expressions.specs.declared.drafts.Draft.{Draft}
 
 -- a step that does a block: how it begins, the number of the block's first operation, the faults of the plan and the
 -- words that the block's operations give
-pub record Step : Type 0 where
+pub record BlockStep : Type 0 where
   pub start : StepStart
   pub first : ℕ
   pub named : List (FaultKind × Place)
   pub words : List Word
 
 -- what an operation gives
-abbrev pub shown : Step → (number : ℕ) → Word
-shown x number = word_at x.first x.words number
+abbrev pub word_shown : BlockStep → (number : ℕ) → Word
+word_shown x number = word_at x.first x.words number
 
 -- a guard holds, or there is none
-abbrev pub holds : Step → Option ℕ → Type 0
+abbrev pub holds : BlockStep → Option ℕ → Type 0
 holds x guard = is_on x.first x.words guard ≡ true
 
-abbrev pub fails_to_hold : Step → Option ℕ → Type 0
+abbrev pub fails_to_hold : BlockStep → Option ℕ → Type 0
 fails_to_hold x guard = is_on x.first x.words guard ≡ false
 
-abbrev pub form_shown : Step → (number : ℕ) → OperationForm → Word
+abbrev pub form_shown : BlockStep → (number : ℕ) → OperationForm → Word
 form_shown x number form = form_word x.start (in_memories x.start x.first) x.first x.words number form
 
-abbrev pub operation_shown : Step → (number : ℕ) → Operation → Word
+abbrev pub operation_shown : BlockStep → (number : ℕ) → Operation → Word
 operation_shown x number o = operation_word x.start (in_memories x.start x.first) x.first x.words number o
 
 -- the words solve the equations of the block so far, and the faults so far are those of the plan, which are few
-pub record Fits (x : Step) (d : Draft) : Type 0 where
-  pub solves : (n : ℕ) (o : Operation) → x.first ≤ n → slice_get d.operations.items n ≡ Some o → shown x n ≡ operation_shown x n o
+pub record FitsStep (x : BlockStep) (d : Draft) : Type 0 where
+  pub solves : (n : ℕ) (o : Operation) → x.first ≤ n → slice_get d.operations.items n ≡ Some o → word_shown x n ≡ operation_shown x n o
   pub names : (n : ℕ) (f : FaultKind × Place) → slice_get d.faults n ≡ Some f → slice_get x.named n ≡ Some f
   pub few : length x.named ≤ 2 ^ 32
 
 -- a block has begun
-abbrev pub Begun : Step → Draft → Type 0
-Begun x d = x.first ≤ length d.operations.items
+abbrev pub BlockBegun : BlockStep → Draft → Type 0
+BlockBegun x d = x.first ≤ length d.operations.items
 
 -- What is told of a step, for program and plan alike: faults and writes, in order. Reads tell nothing.
 pub data Tale : Type 0 where
@@ -64,14 +64,14 @@ told_block named [] = []
 told_block named (fails fault ∷ es) = fault_told (slice_get named fault) ∷ told_block named es
 told_block named (puts spot bits ∷ es) = put spot bits ∷ told_block named es
 
-abbrev pub told : List Event → List Tale
-told [] = []
-told (reads number place path spot ∷ es) = told es
-told (writes number place path spot value ∷ es) = put spot value ∷ told es
-told (faults number place path kind ∷ es) = failed kind place ∷ told es
+abbrev pub tales_told : List Event → List Tale
+tales_told [] = []
+tales_told (reads number place path spot ∷ es) = tales_told es
+tales_told (writes number place path spot value ∷ es) = put spot value ∷ tales_told es
+tales_told (faults number place path kind ∷ es) = failed kind place ∷ tales_told es
 
 -- the tale of the operations of the block so far
-abbrev pub tale : Step → Draft → List Tale
+abbrev pub tale : BlockStep → Draft → List Tale
 tale x d = told_block x.named (block_events x.start x.first x.words (drop x.first d.operations.items))
 
 -- All that appends keep.
@@ -93,14 +93,14 @@ pub record Names (old new : Draft) (number : ℕ) (place : Place) : Type 0 where
   pub number_is : length old.faults < 4294967296 → number ≡ length old.faults
 
 -- Operations that give a word, and tell nothing whatever the guards.
-pub record Computes (old new : Draft) (value : ℕ) (word : Step → Word) : Type 0 where
+pub record Computes (old new : Draft) (value : ℕ) (word : BlockStep → Word) : Type 0 where
   pub extends : Extends old new
   pub below : value < length new.operations.items
-  pub is : (x : Step) → Fits x new → Begun x old → shown x value ≡ word x
-  pub quiet : (x : Step) → Fits x new → Begun x old → tale x new ≡ tale x old
+  pub is : (x : BlockStep) → FitsStep x new → BlockBegun x old → word_shown x value ≡ word x
+  pub quiet : (x : BlockStep) → FitsStep x new → BlockBegun x old → tale x new ≡ tale x old
 
 -- the same of a value that stood there before, or was made
-pub record Gives (old new : Draft) (value : ℕ) (word : Step → Word) : Type 0 where
+pub record Gives (old new : Draft) (value : ℕ) (word : BlockStep → Word) : Type 0 where
   pub extends : Extends old new
-  pub is : (x : Step) → Fits x new → Begun x old → shown x value ≡ word x
-  pub quiet : (x : Step) → Fits x new → Begun x old → tale x new ≡ tale x old
+  pub is : (x : BlockStep) → FitsStep x new → BlockBegun x old → word_shown x value ≡ word x
+  pub quiet : (x : BlockStep) → FitsStep x new → BlockBegun x old → tale x new ≡ tale x old

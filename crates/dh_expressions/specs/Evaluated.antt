@@ -23,7 +23,7 @@ use Rattle.dh_meaning.specs.Effects as meaning
 use Rattle.dh_meaning.specs.Effects.{Event, Variables, term_events, terms_events, value_of, values_of}
 use Rattle.dh_meaning.specs.Paths.{Path}
 use Rattle.dh_meaning.specs.Phases.{turn_count}
-use Rattle.dh_meaning.specs.Ways.{Hidden, Step as ViewStep, Way}
+use Rattle.dh_meaning.specs.Ways.{Hidden, Way, WayStep as ViewStep}
 use Rattle.dh_plan.specs.declared.operations.ReachStep.{ReachStep}
 use Rattle.dh_plan.specs.Blocks.{kind_at}
 use Rattle.dh_code.specs.Extended.{extension_of}
@@ -37,65 +37,65 @@ use Rattle.dh_expressions.specs.declared.scenes.Scene.{Scene}
 use Rattle.dh_expressions.specs.declared.scenes.Through.{Through}
 use Rattle.dh_expressions.specs.declared.elements.Aim.{Aim}
 use Rattle.dh_expressions.specs.declared.terms.Valued.{Valued}
-use Rattle.dh_expressions.specs.Drafted.{Begun, Extends, Fits, Step, fails_to_hold, holds, shown, tale, told}
+use Rattle.dh_expressions.specs.Drafted.{BlockBegun, Extends, FitsStep, BlockStep, fails_to_hold, holds, word_shown, tale, tales_told}
 use Rattle.dh_expressions.specs.Copying.{AreNone, DoneBy, HasScopes}
 use Rattle.dh_expressions.specs.Levels.{last_number, path_at}
 pub use Rattle.dh_expressions.specs.Named.{known_in}
 use Rattle.dh_expressions.specs.Named.{first_view, number_of_parent}
 use Rattle.dh_expressions.specs.Noted.{given_by, given_in, touched_in}
-use Rattle.dh_expressions.specs.Standings.{IsTouched, Standing, standing_at}
+use Rattle.dh_expressions.specs.Standings.{IsTouched, AccessStanding, standing_at}
 use Rattle.dh_expressions.specs.Shown.{guard_of, is_kept, kind_written, register_at, variable_shown}
 
 -- what reads give in a step: which are done at which path, and what they then mean; and where each access stands
-pub record Reads : Type 0 where
+pub record StepReads : Type 0 where
   pub done : (number path : ℕ) → Truth
   pub means : (number path : ℕ) → Word
-  pub sites : List Standing
+  pub sites : List AccessStanding
 
 -- a step, with what the program's variables hold where an expression stands
 pub record View : Type 0 where
-  pub step : Step
+  pub step : BlockStep
   pub variables : Variables
-  pub reads : Reads
+  pub reads : StepReads
 
-abbrev pub begun_of : Step → meaning.Begun
+abbrev pub begun_of : BlockStep → meaning.Begun
 begun_of x = record { table = x.start.table; memories = x.start.memories }
 
 -- Accesses.
 
 -- what is noted of a read that is done is what it means, and the accesses with operations are as they stand
 pub record Knows (v : View) (a : Accesses) : Type 0 where
-  pub given : (number path n : ℕ) → given_in a number path ≡ Some n → v.reads.done number path ≡ true → shown v.step n ≡ v.reads.means number path
+  pub given : (number path n : ℕ) → given_in a number path ≡ Some n → v.reads.done number path ≡ true → word_shown v.step n ≡ v.reads.means number path
   pub long : length a.touched.items ≡ length v.reads.sites
-  pub touched : (number : ℕ) (t : Touched) → touched_in a number ≡ Some t → (s : Standing) → slice_get v.reads.sites number ≡ Some s → IsTouched v.step s t
+  pub touched : (number : ℕ) (t : Touched) → touched_in a number ≡ Some t → (s : AccessStanding) → slice_get v.reads.sites number ≡ Some s → IsTouched v.step s t
   pub none : AreNone a.counts.items
 
 -- values as whole numbers
-abbrev pub numbers_shown : Step → List ℕ → List ℤ
-numbers_shown x values = map (λ n. words.value_of (shown x n)) values
+abbrev pub numbers_shown : BlockStep → List ℕ → List ℤ
+numbers_shown x values = map (λ n. words.value_of (word_shown x n)) values
 
 -- Parts of a block. Where `Fair` holds of what is seen the reads so far stay known; where `Sees` holds, too, the
 -- part gives its word, and tells its events under the guard. Where the guard is false it tells nothing.
 pub record Evaluates (guard : Option ℕ) (old new : Draft) (before after : Accesses) (value : ℕ) (Fair Sees : View → Type 0) (word : View → Word) (events : View → List Event) : Type 0 where
   pub extends : Extends old new
-  pub knows : (v : View) → Fits v.step new → Begun v.step old → Knows v before → Fair v → Knows v after
-  pub is : (v : View) → Fits v.step new → Begun v.step old → Knows v before → Fair v → Sees v → shown v.step value ≡ word v
-  pub tells : (v : View) → Fits v.step new → Begun v.step old → Knows v before → Fair v → Sees v → holds v.step guard → tale v.step new ≡ tale v.step old ++ told (events v)
-  pub quiet : (v : View) → Fits v.step new → Begun v.step old → fails_to_hold v.step guard → tale v.step new ≡ tale v.step old
+  pub knows : (v : View) → FitsStep v.step new → BlockBegun v.step old → Knows v before → Fair v → Knows v after
+  pub is : (v : View) → FitsStep v.step new → BlockBegun v.step old → Knows v before → Fair v → Sees v → word_shown v.step value ≡ word v
+  pub tells : (v : View) → FitsStep v.step new → BlockBegun v.step old → Knows v before → Fair v → Sees v → holds v.step guard → tale v.step new ≡ tale v.step old ++ tales_told (events v)
+  pub quiet : (v : View) → FitsStep v.step new → BlockBegun v.step old → fails_to_hold v.step guard → tale v.step new ≡ tale v.step old
 
 -- the same of several values, as whole numbers
 pub record EvaluatesAll (guard : Option ℕ) (old new : Draft) (before after : Accesses) (values : List ℕ) (Fair Sees : View → Type 0) (all : View → List ℤ) (events : View → List Event) : Type 0 where
   pub extends : Extends old new
-  pub knows : (v : View) → Fits v.step new → Begun v.step old → Knows v before → Fair v → Knows v after
-  pub are : (v : View) → Fits v.step new → Begun v.step old → Knows v before → Fair v → Sees v → numbers_shown v.step values ≡ all v
-  pub tells : (v : View) → Fits v.step new → Begun v.step old → Knows v before → Fair v → Sees v → holds v.step guard → tale v.step new ≡ tale v.step old ++ told (events v)
-  pub quiet : (v : View) → Fits v.step new → Begun v.step old → fails_to_hold v.step guard → tale v.step new ≡ tale v.step old
+  pub knows : (v : View) → FitsStep v.step new → BlockBegun v.step old → Knows v before → Fair v → Knows v after
+  pub are : (v : View) → FitsStep v.step new → BlockBegun v.step old → Knows v before → Fair v → Sees v → numbers_shown v.step values ≡ all v
+  pub tells : (v : View) → FitsStep v.step new → BlockBegun v.step old → Knows v before → Fair v → Sees v → holds v.step guard → tale v.step new ≡ tale v.step old ++ tales_told (events v)
+  pub quiet : (v : View) → FitsStep v.step new → BlockBegun v.step old → fails_to_hold v.step guard → tale v.step new ≡ tale v.step old
 
 -- Operations that give a word where something holds of the step, and tell nothing whatever the guards.
-pub record GivesWhere (old new : Draft) (value : ℕ) (Where : Step → Type 0) (word : Step → Word) : Type 0 where
+pub record GivesWhere (old new : Draft) (value : ℕ) (Where : BlockStep → Type 0) (word : BlockStep → Word) : Type 0 where
   pub extends : Extends old new
-  pub is : (x : Step) → Fits x new → Begun x old → Where x → shown x value ≡ word x
-  pub quiet : (x : Step) → Fits x new → Begun x old → tale x new ≡ tale x old
+  pub is : (x : BlockStep) → FitsStep x new → BlockBegun x old → Where x → word_shown x value ≡ word x
+  pub quiet : (x : BlockStep) → FitsStep x new → BlockBegun x old → tale x new ≡ tale x old
 
 -- Variables.
 
@@ -103,11 +103,11 @@ abbrev pub copy_in_turn : Counter → Held → Lane → ℕ
 copy_in_turn c held lane = if nat_le c.factor 1 then 0 else last_number lane.around.levels.now held.depth lane.number
 
 -- what an iterator holds, by the turn that its loop's counter holds
-abbrev pub iterator_shown : Step → Counter → Held → Lane → Kind → Word
+abbrev pub iterator_shown : BlockStep → Counter → Held → Lane → Kind → Word
 iterator_shown x c held lane kind = word_of kind (pos (c.low + slice_index x.start.registers held.first * c.factor + copy_in_turn c held lane))
 
 -- the loop of an iterator is in a turn of its own
-pub record IsTurning (x : Step) (c : Counter) (held : Held) (kind : Kind) : Type 0 where
+pub record IsTurning (x : BlockStep) (c : Counter) (held : Held) (kind : Kind) : Type 0 where
   pub integer : IsInteger kind
   pub width : ℕ
   pub counter : kind_at x.start.kinds held.first ≡ Unsigned width
@@ -116,19 +116,19 @@ pub record IsTurning (x : Step) (c : Counter) (held : Held) (kind : Kind) : Type
 abbrev pub counter_of : Scene → (entity : ℕ) → Option Counter
 counter_of scene entity = counter_in (counters_of (program_seen scene.program.now)) (Some entity)
 
-abbrev pub shown_by : Step → Option Counter → Held → Lane → (current : List (Option ℕ)) → Kind → Word
+abbrev pub shown_by : BlockStep → Option Counter → Held → Lane → (current : List (Option ℕ)) → Kind → Word
 shown_by x None held lane current kind = variable_shown x current (register_at held lane)
 shown_by x (Some c) held lane current kind = iterator_shown x c held lane kind
 
 -- what the builder shows of a variable at a path
-abbrev pub entity_shown : Scene → Lane → (current : List (Option ℕ)) → Step → (entity : ℕ) → Kind → Word
+abbrev pub entity_shown : Scene → Lane → (current : List (Option ℕ)) → BlockStep → (entity : ℕ) → Kind → Word
 entity_shown scene lane current x entity kind = shown_by x (counter_of scene entity) (held_at scene.held.now entity) lane current kind
 
-abbrev pub TurnsBy : Step → Option Counter → Held → Kind → Type 0
+abbrev pub TurnsBy : BlockStep → Option Counter → Held → Kind → Type 0
 TurnsBy x None held kind = Unit {0}
 TurnsBy x (Some c) held kind = IsTurning x c held kind
 
-abbrev pub EntityTurns : Scene → Step → (entity : ℕ) → Kind → Type 0
+abbrev pub EntityTurns : Scene → BlockStep → (entity : ℕ) → Kind → Type 0
 EntityTurns scene x entity kind = TurnsBy x (counter_of scene entity) (held_at scene.held.now entity) kind
 
 -- Offsets that are kept.
@@ -138,14 +138,14 @@ abbrev pub hidden_register : Scene → Lane → Hidden → ℕ
 hidden_register scene lane h = register_at (held_at scene.held.now h.entity) lane
 
 -- what it shows
-abbrev pub hidden_shown : Scene → Lane → (current : List (Option ℕ)) → Step → Hidden → Word
+abbrev pub hidden_shown : Scene → Lane → (current : List (Option ℕ)) → BlockStep → Hidden → Word
 hidden_shown scene lane current x h = variable_shown x current (hidden_register scene lane h)
 
 -- Operations that give several words, and tell nothing whatever the guards.
-pub record GivesAll (old new : Draft) (values : List ℕ) (words : Step → List Word) : Type 0 where
+pub record GivesAll (old new : Draft) (values : List ℕ) (words : BlockStep → List Word) : Type 0 where
   pub extends : Extends old new
-  pub are : (x : Step) → Fits x new → Begun x old → map (λ n. shown x n) values ≡ words x
-  pub quiet : (x : Step) → Fits x new → Begun x old → tale x new ≡ tale x old
+  pub are : (x : BlockStep) → FitsStep x new → BlockBegun x old → map (λ n. word_shown x n) values ≡ words x
+  pub quiet : (x : BlockStep) → FitsStep x new → BlockBegun x old → tale x new ≡ tale x old
 
 -- what the variables show that keep offsets
 abbrev pub ShowsHidden : Scene → Lane → (current : List (Option ℕ)) → (old new : Draft) → List Hidden → (values : List ℕ) → Type 0
@@ -209,7 +209,7 @@ abbrev pub given_before : Scene → Accesses → (number path leader : ℕ) → 
 given_before scene a number path leader = given_by a (source_at (slice_get scene.shares.now number) number path leader)
 
 -- that one is done and means the same
-abbrev pub SourceMeans : Reads → Option (ℕ × ℕ) → Word → Type 0
+abbrev pub SourceMeans : StepReads → Option (ℕ × ℕ) → Word → Type 0
 SourceMeans reads None word = Unit {0}
 SourceMeans reads (Some s) word = (reads.done s.0 s.1 ≡ true) × (reads.means s.0 s.1 ≡ word)
 
@@ -227,7 +227,7 @@ module _ (scene : Scene) (lane : Lane) (v : View) (memory number : ℕ) (place :
     pub within : lane.number < length lane.around.guards.now
     pub site : slice_get v.reads.sites number ≡ Some (standing_at scene lane.around memory place form writes)
 
-  abbrev pub standing : Standing
+  abbrev pub standing : AccessStanding
   standing = standing_at scene lane.around memory place form false
 
   -- a read is done, and means what the program reads; so does the one that gave it before, and at one of the paths

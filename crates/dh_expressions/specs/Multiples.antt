@@ -3,35 +3,35 @@ use Rattle.std.specs.Prelude.{◌≡◌, ℕ, ◌+◌, ◌*◌, ◌%◌, ◌^◌
 use Rattle.dh_value.specs.declared.kinds.Kind.{Kind}
 use Rattle.dh_value.specs.Words.{IsInteger, IsWidth, word_of}
 use Rattle.dh_expressions.specs.declared.drafts.Draft.{Draft}
-use Rattle.dh_expressions.specs.Drafted.{Begun, Extends, Fits, Step, shown, tale}
+use Rattle.dh_expressions.specs.Drafted.{BlockBegun, Extends, FitsStep, BlockStep, word_shown, tale}
 
 -- a value shows a number as a word of a kind
-abbrev pub ShowsNumber : Step → (value : ℕ) → Kind → (t : ℕ) → Type 0
-ShowsNumber x value kind t = shown x value ≡ word_of kind (pos t)
+abbrev pub ShowsNumber : BlockStep → (value : ℕ) → Kind → (t : ℕ) → Type 0
+ShowsNumber x value kind t = word_shown x value ≡ word_of kind (pos t)
 
 -- operations that make so many times a value
 pub record Multiplies (old new : Draft) (value number factor : ℕ) : Type 0 where
   pub extends : Extends old new
-  pub is : (x : Step) → Fits x new → Begun x old → (kind : Kind) → IsInteger kind → (t : ℕ) → ShowsNumber x value kind t → ShowsNumber x number kind (t * factor)
-  pub quiet : (x : Step) → Fits x new → Begun x old → tale x new ≡ tale x old
+  pub is : (x : BlockStep) → FitsStep x new → BlockBegun x old → (kind : Kind) → IsInteger kind → (t : ℕ) → ShowsNumber x value kind t → ShowsNumber x number kind (t * factor)
+  pub quiet : (x : BlockStep) → FitsStep x new → BlockBegun x old → tale x new ≡ tale x old
 
 -- a sum so far; none is 0
-abbrev pub ShowsSum : Step → Option ℕ → Kind → (t : ℕ) → Type 0
+abbrev pub ShowsSum : BlockStep → Option ℕ → Kind → (t : ℕ) → Type 0
 ShowsSum x None kind t = t ≡ 0
 ShowsSum x (Some value) kind t = ShowsNumber x value kind t
 
 -- operations that add a value to a sum
 pub record Sums (old new : Draft) (sum : Option ℕ) (value number : ℕ) : Type 0 where
   pub extends : Extends old new
-  pub is : (x : Step) → Fits x new → Begun x old → (kind : Kind) → IsInteger kind → (s t : ℕ) → ShowsSum x sum kind s → ShowsNumber x value kind t → ShowsNumber x number kind (s + t)
-  pub quiet : (x : Step) → Fits x new → Begun x old → tale x new ≡ tale x old
+  pub is : (x : BlockStep) → FitsStep x new → BlockBegun x old → (kind : Kind) → IsInteger kind → (s t : ℕ) → ShowsSum x sum kind s → ShowsNumber x value kind t → ShowsNumber x number kind (s + t)
+  pub quiet : (x : BlockStep) → FitsStep x new → BlockBegun x old → tale x new ≡ tale x old
 
 -- the lowest bits of a factor, so many, times a value so far
 pub record SumSoFar (old new : Draft) (value factor bits : ℕ) (sum : Option ℕ) : Type 0 where
   pub extends : Extends old new
-  pub is : (x : Step) → Fits x new → Begun x old → (kind : Kind) → IsInteger kind → (t : ℕ) → ShowsNumber x value kind t → ShowsSum x sum kind (t * (factor % 2 ^ bits))
+  pub is : (x : BlockStep) → FitsStep x new → BlockBegun x old → (kind : Kind) → IsInteger kind → (t : ℕ) → ShowsNumber x value kind t → ShowsSum x sum kind (t * (factor % 2 ^ bits))
   pub none : sum ≡ None → factor % 2 ^ bits ≡ 0
-  pub quiet : (x : Step) → Fits x new → Begun x old → tale x new ≡ tale x old
+  pub quiet : (x : BlockStep) → FitsStep x new → BlockBegun x old → tale x new ≡ tale x old
 
 -- one bit more
 abbrev pub AddsBit : (old new : Draft) → (sum : Option ℕ) → (value factor by : ℕ) → (more : Option ℕ) → Type 0

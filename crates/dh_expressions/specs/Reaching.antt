@@ -21,7 +21,7 @@ use Rattle.dh_expressions.specs.declared.elements.Aim.{Aim}
 use Rattle.dh_expressions.specs.declared.scenes.Lane.{Lane}
 use Rattle.dh_expressions.specs.declared.scenes.Scene.{Scene}
 use Rattle.dh_expressions.specs.declared.terms.Valued.{Valued}
-use Rattle.dh_expressions.specs.Drafted.{Begun, Extends, Fits, Pushes, Step, fails_to_hold, holds, shown, tale, told}
+use Rattle.dh_expressions.specs.Drafted.{BlockBegun, Extends, FitsStep, Pushes, BlockStep, fails_to_hold, holds, word_shown, tale, tales_told}
 use Rattle.dh_expressions.specs.Evaluated.{Evaluates, IsDone, IsSited, Knows, NamesSmallBank, View, begun_of, known_in, lane_guard, lane_path, numbers_shown}
 use Rattle.dh_expressions.specs.Named.{banks_told}
 use Rattle.dh_expressions.specs.Numbers.{narrowed}
@@ -48,13 +48,13 @@ Finds scene form old new memory aim copy (Some n) value = (new ≡ old) × (valu
 Finds scene form old new memory aim copy None value = Pushes old new value copy.guard (Read (reach_told memory aim (copy_banks scene form copy)))
 
 -- the views on the way of an access, with the values of their offsets
-abbrev pub steps_shown : Step → List ReachStep → List Passage
+abbrev pub steps_shown : BlockStep → List ReachStep → List Passage
 steps_shown x steps = passages x.first x.words steps
 
 -- the values of an access name the element that it names in the program
 abbrev pub RowIs : View → Option ℕ → ℤ → Type 0
 RowIs v None z = ⊥
-RowIs v (Some row) z = words.value_of (shown v.step row) ≡ z
+RowIs v (Some row) z = words.value_of (word_shown v.step row) ≡ z
 
 abbrev pub AimsAt : Lane → View → Aim → Target → Type 0
 AimsAt lane v aim (by_indices ts) =
@@ -112,9 +112,9 @@ pub record ReadsNext (scene : Scene) (lane : Lane) (old new : Draft) (before aft
 -- their events under the guard. Where the guard is false they tell nothing.
 pub record Tells (guard : Option ℕ) (old new : Draft) (before after : Accesses) (Fair Sees : View → Type 0) (events : View → List Event) : Type 0 where
   pub extends : Extends old new
-  pub knows : (v : View) → Fits v.step new → Begun v.step old → Knows v before → Fair v → Knows v after
-  pub tells : (v : View) → Fits v.step new → Begun v.step old → Knows v before → Fair v → Sees v → holds v.step guard → tale v.step new ≡ tale v.step old ++ told (events v)
-  pub quiet : (v : View) → Fits v.step new → Begun v.step old → fails_to_hold v.step guard → tale v.step new ≡ tale v.step old
+  pub knows : (v : View) → FitsStep v.step new → BlockBegun v.step old → Knows v before → Fair v → Knows v after
+  pub tells : (v : View) → FitsStep v.step new → BlockBegun v.step old → Knows v before → Fair v → Sees v → holds v.step guard → tale v.step new ≡ tale v.step old ++ tales_told (events v)
+  pub quiet : (v : View) → FitsStep v.step new → BlockBegun v.step old → fails_to_hold v.step guard → tale v.step new ≡ tale v.step old
 
 -- an access leads to the element that it names in the program
 pub record IsAimed (lane : Lane) (form : plain.TermForm) (memory : ℕ) (aim : Aim) (target : Target) (v : View) : Type 0 where
@@ -128,5 +128,5 @@ StoresAt scene lane old new before after access memory aim value =
     (target : Target) → HasTarget access target
     → Tells (lane_guard lane) old new before after (λ v. IsSited scene lane v memory aim.number (place_written access) (form_of access) true)
     (λ v. IsAimed lane (form_of access) memory aim target v)
-    (λ v. write_made (reach_at (place_written access) memory aim.number) (lane_path lane) (shown v.step value).bits
+    (λ v. write_made (reach_at (place_written access) memory aim.number) (lane_path lane) (word_shown v.step value).bits
     (spot_reached (begun_of v.step) v.variables (lane_path lane) (reach_at (place_written access) memory aim.number) target) ∷ [])

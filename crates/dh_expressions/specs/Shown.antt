@@ -14,22 +14,22 @@ use Rattle.dh_code.specs.Extended.{extension_of}
 use Rattle.dh_tree.specs.Kinds.{same_kind}
 use Rattle.dh_plan.specs.Blocks.{register_word}
 use Rattle.dh_expressions.specs.declared.scenes.Lane.{Lane}
-use Rattle.dh_expressions.specs.Drafted.{Step, shown}
+use Rattle.dh_expressions.specs.Drafted.{BlockStep, word_shown}
 use Rattle.dh_expressions.specs.Levels.{rank_number}
 
 -- Variables.
 
 -- what the register of a variable held as the step began
-abbrev pub register_shown : Step → (register : ℕ) → Word
-register_shown x register = register_word x.start.kinds x.start.registers register
+abbrev pub register_as_begun : BlockStep → (register : ℕ) → Word
+register_as_begun x register = register_word x.start.kinds x.start.registers register
 
 -- what a variable holds that was given a value in this step, or else its register
-abbrev pub current_shown : Step → Option (Option ℕ) → (register : ℕ) → Word
-current_shown x None register = register_shown x register
-current_shown x (Some None) register = register_shown x register
-current_shown x (Some (Some value)) register = shown x value
+abbrev pub current_shown : BlockStep → Option (Option ℕ) → (register : ℕ) → Word
+current_shown x None register = register_as_begun x register
+current_shown x (Some None) register = register_as_begun x register
+current_shown x (Some (Some value)) register = word_shown x value
 
-abbrev pub variable_shown : Step → (current : List (Option ℕ)) → (register : ℕ) → Word
+abbrev pub variable_shown : BlockStep → (current : List (Option ℕ)) → (register : ℕ) → Word
 variable_shown x current register = current_shown x (slice_get current register) register
 
 -- the register of a variable at a path
@@ -65,14 +65,14 @@ kind_written (plain.term place kind form) = kind_or_first kind
 abbrev pub is_kept : plain.Term → Kind → Truth
 is_kept t to = same_kind (kind_written t) to && not (is_read_term t)
 
-abbrev pub converted_shown : plain.Term → (to : Kind) → Word → Word
-converted_shown t to w = if is_kept t to then w else word_of to (value_of w)
+abbrev pub conversion_shown : plain.Term → (to : Kind) → Word → Word
+conversion_shown t to w = if is_kept t to then w else word_of to (value_of w)
 
 -- an operand, extended to an integer kind; as it is for Bool
 abbrev pub extended_shown : plain.Term → (to : Kind) → Word → Word
 extended_shown t Bool w = w
-extended_shown t (Unsigned m) w = converted_shown t (Unsigned m) w
-extended_shown t (Signed m) w = converted_shown t (Signed m) w
+extended_shown t (Unsigned m) w = conversion_shown t (Unsigned m) w
+extended_shown t (Signed m) w = conversion_shown t (Signed m) w
 
 -- what an operator makes of two operands, extended as it needs
 abbrev pub applied_shown : Op → (left right : plain.Term) → Word → Word → Word
@@ -86,5 +86,5 @@ lowest_bit w = binary_of Eq (word_of (Unsigned 1) (value_of w)) (with_bits (Unsi
 -- a value as a variable or a memory of a kind holds it
 abbrev pub held_shown : plain.Term → (to : Kind) → Word → Word
 held_shown t Bool w = if is_read_term t then lowest_bit w else w
-held_shown t (Unsigned m) w = converted_shown t (Unsigned m) w
-held_shown t (Signed m) w = converted_shown t (Signed m) w
+held_shown t (Unsigned m) w = conversion_shown t (Unsigned m) w
+held_shown t (Signed m) w = conversion_shown t (Signed m) w

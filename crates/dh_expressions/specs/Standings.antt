@@ -9,7 +9,7 @@ use Rattle.dh_expressions.specs.declared.scenes.Around.{Around}
 use Rattle.dh_expressions.specs.declared.scenes.Scene.{Scene}
 use Rattle.dh_expressions.specs.Copying.{AreCopies, depends_at, groups_by}
 use Rattle.dh_expressions.specs.Counting.{places_by}
-use Rattle.dh_expressions.specs.Drafted.{Step}
+use Rattle.dh_expressions.specs.Drafted.{BlockStep}
 use Rattle.dh_expressions.specs.Levels.{leader_number}
 use Rattle.dh_expressions.specs.Named.{banks_told, known_in, shifts_on, way_named}
 use Rattle.dh_expressions.specs.Numbers.{narrowed}
@@ -17,7 +17,7 @@ use Rattle.dh_expressions.specs.ReachedBanks.{bank_by}
 
 -- where an access stands in the source, for each path the first one with its key, the bank of what is named that is
 -- reached, and the place of its copy among those on its banks, and the guards of the paths
-pub record Standing : Type 0 where
+pub record AccessStanding : Type 0 where
   pub place : Place
   pub leader : (path : ℕ) → ℕ
   pub bank : (path : ℕ) → ℕ
@@ -27,7 +27,7 @@ pub record Standing : Type 0 where
   pub guards : List (Option ℕ)
 
 -- an access of this form and place, of a memory
-abbrev pub standing_at : Scene → Around → (memory : ℕ) → Place → TermForm → (writes : Bool) → Standing
+abbrev pub standing_at : Scene → Around → (memory : ℕ) → Place → TermForm → (writes : Bool) → AccessStanding
 standing_at scene around memory place form writes = record {
   place = place;
   leader = λ path. leader_number around.levels.now (depends_at scene form writes) path;
@@ -40,14 +40,14 @@ standing_at scene around memory place form writes = record {
 }
 
 -- the places of its copies
-abbrev pub copy_places : Standing → (path : ℕ) → ℕ
+abbrev pub copy_places : AccessStanding → (path : ℕ) → ℕ
 copy_places s path = s.places path
 
 -- the banks of the copy at a path
-abbrev pub banks_at : Standing → (path : ℕ) → List (ℕ × ℕ)
+abbrev pub banks_at : AccessStanding → (path : ℕ) → List (ℕ × ℕ)
 banks_at s path = s.reaches (s.bank path) (copy_places s path)
 
 -- the copies of an access are those of where it stands, and its fault is named by its place
-pub record IsTouched (x : Step) (s : Standing) (t : Touched) : Type 0 where
+pub record IsTouched (x : BlockStep) (s : AccessStanding) (t : Touched) : Type 0 where
   pub fault : slice_get x.named t.fault ≡ Some (OutOfRange, s.place)
   pub copies : AreCopies x s.leader s.bank (copy_places s) s.guards (length s.guards) t.copies

@@ -9,40 +9,40 @@ use Rattle.dh_expressions.specs.declared.drafts.Draft.{Draft}
 use Rattle.dh_expressions.specs.declared.scenes.Around.{Around}
 use Rattle.dh_expressions.specs.declared.scenes.Scene.{Scene}
 use Rattle.dh_expressions.specs.Copying.{AddsAllCopies, AreCopies, AreNone, HasScopes}
-use Rattle.dh_expressions.specs.Drafted.{Begun, Extends, Fits, Names, Step, tale}
+use Rattle.dh_expressions.specs.Drafted.{BlockBegun, Extends, FitsStep, Names, BlockStep, tale}
 use Rattle.dh_expressions.specs.Noted.{is_bare, touched_in}
-use Rattle.dh_expressions.specs.Standings.{IsTouched, Standing, copy_places, standing_at}
+use Rattle.dh_expressions.specs.Standings.{IsTouched, AccessStanding, copy_places, standing_at}
 use Rattle.dh_expressions.specs.Reaching.{place_written}
 
 -- its copies, by where it stands
-pub record MakesCopies (old new : Draft) (scene : Scene) (around : Around) (after : List ℕ) (s : Standing) (copies : List AccessAt) : Type 0 where
+pub record MakesCopies (old new : Draft) (scene : Scene) (around : Around) (after : List ℕ) (s : AccessStanding) (copies : List AccessAt) : Type 0 where
   pub adds : HasScopes scene → length around.levels.now < 2 ^ 63 → AddsAllCopies s.leader s.bank (copy_places s) s.guards old new copies
   pub extends : Extends old new
-  pub quiet : (x : Step) → Fits x new → Begun x old → tale x new ≡ tale x old
+  pub quiet : (x : BlockStep) → FitsStep x new → BlockBegun x old → tale x new ≡ tale x old
   pub none : AreNone after
-  pub are : HasScopes scene → length around.levels.now < 2 ^ 63 → (x : Step) → Fits x new → Begun x old
+  pub are : HasScopes scene → length around.levels.now < 2 ^ 63 → (x : BlockStep) → FitsStep x new → BlockBegun x old
       → AreCopies x s.leader s.bank (copy_places s) s.guards (length s.guards) copies
 
 -- its fault is named, and its copies are made behind
-pub record AddsTouched (old new : Draft) (scene : Scene) (around : Around) (s : Standing) (t : Touched) : Type 0 where
+pub record AddsTouched (old new : Draft) (scene : Scene) (around : Around) (s : AccessStanding) (t : Touched) : Type 0 where
   pub middle : Draft
   pub names : Names old middle t.fault s.place
   pub copies : HasScopes scene → length around.levels.now < 2 ^ 63 → AddsAllCopies s.leader s.bank (copy_places s) s.guards middle new t.copies
 
 -- an access that has operations had them before, or is this one, of which no read gave anything
-pub record IsNew (old new : Draft) (scene : Scene) (around : Around) (s : Standing) (number m : ℕ) (t : Touched) : Type 0 where
+pub record IsNew (old new : Draft) (scene : Scene) (around : Around) (s : AccessStanding) (number m : ℕ) (t : Touched) : Type 0 where
   pub adds : AddsTouched old new scene around s t
   pub own : m ≡ number
   pub none : t.given ≡ []
-  pub is : HasScopes scene → length around.levels.now < 2 ^ 63 → (x : Step) → Fits x new → Begun x old → IsTouched x s t
+  pub is : HasScopes scene → length around.levels.now < 2 ^ 63 → (x : BlockStep) → FitsStep x new → BlockBegun x old → IsTouched x s t
 
-pub record TouchesAt (scene : Scene) (around : Around) (s : Standing) (old new : Draft) (before after : Accesses) (number : ℕ) : Type 0 where
+pub record TouchesAt (scene : Scene) (around : Around) (s : AccessStanding) (old new : Draft) (before after : Accesses) (number : ℕ) : Type 0 where
   -- nothing is added, or all of a new one
   pub adds : (new ≡ old) ⊎ ((t : Touched) × AddsTouched old new scene around s t)
   -- and that only where it has no operations yet
   pub fresh : (new ≡ old) ⊎ (is_bare before number ≡ true)
   pub extends : Extends old new
-  pub quiet : (x : Step) → Fits x new → Begun x old → tale x new ≡ tale x old
+  pub quiet : (x : BlockStep) → FitsStep x new → BlockBegun x old → tale x new ≡ tale x old
   pub long : length after.touched.items ≡ length before.touched.items
   pub kept : (m : ℕ) (t : Touched) → touched_in before m ≡ Some t → touched_in after m ≡ Some t
   pub there : number < length before.touched.items → (t : Touched) × (touched_in after number ≡ Some t)

@@ -5,8 +5,8 @@ ghost use Rattle.std.specs.Prelude.{◌≡◌, None, IfOk, if◌then◌else◌};
 ghost use Rattle.dh_value.specs.Operations.{binary_of, is_true};
 ghost use Rattle.dh_value.specs.Words.{value_of, word_of};
 ghost use Rattle.dh_plan.specs.declared.operations.OperationForm.TheVariants.{Constant, Old, Compute, Convert, Select, Set};
-ghost use Rattle.dh_expressions.specs.Drafted.{Computes, Names, Pushes, shown};
-ghost use Rattle.dh_expressions.specs.Shown.{register_shown};
+ghost use Rattle.dh_expressions.specs.Drafted.{Computes, Names, Pushes, word_shown};
+ghost use Rattle.dh_expressions.specs.Shown.{register_as_begun};
 
 use crate::kinds::narrow;
 use dh_base::{FaultKind, Items, NoMemory, Place};
@@ -42,7 +42,7 @@ pub fn push_constant(draft: &mut Draft, word: Word) -> Result<u64, NoMemory>
 
 /// Adds what a register held as the step began.
 pub fn push_old(draft: &mut Draft, register: u64) -> Result<u64, NoMemory>
-    ensures means { IfOk result (λ v. Computes draft.old draft.new v (λ x. register_shown x
+    ensures means { IfOk result (λ v. Computes draft.old draft.new v (λ x. register_as_begun x
         register)) }
     ensures made { IfOk result (λ v. Pushes draft.old draft.new v None (Old register)) }
 {
@@ -51,8 +51,8 @@ pub fn push_old(draft: &mut Draft, register: u64) -> Result<u64, NoMemory>
 
 /// Adds an operator on two values.
 pub fn push_compute(draft: &mut Draft, op: Op, left: u64, right: u64) -> Result<u64, NoMemory>
-    ensures means { IfOk result (λ v. Computes draft.old draft.new v (λ x. binary_of op (shown x
-        left) (shown x right))) }
+    ensures means { IfOk result (λ v. Computes draft.old draft.new v (λ x. binary_of op (word_shown x
+        left) (word_shown x right))) }
     ensures made { IfOk result (λ v. Pushes draft.old draft.new v None (Compute op left right)) }
 {
     push(draft, None, OperationForm::Compute { op, left, right })
@@ -61,7 +61,7 @@ pub fn push_compute(draft: &mut Draft, op: Op, left: u64, right: u64) -> Result<
 /// Adds a value in an integer kind.
 pub fn push_convert(draft: &mut Draft, inner: u64, to: Kind) -> Result<u64, NoMemory>
     ensures means { IfOk result (λ v. Computes draft.old draft.new v (λ x. word_of to (value_of
-        (shown x inner)))) }
+        (word_shown x inner)))) }
     ensures made { IfOk result (λ v. Pushes draft.old draft.new v None (Convert inner to)) }
 {
     push(draft, None, OperationForm::Convert { inner, to })
@@ -69,8 +69,8 @@ pub fn push_convert(draft: &mut Draft, inner: u64, to: Kind) -> Result<u64, NoMe
 
 /// Adds the choice of one of two values.
 pub fn push_select(draft: &mut Draft, test: u64, yes: u64, no: u64) -> Result<u64, NoMemory>
-    ensures means { IfOk result (λ v. Computes draft.old draft.new v (λ x. if is_true (shown x
-        test) then shown x yes else shown x no)) }
+    ensures means { IfOk result (λ v. Computes draft.old draft.new v (λ x. if is_true (word_shown x
+        test) then word_shown x yes else word_shown x no)) }
     ensures made { IfOk result (λ v. Pushes draft.old draft.new v None (Select test yes no)) }
 {
     push(draft, None, OperationForm::Select { test, yes, no })

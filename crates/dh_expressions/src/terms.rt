@@ -4,11 +4,11 @@ ghost use Rattle.std.specs.Prelude.{◌≡◌, IfOk, map};
 ghost use Rattle.dh_tree.specs.Seen.{term_seen, terms};
 ghost use Rattle.dh_meaning.specs.CoreOf.{entity_number};
 ghost use Rattle.dh_expressions.specs.Evaluated.{AimsByIndices, AimsByRow, AimsThrough, EvaluatesTerm, ShowsVariable};
-ghost use Rattle.dh_expressions.specs.Drafted.{Gives, shown};
+ghost use Rattle.dh_expressions.specs.Drafted.{Gives, word_shown};
 ghost use Rattle.dh_expressions.specs.MadeTerms.{MadeIndices, MadeNext, MadeRow, MadeTerm, MadeThrough};
 ghost use Rattle.dh_expressions.specs.MadeValues.{MadeConverted, MadeExtended, MadeHeld, MadeLowestBit, MadeOperation, MadeVariable};
 ghost use Rattle.dh_expressions.specs.Reaching.{ReadsNext};
-ghost use Rattle.dh_expressions.specs.Shown.{applied_shown, converted_shown, extended_shown, held_shown, is_kept, lowest_bit};
+ghost use Rattle.dh_expressions.specs.Shown.{applied_shown, conversion_shown, extended_shown, held_shown, is_kept, lowest_bit};
 
 use crate::accesses::Accesses;
 use crate::drafts::{Draft, push_compute, push_constant, push_convert};
@@ -56,8 +56,8 @@ pub fn push_variable(
 
 /// Adds a value in an integer kind: nothing is done where it is a word of that kind already.
 pub fn push_converted(draft: &mut Draft, from: &Expr, value: u64, to: Kind) -> Result<u64, NoMemory>
-    ensures means { IfOk result (λ v. Gives draft.old draft.new v (λ x. converted_shown (term_seen
-        from.now) to (shown x value))) }
+    ensures means { IfOk result (λ v. Gives draft.old draft.new v (λ x. conversion_shown (term_seen
+        from.now) to (word_shown x value))) }
     ensures made { IfOk result (λ v. MadeConverted (is_kept (term_seen from.now) to) to value
         draft.old draft.new v) }
 {
@@ -70,7 +70,7 @@ pub fn push_converted(draft: &mut Draft, from: &Expr, value: u64, to: Kind) -> R
 /// Adds an operand, extended to an integer kind; as it is for Bool.
 pub fn push_extended(draft: &mut Draft, from: &Expr, value: u64, to: Kind) -> Result<u64, NoMemory>
     ensures means { IfOk result (λ v. Gives draft.old draft.new v (λ x. extended_shown (term_seen
-        from.now) to (shown x value))) }
+        from.now) to (word_shown x value))) }
     ensures made { IfOk result (λ v. MadeExtended (term_seen from.now) to value draft.old draft.new
         v) }
 {
@@ -83,7 +83,7 @@ pub fn push_extended(draft: &mut Draft, from: &Expr, value: u64, to: Kind) -> Re
 
 /// Adds a truth that a memory held, as a word: its lowest bit.
 fn push_lowest_bit(draft: &mut Draft, value: u64) -> Result<u64, NoMemory>
-    ensures means { IfOk result (λ v. Gives draft.old draft.new v (λ x. lowest_bit (shown x
+    ensures means { IfOk result (λ v. Gives draft.old draft.new v (λ x. lowest_bit (word_shown x
         value))) }
     ensures made { IfOk result (λ v. MadeLowestBit value draft.old draft.new v) }
 {
@@ -95,7 +95,7 @@ fn push_lowest_bit(draft: &mut Draft, value: u64) -> Result<u64, NoMemory>
 /// Adds a value as a variable or a memory of a kind holds it.
 pub fn push_held(draft: &mut Draft, from: &Expr, value: u64, to: Kind) -> Result<u64, NoMemory>
     ensures means { IfOk result (λ v. Gives draft.old draft.new v (λ x. held_shown (term_seen
-        from.now) to (shown x value))) }
+        from.now) to (word_shown x value))) }
     ensures made { IfOk result (λ v. MadeHeld (term_seen from.now) to value draft.old draft.new v) }
 {
     match to {
@@ -121,7 +121,7 @@ pub fn push_operation(
     b: u64,
 ) -> Result<u64, NoMemory>
     ensures means { IfOk result (λ v. Gives draft.old draft.new v (λ x. applied_shown op (term_seen
-        left.now) (term_seen right.now) (shown x a) (shown x b))) }
+        left.now) (term_seen right.now) (word_shown x a) (word_shown x b))) }
     ensures made { IfOk result (λ v. MadeOperation op (term_seen left.now) (term_seen right.now) a b
         draft.old draft.new v) }
 {

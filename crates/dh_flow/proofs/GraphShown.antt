@@ -11,7 +11,7 @@ use Rattle.dh_plan.specs.PlainPlans.{PlainPlan}
 use Rattle.dh_plan.specs.PlanRuns.{over}
 use Rattle.dh_plan.specs.SeenGraphs.{OfFirst, IsWay, IsStop, IsJoin, IsFlowOf, FlowWithin, WayWithin, homes_of, parents_of, StaysInGroup, GroupsFit, IsGraphOf}
 use Rattle.dh_plan.specs.SoundPlans.{IsFormed}
-use Rattle.dh_plan.specs.Ways.{Way, to_end, Stop}
+use Rattle.dh_plan.specs.Ways.{GraphWay, to_end, GraphStop}
 use Rattle.dh_flow.specs.PlainFlows.{Placed, Forked, way_in, states, groups, own_group, plan_states, plan_groups, stop_of, flow_of}
 use Rattle.dh_flow.specs.ToldWays.{states_told, groups_told, state_told, group_told, placed_told, forked_told}
 use Rattle.dh_flow.proofs.PartsThere.{parts_are}
@@ -37,14 +37,14 @@ mapped_at v xs i y at = by (slice_get xs i) refl (sym (slice_get-map v xs i) ∙
 same_item : {A : Type 0} (x y : A) (o : Option A) → o ≡ Some x → o ≡ Some y → x ≡ y
 same_item x y o e f = let g : Some x ≡ Some y = sym e ∙ f in cc
 
-joins_by : (plan : PlainPlan) (ps : List Placed) (fs : List Forked) (parent : Option ℕ) (join : Option Way) (w : Way) → join ≡ Some w → JoinStays plan ps fs parent join → (o : ℕ) × ((parent ≡ Some o) × IsGood plan ps fs o w)
+joins_by : (plan : PlainPlan) (ps : List Placed) (fs : List Forked) (parent : Option ℕ) (join : Option GraphWay) (w : GraphWay) → join ≡ Some w → JoinStays plan ps fs parent join → (o : ℕ) × ((parent ≡ Some o) × IsGood plan ps fs o w)
 joins_by plan ps fs parent None w e s = absurd (let g : None ≡ Some w = e in cc)
 joins_by plan ps fs None (Some v) w e s = absurd s
 joins_by plan ps fs (Some o) (Some v) w e s =
     let same : v ≡ w = (let g : Some v ≡ Some w = e in cc) in
     (o, (refl, subst (λ x. IsGood plan ps fs o x) same s))
 
-join_group : (plan : PlainPlan) (ps : List Placed) (fs : List Forked) (parent : Option ℕ) (join : Option Way) → JoinStays plan ps fs parent join → (o : ℕ) × ((w : Way) → join ≡ Some w → IsGood plan ps fs o w)
+join_group : (plan : PlainPlan) (ps : List Placed) (fs : List Forked) (parent : Option ℕ) (join : Option GraphWay) → JoinStays plan ps fs parent join → (o : ℕ) × ((w : GraphWay) → join ≡ Some w → IsGood plan ps fs o w)
 join_group plan ps fs parent None s = (0, λ w e. absurd (let g : None ≡ Some w = e in cc))
 join_group plan ps fs None (Some v) s = absurd s
 join_group plan ps fs (Some o) (Some v) s = (o, λ w e. let same : v ≡ w = (let g : Some v ≡ Some w = e in cc) in subst (λ x. IsGood plan ps fs o x) same s)
@@ -56,7 +56,7 @@ module _ (plan : PlainPlan) (g : Graph) (formed : IsFormed plan) (states_are : s
   abbrev fs : List Forked
   fs = plan_groups plan.body
 
-  abbrev Good : ℕ → Way → Type 0
+  abbrev Good : ℕ → GraphWay → Type 0
   Good o w = IsGood plan ps fs o w
 
   here : Here plan.registers ps fs plan.body 0 1 0 to_end over
@@ -94,7 +94,7 @@ module _ (plan : PlainPlan) (g : Graph) (formed : IsFormed plan) (states_are : s
 
   -- It stands for the plain graph.
 
-  stop_shown : (i : ℕ) (s : code.State) (stop : Stop) → slice_get g.states.items i ≡ Some s → slice_get (map stop_of ps) i ≡ Some stop → IsStop g.groups.items s stop
+  stop_shown : (i : ℕ) (s : code.State) (stop : GraphStop) → slice_get g.states.items i ≡ Some s → slice_get (map stop_of ps) i ≡ Some stop → IsStop g.groups.items s stop
   stop_shown i s stop at there =
       let p = matches_at state_told placed_told g.states.items ps i s states_are at in
       let m = mapped_at stop_of ps i stop there in
@@ -111,7 +111,7 @@ module _ (plan : PlainPlan) (g : Graph) (formed : IsFormed plan) (states_are : s
       subst (λ o. OfFirst o (λ d. IsWay g.groups.items d (way_in plan.body 0 1 to_end))) (sym m.there)
       (is_way plan ps fs g.groups.items groups_are m.item.first (way_in plan.body 0 1 to_end) 0 (sym (ap (λ t. t.first) m.same)) good_first)
 
-  join_shown : (i : ℕ) (group : Group) (join : Option Way) → slice_get g.groups.items i ≡ Some group → slice_get (map (λ f. f.join) fs) i ≡ Some join → IsJoin g.groups.items group.after join
+  join_shown : (i : ℕ) (group : Group) (join : Option GraphWay) → slice_get g.groups.items i ≡ Some group → slice_get (map (λ f. f.join) fs) i ≡ Some join → IsJoin g.groups.items group.after join
   join_shown i group join at there =
       let p = matches_at group_told forked_told g.groups.items fs i group groups_are at in
       let m = mapped_at (λ f. f.join) fs i join there in

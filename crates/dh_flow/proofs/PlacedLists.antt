@@ -4,8 +4,8 @@ use Rattle.std.specs.Prelude.{slice_get}
 use Rattle.std.specs.List.{AllByRecursion}
 use Rattle.std.proofs.lemmas.List.{length-append}
 use Rattle.dh_plan.specs.PlainPlans.{Node, block_node, turns_node, loop_node, choice_node, threads_node, Nodes, no_nodes, node_then, NodeLists, no_lists, list_then}
-use Rattle.dh_plan.specs.PlanRuns.{Todo, over, nodes_then, turn_then, again_then}
-use Rattle.dh_plan.specs.Ways.{Way, to_state, to_end}
+use Rattle.dh_plan.specs.PlanRuns.{PlanTodo, over, nodes_then, turn_then, again_then}
+use Rattle.dh_plan.specs.Ways.{GraphWay, to_state, to_end}
 use Rattle.dh_flow.specs.declared.measuring.Entry.{Entry}
 use Rattle.dh_flow.specs.declared.measuring.Entry.TheVariants.{Nothing, State, Threads}
 use Rattle.dh_flow.specs.Footprints.{states_in, states_of, list_states, groups_in, groups_of, list_groups, list_count, own_groups, entry_of, node_entry, lists_entry, entry_or, fork_entry}
@@ -81,13 +81,13 @@ one_more : {A : Type 0} (xs : List A) (n : ℕ) → length xs ≡ n → suc (len
 one_more xs n e = omega (arith, e)
 
 mutual
-  pub states_length : (ns : Nodes) (a g o : ℕ) (w : Way) (k : Todo) → length (states ns a g o w k) ≡ states_in ns
+  pub states_length : (ns : Nodes) (a g o : ℕ) (w : GraphWay) (k : PlanTodo) → length (states ns a g o w k) ≡ states_in ns
   states_length no_nodes a g o w k = refl
   states_length (node_then n ns) a g o w k =
       both_lengths (node_placed n a g o (way_in ns (a + states_of n) (g + groups_of n) w) (nodes_then ns k)) (states ns (a + states_of n) (g + groups_of n) o w k) (states_of n) (states_in ns)
       (placed_length n a g o (way_in ns (a + states_of n) (g + groups_of n) w) (nodes_then ns k)) (states_length ns (a + states_of n) (g + groups_of n) o w k)
 
-  pub placed_length : (n : Node) (a g o : ℕ) (w : Way) (k : Todo) → length (node_placed n a g o w k) ≡ states_of n
+  pub placed_length : (n : Node) (a g o : ℕ) (w : GraphWay) (k : PlanTodo) → length (node_placed n a g o w k) ≡ states_of n
   placed_length (block_node block) a g o w k = refl
   placed_length (turns_node counter turns body) a g o w k =
       list_by (turns == 0) (states body a g o (turn_way counter turns body a g w) (turn_then counter turns body k)) (states_in body) (states_length body a g o (turn_way counter turns body a g w) (turn_then counter turns body k))
@@ -102,23 +102,23 @@ mutual
   lists_length (list_then ns lists) a g o =
       both_lengths (states ns a g o to_end over) (list_placed lists (a + states_in ns) (g + groups_in ns) (o + 1)) (states_in ns) (list_states lists) (states_length ns a g o to_end over) (lists_length lists (a + states_in ns) (g + groups_in ns) (o + 1))
 
-begun_length : (lists : NodeLists) (a g o : ℕ) (join : Option Way) (k : Todo) → length (begun lists a g o join k) ≡ list_count lists
+begun_length : (lists : NodeLists) (a g o : ℕ) (join : Option GraphWay) (k : PlanTodo) → length (begun lists a g o join k) ≡ list_count lists
 begun_length no_lists a g o join k = refl
 begun_length (list_then ns lists) a g o join k = one_more (begun lists (a + states_in ns) (g + groups_in ns) o None over) (list_count lists) (begun_length lists (a + states_in ns) (g + groups_in ns) o None over)
 
-pub begun_if_length : (e : Entry) (lists : NodeLists) (a g o : ℕ) (join : Option Way) (k : Todo) → length (begun_if e lists a g o join k) ≡ own_groups e (list_count lists)
+pub begun_if_length : (e : Entry) (lists : NodeLists) (a g o : ℕ) (join : Option GraphWay) (k : PlanTodo) → length (begun_if e lists a g o join k) ≡ own_groups e (list_count lists)
 begun_if_length Nothing lists a g o join k = refl
 begun_if_length State lists a g o join k = begun_length lists a g o join k
 begun_if_length (Threads nested count) lists a g o join k = begun_length lists a g o join k
 
 mutual
-  pub groups_length : (ns : Nodes) (a g o : ℕ) (w : Way) (k : Todo) → length (groups ns a g o w k) ≡ groups_in ns
+  pub groups_length : (ns : Nodes) (a g o : ℕ) (w : GraphWay) (k : PlanTodo) → length (groups ns a g o w k) ≡ groups_in ns
   groups_length no_nodes a g o w k = refl
   groups_length (node_then n ns) a g o w k =
       both_lengths (node_forked n a g o (way_in ns (a + states_of n) (g + groups_of n) w) (nodes_then ns k)) (groups ns (a + states_of n) (g + groups_of n) o w k) (groups_of n) (groups_in ns)
       (forked_length n a g o (way_in ns (a + states_of n) (g + groups_of n) w) (nodes_then ns k)) (groups_length ns (a + states_of n) (g + groups_of n) o w k)
 
-  pub forked_length : (n : Node) (a g o : ℕ) (w : Way) (k : Todo) → length (node_forked n a g o w k) ≡ groups_of n
+  pub forked_length : (n : Node) (a g o : ℕ) (w : GraphWay) (k : PlanTodo) → length (node_forked n a g o w k) ≡ groups_of n
   forked_length (block_node block) a g o w k = refl
   forked_length (turns_node counter turns body) a g o w k =
       list_by (turns == 0) (groups body a g o (turn_way counter turns body a g w) (turn_then counter turns body k)) (groups_in body) (groups_length body a g o (turn_way counter turns body a g w) (turn_then counter turns body k))

@@ -4,18 +4,18 @@ use Rattle.std.specs.Prelude.{slice_get}
 use Rattle.std.proofs.lemmas.Option.{slice_get-map}
 use Rattle.dh_value.specs.declared.kinds.Kind.{Kind}
 use Rattle.dh_plan.specs.PlainPlans.{PlainPlan}
-use Rattle.dh_plan.specs.PlanRuns.{over, next, ended, next_of}
+use Rattle.dh_plan.specs.PlanRuns.{over, plan_next, ended, plan_next_of}
 use Rattle.dh_plan.specs.Ways.{to_end, FlowsAs, way_of_stop, way_of_join}
 use Rattle.dh_flow.specs.PlainFlows.{Placed, Forked, groups, own_group, plan_states, plan_groups, stop_of, flow_of}
 use Rattle.dh_flow.proofs.PlacedLists.{sits_whole, at_place}
 use Rattle.dh_flow.proofs.WaysDo.{behind_of, after_of, to_come, to_join, leads, Here, StateDoes, JoinDoes, enters, nodes_do}
 
 module _ (kinds : List Kind) (ps : List Placed) (fs : List Forked) where
-  state_does : (o : Option Placed) → ((p : Placed) → o ≡ Some p → StateDoes kinds ps fs p) → (registers : List ℕ) → leads kinds ps fs (way_of_stop (option_map stop_of o)) registers ≡ next_of kinds (behind_of o) registers
+  state_does : (o : Option Placed) → ((p : Placed) → o ≡ Some p → StateDoes kinds ps fs p) → (registers : List ℕ) → leads kinds ps fs (way_of_stop (option_map stop_of o)) registers ≡ plan_next_of kinds (behind_of o) registers
   state_does None so registers = refl
   state_does (Some p) so registers = so p refl registers
 
-  join_does : (o : Option Forked) → ((f : Forked) → o ≡ Some f → JoinDoes kinds ps fs f) → (registers : List ℕ) → leads kinds ps fs (way_of_join (option_map (λ f. f.join) o)) registers ≡ next_of kinds (after_of o) registers
+  join_does : (o : Option Forked) → ((f : Forked) → o ≡ Some f → JoinDoes kinds ps fs f) → (registers : List ℕ) → leads kinds ps fs (way_of_join (option_map (λ f. f.join) o)) registers ≡ plan_next_of kinds (after_of o) registers
   join_does None so registers = refl
   join_does (Some f) so registers = so f refl registers
 
@@ -40,7 +40,7 @@ flow_does plan =
     record {
       behind = to_come kinds ps fs;
       after = to_join kinds ps fs;
-      first = λ registers. enters kinds ps fs body 0 1 0 to_end to_end over (next ended registers) registers here refl;
+      first = λ registers. enters kinds ps fs body 0 1 0 to_end to_end over (plan_next ended registers) registers here refl;
       each = λ state registers.
           ap (λ o. leads kinds ps fs (way_of_stop o) registers) (slice_get-map stop_of ps state)
           ∙ state_does kinds ps fs (slice_get ps state) (λ p e. at_place (StateDoes kinds ps fs) ps state p all.0 e) registers;

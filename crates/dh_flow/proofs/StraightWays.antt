@@ -9,8 +9,8 @@ use Rattle.dh_plan.specs.declared.graphs.Graph.{Graph}
 use Rattle.dh_plan.specs.declared.graphs.Group.{Group}
 use Rattle.dh_plan.specs.declared.graphs.State.{State}
 use Rattle.dh_plan.specs.PlainPlans.{Node, block_node, turns_node, loop_node, choice_node, threads_node, Nodes, no_nodes, node_then, PlainPlan}
-use Rattle.dh_plan.specs.PlanRuns.{Todo, over, nodes_then, turn_then, again_then}
-use Rattle.dh_plan.specs.Ways.{Way, to_state, by_flag, by_count, to_fork, to_end}
+use Rattle.dh_plan.specs.PlanRuns.{PlanTodo, over, nodes_then, turn_then, again_then}
+use Rattle.dh_plan.specs.Ways.{GraphWay, to_state, by_flag, by_count, to_fork, to_end}
 use Rattle.dh_flow.specs.declared.measuring.Entry.{Entry}
 use Rattle.dh_flow.specs.declared.measuring.Entry.TheVariants.{Nothing, State as at_state, Threads}
 use Rattle.dh_flow.specs.Footprints.{states_in, states_of, groups_in, groups_of, node_entry}
@@ -20,20 +20,20 @@ use Rattle.dh_flow.specs.ToldWays.{Told, told_go, told_test, told_count, told_fo
 
 -- Plain ways.
 
-abbrev pub GoesStraight : Way → Type 0
+abbrev pub GoesStraight : GraphWay → Type 0
 GoesStraight (to_state state) = Unit {0}
 GoesStraight (by_flag flag w v) = GoesStraight w × GoesStraight v
 GoesStraight (by_count counter last w v) = GoesStraight w × GoesStraight v
 GoesStraight (to_fork fork ws) = ⊥
 GoesStraight to_end = Unit {0}
 
-either_straight : (e : Entry) (x y : Way) → GoesStraight x → GoesStraight y → GoesStraight (way_or e x y)
+either_straight : (e : Entry) (x y : GraphWay) → GoesStraight x → GoesStraight y → GoesStraight (way_or e x y)
 either_straight Nothing x y h k = k
 either_straight at_state x y h k = h
 either_straight (Threads nested count) x y h k = h
 
 mutual
-  into_straight : (ns : Nodes) (a g : ℕ) (w : Way) → IsOneThread ns → GoesStraight w → GoesStraight (way_in ns a g w)
+  into_straight : (ns : Nodes) (a g : ℕ) (w : GraphWay) → IsOneThread ns → GoesStraight w → GoesStraight (way_in ns a g w)
   into_straight no_nodes a g w h k = k
   into_straight (node_then n ns) a g w h k =
       either_straight (node_entry n) (way_in_node n a g) (way_in ns a g w) (into_node n a g h.0) (into_straight ns a g w h.1 k)
@@ -57,7 +57,7 @@ unless_straight true ps h = tt
 unless_straight false ps h = h
 
 mutual
-  states_straight : (ns : Nodes) (a g o : ℕ) (w : Way) (k : Todo) → IsOneThread ns → GoesStraight w → AreStraight (states ns a g o w k)
+  states_straight : (ns : Nodes) (a g o : ℕ) (w : GraphWay) (k : PlanTodo) → IsOneThread ns → GoesStraight w → AreStraight (states ns a g o w k)
   states_straight no_nodes a g o w k h f = tt
   states_straight (node_then n ns) a g o w k h f =
       let a' = a + states_of n in
@@ -65,7 +65,7 @@ mutual
       both_straight (node_placed n a g o (way_in ns a' g' w) (nodes_then ns k)) (states ns a' g' o w k)
       (node_straight n a g o (way_in ns a' g' w) (nodes_then ns k) h.0 (into_straight ns a' g' w h.1 f)) (states_straight ns a' g' o w k h.1 f)
 
-  node_straight : (n : Node) (a g o : ℕ) (w : Way) (k : Todo) → NodeIsOneThread n → GoesStraight w → AreStraight (node_placed n a g o w k)
+  node_straight : (n : Node) (a g o : ℕ) (w : GraphWay) (k : PlanTodo) → NodeIsOneThread n → GoesStraight w → AreStraight (node_placed n a g o w k)
   node_straight (block_node block) a g o w k h f = (f, tt)
   node_straight (turns_node counter turns body) a g o w k h f =
       unless_straight (turns == 0) (states body a g o (turn_way counter turns body a g w) (turn_then counter turns body k))
@@ -89,14 +89,14 @@ both_none : (fs gs : List Forked) → fs ≡ [] → gs ≡ [] → fs ++ gs ≡ [
 both_none fs gs e f = ap (λ xs. xs ++ gs) e ∙ f
 
 mutual
-  no_groups : (ns : Nodes) (a g o : ℕ) (w : Way) (k : Todo) → IsOneThread ns → groups ns a g o w k ≡ []
+  no_groups : (ns : Nodes) (a g o : ℕ) (w : GraphWay) (k : PlanTodo) → IsOneThread ns → groups ns a g o w k ≡ []
   no_groups no_nodes a g o w k h = refl
   no_groups (node_then n ns) a g o w k h =
       let a' = a + states_of n in
       let g' = g + groups_of n in
       both_none (node_forked n a g o (way_in ns a' g' w) (nodes_then ns k)) (groups ns a' g' o w k) (node_no_groups n a g o (way_in ns a' g' w) (nodes_then ns k) h.0) (no_groups ns a' g' o w k h.1)
 
-  node_no_groups : (n : Node) (a g o : ℕ) (w : Way) (k : Todo) → NodeIsOneThread n → node_forked n a g o w k ≡ []
+  node_no_groups : (n : Node) (a g o : ℕ) (w : GraphWay) (k : PlanTodo) → NodeIsOneThread n → node_forked n a g o w k ≡ []
   node_no_groups (block_node block) a g o w k h = refl
   node_no_groups (turns_node counter turns body) a g o w k h =
       unless_none (turns == 0) (groups body a g o (turn_way counter turns body a g w) (turn_then counter turns body k))
@@ -117,7 +117,7 @@ TellsStraight (told_count counter last s t) = TellsStraight s × TellsStraight t
 TellsStraight (told_fork groups) = ⊥
 TellsStraight told_rest = Unit {0}
 
-told_straight : (w : Way) → GoesStraight w → TellsStraight (told w)
+told_straight : (w : GraphWay) → GoesStraight w → TellsStraight (told w)
 told_straight (to_state state) h = tt
 told_straight (by_flag flag w v) h = (told_straight w h.0, told_straight v h.1)
 told_straight (by_count counter last w v) h = (told_straight w h.0, told_straight v h.1)

@@ -4,8 +4,9 @@ use Rattle.std.proofs.Common.{◌≡◌, ℕ, zero, suc, ◌+◌, ◌-◌, ◌<�
 use Rattle.std.specs.Prelude.{min}
 use Rattle.std.proofs.Math.Nat.{min-eq_left}
 use Rattle.dh_plan.specs.PlainPlans.{Node, block_node, turns_node, loop_node, choice_node, threads_node, Nodes, no_nodes, node_then, NodeLists, no_lists, list_then}
-use Rattle.dh_plan.specs.SeenGraphs.{numbers_from, way_count}
-use Rattle.dh_plan.specs.Ways.{Way, to_end}
+use Rattle.dh_plan.specs.SeenGraphs.{way_count}
+use Rattle.dh_ways.specs.HiddenVariables.{numbers_from}
+use Rattle.dh_plan.specs.Ways.{GraphWay, to_end}
 use Rattle.dh_flow.specs.declared.measuring.Entry.{Entry}
 use Rattle.dh_flow.specs.declared.measuring.Entry.TheVariants.{Nothing, State, Threads}
 use Rattle.dh_flow.specs.Footprints.{states_in, groups_in, groups_of, list_groups, list_count, entry_of, node_entry, lists_entry, entry_or, own_groups, fork_entry, cut, cut_entry}
@@ -57,7 +58,7 @@ count_is (list_then ns lists) a g = more (way_count (ways_in lists (a + states_i
     more : (m n : ℕ) → m ≡ n → suc m ≡ n + 1
     more m n e = omega (arith, e)
 
-tells_by : (e f : Entry) (x y : Way) (a g : ℕ) (t : Told) → (Begins e → told x ≡ told_entry (cut_entry e) a g t) → told y ≡ told_entry (cut_entry f) a g t → told (way_or e x y) ≡ told_entry (cut_entry (entry_or e f)) a g t
+tells_by : (e f : Entry) (x y : GraphWay) (a g : ℕ) (t : Told) → (Begins e → told x ≡ told_entry (cut_entry e) a g t) → told y ≡ told_entry (cut_entry f) a g t → told (way_or e x y) ≡ told_entry (cut_entry (entry_or e f)) a g t
 tells_by Nothing f x y a g t one two = two
 tells_by State f x y a g t one two = one tt
 tells_by (Threads nested count) f x y a g t one two = one tt
@@ -67,7 +68,7 @@ any_past Nothing a g t u b = absurd b
 any_past State a g t u b = refl
 any_past (Threads nested count) a g t u b = refl
 
-tells_turns : (b : Bool) (e : Entry) (x : Way) (a g n : ℕ) (t : Told) → (g + n < 2 ^ 64 → told x ≡ told_entry (cut_entry e) a g (told to_end)) → g + (if b then 0 else n) < 2 ^ 64
+tells_turns : (b : Bool) (e : Entry) (x : GraphWay) (a g n : ℕ) (t : Told) → (g + n < 2 ^ 64 → told x ≡ told_entry (cut_entry e) a g (told to_end)) → g + (if b then 0 else n) < 2 ^ 64
     → Begins (if b then Nothing else e) → told x ≡ told_entry (cut_entry (if b then Nothing else e)) a g t
 tells_turns true e x a g n t so room is = absurd is
 tells_turns false e x a g n t so room is = so room ∙ any_past e a g (told to_end) t is
@@ -100,7 +101,7 @@ less_back : (a m n l : ℕ) → a + (m + n) < l → a + n < l
 less_back a m n l e = omega (arith, e)
 
 mutual
-  pub tells_in : (ns : Nodes) (a g : ℕ) (w : Way) → g + groups_in ns < 2 ^ 64 → told (way_in ns a g w) ≡ told_entry (cut_entry (entry_of ns)) a g (told w)
+  pub tells_in : (ns : Nodes) (a g : ℕ) (w : GraphWay) → g + groups_in ns < 2 ^ 64 → told (way_in ns a g w) ≡ told_entry (cut_entry (entry_of ns)) a g (told w)
   tells_in no_nodes a g w room = refl
   tells_in (node_then n ns) a g w room =
       tells_by (node_entry n) (entry_of ns) (way_in_node n a g) (way_in ns a g w) a g (told w) (λ is. tells_node n a g (told w) is (less_front g (groups_of n) (groups_in ns) (2 ^ 64) room)) (tells_in ns a g w (less_back g (groups_of n) (groups_in ns) (2 ^ 64) room))

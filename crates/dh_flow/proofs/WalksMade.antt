@@ -5,8 +5,8 @@ use Rattle.std.proofs.lemmas.List.{length-append, length-map, map-append}
 use Rattle.dh_plan.specs.declared.graphs.Graph.{Graph}
 use Rattle.dh_plan.specs.declared.graphs.Group.{Group}
 use Rattle.dh_plan.specs.PlainPlans.{Node, block_node, turns_node, loop_node, choice_node, threads_node, Nodes, no_nodes, node_then, NodeLists, no_lists, list_then}
-use Rattle.dh_plan.specs.PlanRuns.{Todo, over, nodes_then, turn_then, test_then, again_then, pick_then}
-use Rattle.dh_plan.specs.Ways.{Way, to_state, to_end}
+use Rattle.dh_plan.specs.PlanRuns.{PlanTodo, over, nodes_then, turn_then, test_then, again_then, pick_then}
+use Rattle.dh_plan.specs.Ways.{GraphWay, to_state, to_end}
 use Rattle.dh_flow.specs.declared.measuring.Entry.{Entry}
 use Rattle.dh_flow.specs.declared.measuring.Entry.TheVariants.{Nothing, State, Threads}
 use Rattle.dh_flow.specs.declared.measuring.NodeMark.{NodeMark}
@@ -48,7 +48,7 @@ states_size ps fs g h n e l = put_length state_told placed_told g.states.items h
 groups_size : (ps : List Placed) (fs : List Forked) (g h : Graph) (n : ℕ) → Grows ps fs g h → length fs ≡ n → groups_at h ≡ groups_at g + n
 groups_size ps fs g h n e l = put_length group_told forked_told g.groups.items h.groups.items fs n e.groups l
 
-pushes_grow : (block own : ℕ) (t : Told) (g h : Graph) (w : Way) (k : Todo) → Pushes block own t g h → t ≡ told w → Grows (placed block own w k ∷ []) [] g h
+pushes_grow : (block own : ℕ) (t : Told) (g h : Graph) (w : GraphWay) (k : PlanTodo) → Pushes block own t g h → t ≡ told w → Grows (placed block own w k ∷ []) [] g h
 pushes_grow block own t g h w k p is =
     record { states = p.states ∙ ap (λ x. states_told g.states.items ++ told_state block own x ∷ []) is; groups = p.groups ∙ sym (append-nil (groups_told g.groups.items)) }
 
@@ -73,7 +73,7 @@ walks_none own way old g = record { so = λ below w k e is room. record { marks 
 pub walks_then : (n : Node) (ns : Nodes) (own : ℕ) (way : Told) (old mid new : List NodeMark) (g m h : Graph) → WalksNext n own way old mid g m → Walks ns own way mid new m h → Walks (node_then n ns) own way old new g h
 walks_then n ns own way old mid new g m h one more = record { so = by }
   where
-    by : (below : List NodeMark) (w : Way) (k : Todo) → old ≡ below ++ marks_of (node_then n ns) → way ≡ told w → Room g (states_in (node_then n ns)) (groups_in (node_then n ns))
+    by : (below : List NodeMark) (w : GraphWay) (k : PlanTodo) → old ≡ below ++ marks_of (node_then n ns) → way ≡ told w → Room g (states_in (node_then n ns)) (groups_in (node_then n ns))
         → Walked below new (states (node_then n ns) (states_at g) (groups_at g) own w k) (groups (node_then n ns) (states_at g) (groups_at g) own w k) g h
     by below w k e is room =
         let a = states_at g + states_of n in
@@ -107,7 +107,7 @@ pub walks_next : (n : Node) (own : ℕ) (m : NodeMark) (way next : Told) (old mi
     → WalksNode n own m next mid new g h → WalksNext n own way old new g h
 walks_next n own m way next old mid new g h takes n_is node = record { so = by }
   where
-    by : (ns : Nodes) (below : List NodeMark) (w : Way) (k : Todo) → old ≡ below ++ marks_of (node_then n ns) → way ≡ told w → Room g (states_in (node_then n ns)) (groups_in (node_then n ns))
+    by : (ns : Nodes) (below : List NodeMark) (w : GraphWay) (k : PlanTodo) → old ≡ below ++ marks_of (node_then n ns) → way ≡ told w → Room g (states_in (node_then n ns)) (groups_in (node_then n ns))
         → Walked (below ++ marks_of ns) new
         (node_placed n (states_at g) (groups_at g) own (way_in ns (states_at g + states_of n) (groups_at g + groups_of n) w) (nodes_then ns k))
         (node_forked n (states_at g) (groups_at g) own (way_in ns (states_at g + states_of n) (groups_at g + groups_of n) w) (nodes_then ns k)) g h
@@ -136,7 +136,7 @@ walks_no_turn counter turns body own m way old g none =
     subst (λ (n : ℕ). WalksNode (turns_node counter n body) own m way old old g g) (sym none) (record { so = λ e below w k mark f is room. record { marks = f ∙ append-nil below; grows = none_grow g } })
 
 -- by the test of the turns
-turns_by : (t : Bool) (body : Nodes) (own : ℕ) (m : NodeMark) (e : Entry) (d way : Told) (v w : Way) (k : Todo) (old new below : List NodeMark) (g h : Graph) (counter turns : ℕ) → t ≡ false
+turns_by : (t : Bool) (body : Nodes) (own : ℕ) (m : NodeMark) (e : Entry) (d way : Told) (v w : GraphWay) (k : PlanTodo) (old new below : List NodeMark) (g h : Graph) (counter turns : ℕ) → t ≡ false
     → m ≡ told_behind (list_mark (footprint (if t then 0 else states_in body) (if t then 0 else groups_in body) (if t then Nothing else entry_of body))) e
     → old ≡ below ++ (if t then [] else marks_of body)
     → (states_at g + (if t then 0 else states_in body) < 2 ^ 64) × (groups_at g + (if t then 0 else groups_in body) < 2 ^ 64)
@@ -173,7 +173,7 @@ pub walks_loop : (test flag : ℕ) (body : Nodes) (own : ℕ) (m : NodeMark) (wa
     → WalksNode (loop_node test flag body) own m way old new g h
 walks_loop test flag body own m way d old new g p h is pushes walks = record { so = by }
   where
-    by : (e : Entry) (below : List NodeMark) (w : Way) (k : Todo) → m ≡ told_behind (node_mark (loop_node test flag body)) e → old ≡ below ++ marks_of body → way ≡ told w → Room g (states_in body + 1) (groups_in body)
+    by : (e : Entry) (below : List NodeMark) (w : GraphWay) (k : PlanTodo) → m ≡ told_behind (node_mark (loop_node test flag body)) e → old ≡ below ++ marks_of body → way ≡ told w → Room g (states_in body + 1) (groups_in body)
         → Walked below new (node_placed (loop_node test flag body) (states_at g) (groups_at g) own w k) (node_forked (loop_node test flag body) (states_at g) (groups_at g) own w k) g h
     by e below w k mark f w_is room =
         let a = states_at g in
@@ -201,7 +201,7 @@ first_room a m n x l e room = omega (arith, e, room)
 sum_sides : (a m n l : ℕ) → a + (m + n) < l → a + m + n < l
 sum_sides a m n l room = omega (arith, room)
 
-told_choice : (flag : ℕ) (chosen other : Nodes) (m : NodeMark) (e : Entry) (way d : Told) (g : Graph) (w : Way) → d ≡ choice_told flag m way g
+told_choice : (flag : ℕ) (chosen other : Nodes) (m : NodeMark) (e : Entry) (way d : Told) (g : Graph) (w : GraphWay) → d ≡ choice_told flag m way g
     → m ≡ told_behind (test_mark (footprint (states_in chosen + states_in other + 1) (groups_in chosen + groups_in other) State) (footprint_of chosen) (cut_entry (entry_of other))) e → way ≡ told w
     → Room g (states_in chosen + states_in other + 1) (groups_in chosen + groups_in other) → d ≡ told (choice_way flag chosen other (states_at g) (groups_at g) w)
 told_choice flag chosen other m e way d g w is mark w_is room =
@@ -225,7 +225,7 @@ pub walks_choice : (test flag : ℕ) (chosen other : Nodes) (own : ℕ) (m : Nod
     → Walks chosen own way old mid p q → Walks other own way mid new q h → WalksNode (choice_node test flag chosen other) own m way old new g h
 walks_choice test flag chosen other own m way d old mid new g p q h is pushes one two = record { so = by }
   where
-    by : (e : Entry) (below : List NodeMark) (w : Way) (k : Todo) → m ≡ told_behind (node_mark (choice_node test flag chosen other)) e → old ≡ below ++ (marks_of other ++ marks_of chosen) → way ≡ told w
+    by : (e : Entry) (below : List NodeMark) (w : GraphWay) (k : PlanTodo) → m ≡ told_behind (node_mark (choice_node test flag chosen other)) e → old ≡ below ++ (marks_of other ++ marks_of chosen) → way ≡ told w
         → Room g (states_in chosen + states_in other + 1) (groups_in chosen + groups_in other)
         → Walked below new (node_placed (choice_node test flag chosen other) (states_at g) (groups_at g) own w k) (node_forked (choice_node test flag chosen other) (states_at g) (groups_at g) own w k) g h
     by e below w k mark f w_is room =
@@ -256,7 +256,7 @@ walks_choice test flag chosen other own m way d old mid new g p q h is pushes on
 
 -- Threads.
 
-added_is : (e : Entry) (n c : ℕ) (lists : NodeLists) (a g own : ℕ) (join : Option Way) (k : Todo) (made : List Group) → groups_told made ≡ map forked_told (begun lists a g own join k)
+added_is : (e : Entry) (n c : ℕ) (lists : NodeLists) (a g own : ℕ) (join : Option GraphWay) (k : PlanTodo) (made : List Group) → groups_told made ≡ map forked_told (begun lists a g own join k)
     → groups_told (added (cut_entry (fork_entry e n c)) made) ≡ map forked_told (begun_if e lists a g own join k)
 added_is Nothing n c lists a g own join k made is = refl
 added_is State n c lists a g own join k made is = is
@@ -287,7 +287,7 @@ pub walks_threads : (lists : NodeLists) (own first : ℕ) (m : NodeMark) (way : 
     → WalksLists lists own first (Some way) old new g p made → AddsGroups m.own.entry made p h → WalksNode (threads_node lists) own m way old new g h
 walks_threads lists own first m way old new g p h made f_is walks adds = record { so = by }
   where
-    by : (e : Entry) (below : List NodeMark) (w : Way) (k : Todo) → m ≡ told_behind (node_mark (threads_node lists)) e → old ≡ below ++ lists_marks lists → way ≡ told w
+    by : (e : Entry) (below : List NodeMark) (w : GraphWay) (k : PlanTodo) → m ≡ told_behind (node_mark (threads_node lists)) e → old ≡ below ++ lists_marks lists → way ≡ told w
         → Room g (list_states lists) (list_groups lists + own_groups (lists_entry lists) (list_count lists))
         → Walked below new (node_placed (threads_node lists) (states_at g) (groups_at g) own w k) (node_forked (threads_node lists) (states_at g) (groups_at g) own w k) g h
     by e below w k mark f w_is room =
@@ -351,7 +351,7 @@ lists_then ns lists parent own own' after m d one old mid rest new g p h made ta
         sums : (n x l : ℕ) → own + (n + 1) < l → x ≡ own + 1 → x + n < l
         sums n x l room is = omega (arith, room, is)
 
-    by : (below : List NodeMark) (join : Option Way) (k : Todo) → old ≡ below ++ lists_marks (list_then ns lists) → after ≡ option_map told join → Room g (states_in ns + list_states lists) (groups_in ns + list_groups lists)
+    by : (below : List NodeMark) (join : Option GraphWay) (k : PlanTodo) → old ≡ below ++ lists_marks (list_then ns lists) → after ≡ option_map told join → Room g (states_in ns + list_states lists) (groups_in ns + list_groups lists)
         → RoomFrom own (list_then ns lists)
         → Walked below new (list_placed (list_then ns lists) (states_at g) (groups_at g) own) (list_forked (list_then ns lists) (states_at g) (groups_at g) own) g h
         × (groups_told (one ∷ made) ≡ map forked_told (begun (list_then ns lists) (states_at g) (groups_at g) parent join k))

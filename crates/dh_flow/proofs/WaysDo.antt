@@ -8,8 +8,8 @@ use Rattle.std.specs.List.{AllByRecursion}
 use Rattle.std.proofs.lemmas.Option.{slice_get-map}
 use Rattle.dh_value.specs.declared.kinds.Kind.{Kind}
 use Rattle.dh_plan.specs.PlainPlans.{Node, block_node, turns_node, loop_node, choice_node, threads_node, Nodes, no_nodes, node_then, NodeLists, no_lists, list_then}
-use Rattle.dh_plan.specs.PlanRuns.{Todo, over, nodes_then, turn_then, test_then, again_then, pick_then, ended, at, inside, Places, place_then, Next, next, next_of, enter, enter_node, enter_lists, has_ended, all_ended, flag_holds, counted_up}
-use Rattle.dh_plan.specs.Ways.{Way, to_state, to_end, resolve, resolve_all, places_of, leads_to, block_of_stop, way_of_join}
+use Rattle.dh_plan.specs.PlanRuns.{PlanTodo, over, nodes_then, turn_then, test_then, again_then, pick_then, ended, at, inside, PlanPlaces, place_then, PlanNext, plan_next, plan_next_of, enter, enter_node, enter_lists, has_ended, all_ended, flag_holds, counted_up}
+use Rattle.dh_plan.specs.Ways.{GraphWay, to_state, to_end, resolve, resolve_all, places_of, leads_to, block_of_stop, way_of_join}
 use Rattle.dh_flow.specs.declared.measuring.Entry.{Entry}
 use Rattle.dh_flow.specs.declared.measuring.Entry.TheVariants.{Nothing, State, Threads}
 use Rattle.dh_flow.specs.Footprints.{states_in, states_of, groups_in, groups_of, list_groups, list_count, entry_of, node_entry, lists_entry, entry_or}
@@ -18,11 +18,11 @@ use Rattle.dh_flow.proofs.PlacedLists.{Sits, sits_front, sits_back, sits_tail, s
 
 -- Without a block the run passes by.
 
-pass_by : (b : Bool) (e : Entry) (x y : Next) → (e ≡ Nothing → y ≡ x) → (if b then Nothing else e) ≡ Nothing → (if b then x else y) ≡ x
+pass_by : (b : Bool) (e : Entry) (x y : PlanNext) → (e ≡ Nothing → y ≡ x) → (if b then Nothing else e) ≡ Nothing → (if b then x else y) ≡ x
 pass_by true e x y so is = refl
 pass_by false e x y so is = so is
 
-ended_by : (b : Bool) (x y : Next) → b ≡ true → (if b then x else y) ≡ x
+ended_by : (b : Bool) (x y : PlanNext) → b ≡ true → (if b then x else y) ≡ x
 ended_by true x y e = refl
 ended_by false x y e = absurd (cc)
 
@@ -31,35 +31,35 @@ both_ended true b e f = f
 both_ended false b e f = absurd (cc)
 
 mutual
-  enter_none : (ns : Nodes) (k : Todo) (b : Next) (registers : List ℕ) → entry_of ns ≡ Nothing → enter ns k b registers ≡ b
+  enter_none : (ns : Nodes) (k : PlanTodo) (b : PlanNext) (registers : List ℕ) → entry_of ns ≡ Nothing → enter ns k b registers ≡ b
   enter_none no_nodes k b registers is = refl
   enter_none (node_then n ns) k b registers is =
       let both = none_behind (node_entry n) (entry_of ns) is in
       enter_node_none n (nodes_then ns k) (enter ns k b registers) registers both.0 ∙ enter_none ns k b registers both.1
 
-  enter_node_none : (n : Node) (k : Todo) (b : Next) (registers : List ℕ) → node_entry n ≡ Nothing → enter_node n k b registers ≡ b
+  enter_node_none : (n : Node) (k : PlanTodo) (b : PlanNext) (registers : List ℕ) → node_entry n ≡ Nothing → enter_node n k b registers ≡ b
   enter_node_none (block_node block) k b registers is = absurd (cc)
   enter_node_none (turns_node counter turns body) k b registers is =
       pass_by (turns == 0) (entry_of body) b (enter body (turn_then counter turns body k) b registers) (enter_none body (turn_then counter turns body k) b registers) is
   enter_node_none (loop_node test flag body) k b registers is = absurd (cc)
   enter_node_none (choice_node test flag chosen other) k b registers is = absurd (cc)
   enter_node_none (threads_node lists) k b registers is =
-      ended_by (all_ended (enter_lists lists registers)) b (next (inside (enter_lists lists registers) k) registers) (lists_ended lists registers (fork_none (lists_entry lists) (list_groups lists) (list_count lists) is))
+      ended_by (all_ended (enter_lists lists registers)) b (plan_next (inside (enter_lists lists registers) k) registers) (lists_ended lists registers (fork_none (lists_entry lists) (list_groups lists) (list_count lists) is))
 
   lists_ended : (lists : NodeLists) (registers : List ℕ) → lists_entry lists ≡ Nothing → all_ended (enter_lists lists registers) ≡ true
   lists_ended no_lists registers is = refl
   lists_ended (list_then ns lists) registers is =
       let both = none_behind (entry_of ns) (lists_entry lists) is in
-      both_ended (has_ended (enter ns over (next ended registers) registers).place) (all_ended (enter_lists lists registers))
-      (ap (λ (n : Next). has_ended n.place) (enter_none ns over (next ended registers) registers both.0)) (lists_ended lists registers both.1)
+      both_ended (has_ended (enter ns over (plan_next ended registers) registers).place) (all_ended (enter_lists lists registers))
+      (ap (λ (n : PlanNext). has_ended n.place) (enter_none ns over (plan_next ended registers) registers both.0)) (lists_ended lists registers both.1)
 
 -- With one a thread has not ended.
 
-begins_by : (b : Bool) (e : Entry) (x y : Next) → (Begins e → has_ended y.place ≡ false) → Begins (if b then Nothing else e) → has_ended (if b then x else y).place ≡ false
+begins_by : (b : Bool) (e : Entry) (x y : PlanNext) → (Begins e → has_ended y.place ≡ false) → Begins (if b then Nothing else e) → has_ended (if b then x else y).place ≡ false
 begins_by true e x y so is = absurd is
 begins_by false e x y so is = so is
 
-goes_by : (b : Bool) (x : Next) (ps : Places) (k : Todo) (registers : List ℕ) → b ≡ false → has_ended (if b then x else next (inside ps k) registers).place ≡ false
+goes_by : (b : Bool) (x : PlanNext) (ps : PlanPlaces) (k : PlanTodo) (registers : List ℕ) → b ≡ false → has_ended (if b then x else plan_next (inside ps k) registers).place ≡ false
 goes_by true x ps k registers e = absurd (cc)
 goes_by false x ps k registers e = refl
 
@@ -78,13 +78,13 @@ part_by P State f one two b = one tt
 part_by P (Threads nested count) f one two b = one tt
 
 mutual
-  enter_goes : (ns : Nodes) (k : Todo) (b : Next) (registers : List ℕ) → Begins (entry_of ns) → has_ended (enter ns k b registers).place ≡ false
+  enter_goes : (ns : Nodes) (k : PlanTodo) (b : PlanNext) (registers : List ℕ) → Begins (entry_of ns) → has_ended (enter ns k b registers).place ≡ false
   enter_goes no_nodes k b registers is = absurd is
   enter_goes (node_then n ns) k b registers is =
       part_by (has_ended (enter_node n (nodes_then ns k) (enter ns k b registers) registers).place ≡ false) (node_entry n) (entry_of ns) (enter_node_goes n (nodes_then ns k) (enter ns k b registers) registers)
-      (λ none begins. ap (λ (x : Next). has_ended x.place) (enter_node_none n (nodes_then ns k) (enter ns k b registers) registers none) ∙ enter_goes ns k b registers begins) is
+      (λ none begins. ap (λ (x : PlanNext). has_ended x.place) (enter_node_none n (nodes_then ns k) (enter ns k b registers) registers none) ∙ enter_goes ns k b registers begins) is
 
-  enter_node_goes : (n : Node) (k : Todo) (b : Next) (registers : List ℕ) → Begins (node_entry n) → has_ended (enter_node n k b registers).place ≡ false
+  enter_node_goes : (n : Node) (k : PlanTodo) (b : PlanNext) (registers : List ℕ) → Begins (node_entry n) → has_ended (enter_node n k b registers).place ≡ false
   enter_node_goes (block_node block) k b registers is = refl
   enter_node_goes (turns_node counter turns body) k b registers is =
       begins_by (turns == 0) (entry_of body) b (enter body (turn_then counter turns body k) b registers) (enter_goes body (turn_then counter turns body k) b registers) is
@@ -96,36 +96,36 @@ mutual
   lists_go : (lists : NodeLists) (registers : List ℕ) → Begins (lists_entry lists) → all_ended (enter_lists lists registers) ≡ false
   lists_go no_lists registers is = absurd is
   lists_go (list_then ns lists) registers is =
-      let one = has_ended (enter ns over (next ended registers) registers).place in
+      let one = has_ended (enter ns over (plan_next ended registers) registers).place in
       let rest = all_ended (enter_lists lists registers) in
-      part_by ((one && rest) ≡ false) (entry_of ns) (lists_entry lists) (λ begins. first_goes one rest (enter_goes ns over (next ended registers) registers begins))
+      part_by ((one && rest) ≡ false) (entry_of ns) (lists_entry lists) (λ begins. first_goes one rest (enter_goes ns over (plan_next ended registers) registers begins))
       (λ none begins. second_goes one rest (lists_go lists registers begins)) is
 
-way_none : (ns : Nodes) (a g : ℕ) (w : Way) → entry_of ns ≡ Nothing → way_in ns a g w ≡ w
+way_none : (ns : Nodes) (a g : ℕ) (w : GraphWay) → entry_of ns ≡ Nothing → way_in ns a g w ≡ w
 way_none no_nodes a g w is = refl
 way_none (node_then n ns) a g w is =
     let both = none_behind (node_entry n) (entry_of ns) is in
     ap (λ e. way_or e (way_in_node n a g) (way_in ns a g w)) both.0 ∙ way_none ns a g w both.1
 
 -- a way that begins
-way_begins : (e : Entry) (w v : Way) → Begins e → way_or e w v ≡ w
+way_begins : (e : Entry) (w v : GraphWay) → Begins e → way_or e w v ≡ w
 way_begins Nothing w v is = absurd is
 way_begins State w v is = refl
 way_begins (Threads nested count) w v is = refl
 
-way_past : (e : Entry) (w v : Way) → e ≡ Nothing → way_or e w v ≡ v
+way_past : (e : Entry) (w v : GraphWay) → e ≡ Nothing → way_or e w v ≡ v
 way_past e w v is = ap (λ x. way_or x w v) is
 
-abbrev pub behind_of : Option Placed → Todo
+abbrev pub behind_of : Option Placed → PlanTodo
 behind_of None = over
 behind_of (Some p) = p.behind
 
-abbrev pub after_of : Option Forked → Todo
+abbrev pub after_of : Option Forked → PlanTodo
 after_of None = over
 after_of (Some f) = f.after
 
 -- the first group of threads that begin
-first_begun : (e : Entry) (lists : NodeLists) (a g o : ℕ) (join : Option Way) (k : Todo) → Begins e → Begins (lists_entry lists) → (f : Forked) × ((slice_get (begun_if e lists a g o join k) 0 ≡ Some f) × ((f.join ≡ join) × (f.after ≡ k)))
+first_begun : (e : Entry) (lists : NodeLists) (a g o : ℕ) (join : Option GraphWay) (k : PlanTodo) → Begins e → Begins (lists_entry lists) → (f : Forked) × ((slice_get (begun_if e lists a g o join k) 0 ≡ Some f) × ((f.join ≡ join) × (f.after ≡ k)))
 first_begun Nothing lists a g o join k is some = absurd is
 first_begun State no_lists a g o join k is some = absurd some
 first_begun State (list_then ns lists) a g o join k is some = (forked (Some o) (way_in ns a g to_end) join k, (refl, (refl, refl)))
@@ -133,33 +133,33 @@ first_begun (Threads nested count) no_lists a g o join k is some = absurd some
 first_begun (Threads nested count) (list_then ns lists) a g o join k is some = (forked (Some o) (way_in ns a g to_end) join k, (refl, (refl, refl)))
 
 module _ (kinds : List Kind) (ps : List Placed) (fs : List Forked) where
-  abbrev pub to_come : ℕ → Todo
+  abbrev pub to_come : ℕ → PlanTodo
   to_come i = behind_of (slice_get ps i)
 
-  abbrev pub to_join : ℕ → Todo
+  abbrev pub to_join : ℕ → PlanTodo
   to_join i = after_of (slice_get fs i)
 
-  abbrev pub leads : Way → (registers : List ℕ) → Next
+  abbrev pub leads : GraphWay → (registers : List ℕ) → PlanNext
   leads w registers = leads_to (map stop_of ps) to_come to_join (resolve kinds w registers)
 
   -- these nodes' states and groups sit at these numbers
-  abbrev pub Here : Nodes → (a g o : ℕ) → Way → Todo → Type 0
+  abbrev pub Here : Nodes → (a g o : ℕ) → GraphWay → PlanTodo → Type 0
   Here ns a g o w k = Sits (states ns a g o w k) ps a × Sits (groups ns a g o w k) fs g
 
-  abbrev pub HereNode : Node → (a g o : ℕ) → Way → Todo → Type 0
+  abbrev pub HereNode : Node → (a g o : ℕ) → GraphWay → PlanTodo → Type 0
   HereNode n a g o w k = Sits (node_placed n a g o w k) ps a × Sits (node_forked n a g o w k) fs g
 
   abbrev pub HereLists : NodeLists → (a g o : ℕ) → Type 0
   HereLists lists a g o = Sits (list_placed lists a g o) ps a × Sits (list_forked lists a g o) fs g
 
-  at_state : (a : ℕ) (p : Placed) (registers : List ℕ) → slice_get ps a ≡ Some p → leads (to_state a) registers ≡ next (at p.block p.behind) registers
+  at_state : (a : ℕ) (p : Placed) (registers : List ℕ) → slice_get ps a ≡ Some p → leads (to_state a) registers ≡ plan_next (at p.block p.behind) registers
   at_state a p registers e =
-      ap (λ s. next (at (block_of_stop s) (to_come a)) registers) (slice_get-map stop_of ps a ∙ ap (λ o. option_map stop_of o) e) ∙ ap (λ o. next (at p.block (behind_of o)) registers) e
+      ap (λ s. plan_next (at (block_of_stop s) (to_come a)) registers) (slice_get-map stop_of ps a ∙ ap (λ o. option_map stop_of o) e) ∙ ap (λ o. plan_next (at p.block (behind_of o)) registers) e
 
-  pub here_first : (n : Node) (ns : Nodes) (a g o : ℕ) (w : Way) (k : Todo) → Here (node_then n ns) a g o w k → HereNode n a g o (way_in ns (a + states_of n) (g + groups_of n) w) (nodes_then ns k)
+  pub here_first : (n : Node) (ns : Nodes) (a g o : ℕ) (w : GraphWay) (k : PlanTodo) → Here (node_then n ns) a g o w k → HereNode n a g o (way_in ns (a + states_of n) (g + groups_of n) w) (nodes_then ns k)
   here_first n ns a g o w k h = (sits_front _ (states ns (a + states_of n) (g + groups_of n) o w k) ps a h.0, sits_front _ (groups ns (a + states_of n) (g + groups_of n) o w k) fs g h.1)
 
-  pub here_rest : (n : Node) (ns : Nodes) (a g o : ℕ) (w : Way) (k : Todo) → Here (node_then n ns) a g o w k → Here ns (a + states_of n) (g + groups_of n) o w k
+  pub here_rest : (n : Node) (ns : Nodes) (a g o : ℕ) (w : GraphWay) (k : PlanTodo) → Here (node_then n ns) a g o w k → Here ns (a + states_of n) (g + groups_of n) o w k
   here_rest n ns a g o w k h = (
     sits_back (node_placed n a g o (way_in ns (a + states_of n) (g + groups_of n) w) (nodes_then ns k)) (states ns (a + states_of n) (g + groups_of n) o w k) ps a (a + states_of n) (states_of n) (placed_length n a g o _ (nodes_then ns k)) refl h.0,
     sits_back (node_forked n a g o (way_in ns (a + states_of n) (g + groups_of n) w) (nodes_then ns k)) (groups ns (a + states_of n) (g + groups_of n) o w k) fs g (g + groups_of n) (groups_of n) (forked_length n a g o _ (nodes_then ns k)) refl h.1,
@@ -175,18 +175,18 @@ module _ (kinds : List Kind) (ps : List Placed) (fs : List Forked) where
   )
 
   -- of a loop that has turns
-  turns_by : (b : Bool) (e : Entry) (xs : List Placed) (ys : List Forked) (a g : ℕ) (l x y : Next) → (Begins e → Sits xs ps a × Sits ys fs g → l ≡ y)
+  turns_by : (b : Bool) (e : Entry) (xs : List Placed) (ys : List Forked) (a g : ℕ) (l x y : PlanNext) → (Begins e → Sits xs ps a × Sits ys fs g → l ≡ y)
       → Begins (if b then Nothing else e) → Sits (if b then [] else xs) ps a × Sits (if b then [] else ys) fs g → l ≡ (if b then x else y)
   turns_by true e xs ys a g l x y so is h = absurd is
   turns_by false e xs ys a g l x y so is h = so is h
 
-  either_by : (e : Entry) (ns : Nodes) (a g : ℕ) (w : Way) (k : Todo) (b : Next) (registers : List ℕ) → entry_of ns ≡ e → leads w registers ≡ b
+  either_by : (e : Entry) (ns : Nodes) (a g : ℕ) (w : GraphWay) (k : PlanTodo) (b : PlanNext) (registers : List ℕ) → entry_of ns ≡ e → leads w registers ≡ b
       → (Begins (entry_of ns) → leads (way_in ns a g w) registers ≡ enter ns k b registers) → leads (way_in ns a g w) registers ≡ enter ns k b registers
   either_by Nothing ns a g w k b registers is past so = ap (λ v. leads v registers) (way_none ns a g w is) ∙ (past ∙ sym (enter_none ns k b registers is))
   either_by State ns a g w k b registers is past so = so (subst (λ (e : Entry). Begins e) (sym is) tt)
   either_by (Threads nested count) ns a g w k b registers is past so = so (subst (λ (e : Entry). Begins e) (sym is) tt)
 
-  forks_by : (b : Bool) (x y : Next) → b ≡ false → y ≡ (if b then x else y)
+  forks_by : (b : Bool) (x y : PlanNext) → b ≡ false → y ≡ (if b then x else y)
   forks_by true x y e = absurd (cc)
   forks_by false x y e = refl
 
@@ -195,7 +195,7 @@ module _ (kinds : List Kind) (ps : List Placed) (fs : List Forked) where
 
   mutual
     -- the way into nodes that begin leads where the run enters them
-    enter_leads : (ns : Nodes) (a g o : ℕ) (w v : Way) (k : Todo) (b : Next) (registers : List ℕ) → Begins (entry_of ns) → Here ns a g o v k → leads (way_in ns a g w) registers ≡ enter ns k b registers
+    enter_leads : (ns : Nodes) (a g o : ℕ) (w v : GraphWay) (k : PlanTodo) (b : PlanNext) (registers : List ℕ) → Begins (entry_of ns) → Here ns a g o v k → leads (way_in ns a g w) registers ≡ enter ns k b registers
     enter_leads no_nodes a g o w v k b registers is h = absurd is
     enter_leads (node_then n ns) a g o w v k b registers is h =
         let a' = a + states_of n in
@@ -212,7 +212,7 @@ module _ (kinds : List Kind) (ps : List Placed) (fs : List Forked) where
         ∙ (ap (λ x. leads (way_in ns x g w) registers) (sym same_a) ∙ (ap (λ x. leads (way_in ns a' x w) registers) (sym same_g)
         ∙ (enter_leads ns a' g' o w v k b registers begins (here_rest n ns a g o v k h) ∙ sym (enter_node_none n (nodes_then ns k) (enter ns k b registers) registers none))))) is
 
-    node_leads : (n : Node) (a g o : ℕ) (v : Way) (k : Todo) (b : Next) (registers : List ℕ) → Begins (node_entry n) → HereNode n a g o v k → leads (way_in_node n a g) registers ≡ enter_node n k b registers
+    node_leads : (n : Node) (a g o : ℕ) (v : GraphWay) (k : PlanTodo) (b : PlanNext) (registers : List ℕ) → Begins (node_entry n) → HereNode n a g o v k → leads (way_in_node n a g) registers ≡ enter_node n k b registers
     node_leads (block_node block) a g o v k b registers is h = at_state a (placed block o v k) registers (sits_first _ [] ps a h.0)
     node_leads (turns_node counter turns body) a g o v k b registers is h =
         turns_by (turns == 0) (entry_of body) (states body a g o (turn_way counter turns body a g v) (turn_then counter turns body k)) (groups body a g o (turn_way counter turns body a g v) (turn_then counter turns body k)) a g
@@ -228,25 +228,25 @@ module _ (kinds : List Kind) (ps : List Placed) (fs : List Forked) where
         let one = first_begun (lists_entry lists) lists a g o (Some v) k begins begins in
         let found : slice_get fs (g + list_groups lists) ≡ Some one.0 = own.found 0 (g + list_groups lists) one.0 (omega arith) one.1.0 in
         let after : to_join (g + list_groups lists) ≡ k = ap after_of found ∙ one.1.1.1 in
-        ap (λ xs. next (inside xs (to_join (g + list_groups lists))) registers) (lists_lead lists a g (g + list_groups lists) registers (h.0, sits_front (list_forked lists a g (g + list_groups lists)) (begun_if (lists_entry lists) lists a g o (Some v) k) fs g h.1))
-        ∙ (ap (λ x. next (inside (enter_lists lists registers) x) registers) after
-        ∙ forks_by (all_ended (enter_lists lists registers)) b (next (inside (enter_lists lists registers) k) registers) (lists_go lists registers begins))
+        ap (λ xs. plan_next (inside xs (to_join (g + list_groups lists))) registers) (lists_lead lists a g (g + list_groups lists) registers (h.0, sits_front (list_forked lists a g (g + list_groups lists)) (begun_if (lists_entry lists) lists a g o (Some v) k) fs g h.1))
+        ∙ (ap (λ x. plan_next (inside (enter_lists lists registers) x) registers) after
+        ∙ forks_by (all_ended (enter_lists lists registers)) b (plan_next (inside (enter_lists lists registers) k) registers) (lists_go lists registers begins))
 
     lists_lead : (lists : NodeLists) (a g o : ℕ) (registers : List ℕ) → HereLists lists a g o
         → places_of (map stop_of ps) to_come to_join (resolve_all kinds (ways_in lists a g) registers) ≡ enter_lists lists registers
     lists_lead no_lists a g o registers h = refl
     lists_lead (list_then ns lists) a g o registers h =
-        ap (λ (x : Next). place_then x.place (places_of (map stop_of ps) to_come to_join (resolve_all kinds (ways_in lists (a + states_in ns) (g + groups_in ns)) registers)))
-        (either_by (entry_of ns) ns a g to_end over (next ended registers) registers refl refl (λ begins. enter_leads ns a g o to_end to_end over (next ended registers) registers begins (here_list ns lists a g o h)))
-        ∙ ap (λ xs. place_then (enter ns over (next ended registers) registers).place xs) (lists_lead lists (a + states_in ns) (g + groups_in ns) (o + 1) registers (here_lists ns lists a g o h))
+        ap (λ (x : PlanNext). place_then x.place (places_of (map stop_of ps) to_come to_join (resolve_all kinds (ways_in lists (a + states_in ns) (g + groups_in ns)) registers)))
+        (either_by (entry_of ns) ns a g to_end over (plan_next ended registers) registers refl refl (λ begins. enter_leads ns a g o to_end to_end over (plan_next ended registers) registers begins (here_list ns lists a g o h)))
+        ∙ ap (λ xs. place_then (enter ns over (plan_next ended registers) registers).place xs) (lists_lead lists (a + states_in ns) (g + groups_in ns) (o + 1) registers (here_lists ns lists a g o h))
 
   -- so does the way into any nodes, or past them
-  pub enters : (ns : Nodes) (a g o : ℕ) (w v : Way) (k : Todo) (b : Next) (registers : List ℕ) → Here ns a g o v k → leads w registers ≡ b → leads (way_in ns a g w) registers ≡ enter ns k b registers
+  pub enters : (ns : Nodes) (a g o : ℕ) (w v : GraphWay) (k : PlanTodo) (b : PlanNext) (registers : List ℕ) → Here ns a g o v k → leads w registers ≡ b → leads (way_in ns a g w) registers ≡ enter ns k b registers
   enters ns a g o w v k b registers h past = either_by (entry_of ns) ns a g w k b registers refl past (λ begins. enter_leads ns a g o w v k b registers begins h)
 
   -- A way does what is to come.
-  abbrev pub Does : Way → Todo → Type 0
-  Does w k = (registers : List ℕ) → leads w registers ≡ next_of kinds k registers
+  abbrev pub Does : GraphWay → PlanTodo → Type 0
+  Does w k = (registers : List ℕ) → leads w registers ≡ plan_next_of kinds k registers
 
   abbrev pub StateDoes : Placed → Type 0
   StateDoes p = Does p.way p.behind
@@ -265,39 +265,39 @@ module _ (kinds : List Kind) (ps : List Placed) (fs : List Forked) where
   all_by true xs ys a g so h = (tt, tt)
   all_by false xs ys a g so h = so h
 
-  by_test : (b : Bool) (w v : Way) (x y : Next) (r s : List ℕ) → leads w r ≡ x → leads v s ≡ y → leads_to (map stop_of ps) to_come to_join (if b then resolve kinds w r else resolve kinds v s) ≡ (if b then x else y)
+  by_test : (b : Bool) (w v : GraphWay) (x y : PlanNext) (r s : List ℕ) → leads w r ≡ x → leads v s ≡ y → leads_to (map stop_of ps) to_come to_join (if b then resolve kinds w r else resolve kinds v s) ≡ (if b then x else y)
   by_test true w v x y r s e f = e
   by_test false w v x y r s e f = f
 
-  begun_do : (lists : NodeLists) (a g o : ℕ) (join : Option Way) (k : Todo) → Does (way_of_join (Some join)) k → AllByRecursion JoinDoes (begun lists a g o join k)
+  begun_do : (lists : NodeLists) (a g o : ℕ) (join : Option GraphWay) (k : PlanTodo) → Does (way_of_join (Some join)) k → AllByRecursion JoinDoes (begun lists a g o join k)
   begun_do no_lists a g o join k d = tt
   begun_do (list_then ns lists) a g o join k d = (d, begun_do lists (a + states_in ns) (g + groups_in ns) o None over (λ registers. refl))
 
-  begun_if_do : (e : Entry) (lists : NodeLists) (a g o : ℕ) (join : Option Way) (k : Todo) → Does (way_of_join (Some join)) k → AllByRecursion JoinDoes (begun_if e lists a g o join k)
+  begun_if_do : (e : Entry) (lists : NodeLists) (a g o : ℕ) (join : Option GraphWay) (k : PlanTodo) → Does (way_of_join (Some join)) k → AllByRecursion JoinDoes (begun_if e lists a g o join k)
   begun_if_do Nothing lists a g o join k d = tt
   begun_if_do State lists a g o join k d = begun_do lists a g o join k d
   begun_if_do (Threads nested count) lists a g o join k d = begun_do lists a g o join k d
 
   mutual
-    pub nodes_do : (ns : Nodes) (a g o : ℕ) (w : Way) (k : Todo) → Here ns a g o w k → Does w k → AllDo (states ns a g o w k) (groups ns a g o w k)
+    pub nodes_do : (ns : Nodes) (a g o : ℕ) (w : GraphWay) (k : PlanTodo) → Here ns a g o w k → Does w k → AllDo (states ns a g o w k) (groups ns a g o w k)
     nodes_do no_nodes a g o w k h d = (tt, tt)
     nodes_do (node_then n ns) a g o w k h d =
         let a' = a + states_of n in
         let g' = g + groups_of n in
         let rest = here_rest n ns a g o w k h in
         two_do (node_placed n a g o (way_in ns a' g' w) (nodes_then ns k)) (states ns a' g' o w k) (node_forked n a g o (way_in ns a' g' w) (nodes_then ns k)) (groups ns a' g' o w k)
-        (node_does n a g o (way_in ns a' g' w) (nodes_then ns k) (here_first n ns a g o w k h) (λ registers. enters ns a' g' o w w k (next_of kinds k registers) registers rest (d registers)))
+        (node_does n a g o (way_in ns a' g' w) (nodes_then ns k) (here_first n ns a g o w k h) (λ registers. enters ns a' g' o w w k (plan_next_of kinds k registers) registers rest (d registers)))
         (nodes_do ns a' g' o w k rest d)
 
-    node_does : (n : Node) (a g o : ℕ) (w : Way) (k : Todo) → HereNode n a g o w k → Does w k → AllDo (node_placed n a g o w k) (node_forked n a g o w k)
+    node_does : (n : Node) (a g o : ℕ) (w : GraphWay) (k : PlanTodo) → HereNode n a g o w k → Does w k → AllDo (node_placed n a g o w k) (node_forked n a g o w k)
     node_does (block_node block) a g o w k h d = ((d, tt), tt)
     node_does (turns_node counter turns body) a g o w k h d =
         let v = turn_way counter turns body a g w in
         let todo = turn_then counter turns body k in
         all_by (turns == 0) (states body a g o v todo) (groups body a g o v todo) a g (λ here. nodes_do body a g o v todo here (λ registers.
-        by_test (slice_index registers counter == (turns - 1)) w (way_in body a g to_end) (next_of kinds k (slice_set registers counter 0)) (enter body todo (next ended (counted_up kinds counter registers)) (counted_up kinds counter registers))
+        by_test (slice_index registers counter == (turns - 1)) w (way_in body a g to_end) (plan_next_of kinds k (slice_set registers counter 0)) (enter body todo (plan_next ended (counted_up kinds counter registers)) (counted_up kinds counter registers))
         (slice_set registers counter 0) (counted_up kinds counter registers) (d (slice_set registers counter 0))
-        (enters body a g o to_end v todo (next ended (counted_up kinds counter registers)) (counted_up kinds counter registers) here refl))) h
+        (enters body a g o to_end v todo (plan_next ended (counted_up kinds counter registers)) (counted_up kinds counter registers) here refl))) h
     node_does (loop_node test flag body) a g o w k h d =
         let todo = test_then test flag body k in
         let again = again_then test flag body k in
@@ -305,8 +305,8 @@ module _ (kinds : List Kind) (ps : List Placed) (fs : List Forked) where
         let here : Here body (a + 1) g o (to_state a) again = (sits_tail (placed test o (loop_way flag body a g w) todo) (states body (a + 1) g o (to_state a) again) ps a h.0, h.1) in
         let inside_do = nodes_do body (a + 1) g o (to_state a) again here (λ registers. at_state a (placed test o (loop_way flag body a g w) todo) registers first) in (
           (
-            λ registers. by_test (flag_holds registers flag) (way_in body (a + 1) g (to_state a)) w (enter body again (next (at test todo) registers) registers) (next_of kinds k registers) registers registers
-                (enters body (a + 1) g o (to_state a) (to_state a) again (next (at test todo) registers) registers here (at_state a (placed test o (loop_way flag body a g w) todo) registers first)) (d registers),
+            λ registers. by_test (flag_holds registers flag) (way_in body (a + 1) g (to_state a)) w (enter body again (plan_next (at test todo) registers) registers) (plan_next_of kinds k registers) registers registers
+                (enters body (a + 1) g o (to_state a) (to_state a) again (plan_next (at test todo) registers) registers here (at_state a (placed test o (loop_way flag body a g w) todo) registers first)) (d registers),
             inside_do.0,
           ),
           inside_do.1,
@@ -323,8 +323,8 @@ module _ (kinds : List Kind) (ps : List Placed) (fs : List Forked) where
         ) in
         let both = two_do (states chosen (a + 1) g o w k) (states other b c o w k) (groups chosen (a + 1) g o w k) (groups other b c o w k) (nodes_do chosen (a + 1) g o w k here d) (nodes_do other b c o w k there d) in (
           (
-            λ registers. by_test (flag_holds registers flag) (way_in chosen (a + 1) g w) (way_in other b c w) (enter chosen k (next_of kinds k registers) registers) (enter other k (next_of kinds k registers) registers) registers registers
-                (enters chosen (a + 1) g o w w k (next_of kinds k registers) registers here (d registers)) (enters other b c o w w k (next_of kinds k registers) registers there (d registers)),
+            λ registers. by_test (flag_holds registers flag) (way_in chosen (a + 1) g w) (way_in other b c w) (enter chosen k (plan_next_of kinds k registers) registers) (enter other k (plan_next_of kinds k registers) registers) registers registers
+                (enters chosen (a + 1) g o w w k (plan_next_of kinds k registers) registers here (d registers)) (enters other b c o w w k (plan_next_of kinds k registers) registers there (d registers)),
             both.0,
           ),
           both.1,

@@ -7,8 +7,9 @@ use Rattle.dh_plan.specs.declared.graphs.Decision.{Decision}
 use Rattle.dh_plan.specs.declared.graphs.Decision.TheVariants.{Go, Test', Count', Fork, Rest}
 use Rattle.dh_plan.specs.declared.graphs.Group.{Group}
 use Rattle.dh_plan.specs.PlainPlans.{PlainPlan}
-use Rattle.dh_plan.specs.SeenGraphs.{HasFirst, OfFirst, IsWay, AreWays, IsJoin, numbers_from, way_count, WayWithin, WaysWithin, StaysInGroup, BeginsGroups}
-use Rattle.dh_plan.specs.Ways.{Way, to_state, by_flag, by_count, to_fork, to_end, AllWays, no_ways, way_then}
+use Rattle.dh_plan.specs.SeenGraphs.{HasFirst, OfFirst, IsWay, AreWays, IsJoin, way_count, WayWithin, WaysWithin, StaysInGroup, BeginsGroups}
+use Rattle.dh_ways.specs.HiddenVariables.{numbers_from}
+use Rattle.dh_plan.specs.Ways.{GraphWay, to_state, by_flag, by_count, to_fork, to_end, AllWays, no_ways, way_then}
 use Rattle.dh_flow.specs.PlainFlows.{Placed, Forked}
 use Rattle.dh_flow.specs.ToldWays.{Told, told_go, told_test, told_count, told_fork, told_rest, decision_told, told, groups_told, group_told, forked_told}
 use Rattle.dh_flow.proofs.WaysStay.{SomeWays, BeginsAs, IsIn, IsGood, AreGood}
@@ -58,7 +59,7 @@ matches_at f v xs ys i x e at =
 module _ (plan : PlainPlan) (ps : List Placed) (fs : List Forked) where
   -- Good ways lead to what is there.
   mutual
-    pub good_within : (w : Way) (o n : ℕ) → length ps ≡ n → IsGood plan ps fs o w → WayWithin n (length plan.registers) w
+    pub good_within : (w : GraphWay) (o n : ℕ) → length ps ≡ n → IsGood plan ps fs o w → WayWithin n (length plan.registers) w
     good_within (to_state s) o n l good = subst (λ (m : ℕ). s < m) l (slice_get_within ps s good.state good.there)
     good_within (by_flag f w v) o n l good = (good.0, (good_within w o n l good.1.0, good_within v o n l good.1.1))
     good_within (by_count c last w v) o n l good = (good.0, (good_within w o n l good.1.0, good_within v o n l good.1.1))
@@ -74,11 +75,11 @@ module _ (plan : PlainPlan) (ps : List Placed) (fs : List Forked) where
     home_at : (o s : ℕ) → IsIn plan ps fs o s → slice_get homes s ≡ Some o
     home_at o s is = ap (λ l. slice_get l s) homes_are ∙ (slice_get-map (λ p. p.home) ps s ∙ (ap (λ x. option_map (λ p. p.home) x) is.there ∙ ap (λ n. Some n) is.home))
 
-    parent_at : (o g : ℕ) (w : Way) → BeginsAs plan ps fs o g w → slice_get parents g ≡ Some (Some o)
+    parent_at : (o g : ℕ) (w : GraphWay) → BeginsAs plan ps fs o g w → slice_get parents g ≡ Some (Some o)
     parent_at o g w is = ap (λ l. slice_get l g) parents_are ∙ (slice_get-map (λ f. f.parent) fs g ∙ (ap (λ x. option_map (λ f. f.parent) x) is.there ∙ ap (λ n. Some n) is.parent))
 
     mutual
-      pub good_stays : (w : Way) (o : ℕ) → IsGood plan ps fs o w → StaysInGroup homes parents o w
+      pub good_stays : (w : GraphWay) (o : ℕ) → IsGood plan ps fs o w → StaysInGroup homes parents o w
       good_stays (to_state s) o good = home_at o s good
       good_stays (by_flag f w v) o good = (good_stays w o good.1.0, good_stays v o good.1.1)
       good_stays (by_count c last w v) o good = (good_stays w o good.1.0, good_stays v o good.1.1)
@@ -94,7 +95,7 @@ module _ (plan : PlainPlan) (ps : List Placed) (fs : List Forked) where
     mutual
       unfolding IsWay decision_told
 
-      pub is_way : (d : Decision) (w : Way) (o : ℕ) → decision_told d ≡ told w → IsGood plan ps fs o w → IsWay gs d w
+      pub is_way : (d : Decision) (w : GraphWay) (o : ℕ) → decision_told d ≡ told w → IsGood plan ps fs o w → IsWay gs d w
       is_way (Go state) (to_state s) o e good = let f : told_go state ≡ told_go s = e in cc
       is_way (Go state) (by_flag f w v) o e good = let f : told_go state ≡ told_test f (told w) (told v) = e in absurd (cc)
       is_way (Go state) (by_count c l w v) o e good = let f : told_go state ≡ told_count c l (told w) (told v) = e in absurd (cc)
@@ -133,7 +134,7 @@ module _ (plan : PlainPlan) (ps : List Placed) (fs : List Forked) where
           let same : decision_told found.item.first ≡ told w = sym (ap (λ t. t.first) found.same) ∙ ap told good.0.first in
           (subst (λ x. OfFirst x (λ d. IsWay gs d w)) (sym found.there) (is_way found.item.first w g same good.1.0), ways_are ws o (suc g) good.1.1)
 
-    pub is_join : (after : Option Decision) (join : Option Way) (o : ℕ) → option_map decision_told after ≡ option_map told join → ((w : Way) → join ≡ Some w → IsGood plan ps fs o w) → IsJoin gs after join
+    pub is_join : (after : Option Decision) (join : Option GraphWay) (o : ℕ) → option_map decision_told after ≡ option_map told join → ((w : GraphWay) → join ≡ Some w → IsGood plan ps fs o w) → IsJoin gs after join
     is_join None None o e good = tt
     is_join None (Some w) o e good = let f : None ≡ Some (told w) = e in absurd (cc)
     is_join (Some d) None o e good = let f : Some (decision_told d) ≡ None = e in absurd (cc)

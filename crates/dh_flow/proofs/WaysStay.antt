@@ -8,8 +8,8 @@ use Rattle.std.specs.List.{AllByRecursion}
 use Rattle.std.proofs.lemmas.Option.{slice_get_within}
 use Rattle.dh_plan.specs.PlainPlans.{Node, block_node, turns_node, loop_node, choice_node, threads_node, Nodes, no_nodes, node_then, NodeLists, no_lists, list_then, PlainPlan}
 use Rattle.dh_plan.specs.PlanKinds.{Names}
-use Rattle.dh_plan.specs.PlanRuns.{Todo, over, nodes_then, turn_then, test_then, again_then, pick_then}
-use Rattle.dh_plan.specs.Ways.{Way, to_state, by_flag, by_count, to_fork, to_end, AllWays, no_ways, way_then}
+use Rattle.dh_plan.specs.PlanRuns.{PlanTodo, over, nodes_then, turn_then, test_then, again_then, pick_then}
+use Rattle.dh_plan.specs.Ways.{GraphWay, to_state, by_flag, by_count, to_fork, to_end, AllWays, no_ways, way_then}
 use Rattle.dh_flow.specs.declared.measuring.Entry.{Entry}
 use Rattle.dh_flow.specs.declared.measuring.Entry.TheVariants.{Nothing, State, Threads}
 use Rattle.dh_flow.specs.Footprints.{states_in, states_of, list_states, groups_in, groups_of, list_groups, list_count, entry_of, node_entry, lists_entry}
@@ -26,7 +26,7 @@ some_ways : (lists : NodeLists) (a g : ℕ) → Begins (lists_entry lists) → S
 some_ways no_lists a g is = absurd is
 some_ways (list_then ns lists) a g is = tt
 
-begun_whole : (e : Entry) (lists : NodeLists) (a g o : ℕ) (join : Option Way) (k : Todo) → Begins e → begun_if e lists a g o join k ≡ begun lists a g o join k
+begun_whole : (e : Entry) (lists : NodeLists) (a g o : ℕ) (join : Option GraphWay) (k : PlanTodo) → Begins e → begun_if e lists a g o join k ≡ begun lists a g o join k
 begun_whole Nothing lists a g o join k is = absurd is
 begun_whole State lists a g o join k is = refl
 begun_whole (Threads nested count) lists a g o join k is = refl
@@ -43,7 +43,7 @@ no_more m n e = omega (arith, e)
 
 module _ (plan : PlainPlan) (ps : List Placed) (fs : List Forked) where
   -- the group of this number has this parent, and begins so
-  pub record BeginsAs (o g : ℕ) (w : Way) : Type 0 where
+  pub record BeginsAs (o g : ℕ) (w : GraphWay) : Type 0 where
     pub group : Forked
     pub there : slice_get fs g ≡ Some group
     pub parent : group.parent ≡ Some o
@@ -56,7 +56,7 @@ module _ (plan : PlainPlan) (ps : List Placed) (fs : List Forked) where
     pub home : state.home ≡ o
 
   abbrev mutual
-    pub IsGood : (o : ℕ) → Way → Type 0
+    pub IsGood : (o : ℕ) → GraphWay → Type 0
     IsGood o (to_state s) = IsIn o s
     IsGood o (by_flag flag w v) = Names plan.registers flag × (IsGood o w × IsGood o v)
     IsGood o (by_count counter last w v) = Names plan.registers counter × (IsGood o w × IsGood o v)
@@ -67,27 +67,27 @@ module _ (plan : PlainPlan) (ps : List Placed) (fs : List Forked) where
     AreGood o g no_ways = Unit {0}
     AreGood o g (way_then w ws) = BeginsAs o g w × (IsGood g w × AreGood o (suc g) ws)
 
-  here_threads : (lists : NodeLists) (a g o : ℕ) (v : Way) (k : Todo) → HereNode plan.registers ps fs (threads_node lists) a g o v k → HereLists plan.registers ps fs lists a g (g + list_groups lists)
+  here_threads : (lists : NodeLists) (a g o : ℕ) (v : GraphWay) (k : PlanTodo) → HereNode plan.registers ps fs (threads_node lists) a g o v k → HereLists plan.registers ps fs lists a g (g + list_groups lists)
   here_threads lists a g o v k h = (h.0, sits_front (list_forked lists a g (g + list_groups lists)) (begun_if (lists_entry lists) lists a g o (Some v) k) fs g h.1)
 
-  own_sit : (lists : NodeLists) (a g o : ℕ) (v : Way) (k : Todo) → Begins (lists_entry lists) → HereNode plan.registers ps fs (threads_node lists) a g o v k → Sits (begun lists a g o (Some v) k) fs (g + list_groups lists)
+  own_sit : (lists : NodeLists) (a g o : ℕ) (v : GraphWay) (k : PlanTodo) → Begins (lists_entry lists) → HereNode plan.registers ps fs (threads_node lists) a g o v k → Sits (begun lists a g o (Some v) k) fs (g + list_groups lists)
   own_sit lists a g o v k begins h =
       let c = g + list_groups lists in
       let sit = sits_back (list_forked lists a g c) (begun_if (lists_entry lists) lists a g o (Some v) k) fs g c (list_groups lists) (nested_length lists a g c) refl h.1 in
       subst (λ xs. Sits xs fs c) (begun_whole (lists_entry lists) lists a g o (Some v) k begins) sit
 
-  good_by : (e : Entry) (o : ℕ) (x y : Way) → (Begins e → IsGood o x) → (e ≡ Nothing → IsGood o y) → IsGood o (way_or e x y)
+  good_by : (e : Entry) (o : ℕ) (x y : GraphWay) → (Begins e → IsGood o x) → (e ≡ Nothing → IsGood o y) → IsGood o (way_or e x y)
   good_by Nothing o x y one two = two refl
   good_by State o x y one two = one tt
   good_by (Threads nested count) o x y one two = one tt
 
-  turns_good : (b : Bool) (e : Entry) (xs : List Placed) (ys : List Forked) (a g o : ℕ) (w : Way) → (Sits xs ps a × Sits ys fs g → IsGood o w)
+  turns_good : (b : Bool) (e : Entry) (xs : List Placed) (ys : List Forked) (a g o : ℕ) (w : GraphWay) → (Sits xs ps a × Sits ys fs g → IsGood o w)
       → Begins (if b then Nothing else e) → Sits (if b then [] else xs) ps a × Sits (if b then [] else ys) fs g → IsGood o w
   turns_good true e xs ys a g o w so is h = absurd is
   turns_good false e xs ys a g o w so is h = so h
 
   mutual
-    pub way_good : (ns : Nodes) (a g o : ℕ) (w v : Way) (k : Todo) → Here plan.registers ps fs ns a g o v k → IsGood o w → IsGood o (way_in ns a g w)
+    pub way_good : (ns : Nodes) (a g o : ℕ) (w v : GraphWay) (k : PlanTodo) → Here plan.registers ps fs ns a g o v k → IsGood o w → IsGood o (way_in ns a g w)
     way_good no_nodes a g o w v k h past = past
     way_good (node_then n ns) a g o w v k h past =
         let a' = a + states_of n in
@@ -101,7 +101,7 @@ module _ (plan : PlainPlan) (ps : List Placed) (fs : List Forked) where
         subst (λ (y : ℕ). IsGood o (way_in ns a y w)) same_g (subst (λ (x : ℕ). IsGood o (way_in ns x g' w)) same_a
         (way_good ns a' g' o w v k (here_rest plan.registers ps fs n ns a g o v k h) past)))
 
-    node_good : (n : Node) (a g o : ℕ) (v : Way) (k : Todo) → Begins (node_entry n) → HereNode plan.registers ps fs n a g o v k → IsGood o (way_in_node n a g)
+    node_good : (n : Node) (a g o : ℕ) (v : GraphWay) (k : PlanTodo) → Begins (node_entry n) → HereNode plan.registers ps fs n a g o v k → IsGood o (way_in_node n a g)
     node_good (block_node block) a g o v k is h = record { state = placed block o v k; there = sits_first _ [] ps a h.0; home = refl }
     node_good (turns_node counter turns body) a g o v k is h =
         let w = turn_way counter turns body a g v in
@@ -120,7 +120,7 @@ module _ (plan : PlainPlan) (ps : List Placed) (fs : List Forked) where
         let begins = fork_begins (lists_entry lists) (list_groups lists) (list_count lists) is in
         (some_ways lists a g begins, lists_good lists a g o c (Some v) k (here_threads lists a g o v k h) (own_sit lists a g o v k begins h))
 
-    lists_good : (lists : NodeLists) (a g o c : ℕ) (join : Option Way) (k : Todo) → HereLists plan.registers ps fs lists a g c → Sits (begun lists a g o join k) fs c → AreGood o c (ways_in lists a g)
+    lists_good : (lists : NodeLists) (a g o c : ℕ) (join : Option GraphWay) (k : PlanTodo) → HereLists plan.registers ps fs lists a g c → Sits (begun lists a g o join k) fs c → AreGood o c (ways_in lists a g)
     lists_good no_lists a g o c join k h own = tt
     lists_good (list_then ns lists) a g o c join k h own =
         let a' = a + states_in ns in
@@ -137,7 +137,7 @@ module _ (plan : PlainPlan) (ps : List Placed) (fs : List Forked) where
     pub home : Names fs p.home
     pub way : IsGood p.home p.way
 
-  abbrev pub JoinStays : (parent : Option ℕ) → (join : Option Way) → Type 0
+  abbrev pub JoinStays : (parent : Option ℕ) → (join : Option GraphWay) → Type 0
   JoinStays parent None = Unit {0}
   JoinStays None (Some w) = ⊥
   JoinStays (Some o) (Some w) = IsGood o w
@@ -161,11 +161,11 @@ module _ (plan : PlainPlan) (ps : List Placed) (fs : List Forked) where
   stay_by true xs ys a g so h = (tt, tt)
   stay_by false xs ys a g so h = so h
 
-  begun_stay : (lists : NodeLists) (a g o : ℕ) (join : Option Way) (k : Todo) → Names fs o → JoinStays (Some o) join → AllByRecursion GroupStays (begun lists a g o join k)
+  begun_stay : (lists : NodeLists) (a g o : ℕ) (join : Option GraphWay) (k : PlanTodo) → Names fs o → JoinStays (Some o) join → AllByRecursion GroupStays (begun lists a g o join k)
   begun_stay no_lists a g o join k within j = tt
   begun_stay (list_then ns lists) a g o join k within j = (record { parent = within; join = j }, begun_stay lists (a + states_in ns) (g + groups_in ns) o None over within tt)
 
-  own_stay : (lists : NodeLists) (a g o : ℕ) (w : Way) (k : Todo) → Begins (lists_entry lists) → Names fs o → IsGood o w
+  own_stay : (lists : NodeLists) (a g o : ℕ) (w : GraphWay) (k : PlanTodo) → Begins (lists_entry lists) → Names fs o → IsGood o w
       → (Begins (lists_entry lists) → AllStay (list_placed lists a g (g + list_groups lists)) (list_forked lists a g (g + list_groups lists)))
       → AllStay (list_placed lists a g (g + list_groups lists)) (list_forked lists a g (g + list_groups lists) ++ begun_if (lists_entry lists) lists a g o (Some w) k)
   own_stay lists a g o w k begins within past so =
@@ -173,7 +173,7 @@ module _ (plan : PlainPlan) (ps : List Placed) (fs : List Forked) where
       let own = subst (λ ys. AllByRecursion GroupStays ys) (sym (begun_whole (lists_entry lists) lists a g o (Some w) k begins)) (begun_stay lists a g o (Some w) k within past) in
       (inner.0, all_put GroupStays (list_forked lists a g (g + list_groups lists)) (begun_if (lists_entry lists) lists a g o (Some w) k) inner.1 own)
 
-  threads_stay : (lists : NodeLists) (e : Entry) (a g o : ℕ) (w : Way) (k : Todo) → lists_entry lists ≡ e → HereNode plan.registers ps fs (threads_node lists) a g o w k → Names fs o → IsGood o w
+  threads_stay : (lists : NodeLists) (e : Entry) (a g o : ℕ) (w : GraphWay) (k : PlanTodo) → lists_entry lists ≡ e → HereNode plan.registers ps fs (threads_node lists) a g o w k → Names fs o → IsGood o w
       → (Begins (lists_entry lists) → AllStay (list_placed lists a g (g + list_groups lists)) (list_forked lists a g (g + list_groups lists)))
       → AllStay (list_placed lists a g (g + list_groups lists)) (list_forked lists a g (g + list_groups lists) ++ begun_if (lists_entry lists) lists a g o (Some w) k)
   threads_stay lists Nothing a g o w k is h within past so =
@@ -187,7 +187,7 @@ module _ (plan : PlainPlan) (ps : List Placed) (fs : List Forked) where
   threads_stay lists (Threads nested count) a g o w k is h within past so = own_stay lists a g o w k (subst (λ (e : Entry). Begins e) (sym is) tt) within past so
 
   mutual
-    pub nodes_stay : (ns : Nodes) (a g o : ℕ) (w : Way) (k : Todo) → PartsAre plan ns → Here plan.registers ps fs ns a g o w k → Names fs o → IsGood o w → AllStay (states ns a g o w k) (groups ns a g o w k)
+    pub nodes_stay : (ns : Nodes) (a g o : ℕ) (w : GraphWay) (k : PlanTodo) → PartsAre plan ns → Here plan.registers ps fs ns a g o w k → Names fs o → IsGood o w → AllStay (states ns a g o w k) (groups ns a g o w k)
     nodes_stay no_nodes a g o w k parts h within past = (tt, tt)
     nodes_stay (node_then n ns) a g o w k parts h within past =
         let a' = a + states_of n in
@@ -197,7 +197,7 @@ module _ (plan : PlainPlan) (ps : List Placed) (fs : List Forked) where
         (node_stays n a g o (way_in ns a' g' w) (nodes_then ns k) parts.0 (here_first plan.registers ps fs n ns a g o w k h) within (way_good ns a' g' o w w k rest past))
         (nodes_stay ns a' g' o w k parts.1 rest within past)
 
-    node_stays : (n : Node) (a g o : ℕ) (w : Way) (k : Todo) → NodeParts plan n → HereNode plan.registers ps fs n a g o w k → Names fs o → IsGood o w → AllStay (node_placed n a g o w k) (node_forked n a g o w k)
+    node_stays : (n : Node) (a g o : ℕ) (w : GraphWay) (k : PlanTodo) → NodeParts plan n → HereNode plan.registers ps fs n a g o w k → Names fs o → IsGood o w → AllStay (node_placed n a g o w k) (node_forked n a g o w k)
     node_stays (block_node block) a g o w k parts h within past = ((record { block = parts; home = within; way = past }, tt), tt)
     node_stays (turns_node counter turns body) a g o w k parts h within past =
         let v = turn_way counter turns body a g w in
@@ -231,7 +231,7 @@ module _ (plan : PlainPlan) (ps : List Placed) (fs : List Forked) where
         threads_stay lists (lists_entry lists) a g o w k refl h within past
         (λ begins. lists_stay lists a g o (g + list_groups lists) (Some w) k parts (here_threads lists a g o w k h) (own_sit lists a g o w k begins h))
 
-    lists_stay : (lists : NodeLists) (a g o c : ℕ) (join : Option Way) (k : Todo) → ListParts plan lists → HereLists plan.registers ps fs lists a g c → Sits (begun lists a g o join k) fs c → AllStay (list_placed lists a g c) (list_forked lists a g c)
+    lists_stay : (lists : NodeLists) (a g o c : ℕ) (join : Option GraphWay) (k : PlanTodo) → ListParts plan lists → HereLists plan.registers ps fs lists a g c → Sits (begun lists a g o join k) fs c → AllStay (list_placed lists a g c) (list_forked lists a g c)
     lists_stay no_lists a g o c join k parts h own = (tt, tt)
     lists_stay (list_then ns lists) a g o c join k parts h own =
         let a' = a + states_in ns in

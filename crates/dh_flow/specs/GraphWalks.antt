@@ -8,9 +8,9 @@ use Rattle.dh_plan.specs.declared.graphs.Graph.{Graph}
 use Rattle.dh_plan.specs.declared.graphs.Group.{Group}
 use Rattle.dh_plan.specs.declared.plans.Node as code
 use Rattle.dh_plan.specs.PlainPlans.{Node, Nodes, node_then, NodeLists}
-use Rattle.dh_plan.specs.PlanRuns.{Todo, nodes_then}
+use Rattle.dh_plan.specs.PlanRuns.{PlanTodo, nodes_then}
 use Rattle.dh_plan.specs.SeenPlans.{node_seen, nodes_seen}
-use Rattle.dh_plan.specs.Ways.{Way}
+use Rattle.dh_plan.specs.Ways.{GraphWay}
 use Rattle.dh_flow.specs.declared.measuring.Entry.{Entry}
 use Rattle.dh_flow.specs.declared.measuring.Entry.TheVariants.{Nothing, State, Threads}
 use Rattle.dh_flow.specs.declared.measuring.NodeMark.{NodeMark}
@@ -83,19 +83,19 @@ pub record Walked (below new : List NodeMark) (ps : List Placed) (fs : List Fork
   pub grows : Grows ps fs g h
 
 pub record Walks (ns : Nodes) (own : ℕ) (way : Told) (old new : List NodeMark) (g h : Graph) : Type 0 where
-  pub so : (below : List NodeMark) (w : Way) (k : Todo) → old ≡ below ++ marks_of ns → way ≡ told w → Room g (states_in ns) (groups_in ns)
+  pub so : (below : List NodeMark) (w : GraphWay) (k : PlanTodo) → old ≡ below ++ marks_of ns → way ≡ told w → Room g (states_in ns) (groups_in ns)
       → Walked below new (states ns (states_at g) (groups_at g) own w k) (groups ns (states_at g) (groups_at g) own w k) g h
 
 -- the first of nodes, behind which comes the way into the rest
 pub record WalksNext (n : Node) (own : ℕ) (way : Told) (old new : List NodeMark) (g h : Graph) : Type 0 where
-  pub so : (ns : Nodes) (below : List NodeMark) (w : Way) (k : Todo) → old ≡ below ++ marks_of (node_then n ns) → way ≡ told w → Room g (states_in (node_then n ns)) (groups_in (node_then n ns))
+  pub so : (ns : Nodes) (below : List NodeMark) (w : GraphWay) (k : PlanTodo) → old ≡ below ++ marks_of (node_then n ns) → way ≡ told w → Room g (states_in (node_then n ns)) (groups_in (node_then n ns))
       → Walked (below ++ marks_of ns) new
       (node_placed n (states_at g) (groups_at g) own (way_in ns (states_at g + states_of n) (groups_at g + groups_of n) w) (nodes_then ns k))
       (node_forked n (states_at g) (groups_at g) own (way_in ns (states_at g + states_of n) (groups_at g + groups_of n) w) (nodes_then ns k)) g h
 
 -- a node, whose mark was taken up
 pub record WalksNode (n : Node) (own : ℕ) (m : NodeMark) (way : Told) (old new : List NodeMark) (g h : Graph) : Type 0 where
-  pub so : (e : Entry) (below : List NodeMark) (w : Way) (k : Todo) → m ≡ told_behind (node_mark n) e → old ≡ below ++ inner_marks n → way ≡ told w → Room g (states_of n) (groups_of n)
+  pub so : (e : Entry) (below : List NodeMark) (w : GraphWay) (k : PlanTodo) → m ≡ told_behind (node_mark n) e → old ≡ below ++ inner_marks n → way ≡ told w → Room g (states_of n) (groups_of n)
       → Walked below new (node_placed n (states_at g) (groups_at g) own w k) (node_forked n (states_at g) (groups_at g) own w k) g h
 
 -- threads that begin have numbers from this one on
@@ -104,7 +104,7 @@ RoomFrom own lists = (lists_entry lists ≡ Nothing → ⊥) → own + list_coun
 
 -- threads of this parent: their states and nested groups, and besides their own groups
 pub record WalksLists (lists : NodeLists) (parent own : ℕ) (after : Option Told) (old new : List NodeMark) (g h : Graph) (made : List Group) : Type 0 where
-  pub so : (below : List NodeMark) (join : Option Way) (k : Todo) → old ≡ below ++ lists_marks lists → after ≡ option_map told join → Room g (list_states lists) (list_groups lists) → RoomFrom own lists
+  pub so : (below : List NodeMark) (join : Option GraphWay) (k : PlanTodo) → old ≡ below ++ lists_marks lists → after ≡ option_map told join → Room g (list_states lists) (list_groups lists) → RoomFrom own lists
       → Walked below new (list_placed lists (states_at g) (groups_at g) own) (list_forked lists (states_at g) (groups_at g) own) g h
       × (groups_told made ≡ map forked_told (begun lists (states_at g) (groups_at g) parent join k))
 

@@ -4,25 +4,25 @@
 -- Of threads `o` is the number of the first one's group.
 use Rattle.std.specs.Prelude.{ℕ, ◌+◌, ◌-◌, ◌==◌, if◌then◌else◌, List, [], ◌∷◌, ◌++◌, map, Option, Some, None}
 use Rattle.dh_plan.specs.PlainPlans.{Node, block_node, turns_node, loop_node, choice_node, threads_node, Nodes, no_nodes, node_then, NodeLists, no_lists, list_then}
-use Rattle.dh_plan.specs.PlanRuns.{Todo, over, nodes_then, turn_then, test_then, again_then, pick_then}
-use Rattle.dh_plan.specs.Ways.{Way, to_state, by_flag, by_count, to_fork, to_end, AllWays, no_ways, way_then, Stop, Flow}
+use Rattle.dh_plan.specs.PlanRuns.{PlanTodo, over, nodes_then, turn_then, test_then, again_then, pick_then}
+use Rattle.dh_plan.specs.Ways.{GraphWay, to_state, by_flag, by_count, to_fork, to_end, AllWays, no_ways, way_then, GraphStop, Flow}
 use Rattle.dh_flow.specs.declared.measuring.Entry.{Entry}
 use Rattle.dh_flow.specs.declared.measuring.Entry.TheVariants.{Nothing, State, Threads}
 use Rattle.dh_flow.specs.Footprints.{states_in, states_of, groups_in, groups_of, list_groups, node_entry, lists_entry}
 
 -- where nodes begin, or another way where they do no block
-abbrev pub way_or : Entry → (begins past : Way) → Way
+abbrev pub way_or : Entry → (begins past : GraphWay) → GraphWay
 way_or Nothing begins past = past
 way_or State begins past = begins
 way_or (Threads nested count) begins past = begins
 
 abbrev mutual
   -- the way into nodes, or past them
-  pub way_in : Nodes → (a g : ℕ) → (past : Way) → Way
+  pub way_in : Nodes → (a g : ℕ) → (past : GraphWay) → GraphWay
   way_in no_nodes a g past = past
   way_in (node_then n ns) a g past = way_or (node_entry n) (way_in_node n a g) (way_in ns a g past)
 
-  pub way_in_node : Node → (a g : ℕ) → Way
+  pub way_in_node : Node → (a g : ℕ) → GraphWay
   way_in_node (block_node block) a g = to_state a
   way_in_node (turns_node counter turns body) a g = way_in body a g to_end
   way_in_node (loop_node test flag body) a g = to_state a
@@ -38,41 +38,41 @@ abbrev mutual
 pub record Placed : Type 0 where
   pub block : ℕ
   pub home : ℕ
-  pub way : Way
-  pub behind : Todo
+  pub way : GraphWay
+  pub behind : PlanTodo
 
-abbrev pub placed : ℕ → (home : ℕ) → Way → Todo → Placed
+abbrev pub placed : ℕ → (home : ℕ) → GraphWay → PlanTodo → Placed
 placed block home way behind = record { block = block; home = home; way = way; behind = behind }
 
 -- a group: its parent, how it begins, and, of the first of a fork, where that goes on and what comes behind it
 pub record Forked : Type 0 where
   pub parent : Option ℕ
-  pub first : Way
-  pub join : Option Way
-  pub after : Todo
+  pub first : GraphWay
+  pub join : Option GraphWay
+  pub after : PlanTodo
 
-abbrev pub forked : (parent : Option ℕ) → Way → Option Way → Todo → Forked
+abbrev pub forked : (parent : Option ℕ) → GraphWay → Option GraphWay → PlanTodo → Forked
 forked parent first join after = record { parent = parent; first = first; join = join; after = after }
 
 -- the way behind the test of a loop, and of two arms
-abbrev pub loop_way : (flag : ℕ) → Nodes → (a g : ℕ) → Way → Way
+abbrev pub loop_way : (flag : ℕ) → Nodes → (a g : ℕ) → GraphWay → GraphWay
 loop_way flag body a g way = by_flag flag (way_in body (a + 1) g (to_state a)) way
 
-abbrev pub choice_way : (flag : ℕ) → (chosen other : Nodes) → (a g : ℕ) → Way → Way
+abbrev pub choice_way : (flag : ℕ) → (chosen other : Nodes) → (a g : ℕ) → GraphWay → GraphWay
 choice_way flag chosen other a g way = by_flag flag (way_in chosen (a + 1) g way) (way_in other (a + 1 + states_in chosen) (g + groups_in chosen) way)
 
 -- the way behind a turn
-abbrev pub turn_way : (counter turns : ℕ) → Nodes → (a g : ℕ) → Way → Way
+abbrev pub turn_way : (counter turns : ℕ) → Nodes → (a g : ℕ) → GraphWay → GraphWay
 turn_way counter turns body a g way = by_count counter (turns - 1) (way_in body a g to_end) way
 
 abbrev mutual
   -- the states of nodes
-  pub states : Nodes → (a g o : ℕ) → Way → Todo → List Placed
+  pub states : Nodes → (a g o : ℕ) → GraphWay → PlanTodo → List Placed
   states no_nodes a g o way k = []
   states (node_then n ns) a g o way k =
       node_placed n a g o (way_in ns (a + states_of n) (g + groups_of n) way) (nodes_then ns k) ++ states ns (a + states_of n) (g + groups_of n) o way k
 
-  pub node_placed : Node → (a g o : ℕ) → Way → Todo → List Placed
+  pub node_placed : Node → (a g o : ℕ) → GraphWay → PlanTodo → List Placed
   node_placed (block_node block) a g o way k = placed block o way k ∷ []
   node_placed (turns_node counter turns body) a g o way k =
       if turns == 0 then [] else states body a g o (turn_way counter turns body a g way) (turn_then counter turns body k)
@@ -88,23 +88,23 @@ abbrev mutual
   list_placed (list_then ns lists) a g o = states ns a g o to_end over ++ list_placed lists (a + states_in ns) (g + groups_in ns) (o + 1)
 
 -- the groups of threads that this group begins, where one of them does a block
-abbrev pub begun : NodeLists → (a g o : ℕ) → (join : Option Way) → (after : Todo) → List Forked
+abbrev pub begun : NodeLists → (a g o : ℕ) → (join : Option GraphWay) → (after : PlanTodo) → List Forked
 begun no_lists a g o join after = []
 begun (list_then ns lists) a g o join after = forked (Some o) (way_in ns a g to_end) join after ∷ begun lists (a + states_in ns) (g + groups_in ns) o None over
 
-abbrev pub begun_if : Entry → NodeLists → (a g o : ℕ) → (join : Option Way) → (after : Todo) → List Forked
+abbrev pub begun_if : Entry → NodeLists → (a g o : ℕ) → (join : Option GraphWay) → (after : PlanTodo) → List Forked
 begun_if Nothing lists a g o join after = []
 begun_if State lists a g o join after = begun lists a g o join after
 begun_if (Threads nested count) lists a g o join after = begun lists a g o join after
 
 abbrev mutual
   -- the groups of nodes; those nested in threads stand before the threads' own
-  pub groups : Nodes → (a g o : ℕ) → Way → Todo → List Forked
+  pub groups : Nodes → (a g o : ℕ) → GraphWay → PlanTodo → List Forked
   groups no_nodes a g o way k = []
   groups (node_then n ns) a g o way k =
       node_forked n a g o (way_in ns (a + states_of n) (g + groups_of n) way) (nodes_then ns k) ++ groups ns (a + states_of n) (g + groups_of n) o way k
 
-  pub node_forked : Node → (a g o : ℕ) → Way → Todo → List Forked
+  pub node_forked : Node → (a g o : ℕ) → GraphWay → PlanTodo → List Forked
   node_forked (block_node block) a g o way k = []
   node_forked (turns_node counter turns body) a g o way k =
       if turns == 0 then [] else groups body a g o (turn_way counter turns body a g way) (turn_then counter turns body k)
@@ -128,7 +128,7 @@ own_group body = forked None (way_in body 0 1 to_end) None over
 abbrev pub plan_groups : Nodes → List Forked
 plan_groups body = own_group body ∷ groups body 0 1 0 to_end over
 
-abbrev pub stop_of : Placed → Stop
+abbrev pub stop_of : Placed → GraphStop
 stop_of p = record { block = p.block; way = p.way }
 
 abbrev pub flow_of : Nodes → Flow

@@ -4,8 +4,9 @@ use Rattle.dh_plan.specs.declared.graphs.Decision.{Decision}
 use Rattle.dh_plan.specs.declared.graphs.Decision.TheVariants.{Go, Test', Count', Fork, Rest}
 use Rattle.dh_plan.specs.declared.graphs.Group.{Group}
 use Rattle.dh_plan.specs.declared.graphs.State as code
-use Rattle.dh_plan.specs.SeenGraphs.{numbers_from, way_count}
-use Rattle.dh_plan.specs.Ways.{Way, to_state, by_flag, by_count, to_fork, to_end}
+use Rattle.dh_plan.specs.SeenGraphs.{way_count}
+use Rattle.dh_ways.specs.HiddenVariables.{numbers_from}
+use Rattle.dh_plan.specs.Ways.{GraphWay, to_state, by_flag, by_count, to_fork, to_end}
 use Rattle.dh_flow.specs.declared.measuring.Entry.{Entry}
 use Rattle.dh_flow.specs.declared.measuring.Entry.TheVariants.{Nothing, State, Threads}
 use Rattle.dh_flow.specs.PlainFlows.{Placed, Forked}
@@ -26,7 +27,7 @@ decision_told (Fork groups) = told_fork groups.items
 decision_told Rest = told_rest
 
 -- what is told of a way: the groups of a fork stand side by side
-abbrev pub told : Way → Told
+abbrev pub told : GraphWay → Told
 told (to_state state) = told_go state
 told (by_flag flag w v) = told_test flag (told w) (told v)
 told (by_count counter last w v) = told_count counter last (told w) (told v)

@@ -16,9 +16,9 @@ use Rattle.dh_expressions.specs.declared.scenes.Lane.{Lane}
 use Rattle.dh_expressions.specs.declared.scenes.Scene.{Scene}
 use Rattle.dh_expressions.specs.Copying.{AreNone, HasScopes}
 use Rattle.dh_expressions.specs.Drafted.{Extends}
-use Rattle.dh_formed.specs.Formed.{Agrees, Block, Forms, HasKind, IsLaid, IsLaidCopy, IsNoted, IsScope, Site, Started}
+use Rattle.dh_formed.specs.Formed.{Agrees, FormedBlock, Forms, HasKind, IsLaid, IsLaidCopy, AreNotedReads, IsScope, BlockSite, Started}
 use Rattle.dh_expressions.specs.Noted.{Notes, given_in, given_to, noted_in, touched_in}
-use Rattle.dh_expressions.specs.Standings.{Standing, copy_places}
+use Rattle.dh_expressions.specs.Standings.{AccessStanding, copy_places}
 use Rattle.dh_expressions.specs.Touching.{AddsTouched, IsNew, TouchesAt}
 use Rattle.dh_expressions.proofs.AccessesKept.{named_extends, noted_given, noted_touched, place_noted}
 use Rattle.dh_formed.proofs.CopiesFormed.{AreGuards, FormsCopies, copies_forms, guard_later}
@@ -27,14 +27,14 @@ use Rattle.dh_formed.proofs.ValuesFormed.{faults_fewer, forms_again, forms_none,
 
 -- Operations are added.
 
-pub laid_later : (x : Block) (old new : Draft) (s : Standing) (t : Touched) → Extends old new → IsLaid x old s t → IsLaid x new s t
+pub laid_later : (x : FormedBlock) (old new : Draft) (s : AccessStanding) (t : Touched) → Extends old new → IsLaid x old s t → IsLaid x new s t
 laid_later x old new s t e h = record {
   fault = let f = faults_fewer old new e in let b = h.fault in omega (arith, f, b);
   long = h.long;
   each = λ path c at. let k = h.each path c at in record { leader_is = k.leader_is; bank_is = k.bank_is; place_is = k.place_is; guard = guard_later x old new c.guard e k.guard };
 }
 
-pub noted_later : (x : Block) (old new : Draft) (a : Accesses) → Extends old new → IsNoted x old a → IsNoted x new a
+pub noted_later : (x : FormedBlock) (old new : Draft) (a : Accesses) → Extends old new → AreNotedReads x old a → AreNotedReads x new a
 noted_later x old new a e h = record {
   given = λ number path value s site is. kind_later x old new _ value e (h.given number path value s site is);
   laid = λ number t s site is. laid_later x old new s.standing t e (h.laid number t s site is);
@@ -42,7 +42,7 @@ noted_later x old new a e h = record {
   none = h.none;
 }
 
-pub scope_later : (x : Block) (old new : Draft) (scene : Scene) (lane : Lane) (current : List (Option ℕ)) → Extends old new → IsScope x old scene lane current → IsScope x new scene lane current
+pub scope_later : (x : FormedBlock) (old new : Draft) (scene : Scene) (lane : Lane) (current : List (Option ℕ)) → Extends old new → IsScope x old scene lane current → IsScope x new scene lane current
 scope_later x old new scene lane current e h = record {
   guards = λ path guard at. guard_later x old new guard e (h.guards path guard at);
   given = λ register value at. kind_later x old new _ value e (h.given register value at);
@@ -54,13 +54,13 @@ scope_later x old new scene lane current e h = record {
 
 -- An access gets its copies.
 
-pub record FormsTouch (x : Block) (old new : Draft) (after : Accesses) (s : Standing) (number : ℕ) : Type 0 where
+pub record FormsTouch (x : FormedBlock) (old new : Draft) (after : Accesses) (s : AccessStanding) (number : ℕ) : Type 0 where
   pub forms : Forms x old new
-  pub notes : IsNoted x new after
+  pub notes : AreNotedReads x new after
   pub touched : Touched
   pub there : touched_in after number ≡ Some touched
 
-module _ (x : Block) (scene : Scene) (around : Around) (s : Standing) (old new : Draft) (before after : Accesses) (number : ℕ)
+module _ (x : FormedBlock) (scene : Scene) (around : Around) (s : AccessStanding) (old new : Draft) (before after : Accesses) (number : ℕ)
     (low : (p : ℕ) → s.leader p ≤ p) (few : length s.guards < 2 ^ 64) (scopes : HasScopes scene) (flat : length around.levels.now < 2 ^ 63)
     (t : TouchesAt scene around s old new before after number) (agrees : Agrees x new) (started : Started x old) (guards : AreGuards x old s.guards) where
   -- of a new one all is formed, and it is laid
@@ -124,7 +124,7 @@ module _ (x : Block) (scene : Scene) (around : Around) (s : Standing) (old new :
       by None e is = absurd (cc)
       by (Some u) e is = ⊎_elim (λ old. ap (λ p. given_to p path) old ∙ is) (λ fresh. absurd (lost path (sym (ap (λ g. slice_get g path) fresh.none) ∙ is))) (t.known m u e)
 
-  pub touch_notes : (memory : ℕ) → x.sites number ≡ Some (record { memory = memory; standing = s }) → IsNoted x old before → FormsTouch x old new after s number
+  pub touch_notes : (memory : ℕ) → x.sites number ≡ Some (record { memory = memory; standing = s }) → AreNotedReads x old before → FormsTouch x old new after s number
   touch_notes memory site h = record {
     forms = touch_forms;
     notes = record {
@@ -137,14 +137,14 @@ module _ (x : Block) (scene : Scene) (around : Around) (s : Standing) (old new :
     there = (t.there (h.there number (record { memory = memory; standing = s }) site)).1;
   }
     where
-      laid_new : (m : ℕ) (u : Touched) (o : Site) → x.sites m ≡ Some o → IsNew old new scene around s number m u → IsLaid x new o.standing u
+      laid_new : (m : ℕ) (u : Touched) (o : BlockSite) → x.sites m ≡ Some o → IsNew old new scene around s number m u → IsLaid x new o.standing u
       laid_new m u o at fresh =
           let own : record { memory = memory; standing = s } ≡ o = some_same (record { memory = memory; standing = s }) o (sym site ∙ (ap x.sites (sym fresh.own) ∙ at)) in
-          subst (λ (w : Site). IsLaid x new w.standing u) own (new_laid u fresh.adds)
+          subst (λ (w : BlockSite). IsLaid x new w.standing u) own (new_laid u fresh.adds)
 
 -- A read has given a value.
-pub noted_notes : (x : Block) (d : Draft) (before after : Accesses) (number path value memory : ℕ) (s : Standing) → Notes before after number path value
-    → x.sites number ≡ Some (record { memory = memory; standing = s }) → HasKind x d (kind_in x.plan.table memory) value → IsNoted x d before → IsNoted x d after
+pub noted_notes : (x : FormedBlock) (d : Draft) (before after : Accesses) (number path value memory : ℕ) (s : AccessStanding) → Notes before after number path value
+    → x.sites number ≡ Some (record { memory = memory; standing = s }) → HasKind x d (kind_in x.plan.table memory) value → AreNotedReads x d before → AreNotedReads x d after
 noted_notes x d before after number path value memory s h site kind noted = record {
   given = λ m q n o at is. given_now m q n o at (place_noted before after number path value h m) is;
   laid = λ m u o at is. laid_now m u o at (place_noted before after number path value h m) is;
@@ -152,19 +152,19 @@ noted_notes x d before after number path value memory s h site kind noted = reco
   none = subst (λ (ns : List ℕ). AreNone ns) (sym h.counts) noted.none;
 }
   where
-    own_kind : (m : ℕ) (o : Site) → m ≡ number → x.sites m ≡ Some o → HasKind x d (kind_in x.plan.table o.memory) value
+    own_kind : (m : ℕ) (o : BlockSite) → m ≡ number → x.sites m ≡ Some o → HasKind x d (kind_in x.plan.table o.memory) value
     own_kind m o same at =
         let own : record { memory = memory; standing = s } ≡ o = some_same (record { memory = memory; standing = s }) o (sym site ∙ (ap x.sites (sym same) ∙ at)) in
-        subst (λ (w : Site). HasKind x d (kind_in x.plan.table w.memory) value) own kind
+        subst (λ (w : BlockSite). HasKind x d (kind_in x.plan.table w.memory) value) own kind
 
-    given_now : (m q n : ℕ) (o : Site) → x.sites m ≡ Some o → (touched_in after m ≡ touched_in before m) ⊎ ((m ≡ number) × (touched_in after m ≡ noted_in (touched_in before m) path value))
+    given_now : (m q n : ℕ) (o : BlockSite) → x.sites m ≡ Some o → (touched_in after m ≡ touched_in before m) ⊎ ((m ≡ number) × (touched_in after m ≡ noted_in (touched_in before m) path value))
         → given_in after m q ≡ Some n → HasKind x d (kind_in x.plan.table o.memory) n
     given_now m q n o at (inl same) is = noted.given m q n o at (ap (λ p. given_to p q) (sym same) ∙ is)
     given_now m q n o at (inr p) is =
         ⊎_elim (λ old. noted.given m q n o at old) (λ new. subst (λ (k : ℕ). HasKind x d (kind_in x.plan.table o.memory) k) (sym new.1) (own_kind m o p.0 at))
         (noted_given (touched_in before m) path value q n (ap (λ r. given_to r q) (sym p.1) ∙ is))
 
-    laid_now : (m : ℕ) (u : Touched) (o : Site) → x.sites m ≡ Some o → (touched_in after m ≡ touched_in before m) ⊎ ((m ≡ number) × (touched_in after m ≡ noted_in (touched_in before m) path value))
+    laid_now : (m : ℕ) (u : Touched) (o : BlockSite) → x.sites m ≡ Some o → (touched_in after m ≡ touched_in before m) ⊎ ((m ≡ number) × (touched_in after m ≡ noted_in (touched_in before m) path value))
         → touched_in after m ≡ Some u → IsLaid x d o.standing u
     laid_now m u o at (inl same) is = noted.laid m u o at (sym same ∙ is)
     laid_now m u o at (inr p) is =

@@ -12,7 +12,7 @@ use Rattle.dh_tree.specs.declared.tables.MemEntry.{MemEntry}
 use Rattle.dh_plan.specs.declared.operations.Operation.{Operation}
 use Rattle.dh_plan.specs.declared.operations.OperationForm.{OperationForm}
 use Rattle.dh_plan.specs.declared.operations.OperationForm.TheVariants.{Constant, Old, Compute, Convert, Select, Check, Probe, Read, Write, Set}
-use Rattle.dh_plan.specs.LegalSchedules.{block_clocks, greatest_of, last_clock, least_clocks, needed_clock, there_at, there_from, value_clock}
+use Rattle.dh_plan.specs.LegalSchedules.{block_clocks, greatest_number, last_clock, least_clocks, needed_clock, there_at, there_from, value_clock}
 use Rattle.dh_plan.specs.Ordered.{IsBetween, IsOrdered, TakesEarlier, form_takes, one_or_none, operation_takes}
 use Rattle.dh_plan.specs.PlainPlans.{PlainPlan, first_in, operations_in}
 use Rattle.dh_plan.specs.PlanKinds.{IsFormedBlock, form_kind, kind_of_value, kinds_behind, kinds_of}
@@ -20,9 +20,9 @@ use Rattle.dh_plan.proofs.LeastLegal.{map_same, needed_behind}
 use Rattle.dh_plan.proofs.ValuesAlike.{all_map}
 use Rattle.dh_expressions.specs.declared.drafts.Draft.{Draft}
 use Rattle.dh_expressions.proofs.ListPlaces.{place_within, some_same, there}
-use Rattle.dh_formed.specs.Formed.{Agrees, Forms, IsFormedAt, Site}
-use Rattle.dh_formed.specs.Timed.{AgreeInTime, Clocks, Within, clock_of}
-use Rattle.dh_formed.specs.WholeBlocks.{BlocksAgree, BlocksAgreeInTime, BlocksAreFormed, BlocksHaveLengths, IsCut, block_of, clocks_of, there_of}
+use Rattle.dh_formed.specs.Formed.{Agrees, Forms, IsFormedAt, BlockSite}
+use Rattle.dh_formed.specs.Timed.{AgreeInTime, BlockClocks, Within, clock_of}
+use Rattle.dh_formed.specs.WholeBlocks.{BlocksAgree, BlocksAgreeInTime, BlocksAreFormed, BlocksHaveLengths, IsCut, block_of, least_clocks_of, there_of}
 
 -- Places behind a list.
 
@@ -117,7 +117,7 @@ module _ (plan : PlainPlan) (block : ℕ) (old new : Draft) (cut : IsCut plan bl
   none_before : (k : ℕ) → k ≡ 0 + k
   none_before k = omega arith
 
-  agrees_whole : (sites : ℕ → Option Site) → Agrees (block_of plan block sites) new
+  agrees_whole : (sites : ℕ → Option BlockSite) → Agrees (block_of plan block sites) new
   agrees_whole sites = record {
     kinds = λ n o from at takes.
         ap (λ k. get_or (kinds_of plan block) k kind.Bool) (none_before (n - first_in plan block))
@@ -136,13 +136,13 @@ module _ (plan : PlainPlan) (block : ℕ) (old new : Draft) (cut : IsCut plan bl
       back : (f : ℕ) → f + i - f ≡ i
       back f = omega arith
 
-  formed_at : (sites : ℕ → Option Site) → Forms (block_of plan block sites) old new → (i : ℕ) (o : Operation) → slice_get (operations_in plan block) i ≡ Some o → IsFormedAt (block_of plan block sites) (first_in plan block + i) o
+  formed_at : (sites : ℕ → Option BlockSite) → Forms (block_of plan block sites) old new → (i : ℕ) (o : Operation) → slice_get (operations_in plan block) i ≡ Some o → IsFormedAt (block_of plan block sites) (first_in plan block + i) o
   formed_at sites f i o at = f.each (first_in plan block + i) o (far (first_in plan block) (length old.operations.items) cut.first) (place_of i o at)
     where
       far : (f l : ℕ) → f ≡ l → l ≤ f + i
       far f l e = omega (arith, e)
 
-  formed_whole : (sites : ℕ → Option Site) → Forms (block_of plan block sites) old new → IsFormedBlock plan block
+  formed_whole : (sites : ℕ → Option BlockSite) → Forms (block_of plan block sites) old new → IsFormedBlock plan block
   formed_whole sites f = record {
     ordered = record { each = λ i o at. (formed_at sites f i o at).takes };
     suits = λ i o at. (formed_at sites f i o at).suits;
@@ -175,7 +175,7 @@ there_at_place (p ∷ os) (c ∷ cs) (suc i) o less e = there_at_place os cs i o
     fewer : (i l : ℕ) → suc i < suc l → i < l
     fewer i l h = omega (arith, h)
 
-module _ (plan : PlainPlan) (block : ℕ) (sites : ℕ → Option Site) (reads outer : ℕ → ℕ) (old new : Draft) (cut : IsCut plan block old new) where
+module _ (plan : PlainPlan) (block : ℕ) (sites : ℕ → Option BlockSite) (reads outer : ℕ → ℕ) (old new : Draft) (cut : IsCut plan block old new) where
   abbrev os : List Operation
   os = operations_in plan block
 
@@ -185,8 +185,8 @@ module _ (plan : PlainPlan) (block : ℕ) (sites : ℕ → Option Site) (reads o
   abbrev cs : List ℕ
   cs = least_clocks first [] [] os
 
-  abbrev own : Clocks
-  own = clocks_of plan block sites reads outer
+  abbrev own : BlockClocks
+  own = least_clocks_of plan block sites reads outer
 
   all_long : length cs ≡ length os
   all_long = clocks_long first os [] [] ∙ none (length os)
@@ -213,10 +213,10 @@ module _ (plan : PlainPlan) (block : ℕ) (sites : ℕ → Option Site) (reads o
         clock_at (n - first) o here ∙ ap (λ k. there_at o.form k) (needed (n - first) o here);
   }
     where
-      needed : (i : ℕ) (o : Operation) → slice_get os i ≡ Some o → slice_index cs i ≡ greatest_of (map (clock_of own) (operation_takes o))
+      needed : (i : ℕ) (o : Operation) → slice_get os i ≡ Some o → slice_index cs i ≡ greatest_number (map (clock_of own) (operation_takes o))
       needed i o at =
           sym (subst (λ (k : ℕ). needed_clock first os cs o ≡ get_or cs k 0) (none i) (needed_behind first os [] [] refl (λ k p there. subst (λ (n : ℕ). TakesEarlier first (first + n) p) (sym (none k)) (ordered.each k p there)) i o at))
-          ∙ ap greatest_of (map_same (value_clock first os cs) (clock_of own) (operation_takes o)
+          ∙ ap greatest_number (map_same (value_clock first os cs) (clock_of own) (operation_takes o)
           (all_map (IsBetween first (first + i)) (λ n. value_clock first os cs n ≡ clock_of own n) (operation_takes o) (λ n b. value_is i n (let w = place_within os i o at in omega (arith, w)) b) (ordered.each i o at)))
         where
           none : (k : ℕ) → 0 + k ≡ k

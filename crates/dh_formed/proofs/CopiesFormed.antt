@@ -10,7 +10,7 @@ use Rattle.dh_expressions.specs.declared.copies.AccessAt.{AccessAt}
 use Rattle.dh_expressions.specs.declared.drafts.Draft.{Draft}
 use Rattle.dh_expressions.specs.Copying.{AddsCopies, AddsCopy, AddsEither, AddsLeader, AddsOther, JoinsLeader}
 use Rattle.dh_expressions.specs.Drafted.{Extends}
-use Rattle.dh_formed.specs.Formed.{Agrees, Block, Forms, FormsValue, HasKind, IsGuard, Started}
+use Rattle.dh_formed.specs.Formed.{Agrees, FormedBlock, Forms, FormsValue, HasKind, IsGuard, Started}
 use Rattle.dh_expressions.specs.Shown.{guard_of, guard_or_none}
 use Rattle.dh_expressions.proofs.CopiesMade.{guard_long, guard_place}
 use Rattle.dh_expressions.proofs.ListPlaces.{place_of_more, there}
@@ -19,15 +19,15 @@ use Rattle.dh_formed.proofs.ValuesFormed.{agrees_before, compute_forms, forms_ag
 
 -- Guards.
 
-pub guard_later : (x : Block) (old new : Draft) (guard : Option ℕ) → Extends old new → IsGuard x old guard → IsGuard x new guard
+pub guard_later : (x : FormedBlock) (old new : Draft) (guard : Option ℕ) → Extends old new → IsGuard x old guard → IsGuard x new guard
 guard_later x old new None e h = tt
 guard_later x old new (Some g) e h = kind_later x old new kind.Bool g e h
 
 -- guards of a list are truths of the block
-abbrev pub AreGuards : Block → Draft → List (Option ℕ) → Type 0
+abbrev pub AreGuards : FormedBlock → Draft → List (Option ℕ) → Type 0
 AreGuards x d guards = (path : ℕ) (guard : Option ℕ) → slice_get guards path ≡ Some guard → IsGuard x d guard
 
-pub guard_there : (x : Block) (d : Draft) (guards : List (Option ℕ)) (path : ℕ) → AreGuards x d guards → IsGuard x d (guard_of guards path)
+pub guard_there : (x : FormedBlock) (d : Draft) (guards : List (Option ℕ)) (path : ℕ) → AreGuards x d guards → IsGuard x d (guard_of guards path)
 guard_there x d guards path all = by (slice_get guards path) refl
   where
     by : (o : Option (Option ℕ)) → slice_get guards path ≡ o → IsGuard x d (guard_or_none o)
@@ -37,8 +37,8 @@ guard_there x d guards path all = by (slice_get guards path) refl
 -- a guard that is joined
 record FormsGuard (old new : Draft) (one other joined : Option ℕ) : Type 0 where
   extends : Extends old new
-  forms : (x : Block) → Agrees x new → Started x old → IsGuard x old one → IsGuard x old other → Forms x old new
-  gives : (x : Block) → Agrees x new → Started x old → IsGuard x old one → IsGuard x old other → IsGuard x new joined
+  forms : (x : FormedBlock) → Agrees x new → Started x old → IsGuard x old one → IsGuard x old other → Forms x old new
+  gives : (x : FormedBlock) → Agrees x new → Started x old → IsGuard x old one → IsGuard x old other → IsGuard x new joined
 
 either_forms : (old new : Draft) (one other joined : Option ℕ) → AddsEither old new one other joined → FormsGuard old new one other joined
 either_forms old new None other joined h = record {
@@ -68,8 +68,8 @@ module _ (leader bank place : ℕ → ℕ) (guards : List (Option ℕ)) (low : (
     pub leaders : (k : ℕ) (c : AccessAt) → slice_get copies k ≡ Some c → c.leader ≡ leader k
     pub banks : (k : ℕ) (c : AccessAt) → slice_get copies k ≡ Some c → c.bank ≡ bank k
     pub places : (k : ℕ) (c : AccessAt) → slice_get copies k ≡ Some c → c.place ≡ place k
-    pub forms : (x : Block) → Agrees x new → Started x old → AreGuards x old guards → Forms x old new
-    pub gives : (x : Block) → Agrees x new → Started x old → AreGuards x old guards → (k : ℕ) (c : AccessAt) → slice_get copies k ≡ Some c → IsGuard x new c.guard
+    pub forms : (x : FormedBlock) → Agrees x new → Started x old → AreGuards x old guards → Forms x old new
+    pub gives : (x : FormedBlock) → Agrees x new → Started x old → AreGuards x old guards → (k : ℕ) (c : AccessAt) → slice_get copies k ≡ Some c → IsGuard x new c.guard
 
   copies_none : (old new : Draft) (copies : List AccessAt) → new ≡ old → copies ≡ [] → FormsCopies 0 old new copies
   copies_none old new copies same none = record {
@@ -124,7 +124,7 @@ module _ (leader bank place : ℕ → ℕ) (guards : List (Option ℕ)) (low : (
           (each_now cs h.long (guard_of guards n) s.copies_are (λ k c. IsGuard x d c.guard) (h.gives x (before x a) st g) (guard_later x old d _ h.extends (guard_there x old guards n g)));
     }
       where
-        before : (x : Block) → Agrees x new → Agrees x d
+        before : (x : FormedBlock) → Agrees x new → Agrees x d
         before x a = subst (λ (k : Draft). Agrees x k) s.same a
 
     led_forms : AddsOther d new cs copies n (leader n) (bank n) (place n) (guard_of guards n) → FormsCopies (suc n) old new copies
@@ -144,7 +144,7 @@ module _ (leader bank place : ℕ → ℕ) (guards : List (Option ℕ)) (low : (
         j : JoinsLeader d new cs s.changed (leader n) (guard_of guards n)
         j = s.joins
 
-        before : (x : Block) → Agrees x new → Agrees x d
+        before : (x : FormedBlock) → Agrees x new → Agrees x d
         before x a = agrees_before x d new j.extends a
 
         changed_long : length s.changed ≡ n
@@ -162,10 +162,10 @@ module _ (leader bank place : ℕ → ℕ) (guards : List (Option ℕ)) (low : (
         join : FormsGuard d new led.0.guard (guard_of guards n) j.joined
         join = either_forms d new led.0.guard (guard_of guards n) j.joined (j.joins led.0 led.1).adds
 
-        leader_guard : (x : Block) → Agrees x new → Started x old → AreGuards x old guards → IsGuard x d led.0.guard
+        leader_guard : (x : FormedBlock) → Agrees x new → Started x old → AreGuards x old guards → IsGuard x d led.0.guard
         leader_guard x a st g = h.gives x (before x a) st g (leader n) led.0 led.1
 
-        own_guard : (x : Block) → AreGuards x old guards → IsGuard x d (guard_of guards n)
+        own_guard : (x : FormedBlock) → AreGuards x old guards → IsGuard x d (guard_of guards n)
         own_guard x g = guard_later x old d _ h.extends (guard_there x old guards n g)
 
         -- what holds of each copy, and of the leader with its guard joined, holds of each changed one

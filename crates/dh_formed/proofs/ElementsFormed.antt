@@ -21,13 +21,13 @@ use Rattle.dh_expressions.specs.declared.scenes.Lane.{Lane}
 use Rattle.dh_expressions.specs.declared.scenes.Scene.{Scene}
 use Rattle.dh_expressions.specs.Drafted.{Extends, Pushes}
 use Rattle.dh_expressions.specs.Evaluated.{lane_guard, source_at}
-use Rattle.dh_formed.specs.Formed.{AccessSuits, Agrees, AimSuits, Block, Forms, FormsPart, FormsTerm, HasKind, IsGuard, IsLaid, IsNoted, IsNumberThere, IsRowForm, IsScope, ReadSuits, RowSuits, SharesMemory, Started}
+use Rattle.dh_formed.specs.Formed.{AccessSuits, Agrees, AimSuits, FormedBlock, Forms, FormsPart, FormsTerm, HasKind, IsGuard, IsLaid, AreNotedReads, IsNumberThere, IsRowForm, IsScope, ReadSuits, RowSuits, SharesMemory, Started}
 use Rattle.dh_expressions.specs.MadeTerms.{MadeRead, MadeWrite}
 use Rattle.dh_expressions.specs.Named.{banks_told}
 use Rattle.dh_expressions.specs.Noted.{copied_in, copied_of, copy_or_alone, fault_in, fault_of_touched, given_by, touched_in}
 use Rattle.dh_expressions.specs.Numbers.{narrowed}
 use Rattle.dh_expressions.specs.Reaching.{Finds, copy_banks, place_written, reach_told}
-use Rattle.dh_expressions.specs.Standings.{Standing, copy_places, standing_at}
+use Rattle.dh_expressions.specs.Standings.{AccessStanding, copy_places, standing_at}
 use Rattle.dh_expressions.specs.Touching.{TouchesAt}
 use Rattle.dh_formed.proofs.AccessesFormed.{FormsTouch, noted_later, noted_notes, touch_notes}
 use Rattle.dh_formed.proofs.CopiesFormed.{guard_later, guard_there}
@@ -55,7 +55,7 @@ pub all_weaker : {A : Type 0} (P Q : A → Type 0) (xs : List A) → ((x : A) �
 all_weaker P Q [] so h = tt
 all_weaker P Q (x ∷ xs) so h = (so x h.0, all_weaker P Q xs so h.1)
 
-module _ (x : Block) where
+module _ (x : FormedBlock) where
   pub number_later : (old new : Draft) (n : ℕ) → Extends old new → IsNumberThere x old n → IsNumberThere x new n
   number_later old new n e (k, (whole, h)) = (k, (whole, kind_later x old new k n e h))
 
@@ -177,7 +177,7 @@ found_extends scene form d e memory aim copy (Some n) v h = subst (λ (k : Draft
 found_extends scene form d e memory aim copy None v h = pushed_extends d e v copy.guard _ h
 
 -- the access at this path, of those that are laid
-module _ (x : Block) (d : Draft) (a : Accesses) (s : Standing) (number path : ℕ) (t : Touched) (is : touched_in a number ≡ Some t) (laid : IsLaid x d s t) (within : path < length s.guards) where
+module _ (x : FormedBlock) (d : Draft) (a : Accesses) (s : AccessStanding) (number path : ℕ) (t : Touched) (is : touched_in a number ≡ Some t) (laid : IsLaid x d s t) (within : path < length s.guards) where
   found_copy : (c : AccessAt) × (slice_get t.copies path ≡ Some c)
   found_copy = there t.copies path (subst (λ (l : ℕ). path < l) (sym laid.long) within)
 
@@ -198,17 +198,17 @@ module _ (x : Block) (d : Draft) (a : Accesses) (s : Standing) (number path : �
 
 -- The parts of a read or a write.
 module _ (scene : Scene) (lane : Lane) (current : List (Option ℕ)) (access : plain.Term) (memory : ℕ) (aim : Aim) where
-  abbrev stands : (writes : Truth) → Standing
+  abbrev stands : (writes : Truth) → AccessStanding
   stands writes = standing_at scene lane.around memory (place_written access) (form_of access) writes
 
   low : (writes : Truth) (p : ℕ) → (stands writes).leader p ≤ p
   low writes p = omega arith
 
   -- what is read or written suits
-  abbrev pub WhereRead : Draft → (k : Kind) → Block → Type 0
+  abbrev pub WhereRead : Draft → (k : Kind) → FormedBlock → Type 0
   WhereRead d k x = AimSuits x d memory (form_of access) aim × ReadSuits x scene lane memory aim.number (place_written access) (form_of access) k
 
-  abbrev pub WhereWritten : Draft → (value : ℕ) → Block → Type 0
+  abbrev pub WhereWritten : Draft → (value : ℕ) → FormedBlock → Type 0
   WhereWritten d value x =
       (AimSuits x d memory (form_of access) aim × AccessSuits x scene lane memory aim.number (place_written access) (form_of access) true) × HasKind x d (kind_in x.plan.table memory) value
 
@@ -226,7 +226,7 @@ module _ (scene : Scene) (lane : Lane) (current : List (Option ℕ)) (access : p
     whole = extends_again old first new t.extends both
 
     -- in a block in which the access suits
-    module _ (x : Block) (agrees : Agrees x new) (started : Started x old) (scope : IsScope x old scene lane current) (noted : IsNoted x old before) (aimed : AimSuits x old memory (form_of access) aim)
+    module _ (x : FormedBlock) (agrees : Agrees x new) (started : Started x old) (scope : IsScope x old scene lane current) (noted : AreNotedReads x old before) (aimed : AimSuits x old memory (form_of access) aim)
         (suits : AccessSuits x scene lane memory aim.number (place_written access) (form_of access) writes) where
       agrees1 : Agrees x first
       agrees1 = agrees_before x first new both agrees
@@ -273,8 +273,8 @@ module _ (scene : Scene) (lane : Lane) (current : List (Option ℕ)) (access : p
       started2 = started_later x first second pushed (started_later x old first t.extends started)
 
   -- what a read gave before is a value of the block
-  source_kind : (x : Block) (d : Draft) (a : Accesses) (number path leader n : ℕ) (standing : Standing) → x.sites number ≡ Some (record { memory = memory; standing = standing })
-      → ((earlier : ℕ) → slice_get scene.shares.now number ≡ Some (Some earlier) → SharesMemory x memory earlier) → IsNoted x d a
+  source_kind : (x : FormedBlock) (d : Draft) (a : Accesses) (number path leader n : ℕ) (standing : AccessStanding) → x.sites number ≡ Some (record { memory = memory; standing = standing })
+      → ((earlier : ℕ) → slice_get scene.shares.now number ≡ Some (Some earlier) → SharesMemory x memory earlier) → AreNotedReads x d a
       → given_by a (source_at (slice_get scene.shares.now number) number path leader) ≡ Some n → HasKind x d (kind_in x.plan.table memory) n
   source_kind x d a number path leader n standing site shares noted is = by (slice_get scene.shares.now number) refl is
     where
@@ -295,7 +295,7 @@ module _ (scene : Scene) (lane : Lane) (current : List (Option ℕ)) (access : p
     found : Extends m.second new
     found = found_extends scene (form_of access) m.second new memory aim copy source v m.finds
 
-    module _ (x : Block) (agrees : Agrees x new) (started : Started x old) (scope : IsScope x old scene lane current) (noted : IsNoted x old before) (w : WhereRead old k x) where
+    module _ (x : FormedBlock) (agrees : Agrees x new) (started : Started x old) (scope : IsScope x old scene lane current) (noted : AreNotedReads x old before) (w : WhereRead old k x) where
       kind_there : HasKind x new (kind_in x.plan.table memory) v
       kind_there =
           found_kind x m.second memory (form_of access) aim (aimed2 old m.first m.second new before m.middle false m.touches m.probes found x agrees started scope noted w.0 w.1.access) w.1.access.small w.1.access.memory_there scene new
@@ -312,7 +312,7 @@ module _ (scene : Scene) (lane : Lane) (current : List (Option ℕ)) (access : p
           (copied old m.first m.second new before m.middle false m.touches m.probes found x agrees started scope noted w.0 w.1.access)
           (banks old m.first m.second new before m.middle false m.touches m.probes found x agrees started scope noted w.0 w.1.access))
 
-      read_notes : IsNoted x new after
+      read_notes : AreNotedReads x new after
       read_notes =
           noted_notes x new m.middle after aim.number lane.number v memory (stands false) m.notes w.1.access.site kind_there
           (noted_later x m.first new m.middle (both old m.first m.second new before m.middle false m.touches m.probes found)
@@ -332,7 +332,7 @@ module _ (scene : Scene) (lane : Lane) (current : List (Option ℕ)) (access : p
     written : Extends m.second new
     written = pushed_extends m.second new m.number _ _ m.writes
 
-    module _ (x : Block) (agrees : Agrees x new) (started : Started x old) (scope : IsScope x old scene lane current) (noted : IsNoted x old before) (w : WhereWritten old value x) where
+    module _ (x : FormedBlock) (agrees : Agrees x new) (started : Started x old) (scope : IsScope x old scene lane current) (noted : AreNotedReads x old before) (w : WhereWritten old value x) where
       write_all : Forms x old new
       write_all =
           forms_again x old m.second new written (front old m.first m.second new before after true m.touches m.probes written x agrees started scope noted w.0.0 w.0.1)
@@ -343,7 +343,7 @@ module _ (scene : Scene) (lane : Lane) (current : List (Option ℕ)) (access : p
           (row_alone scene (form_of access) (copied_in after aim.number lane.number).bank (copied_in after aim.number lane.number).place)
           (kind_later x old m.second _ value (extends_again old m.first m.second (m.touches).extends (pushed old m.first m.second new before after true m.touches m.probes written)) w.1))
 
-      write_notes : IsNoted x new after
+      write_notes : AreNotedReads x new after
       write_notes =
           noted_later x m.first new after (both old m.first m.second new before after true m.touches m.probes written)
           (touch old m.first m.second new before after true m.touches m.probes written x agrees started scope noted w.0.0 w.0.1).notes

@@ -11,7 +11,7 @@ use Rattle.dh_code.specs.declared.places.Held.{Held}
 use Rattle.dh_plan.specs.Blocks.{kind_at}
 use Rattle.dh_expressions.specs.declared.drafts.Draft.{Draft}
 use Rattle.dh_expressions.specs.Drafted.{Extends}
-use Rattle.dh_formed.specs.Formed.{Agrees, Block, Forms, FormsValue, HasKind, Started}
+use Rattle.dh_formed.specs.Formed.{Agrees, FormedBlock, Forms, FormsValue, HasKind, Started}
 use Rattle.dh_expressions.specs.MadeValues.{IsThere, MadeAddend, MadeBit, MadeBits, MadeIterator, MadeMultiple, MadeOffset, MadeShift, MadeShifted, MadeSum, MadeTotal, MadeTurns}
 use Rattle.dh_expressions.proofs.Pushing.{extends_again, extends_self}
 use Rattle.dh_formed.proofs.ValuesFormed.{agrees_before, compute_forms, convert_forms, forms_again, forms_none, forms_then, forms_there, forms_where, kind_later, number_forms, old_forms, started_later}
@@ -34,7 +34,7 @@ module _ (k : Kind) where
       by (kind.Signed w) h = refl
 
   -- an operator on a value of the kind and a number
-  abbrev pub OfKind : Draft → (value : ℕ) → Block → Type 0
+  abbrev pub OfKind : Draft → (value : ℕ) → FormedBlock → Type 0
   OfKind d value x = IsInteger k × HasKind x d k value
 
   shift_forms : (value by : ℕ) (old new : Draft) (v : ℕ) → MadeShift value by old new v → FormsValue old new v (OfKind old value) (λ x. k)
@@ -54,7 +54,7 @@ module _ (k : Kind) where
       c : FormsValue m.middle new v (λ x. Suits op.Shl k (kind.Unsigned 6) × (HasKind x m.middle k value × HasKind x m.middle (kind.Unsigned 6) m.amount)) (λ x. k)
       c = compute_forms m.middle new v value m.amount op.Shl k (kind.Unsigned 6) m.pushes
 
-      operands : (x : Block) → Agrees x new → Started x old → OfKind old value x → Suits op.Shl k (kind.Unsigned 6) × (HasKind x m.middle k value × HasKind x m.middle (kind.Unsigned 6) m.amount)
+      operands : (x : FormedBlock) → Agrees x new → Started x old → OfKind old value x → Suits op.Shl k (kind.Unsigned 6) × (HasKind x m.middle k value × HasKind x m.middle (kind.Unsigned 6) m.amount)
       operands x at s w = (shifts w.0, (kind_later x old m.middle k value n.extends w.1, n.gives x (agrees_before x m.middle new c.extends at) s sized))
 
   shifted_forms : (value by : ℕ) (old new : Draft) (v : ℕ) → MadeShifted value by old new v → FormsValue old new v (OfKind old value) (λ x. k)
@@ -62,11 +62,11 @@ module _ (k : Kind) where
   shifted_forms value by old new v (inr m) = shift_forms value by old new v m
 
   -- a sum so far
-  abbrev pub HasSum : Block → Draft → Option ℕ → Type 0
+  abbrev pub HasSum : FormedBlock → Draft → Option ℕ → Type 0
   HasSum x d None = Unit {0}
   HasSum x d (Some value) = HasKind x d k value
 
-  sum_later : (x : Block) (old new : Draft) (sum : Option ℕ) → Extends old new → HasSum x old sum → HasSum x new sum
+  sum_later : (x : FormedBlock) (old new : Draft) (sum : Option ℕ) → Extends old new → HasSum x old sum → HasSum x new sum
   sum_later x old new None e h = tt
   sum_later x old new (Some value) e h = kind_later x old new k value e h
 
@@ -77,12 +77,12 @@ module _ (k : Kind) where
       (compute_forms old new v sum value op.Add k k m)
 
   -- operations that form a sum
-  record FormsSum (old new : Draft) (sum : Option ℕ) (Where : Block → Type 0) : Type 0 where
+  record FormsSum (old new : Draft) (sum : Option ℕ) (Where : FormedBlock → Type 0) : Type 0 where
     extends : Extends old new
-    forms : (x : Block) → Agrees x new → Started x old → Where x → Forms x old new
-    gives : (x : Block) → Agrees x new → Started x old → Where x → HasSum x new sum
+    forms : (x : FormedBlock) → Agrees x new → Started x old → Where x → Forms x old new
+    gives : (x : FormedBlock) → Agrees x new → Started x old → Where x → HasSum x new sum
 
-  sum_there : (old new : Draft) (sum more : Option ℕ) (Where : Block → Type 0) → new ≡ old → more ≡ sum → ((x : Block) → Where x → HasSum x old sum) → FormsSum old new more Where
+  sum_there : (old new : Draft) (sum more : Option ℕ) (Where : FormedBlock → Type 0) → new ≡ old → more ≡ sum → ((x : FormedBlock) → Where x → HasSum x old sum) → FormsSum old new more Where
   sum_there old new sum more Where same is gives = record {
     extends = subst (λ (d : Draft). Extends old d) (sym same) (extends_self old);
     forms = λ x a s w. forms_none x old new same;
@@ -103,7 +103,7 @@ module _ (k : Kind) where
       c : FormsValue m.middle new m.total (λ x. OfKind m.middle m.shifted x × HasSum x m.middle sum) (λ x. k)
       c = sum_forms sum m.shifted m.middle new m.total m.sums
 
-      operands : (x : Block) → Agrees x new → Started x old → OfKind old value x × HasSum x old sum → OfKind m.middle m.shifted x × HasSum x m.middle sum
+      operands : (x : FormedBlock) → Agrees x new → Started x old → OfKind old value x × HasSum x old sum → OfKind m.middle m.shifted x × HasSum x m.middle sum
       operands x at s w = ((w.0.0, l.gives x (agrees_before x m.middle new c.extends at) s w.0), sum_later x old m.middle sum l.extends w.1)
 
   bit_forms : (sum : Option ℕ) (value by : ℕ) (old new : Draft) (more : Option ℕ) → MadeBit sum value by old new more → FormsSum old new more (λ x. OfKind old value x × HasSum x old sum)
@@ -121,7 +121,7 @@ module _ (k : Kind) where
       c : FormsSum d new sum (λ x. OfKind d value x × HasSum x d s)
       c = bit_forms s value b d new sum last
 
-      operands : (x : Block) → Agrees x new → Started x old → OfKind old value x → OfKind d value x × HasSum x d s
+      operands : (x : FormedBlock) → Agrees x new → Started x old → OfKind old value x → OfKind d value x × HasSum x d s
       operands x at st w = ((w.0, kind_later x old d k value l.extends w.1), l.gives x (agrees_before x d new c.extends at) st w)
 
   bits_forms : (value bits : ℕ) (old new : Draft) (sum : Option ℕ) → MadeBits value bits old new sum → FormsSum old new sum (OfKind old value)
@@ -161,7 +161,7 @@ module _ (k : Kind) where
       c : FormsValue m.middle new v (λ x. Suits op.Add k k × (HasKind x m.middle k multiple × HasKind x m.middle k m.amount)) (λ x. k)
       c = compute_forms m.middle new v multiple m.amount op.Add k k m.pushes
 
-      operands : (x : Block) → Agrees x new → Started x old → OfKind old multiple x → Suits op.Add k k × (HasKind x m.middle k multiple × HasKind x m.middle k m.amount)
+      operands : (x : FormedBlock) → Agrees x new → Started x old → OfKind old multiple x → Suits op.Add k k × (HasKind x m.middle k multiple × HasKind x m.middle k m.amount)
       operands x at s w = (adds w.0, (kind_later x old m.middle k multiple n.extends w.1, n.gives x (agrees_before x m.middle new c.extends at) s (integer_width k w.0)))
 
   ends_forms : (multiple : ℕ) (old new : Draft) (v : ℕ) → IsThere old new multiple v ⊎ MadeOffset k multiple old new v → FormsValue old new v (OfKind old multiple) (λ x. k)
@@ -170,7 +170,7 @@ module _ (k : Kind) where
 
   -- what an iterator holds
   module _ (held : Held) where
-    abbrev pub Counts : Block → Type 0
+    abbrev pub Counts : FormedBlock → Type 0
     Counts x = IsInteger k × (held.first < length x.plan.registers)
 
     turns_forms : (old new : Draft) (v : ℕ) → MadeTurns held k old new v → FormsValue old new v Counts (λ x. k)

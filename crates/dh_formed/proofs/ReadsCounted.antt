@@ -22,12 +22,12 @@ use Rattle.dh_expressions.specs.declared.scenes.Scene.{Scene}
 use Rattle.dh_formed.specs.Counted.{Counts, FormIs, HaveGiven, IsAccess, IsLedUse, IsUse, Stands, given_at_paths, length_given, nothing, one_each, ranged, use_of, use_shared}
 use Rattle.dh_expressions.specs.Drafted.{Extends, Pushes}
 use Rattle.dh_expressions.specs.Evaluated.{lane_guard, source_at}
-use Rattle.dh_formed.specs.Formed.{AccessSuits, Agrees, Block, IsLaid, IsNoted, IsScope, Site, Started}
+use Rattle.dh_formed.specs.Formed.{AccessSuits, Agrees, FormedBlock, IsLaid, AreNotedReads, IsScope, BlockSite, Started}
 use Rattle.dh_expressions.specs.MadeTerms.{MadeRead, MadeWrite}
 use Rattle.dh_expressions.specs.Noted.{Notes, copied_in, copied_of, copy_or_alone, fault_in, given_by, given_in, given_then, given_to, noted_in, touched_in, touched_of}
 use Rattle.dh_expressions.specs.Named.{banks_told}
 use Rattle.dh_expressions.specs.Reaching.{Finds, copy_banks, place_written, reach_told}
-use Rattle.dh_expressions.specs.Standings.{Standing, copy_places, standing_at}
+use Rattle.dh_expressions.specs.Standings.{AccessStanding, copy_places, standing_at}
 use Rattle.dh_expressions.specs.Touching.{AddsTouched, TouchesAt}
 use Rattle.dh_formed.proofs.AccessesFormed.{FormsTouch, laid_later, touch_notes}
 use Rattle.dh_expressions.proofs.AccessesKept.{place_noted}
@@ -61,7 +61,7 @@ given_past a number path past = by (touched_in a number) past
     by (Some t) past = slice_get_past t.given path past
 
 -- an access that gets its copies gives what it gave
-pub touch_gives : (scene : Scene) (around : Around) (s : Standing) (old new : Draft) (before after : Accesses) (number m : ℕ) → TouchesAt scene around s old new before after number
+pub touch_gives : (scene : Scene) (around : Around) (s : AccessStanding) (old new : Draft) (before after : Accesses) (number m : ℕ) → TouchesAt scene around s old new before after number
     → given_at_paths after m ≡ given_at_paths before m
 touch_gives scene around s old new before after number m t = by (touched_in before m) refl
   where
@@ -108,17 +108,17 @@ module _ (before after : Accesses) (number path value : ℕ) (h : Notes before a
 
 -- The parts of a read or a write.
 
-abbrev pub IsOne : Block → (path own : ℕ) → (Sees : ℕ → Type 0) → OperationForm → Type 0
+abbrev pub IsOne : FormedBlock → (path own : ℕ) → (Sees : ℕ → Type 0) → OperationForm → Type 0
 IsOne x path own Sees = FormIs Sees (λ r. IsAccess x own 1 r) (λ r. IsLedUse x path own 1 r) (λ r. ⊥)
 
-abbrev pub IsOneWrite : Block → (path own : ℕ) → (Sees : ℕ → Type 0) → OperationForm → Type 0
+abbrev pub IsOneWrite : FormedBlock → (path own : ℕ) → (Sees : ℕ → Type 0) → OperationForm → Type 0
 IsOneWrite x path own Sees = FormIs Sees (λ r. IsAccess x own 1 r) (λ r. ⊥) (λ r. IsUse x path own 1 r)
 
-module _ (x : Block) (scene : Scene) (lane : Lane) (current : List (Option ℕ)) (access : plain.Term) (memory : ℕ) (aim : Aim) (Sees : ℕ → Type 0) where
-  abbrev stands : (writes : Truth) → Standing
+module _ (x : FormedBlock) (scene : Scene) (lane : Lane) (current : List (Option ℕ)) (access : plain.Term) (memory : ℕ) (aim : Aim) (Sees : ℕ → Type 0) where
+  abbrev stands : (writes : Truth) → AccessStanding
   stands writes = standing_at scene lane.around memory (place_written access) (form_of access) writes
 
-  abbrev site : (writes : Truth) → Site
+  abbrev site : (writes : Truth) → BlockSite
   site writes = record { memory = memory; standing = stands writes }
 
   low : (writes : Truth) (p : ℕ) → (stands writes).leader p ≤ p
@@ -314,7 +314,7 @@ module _ (x : Block) (scene : Scene) (lane : Lane) (current : List (Option ℕ))
         other k apart = notes_other m.middle after aim.number lane.number v m.notes k apart ∙ touch_gives scene lane.around (stands false) old m.first before m.middle aim.number k m.touches
 
   module _ (old new : Draft) (before after : Accesses) (value : ℕ) (m : MadeWrite scene lane access memory aim value old new before after)
-      (agrees : Agrees x new) (started : Started x old) (scope : IsScope x old scene lane current) (noted : IsNoted x old before) (suits : AccessSuits x scene lane memory aim.number (place_written access) (form_of access) true) where
+      (agrees : Agrees x new) (started : Started x old) (scope : IsScope x old scene lane current) (noted : AreNotedReads x old before) (suits : AccessSuits x scene lane memory aim.number (place_written access) (form_of access) true) where
     write_touch : FormsTouch x old m.first after (stands true) aim.number
     write_touch =
         touch_notes x scene lane.around (stands true) old m.first before after aim.number (low true) scope.few scope.scopes scope.low m.touches

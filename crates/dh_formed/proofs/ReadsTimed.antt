@@ -12,7 +12,7 @@ use Rattle.dh_meaning.specs.Levels.{Leveled, read_leveled}
 use Rattle.dh_plan.specs.declared.operations.Operation.{Operation}
 use Rattle.dh_plan.specs.declared.operations.OperationForm.{OperationForm}
 use Rattle.dh_plan.specs.declared.operations.OperationForm.TheVariants.{Probe, Read, Write}
-use Rattle.dh_plan.specs.LegalSchedules.{greatest_of}
+use Rattle.dh_plan.specs.LegalSchedules.{greatest_number}
 use Rattle.dh_plan.specs.Ordered.{one_or_none, operation_takes, reach_takes}
 use Rattle.dh_expressions.specs.declared.accesses.Accesses.{Accesses}
 use Rattle.dh_expressions.specs.declared.accesses.Touched.{Touched}
@@ -26,13 +26,13 @@ use Rattle.dh_expressions.specs.Copying.{AddsCopies, AddsCopy, AddsEither, AddsL
 use Rattle.dh_formed.specs.Counted.{Stands, given_at_paths}
 use Rattle.dh_expressions.specs.Drafted.{Extends, Pushes}
 use Rattle.dh_expressions.specs.Evaluated.{lane_guard, source_at}
-use Rattle.dh_formed.specs.Formed.{AccessSuits, IsLaid, IsScope, ReadSuits, Site}
+use Rattle.dh_formed.specs.Formed.{AccessSuits, IsLaid, IsScope, ReadSuits, BlockSite}
 use Rattle.dh_expressions.specs.MadeTerms.{MadeRead, MadeWrite}
 use Rattle.dh_expressions.specs.Noted.{Notes, copied_in, copied_of, copy_or_alone, fault_in, given_by, given_in, given_to, noted_in, touched_in}
 use Rattle.dh_expressions.specs.Reaching.{Finds, copy_banks, place_written, reach_told}
 use Rattle.dh_expressions.specs.Shown.{guard_of, guard_or_none}
-use Rattle.dh_expressions.specs.Standings.{Standing, copy_places, standing_at}
-use Rattle.dh_formed.specs.Timed.{AgreeInTime, Clocks, GuardAt, HasClock, NotedInTime, ReadsAgree, StartedInTime, TimesTerm, TimesValue, Within, clock_of}
+use Rattle.dh_expressions.specs.Standings.{AccessStanding, copy_places, standing_at}
+use Rattle.dh_formed.specs.Timed.{AgreeInTime, BlockClocks, GuardAt, HasClock, NotedInTime, ReadsAgree, StartedInTime, TimesTerm, TimesValue, Within, clock_of}
 use Rattle.dh_expressions.specs.Touching.{AddsTouched, IsNew, TouchesAt}
 use Rattle.dh_formed.proofs.AccessesFormed.{FormsTouch, touch_notes}
 use Rattle.dh_expressions.proofs.AccessesKept.{named_extends, noted_given, noted_touched, place_noted}
@@ -48,23 +48,23 @@ use Rattle.dh_formed.proofs.ValuesTimed.{agree_before, compute_timed, pushed_clo
 
 -- The greatest of clocks.
 
-pub greatest_append : (f : ℕ → ℕ) (xs ys : List ℕ) → greatest_of (map f (xs ++ ys)) ≡ max (greatest_of (map f xs)) (greatest_of (map f ys))
-greatest_append f [] ys = least (greatest_of (map f ys))
+pub greatest_append : (f : ℕ → ℕ) (xs ys : List ℕ) → greatest_number (map f (xs ++ ys)) ≡ max (greatest_number (map f xs)) (greatest_number (map f ys))
+greatest_append f [] ys = least (greatest_number (map f ys))
   where
     least : (n : ℕ) → n ≡ max 0 n
     least n = omega arith
-greatest_append f (x ∷ xs) ys = again (f x) (greatest_of (map f (xs ++ ys))) (greatest_of (map f xs)) (greatest_of (map f ys)) (greatest_append f xs ys)
+greatest_append f (x ∷ xs) ys = again (f x) (greatest_number (map f (xs ++ ys))) (greatest_number (map f xs)) (greatest_number (map f ys)) (greatest_append f xs ys)
   where
     again : (a w m n : ℕ) → w ≡ max m n → max a w ≡ max (max a m) n
     again a w m n e = omega (arith, e)
 
 -- Guards.
 
-module _ (c : Clocks) (outer : ℕ) where
+module _ (c : BlockClocks) (outer : ℕ) where
   abbrev pub GuardsAt : List (Option ℕ) → Type 0
   GuardsAt guards = (path : ℕ) (guard : Option ℕ) → slice_get guards path ≡ Some guard → GuardAt c outer guard
 
-  pub guard_clock : (guard : Option ℕ) → GuardAt c outer guard → greatest_of (map (clock_of c) (one_or_none guard)) ≡ outer
+  pub guard_clock : (guard : Option ℕ) → GuardAt c outer guard → greatest_number (map (clock_of c) (one_or_none guard)) ≡ outer
   guard_clock None h = sym h
   guard_clock (Some g) h = alone (clock_of c g) ∙ h
     where
@@ -206,7 +206,7 @@ module _ (c : Clocks) (outer : ℕ) where
 
 -- What is noted stays in time.
 
-pub touch_given : (scene : Scene) (around : Around) (s : Standing) (old new : Draft) (before after : Accesses) (number m path n : ℕ) → TouchesAt scene around s old new before after number
+pub touch_given : (scene : Scene) (around : Around) (s : AccessStanding) (old new : Draft) (before after : Accesses) (number m path n : ℕ) → TouchesAt scene around s old new before after number
     → given_in after m path ≡ Some n → given_in before m path ≡ Some n
 touch_given scene around s old new before after number m path n t is = by (touched_in after m) refl is
   where
@@ -217,11 +217,11 @@ touch_given scene around s old new before after number m path n t is = by (touch
     by None e is = absurd (cc)
     by (Some u) e is = ⊎_elim (λ old_one. ap (λ p. given_to p path) old_one ∙ is) (λ fresh. absurd (lost path (sym (ap (λ g. slice_get g path) fresh.none) ∙ is))) (t.known m u e)
 
-pub record TimesTouch (c : Clocks) (outer : ℕ) (old new : Draft) (after : Accesses) : Type 0 where
+pub record TimesTouch (c : BlockClocks) (outer : ℕ) (old new : Draft) (after : Accesses) : Type 0 where
   pub within : Within c old new outer
   pub noted : NotedInTime c after
 
-module _ (c : Clocks) (outer : ℕ) (scene : Scene) (around : Around) (s : Standing) (old new : Draft) (before after : Accesses) (number memory : ℕ)
+module _ (c : BlockClocks) (outer : ℕ) (scene : Scene) (around : Around) (s : AccessStanding) (old new : Draft) (before after : Accesses) (number memory : ℕ)
     (low : (p : ℕ) → s.leader p ≤ p) (few : length s.guards < 2 ^ 64) (scopes : HasScopes scene) (flat : length around.levels.now < 2 ^ 63)
     (t : TouchesAt scene around s old new before after number) (site : c.block.sites number ≡ Some (record { memory = memory; standing = s }))
     (all : GuardsAt c outer s.guards) (own : c.outer number ≡ outer) (agree : AgreeInTime c new) (started : StartedInTime c old) where
@@ -257,29 +257,29 @@ module _ (c : Clocks) (outer : ℕ) (scene : Scene) (around : Around) (s : Stand
     };
   }
     where
-      by : (m : ℕ) (u : Touched) (o : Site) → c.block.sites m ≡ Some o → (path : ℕ) (copy : AccessAt) → slice_get u.copies path ≡ Some copy → o.standing.leader path ≡ path
+      by : (m : ℕ) (u : Touched) (o : BlockSite) → c.block.sites m ≡ Some o → (path : ℕ) (copy : AccessAt) → slice_get u.copies path ≡ Some copy → o.standing.leader path ≡ path
           → (touched_in before m ≡ Some u) ⊎ IsNew old new scene around s number m u → GuardAt c (c.outer m) copy.guard
       by m u o at path copy here leads (inl old_one) = h.guards m u o at old_one path copy here leads
       by m u o at path copy here leads (inr fresh) =
           let same : record { memory = memory; standing = s } ≡ o = some_same (record { memory = memory; standing = s }) o (sym site ∙ (ap c.block.sites (sym fresh.own) ∙ at)) in
           subst (λ (k : ℕ). GuardAt c k copy.guard) (sym (ap c.outer fresh.own ∙ own))
-          (new_guards u fresh.adds path copy here (subst (λ (w : Site). w.standing.leader path ≡ path) (sym same) leads))
+          (new_guards u fresh.adds path copy here (subst (λ (w : BlockSite). w.standing.leader path ≡ path) (sym same) leads))
 
 -- a read has given a value at its level
-pub notes_timed : (c : Clocks) (before after : Accesses) (number path value : ℕ) → Notes before after number path value → HasClock c (c.reads number) value → NotedInTime c before → NotedInTime c after
+pub notes_timed : (c : BlockClocks) (before after : Accesses) (number path value : ℕ) → Notes before after number path value → HasClock c (c.reads number) value → NotedInTime c before → NotedInTime c after
 notes_timed c before after number path value h at noted = record {
   given = λ m q n o site is. given_now m q n o site (place_noted before after number path value h m) is;
   guards = λ m u o site is q copy here leads. guards_now m u o site (place_noted before after number path value h m) is q copy here leads;
 }
   where
-    given_now : (m q n : ℕ) (o : Site) → c.block.sites m ≡ Some o → (touched_in after m ≡ touched_in before m) ⊎ ((m ≡ number) × (touched_in after m ≡ noted_in (touched_in before m) path value))
+    given_now : (m q n : ℕ) (o : BlockSite) → c.block.sites m ≡ Some o → (touched_in after m ≡ touched_in before m) ⊎ ((m ≡ number) × (touched_in after m ≡ noted_in (touched_in before m) path value))
         → given_in after m q ≡ Some n → HasClock c (c.reads m) n
     given_now m q n o site (inl same) is = noted.given m q n o site (ap (λ p. given_to p q) (sym same) ∙ is)
     given_now m q n o site (inr p) is =
         ⊎_elim (λ old_one. noted.given m q n o site old_one) (λ fresh. ap (λ k. clock_of c k) fresh.1 ∙ (at ∙ ap c.reads (sym p.0)))
         (noted_given (touched_in before m) path value q n (ap (λ r. given_to r q) (sym p.1) ∙ is))
 
-    guards_now : (m : ℕ) (u : Touched) (o : Site) → c.block.sites m ≡ Some o → (touched_in after m ≡ touched_in before m) ⊎ ((m ≡ number) × (touched_in after m ≡ noted_in (touched_in before m) path value))
+    guards_now : (m : ℕ) (u : Touched) (o : BlockSite) → c.block.sites m ≡ Some o → (touched_in after m ≡ touched_in before m) ⊎ ((m ≡ number) × (touched_in after m ≡ noted_in (touched_in before m) path value))
         → touched_in after m ≡ Some u → (q : ℕ) (copy : AccessAt) → slice_get u.copies q ≡ Some copy → o.standing.leader q ≡ q → GuardAt c (c.outer m) copy.guard
     guards_now m u o site (inl same) is q copy here leads = noted.guards m u o site (sym same ∙ is) q copy here leads
     guards_now m u o site (inr p) is q copy here leads =
@@ -287,11 +287,11 @@ notes_timed c before after number path value h at noted = record {
         noted.guards m old_one.0 o site old_one.1.0 q copy (subst (λ (cs : List AccessAt). slice_get cs q ≡ Some copy) (sym old_one.1.1.1) here) leads
 
 -- The parts of a read or a write.
-module _ (c : Clocks) (scene : Scene) (lane : Lane) (current : List (Option ℕ)) (access : plain.Term) (memory : ℕ) (aim : Aim) (outer : ℕ) where
-  abbrev stands : (writes : Truth) → Standing
+module _ (c : BlockClocks) (scene : Scene) (lane : Lane) (current : List (Option ℕ)) (access : plain.Term) (memory : ℕ) (aim : Aim) (outer : ℕ) where
+  abbrev stands : (writes : Truth) → AccessStanding
   stands writes = standing_at scene lane.around memory (place_written access) (form_of access) writes
 
-  abbrev site : (writes : Truth) → Site
+  abbrev site : (writes : Truth) → BlockSite
   site writes = record { memory = memory; standing = stands writes }
 
   low : (writes : Truth) (p : ℕ) → (stands writes).leader p ≤ p
@@ -299,12 +299,12 @@ module _ (c : Clocks) (scene : Scene) (lane : Lane) (current : List (Option ℕ)
 
   -- the clock of the values that name the element
   abbrev pub aim_clock : ℕ
-  aim_clock = greatest_of (map (clock_of c) (reach_takes (reach_told memory aim [])))
+  aim_clock = greatest_number (map (clock_of c) (reach_takes (reach_told memory aim [])))
 
   taken_clock : (form : OperationForm) (guard : Option ℕ) (taken : List ℕ) → operation_takes (record { guard = guard; form = form }) ≡ one_or_none guard ++ taken → GuardAt c outer guard
-      → greatest_of (map (clock_of c) (operation_takes (record { guard = guard; form = form }))) ≡ max outer (greatest_of (map (clock_of c) taken))
+      → greatest_number (map (clock_of c) (operation_takes (record { guard = guard; form = form }))) ≡ max outer (greatest_number (map (clock_of c) taken))
   taken_clock form guard taken is on =
-      ap (λ vs. greatest_of (map (clock_of c) vs)) is ∙ (greatest_append (clock_of c) (one_or_none guard) taken ∙ ap (λ n. max n (greatest_of (map (clock_of c) taken))) (guard_clock c outer guard on))
+      ap (λ vs. greatest_number (map (clock_of c) vs)) is ∙ (greatest_append (clock_of c) (one_or_none guard) taken ∙ ap (λ n. max n (greatest_number (map (clock_of c) taken))) (guard_clock c outer guard on))
 
   probe_timed : (d e : Draft) (n fault k : ℕ) (guard : Option ℕ) → Pushes d e n guard (Probe (reach_told memory aim []) fault) → GuardAt c outer guard → AgreeInTime c e → StartedInTime c d
       → outer ≤ k → aim_clock ≤ k → Within c d e k

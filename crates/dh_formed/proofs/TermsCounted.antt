@@ -35,7 +35,7 @@ use Rattle.dh_formed.specs.Counted.{AreNext, Counts, CountsTerm, CountsTerms, Fo
 use Rattle.dh_formed.specs.CountedLaws.{CountsThrough, IsOfNamed}
 use Rattle.dh_expressions.specs.Evaluated.{counter_of, hidden_register}
 use Rattle.dh_expressions.specs.Named.{first_view, known_in}
-use Rattle.dh_formed.specs.Formed.{Agrees, AreNumbers, Block, FormsAim, FormsPart, HiddenSuits, NamedSuits, ReadSuits, TermSuits, TermsSuit, WaySuits}
+use Rattle.dh_formed.specs.Formed.{Agrees, AreNumbers, FormedBlock, FormsAim, FormsPart, HiddenSuits, NamedSuits, ReadSuits, TermSuits, TermsSuit, WaySuits}
 use Rattle.dh_expressions.specs.MadeTerms.{MadeRead, MadeTerm, MadeTerms, MadeThrough, MadeWay}
 use Rattle.dh_formed.proofs.AccessesFormed.{scope_later}
 use Rattle.dh_formed.proofs.PartsCounted.{counts_again, counts_none, counts_same, ranged_none, ranged_sum}
@@ -126,7 +126,7 @@ form_wider Sees See Probes Probe_ Reads Read_ Writes Write_ sees probes reads wr
 form_wider Sees See Probes Probe_ Reads Read_ Writes Write_ sees probes reads writes (Write r value) h = writes r h
 form_wider Sees See Probes Probe_ Reads Read_ Writes Write_ sees probes reads writes (Set register value) h = h
 
-module _ (x : Block) (n a m b : ℕ) (from : n ≤ m) (within : m + b ≤ n + a) where
+module _ (x : FormedBlock) (n a m b : ℕ) (from : n ≤ m) (within : m + b ≤ n + a) where
   abbrev access_wider : (r : Reach) → IsAccess x m b r → IsAccess x n a r
   access_wider r h = record { from = let f = h.from in omega (arith, f, from); below = let l = h.below in omega (arith, l, within); site = h.site; there = h.there; memory_is = h.memory_is }
 
@@ -178,9 +178,9 @@ module _ (scene : Scene) (lane : Lane) where
       by m from below (inl less) = h.before_them m less ∙ g.own m from less
       by m from below (inr behind) = h.own m behind (omega (arith, below))
 
-module _ (x : Block) (scene : Scene) (lane : Lane) (current : List (Option ℕ)) where
+module _ (x : FormedBlock) (scene : Scene) (lane : Lane) (current : List (Option ℕ)) where
   -- what stands behind a part
-  pub stands_behind : (old middle new : Draft) (before between : Accesses) (n a b : ℕ) (Where : Block → Type 0) → FormsPart scene lane current old middle before between Where → Where x → Agrees x middle → Agrees x new
+  pub stands_behind : (old middle new : Draft) (before between : Accesses) (n a b : ℕ) (Where : FormedBlock → Type 0) → FormsPart scene lane current old middle before between Where → Where x → Agrees x middle → Agrees x new
       → HaveGiven lane before between n a → Stands x old new scene lane current before n (a + b) → Stands x middle new scene lane current between (n + a) b
   stands_behind old middle new before between n a b Where f w at_middle at g s = record {
     agrees = at;

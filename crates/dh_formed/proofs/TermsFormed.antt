@@ -29,7 +29,7 @@ use Rattle.dh_expressions.specs.declared.scenes.Scene.{Scene}
 use Rattle.dh_expressions.specs.Drafted.{Extends}
 use Rattle.dh_expressions.specs.Evaluated.{counter_of, hidden_register}
 use Rattle.dh_expressions.specs.Named.{first_view, known_in}
-use Rattle.dh_formed.specs.Formed.{Agrees, AimSuits, AreNumbers, Block, FormsAim, FormsPart, FormsTerm, FormsTerms, FormsValue, HasKind, HasNumbers, HiddenSuits, IsNoted, IsNumberThere, IsRowForm, IsScope, NamedSuits, OperandsSuit, ReadSuits, RowSuits, Started, TermSuits, TermsSuit, WaySuits, VariableSuits, count_of}
+use Rattle.dh_formed.specs.Formed.{Agrees, AimSuits, AreNumbers, FormedBlock, FormsAim, FormsPart, FormsTerm, FormsTerms, FormsValue, HasKind, HasNumbers, HiddenSuits, AreNotedReads, IsNumberThere, IsRowForm, IsScope, NamedSuits, OperandsSuit, ReadSuits, RowSuits, Started, TermSuits, TermsSuit, WaySuits, VariableSuits, count_of_terms}
 use Rattle.dh_expressions.specs.MadeTerms.{MadeHidden, MadeIndices, MadeTerm, MadeTerms, MadeThrough, MadeWay, number_behind}
 use Rattle.dh_expressions.specs.MadeValues.{MadeBy, MadeShown}
 use Rattle.dh_expressions.specs.Shown.{kind_written, register_at}
@@ -87,13 +87,13 @@ module _ (scene : Scene) (lane : Lane) (current : List (Option ℕ)) where
 
   -- Parts put together.
 
-  abbrev Part : (old new : Draft) → (before after : Accesses) → (Where : Block → Type 0) → Type 0
+  abbrev Part : (old new : Draft) → (before after : Accesses) → (Where : FormedBlock → Type 0) → Type 0
   Part old new before after Where = FormsPart scene lane current old new before after Where
 
   -- one part behind the other, where the second may need what the first gives
-  part_again : (a b c : Draft) (p q r : Accesses) (First Second Where : Block → Type 0) → Part a b p q First → Part b c q r Second
-      → ((x : Block) → Where x → First x)
-      → ((x : Block) → Agrees x b → Started x a → IsScope x a scene lane current → IsNoted x a p → Where x → Second x)
+  part_again : (a b c : Draft) (p q r : Accesses) (First Second Where : FormedBlock → Type 0) → Part a b p q First → Part b c q r Second
+      → ((x : FormedBlock) → Where x → First x)
+      → ((x : FormedBlock) → Agrees x b → Started x a → IsScope x a scene lane current → AreNotedReads x a p → Where x → Second x)
       → Part a c p r Where
   part_again a b c p q r First Second Where f g first second = record {
     extends = extends_again a b c f.extends g.extends;
@@ -107,26 +107,26 @@ module _ (scene : Scene) (lane : Lane) (current : List (Option ℕ)) where
   }
 
   -- values that note nothing are parts
-  part_value : (a b : Draft) (p q : Accesses) (v : ℕ) (Where : Block → Type 0) (kind : Block → Kind) → q ≡ p → FormsValue a b v Where kind → Part a b p q Where
+  part_value : (a b : Draft) (p q : Accesses) (v : ℕ) (Where : FormedBlock → Type 0) (kind : FormedBlock → Kind) → q ≡ p → FormsValue a b v Where kind → Part a b p q Where
   part_value a b p q v Where kind same f = record {
     extends = f.extends;
     forms = λ x at s sc no w. f.forms x at s w;
-    notes = λ x at s sc no w. subst (λ (o : Accesses). IsNoted x b o) (sym same) (noted_later x a b p f.extends no);
+    notes = λ x at s sc no w. subst (λ (o : Accesses). AreNotedReads x b o) (sym same) (noted_later x a b p f.extends no);
   }
 
-  part_where : (a b : Draft) (p q : Accesses) (Where Other : Block → Type 0) → ((x : Block) → Other x → Where x) → Part a b p q Where → Part a b p q Other
+  part_where : (a b : Draft) (p q : Accesses) (Where Other : FormedBlock → Type 0) → ((x : FormedBlock) → Other x → Where x) → Part a b p q Where → Part a b p q Other
   part_where a b p q Where Other more f = record { extends = f.extends; forms = λ x at s sc no w. f.forms x at s sc no (more x w); notes = λ x at s sc no w. f.notes x at s sc no (more x w) }
 
-  abbrev Term : (old new : Draft) → (before after : Accesses) → (v : ℕ) → (Where : Block → Type 0) → (k : Kind) → Type 0
+  abbrev Term : (old new : Draft) → (before after : Accesses) → (v : ℕ) → (Where : FormedBlock → Type 0) → (k : Kind) → Type 0
   Term old new before after v Where k = FormsTerm scene lane current old new before after v Where k
 
-  term_value : (a b : Draft) (p q : Accesses) (v : ℕ) (Where Other : Block → Type 0) (kind : Block → Kind) (k : Kind) → q ≡ p → FormsValue a b v Where kind
-      → ((x : Block) → IsScope x a scene lane current → Other x → Where x) → ((x : Block) → Other x → kind x ≡ k) → Term a b p q v Other k
+  term_value : (a b : Draft) (p q : Accesses) (v : ℕ) (Where Other : FormedBlock → Type 0) (kind : FormedBlock → Kind) (k : Kind) → q ≡ p → FormsValue a b v Where kind
+      → ((x : FormedBlock) → IsScope x a scene lane current → Other x → Where x) → ((x : FormedBlock) → Other x → kind x ≡ k) → Term a b p q v Other k
   term_value a b p q v Where Other kind k same f more is = record {
     part = record {
       extends = f.extends;
       forms = λ x at s sc no w. f.forms x at s (more x sc w);
-      notes = λ x at s sc no w. subst (λ (o : Accesses). IsNoted x b o) (sym same) (noted_later x a b p f.extends no);
+      notes = λ x at s sc no w. subst (λ (o : Accesses). AreNotedReads x b o) (sym same) (noted_later x a b p f.extends no);
     };
     gives = λ x at s sc no w. kind_same x b (kind x) k v (is x w) (f.gives x at s (more x sc w));
   }
@@ -146,14 +146,14 @@ module _ (scene : Scene) (lane : Lane) (current : List (Option ℕ)) where
 
   abbrev AllFormed : plain.Terms → Type 0
   AllFormed ts = (old new : Draft) (before after : Accesses) (n next : ℕ) (vs : List ℕ) → MadeTerms scene lane current ts old new before after n next vs → n + terms_accesses ts < 2 ^ 32
-      → FormsTerms scene lane current old new before after vs (λ x. TermsSuit x scene lane n ts × AreNumbers ts) (count_of ts)
+      → FormsTerms scene lane current old new before after vs (λ x. TermsSuit x scene lane n ts × AreNumbers ts) (count_of_terms ts)
 
   formed_none : AllFormed plain.no_terms
   formed_none old new before after n next vs m few = record {
     part = record {
       extends = subst (λ (d : Draft). Extends old d) (sym m.still) (extends_self old);
       forms = λ x at s sc no w. forms_none x old new m.still;
-      notes = λ x at s sc no w. subst (λ (a : Accesses). IsNoted x new a) (sym m.same) (subst (λ (d : Draft). IsNoted x d before) (sym m.still) no);
+      notes = λ x at s sc no w. subst (λ (a : Accesses). AreNotedReads x new a) (sym m.same) (subst (λ (d : Draft). AreNotedReads x d before) (sym m.still) no);
     };
     gives = λ x at s sc no w. subst (λ (us : List ℕ). HasNumbers x new 0 us) (sym m.none) (record { long = refl; each = tt });
   }
@@ -165,8 +165,8 @@ module _ (scene : Scene) (lane : Lane) (current : List (Option ℕ)) where
         let before_at = agrees_before x m.middle new g.part.extends at in
         let k = f.gives x before_at s sc no w.0.0 in
         let behind = g.gives x at (started_later x old m.middle f.part.extends s) (scope_later x old m.middle scene lane current f.part.extends sc) (f.part.notes x before_at s sc no w.0.0) (w.0.1, w.1.1) in
-        subst (λ (us : List ℕ). HasNumbers x new (count_of ts + 1) us) (sym m.values_are) (record {
-          long = more (length m.more) (count_of ts) behind.long;
+        subst (λ (us : List ℕ). HasNumbers x new (count_of_terms ts + 1) us) (sym m.values_are) (record {
+          long = more (length m.more) (count_of_terms ts) behind.long;
           each = ((kind_written t, (w.1.0, kind_later x m.middle new _ m.a g.part.extends k)), behind.each);
         });
   }
@@ -180,7 +180,7 @@ module _ (scene : Scene) (lane : Lane) (current : List (Option ℕ)) where
       own : m.own ≡ n + term_accesses t
       own = numbered t old m.middle before m.between n m.own m.a m.first (omega (arith, few))
 
-      g : FormsTerms scene lane current m.middle new m.between after m.more (λ x. TermsSuit x scene lane (n + term_accesses t) ts × AreNumbers ts) (count_of ts)
+      g : FormsTerms scene lane current m.middle new m.between after m.more (λ x. TermsSuit x scene lane (n + term_accesses t) ts × AreNumbers ts) (count_of_terms ts)
       g = rest m.middle new m.between after (n + term_accesses t) next m.more
           (subst (λ (i : ℕ). MadeTerms scene lane current ts m.middle new m.between after i next m.more) own m.rest) (omega (arith, few))
 
@@ -188,10 +188,10 @@ module _ (scene : Scene) (lane : Lane) (current : List (Option ℕ)) where
       whole = part_again old m.middle new before m.between after _ _ _ f.part g.part (λ x w. w.0.0) (λ x at s sc no w. (w.0.1, w.1.1))
 
   -- what two operands must be, and that they are there
-  abbrev BothSuit : (n : ℕ) → Op → (l r : plain.Term) → Kind → Block → Type 0
+  abbrev BothSuit : (n : ℕ) → Op → (l r : plain.Term) → Kind → FormedBlock → Type 0
   BothSuit n o l r k x = (TermSuits x scene lane n l × TermSuits x scene lane (n + term_accesses l) r) × OperandsSuit o (kind_written l) (kind_written r) k
 
-  abbrev Operands : Op → (l r : plain.Term) → Kind → (a b : ℕ) → Draft → Block → Type 0
+  abbrev Operands : Op → (l r : plain.Term) → Kind → (a b : ℕ) → Draft → FormedBlock → Type 0
   Operands o l r k a b d x = OperandsSuit o (kind_written l) (kind_written r) k × (HasKind x d (kind_written l) a × HasKind x d (kind_written r) b)
 
   formed_two : (place : Place) (k : Option Kind) (o : Op) (l r : plain.Term) → Formed l → Formed r → Formed (plain.term place k (plain.applied o l r))
@@ -217,7 +217,7 @@ module _ (scene : Scene) (lane : Lane) (current : List (Option ℕ)) where
       made : FormsValue m.end new v (Operands o l r (kind_or_first k) m.a m.b m.end) (λ x. kind_or_first k)
       made = operation_forms o l r (kind_or_first k) m.a m.b m.end new v m.operation
 
-      operands : (x : Block) → Agrees x m.end → Started x old → IsScope x old scene lane current → IsNoted x old before → BothSuit n o l r (kind_or_first k) x → Operands o l r (kind_or_first k) m.a m.b m.end x
+      operands : (x : FormedBlock) → Agrees x m.end → Started x old → IsScope x old scene lane current → AreNotedReads x old before → BothSuit n o l r (kind_or_first k) x → Operands o l r (kind_or_first k) m.a m.b m.end x
       operands x at s sc noted w =
           let before_at = agrees_before x m.middle m.end g.part.extends at in (
             w.1,
@@ -246,14 +246,14 @@ module _ (scene : Scene) (lane : Lane) (current : List (Option ℕ)) where
 
   module _ (place : Place) (k : Option Kind) (form : plain.TermForm) (memory : ℕ) (old middle new : Draft) (before between after : Accesses) (aim : Aim) (v number : ℕ)
       (is : aim.number ≡ number) (r : Term middle new between after v (WhereRead scene lane current (plain.term place k form) memory aim middle (kind_or_first k)) (kind_or_first k)) where
-    abbrev AtNumber : Block → Type 0
+    abbrev AtNumber : FormedBlock → Type 0
     AtNumber x = ReadSuits x scene lane memory number place form (kind_or_first k)
 
-    moved : (x : Block) → AtNumber x → ReadSuits x scene lane memory aim.number place form (kind_or_first k)
+    moved : (x : FormedBlock) → AtNumber x → ReadSuits x scene lane memory aim.number place form (kind_or_first k)
     moved x w = subst (λ (i : ℕ). ReadSuits x scene lane memory i place form (kind_or_first k)) (sym is) w
 
-    read_behind : (First Where : Block → Type 0) → Part old middle before between First → ((x : Block) → Where x → First x) → ((x : Block) → Where x → AtNumber x)
-        → ((x : Block) → Agrees x middle → Started x old → IsScope x old scene lane current → IsNoted x old before → Where x → AimSuits x middle memory form aim)
+    read_behind : (First Where : FormedBlock → Type 0) → Part old middle before between First → ((x : FormedBlock) → Where x → First x) → ((x : FormedBlock) → Where x → AtNumber x)
+        → ((x : FormedBlock) → Agrees x middle → Started x old → IsScope x old scene lane current → AreNotedReads x old before → Where x → AimSuits x middle memory form aim)
         → Term old new before after v Where (kind_or_first k)
     read_behind First Where f first suits aims = record {
       part = part_again old middle new before between after First (WhereRead scene lane current (plain.term place k form) memory aim middle (kind_or_first k)) Where f r.part first (λ x at s sc no w. (aims x at s sc no w, moved x (suits x w)));
@@ -262,7 +262,7 @@ module _ (scene : Scene) (lane : Lane) (current : List (Option ℕ)) where
           r.gives x at (started_later x old middle f.extends s) (scope_later x old middle scene lane current f.extends sc) (f.notes x before_at s sc no (first x w)) (aims x before_at s sc no w, moved x (suits x w));
     }
 
-  pub aim_of_row : (x : Block) (d : Draft) (memory value : ℕ) (form : plain.TermForm) (aim : Aim) → IsRowForm form → aim.indices ≡ [] → aim.steps ≡ [] → aim.row ≡ Some value → IsNumberThere x d value → AimSuits x d memory form aim
+  pub aim_of_row : (x : FormedBlock) (d : Draft) (memory value : ℕ) (form : plain.TermForm) (aim : Aim) → IsRowForm form → aim.indices ≡ [] → aim.steps ≡ [] → aim.row ≡ Some value → IsNumberThere x d value → AimSuits x d memory form aim
   aim_of_row x d memory value form aim row none still is h = record {
     indices = subst (λ (vs : List ℕ). AllByRecursion (IsNumberThere x d) vs) (sym none) tt;
     offsets = subst (λ (ss : List ReachStep). AllByRecursion (IsNumberThere x d) (offsets_taken ss)) (sym still) tt;
@@ -277,7 +277,7 @@ module _ (scene : Scene) (lane : Lane) (current : List (Option ℕ)) where
     part = record {
       extends = subst (λ (d : Draft). Extends old d) (sym m.0) (extends_self old);
       forms = λ x at s sc no w. forms_none x old new m.0;
-      notes = λ x at s sc no w. subst (λ (d : Draft). IsNoted x d a) (sym m.0) no;
+      notes = λ x at s sc no w. subst (λ (d : Draft). AreNotedReads x d a) (sym m.0) no;
     };
     gives = λ x at s sc no w. subst (λ (us : List ℕ). HasNumbers x new 0 us) (sym m.1) (record { long = refl; each = tt });
   }
@@ -312,24 +312,24 @@ module _ (scene : Scene) (lane : Lane) (current : List (Option ℕ)) where
   way_part None memory first old new a steps m = record {
     extends = subst (λ (d : Draft). Extends old d) (sym m.0) (extends_self old);
     forms = λ x at s sc no w. forms_none x old new m.0;
-    notes = λ x at s sc no w. subst (λ (d : Draft). IsNoted x d a) (sym m.0) no;
+    notes = λ x at s sc no w. subst (λ (d : Draft). AreNotedReads x d a) (sym m.0) no;
   }
   way_part (Some w) memory first old new a steps m =
       part_where old new a a (λ x. AllByRecursion (HiddenSuits x scene lane) w.hidden) (λ x. WaySuits x scene lane memory first (Some w)) (λ x h. h.0) (hidden_formed w.hidden old new a m.values m.hidden).part
 
   way_gives : (way : Option Way) (memory first count : ℕ) (old new : Draft) (a : Accesses) (form : plain.TermForm) (aim : Aim) → MadeWay scene lane current old new first way aim.steps → aim.row ≡ None
-      → (x : Block) → Agrees x new → Started x old → IsScope x old scene lane current → IsNoted x old a → WaySuits x scene lane memory first way → count ≡ length (dims_by (dims_at x.plan.table memory) way)
+      → (x : FormedBlock) → Agrees x new → Started x old → IsScope x old scene lane current → AreNotedReads x old a → WaySuits x scene lane memory first way → count ≡ length (dims_by (dims_at x.plan.table memory) way)
       → HasNumbers x new count aim.indices → AimSuits x new memory form aim
   way_gives None memory first count old new a form aim m row x at s sc noted suits all indices = memory_aim x scene lane memory first new form aim count row indices m.1 all
   way_gives (Some w) memory first count old new a form aim m row x at s sc noted suits all indices =
       way_aim x scene lane memory first new form aim count row indices w m.values m.steps_are ((hidden_formed w.hidden old new a m.values m.hidden).gives x at s sc noted suits.0) suits all
 
-  numbers_later : (x : Block) (old new : Draft) (count : ℕ) (values : List ℕ) → Extends old new → HasNumbers x old count values → HasNumbers x new count values
+  numbers_later : (x : FormedBlock) (old new : Draft) (count : ℕ) (values : List ℕ) → Extends old new → HasNumbers x old count values → HasNumbers x new count values
   numbers_later x old new count values e h = record { long = h.long; each = all_weaker _ _ values (λ n k. number_later x old new n e k) h.each }
 
   -- indices, and the steps behind them, name an element
   pub through_made : (ts : plain.Terms) (r : Ref) (n : ℕ) (old named new : Draft) (before after : Accesses) (aim : Aim) → aim.row ≡ None
-      → FormsTerms scene lane current old named before after aim.indices (λ x. TermsSuit x scene lane n ts × AreNumbers ts) (count_of ts)
+      → FormsTerms scene lane current old named before after aim.indices (λ x. TermsSuit x scene lane n ts × AreNumbers ts) (count_of_terms ts)
       → MadeWay scene lane current named new (first_view scene r) (way_of (known_in scene) r) aim.steps
       → FormsAim scene lane current old new before after (memory_of (known_in scene) r) aim (λ x. NamedSuits x scene lane n r ts)
   through_made ts r n old named new before after aim row f m = record {
@@ -337,9 +337,9 @@ module _ (scene : Scene) (lane : Lane) (current : List (Option ℕ)) where
         (λ x w. w.0) (λ x at s sc no w. w.1.1);
     gives = λ x at s sc no w form.
         let before_at = agrees_before x named new way.extends at in
-        way_gives (way_of (known_in scene) r) (memory_of (known_in scene) r) (first_view scene r) (count_of ts) named new after form aim m row x at
+        way_gives (way_of (known_in scene) r) (memory_of (known_in scene) r) (first_view scene r) (count_of_terms ts) named new after form aim m row x at
         (started_later x old named f.part.extends s) (scope_later x old named scene lane current f.part.extends sc) (f.part.notes x before_at s sc no w.0) w.1.1 w.1.0
-        (numbers_later x named new (count_of ts) aim.indices way.extends (f.gives x before_at s sc no w.0));
+        (numbers_later x named new (count_of_terms ts) aim.indices way.extends (f.gives x before_at s sc no w.0));
   }
     where
       way : Part named new after after (λ x. WaySuits x scene lane (memory_of (known_in scene) r) (first_view scene r) (way_of (known_in scene) r))
@@ -404,7 +404,7 @@ module _ (scene : Scene) (lane : Lane) (current : List (Option ℕ)) where
 
   -- as which element an access names
   pub indices_formed : (ts : plain.Terms) (old new : Draft) (before after : Accesses) (n : ℕ) (aim : Aim) → MadeIndices scene lane current ts old new before after n aim → n + terms_accesses ts < 2 ^ 32
-      → FormsTerms scene lane current old new before after aim.indices (λ x. TermsSuit x scene lane n ts × AreNumbers ts) (count_of ts)
+      → FormsTerms scene lane current old new before after aim.indices (λ x. TermsSuit x scene lane n ts × AreNumbers ts) (count_of_terms ts)
   indices_formed ts old new before after n aim m few = all_formed ts old new before after n aim.number aim.indices m.indices few
 
   pub through_formed : (r : Ref) (ts : plain.Terms) (old new : Draft) (before after : Accesses) (n : ℕ) (aim : Aim) → MadeThrough scene lane current r ts old new before after n aim → n + terms_accesses ts < 2 ^ 32

@@ -17,7 +17,7 @@ use Rattle.dh_meaning.specs.Levels.{Leveled, Levels, greatest, read_leveled, ter
 use Rattle.dh_meaning.specs.Ways.{Hidden, Way}
 use Rattle.dh_code.specs.Slots.{held_at}
 use Rattle.dh_plan.specs.declared.operations.ReachStep.{ReachStep}
-use Rattle.dh_plan.specs.LegalSchedules.{greatest_of}
+use Rattle.dh_plan.specs.LegalSchedules.{greatest_number}
 use Rattle.dh_plan.specs.Ordered.{offsets_taken, one_or_none}
 use Rattle.dh_plan.specs.PlanPhases.{target_mentions, term_mentions, terms_mention}
 use Rattle.dh_expressions.specs.declared.accesses.Accesses.{Accesses}
@@ -29,9 +29,9 @@ use Rattle.dh_formed.specs.Counted.{HaveGiven, Stands}
 use Rattle.dh_expressions.specs.Drafted.{Extends}
 use Rattle.dh_expressions.specs.Evaluated.{counter_of, hidden_register}
 use Rattle.dh_expressions.specs.Named.{first_view, known_in}
-use Rattle.dh_formed.specs.Formed.{Agrees, AreNumbers, Block, FormsAim, FormsPart, HiddenSuits, NamedSuits, ReadSuits, TermSuits, TermsSuit, WaySuits}
+use Rattle.dh_formed.specs.Formed.{Agrees, AreNumbers, FormedBlock, FormsAim, FormsPart, HiddenSuits, NamedSuits, ReadSuits, TermSuits, TermsSuit, WaySuits}
 use Rattle.dh_expressions.specs.MadeTerms.{MadeHidden, MadeRead, MadeSteps, MadeTerm, MadeTerms, MadeThrough, MadeWay}
-use Rattle.dh_formed.specs.Timed.{AgreeInTime, AreBounded, Clocks, CurrentAt, EntityAt, HasClock, LevelsThen, NotedInTime, ReadsAgree, StandsInTime, TimesAim, TimesTerm, TimesTerms, TimesValue, VariableAt, Within, aim_clock, all_leveled, clock_of, leveled, named_leveled}
+use Rattle.dh_formed.specs.Timed.{AgreeInTime, AreBounded, BlockClocks, CurrentAt, EntityAt, HasClock, LevelsThen, NotedInTime, ReadsAgree, StandsInTime, TimesAim, TimesTerm, TimesTerms, TimesValue, VariableAt, Within, aim_clock, all_leveled, clock_of, leveled, named_leveled}
 use Rattle.dh_formed.proofs.ElementsFormed.{read_forms}
 use Rattle.dh_formed.proofs.LevelsBehind.{all_levels_behind, levels_behind, named_level, named_levels, named_levels_behind, operation_leveled, read_grows, read_keeps, way_level}
 use Rattle.dh_formed.proofs.NamedTargets.{named_mentions, way_mentions}
@@ -43,7 +43,7 @@ use Rattle.dh_formed.proofs.ValuesTimed.{agree_before, converted_timed, number_t
 use Rattle.dh_formed.proofs.WaysFormed.{steps_take}
 use Rattle.dh_expressions.proofs.Pushing.{extends_again, extends_self}
 
-module _ (c : Clocks) (scene : Scene) (lane : Lane) (current : List (Option ℕ)) (shared : ℕ → Option ℕ) (outer : ℕ) where
+module _ (c : BlockClocks) (scene : Scene) (lane : Lane) (current : List (Option ℕ)) (shared : ℕ → Option ℕ) (outer : ℕ) where
   abbrev InTime : (old new : Draft) → (before : Accesses) → (n count : ℕ) → Levels → Type 0
   InTime old new before n count l = StandsInTime c old new scene lane current before shared outer n count l
 
@@ -65,7 +65,7 @@ module _ (c : Clocks) (scene : Scene) (lane : Lane) (current : List (Option ℕ)
     shares = λ m from below. s.shares m from (omega (arith, below));
   }
 
-  time_behind : (old middle new : Draft) (before between : Accesses) (n a b : ℕ) (l : Levels) (made : Leveled) (Where : Block → Type 0) → FormsPart scene lane current old middle before between Where → Where c.block → Agrees c.block middle
+  time_behind : (old middle new : Draft) (before between : Accesses) (n a b : ℕ) (l : Levels) (made : Leveled) (Where : FormedBlock → Type 0) → FormsPart scene lane current old middle before between Where → Where c.block → Agrees c.block middle
       → HaveGiven lane before between n a → LevelsThen n a l made → NotedInTime c between → InTime old new before n (a + b) l → InTime middle new between (n + a) b made.levels
   time_behind old middle new before between n a b l made Where f w at_middle g h noted s = record {
     stands = stands_behind c.block scene lane current old middle new before between n a b Where f w at_middle s.stands.agrees g s.stands;
@@ -96,7 +96,7 @@ module _ (c : Clocks) (scene : Scene) (lane : Lane) (current : List (Option ℕ)
       → TimesTerms c old new after (all_leveled scene shared outer n ts l) vs
 
   -- a value that no access is in
-  alone_timed : (old new : Draft) (before after : Accesses) (v level : ℕ) (l : Levels) (Where : Clocks → Type 0) → after ≡ before → TimesValue old new v Where (λ d. level) → Where c → level ≤ l.most → AgreeInTime c new → c.block.first ≤ length old.operations.items → NotedInTime c before
+  alone_timed : (old new : Draft) (before after : Accesses) (v level : ℕ) (l : Levels) (Where : BlockClocks → Type 0) → after ≡ before → TimesValue old new v Where (λ d. level) → Where c → level ≤ l.most → AgreeInTime c new → c.block.first ≤ length old.operations.items → NotedInTime c before
       → TimesTerm c old new after (record { level = level; levels = l }) v
   alone_timed old new before after v level l Where same f w few agree started noted = record {
     within = within_more c old new level l.most few (f.within c agree started w);
@@ -110,7 +110,7 @@ module _ (c : Clocks) (scene : Scene) (lane : Lane) (current : List (Option ℕ)
   timed_none : AllTimed plain.no_terms
   timed_none old new before after n next vs m few l s w vars reads = record {
     within = λ k far less. absurd (never k far less);
-    at = ap (λ (us : List ℕ). greatest_of (map (clock_of c) us)) m.none;
+    at = ap (λ (us : List ℕ). greatest_number (map (clock_of c) us)) m.none;
     noted = subst (λ (a : Accesses). NotedInTime c a) (sym m.same) s.noted;
   }
     where
@@ -120,7 +120,7 @@ module _ (c : Clocks) (scene : Scene) (lane : Lane) (current : List (Option ℕ)
   timed_then : (t : plain.Term) (ts : plain.Terms) → Timed t → AllTimed ts → AllTimed (plain.term_then t ts)
   timed_then t ts one rest old new before after n next vs m few l s w vars reads = record {
     within = within_again c old m.middle new first.levels.most (all_leveled scene shared outer (n + term_accesses t) ts first.levels).levels.most behind.more f.within g.within;
-    at = ap (λ (us : List ℕ). greatest_of (map (clock_of c) us)) m.values_are ∙ (ap (λ k. max k (greatest_of (map (clock_of c) m.more))) f.at ∙ ap (λ k. max first.level k) g.at);
+    at = ap (λ (us : List ℕ). greatest_number (map (clock_of c) us)) m.values_are ∙ (ap (λ k. max k (greatest_number (map (clock_of c) m.more))) f.at ∙ ap (λ k. max first.level k) g.at);
     noted = g.noted;
   }
     where
@@ -280,12 +280,12 @@ module _ (c : Clocks) (scene : Scene) (lane : Lane) (current : List (Option ℕ)
 
   -- Reads: the values of the element first, then the read itself.
 
-  indices_clock : (memory level behind : ℕ) (aim : Aim) → aim.row ≡ None → greatest_of (map (clock_of c) aim.indices) ≡ level → greatest_of (map (clock_of c) (offsets_taken aim.steps)) ≡ behind → aim_clock c memory aim ≡ max level behind
+  indices_clock : (memory level behind : ℕ) (aim : Aim) → aim.row ≡ None → greatest_number (map (clock_of c) aim.indices) ≡ level → greatest_number (map (clock_of c) (offsets_taken aim.steps)) ≡ behind → aim_clock c memory aim ≡ max level behind
   indices_clock memory level behind aim none at offsets =
       greatest_append (clock_of c) aim.indices (offsets_taken aim.steps ++ one_or_none aim.row)
-      ∙ (ap (λ k. max k (greatest_of (map (clock_of c) (offsets_taken aim.steps ++ one_or_none aim.row)))) at
+      ∙ (ap (λ k. max k (greatest_number (map (clock_of c) (offsets_taken aim.steps ++ one_or_none aim.row)))) at
       ∙ ap (λ k. max level k) (greatest_append (clock_of c) (offsets_taken aim.steps) (one_or_none aim.row)
-      ∙ (ap (λ k. max k (greatest_of (map (clock_of c) (one_or_none aim.row)))) offsets ∙ (ap (λ (o : Option ℕ). max behind (greatest_of (map (clock_of c) (one_or_none o)))) none ∙ alone behind))))
+      ∙ (ap (λ k. max k (greatest_number (map (clock_of c) (one_or_none aim.row)))) offsets ∙ (ap (λ (o : Option ℕ). max behind (greatest_number (map (clock_of c) (one_or_none o)))) none ∙ alone behind))))
     where
       alone : (n : ℕ) → max n 0 ≡ n
       alone n = omega arith
@@ -293,9 +293,9 @@ module _ (c : Clocks) (scene : Scene) (lane : Lane) (current : List (Option ℕ)
   row_clock : (memory level value : ℕ) (aim : Aim) → aim.indices ≡ [] → aim.steps ≡ [] → aim.row ≡ Some value → clock_of c value ≡ level → aim_clock c memory aim ≡ level
   row_clock memory level value aim none still is at =
       greatest_append (clock_of c) aim.indices (offsets_taken aim.steps ++ one_or_none aim.row)
-      ∙ (ap (λ (vs : List ℕ). max (greatest_of (map (clock_of c) vs)) (greatest_of (map (clock_of c) (offsets_taken aim.steps ++ one_or_none aim.row)))) none
-      ∙ (ap (λ (ss : List ReachStep). max 0 (greatest_of (map (clock_of c) (offsets_taken ss ++ one_or_none aim.row)))) still
-      ∙ (ap (λ (o : Option ℕ). max 0 (greatest_of (map (clock_of c) (one_or_none o)))) is ∙ (ap (λ k. max 0 (max k 0)) at ∙ alone level))))
+      ∙ (ap (λ (vs : List ℕ). max (greatest_number (map (clock_of c) vs)) (greatest_number (map (clock_of c) (offsets_taken aim.steps ++ one_or_none aim.row)))) none
+      ∙ (ap (λ (ss : List ReachStep). max 0 (greatest_number (map (clock_of c) (offsets_taken ss ++ one_or_none aim.row)))) still
+      ∙ (ap (λ (o : Option ℕ). max 0 (greatest_number (map (clock_of c) (one_or_none o)))) is ∙ (ap (λ k. max 0 (max k 0)) at ∙ alone level))))
     where
       alone : (n : ℕ) → max 0 (max n 0) ≡ n
       alone n = omega arith
@@ -319,8 +319,8 @@ module _ (c : Clocks) (scene : Scene) (lane : Lane) (current : List (Option ℕ)
       extends_again old d new (shown_timed current (hidden_register scene lane h) (λ x. 0) old d v shown).extends (hidden_extends hs d new more rest)
 
   hidden_timed : (hs : List Hidden) (k : Levels) → AreBounded k → HiddenAt k hs → (old new : Draft) (values : List ℕ) → MadeHidden scene lane current hs old new values → AgreeInTime c new → c.block.first ≤ length old.operations.items
-      → Within c old new k.most × (greatest_of (map (clock_of c) values) ≡ (terms_leveled shared outer (kept_terms hs) k).level)
-  hidden_timed [] k bounded sees old new values m agree started = (within_none c old new k.most m.0, ap (λ (us : List ℕ). greatest_of (map (clock_of c) us)) m.1)
+      → Within c old new k.most × (greatest_number (map (clock_of c) values) ≡ (terms_leveled shared outer (kept_terms hs) k).level)
+  hidden_timed [] k bounded sees old new values m agree started = (within_none c old new k.most m.0, ap (λ (us : List ℕ). greatest_number (map (clock_of c) us)) m.1)
   hidden_timed (h ∷ hs) k bounded sees old new values (d, (v, (more, (shown, (rest, are))))) agree started =
       hidden_then h k old d new values v more (terms_leveled shared outer (kept_terms hs) k).level bounded sees.0 are
       (shown_timed current (hidden_register scene lane h) (λ x. k.variables h.entity) old d v shown) (hidden_extends hs d new more rest) agree started
@@ -328,32 +328,32 @@ module _ (c : Clocks) (scene : Scene) (lane : Lane) (current : List (Option ℕ)
     where
       hidden_then : (h : Hidden) (k : Levels) (old d new : Draft) (values : List ℕ) (v : ℕ) (more : List ℕ) (level : ℕ) → AreBounded k → CurrentAt c (slice_get current (hidden_register scene lane h)) (k.variables h.entity) → values ≡ v ∷ more
           → TimesValue old d v (λ x. CurrentAt x (slice_get current (hidden_register scene lane h)) (k.variables h.entity)) (λ x. k.variables h.entity) → Extends d new → AgreeInTime c new → c.block.first ≤ length old.operations.items
-          → (c.block.first ≤ length d.operations.items → Within c d new k.most × (greatest_of (map (clock_of c) more) ≡ level))
-          → Within c old new k.most × (greatest_of (map (clock_of c) values) ≡ max (k.variables h.entity) level)
+          → (c.block.first ≤ length d.operations.items → Within c d new k.most × (greatest_number (map (clock_of c) more) ≡ level))
+          → Within c old new k.most × (greatest_number (map (clock_of c) values) ≡ max (k.variables h.entity) level)
       hidden_then h k old d new values v more level bounded see are made extends agree started rest =
           let before = agree_before c d new extends agree in
           let behind = rest (time_later c old d made.extends started) in (
             within_again c old d new (k.variables h.entity) k.most (bounded.variables h.entity) (made.within c before started see) behind.0,
-            ap (λ (us : List ℕ). greatest_of (map (clock_of c) us)) are
-                ∙ (ap (λ j. max j (greatest_of (map (clock_of c) more))) (made.at c before started see) ∙ ap (λ j. max (k.variables h.entity) j) behind.1),
+            ap (λ (us : List ℕ). greatest_number (map (clock_of c) us)) are
+                ∙ (ap (λ j. max j (greatest_number (map (clock_of c) more))) (made.at c before started see) ∙ ap (λ j. max (k.variables h.entity) j) behind.1),
           )
 
   -- what stands behind indices: nothing for a memory, for a view the steps of its way
   way_timed : (way : Option Way) (memory first : ℕ) (k : Levels) (ts : CoreTerms) → AreBounded k → Variables (λ e. target_mentions e (target_to way ts) ≡ true) k → WaySuits c.block scene lane memory first way
       → (old new : Draft) (steps : List ReachStep) → MadeWay scene lane current old new first way steps → AgreeInTime c new → c.block.first ≤ length old.operations.items
-      → Within c old new k.most × (greatest_of (map (clock_of c) (offsets_taken steps)) ≡ way_level shared outer way k)
+      → Within c old new k.most × (greatest_number (map (clock_of c) (offsets_taken steps)) ≡ way_level shared outer way k)
   way_timed None memory first k ts bounded vars suits old new steps m agree started =
-      (within_none c old new k.most m.0, ap (λ (ss : List ReachStep). greatest_of (map (clock_of c) (offsets_taken ss))) m.1)
+      (within_none c old new k.most m.0, ap (λ (ss : List ReachStep). greatest_number (map (clock_of c) (offsets_taken ss))) m.1)
   way_timed (Some w) memory first k ts bounded vars suits old new steps m agree started =
       steps_timed w memory first k old new steps m suits (hidden_timed w.hidden k bounded (kept_at w.hidden k (λ e q. vars e (way_mentions w e ts q)) suits.0) old new m.values m.hidden agree started)
     where
       steps_timed : (w : Way) (memory first : ℕ) (k : Levels) (old new : Draft) (steps : List ReachStep) (m : MadeSteps scene lane current old new first w steps) → WaySuits c.block scene lane memory first (Some w)
-          → Within c old new k.most × (greatest_of (map (clock_of c) m.values) ≡ (terms_leveled shared outer (kept_terms w.hidden) k).level)
-          → Within c old new k.most × (greatest_of (map (clock_of c) (offsets_taken steps)) ≡ (terms_leveled shared outer (kept_terms w.hidden) k).level)
+          → Within c old new k.most × (greatest_number (map (clock_of c) m.values) ≡ (terms_leveled shared outer (kept_terms w.hidden) k).level)
+          → Within c old new k.most × (greatest_number (map (clock_of c) (offsets_taken steps)) ≡ (terms_leveled shared outer (kept_terms w.hidden) k).level)
       steps_timed w memory first k old new steps m suits h = (
         h.0,
-        ap (λ (ss : List ReachStep). greatest_of (map (clock_of c) (offsets_taken ss))) m.steps_are
-            ∙ (ap (λ (vs : List ℕ). greatest_of (map (clock_of c) vs)) (steps_take c.block scene.through.now memory w.steps first (length w.hidden) w.is.shape.dims m.values long suits.1) ∙ h.1),
+        ap (λ (ss : List ReachStep). greatest_number (map (clock_of c) (offsets_taken ss))) m.steps_are
+            ∙ (ap (λ (vs : List ℕ). greatest_number (map (clock_of c) vs)) (steps_take c.block scene.through.now memory w.steps first (length w.hidden) w.is.shape.dims m.values long suits.1) ∙ h.1),
       )
         where
           long : length m.values ≡ length w.hidden
@@ -450,7 +450,7 @@ module _ (c : Clocks) (scene : Scene) (lane : Lane) (current : List (Option ℕ)
       began : c.block.first ≤ length named.operations.items
       began = time_later c old named (all_formed scene lane current ts old named before after n aim.number aim.indices m few).part.extends s.stands.started
 
-      way : Within c named new (all_leveled scene shared outer n ts l).levels.most × (greatest_of (map (clock_of c) (offsets_taken aim.steps)) ≡ way_level shared outer (way_of (known_in scene) r) (all_leveled scene shared outer n ts l).levels)
+      way : Within c named new (all_leveled scene shared outer n ts l).levels.most × (greatest_number (map (clock_of c) (offsets_taken aim.steps)) ≡ way_level shared outer (way_of (known_in scene) r) (all_leveled scene shared outer n ts l).levels)
       way =
           way_timed (way_of (known_in scene) r) (memory_of (known_in scene) r) (first_view scene r) (all_leveled scene shared outer n ts l).levels (core_terms (known_in scene) n ts) (behind.bounded s.bounded)
           (variables_later (NamedMention c.block scene lane current n r ts) l (all_leveled scene shared outer n ts l).levels behind.variables vars) w.1.1 named new aim.steps steps s.agree began

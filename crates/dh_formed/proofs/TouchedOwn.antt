@@ -16,13 +16,13 @@ use Rattle.dh_expressions.specs.declared.scenes.Lane.{Lane}
 use Rattle.dh_expressions.specs.declared.scenes.Scene.{Scene}
 use Rattle.dh_expressions.specs.MadeTerms.{MadeRead, MadeTerm, MadeTerms}
 use Rattle.dh_expressions.specs.Noted.{Notes, noted_in, touched_in}
-use Rattle.dh_expressions.specs.Standings.{Standing}
+use Rattle.dh_expressions.specs.Standings.{AccessStanding}
 use Rattle.dh_expressions.specs.Touching.{TouchesAt}
 use Rattle.dh_expressions.proofs.AccessesKept.{place_noted}
 use Rattle.dh_formed.specs.Commanded.{WritesTouchOwn}
 use Rattle.dh_formed.proofs.TermsFormed.{all_numbered, numbered}
 
-touch_other : (scene : Scene) (around : Around) (s : Standing) (old new : Draft) (before after : Accesses) (number m : ℕ) → TouchesAt scene around s old new before after number → (m ≡ number → ⊥)
+touch_other : (scene : Scene) (around : Around) (s : AccessStanding) (old new : Draft) (before after : Accesses) (number m : ℕ) → TouchesAt scene around s old new before after number → (m ≡ number → ⊥)
     → touched_in after m ≡ touched_in before m
 touch_other scene around s old new before after number m t other = by (touched_in before m) refl
   where

@@ -27,7 +27,7 @@ use Rattle.dh_plan.specs.Ordered.{IsBetween, TakesEarlier}
 use Rattle.dh_plan.specs.PlanKinds.{form_kind}
 use Rattle.dh_expressions.specs.declared.drafts.Draft.{Draft}
 use Rattle.dh_expressions.specs.Drafted.{Extends, Pushes}
-use Rattle.dh_formed.specs.Formed.{Agrees, Block, Forms, FormsValue, HasKind, HeldSuits, IsExtension, IsFormedAt, OperandsSuit, Started, kind_of, operand_kind}
+use Rattle.dh_formed.specs.Formed.{Agrees, FormedBlock, Forms, FormsValue, HasKind, HeldSuits, IsExtension, IsFormedAt, OperandsSuit, Started, kind_in_block, operand_kind}
 use Rattle.dh_expressions.specs.MadeValues.{IsThere, MadeConverted, MadeCurrent, MadeExtended, MadeHeld, MadeLowestBit, MadeNumber, MadeOperation, MadeShown, MadeTruth}
 use Rattle.dh_expressions.specs.Shown.{is_kept, is_read_term, kind_written}
 use Rattle.dh_expressions.proofs.ListPlaces.{place_of_more, place_within, some_same, there}
@@ -45,23 +45,23 @@ faults_fewer old new e = by (cases_lt (length new.faults) (length old.faults))
     by (inl less) = absurd (lost less (there old.faults (length new.faults) less))
     by (inr few) = few
 
-pub agrees_before : (x : Block) (old new : Draft) → Extends old new → Agrees x new → Agrees x old
+pub agrees_before : (x : FormedBlock) (old new : Draft) → Extends old new → Agrees x new → Agrees x old
 agrees_before x old new e a = record {
   kinds = λ n o from at takes. a.kinds n o from (e.operations n o at) takes;
   faults = let f = faults_fewer old new e in let g = a.faults in omega (arith, f, g);
   few = a.few;
 }
 
-pub started_later : (x : Block) (old new : Draft) → Extends old new → Started x old → Started x new
+pub started_later : (x : FormedBlock) (old new : Draft) → Extends old new → Started x old → Started x new
 started_later x old new e s = let l = e.longer in omega (arith, s, l)
 
-pub kind_later : (x : Block) (old new : Draft) (k : Kind) (n : ℕ) → Extends old new → HasKind x old k n → HasKind x new k n
+pub kind_later : (x : FormedBlock) (old new : Draft) (k : Kind) (n : ℕ) → Extends old new → HasKind x old k n → HasKind x new k n
 kind_later x old new k n e h = record { from = h.from; below = let b = h.below in let l = e.longer in omega (arith, b, l); kind_is = h.kind_is }
 
-pub kind_same : (x : Block) (d : Draft) (j k : Kind) (n : ℕ) → j ≡ k → HasKind x d j n → HasKind x d k n
+pub kind_same : (x : FormedBlock) (d : Draft) (j k : Kind) (n : ℕ) → j ≡ k → HasKind x d j n → HasKind x d k n
 kind_same x d j k n e h = record { from = h.from; below = h.below; kind_is = h.kind_is ∙ e }
 
-pub forms_none : (x : Block) (d e : Draft) → e ≡ d → Forms x d e
+pub forms_none : (x : FormedBlock) (d e : Draft) → e ≡ d → Forms x d e
 forms_none x d e same = record { each = λ n o far at. absurd (never n o far at) }
   where
     never : (n : ℕ) (o : Operation) → length d.operations.items ≤ n → slice_get e.operations.items n ≡ Some o → ⊥
@@ -70,7 +70,7 @@ forms_none x d e same = record { each = λ n o far at. absurd (never n o far at)
         let l : length e.operations.items ≡ length d.operations.items = ap (λ (k : Draft). length k.operations.items) same in
         omega (arith, w, l, far)
 
-pub forms_again : (x : Block) (a b c : Draft) → Extends b c → Forms x a b → Forms x b c → Forms x a c
+pub forms_again : (x : FormedBlock) (a b c : Draft) → Extends b c → Forms x a b → Forms x b c → Forms x a c
 forms_again x a b c e f g = record { each = λ n o far at. by n o far at (cases_lt n (length b.operations.items)) }
   where
     front : (n : ℕ) (o : Operation) → length a.operations.items ≤ n → slice_get c.operations.items n ≡ Some o → (p : Operation) × (slice_get b.operations.items n ≡ Some p) → IsFormedAt x n o
@@ -82,7 +82,7 @@ forms_again x a b c e f g = record { each = λ n o far at. by n o far at (cases_
     by n o far at (inr behind) = g.each n o behind at
 
 -- One operation more.
-module _ (old new : Draft) (number : ℕ) (guard : Option ℕ) (form : OperationForm) (p : Pushes old new number guard form) (x : Block) where
+module _ (old new : Draft) (number : ℕ) (guard : Option ℕ) (form : OperationForm) (p : Pushes old new number guard form) (x : FormedBlock) where
   pub pushed_forms : IsFormedAt x (length old.operations.items) (record { guard = guard; form = form }) → Forms x old new
   pushed_forms h = record { each = λ n o far at. by n o far (place_of_more old.operations.items (record { guard = guard; form = form }) o n (sym (ap (λ (os : List Operation). slice_get os n) p.operations) ∙ at)) }
     where
@@ -102,13 +102,13 @@ module _ (old new : Draft) (number : ℕ) (guard : Option ℕ) (form : Operation
   }
 
 -- what an operation takes of one value
-pub between : (x : Block) (d : Draft) (k : Kind) (n : ℕ) → HasKind x d k n → IsBetween x.first (length d.operations.items) n
+pub between : (x : FormedBlock) (d : Draft) (k : Kind) (n : ℕ) → HasKind x d k n → IsBetween x.first (length d.operations.items) n
 between x d k n h = (h.from, h.below)
 
 -- a value put down without a guard
-pub forms_pushed : (old new : Draft) (number : ℕ) (form : OperationForm) (Where : Block → Type 0) (kind : Block → Kind) → Pushes old new number None form
-    → ((x : Block) → Where x → IsFormedAt x (length old.operations.items) (record { guard = None; form = form }))
-    → ((x : Block) → Where x → form_kind x.plan.table x.plan.registers x.first x.kinds form ≡ kind x)
+pub forms_pushed : (old new : Draft) (number : ℕ) (form : OperationForm) (Where : FormedBlock → Type 0) (kind : FormedBlock → Kind) → Pushes old new number None form
+    → ((x : FormedBlock) → Where x → IsFormedAt x (length old.operations.items) (record { guard = None; form = form }))
+    → ((x : FormedBlock) → Where x → form_kind x.plan.table x.plan.registers x.first x.kinds form ≡ kind x)
     → FormsValue old new number Where kind
 forms_pushed old new number form Where kind p formed is = record {
   extends = pushed_extends old new number None form p;
@@ -117,8 +117,8 @@ forms_pushed old new number form Where kind p formed is = record {
 }
 
 -- a value that stood there
-pub forms_there : (old new : Draft) (value v : ℕ) (Where : Block → Type 0) (kind : Block → Kind) → IsThere old new value v
-    → ((x : Block) → Where x → HasKind x old (kind x) value) → FormsValue old new v Where kind
+pub forms_there : (old new : Draft) (value v : ℕ) (Where : FormedBlock → Type 0) (kind : FormedBlock → Kind) → IsThere old new value v
+    → ((x : FormedBlock) → Where x → HasKind x old (kind x) value) → FormsValue old new v Where kind
 forms_there old new value v Where kind h gives = record {
   extends = subst (λ (d : Draft). Extends old d) (sym h.0) (extends_self old);
   forms = λ x a s w. forms_none x old new h.0;
@@ -126,7 +126,7 @@ forms_there old new value v Where kind h gives = record {
 }
 
 -- a value made of one that was made before
-pub forms_then : (a b c : Draft) (u v : ℕ) (Where : Block → Type 0) (first second : Block → Kind) → FormsValue a b u Where first
+pub forms_then : (a b c : Draft) (u v : ℕ) (Where : FormedBlock → Type 0) (first second : FormedBlock → Kind) → FormsValue a b u Where first
     → FormsValue b c v (λ x. Where x × HasKind x b (first x) u) second → FormsValue a c v Where second
 forms_then a b c u v Where first second f g = record {
   extends = extends_again a b c f.extends g.extends;
@@ -137,7 +137,7 @@ forms_then a b c u v Where first second f g = record {
 }
 
 -- the same where more holds, or told otherwise
-pub forms_where : (a b : Draft) (v : ℕ) (Where Other : Block → Type 0) (kind other : Block → Kind) → ((x : Block) → Other x → Where x) → ((x : Block) → Other x → kind x ≡ other x)
+pub forms_where : (a b : Draft) (v : ℕ) (Where Other : FormedBlock → Type 0) (kind other : FormedBlock → Kind) → ((x : FormedBlock) → Other x → Where x) → ((x : FormedBlock) → Other x → kind x ≡ other x)
     → FormsValue a b v Where kind → FormsValue a b v Other other
 forms_where a b v Where Other kind other more same f = record {
   extends = f.extends;
@@ -151,8 +151,8 @@ pub number_fits : (k : Kind) (negative : Truth) (n : ℕ) → IsKind k → IsWor
 number_fits k false n sized = record { sized = sized; fits = mod-lt n (pow_pos (width_of k)) }
 number_fits k true n sized = record { sized = sized; fits = mod-lt (2 ^ width_of k - n % 2 ^ width_of k) (pow_pos (width_of k)) }
 
-pub constant_forms : (old new : Draft) (v : ℕ) (word : Word) (Where : Block → Type 0) (kind : Block → Kind) → Pushes old new v None (Constant word)
-    → ((x : Block) → Where x → IsWord word) → ((x : Block) → Where x → word.kind ≡ kind x) → FormsValue old new v Where kind
+pub constant_forms : (old new : Draft) (v : ℕ) (word : Word) (Where : FormedBlock → Type 0) (kind : FormedBlock → Kind) → Pushes old new v None (Constant word)
+    → ((x : FormedBlock) → Where x → IsWord word) → ((x : FormedBlock) → Where x → word.kind ≡ kind x) → FormsValue old new v Where kind
 constant_forms old new v word Where kind p fits is =
     forms_pushed old new v (Constant word) Where kind p (λ x w. record { takes = tt; suits = record { guard = tt; form = fits x w } }) is
 
@@ -172,11 +172,11 @@ compute_forms old new v a b o j k p =
     forms_pushed old new v (Compute o a b) _ _ p
     (λ x w. record {
       takes = (between x old j a w.1.0, (between x old k b w.1.1, tt));
-      suits = record { guard = tt; form = subst (λ (l : Kind). Suits o l (kind_of x b)) (sym w.1.0.kind_is) (subst (λ (r : Kind). Suits o j r) (sym w.1.1.kind_is) w.0) };
+      suits = record { guard = tt; form = subst (λ (l : Kind). Suits o l (kind_in_block x b)) (sym w.1.0.kind_is) (subst (λ (r : Kind). Suits o j r) (sym w.1.1.kind_is) w.0) };
     }) (λ x w. ap (λ (l : Kind). result_of o l) w.1.0.kind_is)
 
 -- a conversion of a value of any kind
-pub convert_forms : (old new : Draft) (v a : ℕ) (to : Kind) (kind : Block → Kind) → Pushes old new v None (Convert a to)
+pub convert_forms : (old new : Draft) (v a : ℕ) (to : Kind) (kind : FormedBlock → Kind) → Pushes old new v None (Convert a to)
     → FormsValue old new v (λ x. IsInteger to × HasKind x old (kind x) a) (λ x. to)
 convert_forms old new v a to kind p =
     forms_pushed old new v (Convert a to) _ _ p (λ x w. record { takes = (between x old (kind x) a w.1, tt); suits = record { guard = tt; form = w.0 } }) (λ x w. refl)
@@ -246,7 +246,7 @@ operation_forms o left right k a b old new v m = record {
         (λ x. result_of o (operand_kind (kind_written left) (extension_by o left right)))
     c = compute_forms m.second new v m.x m.y o (operand_kind (kind_written left) (extension_by o left right)) (operand_kind (kind_written right) (extension_by o left right)) m.pushes
 
-    operands : (x : Block) → Agrees x new → Started x old → OperandsSuit o (kind_written left) (kind_written right) k × (HasKind x old (kind_written left) a × HasKind x old (kind_written right) b)
+    operands : (x : FormedBlock) → Agrees x new → Started x old → OperandsSuit o (kind_written left) (kind_written right) k × (HasKind x old (kind_written left) a × HasKind x old (kind_written right) b)
         → Suits o (operand_kind (kind_written left) (extension_by o left right)) (operand_kind (kind_written right) (extension_by o left right)) × (HasKind x m.second (operand_kind (kind_written left) (extension_by o left right)) m.x × HasKind x m.second (operand_kind (kind_written right) (extension_by o left right)) m.y)
     operands x at s w =
         let at2 = agrees_before x m.second new c.extends at in
@@ -260,7 +260,7 @@ operation_forms o left right k a b old new v m = record {
         )
 
 -- a truth that a memory held
-lowest_forms : (value : ℕ) (own : Block → Kind) (old new : Draft) (v : ℕ) → MadeLowestBit value old new v → FormsValue old new v (λ x. HasKind x old (own x) value) (λ x. kind.Bool)
+lowest_forms : (value : ℕ) (own : FormedBlock → Kind) (old new : Draft) (v : ℕ) → MadeLowestBit value old new v → FormsValue old new v (λ x. HasKind x old (own x) value) (λ x. kind.Bool)
 lowest_forms value own old new v m = record {
   extends = extends_again old m.first new l.extends (extends_again m.first m.second new r.extends c.extends);
   forms = λ x at s w.
@@ -285,7 +285,7 @@ lowest_forms value own old new v m = record {
     c : FormsValue m.second new v (λ x. Suits op.Eq (kind.Unsigned 1) (kind.Unsigned 1) × (HasKind x m.second (kind.Unsigned 1) m.bit × HasKind x m.second (kind.Unsigned 1) m.one)) (λ x. kind.Bool)
     c = compute_forms m.second new v m.bit m.one op.Eq (kind.Unsigned 1) (kind.Unsigned 1) m.pushes
 
-    operands : (x : Block) → Agrees x new → Started x old → HasKind x old (own x) value
+    operands : (x : FormedBlock) → Agrees x new → Started x old → HasKind x old (own x) value
         → Suits op.Eq (kind.Unsigned 1) (kind.Unsigned 1) × (HasKind x m.second (kind.Unsigned 1) m.bit × HasKind x m.second (kind.Unsigned 1) m.one)
     operands x at s w =
         let at2 = agrees_before x m.second new c.extends at in
@@ -307,7 +307,7 @@ held_forms t (kind.Signed w) value old new v m = converted_forms t (kind.Signed 
 -- Variables.
 
 -- a register is there, and a value that its variable was given is of its kind
-abbrev pub ShowsThere : (current : List (Option ℕ)) → (register : ℕ) → Draft → Block → Type 0
+abbrev pub ShowsThere : (current : List (Option ℕ)) → (register : ℕ) → Draft → FormedBlock → Type 0
 ShowsThere current register old x = (register < length x.plan.registers) × ((value : ℕ) → slice_get current register ≡ Some (Some value) → HasKind x old (kind_at x.plan.registers register) value)
 
 pub shown_forms : (current : List (Option ℕ)) (register : ℕ) (old new : Draft) (v : ℕ) → MadeShown current register old new v

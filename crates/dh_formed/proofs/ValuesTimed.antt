@@ -12,31 +12,31 @@ use Rattle.dh_tree.specs.PlainTrees.{Term}
 use Rattle.dh_code.specs.declared.places.Held.{Held}
 use Rattle.dh_plan.specs.declared.operations.OperationForm.{OperationForm}
 use Rattle.dh_plan.specs.declared.operations.OperationForm.TheVariants.{Constant, Old, Compute, Convert}
-use Rattle.dh_plan.specs.LegalSchedules.{greatest_of, is_read, there_at}
+use Rattle.dh_plan.specs.LegalSchedules.{greatest_number, is_read, there_at}
 use Rattle.dh_plan.specs.Ordered.{operation_takes}
 use Rattle.dh_expressions.specs.declared.drafts.Draft.{Draft}
 use Rattle.dh_expressions.specs.declared.scenes.Lane.{Lane}
 use Rattle.dh_expressions.specs.Drafted.{Extends, Pushes}
 use Rattle.dh_expressions.specs.MadeValues.{IsThere, MadeAddend, MadeBit, MadeBits, MadeBy, MadeConverted, MadeCurrent, MadeExtended, MadeHeld, MadeIterator, MadeLowestBit, MadeMultiple, MadeNumber, MadeOffset, MadeOperation, MadeShifted, MadeShown, MadeSum, MadeTotal, MadeTruth, MadeTurns}
 use Rattle.dh_expressions.specs.Shown.{is_kept, is_read_term, register_at}
-use Rattle.dh_formed.specs.Timed.{AgreeInTime, Clocks, CurrentAt, HasClock, StartedInTime, TimesValue, VariableAt, Within, clock_of}
+use Rattle.dh_formed.specs.Timed.{AgreeInTime, BlockClocks, CurrentAt, HasClock, StartedInTime, TimesValue, VariableAt, Within, clock_of}
 use Rattle.dh_expressions.proofs.Pushing.{extends_again, extends_self, pushed_extends, pushed_longer, pushed_there}
 
 -- Facts of operations in front.
 
-pub agree_before : (c : Clocks) (old new : Draft) → Extends old new → AgreeInTime c new → AgreeInTime c old
+pub agree_before : (c : BlockClocks) (old new : Draft) → Extends old new → AgreeInTime c new → AgreeInTime c old
 agree_before c old new e a = record { each = λ n o from at. a.each n o from (e.operations n o at) }
 
-pub time_later : (c : Clocks) (old new : Draft) → Extends old new → StartedInTime c old → StartedInTime c new
+pub time_later : (c : BlockClocks) (old new : Draft) → Extends old new → StartedInTime c old → StartedInTime c new
 time_later c old new e s = let l = e.longer in omega (arith, s, l)
 
-pub within_none : (c : Clocks) (d e : Draft) (k : ℕ) → e ≡ d → Within c d e k
+pub within_none : (c : BlockClocks) (d e : Draft) (k : ℕ) → e ≡ d → Within c d e k
 within_none c d e k same = λ n far less. absurd (never n far less)
   where
     never : (n : ℕ) → length d.operations.items ≤ n → n < length e.operations.items → ⊥
     never n far less = let l : length e.operations.items ≡ length d.operations.items = ap (λ (k : Draft). length k.operations.items) same in omega (arith, l, far, less)
 
-pub within_again : (c : Clocks) (a b d : Draft) (j k : ℕ) → j ≤ k → Within c a b j → Within c b d k → Within c a d k
+pub within_again : (c : BlockClocks) (a b d : Draft) (j k : ℕ) → j ≤ k → Within c a b j → Within c b d k → Within c a d k
 within_again c a b d j k few f g = λ n far less. by n far less (cases_lt n (length b.operations.items))
   where
     front : (n j k : ℕ) → n ≤ j → j ≤ k → n ≤ k
@@ -46,12 +46,12 @@ within_again c a b d j k few f g = λ n far less. by n far less (cases_lt n (len
     by n far less (inl near) = front (clock_of c n) j k (f n far near) few
     by n far less (inr behind) = g n behind less
 
-pub within_more : (c : Clocks) (a b : Draft) (j k : ℕ) → j ≤ k → Within c a b j → Within c a b k
+pub within_more : (c : BlockClocks) (a b : Draft) (j k : ℕ) → j ≤ k → Within c a b j → Within c a b k
 within_more c a b j k few f = λ n far less. let l = f n far less in omega (arith, l, few)
 
 -- One operation more.
-module _ (old new : Draft) (number : ℕ) (guard : Option ℕ) (form : OperationForm) (p : Pushes old new number guard form) (c : Clocks) where
-  pub pushed_clock : AgreeInTime c new → StartedInTime c old → clock_of c number ≡ there_at form (greatest_of (map (clock_of c) (operation_takes (record { guard = guard; form = form }))))
+module _ (old new : Draft) (number : ℕ) (guard : Option ℕ) (form : OperationForm) (p : Pushes old new number guard form) (c : BlockClocks) where
+  pub pushed_clock : AgreeInTime c new → StartedInTime c old → clock_of c number ≡ there_at form (greatest_number (map (clock_of c) (operation_takes (record { guard = guard; form = form }))))
   pushed_clock a s = a.each number (record { guard = guard; form = form }) (let m = p.number_is in omega (arith, m, s)) (pushed_there old new number guard form p)
 
   pub pushed_within : (k : ℕ) → clock_of c number ≤ k → Within c old new k
@@ -61,8 +61,8 @@ module _ (old new : Draft) (number : ℕ) (guard : Option ℕ) (form : Operation
       own n far less = let l = pushed_longer old new number guard form p in let m = p.number_is in omega (arith, far, less, l, m)
 
 -- an operation that is no read
-pub timed_pushed : (old new : Draft) (v : ℕ) (form : OperationForm) (Where : Clocks → Type 0) (clock : Clocks → ℕ) → Pushes old new v None form → is_read form ≡ false
-    → ((c : Clocks) → Where c → greatest_of (map (clock_of c) (operation_takes (record { guard = None; form = form }))) ≡ clock c) → TimesValue old new v Where clock
+pub timed_pushed : (old new : Draft) (v : ℕ) (form : OperationForm) (Where : BlockClocks → Type 0) (clock : BlockClocks → ℕ) → Pushes old new v None form → is_read form ≡ false
+    → ((c : BlockClocks) → Where c → greatest_number (map (clock_of c) (operation_takes (record { guard = None; form = form }))) ≡ clock c) → TimesValue old new v Where clock
 timed_pushed old new v form Where clock p still is = record {
   extends = pushed_extends old new v None form p;
   within = λ c a s w. pushed_within old new v None form p c (clock c) (same (clock_of c v) (clock c) (at c a s w));
@@ -72,10 +72,10 @@ timed_pushed old new v form Where clock p still is = record {
     same : (m k : ℕ) → m ≡ k → m ≤ k
     same m k e = omega (arith, e)
 
-    at : (c : Clocks) → AgreeInTime c new → StartedInTime c old → Where c → clock_of c v ≡ clock c
-    at c a s w = pushed_clock old new v None form p c a s ∙ (ap (λ (b : Truth). if b then suc (greatest_of (map (clock_of c) (operation_takes (record { guard = None; form = form })))) else greatest_of (map (clock_of c) (operation_takes (record { guard = None; form = form })))) still ∙ is c w)
+    at : (c : BlockClocks) → AgreeInTime c new → StartedInTime c old → Where c → clock_of c v ≡ clock c
+    at c a s w = pushed_clock old new v None form p c a s ∙ (ap (λ (b : Truth). if b then suc (greatest_number (map (clock_of c) (operation_takes (record { guard = None; form = form })))) else greatest_number (map (clock_of c) (operation_takes (record { guard = None; form = form })))) still ∙ is c w)
 
-timed_there : (old new : Draft) (value v : ℕ) (Where : Clocks → Type 0) (clock : Clocks → ℕ) → IsThere old new value v → ((c : Clocks) → Where c → HasClock c (clock c) value) → TimesValue old new v Where clock
+timed_there : (old new : Draft) (value v : ℕ) (Where : BlockClocks → Type 0) (clock : BlockClocks → ℕ) → IsThere old new value v → ((c : BlockClocks) → Where c → HasClock c (clock c) value) → TimesValue old new v Where clock
 timed_there old new value v Where clock h at = record {
   extends = subst (λ (d : Draft). Extends old d) (sym h.0) (extends_self old);
   within = λ c a s w. within_none c old new (clock c) h.0;
@@ -83,7 +83,7 @@ timed_there old new value v Where clock h at = record {
 }
 
 -- a value made of one that was made before, no earlier
-timed_then : (a b d : Draft) (u v : ℕ) (Where : Clocks → Type 0) (first second : Clocks → ℕ) → ((c : Clocks) → Where c → first c ≤ second c) → TimesValue a b u Where first
+timed_then : (a b d : Draft) (u v : ℕ) (Where : BlockClocks → Type 0) (first second : BlockClocks → ℕ) → ((c : BlockClocks) → Where c → first c ≤ second c) → TimesValue a b u Where first
     → TimesValue b d v (λ c. Where c × HasClock c (first c) u) second → TimesValue a d v Where second
 timed_then a b d u v Where first second few f g = record {
   extends = extends_again a b d f.extends g.extends;
@@ -93,7 +93,7 @@ timed_then a b d u v Where first second few f g = record {
   at = λ c at s w. g.at c at (time_later c a b f.extends s) (w, f.at c (agree_before c b d g.extends at) s w);
 }
 
-timed_where : (a b : Draft) (v : ℕ) (Where Other : Clocks → Type 0) (clock other : Clocks → ℕ) → ((c : Clocks) → Other c → Where c) → ((c : Clocks) → Other c → clock c ≡ other c)
+timed_where : (a b : Draft) (v : ℕ) (Where Other : BlockClocks → Type 0) (clock other : BlockClocks → ℕ) → ((c : BlockClocks) → Other c → Where c) → ((c : BlockClocks) → Other c → clock c ≡ other c)
     → TimesValue a b v Where clock → TimesValue a b v Other other
 timed_where a b v Where Other clock other more same f = record {
   extends = f.extends;
@@ -118,27 +118,27 @@ word_timed old new v word p = timed_pushed old new v (Constant word) (λ c. Unit
 old_timed : (old new : Draft) (v register : ℕ) → Pushes old new v None (Old register) → TimesValue old new v (λ c. Unit {0}) (λ c. 0)
 old_timed old new v register p = timed_pushed old new v (Old register) (λ c. Unit {0}) (λ c. 0) p refl (λ c w. refl)
 
-pub compute_timed : (old new : Draft) (v a b : ℕ) (o : Op) (j k : Clocks → ℕ) → Pushes old new v None (Compute o a b) → TimesValue old new v (λ c. HasClock c (j c) a × HasClock c (k c) b) (λ c. max (j c) (k c))
+pub compute_timed : (old new : Draft) (v a b : ℕ) (o : Op) (j k : BlockClocks → ℕ) → Pushes old new v None (Compute o a b) → TimesValue old new v (λ c. HasClock c (j c) a × HasClock c (k c) b) (λ c. max (j c) (k c))
 compute_timed old new v a b o j k p =
     timed_pushed old new v (Compute o a b) _ (λ c. max (j c) (k c)) p refl
     (λ c w. two_greatest (clock_of c a) (clock_of c b) ∙ (ap (λ n. max n (clock_of c b)) w.0 ∙ ap (λ n. max (j c) n) w.1))
 
-convert_timed : (old new : Draft) (v a : ℕ) (to : Kind) (k : Clocks → ℕ) → Pushes old new v None (Convert a to) → TimesValue old new v (λ c. HasClock c (k c) a) k
+convert_timed : (old new : Draft) (v a : ℕ) (to : Kind) (k : BlockClocks → ℕ) → Pushes old new v None (Convert a to) → TimesValue old new v (λ c. HasClock c (k c) a) k
 convert_timed old new v a to k p = timed_pushed old new v (Convert a to) _ k p refl (λ c w. one_greatest (clock_of c a) ∙ w)
 
-pub converted_timed : (t : Term) (to : Kind) (value : ℕ) (k : Clocks → ℕ) (old new : Draft) (v : ℕ) → MadeConverted (is_kept t to) to value old new v → TimesValue old new v (λ c. HasClock c (k c) value) k
+pub converted_timed : (t : Term) (to : Kind) (value : ℕ) (k : BlockClocks → ℕ) (old new : Draft) (v : ℕ) → MadeConverted (is_kept t to) to value old new v → TimesValue old new v (λ c. HasClock c (k c) value) k
 converted_timed t to value k old new v m = by (is_kept t to) m
   where
     by : (b : Truth) → MadeConverted b to value old new v → TimesValue old new v (λ c. HasClock c (k c) value) k
     by true m = timed_there old new value v _ k m (λ c w. w)
     by false m = convert_timed old new v value to k m
 
-extended_timed : (t : Term) (to : Kind) (value : ℕ) (k : Clocks → ℕ) (old new : Draft) (v : ℕ) → MadeExtended t to value old new v → TimesValue old new v (λ c. HasClock c (k c) value) k
+extended_timed : (t : Term) (to : Kind) (value : ℕ) (k : BlockClocks → ℕ) (old new : Draft) (v : ℕ) → MadeExtended t to value old new v → TimesValue old new v (λ c. HasClock c (k c) value) k
 extended_timed t kind.Bool value k old new v m = timed_there old new value v _ k m (λ c w. w)
 extended_timed t (kind.Unsigned w) value k old new v m = converted_timed t (kind.Unsigned w) value k old new v m
 extended_timed t (kind.Signed w) value k old new v m = converted_timed t (kind.Signed w) value k old new v m
 
-pub operation_timed : (o : Op) (left right : Term) (a b : ℕ) (j k : Clocks → ℕ) (old new : Draft) (v : ℕ) → MadeOperation o left right a b old new v
+pub operation_timed : (o : Op) (left right : Term) (a b : ℕ) (j k : BlockClocks → ℕ) (old new : Draft) (v : ℕ) → MadeOperation o left right a b old new v
     → TimesValue old new v (λ c. HasClock c (j c) a × HasClock c (k c) b) (λ c. max (j c) (k c))
 operation_timed o left right a b j k old new v m = record {
   extends = extends_again old m.first new l.extends (extends_again m.first m.second new r.extends p.extends);
@@ -172,7 +172,7 @@ operation_timed o left right a b j k old new v m = record {
     right_few m n = omega arith
 
 -- an operator on a value and a number put down behind it
-with_number : (o : Op) (value amount : ℕ) (kd : Kind) (n : ℕ) (k : Clocks → ℕ) (old middle new : Draft) (v : ℕ) → MadeNumber kd false n old middle amount → Pushes middle new v None (Compute o value amount)
+with_number : (o : Op) (value amount : ℕ) (kd : Kind) (n : ℕ) (k : BlockClocks → ℕ) (old middle new : Draft) (v : ℕ) → MadeNumber kd false n old middle amount → Pushes middle new v None (Compute o value amount)
     → TimesValue old new v (λ c. HasClock c (k c) value) k
 with_number o value amount kd n k old middle new v m p =
     timed_then old middle new amount v (λ c. HasClock c (k c) value) (λ c. 0) k (λ c w. least (k c))
@@ -182,7 +182,7 @@ with_number o value amount kd n k old middle new v m p =
     least : (n : ℕ) → 0 ≤ n
     least n = omega arith
 
-lowest_timed : (value : ℕ) (k : Clocks → ℕ) (old new : Draft) (v : ℕ) → MadeLowestBit value old new v → TimesValue old new v (λ c. HasClock c (k c) value) k
+lowest_timed : (value : ℕ) (k : BlockClocks → ℕ) (old new : Draft) (v : ℕ) → MadeLowestBit value old new v → TimesValue old new v (λ c. HasClock c (k c) value) k
 lowest_timed value k old new v m =
     timed_then old m.first new m.bit v (λ c. HasClock c (k c) value) k k (λ c w. self (k c)) (convert_timed old m.first m.bit value (kind.Unsigned 1) k m.converts)
     (timed_where m.first new v (λ c. HasClock c (k c) m.bit) _ k k (λ c w. w.1) (λ c w. refl) (with_number op.Eq m.bit m.one (kind.Unsigned 1) 1 k m.first m.second new v m.constant m.pushes))
@@ -190,7 +190,7 @@ lowest_timed value k old new v m =
     self : (n : ℕ) → n ≤ n
     self n = omega arith
 
-pub held_timed : (t : Term) (to : Kind) (value : ℕ) (k : Clocks → ℕ) (old new : Draft) (v : ℕ) → MadeHeld t to value old new v → TimesValue old new v (λ c. HasClock c (k c) value) k
+pub held_timed : (t : Term) (to : Kind) (value : ℕ) (k : BlockClocks → ℕ) (old new : Draft) (v : ℕ) → MadeHeld t to value old new v → TimesValue old new v (λ c. HasClock c (k c) value) k
 held_timed t kind.Bool value k old new v m = by (is_read_term t) m
   where
     by : (b : Truth) → MadeTruth b value old new v → TimesValue old new v (λ c. HasClock c (k c) value) k
@@ -201,10 +201,10 @@ held_timed t (kind.Signed w) value k old new v m = converted_timed t (kind.Signe
 
 -- Iterators are there at the begin.
 
-abbrev AtStart : (value : ℕ) → Clocks → Type 0
+abbrev AtStart : (value : ℕ) → BlockClocks → Type 0
 AtStart value c = HasClock c 0 value
 
-abbrev SumAtStart : Option ℕ → Clocks → Type 0
+abbrev SumAtStart : Option ℕ → BlockClocks → Type 0
 SumAtStart None c = Unit {0}
 SumAtStart (Some value) c = HasClock c 0 value
 
@@ -217,12 +217,12 @@ sum_timed None value old new v m = timed_there old new value v _ (λ c. 0) m (λ
 sum_timed (Some sum) value old new v m =
     timed_where old new v (λ c. HasClock c 0 sum × HasClock c 0 value) _ (λ c. max 0 0) (λ c. 0) (λ c w. (w.1, w.0)) (λ c w. refl) (compute_timed old new v sum value op.Add (λ c. 0) (λ c. 0) m)
 
-record TimesSum (old new : Draft) (sum : Option ℕ) (Where : Clocks → Type 0) : Type 0 where
+record TimesSum (old new : Draft) (sum : Option ℕ) (Where : BlockClocks → Type 0) : Type 0 where
   extends : Extends old new
-  within : (c : Clocks) → AgreeInTime c new → StartedInTime c old → Where c → Within c old new 0
-  at : (c : Clocks) → AgreeInTime c new → StartedInTime c old → Where c → SumAtStart sum c
+  within : (c : BlockClocks) → AgreeInTime c new → StartedInTime c old → Where c → Within c old new 0
+  at : (c : BlockClocks) → AgreeInTime c new → StartedInTime c old → Where c → SumAtStart sum c
 
-sum_there : (old new : Draft) (sum more : Option ℕ) (Where : Clocks → Type 0) → new ≡ old → more ≡ sum → ((c : Clocks) → Where c → SumAtStart sum c) → TimesSum old new more Where
+sum_there : (old new : Draft) (sum more : Option ℕ) (Where : BlockClocks → Type 0) → new ≡ old → more ≡ sum → ((c : BlockClocks) → Where c → SumAtStart sum c) → TimesSum old new more Where
 sum_there old new sum more Where same is at = record {
   extends = subst (λ (d : Draft). Extends old d) (sym same) (extends_self old);
   within = λ c a s w. within_none c old new 0 same;
@@ -298,17 +298,17 @@ iterator_timed : (k : Kind) (held : Held) (old new : Draft) (v : ℕ) → MadeIt
 iterator_timed k held old new v (inl m) = number_timed k false m.0 old new v m.1
 iterator_timed k held old new v (inr m) = turns_timed k held old new v m
 
-current_timed : (o : Option (Option ℕ)) (register : ℕ) (level : Clocks → ℕ) (old new : Draft) (v : ℕ) → MadeCurrent o register old new v → TimesValue old new v (λ c. CurrentAt c o (level c)) level
+current_timed : (o : Option (Option ℕ)) (register : ℕ) (level : BlockClocks → ℕ) (old new : Draft) (v : ℕ) → MadeCurrent o register old new v → TimesValue old new v (λ c. CurrentAt c o (level c)) level
 current_timed None register level old new v m = timed_where old new v (λ c. Unit {0}) _ (λ c. 0) level (λ c w. tt) (λ c w. sym w) (old_timed old new v register m)
 current_timed (Some None) register level old new v m = timed_where old new v (λ c. Unit {0}) _ (λ c. 0) level (λ c w. tt) (λ c w. sym w) (old_timed old new v register m)
 current_timed (Some (Some value)) register level old new v m = timed_there old new value v _ level m (λ c w. w)
 
-pub shown_timed : (current : List (Option ℕ)) (register : ℕ) (level : Clocks → ℕ) (old new : Draft) (v : ℕ) → MadeShown current register old new v
+pub shown_timed : (current : List (Option ℕ)) (register : ℕ) (level : BlockClocks → ℕ) (old new : Draft) (v : ℕ) → MadeShown current register old new v
     → TimesValue old new v (λ c. CurrentAt c (slice_get current register) (level c)) level
 shown_timed current register level old new v m = current_timed (slice_get current register) register level old new v m
 
 -- a variable at its level
-pub variable_timed : (o : Option Counter) (held : Held) (lane : Lane) (current : List (Option ℕ)) (k : Kind) (level : Clocks → ℕ) (old new : Draft) (v : ℕ) → MadeBy o held lane current k old new v
+pub variable_timed : (o : Option Counter) (held : Held) (lane : Lane) (current : List (Option ℕ)) (k : Kind) (level : BlockClocks → ℕ) (old new : Draft) (v : ℕ) → MadeBy o held lane current k old new v
     → TimesValue old new v (λ c. VariableAt c o held lane current (level c)) level
 variable_timed None held lane current k level old new v m = shown_timed current (register_at held lane) level old new v m
 variable_timed (Some counter) held lane current k level old new v m = timed_where old new v (λ c. Unit {0}) _ (λ c. 0) level (λ c w. tt) (λ c w. sym w) (iterator_timed k held old new v m.0)

@@ -9,7 +9,7 @@ use Rattle.dh_tree.specs.declared.viewing.ViewMap.{ViewMap}
 use Rattle.dh_tree.specs.Elements.{dims_at}
 use Rattle.dh_tree.specs.PlainTrees as plain
 use Rattle.dh_meaning.specs.CoreOf.{dims_by}
-use Rattle.dh_meaning.specs.Ways.{Step as ViewStep, Way}
+use Rattle.dh_meaning.specs.Ways.{Way, WayStep as ViewStep}
 use Rattle.dh_code.proofs.Ranges.{all_dropped, all_taken}
 use Rattle.dh_plan.specs.declared.operations.ReachStep.{ReachStep}
 use Rattle.dh_plan.specs.Ordered.{offsets_taken}
@@ -21,17 +21,17 @@ use Rattle.dh_expressions.specs.declared.scenes.Scene.{Scene}
 use Rattle.dh_expressions.specs.declared.scenes.Through.{Through}
 use Rattle.dh_expressions.specs.Evaluated.{steps_told}
 use Rattle.dh_expressions.specs.Named.{number_of_parent}
-use Rattle.dh_formed.specs.Formed.{AimSuits, Block, HasNumbers, IsNumberThere, RowSuits, StepsSuit, WaySuits}
+use Rattle.dh_formed.specs.Formed.{AimSuits, FormedBlock, HasNumbers, IsNumberThere, RowSuits, StepsSuit, WaySuits}
 use Rattle.dh_formed.proofs.ElementsFormed.{all_append}
 
-module _ (x : Block) (through : List Through) (d : Draft) where
+module _ (x : FormedBlock) (through : List Through) (d : Draft) where
   steps_numbers : (steps : List ViewStep) (first : ℕ) (values : List ℕ) → AllByRecursion (IsNumberThere x d) values → AllByRecursion (IsNumberThere x d) (offsets_taken (steps_told through first steps values))
   steps_numbers [] first values h = tt
   steps_numbers (s ∷ ss) first values h =
       all_append (IsNumberThere x d) (take s.offsets values) (offsets_taken (steps_told through (number_of_parent through first) ss (drop s.offsets values))) (all_taken (IsNumberThere x d) values s.offsets h)
       (steps_numbers ss (number_of_parent through first) (drop s.offsets values) (all_dropped (IsNumberThere x d) values s.offsets h))
 
-steps_lead : (x : Block) (through : List Through) (memory : ℕ) (steps : List ViewStep) (first count : ℕ) (dims : List Dim) (values : List ℕ) → length values ≡ count → StepsSuit x through memory first steps count dims
+steps_lead : (x : FormedBlock) (through : List Through) (memory : ℕ) (steps : List ViewStep) (first count : ℕ) (dims : List Dim) (values : List ℕ) → length values ≡ count → StepsSuit x through memory first steps count dims
     → AreSteps x.plan x.first x.kinds memory (steps_told through first steps values) dims
 steps_lead x through memory [] first count dims values long h = h.1
 steps_lead x through memory (s ∷ ss) first count dims values long h =
@@ -50,7 +50,7 @@ steps_lead x through memory (s ∷ ss) first count dims values long h =
     left l c n m e f = omega (arith, e, f)
 
 -- all offsets are taken, one behind the other
-pub steps_take : (x : Block) (through : List Through) (memory : ℕ) (steps : List ViewStep) (first count : ℕ) (dims : List Dim) (values : List ℕ) → length values ≡ count → StepsSuit x through memory first steps count dims → offsets_taken (steps_told through first steps values) ≡ values
+pub steps_take : (x : FormedBlock) (through : List Through) (memory : ℕ) (steps : List ViewStep) (first count : ℕ) (dims : List Dim) (values : List ℕ) → length values ≡ count → StepsSuit x through memory first steps count dims → offsets_taken (steps_told through first steps values) ≡ values
 steps_take x through memory [] first count dims values long h = none values (long ∙ h.0)
   where
     none : (vs : List ℕ) → length vs ≡ 0 → ◌≡◌ {A = List ℕ} [] vs
@@ -64,7 +64,7 @@ steps_take x through memory (s ∷ ss) first count dims values long h =
     left l c n m e f = omega (arith, e, f)
 
 -- indices and the steps behind them name an element of the memory
-module _ (x : Block) (scene : Scene) (lane : Lane) (memory first : ℕ) (d : Draft) (form : plain.TermForm) (aim : Aim) (count : ℕ) (row : aim.row ≡ None) (indices : HasNumbers x d count aim.indices) where
+module _ (x : FormedBlock) (scene : Scene) (lane : Lane) (memory first : ℕ) (d : Draft) (form : plain.TermForm) (aim : Aim) (count : ℕ) (row : aim.row ≡ None) (indices : HasNumbers x d count aim.indices) where
   pub memory_aim : aim.steps ≡ [] → count ≡ length (dims_at x.plan.table memory) → AimSuits x d memory form aim
   memory_aim none all = record {
     indices = indices.each;

@@ -24,8 +24,8 @@ use Rattle.dh_expressions.specs.Drafted.{Extends, Pushes}
 use Rattle.dh_expressions.specs.MadeTerms.{MadeTerm, MadeWrite}
 use Rattle.dh_expressions.specs.Noted.{touched_in}
 use Rattle.dh_formed.specs.Counted.{Counts, FormIs, nothing}
-use Rattle.dh_formed.specs.Formed.{Agrees, Block, Forms, FormsValue, HasKind, Started}
-use Rattle.dh_formed.specs.Timed.{AgreeInTime, Clocks, HasClock, StartedInTime, TimesValue, Within}
+use Rattle.dh_formed.specs.Formed.{Agrees, FormedBlock, Forms, FormsValue, HasKind, Started}
+use Rattle.dh_formed.specs.Timed.{AgreeInTime, BlockClocks, HasClock, StartedInTime, TimesValue, Within}
 
 -- Kinds.
 
@@ -41,13 +41,13 @@ ComputesForm =
 -- the choice of one of two values of a kind
 abbrev pub SelectsForm : Type 0
 SelectsForm =
-    (old new : Draft) (v test a b : ℕ) (k : Block → Kind) → Pushes old new v None (Select test a b)
+    (old new : Draft) (v test a b : ℕ) (k : FormedBlock → Kind) → Pushes old new v None (Select test a b)
     → FormsValue old new v (λ x. HasKind x old Bool test × (HasKind x old (k x) a × HasKind x old (k x) b)) k
 
 -- a register is set to a value of its kind
 pub record FormsSet (old new : Draft) (register value : ℕ) : Type 0 where
   pub extends : Extends old new
-  pub forms : (x : Block) → Agrees x new → Started x old → register < length x.plan.registers → HasKind x old (kind_at x.plan.registers register) value → Forms x old new
+  pub forms : (x : FormedBlock) → Agrees x new → Started x old → register < length x.plan.registers → HasKind x old (kind_at x.plan.registers register) value → Forms x old new
 
 abbrev pub SetsForm : Type 0
 SetsForm = (old new : Draft) (n register value : ℕ) → Pushes old new n None (Set register value) → FormsSet old new register value
@@ -90,12 +90,12 @@ pub record WholeCounts (plan : PlainPlan) (block : ℕ) (products : ℕ) (probes
 
 abbrev pub SelectsInTime : Type 0
 SelectsInTime =
-    (old new : Draft) (v test a b : ℕ) (i j k : Clocks → ℕ) → Pushes old new v None (Select test a b)
+    (old new : Draft) (v test a b : ℕ) (i j k : BlockClocks → ℕ) → Pushes old new v None (Select test a b)
     → TimesValue old new v (λ c. HasClock c (i c) test × (HasClock c (j c) a × HasClock c (k c) b)) (λ c. max (i c) (max (j c) (k c)))
 
 abbrev pub SetsInTime : Type 0
 SetsInTime =
-    (old new : Draft) (n register value : ℕ) (c : Clocks) (level : ℕ) → Pushes old new n None (Set register value) → AgreeInTime c new → StartedInTime c old → HasClock c level value → Within c old new level
+    (old new : Draft) (n register value : ℕ) (c : BlockClocks) (level : ℕ) → Pushes old new n None (Set register value) → AgreeInTime c new → StartedInTime c old → HasClock c level value → Within c old new level
 
 -- Accesses.
 

@@ -20,7 +20,7 @@ use Rattle.dh_expressions.specs.declared.drafts.Draft.{Draft}
 use Rattle.dh_expressions.specs.declared.scenes.Lane.{Lane}
 use Rattle.dh_expressions.specs.declared.scenes.Scene.{Scene}
 use Rattle.dh_expressions.specs.Evaluated.{counter_of, known_in}
-use Rattle.dh_formed.specs.Formed.{Agrees, Block, IsNoted, IsScope, Site, Started}
+use Rattle.dh_formed.specs.Formed.{Agrees, FormedBlock, AreNotedReads, IsScope, BlockSite, Started}
 use Rattle.dh_expressions.specs.Noted.{touched_in}
 use Rattle.dh_expressions.specs.Shown.{register_at}
 use Rattle.dh_expressions.specs.Standings.{banks_at}
@@ -61,34 +61,34 @@ abbrev pub one_each : (access : ℕ) → ℕ
 one_each access = 1
 
 -- Reads of an access at a path: one where the path leads, and none where the access shares an earlier one.
-abbrev pub use_led : Option Site → (path : ℕ) → ℕ
+abbrev pub use_led : Option BlockSite → (path : ℕ) → ℕ
 use_led None path = 0
 use_led (Some s) path = if s.standing.leader path == path then 1 else 0
 
-abbrev pub use_shared : Option (Option ℕ) → Option Site → (path : ℕ) → ℕ
+abbrev pub use_shared : Option (Option ℕ) → Option BlockSite → (path : ℕ) → ℕ
 use_shared (Some (Some earlier)) site path = 0
 use_shared share site path = use_led site path
 
-abbrev pub use_of : Block → Scene → (path : ℕ) → (access : ℕ) → ℕ
+abbrev pub use_of : FormedBlock → Scene → (path : ℕ) → (access : ℕ) → ℕ
 use_of x scene path access = use_shared (slice_get scene.shares.now access) (x.sites access) path
 
 -- What each operation is.
 
 -- an access of the block, one of those from n on, so many
-pub record IsAccess (x : Block) (n count : ℕ) (r : Reach) : Type 0 where
+pub record IsAccess (x : FormedBlock) (n count : ℕ) (r : Reach) : Type 0 where
   pub from : n ≤ r.access
   pub below : r.access < n + count
-  pub site : Site
+  pub site : BlockSite
   pub there : x.sites r.access ≡ Some site
   pub memory_is : r.memory ≡ site.memory
 
 -- it reaches the banks of its path, with its place there
-pub record IsUse (x : Block) (path n count : ℕ) (r : Reach) : Type 0 where
+pub record IsUse (x : FormedBlock) (path n count : ℕ) (r : Reach) : Type 0 where
   pub access : IsAccess x n count r
   pub banks_are : r.banks ≡ banks_at access.site.standing path
 
 -- a read is done by a path that leads
-pub record IsLedUse (x : Block) (path n count : ℕ) (r : Reach) : Type 0 where
+pub record IsLedUse (x : FormedBlock) (path n count : ℕ) (r : Reach) : Type 0 where
   pub reaches : IsUse x path n count r
   pub leads : reaches.access.site.standing.leader path ≡ path
 
@@ -103,12 +103,12 @@ pub record IsMentioned (scene : Scene) (lane : Lane) (mentions : (entity : ℕ) 
   pub mentioned : mentions entity
   pub register_is : register ≡ register_seen (counter_of scene entity) (held_at scene.held.now entity) lane
 
-abbrev pub IsOfTerm : Block → Scene → Lane → (n : ℕ) → plain.Term → OperationForm → Type 0
+abbrev pub IsOfTerm : FormedBlock → Scene → Lane → (n : ℕ) → plain.Term → OperationForm → Type 0
 IsOfTerm x scene lane n t =
     FormIs (λ register. IsMentioned scene lane (λ entity. term_mentions entity (core_term (known_in scene) n t) ≡ true) register)
     (λ r. IsAccess x n (term_accesses t) r) (λ r. IsLedUse x lane.number n (term_accesses t) r) (λ r. ⊥)
 
-abbrev pub IsOfTerms : Block → Scene → Lane → (n : ℕ) → plain.Terms → OperationForm → Type 0
+abbrev pub IsOfTerms : FormedBlock → Scene → Lane → (n : ℕ) → plain.Terms → OperationForm → Type 0
 IsOfTerms x scene lane n ts =
     FormIs (λ register. IsMentioned scene lane (λ entity. terms_mention entity (core_terms (known_in scene) n ts) ≡ true) register)
     (λ r. IsAccess x n (terms_accesses ts) r) (λ r. IsLedUse x lane.number n (terms_accesses ts) r) (λ r. ⊥)
@@ -138,18 +138,18 @@ pub record HaveGiven (lane : Lane) (before after : Accesses) (n count : ℕ) : T
   pub behind_them : (m : ℕ) → n + count ≤ m → given_at_paths after m ≡ given_at_paths before m
 
 -- what stands where an expression begins at a path
-pub record Stands (x : Block) (old new : Draft) (scene : Scene) (lane : Lane) (current : List (Option ℕ)) (before : Accesses) (n count : ℕ) : Type 0 where
+pub record Stands (x : FormedBlock) (old new : Draft) (scene : Scene) (lane : Lane) (current : List (Option ℕ)) (before : Accesses) (n count : ℕ) : Type 0 where
   pub agrees : Agrees x new
   pub started : Started x old
   pub scope : IsScope x old scene lane current
-  pub noted : IsNoted x old before
+  pub noted : AreNotedReads x old before
   pub next : AreNext scene lane before n count
 
 -- An expression at a path.
-pub record CountsTerm (x : Block) (scene : Scene) (lane : Lane) (old new : Draft) (before after : Accesses) (n : ℕ) (t : plain.Term) : Type 0 where
+pub record CountsTerm (x : FormedBlock) (scene : Scene) (lane : Lane) (old new : Draft) (before after : Accesses) (n : ℕ) (t : plain.Term) : Type 0 where
   pub counts : Counts old new (IsOfTerm x scene lane n t) (term_products (core_term (known_in scene) n t)) (ranged n (term_accesses t) one_each) (ranged n (term_accesses t) (use_of x scene lane.number))
   pub given : HaveGiven lane before after n (term_accesses t)
 
-pub record CountsTerms (x : Block) (scene : Scene) (lane : Lane) (old new : Draft) (before after : Accesses) (n : ℕ) (ts : plain.Terms) : Type 0 where
+pub record CountsTerms (x : FormedBlock) (scene : Scene) (lane : Lane) (old new : Draft) (before after : Accesses) (n : ℕ) (ts : plain.Terms) : Type 0 where
   pub counts : Counts old new (IsOfTerms x scene lane n ts) (terms_products (core_terms (known_in scene) n ts)) (ranged n (terms_accesses ts) one_each) (ranged n (terms_accesses ts) (use_of x scene lane.number))
   pub given : HaveGiven lane before after n (terms_accesses ts)

@@ -16,7 +16,7 @@ use Rattle.dh_expressions.specs.declared.drafts.Draft.{Draft}
 use Rattle.dh_expressions.specs.declared.elements.Aim.{Aim}
 use Rattle.dh_expressions.specs.declared.scenes.Lane.{Lane}
 use Rattle.dh_expressions.specs.declared.scenes.Scene.{Scene}
-use Rattle.dh_formed.specs.Formed.{AccessSuits, AimSuits, AreNumbers, FormsAim, FormsPart, FormsTerm, FormsTerms, FormsValue, HasKind, HeldSuits, NamedSuits, OperandsSuit, ReadSuits, TermSuits, TermsSuit, count_of}
+use Rattle.dh_formed.specs.Formed.{AccessSuits, AimSuits, AreNumbers, FormsAim, FormsPart, FormsTerm, FormsTerms, FormsValue, HasKind, HeldSuits, NamedSuits, OperandsSuit, ReadSuits, TermSuits, TermsSuit, count_of_terms}
 use Rattle.dh_expressions.specs.MadeTerms.{MadeIndices, MadeRead, MadeTerm, MadeThrough, MadeWrite}
 use Rattle.dh_expressions.specs.MadeValues.{MadeConverted, MadeHeld, MadeIterator, MadeOperation, MadeShown}
 use Rattle.dh_expressions.specs.Named.{known_in}
@@ -80,7 +80,7 @@ abbrev pub IndicesForm : Type 0
 IndicesForm =
     (scene : Scene) (lane : Lane) (current : List (Option ℕ)) (ts : Terms) (old new : Draft) (before after : Accesses) (n : ℕ) (aim : Aim)
     → MadeIndices scene lane current ts old new before after n aim → n + terms_accesses ts < 2 ^ 32
-    → FormsTerms scene lane current old new before after aim.indices (λ x. TermsSuit x scene lane n ts × AreNumbers ts) (count_of ts)
+    → FormsTerms scene lane current old new before after aim.indices (λ x. TermsSuit x scene lane n ts × AreNumbers ts) (count_of_terms ts)
 
 -- indices of what a name stands for, and behind them the offsets on its way: they name an element of its memory
 abbrev pub ThroughForms : Type 0

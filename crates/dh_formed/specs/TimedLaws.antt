@@ -20,27 +20,27 @@ use Rattle.dh_expressions.specs.MadeTerms.{MadeIndices, MadeTerm, MadeThrough, M
 use Rattle.dh_expressions.specs.MadeValues.{MadeConverted, MadeHeld, MadeOperation, MadeShown}
 use Rattle.dh_expressions.specs.Reaching.{place_written}
 use Rattle.dh_expressions.specs.Shown.{is_kept}
-use Rattle.dh_formed.specs.Timed.{Clocks, CurrentAt, EntityAt, HasClock, LevelsThen, ReadsAgree, StandsInTime, StandsToWrite, TimesAim, TimesTerm, TimesTerms, TimesValue, TimesWrite, all_leveled, leveled, named_leveled}
+use Rattle.dh_formed.specs.Timed.{BlockClocks, CurrentAt, EntityAt, HasClock, LevelsThen, ReadsAgree, StandsInTime, StandsToWrite, TimesAim, TimesTerm, TimesTerms, TimesValue, TimesWrite, all_leveled, leveled, named_leveled}
 
 -- an operator, when both operands are there
 abbrev pub OperationsInTime : Type 0
 OperationsInTime =
-    (o : Op) (left right : Term) (a b : ℕ) (j k : Clocks → ℕ) (old new : Draft) (v : ℕ) → MadeOperation o left right a b old new v
+    (o : Op) (left right : Term) (a b : ℕ) (j k : BlockClocks → ℕ) (old new : Draft) (v : ℕ) → MadeOperation o left right a b old new v
     → TimesValue old new v (λ c. HasClock c (j c) a × HasClock c (k c) b) (λ c. max (j c) (k c))
 
 -- a value as a variable or a memory holds it, with the value
 abbrev pub HeldInTime : Type 0
 HeldInTime =
-    (t : Term) (to : Kind) (value : ℕ) (k : Clocks → ℕ) (old new : Draft) (v : ℕ) → MadeHeld t to value old new v → TimesValue old new v (λ c. HasClock c (k c) value) k
+    (t : Term) (to : Kind) (value : ℕ) (k : BlockClocks → ℕ) (old new : Draft) (v : ℕ) → MadeHeld t to value old new v → TimesValue old new v (λ c. HasClock c (k c) value) k
 
 abbrev pub ConvertedInTime : Type 0
 ConvertedInTime =
-    (t : Term) (to : Kind) (value : ℕ) (k : Clocks → ℕ) (old new : Draft) (v : ℕ) → MadeConverted (is_kept t to) to value old new v → TimesValue old new v (λ c. HasClock c (k c) value) k
+    (t : Term) (to : Kind) (value : ℕ) (k : BlockClocks → ℕ) (old new : Draft) (v : ℕ) → MadeConverted (is_kept t to) to value old new v → TimesValue old new v (λ c. HasClock c (k c) value) k
 
 -- what a variable shows, at its level
 abbrev pub ShownInTime : Type 0
 ShownInTime =
-    (current : List (Option ℕ)) (register : ℕ) (level : Clocks → ℕ) (old new : Draft) (v : ℕ) → MadeShown current register old new v
+    (current : List (Option ℕ)) (register : ℕ) (level : BlockClocks → ℕ) (old new : Draft) (v : ℕ) → MadeShown current register old new v
     → TimesValue old new v (λ c. CurrentAt c (slice_get current register) (level c)) level
 
 -- levels behind an expression, and behind indices
@@ -60,7 +60,7 @@ NamedLevelsGoOn =
 -- a write
 abbrev pub WritesInTime : Type 0
 WritesInTime =
-    (c : Clocks) (scene : Scene) (lane : Lane) (current : List (Option ℕ)) (access : Term) (memory : ℕ) (aim : Aim) (outer : ℕ) (old new : Draft) (before after : Accesses) (value level most : ℕ)
+    (c : BlockClocks) (scene : Scene) (lane : Lane) (current : List (Option ℕ)) (access : Term) (memory : ℕ) (aim : Aim) (outer : ℕ) (old new : Draft) (before after : Accesses) (value level most : ℕ)
     → MadeWrite scene lane access memory aim value old new before after → AccessSuits c.block scene lane memory aim.number (place_written access) (form_of access) true
     → StandsToWrite c old new scene lane current before memory aim outer level value most → TimesWrite c old new after most
 
@@ -68,7 +68,7 @@ WritesInTime =
 -- shares, `outer` is the level of the tests round it
 abbrev pub TermsInTime : Type 0
 TermsInTime =
-    (c : Clocks) (scene : Scene) (lane : Lane) (current : List (Option ℕ)) (shared : ℕ → Option ℕ) (outer : ℕ) (t : Term) (old new : Draft) (before after : Accesses) (n next v : ℕ)
+    (c : BlockClocks) (scene : Scene) (lane : Lane) (current : List (Option ℕ)) (shared : ℕ → Option ℕ) (outer : ℕ) (t : Term) (old new : Draft) (before after : Accesses) (n next v : ℕ)
     → MadeTerm scene lane current t old new before after n next v → n + term_accesses t < 2 ^ 32
     → (l : Levels) → StandsInTime c old new scene lane current before shared outer n (term_accesses t) l → TermSuits c.block scene lane n t
     → ((entity : ℕ) → term_mentions entity (core_term (known_in scene) n t) ≡ true → EntityAt c scene lane current l entity)
@@ -78,7 +78,7 @@ TermsInTime =
 -- indices
 abbrev pub IndicesInTime : Type 0
 IndicesInTime =
-    (c : Clocks) (scene : Scene) (lane : Lane) (current : List (Option ℕ)) (shared : ℕ → Option ℕ) (outer : ℕ) (ts : Terms) (old new : Draft) (before after : Accesses) (n : ℕ) (aim : Aim)
+    (c : BlockClocks) (scene : Scene) (lane : Lane) (current : List (Option ℕ)) (shared : ℕ → Option ℕ) (outer : ℕ) (ts : Terms) (old new : Draft) (before after : Accesses) (n : ℕ) (aim : Aim)
     → MadeIndices scene lane current ts old new before after n aim → n + terms_accesses ts < 2 ^ 32
     → (l : Levels) → StandsInTime c old new scene lane current before shared outer n (terms_accesses ts) l → TermsSuit c.block scene lane n ts × AreNumbers ts
     → ((entity : ℕ) → terms_mention entity (core_terms (known_in scene) n ts) ≡ true → EntityAt c scene lane current l entity)
@@ -88,7 +88,7 @@ IndicesInTime =
 -- indices with the steps behind them
 abbrev pub ThroughInTime : Type 0
 ThroughInTime =
-    (c : Clocks) (scene : Scene) (lane : Lane) (current : List (Option ℕ)) (shared : ℕ → Option ℕ) (outer : ℕ) (r : Ref) (ts : Terms) (old new : Draft) (before after : Accesses) (n : ℕ) (aim : Aim)
+    (c : BlockClocks) (scene : Scene) (lane : Lane) (current : List (Option ℕ)) (shared : ℕ → Option ℕ) (outer : ℕ) (r : Ref) (ts : Terms) (old new : Draft) (before after : Accesses) (n : ℕ) (aim : Aim)
     → MadeThrough scene lane current r ts old new before after n aim → n + terms_accesses ts < 2 ^ 32
     → (l : Levels) → StandsInTime c old new scene lane current before shared outer n (terms_accesses ts) l → NamedSuits c.block scene lane n r ts
     → ((entity : ℕ) → target_mentions entity (target_to (way_of (known_in scene) r) (core_terms (known_in scene) n ts)) ≡ true → EntityAt c scene lane current l entity)

@@ -10,7 +10,7 @@ use Rattle.dh_commands.specs.Undone.{NoneGiven, given_at}
 use Rattle.dh_gathering.specs.declared.blocks.Made.{Made}
 use Rattle.dh_gathering.specs.Cutting.{AreBlocksOf, AreRising, between}
 use Rattle.dh_gathering.specs.Growing.{IsAtRest, IsClear, place_in, registers_given}
-use Rattle.dh_gathering.specs.MadeBlocks.{StandsAt}
+use Rattle.dh_gathering.specs.MadeBlocks.{BlockStandsAt}
 
 fewer : (n m : ℕ) → suc n < suc m → n < m
 fewer n m h = omega (arith, h)
@@ -41,7 +41,7 @@ front_is (x ∷ xs) (y ∷ ys) h = by (h 0 x refl) (front_is xs ys (λ n o at. h
     by : Some y ≡ Some x → take (length xs) ys ≡ xs → y ∷ take (length xs) ys ≡ x ∷ xs
     by e k = ap (λ (o : Operation). o ∷ take (length xs) ys) (ap some_or e) ∙ ap (λ (l : List Operation). x ∷ l) k
 
-module _ (final : Made) (blocks : List PlanBlock) (cut : AreBlocksOf final.building.draft.operations.items final.starts.items blocks) (block : ℕ) (before after : Building) (stands : StandsAt final block before after) where
+module _ (final : Made) (blocks : List PlanBlock) (cut : AreBlocksOf final.building.draft.operations.items final.starts.items blocks) (block : ℕ) (before after : Building) (stands : BlockStandsAt final block before after) where
   here_within : block ≤ length final.starts.items
   here_within = by block (length final.starts.items) stands.there
     where
@@ -108,5 +108,5 @@ none_clear v count h = record {
 }
 
 -- as a block begins no variable is given a value
-pub none_at_begin : (final : Made) (block : ℕ) (before after : Building) → StandsAt final block before after → NoneGiven before.values (registers_given final)
+pub none_at_begin : (final : Made) (block : ℕ) (before after : Building) → BlockStandsAt final block before after → NoneGiven before.values (registers_given final)
 none_at_begin final block before after stands = subst (λ (n : ℕ). NoneGiven before.values n) stands.variables (clear_none before.values stands.clear)

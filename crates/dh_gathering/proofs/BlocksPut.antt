@@ -9,7 +9,7 @@ use Rattle.dh_plan.specs.declared.operations.OperationForm.TheVariants.{Compute,
 use Rattle.dh_expressions.specs.declared.drafts.Draft.{Draft}
 use Rattle.dh_expressions.specs.declared.scenes.Around.{Around}
 use Rattle.dh_expressions.specs.declared.scenes.Scene.{Scene}
-use Rattle.dh_expressions.specs.Drafted.{Computes, Pushes, shown}
+use Rattle.dh_expressions.specs.Drafted.{Computes, Pushes, word_shown}
 use Rattle.dh_expressions.specs.Shown.{is_read_term}
 use Rattle.dh_expressions.proofs.Pushing.{extends_self}
 use Rattle.dh_commands.specs.declared.buildings.Building.{Building}
@@ -33,14 +33,14 @@ module _ (scene : Scene) (around : Around) where
   commands_end all left old new none h = h new (subst (λ (ls : List Located). DoesNumbered scene around (all_numbered ls) new new) (sym none) refl)
 
 -- the flag of a test that is a read
-pub flag_of_read : (old mid new : Draft) (t : tree.Term) (value made number flag : ℕ) → is_read_term t ≡ true → Computes old mid made (λ x. binary_of Both (shown x value) (shown x value)) → Pushes mid new number None (Set flag made) → SetsFlag old new t value flag
+pub flag_of_read : (old mid new : Draft) (t : tree.Term) (value made number flag : ℕ) → is_read_term t ≡ true → Computes old mid made (λ x. binary_of Both (word_shown x value) (word_shown x value)) → Pushes mid new number None (Set flag made) → SetsFlag old new t value flag
 flag_of_read old mid new t value made number flag reads h p = record {
   mid = mid;
   made = made;
   number = number;
   gives = record {
     extends = h.extends;
-    is = λ x fits begun. h.is x fits begun ∙ sym (ap (λ (b : Bool). if b then binary_of Both (shown x value) (shown x value) else shown x value) reads);
+    is = λ x fits begun. h.is x fits begun ∙ sym (ap (λ (b : Bool). if b then binary_of Both (word_shown x value) (word_shown x value) else word_shown x value) reads);
     quiet = h.quiet;
   };
   set = p;
@@ -53,14 +53,14 @@ flag_of_value old new t value number flag no_read p = record {
   number = number;
   gives = record {
     extends = extends_self old;
-    is = λ x fits begun. sym (ap (λ (b : Bool). if b then binary_of Both (shown x value) (shown x value) else shown x value) no_read);
+    is = λ x fits begun. sym (ap (λ (b : Bool). if b then binary_of Both (word_shown x value) (word_shown x value) else word_shown x value) no_read);
     quiet = λ x fits begun. refl;
   };
   set = p;
 }
 
 -- as the code comes to it
-pub flag_at_read : (old mid here new : Draft) (t : tree.Term) (value made given number flag : ℕ) → is_read_term t ≡ true → here ≡ mid → given ≡ made → Computes old mid made (λ x. binary_of Both (shown x value) (shown x value)) → Pushes old mid made None (Compute Both value value)
+pub flag_at_read : (old mid here new : Draft) (t : tree.Term) (value made given number flag : ℕ) → is_read_term t ≡ true → here ≡ mid → given ≡ made → Computes old mid made (λ x. binary_of Both (word_shown x value) (word_shown x value)) → Pushes old mid made None (Compute Both value value)
     → Pushes here new number None (Set flag given) → PutsFlag old new t value flag
 flag_at_read old mid here new t value made given number flag reads draft value_is h pushed p =
     let set : Pushes mid new number None (Set flag made) = subst (λ (d : Draft). Pushes d new number None (Set flag made)) draft (subst (λ (n : ℕ). Pushes here new number None (Set flag n)) value_is p) in

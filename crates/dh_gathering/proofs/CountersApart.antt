@@ -13,11 +13,11 @@ use Rattle.dh_plan.specs.PlanPhases.{AreNodesOf, IsCounterOf, IsIteratorOf, IsLo
 use Rattle.dh_expressions.specs.declared.scenes.Scene.{Scene}
 use Rattle.dh_expressions.specs.Evaluated.{counter_of}
 use Rattle.dh_gathering.specs.declared.blocks.Made.{Made}
-use Rattle.dh_gathering.specs.MadeBlocks.{counter_in, made_tie}
+use Rattle.dh_gathering.specs.MadeBlocks.{counter_register, made_tie}
 use Rattle.dh_gathering.specs.LoopCounters.{AreCounting, AreSlotsBy, IsCounting, IsSlotOf, LoopsCount, LoopsCountIn, apart_counters}
 
 module _ (scene : Scene) (p : Placing) (slots : Slots) (count : ℕ) (by_slots : AreSlotsBy scene p slots) (placing : IsPlacing p count) where
-  first_of : (loop : Turning) → counter_in scene loop ≡ (held_at p.held loop.iterator).first
+  first_of : (loop : Turning) → counter_register scene loop ≡ (held_at p.held loop.iterator).first
   first_of loop = ap (λ (l : List Held). (held_at l loop.iterator).first) (sym by_slots.held)
 
   below_first : (a n b s : ℕ) → a + n ≤ b → s < a + n → s ≡ b → ⊥
@@ -30,11 +30,11 @@ module _ (scene : Scene) (p : Placing) (slots : Slots) (count : ℕ) (by_slots :
   same_first a n b e l is = omega (arith, e, l, is)
 
   -- a variable's register is none of an iterator's counter
-  apart_variable : (loop : Turning) → IsCounting scene p loop → (entity : ℕ) (path : Path) → slots entity path ≡ Some (counter_in scene loop) → ⊥
+  apart_variable : (loop : Turning) → IsCounting scene p loop → (entity : ℕ) (path : Path) → slots entity path ≡ Some (counter_register scene loop) → ⊥
   apart_variable loop h entity path at = by (placing.apart entity loop.iterator s.there h.there other)
     where
-      s : IsSlotOf scene p entity path (counter_in scene loop)
-      s = by_slots.variables entity path (counter_in scene loop) at
+      s : IsSlotOf scene p entity path (counter_register scene loop)
+      s = by_slots.variables entity path (counter_register scene loop) at
 
       differ : None ≡ Some h.counter → ⊥
       differ e = absurd cc
@@ -50,7 +50,7 @@ module _ (scene : Scene) (p : Placing) (slots : Slots) (count : ℕ) (by_slots :
       by (inr behind) = above_first (held_at p.held loop.iterator).first (copies_in (p.factors loop.iterator)) (held_at p.held entity).first _ behind h.copies is
 
   -- nor are the counters of two iterators one
-  pub apart_loops : (a b : Turning) → IsCounting scene p a → IsCounting scene p b → (a.iterator ≡ b.iterator → ⊥) → counter_in scene a ≡ counter_in scene b → ⊥
+  pub apart_loops : (a b : Turning) → IsCounting scene p a → IsCounting scene p b → (a.iterator ≡ b.iterator → ⊥) → counter_register scene a ≡ counter_register scene b → ⊥
   apart_loops a b h k other e = by (placing.apart a.iterator b.iterator h.there k.there other)
     where
       is : (held_at p.held a.iterator).first ≡ (held_at p.held b.iterator).first
@@ -60,12 +60,12 @@ module _ (scene : Scene) (p : Placing) (slots : Slots) (count : ℕ) (by_slots :
       by (inl before) = same_first (held_at p.held a.iterator).first (copies_in (p.factors a.iterator)) (held_at p.held b.iterator).first before h.copies (sym is)
       by (inr behind) = same_first (held_at p.held b.iterator).first (copies_in (p.factors b.iterator)) (held_at p.held a.iterator).first behind k.copies is
 
-  apart_rounds : (rounds : List Round) (loop : Turning) → AreCounting scene p rounds → IsCounting scene p loop → (IsIteratorOf rounds loop.iterator → ⊥) → IsCounterOf rounds (counter_in scene loop) → ⊥
+  apart_rounds : (rounds : List Round) (loop : Turning) → AreCounting scene p rounds → IsCounting scene p loop → (IsIteratorOf rounds loop.iterator → ⊥) → IsCounterOf rounds (counter_register scene loop) → ⊥
   apart_rounds [] loop all h own e = absurd e
   apart_rounds (r ∷ rounds) loop all h own (inl e) = apart_loops r.loop loop all.0.0 h (λ same. own (inl same)) (sym all.0.1 ∙ e)
   apart_rounds (r ∷ rounds) loop all h own (inr e) = apart_rounds rounds loop all.1 h (λ same. own (inr same)) e
 
-  pub loop_register : (rounds : List Round) (loop : Turning) → AreCounting scene p rounds → IsCounting scene p loop → (IsIteratorOf rounds loop.iterator → ⊥) → IsLoopRegister slots rounds loop (counter_in scene loop)
+  pub loop_register : (rounds : List Round) (loop : Turning) → AreCounting scene p rounds → IsCounting scene p loop → (IsIteratorOf rounds loop.iterator → ⊥) → IsLoopRegister slots rounds loop (counter_register scene loop)
   loop_register rounds loop all h own = record {
     iterator = λ path. by_slots.iterators loop.iterator path h.counter h.counted;
     counter_apart = apart_variable loop h;
@@ -73,7 +73,7 @@ module _ (scene : Scene) (p : Placing) (slots : Slots) (count : ℕ) (by_slots :
     own_iterator = own;
   }
 
-  counting_more : (rounds : List Round) (r : Round) → AreCounting scene p rounds → IsCounting scene p r.loop → r.counter ≡ counter_in scene r.loop → AreCounting scene p (rounds ++ r ∷ [])
+  counting_more : (rounds : List Round) (r : Round) → AreCounting scene p rounds → IsCounting scene p r.loop → r.counter ≡ counter_register scene r.loop → AreCounting scene p (rounds ++ r ∷ [])
   counting_more [] r all h is = ((h, is), tt)
   counting_more (x ∷ rounds) r all h is = (all.0, counting_more rounds r all.1 h is)
 

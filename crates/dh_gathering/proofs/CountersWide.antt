@@ -10,7 +10,7 @@ use Rattle.dh_tree.specs.declared.trees.counters.Counter.{Counter}
 use Rattle.dh_tree.specs.Seen.{program_seen}
 use Rattle.dh_meaning.specs.Core.{CorePhase, straightly, turning, looping, choosing, CorePhases, no_core_phases, phase_and, Turning}
 use Rattle.dh_code.specs.declared.places.Held.{Held}
-use Rattle.dh_code.specs.Declarations.{Declaration, all_held, declaration_in, factors_of, slots_counted}
+use Rattle.dh_code.specs.Declarations.{Declaration, all_held, declaration_in, declared_factors, slots_counted}
 use Rattle.dh_code.specs.Ranks.{copies_in}
 use Rattle.dh_code.specs.Slots.{IsPlacing, Placing, held_at}
 use Rattle.dh_plan.specs.Blocks.{kind_at}
@@ -21,9 +21,9 @@ use Rattle.dh_plan.specs.SoundPlans.{AreCounters, Counting, CountsTurns, countin
 use Rattle.dh_expressions.specs.declared.scenes.Scene.{Scene}
 use Rattle.dh_expressions.proofs.ListPlaces.{place_within}
 use Rattle.dh_gathering.specs.declared.blocks.Made.{Made}
-use Rattle.dh_gathering.specs.MadeBlocks.{counter_in, made_tie}
+use Rattle.dh_gathering.specs.MadeBlocks.{counter_register, made_tie}
 use Rattle.dh_gathering.specs.LoopCounters.{AreOwnLoops, AreSlotsBy, HasCounter, IsCounting, counting_of, loops_in, loops_of}
-use Rattle.dh_gathering.specs.Registers.{HasKind, HaveKinds, IsRegisterKind, first_among}
+use Rattle.dh_gathering.specs.Registers.{HasRegisterKind, HaveKinds, IsRegisterKind, first_among}
 use Rattle.dh_gathering.proofs.CountersApart.{apart_loops}
 use Rattle.dh_gathering.proofs.KindsOfRegisters.{first_at, first_before}
 
@@ -47,7 +47,7 @@ module _ (scene : Scene) (final : Made) where
     node_is rounds (turning loop body) (block_node block) h = absurd h
     node_is rounds (turning loop body) (turns_node counter turns ms) h =
         ap (λ (n : ℕ). record { counter = n; turns = turns } ∷ countings ms) h.1.0
-        ∙ (ap (λ (n : ℕ). record { counter = counter_in scene loop; turns = n } ∷ countings ms) h.0
+        ∙ (ap (λ (n : ℕ). record { counter = counter_register scene loop; turns = n } ∷ countings ms) h.0
         ∙ ap (λ (l : List Counting). counting_of scene loop ∷ l) (countings_are (rounds ++ record { loop = loop; counter = counter } ∷ []) body ms h.1.1))
     node_is rounds (turning loop body) (loop_node block flag ms) h = absurd h
     node_is rounds (turning loop body) (choice_node block flag ms os) h = absurd h
@@ -118,7 +118,7 @@ module _ (scene : Scene) (p : Placing) (slots : Slots) (count : ℕ) (by_slots :
   wide_all : (loops : List Turning) → AllByRecursion (HasCounter scene plan.registers) loops → AllByRecursion (CountsTurns plan) (map (counting_of scene) loops)
   wide_all [] h = tt
   wide_all (l ∷ loops) h = (
-    (place_within plan.registers (counter_in scene l) (Unsigned h.0.width) h.0.there, (h.0.width, (kind_there plan.registers (counter_in scene l) (Unsigned h.0.width) h.0.there, h.0.wide))),
+    (place_within plan.registers (counter_register scene l) (Unsigned h.0.width) h.0.there, (h.0.width, (kind_there plan.registers (counter_register scene l) (Unsigned h.0.width) h.0.there, h.0.wide))),
     wide_all loops h.1,
   )
 
@@ -143,14 +143,14 @@ module _ (scene : Scene) (p : Placing) (slots : Slots) (count : ℕ) (by_slots :
 
 -- A counter among the registers of variables has its width.
 pub counter_wide : (scene : Scene) (p : Placing) (count entities : ℕ) (registers : List Kind) (loop : Turning) → HaveKinds (program_seen scene.program.now) scene.held.now count entities registers → p.held ≡ scene.held.now → IsCounting scene p loop
-    → loop.iterator < entities → first_among scene.held.now count loop.iterator ≡ counter_in scene loop → counter_in scene loop < first_among scene.held.now count (suc loop.iterator) → HasCounter scene registers loop
+    → loop.iterator < entities → first_among scene.held.now count loop.iterator ≡ counter_register scene loop → counter_register scene loop < first_among scene.held.now count (suc loop.iterator) → HasCounter scene registers loop
 counter_wide scene p count entities registers loop kinds held h within first_is before =
-    by (kinds.kinds loop.iterator (counter_in scene loop) within (subst (λ (n : ℕ). n ≤ counter_in scene loop) (sym first_is) (same (counter_in scene loop))) before)
+    by (kinds.kinds loop.iterator (counter_register scene loop) within (subst (λ (n : ℕ). n ≤ counter_register scene loop) (sym first_is) (same (counter_register scene loop))) before)
   where
     same : (n : ℕ) → n ≤ n
     same n = omega arith
 
-    by : HasKind (program_seen scene.program.now) scene.held.now registers loop.iterator (counter_in scene loop) → HasCounter scene registers loop
+    by : HasRegisterKind (program_seen scene.program.now) scene.held.now registers loop.iterator (counter_register scene loop) → HasCounter scene registers loop
     by (k, (at, is)) =
         let wide = subst (λ (o : Option Counter). IsRegisterKind o (held_at scene.held.now loop.iterator).kind k) h.counted is in
         record {
@@ -161,7 +161,7 @@ counter_wide scene p count entities registers loop kinds held h within first_is 
 
 -- so in a program whose variables have their registers in order
 pub counter_has : (scene : Scene) (p : Placing) (ds : List Declaration) (entities count : ℕ) (registers : List Kind) (loop : Turning) → scene.held.now ≡ all_held ds 0 0 entities → count ≡ slots_counted ds 0 0 entities → p.held ≡ scene.held.now
-    → p.factors loop.iterator ≡ factors_of (declaration_in ds loop.iterator) → HaveKinds (program_seen scene.program.now) scene.held.now count (length scene.held.now) registers → IsCounting scene p loop → HasCounter scene registers loop
+    → p.factors loop.iterator ≡ declared_factors (declaration_in ds loop.iterator) → HaveKinds (program_seen scene.program.now) scene.held.now count (length scene.held.now) registers → IsCounting scene p loop → HasCounter scene registers loop
 counter_has scene p ds entities count registers loop is counted held factors kinds h =
     counter_wide scene p count (length scene.held.now) registers loop kinds held h within (sym (first_at scene.held.now count loop.iterator within))
     (first_before ds entities scene.held.now count loop.iterator is counted within (subst (λ (fs : List ℕ). 1 ≤ copies_in fs) factors h.copies))

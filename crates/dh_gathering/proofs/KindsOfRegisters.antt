@@ -8,12 +8,12 @@ use Rattle.dh_value.specs.declared.kinds.Kind.{Kind}
 use Rattle.dh_tree.specs.Counters.{counter_in, counters_of}
 use Rattle.dh_tree.specs.PlainTrees.{Program}
 use Rattle.dh_code.specs.declared.places.Held.{Held}
-use Rattle.dh_code.specs.Declarations.{Declaration, all_held, declaration_in, factors_of, slots_counted}
+use Rattle.dh_code.specs.Declarations.{Declaration, all_held, declaration_in, declared_factors, slots_counted}
 use Rattle.dh_code.specs.Ranks.{copies_in}
 use Rattle.dh_code.specs.Slots.{held_at}
 use Rattle.dh_expressions.specs.Numbers.{narrowed}
 use Rattle.dh_expressions.proofs.Pushing.{in_front}
-use Rattle.dh_gathering.specs.Registers.{AreSuccessive, HasKind, HaveKinds, IsRegisterKind, first_among}
+use Rattle.dh_gathering.specs.Registers.{AreSuccessive, HasRegisterKind, HaveKinds, IsRegisterKind, first_among}
 
 in_row : (n j : ℕ) (k : Kind) → j < n → slice_get (replicate n k) j ≡ Some k
 in_row (suc n) zero k l = refl
@@ -65,7 +65,7 @@ kinds_turn p held count i first end own k old new first_is end_is own_is kind_is
         ∙ (ap (λ (n : ℕ). first + n) (length-replicate (end - first) k)
         ∙ (sum first end rising ∙ (end_is ∙ ap (λ (n : ℕ). first_among held count n) next)))))
 
-    kinds : (entity register : ℕ) → entity < i + 1 → first_among held count entity ≤ register → register < first_among held count (suc entity) → HasKind p held new entity register
+    kinds : (entity register : ℕ) → entity < i + 1 → first_among held count entity ≤ register → register < first_among held count (suc entity) → HasRegisterKind p held new entity register
     kinds entity register less from to = by (cases_lt entity i)
       where
         last : (a b : ℕ) → a < b + 1 → b ≤ a → a ≡ b
@@ -77,13 +77,13 @@ kinds_turn p held count i first end own k old new first_is end_is own_is kind_is
         inner : (a b r : ℕ) → a ≤ r → r < b → r - a < b - a
         inner a b r x y = omega (arith, x, y)
 
-        by : (entity < i) ⊎ (i ≤ entity) → HasKind p held new entity register
+        by : (entity < i) ⊎ (i ≤ entity) → HasRegisterKind p held new entity register
         by (inl before) = let r = h.kinds entity register before from to in (r.0, (ap (λ (l : List Kind). slice_get l register) new_is ∙ in_front old (replicate (end - first) k) register r.0 r.1.0, r.1.1))
         by (inr behind) =
             let is : entity ≡ i = last entity i less behind in
             let from_first : first ≤ register = subst (λ (n : ℕ). n ≤ register) (ap (λ (n : ℕ). first_among held count n) is ∙ sym first_is) from in
             let to_end : register < end = subst (λ (n : ℕ). register < n) (ap (λ (n : ℕ). first_among held count (suc n)) is ∙ sym end_is) to in
-            subst (λ (n : ℕ). HasKind p held new n register) (sym is) (
+            subst (λ (n : ℕ). HasRegisterKind p held new n register) (sym is) (
               k,
               (
                 ap (λ (l : List Kind). slice_get l register) new_is
@@ -105,14 +105,14 @@ firsts_rise ds count from (suc entities) zero = by entities
     more : (n m : ℕ) → n ≤ n + m
     more n m = omega arith
 
-    by : (k : ℕ) → count ≤ first_among (all_held ds (count + copies_in (factors_of (declaration_in ds from))) (suc from) k) (slots_counted ds (count + copies_in (factors_of (declaration_in ds from))) (suc from) k) 0
-    by zero = more count (copies_in (factors_of (declaration_in ds from)))
-    by (suc k) = more count (copies_in (factors_of (declaration_in ds from)))
-firsts_rise ds count from (suc entities) (suc entity) = firsts_rise ds (count + copies_in (factors_of (declaration_in ds from))) (suc from) entities entity
+    by : (k : ℕ) → count ≤ first_among (all_held ds (count + copies_in (declared_factors (declaration_in ds from))) (suc from) k) (slots_counted ds (count + copies_in (declared_factors (declaration_in ds from))) (suc from) k) 0
+    by zero = more count (copies_in (declared_factors (declaration_in ds from)))
+    by (suc k) = more count (copies_in (declared_factors (declaration_in ds from)))
+firsts_rise ds count from (suc entities) (suc entity) = firsts_rise ds (count + copies_in (declared_factors (declaration_in ds from))) (suc from) entities entity
 
 held_long : (ds : List Declaration) (count from entities : ℕ) → length (all_held ds count from entities) ≡ entities
 held_long ds count from zero = refl
-held_long ds count from (suc entities) = ap suc (held_long ds (count + copies_in (factors_of (declaration_in ds from))) (suc from) entities)
+held_long ds count from (suc entities) = ap suc (held_long ds (count + copies_in (declared_factors (declaration_in ds from))) (suc from) entities)
 
 first_first : (ds : List Declaration) (count from entities : ℕ) → first_among (all_held ds count from entities) (slots_counted ds count from entities) 0 ≡ count
 first_first ds count from zero = refl
@@ -178,21 +178,21 @@ kinds_step p held count i entity end more k old new within entity_is end_is more
 -- The registers of an entity are as many as its copies.
 
 firsts_next : (ds : List Declaration) (count from entities entity : ℕ) → entity < entities
-    → first_among (all_held ds count from entities) (slots_counted ds count from entities) entity + copies_in (factors_of (declaration_in ds (from + entity)))
+    → first_among (all_held ds count from entities) (slots_counted ds count from entities) entity + copies_in (declared_factors (declaration_in ds (from + entity)))
     ≡ first_among (all_held ds count from entities) (slots_counted ds count from entities) (suc entity)
 firsts_next ds count from zero entity within = absurd (none entity within)
   where
     none : (n : ℕ) → n < 0 → ⊥
     none n e = omega (arith, e)
 firsts_next ds count from (suc entities) zero within =
-    ap (λ (n : ℕ). count + copies_in (factors_of (declaration_in ds n))) (add_none from) ∙ sym (first_first ds (count + copies_in (factors_of (declaration_in ds from))) (suc from) entities)
+    ap (λ (n : ℕ). count + copies_in (declared_factors (declaration_in ds n))) (add_none from) ∙ sym (first_first ds (count + copies_in (declared_factors (declaration_in ds from))) (suc from) entities)
   where
     add_none : (n : ℕ) → n + 0 ≡ n
     add_none n = omega arith
 firsts_next ds count from (suc entities) (suc entity) within =
-    ap (λ (n : ℕ). first_among (all_held ds (count + copies_in (factors_of (declaration_in ds from))) (suc from) entities) (slots_counted ds (count + copies_in (factors_of (declaration_in ds from))) (suc from) entities) entity + copies_in (factors_of (declaration_in ds n)))
+    ap (λ (n : ℕ). first_among (all_held ds (count + copies_in (declared_factors (declaration_in ds from))) (suc from) entities) (slots_counted ds (count + copies_in (declared_factors (declaration_in ds from))) (suc from) entities) entity + copies_in (declared_factors (declaration_in ds n)))
     (moved from entity)
-    ∙ firsts_next ds (count + copies_in (factors_of (declaration_in ds from))) (suc from) entities entity (less entity entities within)
+    ∙ firsts_next ds (count + copies_in (declared_factors (declaration_in ds from))) (suc from) entities entity (less entity entities within)
   where
     moved : (n m : ℕ) → n + suc m ≡ suc n + m
     moved n m = omega arith
@@ -201,14 +201,14 @@ firsts_next ds count from (suc entities) (suc entity) within =
     less a b e = omega (arith, e)
 
 -- so the first of an entity that has a copy lies before the next entity's
-pub first_before : (ds : List Declaration) (entities : ℕ) (held : List Held) (count entity : ℕ) → held ≡ all_held ds 0 0 entities → count ≡ slots_counted ds 0 0 entities → entity < length held → 1 ≤ copies_in (factors_of (declaration_in ds entity))
+pub first_before : (ds : List Declaration) (entities : ℕ) (held : List Held) (count entity : ℕ) → held ≡ all_held ds 0 0 entities → count ≡ slots_counted ds 0 0 entities → entity < length held → 1 ≤ copies_in (declared_factors (declaration_in ds entity))
     → (held_at held entity).first < first_among held count (suc entity)
 first_before ds entities held count entity is counted within copies =
-    by (held_at held entity).first (copies_in (factors_of (declaration_in ds entity))) (first_among held count (suc entity)) copies
-    (ap (λ (n : ℕ). n + copies_in (factors_of (declaration_in ds entity))) (first_at held count entity within)
-    ∙ subst (λ (l : List Held). first_among l count entity + copies_in (factors_of (declaration_in ds entity)) ≡ first_among l count (suc entity)) (sym is)
-    (subst (λ (n : ℕ). first_among (all_held ds 0 0 entities) n entity + copies_in (factors_of (declaration_in ds entity)) ≡ first_among (all_held ds 0 0 entities) n (suc entity)) (sym counted)
-    (subst (λ (n : ℕ). first_among (all_held ds 0 0 entities) (slots_counted ds 0 0 entities) entity + copies_in (factors_of (declaration_in ds n)) ≡ first_among (all_held ds 0 0 entities) (slots_counted ds 0 0 entities) (suc entity)) (zero-add entity)
+    by (held_at held entity).first (copies_in (declared_factors (declaration_in ds entity))) (first_among held count (suc entity)) copies
+    (ap (λ (n : ℕ). n + copies_in (declared_factors (declaration_in ds entity))) (first_at held count entity within)
+    ∙ subst (λ (l : List Held). first_among l count entity + copies_in (declared_factors (declaration_in ds entity)) ≡ first_among l count (suc entity)) (sym is)
+    (subst (λ (n : ℕ). first_among (all_held ds 0 0 entities) n entity + copies_in (declared_factors (declaration_in ds entity)) ≡ first_among (all_held ds 0 0 entities) n (suc entity)) (sym counted)
+    (subst (λ (n : ℕ). first_among (all_held ds 0 0 entities) (slots_counted ds 0 0 entities) entity + copies_in (declared_factors (declaration_in ds n)) ≡ first_among (all_held ds 0 0 entities) (slots_counted ds 0 0 entities) (suc entity)) (zero-add entity)
     (firsts_next ds 0 0 entities entity there))))
   where
     there : entity < entities

@@ -11,7 +11,7 @@ use Rattle.dh_commands.specs.declared.assignments.Change.{Change}
 use Rattle.dh_commands.specs.declared.buildings.Building.{Building}
 use Rattle.dh_commands.specs.Undone.{given_at, undone}
 use Rattle.dh_gathering.specs.MadeBlocks.{IsAmong, SetsGiven}
-use Rattle.dh_gathering.specs.PushedSets.{SetsChanges, SetsLogged, SetsRegister, cleared, set_of, sets_of, setting, settings}
+use Rattle.dh_gathering.specs.PushedSets.{SetsChanges, SetsLogged, SetsRegister, cleared, set_of, sets_pushed, setting, settings}
 
 -- Registers that are set in a list.
 
@@ -124,10 +124,10 @@ module _ (all : List (Option ℕ)) where
   set_given register None h rest a = a
   set_given register (Some value) h rest a = (h value refl, a)
 
-  pub sets_given : (cs : List Change) (current : List (Option ℕ)) → ((register value : ℕ) → given_at current register ≡ Some value → given_at all register ≡ Some value) → AllByRecursion IsGivenBy (sets_of cs current)
+  pub sets_given : (cs : List Change) (current : List (Option ℕ)) → ((register value : ℕ) → given_at current register ≡ Some value → given_at all register ≡ Some value) → AllByRecursion IsGivenBy (sets_pushed cs current)
   sets_given [] current h = tt
   sets_given (c ∷ cs) current h =
-      set_given c.register (given_at current c.register) (λ value e. h c.register value e) (sets_of cs (slice_set current c.register None)) (sets_given cs (slice_set current c.register None) next)
+      set_given c.register (given_at current c.register) (λ value e. h c.register value e) (sets_pushed cs (slice_set current c.register None)) (sets_given cs (slice_set current c.register None) next)
     where
       next : (register value : ℕ) → given_at (slice_set current c.register None) register ≡ Some value → given_at all register ≡ Some value
       next register value e = by (same_or c.register register)
@@ -140,12 +140,12 @@ among_behind : {A : Type 0} (xs ys : List A) (y : A) → IsAmong ys y → IsAmon
 among_behind [] ys y h = h
 among_behind (x ∷ xs) ys y h = let r = among_behind xs ys y h in (suc r.0, r.1)
 
-pub sets_all : (cs : List Change) (current : List (Option ℕ)) (register value : ℕ) → IsLogged cs register → given_at current register ≡ Some value → IsAmong (sets_of cs current) (register, value)
+pub sets_all : (cs : List Change) (current : List (Option ℕ)) (register value : ℕ) → IsLogged cs register → given_at current register ≡ Some value → IsAmong (sets_pushed cs current) (register, value)
 sets_all [] current register value h given = absurd h
 sets_all (c ∷ cs) current register value h given = by (λ k g. sets_all cs (slice_set current c.register None) register value k g) (same_or c.register register) h
   where
     rest : List (ℕ × ℕ)
-    rest = sets_of cs (slice_set current c.register None)
+    rest = sets_pushed cs (slice_set current c.register None)
 
     by : (IsLogged cs register → given_at (slice_set current c.register None) register ≡ Some value → IsAmong rest (register, value)) → (c.register ≡ register) ⊎ (c.register ≡ register → ⊥) → (c.register ≡ register) ⊎ IsLogged cs register
         → IsAmong (set_of c.register (given_at current c.register) ++ rest) (register, value)
@@ -156,7 +156,7 @@ sets_all (c ∷ cs) current register value h given = by (λ k g. sets_all cs (sl
 -- all sets of a block
 pub sets_logged : (old new : Building) → SetsLogged old new → ((register : ℕ) → given_at (undone old.values.log.items old.values.current.items) register ≡ None) → SetsGiven old new
 sets_logged old new h none = record {
-  sets = sets_of old.values.log.items old.values.current.items;
+  sets = sets_pushed old.values.log.items old.values.current.items;
   operations = h.sets.operations;
   faults = h.sets.faults;
   accesses = h.sets.accesses;
@@ -182,11 +182,11 @@ sets_turn all i old here next c within is s h = record {
   so = λ new k. h.so new (subst (λ (l : List Change). SetsChanges here new l) (sym (at_item all i c within is)) (record {
     operations =
         k.operations
-        ∙ (ap (λ (l : List Operation). l ++ settings (sets_of (drop (i + 1) all) next.values.current.items)) s.operations
-        ∙ (append_assoc here.draft.operations.items (settings (set_of c.register (given_at here.values.current.items c.register))) (settings (sets_of (drop (i + 1) all) next.values.current.items))
-        ∙ (ap (λ (l : List (Option ℕ)). here.draft.operations.items ++ (settings (set_of c.register (given_at here.values.current.items c.register)) ++ settings (sets_of (drop (i + 1) all) l))) s.current
+        ∙ (ap (λ (l : List Operation). l ++ settings (sets_pushed (drop (i + 1) all) next.values.current.items)) s.operations
+        ∙ (append_assoc here.draft.operations.items (settings (set_of c.register (given_at here.values.current.items c.register))) (settings (sets_pushed (drop (i + 1) all) next.values.current.items))
+        ∙ (ap (λ (l : List (Option ℕ)). here.draft.operations.items ++ (settings (set_of c.register (given_at here.values.current.items c.register)) ++ settings (sets_pushed (drop (i + 1) all) l))) s.current
         ∙ ap (λ (l : List Operation). here.draft.operations.items ++ l)
-        (sym (settings_append (set_of c.register (given_at here.values.current.items c.register)) (sets_of (drop (i + 1) all) (slice_set here.values.current.items c.register None)))))));
+        (sym (settings_append (set_of c.register (given_at here.values.current.items c.register)) (sets_pushed (drop (i + 1) all) (slice_set here.values.current.items c.register None)))))));
     faults = k.faults ∙ s.faults;
     accesses = k.accesses ∙ s.accesses;
     current = k.current ∙ ap (λ (l : List (Option ℕ)). cleared (drop (i + 1) all) l) s.current;

@@ -14,7 +14,7 @@ use Rattle.dh_commands.specs.declared.buildings.Building.{Building}
 use Rattle.dh_laid.specs.LaidAccesses.{touched_count}
 use Rattle.dh_gathering.specs.declared.blocks.Made.{Made}
 use Rattle.dh_gathering.specs.Growing.{AreAllLaid, AreOwned, Grows, IsAtRest, IsClear, NamesFew, place_in, registers_given}
-use Rattle.dh_gathering.specs.MadeBlocks.{StandsAt}
+use Rattle.dh_gathering.specs.MadeBlocks.{BlockStandsAt}
 
 not_more : (a b c : ℕ) → a ≤ b → b ≤ c → a ≤ c
 not_more a b c h k = omega (arith, h, k)
@@ -176,7 +176,7 @@ module _ (old new : Made) (h : AddsBlock old new) where
                   subst (λ (n : ℕ). place_in new n ≤ length new.building.draft.operations.items) (sym is)
                   (subst (λ (n : ℕ). n ≤ length new.building.draft.operations.items) (sym place_here) h.draft.longer)
 
-  pub block_stands : IsAtRest old → (final : Made) → Grows new final → StandsAt final (length old.starts.items) old.building new.building
+  pub block_stands : IsAtRest old → (final : Made) → Grows new final → BlockStandsAt final (length old.starts.items) old.building new.building
   block_stands rest final more = record {
     begins = more.places (length old.starts.items) (subst (λ (n : ℕ). length old.starts.items ≤ n) (sym one_longer) (next (length old.starts.items))) ∙ place_here;
     ends = more.places (suc (length old.starts.items)) (subst (λ (n : ℕ). suc (length old.starts.items) ≤ n) (sym one_longer) (same (suc (length old.starts.items))))

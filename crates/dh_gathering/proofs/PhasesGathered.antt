@@ -15,7 +15,7 @@ use Rattle.dh_tree.specs.PlainTrees.{Action, ActionForm, action, blocks, counts,
 use Rattle.dh_tree.specs.ViewOffsets.{moves}
 use Rattle.dh_meaning.specs.AccessNumbers.{accesses_of, groups_accesses, other_accesses, term_accesses}
 use Rattle.dh_meaning.specs.Core.{Turning}
-use Rattle.dh_meaning.specs.CoreOf.{Known, core_phases, entity_number, form_of, test_of, turning_of}
+use Rattle.dh_meaning.specs.CoreOf.{Known, core_phases, entity_number, action_form_of, test_of, turning_of}
 use Rattle.dh_meaning.specs.Phases as source
 use Rattle.dh_meaning.specs.Phases.{Located, located, repeated, decided, turns, of_list, are_straight, choice_phases, folded, groups_phases, one_command, other_phases, phases, turn_count, turn_phases}
 use Rattle.dh_meaning.specs.Sites.{Around, in_arm, in_loop, loop_of, nothing_around}
@@ -117,7 +117,7 @@ module _ (scene : Scene) (paths : Paths) (rounds : List Round) (inside : AreInsi
   same_number n = omega arith
 
   -- a `while`
-  pub gathers_loop : (old now new : Made) (xs forms : Forms) (ps : List source.Phase) (t : tree.Term) (c : Located) (last : ℕ) → c.first + term_accesses t < 2 ^ 32 → test_of (form_of c.command) ≡ Some t → ArePlaced known_here program_here loops_here (repeated c (of_list ps) ∷ [])
+  pub gathers_loop : (old now new : Made) (xs forms : Forms) (ps : List source.Phase) (t : tree.Term) (c : Located) (last : ℕ) → c.first + term_accesses t < 2 ^ 32 → test_of (action_form_of c.command) ≡ Some t → ArePlaced known_here program_here loops_here (repeated c (of_list ps) ∷ [])
       → AreUntouched old.building.accesses c.first last → GathersAll scene rounds old now (c.first + term_accesses t) last xs ps → Repeats scene paths now new c.first t xs forms
       → GathersAll scene rounds old new c.first last forms (repeated c (of_list ps) ∷ [])
   gathers_loop old now new xs forms ps t c last few is placed bare (h, o) k =
@@ -153,7 +153,7 @@ module _ (scene : Scene) (paths : Paths) (rounds : List Round) (inside : AreInsi
       both n m k e f = omega (arith, e, f)
 
   -- an `if` whose arms are not straight
-  choice_made : (old mid now new : Made) (xs ys forms : Forms) (ps qs : List source.Phase) (c : Located) (t : tree.Term) (between last : ℕ) → c.first + term_accesses t < 2 ^ 32 → test_of (form_of c.command) ≡ Some t
+  choice_made : (old mid now new : Made) (xs ys forms : Forms) (ps qs : List source.Phase) (c : Located) (t : tree.Term) (between last : ℕ) → c.first + term_accesses t < 2 ^ 32 → test_of (action_form_of c.command) ≡ Some t
       → ArePlaced known_here program_here loops_here (decided c (of_list ps) (of_list qs) ∷ []) → AreUntouched old.building.accesses c.first last
       → GathersAll scene rounds old mid (c.first + term_accesses t) between xs ps → GathersAll scene rounds mid now between last ys qs → ChoosesNodes scene paths now new c.first t xs ys forms
       → GathersAll scene rounds old new c.first last forms (decided c (of_list ps) (of_list qs) ∷ [])
@@ -209,7 +209,7 @@ module _ (scene : Scene) (paths : Paths) (rounds : List Round) (inside : AreInsi
       both n m k e f = omega (arith, e, f)
 
   -- an `if`
-  pub gathers_choice : (old mid now new : Made) (xs ys forms : Forms) (ps qs : List source.Phase) (a : Action) (t : tree.Term) (r : Around) (n between : ℕ) → n + accesses_of a < 2 ^ 32 → n + term_accesses t < 2 ^ 32 → test_of (form_of a) ≡ Some t
+  pub gathers_choice : (old mid now new : Made) (xs ys forms : Forms) (ps qs : List source.Phase) (a : Action) (t : tree.Term) (r : Around) (n between : ℕ) → n + accesses_of a < 2 ^ 32 → n + term_accesses t < 2 ^ 32 → test_of (action_form_of a) ≡ Some t
       → AreInner known_here program_here loops_here (choice_phases (located r n a) ps qs) → AreUntouched old.building.accesses n (n + accesses_of a)
       → GathersAll scene rounds old mid (n + term_accesses t) between xs ps → GathersAll scene rounds mid now between (n + accesses_of a) ys qs → Chooses scene paths now new n a t xs ys forms
       → GathersAll scene rounds old new n (n + accesses_of a) forms (choice_phases (located r n a) ps qs)
@@ -296,7 +296,7 @@ module _ (scene : Scene) (paths within : Paths) (old now new : Made) (turn forms
   loop = located r n (action id place (counts iterator declared low high factor body combine combine_place))
 
   abbrev pub round_of : Round
-  round_of = record { loop = turning_of (known_in scene) count (form_of loop.command); counter = (held_at scene.held.now (entity_number iterator.entity)).first }
+  round_of = record { loop = turning_of (known_in scene) count (action_form_of loop.command); counter = (held_at scene.held.now (entity_number iterator.entity)).first }
 
   pub inside_loop : (rounds : List Round) → 0 < factor.value → within.levels.items ≡ levels_inside paths.levels.items (Some (entity_number iterator.entity)) factor.value → within.count ≡ count_inside paths.count factor.value
       → AreInside scene rounds paths → AreInside scene (rounds ++ round_of ∷ []) within

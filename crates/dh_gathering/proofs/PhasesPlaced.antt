@@ -2,7 +2,7 @@
 use Rattle.std.proofs.Common.{◌≡◌, inl, inr, ℕ, ◌==◌, ◌&&◌, Bool, true, false, if◌then◌else◌, List, [], ◌∷◌, ◌++◌, refl, subst}
 use Rattle.dh_tree.specs.PlainTrees.{Program}
 use Rattle.dh_meaning.specs.Core.{Turning}
-use Rattle.dh_meaning.specs.CoreOf.{Known, form_of, turning_of}
+use Rattle.dh_meaning.specs.CoreOf.{Known, action_form_of, turning_of}
 use Rattle.dh_meaning.specs.Phases as source
 use Rattle.dh_meaning.specs.Phases.{Located, straight, turns, repeated, decided, of_list, one_straight, joined, folded, are_straight, one_command, choice_phases, turn_phases, phases_of}
 use Rattle.dh_gathering.specs.KeptPhases.{far_after, open_after}
@@ -59,10 +59,10 @@ module _ (known : Known) (p : Program) (round : List Turning) where
     tests = λ loops c s. h.tests loops c (inl (inr (test_listed known round qs loops c s)));
   }
 
-  pub placed_turns : (loop : Located) (count : ℕ) (qs : List source.Phase) → Placed (turns loop count (of_list qs) ∷ []) → ArePlaced known p (round ++ turning_of known count (form_of loop.command) ∷ []) qs
+  pub placed_turns : (loop : Located) (count : ℕ) (qs : List source.Phase) → Placed (turns loop count (of_list qs) ∷ []) → ArePlaced known p (round ++ turning_of known count (action_form_of loop.command) ∷ []) qs
   placed_turns loop count qs h = record {
-    straights = λ loops cs s. h.straights loops cs (inl (straight_listed known (round ++ turning_of known count (form_of loop.command) ∷ []) qs loops cs s));
-    tests = λ loops c s. h.tests loops c (inl (test_listed known (round ++ turning_of known count (form_of loop.command) ∷ []) qs loops c s));
+    straights = λ loops cs s. h.straights loops cs (inl (straight_listed known (round ++ turning_of known count (action_form_of loop.command) ∷ []) qs loops cs s));
+    tests = λ loops c s. h.tests loops c (inl (test_listed known (round ++ turning_of known count (action_form_of loop.command) ∷ []) qs loops c s));
   }
 
   pub placed_chosen : (choice : Located) (ps qs : List source.Phase) → Placed (decided choice (of_list ps) (of_list qs) ∷ []) → Placed ps
@@ -132,7 +132,7 @@ module _ (known : Known) (p : Program) (round : List Turning) where
       by false b e f k = (placed_inner ps (placed_chosen c ps qs k.0), placed_inner qs (placed_other c ps qs k.0))
 
   -- the phases of a turn, where there is one
-  pub turn_placed : (loop : Located) (count : ℕ) (qs : List source.Phase) → (count == 0) ≡ false → Inner (turn_phases loop count qs) → ArePlaced known p (round ++ turning_of known count (form_of loop.command) ∷ []) qs
+  pub turn_placed : (loop : Located) (count : ℕ) (qs : List source.Phase) → (count == 0) ≡ false → Inner (turn_phases loop count qs) → ArePlaced known p (round ++ turning_of known count (action_form_of loop.command) ∷ []) qs
   turn_placed loop count [] some h = record { straights = λ loops cs s. absurd s; tests = λ loops c s. absurd s }
   turn_placed loop count (q ∷ qs) some h =
       placed_turns loop count (q ∷ qs) (subst (λ (b : Bool). Inner (if b then [] else turns loop count (of_list (q ∷ qs)) ∷ [])) some h).0

@@ -41,7 +41,7 @@ use Rattle.dh_laid.proofs.FaultsOwn.{faults_grow}
 use Rattle.dh_gathering.specs.declared.blocks.Made.{Made}
 use Rattle.dh_gathering.specs.KeptPhases.{AreBeside}
 use Rattle.dh_gathering.specs.Growing.{AreAllLaid, AreOwned, IsAtRest, IsClear, NamesFew}
-use Rattle.dh_gathering.specs.MadeBlocks.{AreFew, AreInside, ArePathsOf, DoesCommands, SetsGiven, StandsAt}
+use Rattle.dh_gathering.specs.MadeBlocks.{AreFew, AreInside, ArePathsOf, DoesCommands, SetsGiven, BlockStandsAt}
 use Rattle.dh_gathering.specs.OpenAccesses.{AreOpen, AreUntouched, Numbered, TouchesWithin}
 use Rattle.dh_gathering.specs.PushedSets.{SetsLogged, settings}
 use Rattle.dh_gathering.specs.Gathered.{DoesNumbered, IsLocated, MakesStraight, MakesStraightIn}
@@ -340,7 +340,7 @@ module _ (scene : Scene) (paths : Paths) (old new : Made) (between after : Build
         before = old.building;
         between = between;
         after = after;
-        stands = subst (λ (b : Building). StandsAt final block old.building b) building (subst (λ (n : ℕ). StandsAt final n old.building new.building) (sym number_is) (block_stands old new adds rest final more));
+        stands = subst (λ (b : Building). BlockStandsAt final block old.building b) building (subst (λ (n : ℕ). BlockStandsAt final n old.building new.building) (sym number_is) (block_stands old new adds rest final more));
         few = few_located items ls beside;
         does = does_located scene around items ls old.building between beside does;
         stands_in = stands_in;

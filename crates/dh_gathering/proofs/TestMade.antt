@@ -34,7 +34,7 @@ use Rattle.dh_laid.proofs.CommandsNumbered.{tests_number}
 use Rattle.dh_laid.proofs.FaultsOwn.{faultless_again, faultless_pushed}
 use Rattle.dh_gathering.specs.declared.blocks.Made.{Made}
 use Rattle.dh_gathering.specs.Growing.{Grows, IsAtRest, IsClear, registers_given}
-use Rattle.dh_gathering.specs.MadeBlocks.{AddsFlag, AreInside, ArePathsOf, IsFlagOf, PutsFlag, SetsFlag, StandsAt}
+use Rattle.dh_gathering.specs.MadeBlocks.{AddsFlag, AreInside, ArePathsOf, IsFlagOf, PutsFlag, SetsFlag, BlockStandsAt}
 use Rattle.dh_gathering.specs.OpenAccesses.{AreUntouched, TouchesWithin}
 use Rattle.dh_gathering.specs.Gathered.{MakesTest, MakesTestIn, SetsFirst}
 use Rattle.dh_gathering.proofs.MadeGrows.{AddsBlock, block_grows, block_rests, block_stands}
@@ -169,7 +169,7 @@ module _ (scene : Scene) (paths : Paths) (old new : Made) (between : Building) (
           before = old.building;
           between = between;
           after = new.building;
-          stands = subst (λ (n : ℕ). StandsAt final n old.building new.building) (sym number_is) (block_stands old new adds rest final more);
+          stands = subst (λ (n : ℕ). BlockStandsAt final n old.building new.building) (sym number_is) (block_stands old new adds rest final more);
           few = few;
           next = next;
           tests = tests;

@@ -7,7 +7,7 @@ use Rattle.dh_tree.specs.declared.trees.commands.ViewForm.{ViewForm}
 use Rattle.dh_tree.specs.declared.trees.expressions.Ref.{Ref}
 use Rattle.dh_tree.specs.PlainTrees as tree
 use Rattle.dh_tree.specs.PlainTrees.{Action}
-use Rattle.dh_tree.specs.Seen.{action_seen, all_parts_seen, plan_seen, program_seen}
+use Rattle.dh_tree.specs.Seen.{action_seen, all_parts_seen, view_plan, program_seen}
 use Rattle.dh_tree.specs.ViewOffsets.{moves}
 use Rattle.dh_meaning.specs.AccessNumbers.{accesses_of, groups_accesses, term_accesses}
 use Rattle.dh_meaning.specs.CoreOf.{core_phase, core_phases, entity_number}
@@ -62,7 +62,7 @@ KeepsAlone c first forms = all_kept forms.items ≡ done_at_once (numbered (acti
 
 -- a view of this form is, where it moves; of another nothing is kept
 abbrev pub KeepsView : ViewForm → Command → (first : ℕ) → (forms : Vec Loose Global) → Type 0
-KeepsView form c first forms = all_kept forms.items ≡ view_kept (moves (plan_seen form)) (numbered (action_seen c) first)
+KeepsView form c first forms = all_kept forms.items ≡ view_kept (moves (view_plan form)) (numbered (action_seen c) first)
 
 -- the open phase is put behind those that are done, where it has a command, and has none then
 abbrev pub EndsPhase : (done : Vec Loose Global) → (current : Vec Located Global) → (done_after : Vec Loose Global) → (current_after : Vec Located Global) → Type 0

@@ -15,7 +15,7 @@ use Rattle.dh_plan.specs.PlanPhases.{IsIteratorOf, IsLoopRegister, Tie}
 use Rattle.dh_plan.specs.SoundPlans.{Counting}
 use Rattle.dh_expressions.specs.declared.scenes.Scene.{Scene}
 use Rattle.dh_expressions.specs.Evaluated.{counter_of}
-use Rattle.dh_gathering.specs.MadeBlocks.{counter_in}
+use Rattle.dh_gathering.specs.MadeBlocks.{counter_register}
 
 -- a register stands for a copy of a variable that is no iterator
 pub record IsSlotOf (scene : Scene) (p : Placing) (entity : ℕ) (path : Path) (register : ℕ) : Type 0 where
@@ -43,7 +43,7 @@ pub record IsCounting (scene : Scene) (p : Placing) (loop : Turning) : Type 0 wh
 -- loops round a place are so, and each has the counter of its iterator
 abbrev pub AreCounting : Scene → Placing → List Round → Type 0
 AreCounting scene p [] = Unit {0}
-AreCounting scene p (r ∷ rs) = (IsCounting scene p r.loop × (r.counter ≡ counter_in scene r.loop)) × AreCounting scene p rs
+AreCounting scene p (r ∷ rs) = (IsCounting scene p r.loop × (r.counter ≡ counter_register scene r.loop)) × AreCounting scene p rs
 
 -- all loops of phases are so, and none has the iterator of one round it
 abbrev mutual
@@ -54,7 +54,7 @@ abbrev mutual
   pub LoopsCountIn : Scene → Placing → List Round → CorePhase → Type 0
   LoopsCountIn scene p rounds (straightly cs) = Unit {0}
   LoopsCountIn scene p rounds (turning loop body) =
-      IsCounting scene p loop × ((IsIteratorOf rounds loop.iterator → ⊥) × LoopsCount scene p (rounds ++ record { loop = loop; counter = counter_in scene loop } ∷ []) body)
+      IsCounting scene p loop × ((IsIteratorOf rounds loop.iterator → ⊥) × LoopsCount scene p (rounds ++ record { loop = loop; counter = counter_register scene loop } ∷ []) body)
   LoopsCountIn scene p rounds (looping test body) = LoopsCount scene p rounds body
   LoopsCountIn scene p rounds (choosing test chosen other) = LoopsCount scene p rounds chosen × LoopsCount scene p rounds other
 
@@ -77,12 +77,12 @@ pub record AreOwnLoops (scene : Scene) (p : Placing) (loops : List Turning) : Ty
 
 -- a loop as the plan counts it
 abbrev pub counting_of : Scene → Turning → Counting
-counting_of scene loop = record { counter = counter_in scene loop; turns = loop.count }
+counting_of scene loop = record { counter = counter_register scene loop; turns = loop.count }
 
 -- its counter is a register of a width that has every number below its turns
 pub record HasCounter (scene : Scene) (registers : List Kind) (loop : Turning) : Type 0 where
   pub width : ℕ
-  pub there : slice_get registers (counter_in scene loop) ≡ Some (Unsigned width)
+  pub there : slice_get registers (counter_register scene loop) ≡ Some (Unsigned width)
   pub wide : loop.count ≤ 2 ^ width
 
 -- the counter of each loop is apart from all registers of variables, and from the counters round it

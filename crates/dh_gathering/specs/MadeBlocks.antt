@@ -9,7 +9,7 @@ use Rattle.dh_value.specs.Operations.{binary_of}
 use Rattle.dh_tree.specs.PlainTrees as plain
 use Rattle.dh_meaning.specs.AccessNumbers.{accesses_of, term_accesses}
 use Rattle.dh_meaning.specs.Core.{CoreCommands, CoreTerm, Turning}
-use Rattle.dh_meaning.specs.CoreOf.{core_commands, core_test, form_of, test_of}
+use Rattle.dh_meaning.specs.CoreOf.{core_commands, core_test, action_form_of, test_of}
 use Rattle.dh_meaning.specs.Phases.{Located, phases_of}
 use Rattle.dh_tree.specs.Seen.{program_seen}
 use Rattle.dh_code.specs.Slots.{held_at}
@@ -21,7 +21,7 @@ use Rattle.dh_expressions.specs.declared.paths.Level.{Level}
 use Rattle.dh_expressions.specs.declared.scenes.Around.{Around}
 use Rattle.dh_expressions.specs.declared.scenes.Scene.{Scene}
 use Rattle.dh_expressions.specs.Copying.{AreNone, HasScopes}
-use Rattle.dh_expressions.specs.Drafted.{Extends, Gives, Pushes, shown}
+use Rattle.dh_expressions.specs.Drafted.{Extends, Gives, Pushes, word_shown}
 use Rattle.dh_expressions.specs.Evaluated.{known_in}
 use Rattle.dh_expressions.specs.declared.paths.Paths.{Paths}
 use Rattle.dh_expressions.specs.Levels.{levels_inside}
@@ -81,7 +81,7 @@ pub record IsRoundBlock (rounds : List Round) (around : Around) : Type 0 where
 -- Blocks.
 
 -- where a block begins and ends: it is all that was added from one building to another
-pub record StandsAt (final : Made) (block : ℕ) (before after : Building) : Type 0 where
+pub record BlockStandsAt (final : Made) (block : ℕ) (before after : Building) : Type 0 where
   pub begins : place_in final block ≡ length before.draft.operations.items
   pub ends : place_in final (suc block) ≡ length after.draft.operations.items
   pub there : suc block ≤ length final.starts.items
@@ -120,7 +120,7 @@ pub record MadeStraight (scene : Scene) (final : Made) (rounds : List Round) (ls
   pub before : Building
   pub between : Building
   pub after : Building
-  pub stands : StandsAt final block before after
+  pub stands : BlockStandsAt final block before after
   pub few : AllByRecursion AreFew ls
   pub does : DoesCommands scene around ls before between
   -- exactly what was put down
@@ -145,7 +145,7 @@ pub record SetsFlag (old new : Draft) (t : plain.Term) (value flag : ℕ) : Type
   pub mid : Draft
   pub made : ℕ
   pub number : ℕ
-  pub gives : Gives old mid made (λ x. flag_shown t (shown x value))
+  pub gives : Gives old mid made (λ x. flag_shown t (word_shown x value))
   pub set : Pushes mid new number None (Set flag made)
 
 -- The operations of a flag: of a read, whose value need be no word, both of it and itself.
@@ -169,7 +169,7 @@ pub record MadeTest (scene : Scene) (final : Made) (rounds : List Round) (n : �
   pub before : Building
   pub between : Building
   pub after : Building
-  pub stands : StandsAt final block before after
+  pub stands : BlockStandsAt final block before after
   pub few : n + term_accesses t < 2 ^ 32
   pub next : ℕ
   pub tests : List ℕ
@@ -204,16 +204,16 @@ pub record IsTestBlock (scene : Scene) (final : Made) (rounds : List Round) (tes
   pub is : test ≡ core_test (known_in scene) tested
   pub placed : TestOf (known_in scene) [] (phases_of (program_seen scene.program.now)) (loops_round rounds) tested
   -- the test that the command has
-  pub term_is : test_of (form_of tested.command) ≡ Some term
+  pub term_is : test_of (action_form_of tested.command) ≡ Some term
   pub made : MadeTest scene final rounds tested.first term flag block
 
 -- the counter of a loop is the first register of its iterator
-abbrev pub counter_in : Scene → Turning → ℕ
-counter_in scene loop = (held_at scene.held.now loop.iterator).first
+abbrev pub counter_register : Scene → Turning → ℕ
+counter_register scene loop = (held_at scene.held.now loop.iterator).first
 
 abbrev pub made_tie : Scene → Made → Tie
 made_tie scene final = record {
   of_block = λ rounds cs block. IsStraightBlock scene final rounds cs block;
   of_test = λ rounds test flag block. IsTestBlock scene final rounds test flag block;
-  of_loop = λ rounds loop counter. counter ≡ counter_in scene loop;
+  of_loop = λ rounds loop counter. counter ≡ counter_register scene loop;
 }

@@ -5,7 +5,7 @@ use Rattle.dh_value.specs.declared.kinds.Kind.{Kind}
 use Rattle.dh_tree.specs.Seen.{program_seen}
 use Rattle.dh_meaning.specs.Core.{CorePhases, Turning}
 use Rattle.dh_code.specs.declared.places.Held.{Held}
-use Rattle.dh_code.specs.Declarations.{Declaration, all_held, declaration_in, factors_of, slots_counted}
+use Rattle.dh_code.specs.Declarations.{Declaration, all_held, declaration_in, declared_factors, slots_counted}
 use Rattle.dh_code.specs.Slots.{IsPlacing, Placing}
 use Rattle.dh_plan.specs.declared.operations.PlanBlock.{PlanBlock}
 use Rattle.dh_plan.specs.Correspondence.{Slots}
@@ -19,7 +19,7 @@ use Rattle.dh_gathering.specs.declared.blocks.Made.{Made}
 use Rattle.dh_gathering.specs.Cutting.{AreBlocksOf}
 use Rattle.dh_gathering.specs.Growing.{registers_given}
 use Rattle.dh_gathering.specs.LoopCounters.{AreOwnLoops, AreSlotsBy, HasCounter, IsCounting, LoopsCount, apart_counters, loops_of}
-use Rattle.dh_gathering.specs.MadeBlocks.{StandsAt, made_tie}
+use Rattle.dh_gathering.specs.MadeBlocks.{BlockStandsAt, made_tie}
 use Rattle.dh_gathering.specs.Registers.{AreSuccessive, HaveKinds}
 
 -- a block that was cut out is all that was put down for it, from a begin at which no variable was given a value
@@ -30,7 +30,7 @@ pub record IsWhole (final : Made) (blocks : List PlanBlock) (block : ℕ) (befor
 
 abbrev pub BlocksAreWhole : Type 0
 BlocksAreWhole =
-    (final : Made) (blocks : List PlanBlock) (block : ℕ) (before after : Building) → AreBlocksOf final.building.draft.operations.items final.starts.items blocks → StandsAt final block before after
+    (final : Made) (blocks : List PlanBlock) (block : ℕ) (before after : Building) → AreBlocksOf final.building.draft.operations.items final.starts.items blocks → BlockStandsAt final block before after
     → IsWhole final blocks block before after
 
 -- the counter of each loop of nodes is no variable's register, and no counter of a loop round it
@@ -54,4 +54,4 @@ RegistersFollow =
 abbrev pub LoopsHaveCounters : Type 0
 LoopsHaveCounters =
     (scene : Scene) (p : Placing) (ds : List Declaration) (entities count : ℕ) (registers : List Kind) (loop : Turning) → scene.held.now ≡ all_held ds 0 0 entities → count ≡ slots_counted ds 0 0 entities → p.held ≡ scene.held.now
-    → p.factors loop.iterator ≡ factors_of (declaration_in ds loop.iterator) → HaveKinds (program_seen scene.program.now) scene.held.now count (length scene.held.now) registers → IsCounting scene p loop → HasCounter scene registers loop
+    → p.factors loop.iterator ≡ declared_factors (declaration_in ds loop.iterator) → HaveKinds (program_seen scene.program.now) scene.held.now count (length scene.held.now) registers → IsCounting scene p loop → HasCounter scene registers loop

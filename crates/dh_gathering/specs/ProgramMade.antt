@@ -21,7 +21,7 @@ use Rattle.dh_gathering.specs.Growing.{AreOwned, IsAtRest, registers_given}
 use Rattle.dh_gathering.specs.MadeBlocks.{IsTold, made_tie}
 use Rattle.dh_gathering.specs.NamedOnce.{listed}
 use Rattle.dh_gathering.specs.OpenAccesses.{AreUntouched}
-use Rattle.dh_gathering.specs.Registers.{AreSuccessive, HasKind, first_among}
+use Rattle.dh_gathering.specs.Registers.{AreSuccessive, HasRegisterKind, first_among}
 
 -- nothing is made yet, but for the registers of variables; so many accesses have no operations
 pub record Begins (registers : List Kind) (count : ℕ) (m : Made) : Type 0 where
@@ -52,7 +52,7 @@ pub record IsPhased (scene : Scene) (count : ℕ) (body : Action) (p : Phased) :
   pub flags : (register : ℕ) (k : Kind) → count ≤ register → slice_get p.registers register ≡ Some k → k ≡ kind.Bool
   pub given : registers_given final ≡ count
   pub kinds : (entity register : ℕ) → entity < length scene.held.now → first_among scene.held.now count entity ≤ register → register < first_among scene.held.now count (suc entity)
-      → HasKind (program_seen scene.program.now) scene.held.now p.registers entity register
+      → HasRegisterKind (program_seen scene.program.now) scene.held.now p.registers entity register
 
 -- of the program's body, with few accesses, each known with what it shares, where the registers of entities stand one behind
 -- the other

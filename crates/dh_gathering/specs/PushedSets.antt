@@ -12,9 +12,9 @@ set_of register None = []
 set_of register (Some value) = (register, value) ∷ []
 
 -- of the registers of a log, the sets; what is set is given no more
-abbrev pub sets_of : List Change → (current : List (Option ℕ)) → List (ℕ × ℕ)
-sets_of [] current = []
-sets_of (c ∷ cs) current = set_of c.register (given_at current c.register) ++ sets_of cs (slice_set current c.register None)
+abbrev pub sets_pushed : List Change → (current : List (Option ℕ)) → List (ℕ × ℕ)
+sets_pushed [] current = []
+sets_pushed (c ∷ cs) current = set_of c.register (given_at current c.register) ++ sets_pushed cs (slice_set current c.register None)
 
 abbrev pub cleared : List Change → (current : List (Option ℕ)) → List (Option ℕ)
 cleared [] current = current
@@ -38,7 +38,7 @@ pub record SetsRegister (old new : Building) (register : ℕ) : Type 0 where
 
 -- those of these changes
 pub record SetsChanges (old new : Building) (changes : List Change) : Type 0 where
-  pub operations : new.draft.operations.items ≡ old.draft.operations.items ++ settings (sets_of changes old.values.current.items)
+  pub operations : new.draft.operations.items ≡ old.draft.operations.items ++ settings (sets_pushed changes old.values.current.items)
   pub faults : new.draft.faults ≡ old.draft.faults
   pub accesses : new.accesses ≡ old.accesses
   pub current : new.values.current.items ≡ cleared changes old.values.current.items

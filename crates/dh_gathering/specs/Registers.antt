@@ -30,14 +30,14 @@ pub record AreSuccessive (held : List Held) (count : ℕ) : Type 0 where
   pub few : length held ≤ 2 ^ 32
 
 -- each register of an entity has its kind
-abbrev pub HasKind : Program → List Held → List Kind → (entity register : ℕ) → Type 0
-HasKind p held registers entity register =
+abbrev pub HasRegisterKind : Program → List Held → List Kind → (entity register : ℕ) → Type 0
+HasRegisterKind p held registers entity register =
     (k : Kind) × ((slice_get registers register ≡ Some k) × IsRegisterKind (counter_in (counters_of p) (Some entity)) (held_at held entity).kind k)
 
 -- so of the first entities, so many
 pub record HaveKinds (p : Program) (held : List Held) (count entities : ℕ) (registers : List Kind) : Type 0 where
   pub long : length registers ≡ first_among held count entities
-  pub kinds : (entity register : ℕ) → entity < entities → first_among held count entity ≤ register → register < first_among held count (suc entity) → HasKind p held registers entity register
+  pub kinds : (entity register : ℕ) → entity < entities → first_among held count entity ≤ register → register < first_among held count (suc entity) → HasRegisterKind p held registers entity register
 
 -- of all: there are as many registers as variables have together
 abbrev pub AreRegisters : Program → List Held → (count : ℕ) → List Kind → Type 0

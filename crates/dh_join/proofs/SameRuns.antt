@@ -17,7 +17,7 @@ use Rattle.dh_net.specs.declared.nets.Net.{Net}
 use Rattle.dh_net.specs.declared.nets.Register.{Register}
 use Rattle.dh_net.specs.declared.ports.Port.{Port}
 use Rattle.dh_net.proofs.Valuations.{cell_of, same_state, some_valuation, some_run}
-use Rattle.dh_sim.specs.Points.{IsSound}
+use Rattle.dh_sim.specs.Points.{IsSoundPoint}
 use Rattle.dh_sim.proofs.Keeping.{starts_sound, stays_sound}
 use Rattle.dh_join.specs.JoinedPorts.{SameService, DrivesAs, JoinedIn}
 use Rattle.dh_join.specs.JoinedNets.{HadNoClash, ShowsTheSame, IsJoined}
@@ -108,9 +108,9 @@ module _ (ws vs : List ℕ) where
 
 -- a net in a state that it came to from memories that fit
 pub sound_run : (net : Net) → IsValid net → (start : List (List ℕ)) → Fits net.table start → (c : ℕ) (s : State) (ws : List ℕ) → ClocksTo net c (start_of net start) s → Settles net s ws
-    → IsSound net s ws
+    → IsSoundPoint net s ws
 sound_run net valid start fits zero s ws run settled =
-    subst (λ (x : State). IsSound net x ws) run (starts_sound net valid start fits ws (subst (λ (x : State). Settles net x ws) (sym run) settled))
+    subst (λ (x : State). IsSoundPoint net x ws) run (starts_sound net valid start fits ws (subst (λ (x : State). Settles net x ws) (sym run) settled))
 sound_run net valid start fits (suc c) s ws run settled =
     let one = run.1.1 in
     stays_sound net run.0 s one.wires ws (sound_run net valid start fits c run.0 one.wires run.1.0 one.settled) one.registers one.held one.memories settled
@@ -123,7 +123,7 @@ module _ (old new : Net) (h : IsDrivenBy old new) where
     memories = start;
   })
 
-  all_drive : (s : State) (ws vs : List ℕ) → IsSound old s ws → Settles new s vs → AllDrive ws vs old.drivers new.drivers
+  all_drive : (s : State) (ws vs : List ℕ) → IsSoundPoint old s ws → Settles new s vs → AllDrive ws vs old.drivers new.drivers
   all_drive s ws vs sound settled = record {
     long = h.joined.long;
     each = drives_same old new h s vs settled ws sound.settled sound.small;
@@ -140,7 +140,7 @@ module _ (old new : Net) (h : IsDrivenBy old new) where
       let rest = registers_same ws vs same rs (λ i q at. all (suc i) q at) in
       (λ i. here i ∷ rest i)
 
-  clock_same : (s t u : State) (one : Clocks old s t) (other : Clocks new s u) → IsSound old s one.wires → has_clashes one.wires old.drivers ≡ false → u ≡ t
+  clock_same : (s t u : State) (one : Clocks old s t) (other : Clocks new s u) → IsSoundPoint old s one.wires → has_clashes one.wires old.drivers ≡ false → u ≡ t
   clock_same s t u one other sound none =
       let drive = all_drive s one.wires other.wires sound other.settled in
       same_state u t

@@ -43,7 +43,7 @@ use Rattle.dh_expressions.specs.MadeValues.{MadeBy, MadeConverted}
 use Rattle.dh_expressions.specs.Noted.{Notes, copied_in, fault_in, fault_of_touched, given_then, is_bare, is_bare_of, noted_in, touched_in, touched_of}
 use Rattle.dh_expressions.specs.Reaching.{place_written, reach_told}
 use Rattle.dh_expressions.specs.Shown.{guard_of, is_kept, kind_written, register_at}
-use Rattle.dh_expressions.specs.Standings.{Standing, standing_at, copy_places}
+use Rattle.dh_expressions.specs.Standings.{AccessStanding, standing_at, copy_places}
 use Rattle.dh_expressions.specs.Touching.{AddsTouched, IsNew, TouchesAt}
 use Rattle.dh_expressions.proofs.AccessesKept.{bare_within, named_extends, noted_touched, place_noted}
 use Rattle.dh_expressions.proofs.CopiesMade.{guard_long, guard_place}
@@ -239,7 +239,7 @@ count_one (x ∷ xs) (y ∷ ys) (suc k) w e kept f g =
 -- Accesses.
 
 module _ (scene : Scene) (around : Around) (stands : StandsIn scene around) (memory : ℕ) (place : Place) (form : plain.TermForm) (writes : Truth) where
-  abbrev stood : Standing
+  abbrev stood : AccessStanding
   stood = standing_at scene around memory place form writes
 
   leads : (p : ℕ) → stood.leader p ≤ p

@@ -10,7 +10,7 @@ use Rattle.dh_expressions.specs.Drafted.{Extends}
 use Rattle.dh_expressions.specs.Shown.{guard_of}
 use Rattle.dh_expressions.proofs.ListPlaces.{place_of_more}
 use Rattle.dh_expressions.proofs.Pushing.{extends_again, extends_self}
-use Rattle.dh_formed.specs.Formed.{Block, FormsValue, HasKind, IsGuard}
+use Rattle.dh_formed.specs.Formed.{FormedBlock, FormsValue, HasKind, IsGuard}
 use Rattle.dh_formed.proofs.CommandsFormed.{selects_form}
 use Rattle.dh_formed.proofs.CopiesFormed.{guard_later, guard_there}
 use Rattle.dh_formed.proofs.ValuesFormed.{agrees_before, compute_forms, constant_forms, forms_again, forms_none, forms_then, forms_there, forms_where, kind_later, started_later}
@@ -61,11 +61,11 @@ arm_guard_forms holds guard test old new v m =
     (forms_where m.middle new v (λ x. IsGuard x m.middle guard × HasKind x m.middle kind.Bool m.outcome) (λ x. (IsGuard x old guard × HasKind x old kind.Bool test) × HasKind x m.middle kind.Bool m.outcome) (λ x. kind.Bool) (λ x. kind.Bool)
     (λ x w. (guard_later x old m.middle guard outcome.extends w.0.0, w.1)) (λ x w. refl) (joined_forms guard m.outcome m.middle new v m.joins))
 
-guards_later : (x : Block) (old new : Draft) (guards : List (Option ℕ)) → Extends old new → AreGuardsThere x old guards → AreGuardsThere x new guards
+guards_later : (x : FormedBlock) (old new : Draft) (guards : List (Option ℕ)) → Extends old new → AreGuardsThere x old guards → AreGuardsThere x new guards
 guards_later x old new guards e all path guard at = guard_later x old new guard e (all path guard at)
 
 -- the guards so far and one more
-guards_more : (x : Block) (d : Draft) (arm before : List (Option ℕ)) (v : ℕ) → arm ≡ before ++ Some v ∷ [] → AreGuardsThere x d before → HasKind x d kind.Bool v → AreGuardsThere x d arm
+guards_more : (x : FormedBlock) (d : Draft) (arm before : List (Option ℕ)) (v : ℕ) → arm ≡ before ++ Some v ∷ [] → AreGuardsThere x d before → HasKind x d kind.Bool v → AreGuardsThere x d arm
 guards_more x d arm before v is all one path guard at = by (place_of_more before (Some v) guard path (subst (λ (gs : List (Option ℕ)). slice_get gs path ≡ Some guard) is at))
   where
     by : (slice_get before path ≡ Some guard) ⊎ ((path ≡ length before) × (guard ≡ Some v)) → IsGuard x d guard

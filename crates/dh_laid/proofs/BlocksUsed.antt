@@ -14,12 +14,12 @@ use Rattle.dh_expressions.specs.declared.scenes.Around.{Around}
 use Rattle.dh_expressions.specs.declared.scenes.Scene.{Scene}
 use Rattle.dh_expressions.proofs.ListPlaces.{place_within, there}
 use Rattle.dh_formed.specs.Counted.{given_at_paths, length_given, ranged}
-use Rattle.dh_formed.specs.Formed.{Site}
+use Rattle.dh_formed.specs.Formed.{BlockSite}
 use Rattle.dh_commands.specs.declared.buildings.Building.{Building}
 use Rattle.dh_commands.specs.LanesRun.{paths_counted}
 use Rattle.dh_commands.specs.MadeCommands.{MadeCommand}
 use Rattle.dh_laid.specs.BlockSites.{MadeEach, all_there, block_sites, command_sites, one_site, places_from, site_or, sites_from, term_sites, test_sites}
-use Rattle.dh_laid.specs.LaidNumbers.{IsOutside, Numbers}
+use Rattle.dh_laid.specs.LaidNumbers.{IsOutside, NumbersLaid}
 use Rattle.dh_laid.specs.LaidProbes.{AddsProbes}
 use Rattle.dh_laid.specs.LaidQuiet.{StandsIn}
 use Rattle.dh_laid.specs.LaidUses.{AddsLedUses, AddsUses, AreAlong, HaveNoOperations, BlocksLead, BlocksProbe, BlocksUse, PathsLead, SharesInside, TestsLead, TestsProbe, TestsUse, WritesAlone, probed_by, used_by, used_to}
@@ -34,8 +34,8 @@ use Rattle.dh_laid.proofs.UsesAdded.{none_none, used_nowhere, uses_again, uses_s
 
 -- What is asked of a number and its site, 0 where it has none, over numbers from a first one on: the part of it that is
 -- counted within a range is the whole of what stands there.
-module _ (f : Option Site → (access : ℕ) → ℕ) (nothing : (access : ℕ) → f None access ≡ 0) (first : ℕ) (ss : List (Option Site)) (count : ℕ) (long : length ss ≡ count) (access : ℕ) where
-  abbrev here : Option Site
+module _ (f : Option BlockSite → (access : ℕ) → ℕ) (nothing : (access : ℕ) → f None access ≡ 0) (first : ℕ) (ss : List (Option BlockSite)) (count : ℕ) (long : length ss ≡ count) (access : ℕ) where
+  abbrev here : Option BlockSite
   here = places_from first ss access
 
   is_inside : first ≤ access → access < first + count → (nat_le first access && nat_lt access (first + count)) ≡ true
@@ -59,7 +59,7 @@ module _ (f : Option Site → (access : ℕ) → ℕ) (nothing : (access : ℕ) 
       by (inr from) (inr far) = outside (is_past far) (places_past first ss access (subst (λ (n : ℕ). first + n ≤ access) (sym long) far))
 
   -- behind it stand sites of later numbers alone
-  pub sites_sum : (later : Option Site) → (access < first + count → later ≡ None) → f here access + f later access ≡ f (site_or here later) access
+  pub sites_sum : (later : Option BlockSite) → (access < first + count → later ≡ None) → f here access + f later access ≡ f (site_or here later) access
   sites_sum later apart = by (cases_lt access (first + count))
     where
       none_before : (n : ℕ) → n ≡ 0 → (k : ℕ) → n + k ≡ k
@@ -68,7 +68,7 @@ module _ (f : Option Site → (access : ℕ) → ℕ) (nothing : (access : ℕ) 
       none_behind : (n k : ℕ) → k ≡ 0 → n + k ≡ n
       none_behind n k e = omega (arith, e)
 
-      or_none : (s : Option Site) → site_or s None ≡ s
+      or_none : (s : Option BlockSite) → site_or s None ≡ s
       or_none None = refl
       or_none (Some s) = refl
 
@@ -81,11 +81,11 @@ module _ (f : Option Site → (access : ℕ) → ℕ) (nothing : (access : ℕ) 
           none_before (f here access) (ap (λ s. f s access) none ∙ nothing access) (f later access) ∙ ap (λ s. f (site_or s later) access) (sym none)
 
 -- One command among those of a block.
-module _ (scene : Scene) (around : Around) (sites : ℕ → Option Site) (c : Located) (cs : List Located) (from : ℕ) (old mid new : Building) (next : ℕ) (m : MadeCommand scene c.command around old mid c.first next) (rest : MadeEach scene around cs mid new) (along : AreAlong from (c ∷ cs)) (agree : (number : ℕ) → from ≤ number → sites number ≡ block_sites scene around (c ∷ cs) old new (mid, (next, (m, rest))) number) where
-  abbrev own_sites : List (Option Site)
+module _ (scene : Scene) (around : Around) (sites : ℕ → Option BlockSite) (c : Located) (cs : List Located) (from : ℕ) (old mid new : Building) (next : ℕ) (m : MadeCommand scene c.command around old mid c.first next) (rest : MadeEach scene around cs mid new) (along : AreAlong from (c ∷ cs)) (agree : (number : ℕ) → from ≤ number → sites number ≡ block_sites scene around (c ∷ cs) old new (mid, (next, (m, rest))) number) where
+  abbrev own_sites : List (Option BlockSite)
   own_sites = command_sites scene c.command around old mid c.first next m
 
-  abbrev later : ℕ → Option Site
+  abbrev later : ℕ → Option BlockSite
   later number = block_sites scene around cs mid new rest number
 
   own_long : length own_sites ≡ accesses_of c.command
@@ -100,7 +100,7 @@ module _ (scene : Scene) (around : Around) (sites : ℕ → Option Site) (c : Lo
   own_places : PlacesAgree sites c.first own_sites
   own_places i o e =
       told (c.first + i) (reached from c.first i along.0.behind)
-      ∙ (ap (λ (s : Option Site). site_or s (later (c.first + i))) (places_own c.first own_sites i o e)
+      ∙ (ap (λ (s : Option BlockSite). site_or s (later (c.first + i))) (places_own c.first own_sites i o e)
       ∙ by o (later_none (c.first + i) (below c.first i (length own_sites) (accesses_of c.command) (place_within own_sites i o e) own_long)))
     where
       reached : (a b i : ℕ) → a ≤ b → a ≤ b + i
@@ -109,7 +109,7 @@ module _ (scene : Scene) (around : Around) (sites : ℕ → Option Site) (c : Lo
       below : (f i n k : ℕ) → i < n → n ≡ k → f + i < f + k
       below f i n k l e = omega (arith, l, e)
 
-      by : (o : Option Site) {s : Option Site} → s ≡ None → site_or o s ≡ o
+      by : (o : Option BlockSite) {s : Option BlockSite} → s ≡ None → site_or o s ≡ o
       by None e = e
       by (Some s) e = refl
 
@@ -123,7 +123,7 @@ module _ (scene : Scene) (around : Around) (sites : ℕ → Option Site) (c : Lo
       again f m h = omega (arith, h)
 
   -- a site before this command's own is one of those before
-  earlier : (e : ℕ) (t : Site) → sites e ≡ Some t → e < c.first → e < from
+  earlier : (e : ℕ) (t : BlockSite) → sites e ≡ Some t → e < c.first → e < from
   earlier e t at low = by (cases_lt e from)
     where
       lost : None ≡ Some t → ⊥
@@ -132,23 +132,23 @@ module _ (scene : Scene) (around : Around) (sites : ℕ → Option Site) (c : Lo
       by : (e < from) ⊎ (from ≤ e) → e < from
       by (inl less) = less
       by (inr far) =
-          absurd (lost (sym (ap (λ (o : Option Site). site_or o (later e)) (places_low c.first own_sites e low) ∙ later_none e (omega (arith, low))) ∙ (sym (told e far) ∙ at)))
+          absurd (lost (sym (ap (λ (o : Option BlockSite). site_or o (later e)) (places_low c.first own_sites e low) ∙ later_none e (omega (arith, low))) ∙ (sym (told e far) ∙ at)))
 
   agree_rest : (i : ℕ) → c.first + accesses_of c.command ≤ i → sites i ≡ later i
   agree_rest i far =
       told i (let b = along.0.behind in omega (arith, b, far))
-      ∙ ap (λ (o : Option Site). site_or o (later i)) (places_past c.first own_sites i (subst (λ (n : ℕ). c.first + n ≤ i) (sym own_long) far))
+      ∙ ap (λ (o : Option BlockSite). site_or o (later i)) (places_past c.first own_sites i (subst (λ (n : ℕ). c.first + n ≤ i) (sym own_long) far))
 
 -- Uses.
 
-module _ (scene : Scene) (around : Around) (stands : StandsIn scene around) (leads : PathsLead around) (some : 0 < paths_counted around) (sites : ℕ → Option Site) (inside : SharesInside scene sites) where
+module _ (scene : Scene) (around : Around) (stands : StandsIn scene around) (leads : PathsLead around) (some : 0 < paths_counted around) (sites : ℕ → Option BlockSite) (inside : SharesInside scene sites) where
   -- what stands as the commands from a number on begin
   record BeginsAt (a : Accesses) (from : ℕ) : Type 0 where
     led : AreLed sites a
-    fresh : (m : ℕ) (s : Site) → sites m ≡ Some s → from ≤ m → given_at_paths a m ≡ 0
-    before : (e reader : ℕ) (t : Site) → sites e ≡ Some t → e < from → slice_get scene.shares.now reader ≡ Some (Some e) → paths_counted around ≤ given_at_paths a e
+    fresh : (m : ℕ) (s : BlockSite) → sites m ≡ Some s → from ≤ m → given_at_paths a m ≡ 0
+    before : (e reader : ℕ) (t : BlockSite) → sites e ≡ Some t → e < from → slice_get scene.shares.now reader ≡ Some (Some e) → paths_counted around ≤ given_at_paths a e
 
-  abbrev uses_by : Option Site → ℕ → ℕ
+  abbrev uses_by : Option BlockSite → ℕ → ℕ
   uses_by site access = used_by (slice_get scene.shares.now access) site (paths_counted around)
 
   uses_nothing : (access : ℕ) → uses_by None access ≡ 0
@@ -163,18 +163,18 @@ module _ (scene : Scene) (around : Around) (stands : StandsIn scene around) (lea
       (λ below. later_none scene around sites c cs from old mid new next m rest along agree access below))
       (uses_same scene sites old.draft mid.draft (ranged c.first (accesses_of c.command) (used_to scene sites (paths_counted around))) _
       (λ access. same_within c.first (accesses_of c.command) (used_to scene sites (paths_counted around)) (λ i. uses_by (places_from c.first own i) i)
-      (λ i far below. ap (λ (o : Option Site). uses_by o i) (within_own scene around sites c cs from old mid new next m rest along agree i far below)) access
+      (λ i far below. ap (λ (o : Option BlockSite). uses_by o i) (within_own scene around sites c cs from old mid new next m rest along agree i far below)) access
       ∙ range_is uses_by uses_nothing c.first own (accesses_of c.command) long access)
       one.uses)
       (each_used cs (c.first + accesses_of c.command) mid new rest along.1 writes.1 (agree_rest scene around sites c cs from old mid new next m rest along agree) begins_rest)
     where
-      own : List (Option Site)
+      own : List (Option BlockSite)
       own = own_sites scene around sites c cs from old mid new next m rest along agree
 
       long : length own ≡ accesses_of c.command
       long = own_long scene around sites c cs from old mid new next m rest along agree
 
-      number : Numbers old mid c.first (accesses_of c.command) next
+      number : NumbersLaid old mid c.first (accesses_of c.command) next
       number = (command_reached scene c.command around old mid c.first next m along.0.reaches some along.0.few).1
 
       one : Used scene sites (paths_counted around) old mid c.first (accesses_of c.command)
@@ -196,20 +196,20 @@ module _ (scene : Scene) (around : Around) (stands : StandsIn scene around) (lea
         before = λ e reader t at low share. by e reader t at low share (cases_lt e c.first);
       }
         where
-          by : (e reader : ℕ) (t : Site) → sites e ≡ Some t → e < c.first + accesses_of c.command → slice_get scene.shares.now reader ≡ Some (Some e) → (e < c.first) ⊎ (c.first ≤ e) → paths_counted around ≤ given_at_paths mid.accesses e
+          by : (e reader : ℕ) (t : BlockSite) → sites e ≡ Some t → e < c.first + accesses_of c.command → slice_get scene.shares.now reader ≡ Some (Some e) → (e < c.first) ⊎ (c.first ≤ e) → paths_counted around ≤ given_at_paths mid.accesses e
           by e reader t at low share (inl less) =
               let k = kept e (inl less) in
               let g = begins.before e reader t at (earlier scene around sites c cs from old mid new next m rest along agree e t at less) share in
               omega (arith, k, g)
           by e reader t at low share (inr far) = one.given e reader t at far low share
 
-untouched_led : (sites : ℕ → Option Site) (a : Accesses) → HaveNoOperations sites a → AreLed sites a
+untouched_led : (sites : ℕ → Option BlockSite) (a : Accesses) → HaveNoOperations sites a → AreLed sites a
 untouched_led sites a h = record { led = λ number t s at is. absurd (lost t (sym (h.bare number s at) ∙ is)); there = h.there; none = h.none }
   where
     lost : (t : Touched) → None ≡ Some t → ⊥
     lost t e = cc
 
-none_given : (sites : ℕ → Option Site) (a : Accesses) → HaveNoOperations sites a → (m : ℕ) (s : Site) → sites m ≡ Some s → given_at_paths a m ≡ 0
+none_given : (sites : ℕ → Option BlockSite) (a : Accesses) → HaveNoOperations sites a → (m : ℕ) (s : BlockSite) → sites m ≡ Some s → given_at_paths a m ≡ 0
 none_given sites a h m s at = ap length_given (h.bare m s at)
 
 never_less : (e : ℕ) → e < 0 → ⊥
@@ -225,7 +225,7 @@ blocks_lead scene around cs old new m stands leads some along writes inside bare
     })
 
 -- the same without what each is
-counted_alone : (scene : Scene) (sites : ℕ → Option Site) (old new : Draft) (uses : ℕ → ℕ) → AddsLedUses scene sites old new uses → AddsUses old new uses
+counted_alone : (scene : Scene) (sites : ℕ → Option BlockSite) (old new : Draft) (uses : ℕ → ℕ) → AddsLedUses scene sites old new uses → AddsUses old new uses
 counted_alone scene sites old new uses h = record { more = h.more; adds = h.adds; uses_are = h.uses_are }
 
 pub blocks_use : BlocksUse
@@ -234,22 +234,22 @@ blocks_use scene around cs old new m stands leads some along writes inside bare 
     (blocks_lead scene around cs old new m stands leads some along writes inside bare)
 
 -- The sites of a test are places of which none lacks.
-pub test_places : (first : ℕ) (ss : List Site) (number : ℕ) → sites_from first ss number ≡ places_from first (all_there ss) number
+pub test_places : (first : ℕ) (ss : List BlockSite) (number : ℕ) → sites_from first ss number ≡ places_from first (all_there ss) number
 test_places first ss number = by (nat_lt number first)
   where
-    whole : (o : Option Site) → o ≡ one_site (option_map (λ (s : Site). Some s) o)
+    whole : (o : Option BlockSite) → o ≡ one_site (option_map (λ (s : BlockSite). Some s) o)
     whole None = refl
     whole (Some s) = refl
 
     by : (b : Truth) → (if b then None else slice_get ss (number - first)) ≡ (if b then None else one_site (slice_get (all_there ss) (number - first)))
     by true = refl
-    by false = whole (slice_get ss (number - first)) ∙ ap one_site (sym (slice_get-map (λ (s : Site). Some s) ss (number - first)))
+    by false = whole (slice_get ss (number - first)) ∙ ap one_site (sym (slice_get-map (λ (s : BlockSite). Some s) ss (number - first)))
 
-test_range : (f : Option Site → (access : ℕ) → ℕ) → ((access : ℕ) → f None access ≡ 0) → (first : ℕ) (ss : List Site) (count : ℕ) → length ss ≡ count → (access : ℕ)
+test_range : (f : Option BlockSite → (access : ℕ) → ℕ) → ((access : ℕ) → f None access ≡ 0) → (first : ℕ) (ss : List BlockSite) (count : ℕ) → length ss ≡ count → (access : ℕ)
     → ranged first count (λ i. f (sites_from first ss i) i) access ≡ f (sites_from first ss access) access
 test_range f nothing first ss count long access =
     same_within first count (λ i. f (sites_from first ss i) i) (λ i. f (places_from first (all_there ss) i) i) (λ i far below. ap (λ o. f o i) (test_places first ss i)) access
-    ∙ (range_is f nothing first (all_there ss) count (length-map ss (λ (s : Site). Some s) ∙ long) access ∙ sym (ap (λ o. f o access) (test_places first ss access)))
+    ∙ (range_is f nothing first (all_there ss) count (length-map ss (λ (s : BlockSite). Some s) ∙ long) access ∙ sym (ap (λ o. f o access) (test_places first ss access)))
 
 pub tests_lead : TestsLead
 tests_lead scene around first t old new next tests m stands few inside bare =
@@ -263,10 +263,10 @@ tests_lead scene around first t old new next tests m stands few inside bare =
     })
     m).uses
   where
-    sites : ℕ → Option Site
+    sites : ℕ → Option BlockSite
     sites = test_sites scene around first t
 
-    lost : (s : Site) → None ≡ Some s → ⊥
+    lost : (s : BlockSite) → None ≡ Some s → ⊥
     lost s e = cc
 
 pub tests_use : TestsUse
@@ -276,8 +276,8 @@ tests_use scene around first t old new next tests m stands few inside bare =
 
 -- Probes.
 
-module _ (scene : Scene) (around : Around) (stands : StandsIn scene around) (some : 0 < paths_counted around) (sites : ℕ → Option Site) where
-  abbrev probes_by : Option Site → ℕ → ℕ
+module _ (scene : Scene) (around : Around) (stands : StandsIn scene around) (some : 0 < paths_counted around) (sites : ℕ → Option BlockSite) where
+  abbrev probes_by : Option BlockSite → ℕ → ℕ
   probes_by site access = probed_by site (paths_counted around)
 
   each_probed : (cs : List Located) (from : ℕ) (old new : Building) (m : MadeEach scene around cs old new) → AreAlong from cs → ((number : ℕ) → from ≤ number → sites number ≡ block_sites scene around cs old new m number)
@@ -289,12 +289,12 @@ module _ (scene : Scene) (around : Around) (stands : StandsIn scene around) (som
       (λ below. later_none scene around sites c cs from old mid new next m rest along agree access below))
       (probes_same old.draft mid.draft (ranged c.first (accesses_of c.command) (λ i. probes_by (sites i) i)) _
       (λ access. same_within c.first (accesses_of c.command) (λ i. probes_by (sites i) i) (λ i. probes_by (places_from c.first own i) i)
-      (λ i far below. ap (λ (o : Option Site). probes_by o i) (within_own scene around sites c cs from old mid new next m rest along agree i far below)) access
+      (λ i far below. ap (λ (o : Option BlockSite). probes_by o i) (within_own scene around sites c cs from old mid new next m rest along agree i far below)) access
       ∙ range_is probes_by (λ i. refl) c.first own (accesses_of c.command) long access)
       (command_sited scene sites c.command around old mid c.first next stands m along.0.reaches some along.0.few (own_places scene around sites c cs from old mid new next m rest along agree)))
       (each_probed cs (c.first + accesses_of c.command) mid new rest along.1 (agree_rest scene around sites c cs from old mid new next m rest along agree))
     where
-      own : List (Option Site)
+      own : List (Option BlockSite)
       own = own_sites scene around sites c cs from old mid new next m rest along agree
 
       long : length own ≡ accesses_of c.command

@@ -6,27 +6,27 @@ use Rattle.dh_plan.specs.Blocks.{kind_at}
 use Rattle.dh_expressions.specs.declared.drafts.Draft.{Draft}
 use Rattle.dh_expressions.specs.Drafted.{Extends}
 use Rattle.dh_expressions.proofs.Pushing.{extends_again, extends_self}
-use Rattle.dh_formed.specs.Formed.{Agrees, Block, FormsValue, HasKind, Started}
+use Rattle.dh_formed.specs.Formed.{Agrees, FormedBlock, FormsValue, HasKind, Started}
 use Rattle.dh_formed.proofs.CommandsFormed.{selects_form}
 use Rattle.dh_formed.proofs.ValuesFormed.{agrees_before, forms_again, forms_none, forms_there, forms_where, kind_later, shown_forms, started_later}
 use Rattle.dh_commands.specs.declared.assignments.Values.{Values}
 use Rattle.dh_commands.specs.declared.choices.Choice.{Choice}
 use Rattle.dh_commands.specs.MadeCommands.{MadeBehind, MadeChoice, MadeChoiceBy}
-use Rattle.dh_laid.specs.Laid.{AreHeld, AreTruths, ChoiceSuits, ChoicesForm, ChoicesSuit, FormsChoices, FormsChosen, HoldsKind}
+use Rattle.dh_laid.specs.Laid.{AreHeld, TestsAreTruths, ChoiceSuits, ChoicesForm, ChoicesSuit, FormsChoices, FormsChosen, HoldsKind}
 use Rattle.dh_laid.proofs.ValuesLaid.{AllHold, held_assigned, held_later}
 
-holds_later : (x : Block) (old new : Draft) (r : ℕ) (o : Option ℕ) → Extends old new → HoldsKind x old r o → HoldsKind x new r o
+holds_later : (x : FormedBlock) (old new : Draft) (r : ℕ) (o : Option ℕ) → Extends old new → HoldsKind x old r o → HoldsKind x new r o
 holds_later x old new r o e h value is = kind_later x old new _ value e (h value is)
 
-pub truths_later : (x : Block) (old new : Draft) (tests : List ℕ) → Extends old new → AreTruths x old tests → AreTruths x new tests
+pub truths_later : (x : FormedBlock) (old new : Draft) (tests : List ℕ) → Extends old new → TestsAreTruths x old tests → TestsAreTruths x new tests
 truths_later x old new tests e all path test at = kind_later x old new kind.Bool test e (all path test at)
 
-choices_later : (x : Block) (old new : Draft) (choices : List Choice) → Extends old new → ChoicesSuit x old choices → ChoicesSuit x new choices
+choices_later : (x : FormedBlock) (old new : Draft) (choices : List Choice) → Extends old new → ChoicesSuit x old choices → ChoicesSuit x new choices
 choices_later x old new choices e all k c at =
     let s = all k c at in record { there = s.there; chosen = holds_later x old new c.register c.chosen e s.chosen; other = holds_later x old new c.register c.other e s.other }
 
 -- what an arm left, or what the variable shows
-abbrev pub ShowsBehind : (current : List (Option ℕ)) → (r : ℕ) → Option ℕ → Draft → Block → Type 0
+abbrev pub ShowsBehind : (current : List (Option ℕ)) → (r : ℕ) → Option ℕ → Draft → FormedBlock → Type 0
 ShowsBehind current r o old x = ((r < length x.plan.registers) × AllHold x old current) × HoldsKind x old r o
 
 behind_forms : (current : List (Option ℕ)) (r : ℕ) (o : Option ℕ) (old new : Draft) (v : ℕ) → MadeBehind current r o old new v → FormsValue old new v (ShowsBehind current r o old) (λ x. kind_at x.plan.registers r)
@@ -39,7 +39,7 @@ behind_forms current r (Some value) old new v m = forms_there old new value v (S
 
 record FormsChoice (tests : List ℕ) (c : Choice) (old new : Draft) (before after : Values) : Type 0 where
   extends : Extends old new
-  forms : (x : Block) → Agrees x new → Started x old → AreTruths x old tests → AreHeld x old before → ChoiceSuits x old c → FormsChosen x old new after
+  forms : (x : FormedBlock) → Agrees x new → Started x old → TestsAreTruths x old tests → AreHeld x old before → ChoiceSuits x old c → FormsChosen x old new after
 
 choice_forms : (tests : List ℕ) (c : Choice) (old new : Draft) (before after : Values) (test : ℕ) → slice_get tests c.path ≡ Some test → MadeChoice test c old new before after → FormsChoice tests c old new before after
 choice_forms tests c old new before after test at m =

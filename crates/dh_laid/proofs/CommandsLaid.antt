@@ -18,7 +18,7 @@ use Rattle.dh_expressions.specs.Drafted.{Extends}
 use Rattle.dh_expressions.specs.Evaluated.{known_in}
 use Rattle.dh_expressions.specs.Shown.{kind_written, register_at}
 use Rattle.dh_expressions.proofs.Pushing.{extends_again}
-use Rattle.dh_formed.specs.Formed.{Agrees, Block, Forms, FormsTerm, IsNoted, Started, TermSuits}
+use Rattle.dh_formed.specs.Formed.{Agrees, FormedBlock, Forms, FormsTerm, AreNotedReads, Started, TermSuits}
 use Rattle.dh_formed.proofs.AccessesFormed.{noted_later}
 use Rattle.dh_formed.proofs.TermsFormed.{formed}
 use Rattle.dh_formed.proofs.ValuesFormed.{agrees_before, forms_again, kind_later, started_later}
@@ -30,7 +30,7 @@ use Rattle.dh_commands.specs.LanesRun.{lane_of, paths_counted}
 use Rattle.dh_commands.specs.MadeCommands.{AssignedTo, ClearedTo, Commanding, MadeActionForm, MadeActions, MadeArm, MadeAssigned, MadeCleared, MadeReduced, MadeStored, ReducedTo, StoredTo, MadeBoth, MadeCommand, MadeGroups, MadeIf, MadeKept, MadeNoArm, MadeOther, MadeTested, MadeTests, MadeView}
 use Rattle.dh_commands.specs.Undone.{AreReady}
 use Rattle.dh_commands.proofs.ArmsLeft.{AreSame, same_ready}
-use Rattle.dh_laid.specs.Laid.{AreHeld, AreLeft, AreTruths, AreGuardsThere, FormsAround, FormsGuards, FormsJoined, FormsTested, FormsTests, FormsThere, LeftHolds, StandsRound, aim_accesses}
+use Rattle.dh_laid.specs.Laid.{AreHeld, AreLeft, TestsAreTruths, AreGuardsThere, FormsAround, FormsGuards, FormsJoined, FormsTested, FormsTests, FormsThere, LeftHolds, StandsRound, aim_accesses}
 use Rattle.dh_laid.specs.LaidCommands.{AssignmentSuits, ClearingSuits, ReducingSuits, StoreSuits, ActionSuits, ActionsSuit, AreFew, AreFewActions, AreFewGroups, AreFewIn, AreFewOf, AreFewOther, AreLogged, CommandSuits, CommandsForm, FormsCommand, GroupsForm, GroupsSuit, KeepingSuits, OtherSuits, StandsHeld, TestSuits}
 use Rattle.dh_laid.proofs.ArmsLaid.{arm_guards_form}
 use Rattle.dh_laid.proofs.ChoicesLaid.{truths_later}
@@ -43,24 +43,24 @@ use Rattle.dh_laid.proofs.ValuesLaid.{arms_end, held_later}
 use Rattle.dh_laid.proofs.ValuesLogged.{IsBack, arm_back, arm_long, joined_logged, lanes_logged, logged_again, logged_equal, logged_from, logged_one, logged_ready, logged_same, tests_same}
 
 -- an arm, and what it left
-pub record FormsEnded (x : Block) (old new : Building) (lefts : List Left) : Type 0 where
+pub record FormsEnded (x : FormedBlock) (old new : Building) (lefts : List Left) : Type 0 where
   pub there : FormsThere x old new
   pub hold : AllByRecursion (LeftHolds x new.draft) lefts
 
-pub record FormsArm (scene : Scene) (around : Around) (tests : List ℕ) (old new : Building) (lefts : List Left) (Where : Block → Type 0) : Type 0 where
+pub record FormsArm (scene : Scene) (around : Around) (tests : List ℕ) (old new : Building) (lefts : List Left) (Where : FormedBlock → Type 0) : Type 0 where
   pub extends : Extends old.draft new.draft
   pub same : AreReady old.values → AreSame old.values new.values
   pub left : AreReady old.values → AllByRecursion (IsLeft old.values.current.items) lefts
-  pub forms : (x : Block) → Agrees x new.draft → Started x old.draft → StandsRound x old.draft scene around → AreTruths x old.draft tests → IsNoted x old.draft old.accesses → StandsHeld x old.draft old.values
+  pub forms : (x : FormedBlock) → Agrees x new.draft → Started x old.draft → StandsRound x old.draft scene around → TestsAreTruths x old.draft tests → AreNotedReads x old.draft old.accesses → StandsHeld x old.draft old.values
       → length tests ≡ paths_counted around → Where x → FormsEnded x old new lefts
 
-lefts_later : (x : Block) (old new : Draft) (ls : List Left) → Extends old new → AllByRecursion (LeftHolds x old) ls → AllByRecursion (LeftHolds x new) ls
+lefts_later : (x : FormedBlock) (old new : Draft) (ls : List Left) → Extends old new → AllByRecursion (LeftHolds x old) ls → AllByRecursion (LeftHolds x new) ls
 lefts_later x old new [] e all = tt
 lefts_later x old new (l ∷ ls) e all = (λ value is. kind_later x old new _ value e (all.0 value is), lefts_later x old new ls e all.1)
 
 -- An arm.
 
-module _ (scene : Scene) (Inner : Commanding) (around : Around) (holds : Truth) (tests : List ℕ) (old new : Building) (first next : ℕ) (lefts : List Left) (m : MadeArm Inner around holds tests old new first next lefts) (Where : Block → Type 0) (inner : FormsCommand scene m.arm m.begin m.inside Where) where
+module _ (scene : Scene) (Inner : Commanding) (around : Around) (holds : Truth) (tests : List ℕ) (old new : Building) (first next : ℕ) (lefts : List Left) (m : MadeArm Inner around holds tests old new first next lefts) (Where : FormedBlock → Type 0) (inner : FormsCommand scene m.arm m.begin m.inside Where) where
   pub guards_made : FormsGuards old.draft m.begin.draft around.guards.now tests m.arm.guards.now
   guards_made =
       subst (λ (d : Draft). FormsGuards old.draft d around.guards.now tests m.arm.guards.now) (sym m.begin_draft)
@@ -75,7 +75,7 @@ module _ (scene : Scene) (Inner : Commanding) (around : Around) (holds : Truth) 
       (subst (λ (v : Values). AreLogged v m.inside.values) m.begin_values (inner.logs (subst (λ (v : Values). AreReady v) (sym m.begin_values) ready))) m.ends
 
   -- what stands round the arm
-  pub round_arm : (x : Block) → StandsRound x old.draft scene around → AreGuardsThere x m.begin.draft m.arm.guards.now → length tests ≡ paths_counted around → StandsRound x m.begin.draft scene m.arm
+  pub round_arm : (x : FormedBlock) → StandsRound x old.draft scene around → AreGuardsThere x m.begin.draft m.arm.guards.now → length tests ≡ paths_counted around → StandsRound x m.begin.draft scene m.arm
   round_arm x round guards many = record {
     guards = guards;
     scopes = round.scopes;
@@ -83,16 +83,16 @@ module _ (scene : Scene) (Inner : Commanding) (around : Around) (holds : Truth) 
     few = subst (λ (n : ℕ). n < 2 ^ 64) (sym (arm_long holds around.guards.now tests (length tests) old.draft m.guarded m.arm.guards.now m.guards ∙ many)) round.few;
   }
 
-  pub begun_held : (x : Block) → StandsHeld x old.draft old.values → StandsHeld x m.begin.draft m.begin.values
+  pub begun_held : (x : FormedBlock) → StandsHeld x old.draft old.values → StandsHeld x m.begin.draft m.begin.values
   begun_held x h =
       subst (λ (v : Values). StandsHeld x m.begin.draft v) (sym m.begin_values)
       (record { held = held_later x old.draft m.begin.draft old.values guards_made.extends h.held; ready = h.ready; long = h.long })
 
-  pub begun_noted : (x : Block) → IsNoted x old.draft old.accesses → IsNoted x m.begin.draft m.begin.accesses
-  begun_noted x noted = subst (λ (k : Accesses). IsNoted x m.begin.draft k) (sym m.begin_accesses) (noted_later x old.draft m.begin.draft old.accesses guards_made.extends noted)
+  pub begun_noted : (x : FormedBlock) → AreNotedReads x old.draft old.accesses → AreNotedReads x m.begin.draft m.begin.accesses
+  begun_noted x noted = subst (λ (k : Accesses). AreNotedReads x m.begin.draft k) (sym m.begin_accesses) (noted_later x old.draft m.begin.draft old.accesses guards_made.extends noted)
 
   -- what is formed as the arm ends
-  ended : (x : Block) → Forms x old.draft m.begin.draft → FormsThere x m.begin m.inside → AreReady old.values → FormsEnded x old new lefts
+  ended : (x : FormedBlock) → Forms x old.draft m.begin.draft → FormsThere x m.begin m.inside → AreReady old.values → FormsEnded x old new lefts
   ended x front f ready =
       let inside : Forms x old.draft m.inside.draft = forms_again x old.draft m.begin.draft m.inside.draft inner.extends front f.forms in
       let held : AreHeld x m.inside.draft new.values = arms_end x m.inside.draft m.inside.values new.values (length old.values.log.items) lefts m.ends f.held in
@@ -100,7 +100,7 @@ module _ (scene : Scene) (Inner : Commanding) (around : Around) (holds : Truth) 
       record {
         there = record {
           forms = subst (λ (d : Draft). Forms x old.draft d) (sym m.draft) inside;
-          notes = subst (λ (d : Draft). IsNoted x d new.accesses) (sym m.draft) (subst (λ (k : Accesses). IsNoted x m.inside.draft k) (sym m.accesses) f.notes);
+          notes = subst (λ (d : Draft). AreNotedReads x d new.accesses) (sym m.draft) (subst (λ (k : Accesses). AreNotedReads x m.inside.draft k) (sym m.accesses) f.notes);
           held = subst (λ (d : Draft). AreHeld x d new.values) (sym m.draft) held;
         };
         hold = subst (λ (d : Draft). AllByRecursion (LeftHolds x d) lefts) (sym m.draft) hold;
@@ -119,7 +119,7 @@ module _ (scene : Scene) (Inner : Commanding) (around : Around) (holds : Truth) 
         (inner.forms x inside (started_later x old.draft m.begin.draft guards_made.extends s) (round_arm x round guards many) (begun_noted x noted) (begun_held x h) w) h.ready;
   }
     where
-      agrees_inside : (x : Block) → Agrees x new.draft → Agrees x m.inside.draft
+      agrees_inside : (x : FormedBlock) → Agrees x new.draft → Agrees x m.inside.draft
       agrees_inside x a = subst (λ (d : Draft). Agrees x d) m.draft a
 
 -- no second arm
@@ -147,10 +147,10 @@ tests_extend scene around first t (suc n) old new next tests few m =
         formed scene (lane_of around n) b.values.current.items t b.draft new.draft b.accesses new.accesses first next v is.term few in
         term.part.extends
 
-pub held_moved : (x : Block) (d e : Draft) (v w : Values) → StandsHeld x d v → AreHeld x e w → AreSame v w → StandsHeld x e w
+pub held_moved : (x : FormedBlock) (d e : Draft) (v w : Values) → StandsHeld x d v → AreHeld x e w → AreSame v w → StandsHeld x e w
 held_moved x d e v w h held same = record { held = held; ready = same_ready v w same h.ready; long = subst (λ (os : List (Option ℕ)). length os ≤ length x.plan.registers) (sym same.current) h.long }
 
-module _ (scene : Scene) (Chosen Other : Around → (tests : List ℕ) → (old new : Building) → (first next : ℕ) → (lefts : List Left) → Type 0) (t : Term) (around : Around) (old new : Building) (first next : ℕ) (m : MadeIf scene Chosen Other t around old new first next) (few : AreFewIn first t) (A B : Block → Type 0) (chosen : FormsArm scene around m.tests m.tested m.after_chosen m.chosen_left A) (other : FormsArm scene around m.tests m.after_chosen m.after_other m.other_left B) where
+module _ (scene : Scene) (Chosen Other : Around → (tests : List ℕ) → (old new : Building) → (first next : ℕ) → (lefts : List Left) → Type 0) (t : Term) (around : Around) (old new : Building) (first next : ℕ) (m : MadeIf scene Chosen Other t around old new first next) (few : AreFewIn first t) (A B : FormedBlock → Type 0) (chosen : FormsArm scene around m.tests m.tested m.after_chosen m.chosen_left A) (other : FormsArm scene around m.tests m.after_chosen m.after_other m.other_left B) where
   tested_is : (m.tested.values ≡ old.values) × (length m.tests ≡ paths_counted around)
   tested_is = tests_same scene around first t (paths_counted around) old m.tested m.own m.tests m.test
 
@@ -189,11 +189,11 @@ module _ (scene : Scene) (Chosen Other : Around → (tests : List ℕ) → (old 
   to_other : Extends old.draft m.after_other.draft
   to_other = extends_again old.draft m.after_chosen.draft m.after_other.draft to_chosen other.extends
 
-  held_tested : (x : Block) → StandsHeld x old.draft old.values → AreHeld x m.tested.draft m.tested.values → StandsHeld x m.tested.draft m.tested.values
+  held_tested : (x : FormedBlock) → StandsHeld x old.draft old.values → AreHeld x m.tested.draft m.tested.values → StandsHeld x m.tested.draft m.tested.values
   held_tested x h held = record { held = held; ready = ready_tested h.ready; long = subst (λ (v : Values). length v.current.items ≤ length x.plan.registers) (sym tested_is.0) h.long }
 
   -- what is joined behind both arms
-  joined_there : (x : Block) → Agrees x new.draft → Started x old.draft → StandsHeld x m.after_other.draft m.after_other.values → AreReady old.values → FormsThere x old m.tested → AreTruths x m.tested.draft m.tests
+  joined_there : (x : FormedBlock) → Agrees x new.draft → Started x old.draft → StandsHeld x m.after_other.draft m.after_other.values → AreReady old.values → FormsThere x old m.tested → TestsAreTruths x m.tested.draft m.tests
       → FormsEnded x m.tested m.after_chosen m.chosen_left → FormsEnded x m.after_chosen m.after_other m.other_left → FormsThere x old new
   joined_there x a s h ready f0 truths f1 f2 =
       let both : Extends m.tested.draft m.after_other.draft = extends_again m.tested.draft m.after_chosen.draft m.after_other.draft chosen.extends other.extends in
@@ -240,7 +240,7 @@ still_forms scene around old new still = record {
   forms = λ x a s round noted h w. there_same x old new still noted h.held;
 }
 
-both_form : (scene : Scene) (First Rest : Commanding) (around : Around) (old new : Building) (first next : ℕ) (m : MadeBoth First Rest around old new first next) (A B : Block → Type 0)
+both_form : (scene : Scene) (First Rest : Commanding) (around : Around) (old new : Building) (first next : ℕ) (m : MadeBoth First Rest around old new first next) (A B : FormedBlock → Type 0)
     → FormsCommand scene around old m.middle A → FormsCommand scene around m.middle new B → FormsCommand scene around old new (λ x. A x × B x)
 both_form scene First Rest around old new first next m A B one rest = record {
   extends = extends_again old.draft m.middle.draft new.draft one.extends rest.extends;
@@ -255,7 +255,7 @@ both_form scene First Rest around old new first next m A B one rest = record {
 }
 
 -- what is done at all paths
-around_form : (scene : Scene) (around : Around) (old new : Building) (Where : Block → Type 0) → FormsAround scene around old new Where → AreLogged old.values new.values → FormsCommand scene around old new Where
+around_form : (scene : Scene) (around : Around) (old new : Building) (Where : FormedBlock → Type 0) → FormsAround scene around old new Where → AreLogged old.values new.values → FormsCommand scene around old new Where
 around_form scene around old new Where f l = record { extends = f.extends; logs = λ ready. l; forms = λ x a s round noted h w. f.forms x a s round noted h.held w }
 
 assigned_forms : (scene : Scene) (around : Around) (first entity : ℕ) (t : Term) (old new : Building) (next : ℕ) → AssignedTo scene around first entity t (paths_counted around) old new next → AreFewIn first t

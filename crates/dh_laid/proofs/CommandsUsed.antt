@@ -20,7 +20,7 @@ use Rattle.dh_expressions.specs.Evaluated.{known_in}
 use Rattle.dh_expressions.specs.Levels.{leader_number}
 use Rattle.dh_expressions.proofs.ListPlaces.{there}
 use Rattle.dh_formed.specs.Counted.{AreNext, given_at_paths, length_given, ranged}
-use Rattle.dh_formed.specs.Formed.{Site}
+use Rattle.dh_formed.specs.Formed.{BlockSite}
 use Rattle.dh_commands.specs.declared.buildings.Building.{Building}
 use Rattle.dh_commands.specs.declared.choices.Left.{Left}
 use Rattle.dh_commands.specs.LanesRun.{lane_of, paths_counted}
@@ -28,7 +28,7 @@ use Rattle.dh_commands.specs.MadeCommands.{Commanding, MadeActions, MadeArm, Mad
 use Rattle.dh_laid.specs.BlockSites.{HasSites, actions_sites, all_there, command_sites, groups_sites, other_sites, target_sites, term_sites, terms_sites, view_sites}
 use Rattle.dh_laid.specs.Laid.{aim_accesses}
 use Rattle.dh_laid.specs.LaidCommands.{AreFewIn}
-use Rattle.dh_laid.specs.LaidNumbers.{IsAccessForm, IsOutside, Numbers, StoresReach, StoresReachGroups, StoresReachOther, StoresReachPart}
+use Rattle.dh_laid.specs.LaidNumbers.{IsAccessForm, IsOutside, NumbersLaid, StoresReach, StoresReachGroups, StoresReachOther, StoresReachPart}
 use Rattle.dh_laid.specs.LaidQuiet.{StandsIn}
 use Rattle.dh_laid.specs.LaidUses.{AddsLedUses, used_by, EachWrite, EachWriteActions, EachWriteGroups, EachWriteOther, IsUnshared, PathsLead, SharesInside, used_to}
 use Rattle.dh_laid.proofs.CommandsNumbered.{actions_reached, aims_within, arm_number, command_reached, groups_reached, numbers_then, other_reached, some_arm, tests_number}
@@ -39,7 +39,7 @@ use Rattle.dh_laid.proofs.UsesAdded.{AddsNone, choices_used, guards_used, held_u
 use Rattle.dh_laid.proofs.ValuesLogged.{arm_long, stands_arm, tests_same}
 
 -- offsets as the variables hold them that keep them
-holds_used : (scene : Scene) (sites : ℕ → Option Site) (first : ℕ) (offsets : List Term) (values : List ℕ) (old new : Draft) (held : List ℕ) → MadeHolds scene first offsets values old new held → AddsNone scene sites old new
+holds_used : (scene : Scene) (sites : ℕ → Option BlockSite) (first : ℕ) (offsets : List Term) (values : List ℕ) (old new : Draft) (held : List ℕ) → MadeHolds scene first offsets values old new held → AddsNone scene sites old new
 holds_used scene sites first [] values old new held m = none_none scene sites old new m.0
 holds_used scene sites first (t ∷ ts) [] old new held m = none_none scene sites old new m.0
 holds_used scene sites first (t ∷ ts) (v ∷ vs) old new held (d, (h, (more, (one, (rest, is))))) =
@@ -48,29 +48,29 @@ holds_used scene sites first (t ∷ ts) (v ∷ vs) old new held (d, (h, (more, (
 -- What stands before and behind.
 
 -- As a command begins its own reads gave nothing; each access of the block before it gave at all paths, where one shares it.
-pub record Begins (scene : Scene) (sites : ℕ → Option Site) (paths : ℕ) (a : Accesses) (first count : ℕ) : Type 0 where
+pub record Begins (scene : Scene) (sites : ℕ → Option BlockSite) (paths : ℕ) (a : Accesses) (first count : ℕ) : Type 0 where
   pub led : AreLed sites a
-  pub fresh : (m : ℕ) (s : Site) → sites m ≡ Some s → first ≤ m → m < first + count → given_at_paths a m ≡ 0
-  pub before : (e reader : ℕ) (t : Site) → sites e ≡ Some t → e < first → slice_get scene.shares.now reader ≡ Some (Some e) → paths ≤ given_at_paths a e
+  pub fresh : (m : ℕ) (s : BlockSite) → sites m ≡ Some s → first ≤ m → m < first + count → given_at_paths a m ≡ 0
+  pub before : (e reader : ℕ) (t : BlockSite) → sites e ≡ Some t → e < first → slice_get scene.shares.now reader ≡ Some (Some e) → paths ≤ given_at_paths a e
 
 -- Behind it so have its own.
-pub record Used (scene : Scene) (sites : ℕ → Option Site) (paths : ℕ) (old new : Building) (first count : ℕ) : Type 0 where
+pub record Used (scene : Scene) (sites : ℕ → Option BlockSite) (paths : ℕ) (old new : Building) (first count : ℕ) : Type 0 where
   pub uses : AddsLedUses scene sites old.draft new.draft (ranged first count (used_to scene sites paths))
   pub led : AreLed sites new.accesses
-  pub given : (m reader : ℕ) (t : Site) → sites m ≡ Some t → first ≤ m → m < first + count → slice_get scene.shares.now reader ≡ Some (Some m) → paths ≤ given_at_paths new.accesses m
+  pub given : (m reader : ℕ) (t : BlockSite) → sites m ≡ Some t → first ≤ m → m < first + count → slice_get scene.shares.now reader ≡ Some (Some m) → paths ≤ given_at_paths new.accesses m
 
 -- Of a command at its first paths: its reads gave at these, all others what they gave.
-pub record UsedTo (scene : Scene) (sites : ℕ → Option Site) (old new : Building) (paths first count all : ℕ) : Type 0 where
+pub record UsedTo (scene : Scene) (sites : ℕ → Option BlockSite) (old new : Building) (paths first count all : ℕ) : Type 0 where
   pub uses : AddsLedUses scene sites old.draft new.draft (ranged first all (used_to scene sites paths))
   pub own : (m : ℕ) → first ≤ m → m < first + count → given_at_paths new.accesses m ≡ paths
   pub others : (m : ℕ) → IsOutside first count m → given_at_paths new.accesses m ≡ given_at_paths old.accesses m
   pub led : AreLed sites new.accesses
 
 -- accesses that have sites, so many from a first one on
-abbrev pub AreSites : (sites : ℕ → Option Site) → (first count : ℕ) → Type 0
-AreSites sites first count = (m : ℕ) → first ≤ m → m < first + count → (s : Site) × (sites m ≡ Some s)
+abbrev pub AreSites : (sites : ℕ → Option BlockSite) → (first count : ℕ) → Type 0
+AreSites sites first count = (m : ℕ) → first ≤ m → m < first + count → (s : BlockSite) × (sites m ≡ Some s)
 
-pub sites_are : (sites : ℕ → Option Site) (first count : ℕ) (ss : List Site) → length ss ≡ count → HasSites sites first ss → AreSites sites first count
+pub sites_are : (sites : ℕ → Option BlockSite) (first count : ℕ) (ss : List BlockSite) → length ss ≡ count → HasSites sites first ss → AreSites sites first count
 sites_are sites first count ss long has m from below =
     let s = there ss (m - first) (subst (λ (n : ℕ). m - first < n) (sym long) (omega (arith, from, below))) in
     (s.0, ap sites (again first m from) ∙ has (m - first) s.0 s.1)
@@ -78,10 +78,10 @@ sites_are sites first count ss long has m from below =
     again : (f m : ℕ) → f ≤ m → m ≡ f + (m - f)
     again f m h = omega (arith, h)
 
-fewer_sites : (sites : ℕ → Option Site) (first p q : ℕ) → p ≤ q → AreSites sites first q → AreSites sites first p
+fewer_sites : (sites : ℕ → Option BlockSite) (first p q : ℕ) → p ≤ q → AreSites sites first q → AreSites sites first p
 fewer_sites sites first p q few all m from below = all m from (omega (arith, few, below))
 
-module _ (scene : Scene) (sites : ℕ → Option Site) (inside : SharesInside scene sites) where
+module _ (scene : Scene) (sites : ℕ → Option BlockSite) (inside : SharesInside scene sites) where
   -- One path after the other.
 
   module _ (around : Around) (old : Building) (first count all : ℕ) (are : AreSites sites first count) (begins : Begins scene sites (paths_counted around) old.accesses first all) where
@@ -161,10 +161,10 @@ module _ (scene : Scene) (sites : ℕ → Option Site) (inside : SharesInside sc
   begins_first : (paths : ℕ) (a : Accesses) (first p q : ℕ) → Begins scene sites paths a first (p + q) → Begins scene sites paths a first p
   begins_first paths a first p q b = record { led = b.led; fresh = λ m s at from below. b.fresh m s at from (omega (arith, below)); before = b.before }
 
-  given_kept : (a b : Building) (first own count : ℕ) (m : ℕ) → Numbers a b first count own → IsOutside first count m → given_at_paths b.accesses m ≡ given_at_paths a.accesses m
+  given_kept : (a b : Building) (first own count : ℕ) (m : ℕ) → NumbersLaid a b first count own → IsOutside first count m → given_at_paths b.accesses m ≡ given_at_paths a.accesses m
   given_kept a b first own count m h out = ap length_given (h.only m out)
 
-  begins_then : (paths : ℕ) (a b : Building) (first own p q : ℕ) → Begins scene sites paths a.accesses first (p + q) → Used scene sites paths a b first p → Numbers a b first p own → Begins scene sites paths b.accesses own q
+  begins_then : (paths : ℕ) (a b : Building) (first own p q : ℕ) → Begins scene sites paths a.accesses first (p + q) → Used scene sites paths a b first p → NumbersLaid a b first p own → Begins scene sites paths b.accesses own q
   begins_then paths a b first own p q begins u h = record {
     led = u.led;
     fresh = λ m s at from below. given_kept a b first own p m h (inr (behind m from)) ∙ begins.fresh m s at (later m from) (within m below);
@@ -183,11 +183,11 @@ module _ (scene : Scene) (sites : ℕ → Option Site) (inside : SharesInside sc
       within : (m : ℕ) → m < own + q → m < first + (p + q)
       within m below = omega (arith, is, below)
 
-      by : (e reader : ℕ) (t : Site) → sites e ≡ Some t → e < own → slice_get scene.shares.now reader ≡ Some (Some e) → (e < first) ⊎ (first ≤ e) → paths ≤ given_at_paths b.accesses e
+      by : (e reader : ℕ) (t : BlockSite) → sites e ≡ Some t → e < own → slice_get scene.shares.now reader ≡ Some (Some e) → (e < first) ⊎ (first ≤ e) → paths ≤ given_at_paths b.accesses e
       by e reader t at low share (inl less) = let k = given_kept a b first own p e h (inl less) in let g = begins.before e reader t at less share in omega (arith, k, g)
       by e reader t at low share (inr from) = u.given e reader t at from (omega (arith, is, low)) share
 
-  used_then : (paths : ℕ) (a b d : Building) (first own next p q : ℕ) → Numbers a b first p own → Numbers b d own q next → Used scene sites paths a b first p → Used scene sites paths b d own q → Used scene sites paths a d first (p + q)
+  used_then : (paths : ℕ) (a b d : Building) (first own next p q : ℕ) → NumbersLaid a b first p own → NumbersLaid b d own q next → Used scene sites paths a b first p → Used scene sites paths b d own q → Used scene sites paths a d first (p + q)
   used_then paths a b d first own next p q h k u w = record {
     uses = ranged_then scene sites a.draft b.draft d.draft first own p q (used_to scene sites paths) h.next_is u.uses w.uses;
     led = w.led;
@@ -197,7 +197,7 @@ module _ (scene : Scene) (sites : ℕ → Option Site) (inside : SharesInside sc
       is : own ≡ first + p
       is = h.next_is
 
-      by : (m reader : ℕ) (t : Site) → sites m ≡ Some t → first ≤ m → m < first + (p + q) → slice_get scene.shares.now reader ≡ Some (Some m) → (m < own) ⊎ (own ≤ m) → paths ≤ given_at_paths d.accesses m
+      by : (m reader : ℕ) (t : BlockSite) → sites m ≡ Some t → first ≤ m → m < first + (p + q) → slice_get scene.shares.now reader ≡ Some (Some m) → (m < own) ⊎ (own ≤ m) → paths ≤ given_at_paths d.accesses m
       by m reader t at from below share (inl less) = let e = given_kept b d own next q m k (inl less) in let g = u.given m reader t at from (omega (arith, is, less)) share in omega (arith, e, g)
       by m reader t at from below share (inr more) = w.given m reader t at more (omega (arith, is, below)) share
 
@@ -221,13 +221,13 @@ module _ (scene : Scene) (sites : ℕ → Option Site) (inside : SharesInside sc
   idle_used : (paths : ℕ) (old new : Building) (first count : ℕ) → new ≡ old → ((m : ℕ) → first ≤ m → m < first + count → sites m ≡ None) → Begins scene sites paths old.accesses first count → Used scene sites paths old new first count
   idle_used paths old new first count still none b = record {
     uses =
-        ranged_without scene sites old.draft new.draft first count (used_to scene sites paths) (λ m from below. ap (λ (s : Option Site). used_by (slice_get scene.shares.now m) s paths) (none m from below) ∙ used_nowhere (slice_get scene.shares.now m) paths)
+        ranged_without scene sites old.draft new.draft first count (used_to scene sites paths) (λ m from below. ap (λ (s : Option BlockSite). used_by (slice_get scene.shares.now m) s paths) (none m from below) ∙ used_nowhere (slice_get scene.shares.now m) paths)
         (none_none scene sites old.draft new.draft (ap (λ (b : Building). b.draft) still));
     led = led_same sites old.accesses new.accesses (ap (λ (b : Building). b.accesses) still) b.led;
     given = λ m reader t at from below share. absurd (lost t (sym (none m from below) ∙ at));
   }
     where
-      lost : (t : Site) → None ≡ Some t → ⊥
+      lost : (t : BlockSite) → None ≡ Some t → ⊥
       lost t e = cc
 
   -- Arms.
@@ -381,16 +381,16 @@ module _ (scene : Scene) (sites : ℕ → Option Site) (inside : SharesInside sc
         let less : AreFewIn first test = omega (arith, few) in
         let many : length m.tests ≡ paths_counted around = (tests_same scene around first test (paths_counted around) old m.tested m.own m.tests m.test).1 in
         let some_tests : 0 < length m.tests = subst (λ (n : ℕ). 0 < n) (sym many) some in
-        let tested : Numbers old m.tested first (term_accesses test) m.own = tests_number scene around first test less (paths_counted around) old m.tested m.own m.tests some m.test in
+        let tested : NumbersLaid old m.tested first (term_accesses test) m.own = tests_number scene around first test less (paths_counted around) old m.tested m.own m.tests some m.test in
         let own = tested.next_is in
         let some_in : 0 < paths_counted m.chosen.arm = some_arm (MadeCommand scene chosen) around true m.tests m.tested m.after_chosen m.own m.behind m.chosen_left m.chosen some_tests in
         let few_in : m.own + accesses_of chosen < 2 ^ 32 = omega (arith, few, own) in
-        let in_chosen : Numbers m.tested m.after_chosen m.own (accesses_of chosen) m.behind =
+        let in_chosen : NumbersLaid m.tested m.after_chosen m.own (accesses_of chosen) m.behind =
         arm_number (MadeCommand scene chosen) around true m.tests m.tested m.after_chosen m.own m.behind m.chosen_left m.chosen (accesses_of chosen)
         (command_reached scene chosen m.chosen.arm m.chosen.begin m.chosen.inside m.own m.behind m.chosen.command is.0 some_in few_in).1 in
         let behind = in_chosen.next_is in
         let few_other : m.behind + other_accesses other < 2 ^ 32 = omega (arith, few, own, behind) in
-        let in_other : Numbers m.after_chosen m.after_other m.behind (other_accesses other) next =
+        let in_other : NumbersLaid m.after_chosen m.after_other m.behind (other_accesses other) next =
         (other_reached scene other around m.tests m.after_chosen m.after_other m.behind next m.other_left m.other is.1 some_tests few_other).1 in
         let chosen_sites = command_sites scene chosen m.chosen.arm m.chosen.begin m.chosen.inside m.own m.behind m.chosen.command in
         let last_sites = other_sites scene other around m.tests m.after_chosen m.after_other m.behind next m.other_left m.other in
@@ -453,7 +453,7 @@ module _ (scene : Scene) (sites : ℕ → Option Site) (inside : SharesInside sc
     actions_used no_actions around old new first next s leads m is some few writes has begins = still_used (paths_counted around) old new first m.still begins
     actions_used (action_then a rest) around old new first next s leads m is some few writes has begins =
         let less : first + accesses_of a < 2 ^ 32 = omega (arith, few) in
-        let number : Numbers old m.middle first (accesses_of a) m.own = (command_reached scene a around old m.middle first m.own m.one is.0 some less).1 in
+        let number : NumbersLaid old m.middle first (accesses_of a) m.own = (command_reached scene a around old m.middle first m.own m.one is.0 some less).1 in
         let own = number.next_is in
         let few_rest : m.own + part_accesses rest < 2 ^ 32 = omega (arith, few, own) in
         let own_sites = command_sites scene a around old m.middle first m.own m.one in
@@ -472,7 +472,7 @@ module _ (scene : Scene) (sites : ℕ → Option Site) (inside : SharesInside sc
     groups_used no_groups around old new first next s leads m is some few writes has begins = still_used (paths_counted around) old new first m.still begins
     groups_used (group_then part rest) around old new first next s leads m is some few writes has begins =
         let less : first + part_accesses part < 2 ^ 32 = omega (arith, few) in
-        let number : Numbers old m.middle first (part_accesses part) m.own = (actions_reached scene part around old m.middle first m.own m.one is.0 some less).1 in
+        let number : NumbersLaid old m.middle first (part_accesses part) m.own = (actions_reached scene part around old m.middle first m.own m.one is.0 some less).1 in
         let own = number.next_is in
         let few_rest : m.own + groups_accesses rest < 2 ^ 32 = omega (arith, few, own) in
         let own_sites = actions_sites scene part around old m.middle first m.own m.one in

@@ -3,10 +3,10 @@ use Rattle.std.proofs.Common.{◌≡◌, ◌⊎◌, inl, inr, ◌<◌, ◌≤◌
 use Rattle.std.specs.Prelude.{[], ◌∷◌, ◌++◌, drop, Option}
 use Rattle.std.specs.List.{AllByRecursion}
 use Rattle.dh_expressions.specs.declared.drafts.Draft.{Draft}
-use Rattle.dh_formed.specs.Formed.{Block, HasKind}
+use Rattle.dh_formed.specs.Formed.{FormedBlock, HasKind}
 use Rattle.dh_plan.specs.Blocks.{kind_at}
 use Rattle.dh_formed.proofs.AccessesFormed.{noted_later}
-use Rattle.dh_formed.specs.Formed.{IsNoted}
+use Rattle.dh_formed.specs.Formed.{AreNotedReads}
 use Rattle.dh_commands.specs.declared.assignments.Change.{Change}
 use Rattle.dh_commands.specs.declared.assignments.Values.{Values}
 use Rattle.dh_commands.specs.declared.choices.Choice.{Choice}
@@ -22,7 +22,7 @@ all_more : (P : Left → Type 0) (xs : List Left) (l : Left) → AllByRecursion 
 all_more P [] l a p = (p, tt)
 all_more P (x ∷ xs) l a p = (a.0, all_more P xs l a.1 p)
 
-lefts_hold : (x : Block) (d : Draft) (cs : List Change) (current : List (Option ℕ)) → AllHold x d current → AllByRecursion (HadKind x d) cs → AllByRecursion (LeftHolds x d) (lefts_of cs current)
+lefts_hold : (x : FormedBlock) (d : Draft) (cs : List Change) (current : List (Option ℕ)) → AllHold x d current → AllByRecursion (HadKind x d) cs → AllByRecursion (LeftHolds x d) (lefts_of cs current)
 lefts_hold x d [] current all had = tt
 lefts_hold x d (c ∷ cs) current all had =
     all_more (LeftHolds x d) (lefts_of cs current) (left_at c (undone cs current)) (lefts_hold x d cs current all had.1)
@@ -34,7 +34,7 @@ arms_leave x d old new floor lefts e room h =
     (lefts_hold x d (drop floor old.log.items) old.current.items h.current (all_drop (HadKind x d) floor old.log.items h.log))
 
 -- the first value that was left of a register
-first_holds : (x : Block) (d : Draft) (lefts : List Left) (r : ℕ) (o : Option ℕ) → AllByRecursion (LeftHolds x d) lefts → o ≡ value_left (first_left lefts r) → HoldsKind x d r o
+first_holds : (x : FormedBlock) (d : Draft) (lefts : List Left) (r : ℕ) (o : Option ℕ) → AllByRecursion (LeftHolds x d) lefts → o ≡ value_left (first_left lefts r) → HoldsKind x d r o
 first_holds x d lefts r o all is value at = by (first_left lefts r) refl (sym is ∙ at)
   where
     by : (l : Option Left) → first_left lefts r ≡ l → value_left l ≡ Some value → HasKind x d (kind_at x.plan.registers r) value
@@ -44,13 +44,13 @@ first_holds x d lefts r o all is value at = by (first_left lefts r) refl (sym is
 first_room : (current : List (Option ℕ)) (lefts : List Left) (r : ℕ) (l : Left) → AllByRecursion (IsLeft current) lefts → first_left lefts r ≡ Some l → r < length current
 first_room current lefts r l all e = let h = first_has (IsLeft current) lefts l r all e in subst (λ (n : ℕ). n < length current) h.1 h.0.room
 
-held_joined : (x : Block) (d : Draft) (old new : Values) (chosen other : List Left) (choices : List Choice) → JoinsArms old new chosen other choices → AreHeld x d old → AreHeld x d new
+held_joined : (x : FormedBlock) (d : Draft) (old new : Values) (chosen other : List Left) (choices : List Choice) → JoinsArms old new chosen other choices → AreHeld x d old → AreHeld x d new
 held_joined x d old new chosen other choices j h = record {
   current = subst (λ c. AllHold x d c.items) (sym j.current) h.current;
   log = subst (λ l. AllByRecursion (HadKind x d) l.items) (sym j.log) h.log;
 }
 
-choices_suit : (x : Block) (d : Draft) (old new : Values) (chosen other : List Left) (choices : List Choice) → JoinsArms old new chosen other choices → AreReady old → length old.current.items ≤ length x.plan.registers
+choices_suit : (x : FormedBlock) (d : Draft) (old new : Values) (chosen other : List Left) (choices : List Choice) → JoinsArms old new chosen other choices → AreReady old → length old.current.items ≤ length x.plan.registers
     → AreLeft x d old chosen → AreLeft x d old other → ChoicesSuit x d choices
 choices_suit x d old new chosen other choices j ready long c1 c2 k c at =
     let are = j.are ready c1.left c2.left in
@@ -78,7 +78,7 @@ joins_form tests chosen other old new m =
           all.forms x a s t (held_joined x old.draft old.values m.middle chosen other m.choices m.joins held) (choices_suit x old.draft old.values m.middle chosen other m.choices m.joins ready long c1 c2) in
           record {
             forms = f.forms;
-            notes = noted_later x old.draft new.draft new.accesses all.extends (subst (λ k. IsNoted x old.draft k) (sym m.same) noted);
+            notes = noted_later x old.draft new.draft new.accesses all.extends (subst (λ k. AreNotedReads x old.draft k) (sym m.same) noted);
             held = f.held;
           };
     }

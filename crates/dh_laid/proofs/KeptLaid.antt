@@ -17,7 +17,7 @@ use Rattle.dh_expressions.specs.Drafted.{Extends}
 use Rattle.dh_expressions.specs.MadeTerms.{MadeTerms}
 use Rattle.dh_expressions.specs.Shown.{kind_written, register_at}
 use Rattle.dh_expressions.proofs.Pushing.{extends_again, extends_self}
-use Rattle.dh_formed.specs.Formed.{Agrees, AreNumbers, Block, Forms, FormsTerm, FormsTerms, FormsValue, HasKind, HeldSuits, IsNoted, IsScope, Started, TermSuits, TermsSuit, count_of}
+use Rattle.dh_formed.specs.Formed.{Agrees, AreNumbers, FormedBlock, Forms, FormsTerm, FormsTerms, FormsValue, HasKind, HeldSuits, AreNotedReads, IsScope, Started, TermSuits, TermsSuit, count_of_terms}
 use Rattle.dh_formed.proofs.AccessesFormed.{noted_later, scope_later}
 use Rattle.dh_formed.proofs.TermsFormed.{all_formed, formed, numbered}
 use Rattle.dh_formed.proofs.ValuesFormed.{agrees_before, forms_again, forms_none, held_forms, kind_later, kind_same, started_later}
@@ -32,19 +32,19 @@ use Rattle.dh_laid.proofs.ValuesLaid.{held_assigned, held_later}
 
 -- Values of terms are of the kinds that are written of these.
 
-abbrev AreKinds : Block → Draft → plain.Terms → List ℕ → Type 0
+abbrev AreKinds : FormedBlock → Draft → plain.Terms → List ℕ → Type 0
 AreKinds x d plain.no_terms values = values ≡ []
 AreKinds x d (plain.term_then t ts) [] = ⊥
 AreKinds x d (plain.term_then t ts) (v ∷ values) = HasKind x d (kind_written t) v × AreKinds x d ts values
 
-kinds_later : (x : Block) (old new : Draft) (ts : plain.Terms) (values : List ℕ) → Extends old new → AreKinds x old ts values → AreKinds x new ts values
+kinds_later : (x : FormedBlock) (old new : Draft) (ts : plain.Terms) (values : List ℕ) → Extends old new → AreKinds x old ts values → AreKinds x new ts values
 kinds_later x old new plain.no_terms values e h = h
 kinds_later x old new (plain.term_then t ts) [] e h = h
 kinds_later x old new (plain.term_then t ts) (v ∷ values) e h = (kind_later x old new (kind_written t) v e h.0, kinds_later x old new ts values e h.1)
 
 module _ (scene : Scene) (lane : Lane) (current : List (Option ℕ)) where
   kinds_made : (ts : plain.Terms) (old new : Draft) (before after : Accesses) (n next : ℕ) (values : List ℕ) → MadeTerms scene lane current ts old new before after n next values → n + terms_accesses ts < 2 ^ 32
-      → (x : Block) → Agrees x new → Started x old → IsScope x old scene lane current → IsNoted x old before → TermsSuit x scene lane n ts × AreNumbers ts → AreKinds x new ts values
+      → (x : FormedBlock) → Agrees x new → Started x old → IsScope x old scene lane current → AreNotedReads x old before → TermsSuit x scene lane n ts × AreNumbers ts → AreKinds x new ts values
   kinds_made plain.no_terms old new before after n next values m few x a s scope noted w = m.none
   kinds_made (plain.term_then t ts) old new before after n next values m few x a s scope noted w =
       subst (λ (vs : List ℕ). AreKinds x new (plain.term_then t ts) vs) (sym m.values_are) (
@@ -65,7 +65,7 @@ module _ (scene : Scene) (lane : Lane) (current : List (Option ℕ)) where
       one : FormsTerm scene lane current old m.middle before m.between m.a (λ y. TermSuits y scene lane n t) (kind_written t)
       one = formed scene lane current t old m.middle before m.between n m.own m.a m.first few_one
 
-      rest : FormsTerms scene lane current m.middle new m.between after m.more (λ y. TermsSuit y scene lane m.own ts × AreNumbers ts) (count_of ts)
+      rest : FormsTerms scene lane current m.middle new m.between after m.more (λ y. TermsSuit y scene lane m.own ts × AreNumbers ts) (count_of_terms ts)
       rest = all_formed scene lane current ts m.middle new m.between after m.own next m.more m.rest few_rest
 
       at_middle : Agrees x m.middle
@@ -73,14 +73,14 @@ module _ (scene : Scene) (lane : Lane) (current : List (Option ℕ)) where
 
 -- Values as variables hold them.
 
-abbrev AreKept : Block → Draft → Scene → Lane → (first : ℕ) → List ℕ → Type 0
+abbrev AreKept : FormedBlock → Draft → Scene → Lane → (first : ℕ) → List ℕ → Type 0
 AreKept x d scene lane first [] = Unit {0}
 AreKept x d scene lane first (v ∷ values) = HasKind x d (kind_at x.plan.registers (register_at (held_at scene.held.now first) lane)) v × AreKept x d scene lane (suc first) values
 
 pub record FormsHolds (scene : Scene) (lane : Lane) (first : ℕ) (offsets : List Term) (values : List ℕ) (old new : Draft) (held : List ℕ) : Type 0 where
   pub extends : Extends old new
-  pub forms : (x : Block) → Agrees x new → Started x old → AreKinds x old (terms offsets) values → KeptFits x scene lane first offsets → Forms x old new
-  pub gives : (x : Block) → Agrees x new → Started x old → AreKinds x old (terms offsets) values → KeptFits x scene lane first offsets → AreKept x new scene lane first held
+  pub forms : (x : FormedBlock) → Agrees x new → Started x old → AreKinds x old (terms offsets) values → KeptFits x scene lane first offsets → Forms x old new
+  pub gives : (x : FormedBlock) → Agrees x new → Started x old → AreKinds x old (terms offsets) values → KeptFits x scene lane first offsets → AreKept x new scene lane first held
 
 -- one more in front
 hold_then : (scene : Scene) (lane : Lane) (first : ℕ) (t : Term) (ts : List Term) (v : ℕ) (values : List ℕ) (old d new : Draft) (h : ℕ) (more held : List ℕ)
@@ -114,7 +114,7 @@ holds_form scene lane first (t ∷ ts) (v ∷ values) old new held (d, (h, (more
     hold_then scene lane first t ts v values old d new h more held (held_forms t (held_at scene.held.now first).kind v old d h one) (holds_form scene lane (suc first) ts values d new more rest) is
 
 -- variables are given them
-kept_held : (x : Block) (d : Draft) (scene : Scene) (lane : Lane) (first : ℕ) (values : List ℕ) (old new : Values) → SetsFrom scene lane old new first values → AreKept x d scene lane first values → AreHeld x d old → AreHeld x d new
+kept_held : (x : FormedBlock) (d : Draft) (scene : Scene) (lane : Lane) (first : ℕ) (values : List ℕ) (old new : Values) → SetsFrom scene lane old new first values → AreKept x d scene lane first values → AreHeld x d old → AreHeld x d new
 kept_held x d scene lane first [] old new s kinds h = subst (λ (v : Values). AreHeld x d v) (sym s) h
 kept_held x d scene lane first (v ∷ values) old new (middle, (set, rest)) kinds h =
     kept_held x d scene lane (suc first) values middle new rest kinds.1 (held_assigned x d old middle (register_at (held_at scene.held.now first) lane) lane.number v set kinds.0 h)
@@ -139,7 +139,7 @@ keeps_form scene lane first entity offsets old new next m few = record {
       };
 }
   where
-    all : FormsTerms scene lane old.values.current.items old.draft m.middle old.accesses new.accesses m.values (λ x. TermsSuit x scene lane first (terms offsets) × AreNumbers (terms offsets)) (count_of (terms offsets))
+    all : FormsTerms scene lane old.values.current.items old.draft m.middle old.accesses new.accesses m.values (λ x. TermsSuit x scene lane first (terms offsets) × AreNumbers (terms offsets)) (count_of_terms (terms offsets))
     all = all_formed scene lane old.values.current.items (terms offsets) old.draft m.middle old.accesses new.accesses first next m.values m.offsets_made few
 
     holds : FormsHolds scene lane entity offsets m.values m.middle new.draft m.held

@@ -11,7 +11,7 @@ use Rattle.dh_expressions.specs.Drafted.{Extends}
 use Rattle.dh_expressions.specs.Shown.{kind_written}
 use Rattle.dh_expressions.proofs.ListPlaces.{place_of_more}
 use Rattle.dh_expressions.proofs.Pushing.{extends_again, extends_self}
-use Rattle.dh_formed.specs.Formed.{Block, FormsTerm, HasKind, HeldSuits, IsNoted, IsScope, TermSuits}
+use Rattle.dh_formed.specs.Formed.{FormedBlock, FormsTerm, HasKind, HeldSuits, AreNotedReads, IsScope, TermSuits}
 use Rattle.dh_formed.proofs.CopiesFormed.{guard_later}
 use Rattle.dh_formed.proofs.TermsFormed.{formed}
 use Rattle.dh_formed.proofs.ValuesFormed.{agrees_before, forms_again, forms_none, kind_later, kind_same, started_later}
@@ -19,25 +19,25 @@ use Rattle.dh_commands.specs.declared.assignments.Values.{Values}
 use Rattle.dh_commands.specs.declared.buildings.Building.{Building}
 use Rattle.dh_commands.specs.LanesRun.{lane_of, paths_counted}
 use Rattle.dh_commands.specs.MadeCommands.{MadeAssigned, MadeCleared, MadeLanes, MadeTested}
-use Rattle.dh_laid.specs.Laid.{AllAssignmentsForm, AllClearingsForm, AreHeld, AreTruths, FitsRegister, FormsAround, FormsAtPath, FormsTests, FormsThere, StandsRound, TestsForm}
+use Rattle.dh_laid.specs.Laid.{AllAssignmentsForm, AllClearingsForm, AreHeld, TestsAreTruths, FitsRegister, FormsAround, FormsAtPath, FormsTests, FormsThere, StandsRound, TestsForm}
 use Rattle.dh_laid.proofs.ValuesLaid.{AllHold, assignments_form, clearings_form, held_later}
 
-pub round_later : (x : Block) (old new : Draft) (scene : Scene) (around : Around) → Extends old new → StandsRound x old scene around → StandsRound x new scene around
+pub round_later : (x : FormedBlock) (old new : Draft) (scene : Scene) (around : Around) → Extends old new → StandsRound x old scene around → StandsRound x new scene around
 round_later x old new scene around e h = record { guards = λ path guard at. guard_later x old new guard e (h.guards path guard at); scopes = h.scopes; low = h.low; few = h.few }
 
 -- what stands round a path
-pub scope_of : (x : Block) (d : Draft) (scene : Scene) (around : Around) (n : ℕ) (current : List (Option ℕ)) → StandsRound x d scene around → AllHold x d current → n < paths_counted around
+pub scope_of : (x : FormedBlock) (d : Draft) (scene : Scene) (around : Around) (n : ℕ) (current : List (Option ℕ)) → StandsRound x d scene around → AllHold x d current → n < paths_counted around
     → IsScope x d scene (lane_of around n) current
 scope_of x d scene around n current h all within = record { guards = h.guards; given = all; scopes = h.scopes; low = h.low; few = h.few; within = within }
 
-pub there_same : (x : Block) (old new : Building) → new ≡ old → IsNoted x old.draft old.accesses → AreHeld x old.draft old.values → FormsThere x old new
+pub there_same : (x : FormedBlock) (old new : Building) → new ≡ old → AreNotedReads x old.draft old.accesses → AreHeld x old.draft old.values → FormsThere x old new
 there_same x old new same noted held =
     subst (λ (b : Building). FormsThere x old b) (sym same) (record { forms = forms_none x old.draft old.draft refl; notes = noted; held = held })
 
 pub extends_same : (old new : Building) → new ≡ old → Extends old.draft new.draft
 extends_same old new same = subst (λ (b : Building). Extends old.draft b.draft) (sym same) (extends_self old.draft)
 
-pub paths_form : (scene : Scene) (around : Around) (One : ℕ → (b d : Building) → ℕ → Type 0) (Where : ℕ → Block → Type 0)
+pub paths_form : (scene : Scene) (around : Around) (One : ℕ → (b d : Building) → ℕ → Type 0) (Where : ℕ → FormedBlock → Type 0)
     → ((n : ℕ) (b d : Building) (k : ℕ) → One n b d k → FormsAtPath scene (lane_of around n) b d (Where n))
     → (count first : ℕ) (old new : Building) (next : ℕ) → count ≤ paths_counted around → MadeLanes One count first old new next
     → FormsAround scene around old new (λ x. (n : ℕ) → n < count → Where n x)
@@ -69,17 +69,17 @@ all_clearings_form scene around first entity count old new next m within =
 
 -- Tests.
 
-truths_later : (x : Block) (old new : Draft) (tests : List ℕ) → Extends old new → AreTruths x old tests → AreTruths x new tests
+truths_later : (x : FormedBlock) (old new : Draft) (tests : List ℕ) → Extends old new → TestsAreTruths x old tests → TestsAreTruths x new tests
 truths_later x old new tests e all path test at = kind_later x old new kind.Bool test e (all path test at)
 
-truths_more : (x : Block) (d : Draft) (tests before : List ℕ) (v : ℕ) → tests ≡ before ++ v ∷ [] → AreTruths x d before → HasKind x d kind.Bool v → AreTruths x d tests
+truths_more : (x : FormedBlock) (d : Draft) (tests before : List ℕ) (v : ℕ) → tests ≡ before ++ v ∷ [] → TestsAreTruths x d before → HasKind x d kind.Bool v → TestsAreTruths x d tests
 truths_more x d tests before v is all one path test at = by (place_of_more before v test path (subst (λ (ts : List ℕ). slice_get ts path ≡ Some test) is at))
   where
     by : (slice_get before path ≡ Some test) ⊎ ((path ≡ length before) × (test ≡ v)) → HasKind x d kind.Bool test
     by (inl h) = all path test h
     by (inr h) = subst (λ (n : ℕ). HasKind x d kind.Bool n) (sym h.1) one
 
-no_truths : (x : Block) (d : Draft) (tests : List ℕ) → tests ≡ [] → AreTruths x d tests
+no_truths : (x : FormedBlock) (d : Draft) (tests : List ℕ) → tests ≡ [] → TestsAreTruths x d tests
 no_truths x d tests none path test at = absurd (nothing path (subst (λ (ts : List ℕ). slice_get ts path ≡ Some test) none at))
   where
     nothing : (path : ℕ) → slice_get [] path ≡ Some test → ⊥

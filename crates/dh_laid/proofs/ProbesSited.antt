@@ -15,7 +15,7 @@ use Rattle.dh_expressions.specs.declared.scenes.Around.{Around}
 use Rattle.dh_expressions.specs.declared.scenes.Scene.{Scene}
 use Rattle.dh_expressions.specs.Evaluated.{known_in}
 use Rattle.dh_formed.specs.Counted.{nothing, ranged}
-use Rattle.dh_formed.specs.Formed.{Site}
+use Rattle.dh_formed.specs.Formed.{BlockSite}
 use Rattle.dh_formed.proofs.PartsCounted.{ranged_sum}
 use Rattle.dh_commands.specs.declared.buildings.Building.{Building}
 use Rattle.dh_commands.specs.declared.choices.Left.{Left}
@@ -56,7 +56,7 @@ same_within n p f g same access = by (cases_lt access n) (cases_lt access (n + p
     by (inr from) (inl below) = ap (λ (v : ℕ). if nat_le n access && nat_lt access (n + p) then v else 0) (same access from below)
     by (inr from) (inr l) = outside (nat_le n access && nat_lt access (n + p)) (f access) (g access) (far l)
 
-module _ (scene : Scene) (sites : ℕ → Option Site) where
+module _ (scene : Scene) (sites : ℕ → Option BlockSite) where
   abbrev probed : (paths access : ℕ) → ℕ
   probed paths access = probed_by (sites access) paths
 
@@ -112,7 +112,7 @@ module _ (scene : Scene) (sites : ℕ → Option Site) where
   idle_sited old new first count paths still none = probed_nowhere old.draft new.draft first count paths none (none_none old.draft new.draft (ap (λ (b : Building). b.draft) still))
 
   -- an expression at all paths
-  term_sited : (around : Around) (old new : Draft) (first count : ℕ) (ss : List Site) → length ss ≡ count → PlacesAgree sites first (all_there ss) → AddsProbes old new (often first count (paths_counted around))
+  term_sited : (around : Around) (old new : Draft) (first count : ℕ) (ss : List BlockSite) → length ss ≡ count → PlacesAgree sites first (all_there ss) → AddsProbes old new (often first count (paths_counted around))
       → Probed old new first (count + 0) (paths_counted around)
   term_sited around old new first count ss long has h =
       probed_count old new first count (count + 0) (paths_counted around) (no_more count) (probed_often old new first count (paths_counted around) (sites_are sites first count ss long (all_sites sites first ss has)) h)

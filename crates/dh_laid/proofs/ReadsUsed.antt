@@ -22,12 +22,12 @@ use Rattle.dh_expressions.specs.MadeTerms.{MadeRead, MadeWrite}
 use Rattle.dh_expressions.specs.Named.{banks_told}
 use Rattle.dh_expressions.specs.Noted.{Notes, copied_in, copied_of, copy_or_alone, given_by, given_in, noted_in, touched_in}
 use Rattle.dh_expressions.specs.Reaching.{Finds, copy_banks, place_written, reach_told}
-use Rattle.dh_expressions.specs.Standings.{Standing, copy_places, standing_at}
+use Rattle.dh_expressions.specs.Standings.{AccessStanding, copy_places, standing_at}
 use Rattle.dh_expressions.specs.Touching.{AddsTouched, IsNew, TouchesAt}
 use Rattle.dh_expressions.proofs.AccessesKept.{noted_touched, place_noted}
 use Rattle.dh_expressions.proofs.ListPlaces.{set_long, some_same, there}
 use Rattle.dh_formed.specs.Counted.{AreNext, HaveGiven, given_at_paths, ranged, use_shared}
-use Rattle.dh_formed.specs.Formed.{Site}
+use Rattle.dh_formed.specs.Formed.{BlockSite}
 use Rattle.dh_formed.proofs.CopiesFormed.{FormsCopies, copies_forms}
 use Rattle.dh_formed.proofs.PartsCounted.{ranged_one}
 use Rattle.dh_formed.proofs.ReadsCounted.{given_here, given_past, notes_other, notes_own, touch_gives}
@@ -40,23 +40,23 @@ use Rattle.dh_laid.proofs.UsesAdded.{AddsNone, any_register, no_reach, none_agai
 -- The leaders of accesses.
 
 -- its copies have the leaders of where it stands, the banks, and the places
-pub record IsLed (s : Standing) (t : Touched) : Type 0 where
+pub record IsLed (s : AccessStanding) (t : Touched) : Type 0 where
   pub long : length t.copies ≡ length s.guards
   pub each : (path : ℕ) (c : AccessAt) → slice_get t.copies path ≡ Some c → c.leader ≡ s.leader path
   pub banks : (path : ℕ) (c : AccessAt) → slice_get t.copies path ≡ Some c → c.bank ≡ s.bank path
   pub places : (path : ℕ) (c : AccessAt) → slice_get t.copies path ≡ Some c → c.place ≡ copy_places s path
 
 -- so has each access of the block that has operations; no bank is counted
-pub record AreLed (sites : ℕ → Option Site) (a : Accesses) : Type 0 where
-  pub led : (number : ℕ) (t : Touched) (s : Site) → sites number ≡ Some s → touched_in a number ≡ Some t → IsLed s.standing t
-  pub there : (number : ℕ) (s : Site) → sites number ≡ Some s → number < length a.touched.items
+pub record AreLed (sites : ℕ → Option BlockSite) (a : Accesses) : Type 0 where
+  pub led : (number : ℕ) (t : Touched) (s : BlockSite) → sites number ≡ Some s → touched_in a number ≡ Some t → IsLed s.standing t
+  pub there : (number : ℕ) (s : BlockSite) → sites number ≡ Some s → number < length a.touched.items
   pub none : AreNone a.counts.items
 
-pub led_same : (sites : ℕ → Option Site) (a b : Accesses) → b ≡ a → AreLed sites a → AreLed sites b
+pub led_same : (sites : ℕ → Option BlockSite) (a b : Accesses) → b ≡ a → AreLed sites a → AreLed sites b
 led_same sites a b same h = subst (λ (c : Accesses). AreLed sites c) (sym same) h
 
 -- an access gets its copies
-module _ (sites : ℕ → Option Site) (scene : Scene) (around : Around) (stands : StandsIn scene around) (site : Site) (low : (p : ℕ) → site.standing.leader p ≤ p) (old new : Draft) (before after : Accesses) (number : ℕ) (at : sites number ≡ Some site) (t : TouchesAt scene around site.standing old new before after number) (h : AreLed sites before) where
+module _ (sites : ℕ → Option BlockSite) (scene : Scene) (around : Around) (stands : StandsIn scene around) (site : BlockSite) (low : (p : ℕ) → site.standing.leader p ≤ p) (old new : Draft) (before after : Accesses) (number : ℕ) (at : sites number ≡ Some site) (t : TouchesAt scene around site.standing old new before after number) (h : AreLed sites before) where
   new_led : (u : Touched) → AddsTouched old new scene around site.standing u → IsLed site.standing u
   new_led u a =
       let f : FormsCopies site.standing.leader site.standing.bank (copy_places site.standing) site.standing.guards low (length site.standing.guards) a.middle new u.copies =
@@ -70,24 +70,24 @@ module _ (sites : ℕ → Option Site) (scene : Scene) (around : Around) (stands
     none = t.none h.none;
   }
     where
-      laid : (m : ℕ) (u : Touched) (o : Site) → sites m ≡ Some o → IsNew old new scene around site.standing number m u → IsLed o.standing u
+      laid : (m : ℕ) (u : Touched) (o : BlockSite) → sites m ≡ Some o → IsNew old new scene around site.standing number m u → IsLed o.standing u
       laid m u o here fresh =
           let own : site ≡ o = some_same site o (sym at ∙ (ap sites (sym fresh.own) ∙ here)) in
-          subst (λ (w : Site). IsLed w.standing u) own (new_led u fresh.adds)
+          subst (λ (w : BlockSite). IsLed w.standing u) own (new_led u fresh.adds)
 
   -- it has copies now
   pub touch_there : (u : Touched) × (touched_in after number ≡ Some u)
   touch_there = t.there (h.there number site at)
 
 -- a read has given a value
-pub notes_led : (sites : ℕ → Option Site) (before after : Accesses) (number path value : ℕ) → Notes before after number path value → AreLed sites before → AreLed sites after
+pub notes_led : (sites : ℕ → Option BlockSite) (before after : Accesses) (number path value : ℕ) → Notes before after number path value → AreLed sites before → AreLed sites after
 notes_led sites before after number path value h k = record {
   led = λ m u o at is. led_now m u o at (place_noted before after number path value h m) is;
   there = λ m o at. subst (λ (l : ℕ). m < l) (sym (ap length h.touched ∙ set_long before.touched.items number _)) (k.there m o at);
   none = subst (λ (ns : List ℕ). AreNone ns) (sym h.counts) k.none;
 }
   where
-    led_now : (m : ℕ) (u : Touched) (o : Site) → sites m ≡ Some o → (touched_in after m ≡ touched_in before m) ⊎ ((m ≡ number) × (touched_in after m ≡ noted_in (touched_in before m) path value))
+    led_now : (m : ℕ) (u : Touched) (o : BlockSite) → sites m ≡ Some o → (touched_in after m ≡ touched_in before m) ⊎ ((m ≡ number) × (touched_in after m ≡ noted_in (touched_in before m) path value))
         → touched_in after m ≡ Some u → IsLed o.standing u
     led_now m u o at (inl same) is = k.led m u o at (sym same ∙ is)
     led_now m u o at (inr p) is =
@@ -102,7 +102,7 @@ notes_led sites before after number path value h k = record {
 
 -- One path.
 
-led_reach : (scene : Scene) (sites : ℕ → Option Site) (q r : Reach) → IsLeadersUse scene sites q → Some q ≡ Some r → IsLeadersUse scene sites r
+led_reach : (scene : Scene) (sites : ℕ → Option BlockSite) (q r : Reach) → IsLeadersUse scene sites q → Some q ≡ Some r → IsLeadersUse scene sites r
 led_reach scene sites q r led e = subst (λ (u : Reach). IsLeadersUse scene sites u) (the q r e) led
   where
     the : (x y : Reach) → Some x ≡ Some y → x ≡ y
@@ -111,16 +111,16 @@ led_reach scene sites q r led e = subst (λ (u : Reach). IsLeadersUse scene site
 abbrev one_if : Truth → ℕ
 one_if t = if t then 1 else 0
 
-pub record UsesPart (scene : Scene) (sites : ℕ → Option Site) (lane : Lane) (old new : Draft) (before after : Accesses) (n count : ℕ) : Type 0 where
+pub record UsesPart (scene : Scene) (sites : ℕ → Option BlockSite) (lane : Lane) (old new : Draft) (before after : Accesses) (n count : ℕ) : Type 0 where
   pub uses : AddsLedUses scene sites old new (ranged n count (λ access. use_shared (slice_get scene.shares.now access) (sites access) lane.number))
   pub given : HaveGiven lane before after n count
   pub led : AreLed sites after
 
-module _ (scene : Scene) (sites : ℕ → Option Site) (lane : Lane) (stands : StandsIn scene lane.around) (within : lane.number < paths_counted lane.around) (access : Term) (memory : ℕ) (aim : Aim) where
-  abbrev stood : (writes : Truth) → Standing
+module _ (scene : Scene) (sites : ℕ → Option BlockSite) (lane : Lane) (stands : StandsIn scene lane.around) (within : lane.number < paths_counted lane.around) (access : Term) (memory : ℕ) (aim : Aim) where
+  abbrev stood : (writes : Truth) → AccessStanding
   stood writes = standing_at scene lane.around memory (place_written access) (form_of access) writes
 
-  abbrev site : (writes : Truth) → Site
+  abbrev site : (writes : Truth) → BlockSite
   site writes = record { memory = memory; standing = stood writes }
 
   low : (writes : Truth) (p : ℕ) → (stood writes).leader p ≤ p

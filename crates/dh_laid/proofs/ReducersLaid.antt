@@ -18,7 +18,7 @@ use Rattle.dh_expressions.specs.Drafted.{Extends}
 use Rattle.dh_expressions.specs.MadeValues.{MadeConverted}
 use Rattle.dh_expressions.specs.Shown.{kind_written, register_at}
 use Rattle.dh_expressions.proofs.Pushing.{extends_again}
-use Rattle.dh_formed.specs.Formed.{Block, FormsTerm, FormsValue, HasKind, IsExtension, TermSuits, operand_kind}
+use Rattle.dh_formed.specs.Formed.{FormedBlock, FormsTerm, FormsValue, HasKind, IsExtension, TermSuits, operand_kind}
 use Rattle.dh_formed.proofs.AccessesFormed.{noted_later}
 use Rattle.dh_formed.proofs.TermsFormed.{formed}
 use Rattle.dh_formed.proofs.ValuesFormed.{agrees_before, compute_forms, convert_forms, forms_again, forms_there, forms_where, held_forms, kind_later, kind_same, kinds_same, shown_forms, started_later}
@@ -63,7 +63,7 @@ own_forms held given extension value old new v m = by (same_kind held extension)
         (convert_forms old new v value held (λ x. given) m)
 
 -- what stands round a reducer
-record FoldsThere (x : Block) (old : Draft) (current : List (Option ℕ)) (register : ℕ) (held : Kind) (op : Op) (t : Term) (value : ℕ) : Type 0 where
+record FoldsThere (x : FormedBlock) (old : Draft) (current : List (Option ℕ)) (register : ℕ) (held : Kind) (op : Op) (t : Term) (value : ℕ) : Type 0 where
   suits : ReducerSuits op held (kind_written t)
   there : register < length x.plan.registers
   kind_is : held ≡ kind_at x.plan.registers register

@@ -18,7 +18,7 @@ use Rattle.dh_expressions.specs.declared.scenes.Around.{Around}
 use Rattle.dh_expressions.specs.declared.scenes.Scene.{Scene}
 use Rattle.dh_expressions.specs.Evaluated.{known_in}
 use Rattle.dh_expressions.proofs.Pushing.{at_seam, in_front}
-use Rattle.dh_formed.specs.Formed.{Site}
+use Rattle.dh_formed.specs.Formed.{BlockSite}
 use Rattle.dh_commands.specs.declared.buildings.Building.{Building}
 use Rattle.dh_commands.specs.declared.choices.Left.{Left}
 use Rattle.dh_commands.specs.MadeCommands.{MadeActions, MadeCommand, MadeGroups, MadeOther}
@@ -28,13 +28,13 @@ use Rattle.dh_laid.specs.LaidUses.{AreAlong}
 
 -- Numbers.
 
-pub sites_low : (first : ℕ) (ss : List Site) (number : ℕ) → number < first → sites_from first ss number ≡ None
+pub sites_low : (first : ℕ) (ss : List BlockSite) (number : ℕ) → number < first → sites_from first ss number ≡ None
 sites_low first ss number low = ap (λ (b : Truth). if b then None else slice_get ss (number - first)) (test first number low)
   where
     test : (f n : ℕ) → n < f → nat_lt n f ≡ true
     test f n h = grind (arith, nat_tests, h)
 
-pub sites_own : (first : ℕ) (ss : List Site) (i : ℕ) (s : Site) → slice_get ss i ≡ Some s → sites_from first ss (first + i) ≡ Some s
+pub sites_own : (first : ℕ) (ss : List BlockSite) (i : ℕ) (s : BlockSite) → slice_get ss i ≡ Some s → sites_from first ss (first + i) ≡ Some s
 sites_own first ss i s e = ap (λ (b : Truth). if b then None else slice_get ss (first + i - first)) (low first i) ∙ (ap (λ j. slice_get ss j) (same first i) ∙ e)
   where
     low : (a i : ℕ) → nat_lt (a + i) a ≡ false
@@ -43,7 +43,7 @@ sites_own first ss i s e = ap (λ (b : Truth). if b then None else slice_get ss 
     same : (a i : ℕ) → a + i - a ≡ i
     same a i = omega arith
 
-pub sites_past : (first : ℕ) (ss : List Site) (number : ℕ) → first + length ss ≤ number → sites_from first ss number ≡ None
+pub sites_past : (first : ℕ) (ss : List BlockSite) (number : ℕ) → first + length ss ≤ number → sites_from first ss number ≡ None
 sites_past first ss number h = by (nat_lt number first)
   where
     by : (b : Truth) → (if b then None else slice_get ss (number - first)) ≡ None
@@ -52,13 +52,13 @@ sites_past first ss number h = by (nat_lt number first)
 
 -- so of the accesses of a command, of which some have none
 
-pub places_low : (first : ℕ) (ss : List (Option Site)) (number : ℕ) → number < first → places_from first ss number ≡ None
+pub places_low : (first : ℕ) (ss : List (Option BlockSite)) (number : ℕ) → number < first → places_from first ss number ≡ None
 places_low first ss number low = ap (λ (b : Truth). if b then None else one_site (slice_get ss (number - first))) (test first number low)
   where
     test : (f n : ℕ) → n < f → nat_lt n f ≡ true
     test f n h = grind (arith, nat_tests, h)
 
-pub places_own : (first : ℕ) (ss : List (Option Site)) (i : ℕ) (o : Option Site) → slice_get ss i ≡ Some o → places_from first ss (first + i) ≡ o
+pub places_own : (first : ℕ) (ss : List (Option BlockSite)) (i : ℕ) (o : Option BlockSite) → slice_get ss i ≡ Some o → places_from first ss (first + i) ≡ o
 places_own first ss i o e = ap (λ (b : Truth). if b then None else one_site (slice_get ss (first + i - first))) (low first i) ∙ (ap (λ j. one_site (slice_get ss j)) (same first i) ∙ ap one_site e)
   where
     low : (a i : ℕ) → nat_lt (a + i) a ≡ false
@@ -67,7 +67,7 @@ places_own first ss i o e = ap (λ (b : Truth). if b then None else one_site (sl
     same : (a i : ℕ) → a + i - a ≡ i
     same a i = omega arith
 
-pub places_past : (first : ℕ) (ss : List (Option Site)) (number : ℕ) → first + length ss ≤ number → places_from first ss number ≡ None
+pub places_past : (first : ℕ) (ss : List (Option BlockSite)) (number : ℕ) → first + length ss ≤ number → places_from first ss number ≡ None
 places_past first ss number h = by (nat_lt number first)
   where
     by : (b : Truth) → (if b then None else one_site (slice_get ss (number - first))) ≡ None
@@ -75,8 +75,8 @@ places_past first ss number h = by (nat_lt number first)
     by false = ap one_site (slice_get_past ss (number - first) (omega (arith, h)))
 
 -- The places of a list are those of the numbers from a first one on: what has no site there has none.
-abbrev pub PlacesAgree : (sites : ℕ → Option Site) → (first : ℕ) → List (Option Site) → Type 0
-PlacesAgree sites first ss = (i : ℕ) (o : Option Site) → slice_get ss i ≡ Some o → sites (first + i) ≡ o
+abbrev pub PlacesAgree : (sites : ℕ → Option BlockSite) → (first : ℕ) → List (Option BlockSite) → Type 0
+PlacesAgree sites first ss = (i : ℕ) (o : Option BlockSite) → slice_get ss i ≡ Some o → sites (first + i) ≡ o
 
 pub behind_place : {A : Type 0} (xs ys : List A) (i : ℕ) (s : A) → slice_get ys i ≡ Some s → slice_get (xs ++ ys) (length xs + i) ≡ Some s
 behind_place [] ys i s e = ap (λ j. slice_get ys j) (none i) ∙ e
@@ -91,26 +91,26 @@ behind_place (x ∷ xs) ys i s e = ap (λ j. slice_get (x ∷ (xs ++ ys)) j) (mo
 pub moved : (f o n i : ℕ) → o ≡ f + n → o + i ≡ f + (n + i)
 moved f o n i e = omega (arith, e)
 
-pub sites_front : (sites : ℕ → Option Site) (first : ℕ) (xs ys : List Site) → HasSites sites first (xs ++ ys) → HasSites sites first xs
+pub sites_front : (sites : ℕ → Option BlockSite) (first : ℕ) (xs ys : List BlockSite) → HasSites sites first (xs ++ ys) → HasSites sites first xs
 sites_front sites first xs ys h i s e = h i s (in_front xs ys i s e)
 
-pub sites_behind : (sites : ℕ → Option Site) (first own : ℕ) (xs ys : List Site) → own ≡ first + length xs → HasSites sites first (xs ++ ys) → HasSites sites own ys
+pub sites_behind : (sites : ℕ → Option BlockSite) (first own : ℕ) (xs ys : List BlockSite) → own ≡ first + length xs → HasSites sites first (xs ++ ys) → HasSites sites own ys
 sites_behind sites first own xs ys is h i s e = ap sites (moved first own (length xs) i is) ∙ h (length xs + i) s (behind_place xs ys i s e)
 
-pub sites_last : (sites : ℕ → Option Site) (first own : ℕ) (xs : List Site) (y : Site) → own ≡ first + length xs → HasSites sites first (xs ++ y ∷ []) → sites own ≡ Some y
+pub sites_last : (sites : ℕ → Option BlockSite) (first own : ℕ) (xs : List BlockSite) (y : BlockSite) → own ≡ first + length xs → HasSites sites first (xs ++ y ∷ []) → sites own ≡ Some y
 sites_last sites first own xs y is h = ap sites is ∙ h (length xs) y (at_seam xs y)
 
-pub places_front : (sites : ℕ → Option Site) (first : ℕ) (xs ys : List (Option Site)) → PlacesAgree sites first (xs ++ ys) → PlacesAgree sites first xs
+pub places_front : (sites : ℕ → Option BlockSite) (first : ℕ) (xs ys : List (Option BlockSite)) → PlacesAgree sites first (xs ++ ys) → PlacesAgree sites first xs
 places_front sites first xs ys h i o e = h i o (in_front xs ys i o e)
 
-pub places_behind : (sites : ℕ → Option Site) (first own : ℕ) (xs ys : List (Option Site)) → own ≡ first + length xs → PlacesAgree sites first (xs ++ ys) → PlacesAgree sites own ys
+pub places_behind : (sites : ℕ → Option BlockSite) (first own : ℕ) (xs ys : List (Option BlockSite)) → own ≡ first + length xs → PlacesAgree sites first (xs ++ ys) → PlacesAgree sites own ys
 places_behind sites first own xs ys is h i o e = ap sites (moved first own (length xs) i is) ∙ h (length xs + i) o (behind_place xs ys i o e)
 
-pub all_sites : (sites : ℕ → Option Site) (first : ℕ) (ss : List Site) → PlacesAgree sites first (all_there ss) → HasSites sites first ss
-all_sites sites first ss h i s e = h i (Some s) (slice_get-map (λ (t : Site). Some t) ss i ∙ ap (option_map (λ (t : Site). Some t)) e)
+pub all_sites : (sites : ℕ → Option BlockSite) (first : ℕ) (ss : List BlockSite) → PlacesAgree sites first (all_there ss) → HasSites sites first ss
+all_sites sites first ss h i s e = h i (Some s) (slice_get-map (λ (t : BlockSite). Some t) ss i ∙ ap (option_map (λ (t : BlockSite). Some t)) e)
 
 -- none of so many has a site
-pub no_sites : (sites : ℕ → Option Site) (first count : ℕ) → PlacesAgree sites first (none_there count) → (m : ℕ) → first ≤ m → m < first + count → sites m ≡ None
+pub no_sites : (sites : ℕ → Option BlockSite) (first count : ℕ) → PlacesAgree sites first (none_there count) → (m : ℕ) → first ≤ m → m < first + count → sites m ≡ None
 no_sites sites first count h m from below = ap sites (again first m from) ∙ h (m - first) None (place count (m - first) (omega (arith, from, below)))
   where
     again : (f m : ℕ) → f ≤ m → m ≡ f + (m - f)
@@ -166,8 +166,8 @@ module _ (scene : Scene) (around : Around) where
   target_sites_long (plain.term place k (plain.applied op l r)) is = absurd is
   target_sites_long (plain.term place k (plain.converted inner to)) is = absurd is
 
-  all_long : (ss : List Site) (count : ℕ) → length ss ≡ count → length (all_there ss) ≡ count
-  all_long ss count long = length-map ss (λ (s : Site). Some s) ∙ long
+  all_long : (ss : List BlockSite) (count : ℕ) → length ss ≡ count → length (all_there ss) ≡ count
+  all_long ss count long = length-map ss (λ (s : BlockSite). Some s) ∙ long
 
   pub none_long : (count : ℕ) → length (none_there count) ≡ count
   none_long count = length-replicate count None
@@ -238,5 +238,5 @@ pub block_sites_low : (scene : Scene) (around : Around) (cs : List Located) (fro
     → block_sites scene around cs old new m number ≡ None
 block_sites_low scene around [] from number old new m along low = refl
 block_sites_low scene around (c ∷ cs) from number old new (mid, (next, (m, rest))) along low =
-    ap (λ (s : Option Site). site_or s (block_sites scene around cs mid new rest number)) (places_low c.first (command_sites scene c.command around old mid c.first next m) number (let b = along.0.behind in omega (arith, b, low)))
+    ap (λ (s : Option BlockSite). site_or s (block_sites scene around cs mid new rest number)) (places_low c.first (command_sites scene c.command around old mid c.first next m) number (let b = along.0.behind in omega (arith, b, low)))
     ∙ block_sites_low scene around cs (c.first + accesses_of c.command) number mid new rest along.1 (let b = along.0.behind in omega (arith, b, low))

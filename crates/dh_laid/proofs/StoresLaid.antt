@@ -19,7 +19,7 @@ use Rattle.dh_expressions.specs.Evaluated.{known_in}
 use Rattle.dh_expressions.specs.Reaching.{place_written}
 use Rattle.dh_expressions.specs.Shown.{kind_written}
 use Rattle.dh_expressions.proofs.Pushing.{extends_again, extends_self}
-use Rattle.dh_formed.specs.Formed.{AccessSuits, Agrees, AimSuits, Block, FormsAim, FormsPart, FormsTerm, FormsValue, HasKind, HeldSuits, IsNoted, IsScope, NamedSuits, Started, TermSuits}
+use Rattle.dh_formed.specs.Formed.{AccessSuits, Agrees, AimSuits, FormedBlock, FormsAim, FormsPart, FormsTerm, FormsValue, HasKind, HeldSuits, AreNotedReads, IsScope, NamedSuits, Started, TermSuits}
 use Rattle.dh_formed.proofs.AccessesFormed.{noted_later, scope_later}
 use Rattle.dh_formed.proofs.ElementsFormed.{aim_later, write_forms}
 use Rattle.dh_formed.proofs.TermsFormed.{all_numbered, aim_of_row, formed, numbered, through_formed}
@@ -34,15 +34,15 @@ use Rattle.dh_laid.proofs.ValuesLaid.{held_later}
 
 module _ (scene : Scene) (lane : Lane) (current : List (Option ℕ)) (target t : Term) (value : ℕ) where
   -- what an aim adds is formed, and what it gives names an element
-  record Aims (old new : Draft) (before after : Accesses) (memory number : ℕ) (aim : Aim) (First : Block → Type 0) : Type 0 where
+  record Aims (old new : Draft) (before after : Accesses) (memory number : ℕ) (aim : Aim) (First : FormedBlock → Type 0) : Type 0 where
     part : FormsPart scene lane current old new before after First
-    gives : (x : Block) → Agrees x new → Started x old → IsScope x old scene lane current → IsNoted x old before → First x → AimSuits x new memory (form_of target) aim
+    gives : (x : FormedBlock) → Agrees x new → Started x old → IsScope x old scene lane current → AreNotedReads x old before → First x → AimSuits x new memory (form_of target) aim
     number_is : aim.number ≡ number
 
-  abbrev StoresWhere : (old : Draft) → (memory number : ℕ) → (First : Block → Type 0) → Block → Type 0
+  abbrev StoresWhere : (old : Draft) → (memory number : ℕ) → (First : FormedBlock → Type 0) → FormedBlock → Type 0
   StoresWhere old memory number First x = HasKind x old (kind_written t) value × (First x × WritingSuits x scene lane memory number target t)
 
-  written : (old middle : Draft) (before between : Accesses) (new : Building) (memory number next : ℕ) (aim : Aim) (First : Block → Type 0) → Aims old middle before between memory number aim First
+  written : (old middle : Draft) (before between : Accesses) (new : Building) (memory number next : ℕ) (aim : Aim) (First : FormedBlock → Type 0) → Aims old middle before between memory number aim First
       → MadeStoring scene lane target t value (Some (aim, memory)) middle between new next → FormsPart scene lane current old new.draft before new.accesses (StoresWhere old memory number First)
   written old middle before between new memory number next aim First aims m =
       let held : FormsValue middle m.0 m.1.0 (λ x. HeldSuits t (kind_in (table_of (program_seen scene.program.now)) memory) × HasKind x middle (kind_written t) value) (λ x. kind_in (table_of (program_seen scene.program.now)) memory) =
@@ -66,7 +66,7 @@ module _ (scene : Scene) (lane : Lane) (current : List (Option ℕ)) (target t :
       }
     where
       suits : (h : FormsValue middle m.0 m.1.0 (λ x. HeldSuits t (kind_in (table_of (program_seen scene.program.now)) memory) × HasKind x middle (kind_written t) value) (λ x. kind_in (table_of (program_seen scene.program.now)) memory)) → Extends old m.0
-          → (x : Block) → Agrees x m.0 → Started x old → IsScope x old scene lane current → IsNoted x old before → StoresWhere old memory number First x
+          → (x : FormedBlock) → Agrees x m.0 → Started x old → IsScope x old scene lane current → AreNotedReads x old before → StoresWhere old memory number First x
           → (AimSuits x m.0 memory (form_of target) aim × AccessSuits x scene lane memory aim.number (place_written target) (form_of target) true) × HasKind x m.0 (kind_in x.plan.table memory) m.1.0
       suits h first x a s sc k w = (
         (
@@ -76,7 +76,7 @@ module _ (scene : Scene) (lane : Lane) (current : List (Option ℕ)) (target t :
         kind_same x m.0 _ _ m.1.0 w.1.1.same (h.gives x a (started_later x old middle aims.part.extends s) (w.1.1.holds, kind_later x old middle (kind_written t) value aims.part.extends w.0)),
       )
 
-  abbrev StoredWhere : (old : Draft) → (n : ℕ) → plain.TermForm → Block → Type 0
+  abbrev StoredWhere : (old : Draft) → (n : ℕ) → plain.TermForm → FormedBlock → Type 0
   StoredWhere old n form x = HasKind x old (kind_written t) value × (AimingSuits x scene lane n form × StoringSuits x scene lane n target t form)
 
   stored_none : (middle end : Draft) (between behind : Accesses) (new : Building) (next : ℕ) (form : plain.TermForm) (n : ℕ) → (end ≡ middle) × (behind ≡ between) → (new.draft ≡ end) × (new.accesses ≡ behind)
@@ -86,7 +86,7 @@ module _ (scene : Scene) (lane : Lane) (current : List (Option ℕ)) (target t :
       record {
         extends = subst (λ (d : Draft). Extends middle d) (sym same) (extends_self middle);
         forms = λ x ag s sc k w. forms_none x middle new.draft same;
-        notes = λ x ag s sc k w. subst (λ (d : Draft). IsNoted x d new.accesses) (sym same) (subst (λ (c : Accesses). IsNoted x middle c) (sym (m.1 ∙ a.1)) k);
+        notes = λ x ag s sc k w. subst (λ (d : Draft). AreNotedReads x d new.accesses) (sym same) (subst (λ (c : Accesses). AreNotedReads x middle c) (sym (m.1 ∙ a.1)) k);
       }
 
   stored_by : (form : plain.TermForm) (aimed : Option (Aim × ℕ)) (middle end : Draft) (between behind : Accesses) (new : Building) (n next : ℕ) → MadeAim scene lane current form middle end between behind n aimed

@@ -25,7 +25,7 @@ use Rattle.dh_expressions.specs.MadeTerms.{MadeRead, MadeTerm, MadeTerms, MadeWa
 use Rattle.dh_expressions.specs.Named.{first_view}
 use Rattle.dh_expressions.specs.Shown.{is_kept}
 use Rattle.dh_formed.specs.Counted.{AreNext, HaveGiven, given_at_paths, ranged, use_shared}
-use Rattle.dh_formed.specs.Formed.{Site}
+use Rattle.dh_formed.specs.Formed.{BlockSite}
 use Rattle.dh_formed.proofs.TermsCounted.{given_again, given_none, next_first, next_second}
 use Rattle.dh_formed.proofs.TermsFormed.{all_numbered, numbered}
 use Rattle.dh_formed.proofs.ValuesCounted.{number_counts, operation_counts, sees_any, variable_counts, way_counts}
@@ -42,12 +42,12 @@ use Rattle.dh_laid.proofs.SitesLaid.{sites_behind, sites_front, sites_last, term
 use Rattle.dh_laid.proofs.UsesAdded.{AddsNone, any_register, no_reach, converted_used, folded_used, held_used, no_accesses, none_none, none_pushed, none_then_uses, ranged_behind, ranged_then, uses_counted, uses_then_none}
 
 -- what is put down at a path, which reads so many accesses and uses so many, from a first one on
-pub record UsesLane (scene : Scene) (sites : ℕ → Option Site) (lane : Lane) (old new : Draft) (before after : Accesses) (n count all : ℕ) : Type 0 where
+pub record UsesLane (scene : Scene) (sites : ℕ → Option BlockSite) (lane : Lane) (old new : Draft) (before after : Accesses) (n count all : ℕ) : Type 0 where
   pub uses : AddsLedUses scene sites old new (ranged n all (λ access. use_shared (slice_get scene.shares.now access) (sites access) lane.number))
   pub given : HaveGiven lane before after n count
   pub led : AreLed sites after
 
-module _ (scene : Scene) (sites : ℕ → Option Site) (lane : Lane) where
+module _ (scene : Scene) (sites : ℕ → Option BlockSite) (lane : Lane) where
   abbrev Part : (old new : Draft) → (before after : Accesses) → (n count : ℕ) → Type 0
   Part old new before after n count = UsesPart scene sites lane old new before after n count
 
@@ -80,9 +80,9 @@ module _ (scene : Scene) (sites : ℕ → Option Site) (lane : Lane) where
 pub long_is : {A : Type 0} (n own : ℕ) (ss : List A) (count : ℕ) → length ss ≡ count → own ≡ n + count → own ≡ n + length ss
 long_is n own ss count long is = is ∙ ap (λ i. n + i) (sym long)
 
-module _ (scene : Scene) (sites : ℕ → Option Site) (lane : Lane) (stands : StandsIn scene lane.around) (within : lane.number < paths_counted lane.around) (current : List (Option ℕ)) where
+module _ (scene : Scene) (sites : ℕ → Option BlockSite) (lane : Lane) (stands : StandsIn scene lane.around) (within : lane.number < paths_counted lane.around) (current : List (Option ℕ)) where
   -- a read behind the values that name its element
-  read_behind : (place : Place) (k : Option Kind) (form : plain.TermForm) (memory : ℕ) (aim : Aim) (a b c : Draft) (x y z : Accesses) (n p v : ℕ) (ss : List Site) → length ss ≡ p → aim.number ≡ n + p
+  read_behind : (place : Place) (k : Option Kind) (form : plain.TermForm) (memory : ℕ) (aim : Aim) (a b c : Draft) (x y z : Accesses) (n p v : ℕ) (ss : List BlockSite) → length ss ≡ p → aim.number ≡ n + p
       → HasSites sites n (ss ++ read_site scene lane.around memory place form ∷ []) → AreNext scene lane x n (suc p) → UsesPart scene sites lane a b x y n p → MadeRead scene lane (plain.term place k form) memory aim b c y z v
       → UsesPart scene sites lane a c x z n (suc p)
   read_behind place k form memory aim a b c x y z n p v ss long is has next h m =
@@ -156,7 +156,7 @@ module _ (scene : Scene) (sites : ℕ → Option Site) (lane : Lane) (stands : S
   -- Stores.
 
   -- a write behind the values that name its element
-  write_behind : (place : Place) (k : Option Kind) (form : plain.TermForm) (memory : ℕ) (t : Term) (value : ℕ) (aim : Aim) (a b : Draft) (new : Building) (x y : Accesses) (n next p : ℕ) (ss : List Site) → length ss ≡ p → aim.number ≡ n + p
+  write_behind : (place : Place) (k : Option Kind) (form : plain.TermForm) (memory : ℕ) (t : Term) (value : ℕ) (aim : Aim) (a b : Draft) (new : Building) (x y : Accesses) (n next p : ℕ) (ss : List BlockSite) → length ss ≡ p → aim.number ≡ n + p
       → HasSites sites n (ss ++ write_site scene lane.around memory place form ∷ []) → PathsLead lane.around → IsUnshared scene (n + p) → UsesPart scene sites lane a b x y n p
       → MadeStoring scene lane (plain.term place k form) t value (Some (aim, memory)) b y new next → UsesLane scene sites lane a new.draft x new.accesses n p (suc p)
   write_behind place k form memory t value aim a b new x y n next p ss long is has leads alone h (d, (held, (holds, (write, next_is)))) =
@@ -203,7 +203,7 @@ module _ (scene : Scene) (sites : ℕ → Option Site) (lane : Lane) (stands : S
 
 -- Commands at a path.
 
-module _ (scene : Scene) (sites : ℕ → Option Site) (lane : Lane) (stands : StandsIn scene lane.around) (within : lane.number < paths_counted lane.around) (first : ℕ) (old new : Building) (next : ℕ) (led : AreLed sites old.accesses) where
+module _ (scene : Scene) (sites : ℕ → Option BlockSite) (lane : Lane) (stands : StandsIn scene lane.around) (within : lane.number < paths_counted lane.around) (first : ℕ) (old new : Building) (next : ℕ) (led : AreLed sites old.accesses) where
   abbrev UsesHere : (count all : ℕ) → Type 0
   UsesHere count all = UsesLane scene sites lane old.draft new.draft old.accesses new.accesses first count all
 

@@ -27,7 +27,7 @@ use Rattle.dh_expressions.specs.MadeValues.{MadeConverted, MadeHeld, MadeShown}
 use Rattle.dh_expressions.specs.Shown.{guard_of, kind_written, register_at}
 use Rattle.dh_formed.specs.Counted.{Counts, FormIs, nothing, ranged, use_shared}
 use Rattle.dh_expressions.specs.declared.scenes.Scene.{Scene}
-use Rattle.dh_formed.specs.Formed.{Site}
+use Rattle.dh_formed.specs.Formed.{BlockSite}
 use Rattle.dh_formed.proofs.ElementsFormed.{all_append}
 use Rattle.dh_formed.proofs.PartsCounted.{ranged_none, ranged_sum, uses_append}
 use Rattle.dh_formed.proofs.ValuesCounted.{held_counts, shown_counts}
@@ -55,7 +55,7 @@ used_nowhere share (suc n) = sum (used_by share None n) (use_shared share None n
     none (Some None) = refl
     none (Some (Some earlier)) = refl
 
-module _ (scene : Scene) (sites : ℕ → Option Site) where
+module _ (scene : Scene) (sites : ℕ → Option BlockSite) where
   -- no access was read or written
   abbrev pub AddsNone : (old new : Draft) → Type 0
   AddsNone old new = AddsLedUses scene sites old new nothing

@@ -12,7 +12,7 @@ use Rattle.dh_expressions.specs.Drafted.{Extends}
 use Rattle.dh_expressions.specs.Shown.{kind_written, register_at}
 use Rattle.dh_expressions.proofs.ListPlaces.{some_same}
 use Rattle.dh_expressions.proofs.Pushing.{extends_again}
-use Rattle.dh_formed.specs.Formed.{Block, FormsTerm, FormsValue, HasKind, HeldSuits, IsNoted, TermSuits}
+use Rattle.dh_formed.specs.Formed.{FormedBlock, FormsTerm, FormsValue, HasKind, HeldSuits, AreNotedReads, TermSuits}
 use Rattle.dh_formed.proofs.AccessesFormed.{noted_later}
 use Rattle.dh_formed.proofs.TermsFormed.{formed}
 use Rattle.dh_formed.proofs.ValuesFormed.{agrees_before, forms_again, held_forms, kind_later, kind_same, number_forms, started_later}
@@ -59,17 +59,17 @@ all_take P (suc n) [] a = tt
 all_take P (suc n) (c ∷ cs) a = (a.0, all_take P n cs a.1)
 
 -- Operations are added.
-pub held_later : (x : Block) (old new : Draft) (v : Values) → Extends old new → AreHeld x old v → AreHeld x new v
+pub held_later : (x : FormedBlock) (old new : Draft) (v : Values) → Extends old new → AreHeld x old v → AreHeld x new v
 held_later x old new v e h = record {
   current = λ register value at. kind_later x old new _ value e (h.current register value at);
   log = all_by (HadKind x old) (HadKind x new) (λ c k value is. kind_later x old new _ value e (k value is)) v.log.items h.log;
 }
 
 -- what registers hold, of their kinds
-abbrev pub AllHold : Block → Draft → List (Option ℕ) → Type 0
+abbrev pub AllHold : FormedBlock → Draft → List (Option ℕ) → Type 0
 AllHold x d current = (register value : ℕ) → slice_get current register ≡ Some (Some value) → HasKind x d (kind_at x.plan.registers register) value
 
-pub hold_set : (x : Block) (d : Draft) (current : List (Option ℕ)) (r : ℕ) (o : Option ℕ) → AllHold x d current → HoldsKind x d r o → AllHold x d (slice_set current r o)
+pub hold_set : (x : FormedBlock) (d : Draft) (current : List (Option ℕ)) (r : ℕ) (o : Option ℕ) → AllHold x d current → HoldsKind x d r o → AllHold x d (slice_set current r o)
 hold_set x d current r o all one register value at = by (set_cases current r register o (Some value) at)
   where
     by : ((register ≡ r) × (o ≡ Some value)) ⊎ (slice_get current register ≡ Some (Some value)) → HasKind x d (kind_at x.plan.registers register) value
@@ -77,7 +77,7 @@ hold_set x d current r o all one register value at = by (set_cases current r reg
     by (inr h) = all register value h
 
 -- a variable is assigned
-pub held_assigned : (x : Block) (d : Draft) (old new : Values) (register path value : ℕ) → Assigns old new register path value → HasKind x d (kind_at x.plan.registers register) value → AreHeld x d old → AreHeld x d new
+pub held_assigned : (x : FormedBlock) (d : Draft) (old new : Values) (register path value : ℕ) → Assigns old new register path value → HasKind x d (kind_at x.plan.registers register) value → AreHeld x d old → AreHeld x d new
 held_assigned x d old new register path value a k h = record {
   current =
       subst (λ (c : List (Option ℕ)). AllHold x d c) (sym a.current)
@@ -95,7 +95,7 @@ held_assigned x d old new register path value a k h = record {
     by (inr far) = subst (λ (cs : List Change). AllByRecursion (HadKind x d) cs) (sym (a.past (λ less. omega (arith, less, far)))) h.log
 
 -- assignments are taken back
-pub hold_undone : (x : Block) (d : Draft) (cs : List Change) (current : List (Option ℕ)) → AllHold x d current → AllByRecursion (HadKind x d) cs → AllHold x d (undone cs current)
+pub hold_undone : (x : FormedBlock) (d : Draft) (cs : List Change) (current : List (Option ℕ)) → AllHold x d current → AllByRecursion (HadKind x d) cs → AllHold x d (undone cs current)
 hold_undone x d [] current all had = all
 hold_undone x d (c ∷ cs) current all had = hold_set x d (undone cs current) c.register c.before (hold_undone x d cs current all had.1) had.0
 
@@ -137,7 +137,7 @@ clearings_form scene lane entity old new m =
       extends = value.extends;
       forms = λ x a s scope noted held w. record {
         forms = value.forms x a s w.0;
-        notes = noted_later x old.draft new.draft new.accesses value.extends (subst (λ k. IsNoted x old.draft k) (sym m.same) noted);
+        notes = noted_later x old.draft new.draft new.accesses value.extends (subst (λ k. AreNotedReads x old.draft k) (sym m.same) noted);
         held =
             held_assigned x new.draft old.values new.values (register_at (held_at scene.held.now entity) lane) lane.number m.value m.sets
             (kind_same x new.draft _ _ m.value w.1 (value.gives x a s w.0)) (held_later x old.draft new.draft old.values value.extends held);

@@ -28,7 +28,7 @@ use Rattle.dh_expressions.specs.Drafted.{Extends}
 use Rattle.dh_expressions.specs.Evaluated.{known_in}
 use Rattle.dh_expressions.specs.Reaching.{place_written}
 use Rattle.dh_expressions.specs.Shown.{kind_written, register_at}
-use Rattle.dh_formed.specs.Formed.{AccessSuits, Agrees, Block, Forms, HasKind, HeldSuits, IsExtension, IsGuard, IsNoted, IsScope, Started, TermSuits, operand_kind, NamedSuits}
+use Rattle.dh_formed.specs.Formed.{AccessSuits, Agrees, FormedBlock, Forms, HasKind, HeldSuits, IsExtension, IsGuard, AreNotedReads, IsScope, Started, TermSuits, operand_kind, NamedSuits}
 use Rattle.dh_commands.specs.declared.assignments.Change.{Change}
 use Rattle.dh_commands.specs.declared.assignments.Values.{Values}
 use Rattle.dh_commands.specs.declared.buildings.Building.{Building}
@@ -40,36 +40,36 @@ use Rattle.dh_commands.specs.Joined.{IsLeft}
 use Rattle.dh_commands.specs.Undone.{AreReady, EndsArm, HasRoom}
 
 -- what a register was given, if it was, is a value of the block of its kind
-abbrev pub HoldsKind : Block → Draft → (register : ℕ) → Option ℕ → Type 0
+abbrev pub HoldsKind : FormedBlock → Draft → (register : ℕ) → Option ℕ → Type 0
 HoldsKind x d register given = (value : ℕ) → given ≡ Some value → HasKind x d (kind_at x.plan.registers register) value
 
 -- what it had before it was assigned
-abbrev pub HadKind : Block → Draft → Change → Type 0
+abbrev pub HadKind : FormedBlock → Draft → Change → Type 0
 HadKind x d c = HoldsKind x d c.register c.before
 
 -- what variables were given, and had before, are values of the block, of the kinds of their registers
-pub record AreHeld (x : Block) (d : Draft) (v : Values) : Type 0 where
+pub record AreHeld (x : FormedBlock) (d : Draft) (v : Values) : Type 0 where
   pub current : (register value : ℕ) → slice_get v.current.items register ≡ Some (Some value) → HasKind x d (kind_at x.plan.registers register) value
   pub log : AllByRecursion (HadKind x d) v.log.items
 
 -- A command at one path: it forms what it adds where the scope and what is noted and held are of the block, and what
 -- is noted and held behind it is.
-pub record FormsThere (x : Block) (old new : Building) : Type 0 where
+pub record FormsThere (x : FormedBlock) (old new : Building) : Type 0 where
   pub forms : Forms x old.draft new.draft
-  pub notes : IsNoted x new.draft new.accesses
+  pub notes : AreNotedReads x new.draft new.accesses
   pub held : AreHeld x new.draft new.values
 
-pub record FormsAtPath (scene : Scene) (lane : Lane) (old new : Building) (Where : Block → Type 0) : Type 0 where
+pub record FormsAtPath (scene : Scene) (lane : Lane) (old new : Building) (Where : FormedBlock → Type 0) : Type 0 where
   pub extends : Extends old.draft new.draft
-  pub forms : (x : Block) → Agrees x new.draft → Started x old.draft → IsScope x old.draft scene lane old.values.current.items → IsNoted x old.draft old.accesses → AreHeld x old.draft old.values → Where x
+  pub forms : (x : FormedBlock) → Agrees x new.draft → Started x old.draft → IsScope x old.draft scene lane old.values.current.items → AreNotedReads x old.draft old.accesses → AreHeld x old.draft old.values → Where x
       → FormsThere x old new
 
 -- a value of its kind for the register of a variable at a path
-abbrev pub FitsRegister : Block → Scene → Lane → (entity : ℕ) → Type 0
+abbrev pub FitsRegister : FormedBlock → Scene → Lane → (entity : ℕ) → Type 0
 FitsRegister x scene lane entity = (held_at scene.held.now entity).kind ≡ kind_at x.plan.registers (register_at (held_at scene.held.now entity) lane)
 
 -- values of offsets for those of variables that keep them, whose entities follow one another
-abbrev pub KeptFits : Block → Scene → Lane → (first : ℕ) → (offsets : List Term) → Type 0
+abbrev pub KeptFits : FormedBlock → Scene → Lane → (first : ℕ) → (offsets : List Term) → Type 0
 KeptFits x scene lane first [] = Unit {0}
 KeptFits x scene lane first (t ∷ ts) = (HeldSuits t (held_at scene.held.now first).kind × FitsRegister x scene lane first) × KeptFits x scene lane (suc first) ts
 
@@ -87,17 +87,17 @@ ClearingsForm =
 -- Arms.
 
 -- these are guards, and these truths, of the block
-abbrev pub AreGuardsThere : Block → Draft → List (Option ℕ) → Type 0
+abbrev pub AreGuardsThere : FormedBlock → Draft → List (Option ℕ) → Type 0
 AreGuardsThere x d guards = (path : ℕ) (guard : Option ℕ) → slice_get guards path ≡ Some guard → IsGuard x d guard
 
-abbrev pub AreTruths : Block → Draft → List ℕ → Type 0
-AreTruths x d tests = (path test : ℕ) → slice_get tests path ≡ Some test → HasKind x d Bool test
+abbrev pub TestsAreTruths : FormedBlock → Draft → List ℕ → Type 0
+TestsAreTruths x d tests = (path test : ℕ) → slice_get tests path ≡ Some test → HasKind x d Bool test
 
 -- the guards of an arm
 pub record FormsGuards (old new : Draft) (guards : List (Option ℕ)) (tests : List ℕ) (arm : List (Option ℕ)) : Type 0 where
   pub extends : Extends old new
-  pub forms : (x : Block) → Agrees x new → Started x old → AreGuardsThere x old guards → AreTruths x old tests → Forms x old new
-  pub gives : (x : Block) → Agrees x new → Started x old → AreGuardsThere x old guards → AreTruths x old tests → AreGuardsThere x new arm
+  pub forms : (x : FormedBlock) → Agrees x new → Started x old → AreGuardsThere x old guards → TestsAreTruths x old tests → Forms x old new
+  pub gives : (x : FormedBlock) → Agrees x new → Started x old → AreGuardsThere x old guards → TestsAreTruths x old tests → AreGuardsThere x new arm
 
 abbrev pub ArmGuardsForm : Type 0
 ArmGuardsForm =
@@ -106,21 +106,21 @@ ArmGuardsForm =
 
 -- an arm that is taken back
 abbrev pub ArmsEnd : Type 0
-ArmsEnd = (x : Block) (d : Draft) (old new : Values) (floor : ℕ) (lefts : List Left) → EndsArm old new floor lefts → AreHeld x d old → AreHeld x d new
+ArmsEnd = (x : FormedBlock) (d : Draft) (old new : Values) (floor : ℕ) (lefts : List Left) → EndsArm old new floor lefts → AreHeld x d old → AreHeld x d new
 
 -- All paths.
 
 -- guards of all paths are of the block, and these are few
-pub record StandsRound (x : Block) (d : Draft) (scene : Scene) (around : Around) : Type 0 where
+pub record StandsRound (x : FormedBlock) (d : Draft) (scene : Scene) (around : Around) : Type 0 where
   pub guards : AreGuardsThere x d around.guards.now
   pub scopes : HasScopes scene
   pub low : length around.levels.now < 2 ^ 63
   pub few : length around.guards.now < 2 ^ 64
 
 -- a command at the first paths, so many
-pub record FormsAround (scene : Scene) (around : Around) (old new : Building) (Where : Block → Type 0) : Type 0 where
+pub record FormsAround (scene : Scene) (around : Around) (old new : Building) (Where : FormedBlock → Type 0) : Type 0 where
   pub extends : Extends old.draft new.draft
-  pub forms : (x : Block) → Agrees x new.draft → Started x old.draft → StandsRound x old.draft scene around → IsNoted x old.draft old.accesses → AreHeld x old.draft old.values → Where x → FormsThere x old new
+  pub forms : (x : FormedBlock) → Agrees x new.draft → Started x old.draft → StandsRound x old.draft scene around → AreNotedReads x old.draft old.accesses → AreHeld x old.draft old.values → Where x → FormsThere x old new
 
 -- assignments, and variables that are set to 0 or false
 abbrev pub AllAssignmentsForm : Type 0
@@ -136,13 +136,13 @@ AllClearingsForm =
     → FormsAround scene around old new (λ x. (n : ℕ) → n < count → IsKind (held_at scene.held.now entity).kind × FitsRegister x scene (lane_of around n) entity)
 
 -- tests at the first paths, which are truths
-pub record FormsTested (x : Block) (old new : Building) (tests : List ℕ) : Type 0 where
+pub record FormsTested (x : FormedBlock) (old new : Building) (tests : List ℕ) : Type 0 where
   pub there : FormsThere x old new
-  pub truths : AreTruths x new.draft tests
+  pub truths : TestsAreTruths x new.draft tests
 
 pub record FormsTests (scene : Scene) (around : Around) (first : ℕ) (t : Term) (count : ℕ) (old new : Building) (tests : List ℕ) : Type 0 where
   pub extends : Extends old.draft new.draft
-  pub forms : (x : Block) → Agrees x new.draft → Started x old.draft → StandsRound x old.draft scene around → IsNoted x old.draft old.accesses → AreHeld x old.draft old.values
+  pub forms : (x : FormedBlock) → Agrees x new.draft → Started x old.draft → StandsRound x old.draft scene around → AreNotedReads x old.draft old.accesses → AreHeld x old.draft old.values
       → ((n : ℕ) → n < count → TermSuits x scene (lane_of around n) first t) → FormsTested x old new tests
 
 abbrev pub TestsForm : Type 0
@@ -153,21 +153,21 @@ TestsForm =
 -- Variables behind an `if`.
 
 -- both values of a choice are of the kind of its register
-pub record ChoiceSuits (x : Block) (d : Draft) (c : Choice) : Type 0 where
+pub record ChoiceSuits (x : FormedBlock) (d : Draft) (c : Choice) : Type 0 where
   pub there : c.register < length x.plan.registers
   pub chosen : HoldsKind x d c.register c.chosen
   pub other : HoldsKind x d c.register c.other
 
-abbrev pub ChoicesSuit : Block → Draft → List Choice → Type 0
+abbrev pub ChoicesSuit : FormedBlock → Draft → List Choice → Type 0
 ChoicesSuit x d choices = (k : ℕ) (c : Choice) → slice_get choices k ≡ Some c → ChoiceSuits x d c
 
-pub record FormsChosen (x : Block) (old new : Draft) (after : Values) : Type 0 where
+pub record FormsChosen (x : FormedBlock) (old new : Draft) (after : Values) : Type 0 where
   pub forms : Forms x old new
   pub held : AreHeld x new after
 
 pub record FormsChoices (tests : List ℕ) (choices : List Choice) (old new : Draft) (before after : Values) : Type 0 where
   pub extends : Extends old new
-  pub forms : (x : Block) → Agrees x new → Started x old → AreTruths x old tests → AreHeld x old before → ChoicesSuit x old choices → FormsChosen x old new after
+  pub forms : (x : FormedBlock) → Agrees x new → Started x old → TestsAreTruths x old tests → AreHeld x old before → ChoicesSuit x old choices → FormsChosen x old new after
 
 abbrev pub ChoicesForm : Type 0
 ChoicesForm =
@@ -176,24 +176,24 @@ ChoicesForm =
 
 -- What arms left.
 
-abbrev pub LeftHolds : Block → Draft → Left → Type 0
+abbrev pub LeftHolds : FormedBlock → Draft → Left → Type 0
 LeftHolds x d l = HoldsKind x d l.register l.value
 
 -- what an arm that is taken back left is of the kinds of its registers
 abbrev pub ArmsLeave : Type 0
 ArmsLeave =
-    (x : Block) (d : Draft) (old new : Values) (floor : ℕ) (lefts : List Left) → EndsArm old new floor lefts → AllByRecursion (HasRoom old.current.items) (drop floor old.log.items) → AreHeld x d old
+    (x : FormedBlock) (d : Draft) (old new : Values) (floor : ℕ) (lefts : List Left) → EndsArm old new floor lefts → AllByRecursion (HasRoom old.current.items) (drop floor old.log.items) → AreHeld x d old
     → AllByRecursion (LeftHolds x d) lefts
 
 -- what both arms of an `if` left
-pub record AreLeft (x : Block) (d : Draft) (v : Values) (lefts : List Left) : Type 0 where
+pub record AreLeft (x : FormedBlock) (d : Draft) (v : Values) (lefts : List Left) : Type 0 where
   pub left : AllByRecursion (IsLeft v.current.items) lefts
   pub hold : AllByRecursion (LeftHolds x d) lefts
 
 -- variables behind an `if` are given values, where choices can be marked
 pub record FormsJoined (tests : List ℕ) (chosen other : List Left) (old new : Building) : Type 0 where
   pub extends : Extends old.draft new.draft
-  pub forms : (x : Block) → Agrees x new.draft → Started x old.draft → AreTruths x old.draft tests → IsNoted x old.draft old.accesses → AreHeld x old.draft old.values → AreReady old.values
+  pub forms : (x : FormedBlock) → Agrees x new.draft → Started x old.draft → TestsAreTruths x old.draft tests → AreNotedReads x old.draft old.accesses → AreHeld x old.draft old.values → AreReady old.values
       → length old.values.current.items ≤ length x.plan.registers → AreLeft x old.draft old.values chosen → AreLeft x old.draft old.values other → FormsThere x old new
 
 abbrev pub JoinsForm : Type 0
@@ -233,18 +233,18 @@ aim_accesses (plain.in_bank r bank at row) = term_accesses row
 aim_accesses form = 0
 
 -- what names the element that is stored is there, and of integer kinds
-abbrev pub AimingSuits : Block → Scene → Lane → (n : ℕ) → plain.TermForm → Type 0
+abbrev pub AimingSuits : FormedBlock → Scene → Lane → (n : ℕ) → plain.TermForm → Type 0
 AimingSuits x scene lane n (plain.accessed r ts) = NamedSuits x scene lane n r ts
 AimingSuits x scene lane n (plain.in_bank r bank at row) = TermSuits x scene lane n row × IsInteger (kind_written row)
 AimingSuits x scene lane n form = Unit {0}
 
 -- the access stands in the block, and its memory can hold the value
-pub record WritingSuits (x : Block) (scene : Scene) (lane : Lane) (memory number : ℕ) (target t : Term) : Type 0 where
+pub record WritingSuits (x : FormedBlock) (scene : Scene) (lane : Lane) (memory number : ℕ) (target t : Term) : Type 0 where
   pub access : AccessSuits x scene lane memory number (place_written target) (form_of target) true
   pub holds : HeldSuits t (kind_in (table_of (program_seen scene.program.now)) memory)
   pub same : kind_in (table_of (program_seen scene.program.now)) memory ≡ kind_in x.plan.table memory
 
-abbrev pub StoringSuits : Block → Scene → Lane → (n : ℕ) → (target t : Term) → plain.TermForm → Type 0
+abbrev pub StoringSuits : FormedBlock → Scene → Lane → (n : ℕ) → (target t : Term) → plain.TermForm → Type 0
 StoringSuits x scene lane n target t (plain.accessed r ts) = WritingSuits x scene lane (memory_of (known_in scene) r) (n + terms_accesses ts) target t
 StoringSuits x scene lane n target t (plain.in_bank r bank at row) = WritingSuits x scene lane (memory_of (known_in scene) r) (n + term_accesses row) target t
 StoringSuits x scene lane n target t form = Unit {0}

@@ -17,7 +17,7 @@ use Rattle.dh_expressions.specs.Copying.{AreNone}
 use Rattle.dh_expressions.specs.Drafted.{Extends}
 use Rattle.dh_expressions.specs.MadeTerms.{MadeTerm}
 use Rattle.dh_expressions.specs.Noted.{copy_or_alone, touched_in}
-use Rattle.dh_expressions.specs.Standings.{Standing}
+use Rattle.dh_expressions.specs.Standings.{AccessStanding}
 use Rattle.dh_commands.specs.declared.buildings.Building.{Building}
 use Rattle.dh_commands.specs.MadeCommands.{MadeCommand, MadeGroups, MadeTests}
 use Rattle.dh_laid.specs.BlockSites.{MadeEach}
@@ -32,8 +32,8 @@ place_named None = record { line = 0; column = 0 }
 place_named (Some f) = f.1
 
 -- by the copies that it has, whatever banks they can reach; a path is done where that is which leads it
-abbrev pub standing_of : List (FaultKind × Place) → Touched → Standing
-standing_of named t = record {
+abbrev pub access_standing_of : List (FaultKind × Place) → Touched → AccessStanding
+access_standing_of named t = record {
   place = place_named (slice_get named t.fault);
   leader = λ path. (copy_in t path).leader;
   bank = λ path. (copy_in t path).bank;

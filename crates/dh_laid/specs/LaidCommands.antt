@@ -20,7 +20,7 @@ use Rattle.dh_expressions.specs.declared.scenes.Scene.{Scene}
 use Rattle.dh_expressions.specs.Drafted.{Extends}
 use Rattle.dh_expressions.specs.Evaluated.{known_in}
 use Rattle.dh_expressions.specs.Shown.{kind_written, register_at}
-use Rattle.dh_formed.specs.Formed.{Agrees, AreNumbers, Block, HeldSuits, IsNoted, Started, TermSuits, TermsSuit}
+use Rattle.dh_formed.specs.Formed.{Agrees, AreNumbers, FormedBlock, HeldSuits, AreNotedReads, Started, TermSuits, TermsSuit}
 use Rattle.dh_commands.specs.declared.assignments.Values.{Values}
 use Rattle.dh_commands.specs.declared.buildings.Building.{Building}
 use Rattle.dh_commands.specs.declared.choices.Left.{Left}
@@ -71,7 +71,7 @@ module _ (scene : Scene) where
 
 -- Kinds.
 
-module _ (x : Block) (scene : Scene) (around : Around) where
+module _ (x : FormedBlock) (scene : Scene) (around : Around) where
   abbrev pub AssignmentSuits : (first entity : ℕ) → Term → Type 0
   AssignmentSuits first entity t =
       (n : ℕ) → n < paths_counted around → (TermSuits x scene (lane_of around n) first t × HeldSuits t (held_at scene.held.now entity).kind) × FitsRegister x scene (lane_of around n) entity
@@ -100,7 +100,7 @@ module _ (x : Block) (scene : Scene) (around : Around) where
   abbrev pub TestSuits : (first : ℕ) → Term → Type 0
   TestSuits first t = (kind_written t ≡ Bool) × ((n : ℕ) → n < paths_counted around → TermSuits x scene (lane_of around n) first t)
 
-module _ (x : Block) (scene : Scene) where
+module _ (x : FormedBlock) (scene : Scene) where
   abbrev mutual
     -- the kinds of a command suit one another, and all that it takes is there
     pub CommandSuits : (a : Action) → (around : Around) → (old new : Building) → (first next : ℕ) → MadeCommand scene a around old new first next → Type 0
@@ -135,7 +135,7 @@ module _ (x : Block) (scene : Scene) where
     GroupsSuit (group_then g rest) around old new first next m = ActionsSuit g around old m.middle first m.own m.one × GroupsSuit rest around m.middle new m.own next m.rest
 
 -- commands of a block, put down one after the other, suit each
-abbrev pub EachSuits : (x : Block) (scene : Scene) (around : Around) (cs : List Located) (old new : Building) → MadeEach scene around cs old new → Type 0
+abbrev pub EachSuits : (x : FormedBlock) (scene : Scene) (around : Around) (cs : List Located) (old new : Building) → MadeEach scene around cs old new → Type 0
 EachSuits x scene around [] old new m = Unit {0}
 EachSuits x scene around (c ∷ cs) old new (mid, (next, (m, rest))) = CommandSuits x scene c.command around old mid c.first next m × EachSuits x scene around cs mid new rest
 
@@ -151,16 +151,16 @@ AreLogged old new = Logs (λ c. Unit {0}) old new
 
 -- Values of the variables stand as they do at the begin of a command: none of the marks is set, and those that can be
 -- given are of registers of the plan.
-pub record StandsHeld (x : Block) (d : Draft) (v : Values) : Type 0 where
+pub record StandsHeld (x : FormedBlock) (d : Draft) (v : Values) : Type 0 where
   pub held : AreHeld x d v
   pub ready : AreReady v
   pub long : length v.current.items ≤ length x.plan.registers
 
 -- a command: it forms what it adds, and what is noted and held behind it is of the block
-pub record FormsCommand (scene : Scene) (around : Around) (old new : Building) (Where : Block → Type 0) : Type 0 where
+pub record FormsCommand (scene : Scene) (around : Around) (old new : Building) (Where : FormedBlock → Type 0) : Type 0 where
   pub extends : Extends old.draft new.draft
   pub logs : AreReady old.values → AreLogged old.values new.values
-  pub forms : (x : Block) → Agrees x new.draft → Started x old.draft → StandsRound x old.draft scene around → IsNoted x old.draft old.accesses → StandsHeld x old.draft old.values → Where x → FormsThere x old new
+  pub forms : (x : FormedBlock) → Agrees x new.draft → Started x old.draft → StandsRound x old.draft scene around → AreNotedReads x old.draft old.accesses → StandsHeld x old.draft old.values → Where x → FormsThere x old new
 
 -- Commands, and parts of a block.
 

@@ -89,22 +89,22 @@ abbrev pub IsOutside : (first count number : ℕ) → Type 0
 IsOutside first count number = (number < first) ⊎ (first + count ≤ number)
 
 -- as many accesses were put down, from a first one on, and no others were touched
-pub record Numbers (old new : Building) (first count next : ℕ) : Type 0 where
+pub record NumbersLaid (old new : Building) (first count next : ℕ) : Type 0 where
   pub next_is : next ≡ first + count
   pub only : (number : ℕ) → IsOutside first count number → touched_in new.accesses number ≡ touched_in old.accesses number
 
 abbrev pub CommandsNumber : Type 0
 CommandsNumber =
     (scene : Scene) (a : Action) (around : Around) (old new : Building) (first next : ℕ) (m : MadeCommand scene a around old new first next) → IsStraight a → 0 < paths_counted around → first + accesses_of a < 2 ^ 32
-    → AreFew scene a around old new first next m × Numbers old new first (accesses_of a) next
+    → AreFew scene a around old new first next m × NumbersLaid old new first (accesses_of a) next
 
 -- so also of a command with loops in it that have no phase, or with views: their accesses have numbers, and no operations
 abbrev pub ReachingNumber : Type 0
 ReachingNumber =
     (scene : Scene) (a : Action) (around : Around) (old new : Building) (first next : ℕ) (m : MadeCommand scene a around old new first next) → StoresReach a → 0 < paths_counted around → first + accesses_of a < 2 ^ 32
-    → AreFew scene a around old new first next m × Numbers old new first (accesses_of a) next
+    → AreFew scene a around old new first next m × NumbersLaid old new first (accesses_of a) next
 
 abbrev pub GroupsNumber : Type 0
 GroupsNumber =
     (scene : Scene) (body : Groups) (around : Around) (old new : Building) (first next : ℕ) (m : MadeGroups scene body around old new first next) → AreStraightGroups body → 0 < paths_counted around
-    → first + groups_accesses body < 2 ^ 32 → AreFewGroups scene body around old new first next m × Numbers old new first (groups_accesses body) next
+    → first + groups_accesses body < 2 ^ 32 → AreFewGroups scene body around old new first next m × NumbersLaid old new first (groups_accesses body) next

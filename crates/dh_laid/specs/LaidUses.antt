@@ -21,7 +21,7 @@ use Rattle.dh_expressions.specs.Noted.{touched_in}
 use Rattle.dh_expressions.specs.Numbers.{narrowed}
 use Rattle.dh_expressions.specs.Standings.{banks_at}
 use Rattle.dh_formed.specs.Counted.{use_shared}
-use Rattle.dh_formed.specs.Formed.{Site}
+use Rattle.dh_formed.specs.Formed.{BlockSite}
 use Rattle.dh_commands.specs.declared.buildings.Building.{Building}
 use Rattle.dh_commands.specs.LanesRun.{paths_counted}
 use Rattle.dh_commands.specs.MadeCommands.{MadeTests}
@@ -41,8 +41,8 @@ pub record AddsUses (old new : Draft) (uses : (access : ℕ) → ℕ) : Type 0 w
 
 -- A read or a write of an access that has a site in the block: it is done for a path that leads, on the banks of that
 -- path, and the access shares no earlier one.
-pub record IsLeadersUse (scene : Scene) (sites : ℕ → Option Site) (r : Reach) : Type 0 where
-  pub site : Site
+pub record IsLeadersUse (scene : Scene) (sites : ℕ → Option BlockSite) (r : Reach) : Type 0 where
+  pub site : BlockSite
   pub there : sites r.access ≡ Some site
   pub memory_is : r.memory ≡ narrowed site.memory
   pub path : ℕ
@@ -52,21 +52,21 @@ pub record IsLeadersUse (scene : Scene) (sites : ℕ → Option Site) (r : Reach
   pub alone : (earlier : ℕ) → slice_get scene.shares.now r.access ≡ Some (Some earlier) → ⊥
 
 -- so is each of these that reads or writes
-abbrev pub AreLedUses : Scene → (sites : ℕ → Option Site) → List Operation → Type 0
+abbrev pub AreLedUses : Scene → (sites : ℕ → Option BlockSite) → List Operation → Type 0
 AreLedUses scene sites os = AllByRecursion (λ o. (r : Reach) → use_in o.form ≡ Some r → IsLeadersUse scene sites r) os
 
 -- an operation reaches the memory of an access that has a site
-pub record IsSitesReach (sites : ℕ → Option Site) (r : Reach) : Type 0 where
-  pub site : Site
+pub record IsSitesReach (sites : ℕ → Option BlockSite) (r : Reach) : Type 0 where
+  pub site : BlockSite
   pub there : sites r.access ≡ Some site
   pub memory_is : r.memory ≡ narrowed site.memory
 
 -- so does each of these that reaches a memory, probes too
-abbrev pub AreSitesReaches : (sites : ℕ → Option Site) → List Operation → Type 0
+abbrev pub AreSitesReaches : (sites : ℕ → Option BlockSite) → List Operation → Type 0
 AreSitesReaches sites os = AllByRecursion (λ o. (r : Reach) → access_in o.form ≡ Some r → IsSitesReach sites r) os
 
 -- so many were added, and each is so
-pub record AddsLedUses (scene : Scene) (sites : ℕ → Option Site) (old new : Draft) (uses : (access : ℕ) → ℕ) : Type 0 where
+pub record AddsLedUses (scene : Scene) (sites : ℕ → Option BlockSite) (old new : Draft) (uses : (access : ℕ) → ℕ) : Type 0 where
   pub more : List Operation
   pub adds : new.operations.items ≡ old.operations.items ++ more
   pub uses_are : (access : ℕ) → operations_using access more ≡ uses access
@@ -74,16 +74,16 @@ pub record AddsLedUses (scene : Scene) (sites : ℕ → Option Site) (old new : 
   pub reaches : AreSitesReaches sites more
 
 -- at the first paths, so many
-abbrev pub used_by : (share : Option (Option ℕ)) → Option Site → (paths : ℕ) → ℕ
+abbrev pub used_by : (share : Option (Option ℕ)) → Option BlockSite → (paths : ℕ) → ℕ
 used_by share site zero = 0
 used_by share site (suc n) = used_by share site n + use_shared share site n
 
 -- of the access of a number
-abbrev pub used_to : Scene → (sites : ℕ → Option Site) → (paths access : ℕ) → ℕ
+abbrev pub used_to : Scene → (sites : ℕ → Option BlockSite) → (paths access : ℕ) → ℕ
 used_to scene sites paths access = used_by (slice_get scene.shares.now access) (sites access) paths
 
 -- an access of the block is probed at each path
-abbrev pub probed_by : Option Site → (paths : ℕ) → ℕ
+abbrev pub probed_by : Option BlockSite → (paths : ℕ) → ℕ
 probed_by None paths = 0
 probed_by (Some s) paths = paths
 
@@ -94,10 +94,10 @@ abbrev pub PathsLead : Around → Type 0
 PathsLead around = (path : ℕ) → path < paths_counted around → leader_number around.levels.now (λ level. true) path ≡ path
 
 -- an access of the block shares an earlier one of the block, at most
-pub record SharesInside (scene : Scene) (sites : ℕ → Option Site) : Type 0 where
-  pub known : (number : ℕ) (s : Site) → sites number ≡ Some s → number < length scene.shares.now
-  pub earlier : (number shared : ℕ) (s : Site) → sites number ≡ Some s → slice_get scene.shares.now number ≡ Some (Some shared) → shared < number
-  pub inside : (number shared : ℕ) (s : Site) → sites number ≡ Some s → slice_get scene.shares.now number ≡ Some (Some shared) → (t : Site) × (sites shared ≡ Some t)
+pub record SharesInside (scene : Scene) (sites : ℕ → Option BlockSite) : Type 0 where
+  pub known : (number : ℕ) (s : BlockSite) → sites number ≡ Some s → number < length scene.shares.now
+  pub earlier : (number shared : ℕ) (s : BlockSite) → sites number ≡ Some s → slice_get scene.shares.now number ≡ Some (Some shared) → shared < number
+  pub inside : (number shared : ℕ) (s : BlockSite) → sites number ≡ Some s → slice_get scene.shares.now number ≡ Some (Some shared) → (t : BlockSite) × (sites shared ≡ Some t)
 
 -- an access shares none, and none shares it
 pub record IsUnshared (scene : Scene) (number : ℕ) : Type 0 where
@@ -105,10 +105,10 @@ pub record IsUnshared (scene : Scene) (number : ℕ) : Type 0 where
   pub other : (reader : ℕ) → slice_get scene.shares.now reader ≡ Some (Some number) → ⊥
 
 -- none of the accesses of a block has operations as it begins, and no bank is counted
-pub record HaveNoOperations (sites : ℕ → Option Site) (a : Accesses) : Type 0 where
+pub record HaveNoOperations (sites : ℕ → Option BlockSite) (a : Accesses) : Type 0 where
   pub none : AreNone a.counts.items
-  pub there : (number : ℕ) (s : Site) → sites number ≡ Some s → number < length a.touched.items
-  pub bare : (number : ℕ) (s : Site) → sites number ≡ Some s → touched_in a number ≡ None
+  pub there : (number : ℕ) (s : BlockSite) → sites number ≡ Some s → number < length a.touched.items
+  pub bare : (number : ℕ) (s : BlockSite) → sites number ≡ Some s → touched_in a number ≡ None
 
 -- Something holds of each write of a command, by the number of the write.
 module _ (P : (number : ℕ) → Type 0) where

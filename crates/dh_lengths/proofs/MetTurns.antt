@@ -7,7 +7,7 @@ use Rattle.std.proofs.Math.Seq.{take-suc}
 use Rattle.dh_events.specs.declared.classes.Key.{Key}
 use Rattle.dh_events.specs.declared.events.Event.{Event}
 use Rattle.dh_events.specs.declared.events.Event.TheVariants as event
-use Rattle.dh_events.specs.Classes.{Extends}
+use Rattle.dh_events.specs.Classes.{ExtendsKeys}
 use Rattle.dh_events.proofs.Turns.{at_place}
 use Rattle.dh_ports.specs.Scanned.{read_key}
 use Rattle.dh_lengths.specs.declared.live.Live.{Live}
@@ -21,11 +21,11 @@ absurd : {A : Type 0} → ⊥ → A
 absurd e = elim e [ ]
 
 -- more keys leave what was met so far
-key_later : (old new : List Key) (o : Option Key) (m : Met) → Extends old new → IsKeyMet old o m → IsKeyMet new o m
+key_later : (old new : List Key) (o : Option Key) (m : Met) → ExtendsKeys old new → IsKeyMet old o m → IsKeyMet new o m
 key_later old new None m e h = h
 key_later old new (Some k) m e (class, (there, is)) = (class, (e class k there, is))
 
-met_later : (old new : List Key) (x : Event) (m : Met) → Extends old new → IsMet old x m → IsMet new x m
+met_later : (old new : List Key) (x : Event) (m : Met) → ExtendsKeys old new → IsMet old x m → IsMet new x m
 met_later old new (event.Touch writes phase round access element newest) m e h = key_later old new (read_key (event.Touch writes phase round access element newest)) m e h
 met_later old new (event.Assigned entity) m e h = h
 met_later old new event.ArmBegins m e h = h
@@ -34,7 +34,7 @@ met_later old new event.Begins m e h = h
 met_later old new event.Next m e h = h
 met_later old new event.Ends m e h = h
 
-all_later : (old new : List Key) (es : List Event) (ms : List Met) → Extends old new → AreMet old es ms → AreMet new es ms
+all_later : (old new : List Key) (es : List Event) (ms : List Met) → ExtendsKeys old new → AreMet old es ms → AreMet new es ms
 all_later old new [] [] e h = tt
 all_later old new [] (m ∷ ms) e h = h
 all_later old new (x ∷ es) [] e h = h
@@ -46,7 +46,7 @@ one_more known [] (n ∷ ms) x m h i = absurd h
 one_more known (y ∷ es) [] x m h i = absurd h
 one_more known (y ∷ es) (n ∷ ms) x m h i = (h.0, one_more known es ms x m h.1 i)
 
-pub met_turn : (old new : List Key) → Extends old new → (es : List Event) (i : ℕ) (x : Event) (ms ms1 : List Met) (m : Met) → i < length es → x ≡ get_or es i x → AreMet old (take i es) ms → IsMet new x m → ms1 ≡ ms ++ m ∷ []
+pub met_turn : (old new : List Key) → ExtendsKeys old new → (es : List Event) (i : ℕ) (x : Event) (ms ms1 : List Met) (m : Met) → i < length es → x ≡ get_or es i x → AreMet old (take i es) ms → IsMet new x m → ms1 ≡ ms ++ m ∷ []
     → AreMet new (take (i + 1) es) ms1
 met_turn old new e es i x ms ms1 m within is so now more =
     subst (λ (l : List Met). AreMet new (take (i + 1) es) l) (sym more)

@@ -27,12 +27,12 @@ use Rattle.dh_events.specs.declared.events.Site.{Site}
 use Rattle.dh_events.specs.declared.structures.Structure.{Structure}
 use Rattle.dh_events.specs.Accesses.{entity_in, element_in}
 use Rattle.dh_events.specs.Classes as classes
-use Rattle.dh_events.specs.Elements.{assigned_at, clocks_after, element_of, IsElement, IsRead, AreReads, no_clocks}
-use Rattle.dh_events.specs.Incidents.{Incident, touches, site_at, closed, incidents}
+use Rattle.dh_events.specs.Elements.{moment_assigned_at, clocks_after, element_of, IsElement, IsRead, AreReads, no_clocks}
+use Rattle.dh_events.specs.Incidents.{PortEvent, touches, site_at, closed, incidents}
 use Rattle.dh_events.specs.Incidents as incident
 use Rattle.dh_events.specs.Noted.{event_seen, all_seen}
 use Rattle.dh_events.specs.Stages.{stages_in}
-use Rattle.dh_events.specs.Structures.{AreDistinct}
+use Rattle.dh_events.specs.Structures.{StructuresAreDistinct}
 use Rattle.dh_ports.specs.Levels.{Level, start, begun, gone_back, taken}
 use Rattle.dh_ports.specs.Scanned.{key_with, read_key}
 use Rattle.dh_ports.specs.Wholes.{no_stages, happenings_of, Touched, touched_by, of_access, sites_in, TellsPhases, AreEventsOf}
@@ -326,7 +326,7 @@ no_some : (o : Option ℕ) → is_some o ≡ false → o ≡ None
 no_some None e = refl
 no_some (Some n) e = cc
 
-module _ (w : Walk) (phased : Phased w) (apart_keys : classes.AreDistinct w.keys) (apart_structures : AreDistinct w.structures) (v : ℕ → ℕ) (number : ℕ) (site : Site) (sited : slice_get w.sites number ≡ Some site)
+module _ (w : Walk) (phased : Phased w) (apart_keys : classes.KeysAreDistinct w.keys) (apart_structures : StructuresAreDistinct w.structures) (v : ℕ → ℕ) (number : ℕ) (site : Site) (sited : slice_get w.sites number ≡ Some site)
     (x : SourceAccess) (key : Option ℕ) (reads : x.writes ≡ false) (classed : Classed w v site x key) where
   one_told : (s : ℕ) → key ≡ Some s → (at j : ℕ) (a : SourceAccess) (other : Option ℕ) (past : List Noted) → Held w v at j a other (happened past) → is_read_of s x.site.arms a other ≡ shares_with w.program j a (happened past) number x
   one_told s q at j a other past h =
@@ -398,7 +398,7 @@ set_entity a b e = cc
 -- the moments of variables after what happens
 abbrev moments_after : (ℕ → ℕ) → (place : ℕ) → Happens → ℕ → ℕ
 moments_after v place (touch_of t writes site a) = v
-moments_after v place (set_at entity) = assigned_at v (place + 1) entity
+moments_after v place (set_at entity) = moment_assigned_at v (place + 1) entity
 moments_after v place (arm_opens arm) = v
 moments_after v place arm_closes = v
 moments_after v place parts_begin = v
@@ -460,7 +460,7 @@ module _ (w : Walk) where
         (subst (λ (x : Site). Meeting v (term_seen access.now) false x a m) (touch_site _ _ _ _ _ _ e) (reading v (term_seen access.now) (site_at phase round) a m element newest r i))),
     refl,
   )
-  goes v place (set_at entity) (event.Assigned other) m e i r = (i, ap (λ x. assigned_at v (place + 1) x) (set_entity _ _ e))
+  goes v place (set_at entity) (event.Assigned other) m e i r = (i, ap (λ x. moment_assigned_at v (place + 1) x) (set_entity _ _ e))
   goes v place (arm_opens arm) event.ArmBegins m e i r = (i, refl)
   goes v place arm_closes event.ArmEnds m e i r = (i, refl)
   goes v place parts_begin event.Begins m e i r = (i, refl)
@@ -478,7 +478,7 @@ module _ (w : Walk) where
       let g = goes v place h x m (first_same _ _ _ _ e) i.0 r.0 in
       (g.0, all_go (moments_after v place h) (place + 1) hs es ms (rest_same _ _ _ _ e) i.1 (subst (λ (u : ℕ → ℕ). AreReads w.structures u (place + 1) es) g.1 r.1))
 
-  module _ (phased : Phased w) (apart_keys : classes.AreDistinct w.keys) (apart_structures : AreDistinct w.structures) where
+  module _ (phased : Phased w) (apart_keys : classes.KeysAreDistinct w.keys) (apart_structures : StructuresAreDistinct w.structures) where
     abbrev AllLive : List Noted → List Arm → List (List Arm) → (ℕ → FirstRead) → Type 0
     AllLive past arms outer fs = (class : ℕ) → class < length w.keys → Lives class past arms outer (fs class)
 
@@ -571,7 +571,7 @@ module _ (w : Walk) where
         ∙ ap (λ b. expected w.program b (events_of es) (number + 1)) (happened_append past (noted_access a g.0.key ∷ [])))))
     walk_told (set_at entity ∷ es) (m ∷ ms) seen outer arms past v at number levels fs s l r g sites =
         ap (λ x. shares_of fs number (x ∷ ms)) g.0
-        ∙ (walk_told es ms seen outer arms (past ++ noted_set entity ∷ []) (assigned_at v (at + 1) entity) (at + 1) number levels fs (stands_set w (length w.keys) seen past v at number levels outer arms entity s)
+        ∙ (walk_told es ms seen outer arms (past ++ noted_set entity ∷ []) (moment_assigned_at v (at + 1) entity) (at + 1) number levels fs (stands_set w (length w.keys) seen past v at number levels outer arms entity s)
         (λ c h. lives_set c past arms outer (fs c) entity (l c h)) r g.1 sites
         ∙ ap (λ b. expected w.program b (events_of es) number) (happened_append past (noted_set entity ∷ [])))
     walk_told (arm_opens arm ∷ es) (m ∷ ms) seen outer arms past v at number levels fs s l r g sites =
@@ -614,7 +614,7 @@ shares_expected first p events shares numbered phases are finds =
     ∙ (walk_told (record { program = p; keys = finds.known; structures = are.known; sites = sites_in (happenings_of p) }) phases finds.distinct are.distinct j.happens finds.steps [] [] [] [] no_clocks 0 0 (λ s. start (slice_index (replicate (length finds.known) 1) s)) none_read
     (begins_so (record { program = p; keys = finds.known; structures = are.known; sites = sites_in (happenings_of p) })) (λ c h. record { now = refl; outs = tt }) j.runs
     (all_go (record { program = p; keys = finds.known; structures = are.known; sites = sites_in (happenings_of p) }) no_clocks 0 j.happens events finds.steps seen finds.are are.reads)
-    (subst (λ (xs : List Incident). Follows (sites_in xs) (sites_in (happenings_of p)) 0) (sym j.as_incidents) (follow_all (sites_in (happenings_of p))))
+    (subst (λ (xs : List PortEvent). Follows (sites_in xs) (sites_in (happenings_of p)) 0) (sym j.as_incidents) (follow_all (sites_in (happenings_of p))))
     ∙ ap (λ es. expected p [] es 0) j.as_events)
 
 -- The list by numbers.

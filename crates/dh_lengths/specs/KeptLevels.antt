@@ -4,7 +4,7 @@ use Rattle.std.specs.List.{AllByRecursion}
 use Rattle.dh_tree.specs.declared.trees.commands.ViewForm.{ViewForm}
 use Rattle.dh_tree.specs.declared.trees.expressions.Ref.{Ref}
 use Rattle.dh_tree.specs.PlainTrees.{Term}
-use Rattle.dh_tree.specs.Seen.{plan_seen, terms}
+use Rattle.dh_tree.specs.Seen.{view_plan, terms}
 use Rattle.dh_tree.specs.ViewOffsets.{offsets_of}
 use Rattle.dh_meaning.specs.AccessNumbers.{plan_accesses, terms_accesses}
 use Rattle.dh_meaning.specs.Core.{CoreTerms, no_terms, term_and, no_commands}
@@ -12,7 +12,7 @@ use Rattle.dh_meaning.specs.CoreOf.{core_terms, kept_by, way_of}
 use Rattle.dh_meaning.specs.Levels.{Levels, term_leveled, with_value, with_variables}
 use Rattle.dh_meaning.specs.Ways.{Hidden, hidden_in}
 use Rattle.dh_lengths.specs.declared.leads.Leads.{Leads}
-use Rattle.dh_events.specs.Tables.{numbered}
+use Rattle.dh_events.specs.Tables.{kept_at}
 use Rattle.dh_lengths.specs.declared.held.Held.{Held}
 use Rattle.dh_lengths.specs.declared.undoing.Mark.{Mark}
 use Rattle.dh_lengths.specs.SharedReads.{told}
@@ -56,7 +56,7 @@ pub record SetsLevels (old new : Held) (first : ℕ) (levels : List ℕ) : Type 
   pub begun : new.first ≡ old.first
   pub changes : List Mark
   pub log : new.log.items ≡ old.log.items ++ changes
-  pub undoes : undone changes (numbered new.variables.items) ≡ numbered old.variables.items
+  pub undoes : undone changes (kept_at new.variables.items) ≡ kept_at old.variables.items
   pub marks : (e : ℕ) → has_mark e changes ≡ (nat_le first e && nat_lt e (first + length levels))
 
 -- the number of the first variable that keeps an offset on the way of a name
@@ -71,4 +71,4 @@ first_kept ways entity = first_of (hidden_in (way_by ways entity))
 abbrev pub LevelsView : Leads → (old new : Held) → (outer : ℕ) → Ref → ViewForm → Type 0
 LevelsView ways old new outer name form =
     Leveling ways old outer (λ known.
-    GivesCommands old new outer (kept_by (hidden_in (way_of known name)) (core_terms known (count old) (terms (offsets_of (plan_seen form)))) no_commands) (plan_accesses (plan_seen form)))
+    GivesCommands old new outer (kept_by (hidden_in (way_of known name)) (core_terms known (count old) (terms (offsets_of (view_plan form)))) no_commands) (plan_accesses (view_plan form)))

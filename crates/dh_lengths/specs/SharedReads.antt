@@ -7,7 +7,7 @@ use Rattle.dh_meets.specs.Sharing.{shared}
 use Rattle.dh_events.specs.declared.classes.Key.{Key}
 use Rattle.dh_events.specs.declared.events.Event.{Event}
 use Rattle.dh_events.specs.declared.events.Event.TheVariants as event
-use Rattle.dh_events.specs.Classes.{AreDistinct}
+use Rattle.dh_events.specs.Classes.{KeysAreDistinct}
 use Rattle.dh_ports.specs.Scanned.{read_key}
 use Rattle.dh_lengths.specs.declared.sharing.Met.{Met}
 use Rattle.dh_lengths.specs.declared.sharing.Met.TheVariants as met
@@ -67,7 +67,7 @@ AreWithin classes (m ∷ ms) = IsWithin classes m × AreWithin classes ms
 -- of each access among events the read that it shares, by the classes of their keys
 pub record FindsShares (events : List Event) (shares : List (Option ℕ)) : Type 0 where
   pub known : List Key
-  pub distinct : AreDistinct known
+  pub distinct : KeysAreDistinct known
   pub steps : List Met
   pub are : AreMet known events steps
   pub shared_so : shares ≡ shares_of none_read 0 steps

@@ -3,7 +3,7 @@
 ghost use Rattle.std.specs.Prelude.{◌≡◌, IfOk, OnOk};
 ghost use Rattle.dh_tree.specs.Seen.{action_seen, form_seen};
 ghost use Rattle.dh_events.specs.Accesses.{entity_in};
-ghost use Rattle.dh_events.specs.Classes.{Extends};
+ghost use Rattle.dh_events.specs.Classes.{ExtendsKeys};
 ghost use Rattle.dh_ports.specs.Scanned as scanned;
 ghost use Rattle.dh_lengths.specs.LiveFirsts.{none_read, shares_of};
 ghost use Rattle.dh_lengths.specs.SharedReads.{AreMet, AreWithin, FindsShares, IsMet, IsKeyMet, TellsSharesIn};
@@ -89,7 +89,7 @@ fn read_key(event: Event<'_>) -> Option<Key>
 /// What an access with a key is for the sharing of reads.
 fn met_key(classes: &mut Classes, key: Option<Key>) -> Result<Met, NoMemory>
     ensures met { IfOk result (λ m. IsKeyMet classes.new key m) }
-    ensures extends { OnOk result (Extends classes.old classes.new) }
+    ensures extends { OnOk result (ExtendsKeys classes.old classes.new) }
 {
     match key {
         Some(key) => {
@@ -103,7 +103,7 @@ fn met_key(classes: &mut Classes, key: Option<Key>) -> Result<Met, NoMemory>
 /// What an event is for the sharing of reads.
 fn met_at(classes: &mut Classes, event: Event<'_>) -> Result<Met, NoMemory>
     ensures met { IfOk result (λ m. IsMet classes.new event.entry m) }
-    ensures extends { OnOk result (Extends classes.old classes.new) }
+    ensures extends { OnOk result (ExtendsKeys classes.old classes.new) }
 {
     match event {
         Event::ArmBegins => Ok(Met::Begins),

@@ -1,7 +1,7 @@
 //! Accesses whose levels nothing asks for: each has level 0.
 
 ghost use Rattle.std.specs.Prelude.{map, OnOk};
-ghost use Rattle.dh_tree.specs.Seen.{action_seen, maybe_block_seen, plan_seen, term_seen, terms};
+ghost use Rattle.dh_tree.specs.Seen.{action_seen, maybe_block_seen, view_plan, term_seen, terms};
 ghost use Rattle.dh_meaning.specs.AccessNumbers.{accesses_of, other_accesses, plan_accesses, term_accesses, terms_accesses};
 ghost use Rattle.dh_lengths.specs.HeldLevels.{suffixes_accesses, AddsZeros};
 
@@ -66,7 +66,7 @@ fn skip_suffixes(reads: &mut Vec<usize>, by: &[(u64, Expr)]) -> Result<(), NoMem
 /// Notes level 0 of the accesses of the offsets of a view.
 #[tactic(auto, using(crate::proofs::Zeros::no_zeros))]
 pub fn skip_offsets(reads: &mut Vec<usize>, form: &ViewForm) -> Result<(), NoMemory>
-    ensures { OnOk result (AddsZeros reads.old reads.new (plan_accesses (plan_seen form.now))) }
+    ensures { OnOk result (AddsZeros reads.old reads.new (plan_accesses (view_plan form.now))) }
 {
     match form {
         ViewForm::Shrink { .. } => Ok(()),

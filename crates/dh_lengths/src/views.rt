@@ -1,7 +1,7 @@
 //! The levels of what views keep.
 
 ghost use Rattle.std.specs.Prelude.{◌≡◌, IfOk, OnOk, map};
-ghost use Rattle.dh_tree.specs.Seen.{factor_seen, plan_seen, term_seen};
+ghost use Rattle.dh_tree.specs.Seen.{factor_seen, view_plan, term_seen};
 ghost use Rattle.dh_tree.specs.ViewOffsets.{offsets_of};
 ghost use Rattle.dh_lengths.specs.KeptLevels.{first_kept, LevelsEach, LevelsView, SetsLevels};
 
@@ -58,7 +58,7 @@ fn level_offsets(
     form: &ViewForm,
 ) -> Result<Vec<usize>, NoMemory>
     ensures { IfOk result (λ levels. LevelsEach ways.now held.old held.new outer
-        (offsets_of (plan_seen form.now)) levels.items) }
+        (offsets_of (view_plan form.now)) levels.items) }
 {
     match form {
         ViewForm::Shrink { .. } => level_all(alloc, held, ways, outer, &[]),

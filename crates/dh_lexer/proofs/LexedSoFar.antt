@@ -6,7 +6,7 @@ use Rattle.std.proofs.lemmas.List.{length-take-le}
 use Rattle.std.proofs.lemmas.Bool.{cond_both}
 use Rattle.dh_base.specs.declared.places.Place.{Place}
 use Rattle.dh_lexer.specs.Pieces.{Piece, gap, token, bytes, Stands, Cuts}
-use Rattle.dh_lexer.specs.LexedText.{place_at, next_place, place_from, place_after, placed, kept, all_bytes, tokens_among, HasTokens, IsBreach}
+use Rattle.dh_lexer.specs.LexedText.{place_at, next_place, place_from, place_after, token_placed, kept, all_bytes, tokens_among, HasTokens, IsBreach}
 use Rattle.dh_lexer.specs.FrontPiece.{front_of}
 use Rattle.dh_lexer.proofs.FrontFound.{piece, Fronts, FoundFront, front_right}
 use Rattle.dh_lexer.proofs.CutOnce.{stop_from}
@@ -50,11 +50,11 @@ bytes_more (q ∷ ps) p = ap (λ w. bytes q ++ w) (bytes_more ps p) ∙ sym (app
 among_more : (before : List ℕ) (ps : List Piece) (x : Front) (w : List ℕ)
     → tokens_among before (ps ++ piece x w ∷ []) ≡ tokens_among before ps ++ kept x (place_after (before ++ all_bytes ps))
 among_more before [] front.Gap w = refl
-among_more before [] (front.Token k) w = ap (λ l. placed k (place_after l) ∷ []) (sym (append-nil before))
+among_more before [] (front.Token k) w = ap (λ l. token_placed k (place_after l) ∷ []) (sym (append-nil before))
 among_more before (gap v ∷ ps) x w =
     among_more (before ++ v) ps x w ∙ ap (λ l. tokens_among (before ++ v) ps ++ kept x (place_after l)) (append_assoc before v (all_bytes ps))
 among_more before (token j v ∷ ps) x w =
-    ap (λ l. placed j (place_after before) ∷ l)
+    ap (λ l. token_placed j (place_after before) ∷ l)
     (among_more (before ++ v) ps x w ∙ ap (λ l. tokens_among (before ++ v) ps ++ kept x (place_after l)) (append_assoc before v (all_bytes ps)))
 
 -- how a turn of the lexer's loop begins
@@ -132,12 +132,12 @@ whole at text late =
     sym (append-nil (take at text)) ∙ (ap (λ l. take at text ++ l) (sym (empty_rest (drop at text) none)) ∙ take-append-drop at text)
 
 pub lexed_end : (text : List ℕ) (tokens : List Token) (place : Place) (at : ℕ) → length text ≤ at → LexedSoFar text tokens place at
-    → HasTokens text (tokens ++ placed kind.End place ∷ [])
+    → HasTokens text (tokens ++ token_placed kind.End place ∷ [])
 lexed_end text tokens place at late lexed =
     let none : length (drop at text) ≡ 0 = omega (arith, length-drop at text) in
     record {
       pieces = lexed.pieces;
       cut = subst (λ (r : List ℕ). Cuts text lexed.pieces r) (empty_rest (drop at text) none) lexed.cut;
-      are = ap (λ ts. ts ++ placed kind.End place ∷ []) lexed.taken
-          ∙ ap (λ q. tokens_among [] lexed.pieces ++ placed kind.End q ∷ []) (lexed.stands_at ∙ ap place_after (whole at text late));
+      are = ap (λ ts. ts ++ token_placed kind.End place ∷ []) lexed.taken
+          ∙ ap (λ q. tokens_among [] lexed.pieces ++ token_placed kind.End q ∷ []) (lexed.stands_at ∙ ap place_after (whole at text late));
     }

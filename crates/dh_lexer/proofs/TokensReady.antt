@@ -8,7 +8,7 @@ use Rattle.dh_tree.specs.Names.{IsName}
 use Rattle.dh_base.specs.declared.places.Place.{Place}
 use Rattle.dh_lexer.specs.Spellings.{Entry, Lists, words, dashes, long_signs, short_signs}
 use Rattle.dh_lexer.specs.Pieces.{Spells, Piece, gap, token, Cuts}
-use Rattle.dh_lexer.specs.LexedText.{placed, place_after, tokens_among, HasTokens, IsSound, AreEnded, AreReady}
+use Rattle.dh_lexer.specs.LexedText.{token_placed, place_after, tokens_among, HasTokens, IsSoundToken, AreEnded, AreReady}
 use Rattle.dh_lexer.proofs.TableLooks.{listed_pass}
 use Rattle.dh_lexer.proofs.TokensFound.{spelled_some}
 use Rattle.dh_lexer.specs.declared.tokens.Token.{Token}
@@ -27,9 +27,9 @@ has_fixed e = is_fixed e.1
 
 record IsInner (k : TokenKind) : Type 0 where
   going : k ≡ kind.End → ⊥
-  sound : IsSound k
+  sound : IsSoundToken k
 
-fixed_sound : (k : TokenKind) → is_fixed k ≡ true → IsSound k
+fixed_sound : (k : TokenKind) → is_fixed k ≡ true → IsSoundToken k
 fixed_sound (kind.Name n) e = absurd (false≢true e)
 fixed_sound (kind.Number n) e = absurd (false≢true e)
 fixed_sound _ e = tt
@@ -58,11 +58,11 @@ ended_more : (t : Token) (ts : List Token) → IsInner t.kind → AreEnded ts �
 ended_more t [] inner ended = absurd ended
 ended_more t (u ∷ ts) inner ended = (inner.going, (inner.sound, ended))
 
-are_ended : (before text : List ℕ) (ps : List Piece) (r : List ℕ) (place : Place) → Cuts text ps r → AreEnded (tokens_among before ps ++ placed kind.End place ∷ [])
+are_ended : (before text : List ℕ) (ps : List Piece) (r : List ℕ) (place : Place) → Cuts text ps r → AreEnded (tokens_among before ps ++ token_placed kind.End place ∷ [])
 are_ended before text [] r place c = refl
 are_ended before text (gap w ∷ ps) r place (more, (is, (stands, c))) = are_ended (before ++ w) more ps r place c
 are_ended before text (token k w ∷ ps) r place (more, (is, (stands, c))) =
-    ended_more (placed k (place_after before)) _ (spelled_inner k w stands.spelled) (are_ended (before ++ w) more ps r place c)
+    ended_more (token_placed k (place_after before)) _ (spelled_inner k w stands.spelled) (are_ended (before ++ w) more ps r place c)
 
 are_few : (before text : List ℕ) (ps : List Piece) (r : List ℕ) → Cuts text ps r → length (tokens_among before ps) ≤ length text
 are_few before text [] r c = omega arith
@@ -78,6 +78,6 @@ are_few before text (token k w ∷ ps) r (more, (is, (stands, c))) =
 pub are_ready : (text : List ℕ) (tokens : List Token) → HasTokens text tokens → AreReady text tokens
 are_ready text tokens h =
     rw h.are (record {
-      few = let n = are_few [] text h.pieces [] h.cut in omega (arith, n, length-append (tokens_among [] h.pieces) (placed kind.End (place_after text) ∷ []));
+      few = let n = are_few [] text h.pieces [] h.cut in omega (arith, n, length-append (tokens_among [] h.pieces) (token_placed kind.End (place_after text) ∷ []));
       ended = are_ended [] text h.pieces [] (place_after text) h.cut;
     })

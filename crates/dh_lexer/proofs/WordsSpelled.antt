@@ -6,7 +6,7 @@ use Rattle.std.specs.Cmp.{first_so, second_so}
 use Rattle.std.specs.Char.{is_ascii_digit}
 use Rattle.std.proofs.lemmas.Bool.{cond_both, cases_Bool, false≢true}
 use Rattle.std.proofs.lemmas.Bool.Decides.{nat_tests}
-use Rattle.dh_tree.specs.Names.{IsNameByte, IsLetter, IsWord, IsName, reserved}
+use Rattle.dh_tree.specs.Names.{IsNameByte, IsLetter, IsIdentifier, IsName, reserved}
 use Rattle.dh_lexer.specs.Spellings.{Entry, Lists, words}
 use Rattle.dh_lexer.specs.Pieces.{IsRun}
 use Rattle.dh_lexer.specs.FrontPiece.{is_name_byte, look_up, either, kept_word, word_kind, number_of, run_of}
@@ -62,7 +62,7 @@ word_plain w k l =
 no_digit : (b : ℕ) → IsLetter b → is_ascii_digit b ≡ false
 no_digit b letter = grind (arith, nat_tests)
 
-name_plain : (w : List ℕ) → IsWord w → IsPlain w
+name_plain : (w : List ℕ) → IsIdentifier w → IsPlain w
 name_plain [] word = absurd word
 name_plain (b ∷ bs) word = record {
   filled = record { some = omega arith; names = (inl word.0, word.1) };
@@ -110,11 +110,11 @@ abbrev pub FoundRun : List ℕ → Option TokenKind → Type 0
 FoundRun w None = Unit {0}
 FoundRun w (Some k) = IsRun k w
 
-word_from : (b : ℕ) (bs : List ℕ) → IsNameByte b → is_ascii_digit b ≡ false → AllByRecursion IsNameByte bs → IsWord (b ∷ bs)
+word_from : (b : ℕ) (bs : List ℕ) → IsNameByte b → is_ascii_digit b ≡ false → AllByRecursion IsNameByte bs → IsIdentifier (b ∷ bs)
 word_from b bs (inl letter) other all = (letter, all)
 word_from b bs (inr digit) other all = absurd (grind (arith, nat_tests))
 
-kept_or_name : (w : List ℕ) → IsWord w → (o : Option TokenKind) → look_up words w ≡ o → FoundRun w (either o (Some (kind.Name w)))
+kept_or_name : (w : List ℕ) → IsIdentifier w → (o : Option TokenKind) → look_up words w ≡ o → FoundRun w (either o (Some (kind.Name w)))
 kept_or_name w word (Some k) e = inl (look_lists words w k e)
 kept_or_name w word None e =
     inr (inl (

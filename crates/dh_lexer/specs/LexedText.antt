@@ -32,13 +32,13 @@ abbrev pub place_after : List ℕ → Place
 place_after before = place_from (place_at 1 1) before
 
 -- a token at its place
-abbrev pub placed : TokenKind → Place → Token
-placed k place = record { kind = k; place = place }
+abbrev pub token_placed : TokenKind → Place → Token
+token_placed k place = record { kind = k; place = place }
 
 -- what is kept of a piece that begins at a place
 abbrev pub kept : Front → Place → List Token
 kept front.Gap place = []
-kept (front.Token k) place = placed k place ∷ []
+kept (front.Token k) place = token_placed k place ∷ []
 
 -- tokens, and behind them what is kept of a piece that begins at a place, if it is stored
 abbrev pub with_kept : Bool → List Token → Front → Place → List Token
@@ -80,13 +80,13 @@ all_bytes (p ∷ ps) = bytes p ++ all_bytes ps
 abbrev pub tokens_among : List ℕ → List Piece → List Token
 tokens_among before [] = []
 tokens_among before (gap w ∷ ps) = tokens_among (before ++ w) ps
-tokens_among before (token k w ∷ ps) = placed k (place_after before) ∷ tokens_among (before ++ w) ps
+tokens_among before (token k w ∷ ps) = token_placed k (place_after before) ∷ tokens_among (before ++ w) ps
 
 -- the text has these tokens, of which the last is the end
 pub record HasTokens (text : List ℕ) (tokens : List Token) : Type 0 where
   pub pieces : List Piece
   pub cut : Cuts text pieces []
-  pub are : tokens ≡ tokens_among [] pieces ++ placed kind.End (place_after text) ∷ []
+  pub are : tokens ≡ tokens_among [] pieces ++ token_placed kind.End (place_after text) ∷ []
 
 -- the text is cut into pieces up to this place, and no piece stands there
 pub record IsBreach (text : List ℕ) (place : Place) : Type 0 where
@@ -117,16 +117,16 @@ Lexed text (Err (fault.Refused r place)) =
 Lexed text (Err fault.NoMemory) = Unit {0}
 
 -- what a token holds: names are names, and numbers are below 2^64
-abbrev pub IsSound : TokenKind → Type 0
-IsSound (kind.Name n) = IsName n
-IsSound (kind.Number n) = n < 2 ^ 64
-IsSound _ = Unit {0}
+abbrev pub IsSoundToken : TokenKind → Type 0
+IsSoundToken (kind.Name n) = IsName n
+IsSoundToken (kind.Number n) = n < 2 ^ 64
+IsSoundToken _ = Unit {0}
 
 -- the last token is the end, and no other is
 abbrev pub AreEnded : List Token → Type 0
 AreEnded [] = ⊥
 AreEnded (t ∷ []) = t.kind ≡ kind.End
-AreEnded (t ∷ (u ∷ ts)) = (t.kind ≡ kind.End → ⊥) × (IsSound t.kind × AreEnded (u ∷ ts))
+AreEnded (t ∷ (u ∷ ts)) = (t.kind ≡ kind.End → ⊥) × (IsSoundToken t.kind × AreEnded (u ∷ ts))
 
 -- what readers of tokens ask for
 pub record AreReady (text : List ℕ) (tokens : List Token) : Type 0 where

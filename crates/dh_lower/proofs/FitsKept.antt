@@ -8,7 +8,7 @@ use Rattle.dh_tree.specs.Tables.{Fits}
 use Rattle.dh_tree.specs.declared.tables.MemEntry.{MemEntry}
 use Rattle.dh_value.specs.Words.{width_of}
 use Rattle.dh_net.specs.BankPorts.{port_count, memory_ports, ports_from, ports_of}
-use Rattle.dh_net.specs.Clock.{State, Settles, Clocks, served, memory_at, place_of, row_value, held_by, held_after}
+use Rattle.dh_net.specs.Clock.{State, Settles, Clocks, served, memory_at, position_of_row, row_value, held_by, held_after}
 use Rattle.dh_net.specs.Laws.{FitsNet}
 use Rattle.dh_net.specs.Valid.{IsValid}
 use Rattle.dh_net.specs.declared.nets.Driver.{Driver}
@@ -66,9 +66,9 @@ chosen_small false x y bound a b = b
 row_fits : (table : List MemEntry) (memories : List (List ℕ)) → Fits table memories → (p : Port) → IsPortIn 0 table p → (row : ℕ) → row_value table p memories row < 2 ^ p.width
 row_fits table memories fits p h row =
     let memory : p.memory ≡ h.number = h.memory ∙ plain h.number in
-    chosen_small (nat_lt row p.rows) (slice_index (memory_at memories p.memory) (place_of table p row)) 0 (2 ^ p.width)
-    (subst (λ (w : ℕ). slice_index (memory_at memories p.memory) (place_of table p row) < 2 ^ w) (sym h.width)
-    (subst (λ (m : ℕ). slice_index (memory_at memories m) (place_of table p row) < 2 ^ width_of h.entry.shape.kind) (sym memory) (element_fits table memories fits h.number h.entry h.there (place_of table p row))))
+    chosen_small (nat_lt row p.rows) (slice_index (memory_at memories p.memory) (position_of_row table p row)) 0 (2 ^ p.width)
+    (subst (λ (w : ℕ). slice_index (memory_at memories p.memory) (position_of_row table p row) < 2 ^ w) (sym h.width)
+    (subst (λ (m : ℕ). slice_index (memory_at memories m) (position_of_row table p row) < 2 ^ width_of h.entry.shape.kind) (sym memory) (element_fits table memories fits h.number h.entry h.there (position_of_row table p row))))
     (pow_pos p.width)
   where
     plain : (n : ℕ) → 0 + n ≡ n

@@ -19,17 +19,17 @@ use Rattle.dh_plan.specs.declared.schedules.Limits.{Limits}
 use Rattle.dh_plan.specs.Blocks.{StepStart, in_memories, BlockEvent, RegisterSet, first_fault, puts_of, all_put, all_set}
 use Rattle.dh_plan.specs.LegalSchedules.{clocks_in}
 use Rattle.dh_plan.specs.PlainPlans.{first_in, operations_in}
-use Rattle.dh_plan.specs.PlanRuns.{Place, Next, start_at, block_values, step_events, step_sets, blocks_at, place_after, PlanState, plan_stands_at, plan_state_after, plan_step_from, plan_state}
+use Rattle.dh_plan.specs.PlanRuns.{PlanPlace, PlanNext, start_at, block_values, step_events, step_sets, blocks_at, place_after, PlanState, plan_stands_at, plan_state_after, plan_step_from, plan_state}
 use Rattle.dh_plan.specs.PlayedPlans.{longest, plan_run}
 use Rattle.dh_plan.specs.SoundPlans.{IsOneOf}
 use Rattle.dh_plan.specs.SoundRuns.{IsStepInTurns, StandsInStep}
-use Rattle.dh_plan.specs.Ways.{Spot, rests, Led, place_of, leads_to}
+use Rattle.dh_plan.specs.Ways.{GraphSpot, rests, GraphLed, place_of, leads_to}
 use Rattle.dh_plan.proofs.BlocksSolved.{has_one_solution}
 use Rattle.dh_plan.proofs.SteppingRuns.{runs_make_steps}
 use Rattle.dh_plan.proofs.ValuesAlike.{memories_look_back}
 use Rattle.dh_lower.specs.ClockLaws.{PortsSay}
 use Rattle.dh_lower.specs.MadeNets.{IsMakeable}
-use Rattle.dh_lower.specs.NetOfPlan.{Making, Standing, sets_by, spot_length, words_of, fault_seen, led_on, moment_at, ShowsAtClock, IsNetOf}
+use Rattle.dh_lower.specs.NetOfPlan.{Making, RegisterMeaning, sets_by, spot_length, words_of, fault_seen, led_on, moment_at, ShowsAtClock, IsNetOf}
 use Rattle.dh_lower.specs.PortUsers.{Moment}
 use Rattle.dh_lower.specs.ShownWords.{in_ports, ReadsAreMade, IsAtClock}
 use Rattle.dh_lower.specs.SpotsDone.{blocks_of_spot, spot_after}
@@ -48,14 +48,14 @@ use Rattle.dh_lower.proofs.ValuesShown.{shows_all, ports_look_back}
 not_same : (x y : ℕ) → x < y → (x == y) ≡ false
 not_same x y h = grind (arith, h, nat_tests)
 
-module _ (k : Making) (limits : Limits) (net : Net) (Holds : Standing) (can : IsMakeable k limits) (made : IsNetOf k net Holds) (start : List (List ℕ)) (fits : Fits k.plan.table start) where
+module _ (k : Making) (limits : Limits) (net : Net) (Holds : RegisterMeaning) (can : IsMakeable k limits) (made : IsNetOf k net Holds) (start : List (List ℕ)) (fits : Fits k.plan.table start) where
   abbrev pub state_of : ℕ → PlanState
   state_of n = plan_state k.plan start n
 
   abbrev pub run_of : Run
   run_of = plan_run k.plan k.timing.lengths start
 
-  abbrev pub place_in : Spot → Place
+  abbrev pub place_in : GraphSpot → PlanPlace
   place_in spot = place_of k.flow.states can.flows.behind can.flows.after spot
 
   -- how the step that follows n steps begins
@@ -64,7 +64,7 @@ module _ (k : Making) (limits : Limits) (net : Net) (Holds : Standing) (can : Is
 
   -- The net is at clock j of the step that follows n steps.
   pub record InStep (n j : ℕ) (s : State) : Type 0 where
-    pub spot : Spot
+    pub spot : GraphSpot
     pub tick : ℕ
     pub holds : Holds spot j tick 0 (state_of n).registers s.registers
     pub place : place_in spot ≡ (state_of n).place
@@ -235,7 +235,7 @@ module _ (k : Making) (limits : Limits) (net : Net) (Holds : Standing) (can : Is
 
         -- the net behind a step without fault
         pub record StepMade : Type 0 where
-          pub led : Led
+          pub led : GraphLed
           pub holds : Holds led.spot 0 1 0 (state_of (suc n)).registers t.registers
           pub place : place_in led.spot ≡ (state_of (suc n)).place
           pub contents : t.memories ≡ (state_of (suc n)).memories
@@ -251,8 +251,8 @@ module _ (k : Making) (limits : Limits) (net : Net) (Holds : Standing) (can : Is
             let next_is : state_of (suc n) ≡ plan_stands_at (suc (state_of n).steps) (all_put (puts_of events) (state_of n).memories) (place_after k.plan.registers (state_of n).place after)
             = step_is ∙ ap (λ (f : Option ℕ). plan_state_after k.plan (state_of n) events sets f) none in
             let leads : leads_to k.flow.states can.flows.behind can.flows.after goes ≡ place_after k.plan.registers (state_of n).place after
-            = follows k.flow k.plan can.flows h.spot after ∙ ap (λ (p : Place). place_after k.plan.registers p after) h.place in
-            let registers_are : goes.registers ≡ (state_of (suc n)).registers = ap (λ (x : Next). x.registers) leads ∙ sym (ap (λ (x : PlanState). x.registers) next_is) in
+            = follows k.flow k.plan can.flows h.spot after ∙ ap (λ (p : PlanPlace). place_after k.plan.registers p after) h.place in
+            let registers_are : goes.registers ≡ (state_of (suc n)).registers = ap (λ (x : PlanNext). x.registers) leads ∙ sym (ap (λ (x : PlanState). x.registers) next_is) in
             let seen : fault_seen k h.spot (state_of n).registers wires ≡ None = fault_is ∙ none in
             let commits : moment.commits ≡ true
             = ap (λ (b : Bool). b && is_none (fault_seen k h.spot (state_of n).registers wires)) (eq-eqb (suc j) (spot_length k h.spot) last_here) ∙ ap (λ (f : Option ℕ). is_none f) seen in
@@ -261,8 +261,8 @@ module _ (k : Making) (limits : Limits) (net : Net) (Holds : Standing) (can : Is
               holds =
                   subst (λ (rs : List ℕ). Holds goes.spot 0 1 0 (state_of (suc n)).registers rs) (sym registers)
                   (subst (λ (rs : List ℕ). Holds goes.spot 0 1 0 rs (map (λ r. slice_index wires r.next) net.registers)) registers_are
-                  (subst (λ (l : Led). Holds l.spot 0 1 0 l.registers (map (λ r. slice_index wires r.next) net.registers)) led_is (shows_clock.goes_on last_here seen)));
-              place = ap (λ (x : Next). x.place) leads ∙ sym (ap (λ (x : PlanState). x.place) next_is);
+                  (subst (λ (l : GraphLed). Holds l.spot 0 1 0 l.registers (map (λ r. slice_index wires r.next) net.registers)) led_is (shows_clock.goes_on last_here seen)));
+              place = ap (λ (x : PlanNext). x.place) leads ∙ sym (ap (λ (x : PlanState). x.place) next_is);
               contents =
                   memories ∙ (memories_are ∙ (writes_step.made commits
                   ∙ (ap (λ (bs : List ℕ). all_put (puts_of (step_events k.plan (begun n) bs)) (state_of n).memories) active_are ∙ sym (ap (λ (x : PlanState). x.memories) next_is))));

@@ -26,11 +26,11 @@ use Rattle.dh_net.proofs.Simulation.{Stand, in_step, at_end, at_fault, plays_by}
 use Rattle.dh_net.proofs.Valuations.{some_valuation}
 use Rattle.dh_plan.specs.declared.schedules.Limits.{Limits}
 use Rattle.dh_plan.specs.Blocks.{BlockEvent, RegisterSet, first_fault}
-use Rattle.dh_plan.specs.PlanRuns.{ended, Next, first_registers, PlanState, step_events, step_sets, blocks_at, plan_state_after}
+use Rattle.dh_plan.specs.PlanRuns.{ended, PlanNext, first_registers, PlanState, step_events, step_sets, blocks_at, plan_state_after}
 use Rattle.dh_plan.specs.PlayedPlans.{longest, WritesLast, PlaysPlan}
-use Rattle.dh_plan.specs.Ways.{Spot, rests, resolve}
+use Rattle.dh_plan.specs.Ways.{GraphSpot, rests, resolve}
 use Rattle.dh_lower.specs.MadeNets.{IsMakeable}
-use Rattle.dh_lower.specs.NetOfPlan.{Making, Standing, spot_length, fault_seen, ShowsOver, IsNetOf}
+use Rattle.dh_lower.specs.NetOfPlan.{Making, RegisterMeaning, spot_length, fault_seen, ShowsOver, IsNetOf}
 use Rattle.dh_lower.proofs.AsksMeant.{both}
 use Rattle.dh_lower.proofs.FitsKept.{fits_kept, at_map}
 use Rattle.dh_lower.proofs.NetInStep.{state_of, run_of, place_in, begun, InStep, state_fits, step_takes, length_is, shows_clock, never_clashes, never_strays, waits_on, fault_is, step_is, StepMade, step_made, faulted_holds, faulted_memories, faulted_fit, writing_last}
@@ -44,7 +44,7 @@ zero_held zero q = refl
 zero_held (suc n) zero = refl
 zero_held (suc n) (suc q) = zero_held n q
 
-start_fits : (net : Net) (Holds : Standing) (k : Making) → IsNetOf k net Holds → (start : List (List ℕ)) → FitsNet net (start_of net start)
+start_fits : (net : Net) (Holds : RegisterMeaning) (k : Making) → IsNetOf k net Holds → (start : List (List ℕ)) → FitsNet net (start_of net start)
 start_fits net Holds k made start =
     record {
       registers = λ i r at. subst (λ (n : ℕ). n < 2 ^ r.width) (sym (at_map (λ (r : Register). r.initial) net.registers i r at)) (made.valid.registers i r at).initial;
@@ -74,7 +74,7 @@ not_one w a b = omega (arith, a, b)
 not_done_at : (fault number w : ℕ) → fault ≡ suc number → w ≡ (if fault == 0 then 1 else 0) → w ≡ 0
 not_done_at fault number w is e = (let some : (fault == 0) ≡ false = grind (arith, is, nat_tests) in e ∙ ap (λ (b : Bool). if b then 1 else 0) some)
 
-module _ (k : Making) (limits : Limits) (net : Net) (Holds : Standing) (can : IsMakeable k limits) (made : IsNetOf k net Holds) (start : List (List ℕ)) (fits : Fits k.plan.table start) where
+module _ (k : Making) (limits : Limits) (net : Net) (Holds : RegisterMeaning) (can : IsMakeable k limits) (made : IsNetOf k net Holds) (start : List (List ℕ)) (fits : Fits k.plan.table start) where
   abbrev stands_after : ℕ → PlanState
   stands_after n = state_of k limits net Holds can made start fits n
 
@@ -104,7 +104,7 @@ module _ (k : Making) (limits : Limits) (net : Net) (Holds : Standing) (can : Is
 
   first_next : (place_in k limits net Holds can made start fits (resolve k.plan.registers k.flow.first (first_registers k.plan)).spot ≡ (stands_after 0).place)
       × ((resolve k.plan.registers k.flow.first (first_registers k.plan)).registers ≡ (stands_after 0).registers)
-  first_next = (ap (λ (x : Next). x.place) (can.flows.first (first_registers k.plan)), ap (λ (x : Next). x.registers) (can.flows.first (first_registers k.plan)))
+  first_next = (ap (λ (x : PlanNext). x.place) (can.flows.first (first_registers k.plan)), ap (λ (x : PlanNext). x.registers) (can.flows.first (first_registers k.plan)))
 
   starts_inside : Inside 0 0 (start_of net start)
   starts_inside =
@@ -129,7 +129,7 @@ module _ (k : Making) (limits : Limits) (net : Net) (Holds : Standing) (can : Is
         tick = 0;
         fault = 0;
         registers = l.registers;
-        holds = subst (λ (x : Spot). Holds x 0 0 0 l.registers (map (λ r. r.initial) net.registers)) resting made.starts;
+        holds = subst (λ (x : GraphSpot). Holds x 0 0 0 l.registers (map (λ r. r.initial) net.registers)) resting made.starts;
         memories = refl;
         fit = start_fits net Holds k made start;
         how = by_end e refl first_no_tick;
@@ -193,7 +193,7 @@ module _ (k : Making) (limits : Limits) (net : Net) (Holds : Standing) (can : Is
           tick = 1;
           fault = 0;
           registers = (stands_after (suc n)).registers;
-          holds = subst (λ (x : Spot). Holds x 0 1 0 (stands_after (suc n)).registers t.registers) resting m.holds;
+          holds = subst (λ (x : GraphSpot). Holds x 0 1 0 (stands_after (suc n)).registers t.registers) resting m.holds;
           memories = m.contents;
           fit = m.fit;
           how = by_end e refl (a_tick n);
@@ -393,7 +393,7 @@ module _ (k : Making) (limits : Limits) (net : Net) (Holds : Standing) (can : Is
   writes_last clocks n s wires run settled fit q i ds d a b w on = wrote clocks n s wires settled fit q i ds d a b w on (net_stands clocks s run)
 
 -- A net that is made of a plan plays it, with the lengths of its schedule.
-pub net_plays : (k : Making) (limits : Limits) (net : Net) (Holds : Standing) → IsMakeable k limits → IsNetOf k net Holds → PlaysPlan k.plan k.timing.lengths net
+pub net_plays : (k : Making) (limits : Limits) (net : Net) (Holds : RegisterMeaning) → IsMakeable k limits → IsNetOf k net Holds → PlaysPlan k.plan k.timing.lengths net
 net_plays k limits net Holds can made =
     record {
       valid = made.valid;

@@ -19,7 +19,7 @@ use Rattle.dh_plan.specs.declared.operations.OperationForm.TheVariants.{Constant
 use Rattle.dh_plan.specs.Blocks.{StepStart, is_on, word_at, spot_of_reach, BlockEvent, fails, puts, fails_outside, puts_inside, form_events, operation_events, block_events, RegisterSet, first_fault}
 use Rattle.dh_plan.specs.PlainPlans.{PlainPlan, first_in, operations_in}
 use Rattle.dh_plan.specs.PlanKinds.{kinds_of, FormSuits, OperationSuits, IsFormedBlock}
-use Rattle.dh_plan.specs.PlanRuns.{Place, ended, at, inside, PlanState, start_at, blocks_at, block_values, events_of_block, step_events, step_sets, outcome_at, outcome_named, plan_state_after, plan_step_from, plan_state}
+use Rattle.dh_plan.specs.PlanRuns.{PlanPlace, ended, at, inside, PlanState, start_at, blocks_at, block_values, events_of_block, step_events, step_sets, plan_outcome_at, outcome_named, plan_state_after, plan_step_from, plan_state}
 use Rattle.dh_plan.proofs.FittingEffects.{all_joined}
 use Rattle.dh_plan.proofs.FittingValues.{pick}
 
@@ -31,22 +31,22 @@ going_is Ended h = absurd h
 going_is (Faulted kind place) h = absurd h
 going_is (Stuck memory bank place) h = absurd h
 
-pub fine_at : (p : Place) → IsFine (outcome_at p)
+pub fine_at : (p : PlanPlace) → IsFine (plan_outcome_at p)
 fine_at ended = tt
 fine_at (at block k) = tt
 fine_at (inside ps k) = tt
 
-never_stuck_at : (p : Place) → IsStuck (outcome_at p) → ⊥
+never_stuck_at : (p : PlanPlace) → IsStuck (plan_outcome_at p) → ⊥
 never_stuck_at ended h = h
 never_stuck_at (at block k) h = h
 never_stuck_at (inside ps k) h = h
 
-never_faulted_at : (p : Place) (kind : FaultKind) (place : source.Place) → outcome_at p ≡ Faulted kind place → ⊥
+never_faulted_at : (p : PlanPlace) (kind : FaultKind) (place : source.Place) → plan_outcome_at p ≡ Faulted kind place → ⊥
 never_faulted_at ended kind place e = cc
 never_faulted_at (at block k) kind place e = cc
 never_faulted_at (inside ps k) kind place e = cc
 
-pub ended_at : (p : Place) → outcome_at p ≡ Ended → p ≡ ended
+pub ended_at : (p : PlanPlace) → plan_outcome_at p ≡ Ended → p ≡ ended
 ended_at ended e = refl
 ended_at (at block k) e = absurd (cc)
 ended_at (inside ps k) e = absurd (cc)

@@ -3,7 +3,7 @@ use Rattle.std.proofs.Common.{◌≡◌, ℕ, suc, ◌<◌, ◌≤◌, ◌⊎◌
 use Rattle.std.specs.Prelude.{[], ◌∷◌, ◌++◌, Option, slice_get, slice_index}
 use Rattle.std.proofs.lemmas.Bool.{lt-ltb}
 use Rattle.dh_tree.specs.declared.tables.MemEntry.{MemEntry}
-use Rattle.dh_net.specs.Clock.{served, place_of, with_row, written_by, memories_after}
+use Rattle.dh_net.specs.Clock.{served, position_of_row, with_row, written_by, memories_after}
 use Rattle.dh_net.specs.declared.nets.Driver.{Driver}
 use Rattle.dh_net.specs.declared.ports.Port.{Port}
 use Rattle.dh_meaning.specs.Effects.{put_element}
@@ -22,9 +22,9 @@ one_written table wires q p None memories h = refl
 one_written table wires q p (Some d) memories h = by d.write refl
   where
     by : (t : Bool) → d.write ≡ t → (if t then with_row table p memories (slice_index wires d.row) (slice_index wires d.data_) else memories)
-        ≡ all_put (puts_in (if t then keyed q (record { memory = p.memory; bank = p.bank; row = slice_index wires d.row; position = place_of table p (slice_index wires d.row) }) (slice_index wires d.data_) ∷ [] else [])) memories
+        ≡ all_put (puts_in (if t then keyed q (record { memory = p.memory; bank = p.bank; row = slice_index wires d.row; position = position_of_row table p (slice_index wires d.row) }) (slice_index wires d.data_) ∷ [] else [])) memories
     by true e =
-        ap (λ (b : Bool). if b then put_element memories (record { memory = p.memory; bank = p.bank; row = slice_index wires d.row; position = place_of table p (slice_index wires d.row) }) (slice_index wires d.data_) else memories)
+        ap (λ (b : Bool). if b then put_element memories (record { memory = p.memory; bank = p.bank; row = slice_index wires d.row; position = position_of_row table p (slice_index wires d.row) }) (slice_index wires d.data_) else memories)
         (lt-ltb (slice_index wires d.row) p.rows (h d refl e))
     by false e = refl
 
@@ -75,14 +75,14 @@ pub record IsDriverPut (table : List MemEntry) (wires : List ℕ) (q : ℕ) (p :
   pub driver : Driver
   pub is : x ≡ Some driver
   pub writes : driver.write ≡ true
-  pub put_is : k ≡ keyed q (record { memory = p.memory; bank = p.bank; row = slice_index wires driver.row; position = place_of table p (slice_index wires driver.row) }) (slice_index wires driver.data_)
+  pub put_is : k ≡ keyed q (record { memory = p.memory; bank = p.bank; row = slice_index wires driver.row; position = position_of_row table p (slice_index wires driver.row) }) (slice_index wires driver.data_)
 
 pub driver_put : (table : List MemEntry) (wires : List ℕ) (q : ℕ) (p : Port) (x : Option Driver) (k : KeyedPut) → IsPut k (driver_puts table wires q p x) → IsDriverPut table wires q p x k
 driver_put table wires q p None k h = elim h [ ]
 driver_put table wires q p (Some d) k h = by d.write refl h
   where
     by : (t : Bool) → d.write ≡ t
-        → IsPut k (if t then keyed q (record { memory = p.memory; bank = p.bank; row = slice_index wires d.row; position = place_of table p (slice_index wires d.row) }) (slice_index wires d.data_) ∷ [] else [])
+        → IsPut k (if t then keyed q (record { memory = p.memory; bank = p.bank; row = slice_index wires d.row; position = position_of_row table p (slice_index wires d.row) }) (slice_index wires d.data_) ∷ [] else [])
         → IsDriverPut table wires q p (Some d) k
     by true e h = record {
       driver = d;
@@ -96,14 +96,14 @@ driver_put table wires q p (Some d) k h = by d.write refl h
     by false e h = elim h [ ]
 
 pub driver_put_there : (table : List MemEntry) (wires : List ℕ) (q : ℕ) (p : Port) (x : Option Driver) (d : Driver) → x ≡ Some d → d.write ≡ true
-    → IsPut (keyed q (record { memory = p.memory; bank = p.bank; row = slice_index wires d.row; position = place_of table p (slice_index wires d.row) }) (slice_index wires d.data_)) (driver_puts table wires q p x)
+    → IsPut (keyed q (record { memory = p.memory; bank = p.bank; row = slice_index wires d.row; position = position_of_row table p (slice_index wires d.row) }) (slice_index wires d.data_)) (driver_puts table wires q p x)
 driver_put_there table wires q p x d is w =
-    subst (λ (y : Option Driver). IsPut (keyed q (record { memory = p.memory; bank = p.bank; row = slice_index wires d.row; position = place_of table p (slice_index wires d.row) }) (slice_index wires d.data_)) (driver_puts table wires q p y)) (sym is)
+    subst (λ (y : Option Driver). IsPut (keyed q (record { memory = p.memory; bank = p.bank; row = slice_index wires d.row; position = position_of_row table p (slice_index wires d.row) }) (slice_index wires d.data_)) (driver_puts table wires q p y)) (sym is)
     (by d.write w)
   where
     by : (t : Bool) → t ≡ true
-        → IsPut (keyed q (record { memory = p.memory; bank = p.bank; row = slice_index wires d.row; position = place_of table p (slice_index wires d.row) }) (slice_index wires d.data_))
-        (if t then keyed q (record { memory = p.memory; bank = p.bank; row = slice_index wires d.row; position = place_of table p (slice_index wires d.row) }) (slice_index wires d.data_) ∷ [] else [])
+        → IsPut (keyed q (record { memory = p.memory; bank = p.bank; row = slice_index wires d.row; position = position_of_row table p (slice_index wires d.row) }) (slice_index wires d.data_))
+        (if t then keyed q (record { memory = p.memory; bank = p.bank; row = slice_index wires d.row; position = position_of_row table p (slice_index wires d.row) }) (slice_index wires d.data_) ∷ [] else [])
     by true e = inl refl
     by false e = absurd (cc)
 
@@ -129,7 +129,7 @@ driver_rises table wires q p None ls h r = r
 driver_rises table wires q p (Some d) ls h r = by d.write
   where
     by : (t : Bool)
-        → PortsRise ((if t then keyed q (record { memory = p.memory; bank = p.bank; row = slice_index wires d.row; position = place_of table p (slice_index wires d.row) }) (slice_index wires d.data_) ∷ [] else []) ++ ls)
+        → PortsRise ((if t then keyed q (record { memory = p.memory; bank = p.bank; row = slice_index wires d.row; position = position_of_row table p (slice_index wires d.row) }) (slice_index wires d.data_) ∷ [] else []) ++ ls)
     by true = (before_higher q _ ls refl h, r)
     by false = r
 

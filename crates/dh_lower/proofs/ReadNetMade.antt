@@ -486,7 +486,7 @@ bank_small state clock tick s y now registers fits = subst (λ (n : ℕ). n < 2)
 first_or_last : (clock : ℕ) → clock < 2 → (0 ≡ clock) ⊎ (1 ≡ clock)
 first_or_last clock h = grind (arith, h)
 
-at_clock_of : (spot : graph.Spot) (clock tick : ℕ) (registers : List ℕ) (now : State) (wires : List ℕ)
+at_clock_of : (spot : graph.GraphSpot) (clock tick : ℕ) (registers : List ℕ) (now : State) (wires : List ℕ)
     → (blocks_of_spot read_making.flow.states spot ≡ [] → ⊥) → clock < spot_length read_making spot → read_holds spot clock tick 0 registers now.registers
     → FitsNet read_net now → IsValuation two_banks read_cells now.registers now.held wires → ShowsAtClock read_making read_net read_holds spot clock tick registers now.held wires
 at_clock_of rests clock tick registers now wires some less h fits v = absurd (some refl)

@@ -17,14 +17,14 @@ use Rattle.dh_value.specs.Words.{value_of, word_of}
 use Rattle.dh_meaning.specs.Effects.{is_row, bits_at}
 use Rattle.dh_net.specs.BankPorts.{ports_of}
 use Rattle.dh_net.proofs.RowWidths.{row_width_met}
-use Rattle.dh_net.specs.Clock.{has_clash, has_clashes, has_stray, has_strays, served, held_by, held_after, row_value, memory_at, place_of}
+use Rattle.dh_net.specs.Clock.{has_clash, has_clashes, has_stray, has_strays, served, held_by, held_after, row_value, memory_at, position_of_row}
 use Rattle.dh_net.specs.declared.nets.Driver.{Driver}
 use Rattle.dh_net.specs.declared.ports.Port.{Port}
 use Rattle.dh_plan.specs.declared.operations.Operation.{Operation}
 use Rattle.dh_plan.specs.declared.operations.OperationForm.{OperationForm}
 use Rattle.dh_plan.specs.declared.operations.OperationForm.TheVariants.{Constant, Old, Compute, Convert, Select, Check, Probe, Read, Write, Set}
 use Rattle.dh_plan.specs.declared.operations.Reach.{Reach}
-use Rattle.dh_plan.specs.Blocks.{is_on, first_bank, bank_picked, word_at, in_memories, spot_of_reach}
+use Rattle.dh_plan.specs.Blocks.{is_on, first_listed_bank, bank_picked, word_at, in_memories, spot_of_reach}
 use Rattle.dh_plan.specs.BlockLaws.{SameAt, SameAtAll}
 use Rattle.dh_plan.specs.BoundPorts.{Uses}
 use Rattle.dh_plan.specs.LegalSchedules.{Timing, clocks_in}
@@ -220,7 +220,7 @@ module _ (plan : PlainPlan) (t : Timing) (u : Uses) (users : (port : ℕ) → Li
         let position : position_in_bank (dims_at plan.table a.spot.memory) a.spot.bank a.spot.row ≡ a.spot.position = spot_position plan.table a.own.reach.memory v.bank _ a.spot a.leads.to_row in
         ap (λ (b : Bool). if b then slice_index held q else row_value plan.table p memories (slice_index wires d.row)) says.reads
         ∙ (ap (λ (n : ℕ). row_value plan.table p memories n) a.row
-        ∙ (ap (λ (b : Bool). if b then slice_index (memory_at memories p.memory) (place_of plan.table p a.spot.row) else 0) (lt-ltb a.spot.row p.rows a.below)
+        ∙ (ap (λ (b : Bool). if b then slice_index (memory_at memories p.memory) (position_of_row plan.table p a.spot.row) else 0) (lt-ltb a.spot.row p.rows a.below)
         ∙ (ap (λ (n : ℕ). slice_index (memory_at memories n) (position_in_bank (dims_at plan.table n) p.bank a.spot.row)) memory
         ∙ (ap (λ (n : ℕ). slice_index (memory_at memories a.spot.memory) (position_in_bank (dims_at plan.table a.spot.memory) n a.spot.row)) bank
         ∙ (ap (λ (n : ℕ). slice_index (memory_at memories a.spot.memory) n) position
@@ -250,7 +250,7 @@ module _ (plan : PlainPlan) (t : Timing) (u : Uses) (users : (port : ℕ) → Li
         let ds = drivers_there q bound.0 bound.1.there in
         let inside : q < length held = (let w = slice_get_within dss q ds.0 ds.1 in omega (arith, w, full)) in
         let place : first + i - first ≡ i = add-sub_cancel_left first i in
-        let picked : bank_or_first r.banks bank ≡ bank = ap (λ (b : Bool). if b then bank else first_bank r.banks) (listed_is bank listed.0 r.banks listed.1) in
+        let picked : bank_or_first r.banks bank ≡ bank = ap (λ (b : Bool). if b then bank else first_listed_bank r.banks) (listed_is bank listed.0 r.banks listed.1) in
         let look : (hs : List ℕ) → in_ports plan u hs block (first + i) r vs ≡ slice_index hs q
         = λ hs. ap (λ (n : ℕ). if_listed r.banks n) (λ n. slice_index hs (port_bound plan u block (place n) (picked n) r)) ∙ shows_if_listed bank listed.0 r.banks (slice_index hs q) listed.1 in
         let new : slice_index new_held q ≡ held_by plan.table wires bound.0 (served wires ds.0) memories (slice_index held q)

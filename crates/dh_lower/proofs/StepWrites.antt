@@ -9,7 +9,7 @@ use Rattle.dh_tree.specs.Elements.{Spot, dims_at, position_in_bank}
 use Rattle.dh_tree.specs.declared.tables.MemEntry.{MemEntry}
 use Rattle.dh_value.specs.declared.words.Word.{Word}
 use Rattle.dh_net.specs.BankPorts.{ports_of}
-use Rattle.dh_net.specs.Clock.{served, place_of, is_active, written_by, memories_after, with_row}
+use Rattle.dh_net.specs.Clock.{served, position_of_row, is_active, written_by, memories_after, with_row}
 use Rattle.dh_net.specs.declared.nets.Driver.{Driver}
 use Rattle.dh_net.specs.declared.ports.Port.{Port}
 use Rattle.dh_plan.specs.declared.operations.Operation.{Operation}
@@ -281,7 +281,7 @@ module _ (plan : PlainPlan) (t : Timing) (u : Uses) (users : (port : ℕ) → Li
   -- the write of a driver
   abbrev port_put : (q : ℕ) (p : Port) (d : Driver) → KeyedPut
   port_put q p d =
-      keyed q (record { memory = p.memory; bank = p.bank; row = slice_index wires d.row; position = place_of plan.table p (slice_index wires d.row) }) (slice_index wires d.data_)
+      keyed q (record { memory = p.memory; bank = p.bank; row = slice_index wires d.row; position = position_of_row plan.table p (slice_index wires d.row) }) (slice_index wires d.data_)
 
   abbrev said : (q : ℕ) (p : Port) (d : Driver) (v : User) (a : AskedAt q p d v) → d.write ≡ true → IsWriteSaid wires (first_in plan v.block) (words v.block) d a.own.operation.form
   said q p d v a w = write_said p wires (first_in plan v.block) (words v.block) d a.own.operation.form w a.says
@@ -306,7 +306,7 @@ module _ (plan : PlainPlan) (t : Timing) (u : Uses) (users : (port : ℕ) → Li
       let row : slice_index wires d.row ≡ a.spot.row = a.row in
       let place : position_in_bank (dims_at plan.table p.memory) p.bank (slice_index wires d.row) ≡ a.spot.position
       = (λ n. position_in_bank (dims_at plan.table (memory n)) (bank n) (row n)) ∙ position_is plan.table a.own.reach.memory v.bank _ a.spot a.leads.to_row in
-      let spot : record { memory = p.memory; bank = p.bank; row = slice_index wires d.row; position = place_of plan.table p (slice_index wires d.row) } ≡ a.spot
+      let spot : record { memory = p.memory; bank = p.bank; row = slice_index wires d.row; position = position_of_row plan.table p (slice_index wires d.row) } ≡ a.spot
       = λ n. record { memory = memory n; bank = bank n; row = row n; position = place n } in
       let bits : slice_index wires d.data_ ≡ (word_at first vs x.value).bits = x.bits ∙ ap (λ (y : Word). y.bits) taken.0 in
       let own_bank : v.bank ≡ a.spot.bank = ap (λ (y : Spot). y.bank) a.leads.to_row.spot_is in

@@ -10,7 +10,7 @@ use Rattle.dh_plan.specs.LegalSchedules.{IsLegal, IsLegalBlock, needed_clock, cl
 use Rattle.dh_plan.specs.Ordered.{TakesEarlier, IsOrdered}
 use Rattle.dh_plan.specs.PlainPlans.{no_nodes, first_in, operations_in}
 use Rattle.dh_plan.specs.PlanKinds.{IsFormedBlock, OperationSuits, kinds_of}
-use Rattle.dh_plan.specs.PlanRuns.{Todo, over, nodes_then, next_of, start_at, block_values}
+use Rattle.dh_plan.specs.PlanRuns.{PlanTodo, over, nodes_then, plan_next_of, start_at, block_values}
 use Rattle.dh_plan.specs.PlayedPlans.{PlaysPlan}
 use Rattle.dh_plan.specs.ScheduleLaws.{without_limits}
 use Rattle.dh_plan.specs.SoundPlans.{access_in, use_in, HasAccess, HasUse, IsListed, Reaches, KeepsBanks, StepsKeepBanks, IsFormed, FormAddressed, IsInRange, IsAddressed}
@@ -157,7 +157,7 @@ store_addressed = record { forms = store_forms; inside = λ blocks loops h regis
 
 -- The graph, the schedule, the binding.
 
-abbrev behind_state : ℕ → Todo
+abbrev behind_state : ℕ → PlanTodo
 behind_state zero = nodes_then no_nodes over
 behind_state (suc state) = over
 
@@ -165,7 +165,7 @@ store_flows : FlowsAs store_flow store_plan
 store_flows = record { behind = behind_state; after = λ fork. over; first = λ registers. refl; each = each_state; joined = λ fork registers. refl }
   where
     each_state : (state : ℕ) (registers : List ℕ)
-        → leads_to store_flow.states behind_state (λ fork. over) (resolve [] (way_of_stop (slice_get store_flow.states state)) registers) ≡ next_of [] (behind_state state) registers
+        → leads_to store_flow.states behind_state (λ fork. over) (resolve [] (way_of_stop (slice_get store_flow.states state)) registers) ≡ plan_next_of [] (behind_state state) registers
     each_state zero registers = refl
     each_state (suc state) registers = refl
 

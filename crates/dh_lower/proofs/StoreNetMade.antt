@@ -272,7 +272,7 @@ module _ (tick fault : ℕ) (registers : List ℕ) (wires : List ℕ) (none : fa
         fault_is = w.fault_wire ∙ sym none;
       }
 
-at_clock_of : (spot : graph.Spot) (clock tick : ℕ) (registers : List ℕ) (s : State) (wires : List ℕ)
+at_clock_of : (spot : graph.GraphSpot) (clock tick : ℕ) (registers : List ℕ) (s : State) (wires : List ℕ)
     → (blocks_of_spot store_making.flow.states spot ≡ [] → ⊥) → clock < spot_length store_making spot → store_holds spot clock tick 0 registers s.registers
     → FitsNet store_net s → IsValuation store_net.table store_cells s.registers s.held wires → ShowsAtClock store_making store_net store_holds spot clock tick registers s.held wires
 at_clock_of rests clock tick registers s wires some less h fits v = absurd (some refl)

@@ -18,14 +18,14 @@ use Rattle.dh_plan.specs.declared.operations.OperationForm.TheVariants.{Constant
 use Rattle.dh_plan.specs.Blocks.{StepStart, Look, no_word, word_at, is_on, guarded, in_memories, operation_word}
 use Rattle.dh_plan.specs.BlockLaws.{SameAt, SameAtAll, LooksBack}
 use Rattle.dh_plan.specs.BoundPorts.{Uses}
-use Rattle.dh_plan.specs.LegalSchedules.{there_at, there_from, value_clock, greatest_of, last_clock}
+use Rattle.dh_plan.specs.LegalSchedules.{there_at, there_from, value_clock, greatest_number, last_clock}
 use Rattle.dh_plan.specs.Ordered.{operation_takes, offsets_taken, one_or_none, IsBetween}
 use Rattle.dh_plan.specs.PlainPlans.{PlainPlan, first_in}
 use Rattle.dh_plan.proofs.ValuesAlike.{all_left, all_right, bank_same, word_same}
 use Rattle.dh_lower.specs.ShownWords.{bank_or_first, if_listed, in_ports, port_bound, ReadsAreMade, IsAtClock}
 
 -- the greatest of numbers is no less than each
-greatest_is : (f : ℕ → ℕ) (ns : List ℕ) (c : ℕ) → greatest_of (map f ns) ≤ c → AllByRecursion (λ (n : ℕ). f n ≤ c) ns
+greatest_is : (f : ℕ → ℕ) (ns : List ℕ) (c : ℕ) → greatest_number (map f ns) ≤ c → AllByRecursion (λ (n : ℕ). f n ≤ c) ns
 greatest_is f [] c h = tt
 greatest_is f (n ∷ ns) c h = (grind arith, greatest_is f ns c (grind arith))
 

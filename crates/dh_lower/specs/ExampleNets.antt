@@ -13,7 +13,7 @@ use Rattle.dh_plan.specs.declared.operations.Reach.{Reach}
 use Rattle.dh_plan.specs.ExamplePlans.{line, always, constant, one_bank, block, nodes}
 use Rattle.dh_plan.specs.PlainPlans.{block_node, PlainPlan}
 use Rattle.dh_plan.specs.Ways.{to_state, to_end, Flow, rests, in_state, in_fork}
-use Rattle.dh_lower.specs.NetOfPlan.{Making, Standing}
+use Rattle.dh_lower.specs.NetOfPlan.{Making, RegisterMeaning}
 use Rattle.dh_lower.specs.PortUsers.{User}
 
 abbrev pub stored_row : Reach
@@ -82,7 +82,7 @@ store_net = record {
 }
 
 -- its registers are the state and the tick
-abbrev pub store_holds : Standing
+abbrev pub store_holds : RegisterMeaning
 store_holds rests clock tick fault registers net_registers = (net_registers ≡ 1 ∷ tick ∷ []) × (fault ≡ 0)
 store_holds (in_state zero) clock tick fault registers net_registers = (net_registers ≡ 0 ∷ tick ∷ []) × (fault ≡ 0)
 store_holds (in_state (suc state)) clock tick fault registers net_registers = ⊥

@@ -17,7 +17,7 @@ use Rattle.dh_plan.specs.ExamplePlans.{dim, memory, always, constant, block, nod
 use Rattle.dh_plan.specs.PlainPlans.{block_node, PlainPlan}
 use Rattle.dh_plan.specs.Ways.{to_state, to_end, rests, in_state, in_fork}
 use Rattle.dh_lower.specs.ExampleNets.{sized}
-use Rattle.dh_lower.specs.NetOfPlan.{Making, Standing}
+use Rattle.dh_lower.specs.NetOfPlan.{Making, RegisterMeaning}
 use Rattle.dh_lower.specs.PortUsers.{User}
 
 abbrev pub picked_row : Reach
@@ -94,7 +94,7 @@ read_net = record {
 }
 
 -- its registers are whether the run is over, the clock, the tick, and those of the plan
-abbrev pub read_holds : Standing
+abbrev pub read_holds : RegisterMeaning
 read_holds rests clock tick fault registers net_registers = (net_registers ≡ 1 ∷ clock ∷ tick ∷ registers) × ((length registers ≡ 2) × (fault ≡ 0))
 read_holds (in_state zero) clock tick fault registers net_registers = (net_registers ≡ 0 ∷ clock ∷ tick ∷ registers) × ((length registers ≡ 2) × (fault ≡ 0))
 read_holds (in_state (suc state)) clock tick fault registers net_registers = ⊥

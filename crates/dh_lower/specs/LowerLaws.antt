@@ -8,7 +8,7 @@ use Rattle.dh_plan.specs.BoundPorts.{Uses}
 use Rattle.dh_plan.specs.LegalSchedules.{value_clock, last_clock}
 use Rattle.dh_plan.specs.PlainPlans.{PlainPlan, first_in}
 use Rattle.dh_plan.specs.PlanRuns.{place_after}
-use Rattle.dh_plan.specs.Ways.{Flow, FlowsAs, Spot, leads_to, place_of}
+use Rattle.dh_plan.specs.Ways.{Flow, FlowsAs, GraphSpot, leads_to, place_of}
 use Rattle.dh_lower.specs.ShownWords.{in_ports, IsAtClock}
 use Rattle.dh_lower.specs.SpotsDone.{spot_after}
 
@@ -32,5 +32,5 @@ PortsLookBack = (plan : PlainPlan) (u : Uses) (held : List ℕ) (block : ℕ) �
 -- a graph that does a plan goes on from step to step as the plan does, threads with their forks and joins
 abbrev pub SpotsFollowPlaces : Type 0
 SpotsFollowPlaces =
-    (g : Flow) (plan : PlainPlan) (f : FlowsAs g plan) (spot : Spot) (registers : List ℕ)
+    (g : Flow) (plan : PlainPlan) (f : FlowsAs g plan) (spot : GraphSpot) (registers : List ℕ)
     → leads_to g.states f.behind f.after (spot_after plan.registers g spot registers) ≡ place_after plan.registers (place_of g.states f.behind f.after spot) registers

@@ -16,7 +16,7 @@ use Rattle.dh_plan.specs.LegalSchedules.{Timing}
 use Rattle.dh_plan.specs.PlainPlans.{PlainPlan, first_in, operations_in}
 use Rattle.dh_plan.specs.PlanRuns.{start_at, first_registers}
 use Rattle.dh_plan.specs.PlayedPlans.{longest}
-use Rattle.dh_plan.specs.Ways.{Flow, Spot, rests, Led, resolve}
+use Rattle.dh_plan.specs.Ways.{Flow, GraphSpot, rests, GraphLed, resolve}
 use Rattle.dh_lower.specs.ShownWords.{Layout, block_shown, in_ports}
 use Rattle.dh_lower.specs.SpotsDone.{blocks_of_spot, spot_after}
 use Rattle.dh_lower.specs.PortUsers.{User, AreUsers, Moment, DriveFor}
@@ -40,7 +40,7 @@ sets_by plan words [] = []
 sets_by plan words (b ∷ bs) = block_sets (first_in plan b) (words b) (operations_in plan b) ++ sets_by plan words bs
 
 -- the clocks of the step that starts at a place
-abbrev pub spot_length : Making → Spot → ℕ
+abbrev pub spot_length : Making → GraphSpot → ℕ
 spot_length k spot = longest k.timing.lengths (blocks_of_spot k.flow.states spot)
 
 -- the words that wires show
@@ -48,30 +48,30 @@ abbrev pub words_of : Making → (wires : List ℕ) → (block : ℕ) → List W
 words_of k wires block = block_shown k.plan k.layout block wires
 
 -- the first fault of the step, as wires show it
-abbrev pub fault_seen : Making → Spot → (registers wires : List ℕ) → Option ℕ
+abbrev pub fault_seen : Making → GraphSpot → (registers wires : List ℕ) → Option ℕ
 fault_seen k spot registers wires = first_fault (events_by k.plan registers (words_of k wires) (blocks_of_spot k.flow.states spot))
 
 -- where the step leads, as wires show it
-abbrev pub led_on : Making → Spot → (registers wires : List ℕ) → Led
+abbrev pub led_on : Making → GraphSpot → (registers wires : List ℕ) → GraphLed
 led_on k spot registers wires =
     spot_after k.plan.registers k.flow spot (all_set (sets_by k.plan (words_of k wires) (blocks_of_spot k.flow.states spot)) registers)
 
 -- a clock of the step
-abbrev pub moment_at : Making → Spot → (clock : ℕ) → (registers wires : List ℕ) → Moment
+abbrev pub moment_at : Making → GraphSpot → (clock : ℕ) → (registers wires : List ℕ) → Moment
 moment_at k spot clock registers wires =
     record { active = blocks_of_spot k.flow.states spot; clock = clock; commits = (suc clock == spot_length k spot) && is_none (fault_seen k spot registers wires) }
 
 -- what registers of a net stand for: a place in the graph, a clock, a tick, a fault (0 is none) and registers of a plan
-abbrev pub Standing : Type 1
-Standing = (spot : Spot) → (clock tick fault : ℕ) → (registers : List ℕ) → (net_registers : List ℕ) → Type 0
+abbrev pub RegisterMeaning : Type 1
+RegisterMeaning = (spot : GraphSpot) → (clock tick fault : ℕ) → (registers : List ℕ) → (net_registers : List ℕ) → Type 0
 
-module _ (k : Making) (net : Net) (Holds : Standing) where
+module _ (k : Making) (net : Net) (Holds : RegisterMeaning) where
   -- the registers of the net after the clock
   abbrev pub next_registers : (wires : List ℕ) → List ℕ
   next_registers wires = map (λ r. slice_index wires r.next) net.registers
 
   -- at a clock of a step, by any wires that settle
-  pub record ShowsAtClock (spot : Spot) (clock tick : ℕ) (registers held wires : List ℕ) : Type 0 where
+  pub record ShowsAtClock (spot : GraphSpot) (clock tick : ℕ) (registers held wires : List ℕ) : Type 0 where
     pub words : (block : ℕ)
         → AreValues (start_at k.plan registers []) (in_ports k.plan k.uses held block) (first_in k.plan block) (operations_in k.plan block) (words_of k wires block)
     -- before the last clock
@@ -105,7 +105,7 @@ module _ (k : Making) (net : Net) (Holds : Standing) where
     pub starts : Holds (resolve k.plan.registers k.flow.first (first_registers k.plan)).spot 0 0 0
         (resolve k.plan.registers k.flow.first (first_registers k.plan)).registers (map (λ r. r.initial) net.registers)
     -- in a state that fits the widths it shows what it stands for
-    pub at_clock : (spot : Spot) (clock tick : ℕ) (registers : List ℕ) (s : State) (wires : List ℕ)
+    pub at_clock : (spot : GraphSpot) (clock tick : ℕ) (registers : List ℕ) (s : State) (wires : List ℕ)
         → (blocks_of_spot k.flow.states spot ≡ [] → ⊥) → clock < spot_length k spot → Holds spot clock tick 0 registers s.registers
         → FitsNet net s → IsValuation net.table net.cells s.registers s.held wires → ShowsAtClock spot clock tick registers s.held wires
     pub over : (clock tick fault : ℕ) (registers : List ℕ) (s : State) (wires : List ℕ)

@@ -12,7 +12,7 @@ use Rattle.dh_plan.specs.declared.operations.Operation.{Operation}
 use Rattle.dh_plan.specs.declared.operations.OperationForm.TheVariants.{Read}
 use Rattle.dh_plan.specs.declared.operations.Reach.{Reach}
 use Rattle.dh_plan.specs.PlainPlans.{PlainPlan, first_in}
-use Rattle.dh_plan.specs.Blocks.{StepStart, Look, is_on, first_bank, bank_picked, in_memories, AreValues}
+use Rattle.dh_plan.specs.Blocks.{StepStart, Look, is_on, first_listed_bank, bank_picked, in_memories, AreValues}
 use Rattle.dh_plan.specs.BlockLaws.{LooksBack}
 use Rattle.dh_plan.specs.BoundPorts.{Uses, port_used}
 use Rattle.dh_plan.specs.LegalSchedules.{needed_clock}
@@ -49,7 +49,7 @@ is_bank_listed bank [] = false
 is_bank_listed bank (b ∷ bs) = (b.0 == bank) || is_bank_listed bank bs
 
 abbrev pub bank_or_first : List (ℕ × ℕ) → (bank : ℕ) → ℕ
-bank_or_first banks bank = if is_bank_listed bank banks then bank else first_bank banks
+bank_or_first banks bank = if is_bank_listed bank banks then bank else first_listed_bank banks
 
 -- A read that lists no bank is in no step done, and uses no port: it shows 0.
 abbrev pub if_listed : List (ℕ × ℕ) → (bits : ℕ) → ℕ

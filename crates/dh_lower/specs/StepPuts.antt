@@ -4,7 +4,7 @@ use Rattle.std.specs.Prelude.{ℕ, suc, if◌then◌else◌, List, [], ◌∷◌
 use Rattle.dh_tree.specs.Elements.{Spot}
 use Rattle.dh_tree.specs.declared.tables.MemEntry.{MemEntry}
 use Rattle.dh_value.specs.declared.words.Word.{Word}
-use Rattle.dh_net.specs.Clock.{served, place_of}
+use Rattle.dh_net.specs.Clock.{served, position_of_row}
 use Rattle.dh_net.specs.declared.nets.Driver.{Driver}
 use Rattle.dh_net.specs.declared.ports.Port.{Port}
 use Rattle.dh_plan.specs.declared.operations.Operation.{Operation}
@@ -57,7 +57,7 @@ abbrev pub driver_puts : List MemEntry → (wires : List ℕ) → (q : ℕ) → 
 driver_puts table wires q p None = []
 driver_puts table wires q p (Some d) =
     if d.write
-    then keyed q (record { memory = p.memory; bank = p.bank; row = slice_index wires d.row; position = place_of table p (slice_index wires d.row) }) (slice_index wires d.data_) ∷ []
+    then keyed q (record { memory = p.memory; bank = p.bank; row = slice_index wires d.row; position = position_of_row table p (slice_index wires d.row) }) (slice_index wires d.data_) ∷ []
     else []
 
 -- of ports from one of this number on

@@ -6,7 +6,7 @@ use Rattle.dh_base.specs.declared.places.Place.{Place}
 use Rattle.dh_value.specs.declared.kinds.Kind.{Kind}
 use Rattle.dh_value.specs.declared.operators.Op.{Op}
 use Rattle.dh_tree.specs.declared.tables.MemEntry.{MemEntry}
-use Rattle.dh_meaning.specs.Ways.{Step}
+use Rattle.dh_meaning.specs.Ways.{WayStep}
 
 -- an access of the program: its number in order of evaluation, where it stands, and the memory that it
 -- leads to, by its number in the table
@@ -36,7 +36,7 @@ mutual
     by_row : (bank : ℕ) → (row : CoreTerm) → Target
     -- by indices of a view, the first so many of these terms, through the views on the way, the named one first; the
     -- other terms are their offsets, in the same order
-    by_views : (steps : List Step) → (indices : ℕ) → (terms : CoreTerms) → Target
+    by_views : (steps : List WayStep) → (indices : ℕ) → (terms : CoreTerms) → Target
 
   pub data CoreTerms : Type 0 where
     no_terms : CoreTerms

@@ -211,15 +211,15 @@ test_of (calls function arguments) = None
 test_of (blocks body) = None
 test_of (counts iterator declared low high factor body combine combine_place) = None
 
-abbrev pub form_of : Action → ActionForm
-form_of (action id place form) = form
+abbrev pub action_form_of : Action → ActionForm
+action_form_of (action id place form) = form
 
 abbrev pub core_test_of : Known → (n : ℕ) → Option plain.Term → CoreTerm
 core_test_of known n None = truth_literal false
 core_test_of known n (Some test) = core_term known n test
 
 abbrev pub core_test : Known → Located → CoreTerm
-core_test known c = core_test_of known c.first (test_of (form_of c.command))
+core_test known c = core_test_of known c.first (test_of (action_form_of c.command))
 
 -- the turns of a `for`; another command has none
 abbrev pub no_turns : Turning
@@ -242,7 +242,7 @@ turning_of known count (blocks body) = no_turns
 abbrev mutual
   pub core_phase : Known → source.Phase → CorePhase
   core_phase known (source.straight cs) = straightly (core_commands known cs)
-  core_phase known (source.turns loop count body) = turning (turning_of known count (form_of loop.command)) (core_phases known body)
+  core_phase known (source.turns loop count body) = turning (turning_of known count (action_form_of loop.command)) (core_phases known body)
   core_phase known (source.repeated loop body) = looping (core_test known loop) (core_phases known body)
   core_phase known (source.decided choice chosen other) = choosing (core_test known choice) (core_phases known chosen) (core_phases known other)
 

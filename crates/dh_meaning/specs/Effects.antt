@@ -22,7 +22,7 @@ use Rattle.dh_tree.specs.declared.tables.MemEntry.{MemEntry}
 use Rattle.dh_tree.specs.Elements.{Spot, spot_of, spot_in_bank, dims_at, ports_at, rows_of}
 pub use Rattle.dh_tree.specs.ViewElements.{is_inside}
 use Rattle.dh_tree.specs.ViewElements.{view_through, where_inside}
-use Rattle.dh_meaning.specs.Ways.{Step}
+use Rattle.dh_meaning.specs.Ways.{WayStep}
 use Rattle.dh_meaning.specs.Paths.{Path, same_path}
 use Rattle.dh_meaning.specs.Core.{Reach, CoreTerm, literal, truth_literal, variable, read, binary, convert, Target, by_indices, by_row, by_views, CoreTerms, no_terms, term_and, CoreCommand, store, assign, choose, keep, CoreCommands, no_commands, command_and}
 
@@ -72,7 +72,7 @@ abbrev pub spot_by_row : List MemEntry → (memory bank : ℕ) → (row : ℤ) �
 spot_by_row table memory bank row = if is_row (dims_at table memory) row then Some (spot_in_bank table memory bank (unsigned_abs row)) else None
 
 -- the indices of the memory, through the views on the way; none where those of a view are out of range
-abbrev pub indices_through : List Step → (indices offsets : List ℤ) → Option (List ℤ)
+abbrev pub indices_through : List WayStep → (indices offsets : List ℤ) → Option (List ℤ)
 indices_through [] indices offsets = Some indices
 indices_through (s ∷ ss) indices offsets =
     where_inside (view_through s.is (take s.offsets offsets) indices) (λ inner. indices_through ss inner (drop s.offsets offsets))
@@ -81,7 +81,7 @@ abbrev pub spot_if_inside : List MemEntry → (memory : ℕ) → Option (List �
 spot_if_inside table memory None = None
 spot_if_inside table memory (Some indices) = spot_by_indices table memory indices
 
-abbrev pub spot_by_views : List MemEntry → (memory : ℕ) → List Step → (indices offsets : List ℤ) → Option Spot
+abbrev pub spot_by_views : List MemEntry → (memory : ℕ) → List WayStep → (indices offsets : List ℤ) → Option Spot
 spot_by_views table memory steps indices offsets = spot_if_inside table memory (indices_through steps indices offsets)
 
 -- the bits of an element, 0 where an access is out of range
@@ -273,16 +273,16 @@ abbrev pub spent : List Event → (memory bank : ℕ) → ℕ
 spent es memory bank = distinct_count nat_eq (rows_read es memory bank) + writes_made es memory bank
 
 -- these events have a bank spend more than its ports
-abbrev pub is_beyond : List MemEntry → List Event → Spot → Bool
-is_beyond table es s = nat_lt (ports_at table s.memory) (spent es s.memory s.bank)
+abbrev pub spends_beyond : List MemEntry → List Event → Spot → Bool
+spends_beyond table es s = nat_lt (ports_at table s.memory) (spent es s.memory s.bank)
 
 -- the first fault, or access with which a bank has spent more than its ports, of what follows
 -- these events of the step
 abbrev pub stop_after : List MemEntry → (before rest : List Event) → Option Outcome
 stop_after table before [] = None
 stop_after table before (reads number place path s ∷ es) =
-    if is_beyond table (before ++ reads number place path s ∷ []) s then Some (Stuck s.memory s.bank place) else stop_after table (before ++ reads number place path s ∷ []) es
+    if spends_beyond table (before ++ reads number place path s ∷ []) s then Some (Stuck s.memory s.bank place) else stop_after table (before ++ reads number place path s ∷ []) es
 stop_after table before (writes number place path s value ∷ es) =
-    if is_beyond table (before ++ writes number place path s value ∷ []) s then Some (Stuck s.memory s.bank place)
+    if spends_beyond table (before ++ writes number place path s value ∷ []) s then Some (Stuck s.memory s.bank place)
     else stop_after table (before ++ writes number place path s value ∷ []) es
 stop_after table before (faults number place path kind ∷ es) = Some (Faulted kind place)

@@ -8,8 +8,8 @@ use Rattle.dh_meaning.specs.AccessNumbers.{term_accesses, own_accesses, accesses
 use Rattle.dh_meaning.specs.Phases.{Located, Phase, straight, turns, repeated, decided, Phases, no_phases, phase, phases_of, idle_phases_of}
 
 -- it is one of `count` numbers from n on
-abbrev pub is_within : (k n count : ℕ) → Bool
-is_within k n count = nat_le n k && nat_lt k (n + count)
+abbrev pub is_between : (k n count : ℕ) → Bool
+is_between k n count = nat_le n k && nat_lt k (n + count)
 
 abbrev mutual
   -- whether a straight command, whose accesses are numbered from n on, makes the access of this number, itself or
@@ -18,15 +18,15 @@ abbrev mutual
   makes k n (action id place form) = form_makes k n form
 
   pub form_makes : (k n : ℕ) → ActionForm → Bool
-  form_makes k n (lets name declared value) = is_within k n (own_accesses (lets name declared value))
-  form_makes k n (assigns target value) = is_within k n (own_accesses (assigns target value))
-  form_makes k n (stores target value) = is_within k n (own_accesses (stores target value))
-  form_makes k n (reduces target op value) = is_within k n (own_accesses (reduces target op value))
+  form_makes k n (lets name declared value) = is_between k n (own_accesses (lets name declared value))
+  form_makes k n (assigns target value) = is_between k n (own_accesses (assigns target value))
+  form_makes k n (stores target value) = is_between k n (own_accesses (stores target value))
+  form_makes k n (reduces target op value) = is_between k n (own_accesses (reduces target op value))
   form_makes k n (decides test chosen other) =
-      is_within k n (term_accesses test) || (makes k (n + term_accesses test) chosen || other_makes k (n + term_accesses test + accesses_of chosen) other)
+      is_between k n (term_accesses test) || (makes k (n + term_accesses test) chosen || other_makes k (n + term_accesses test + accesses_of chosen) other)
   form_makes k n (blocks body) = groups_make k n body
   form_makes k n (lets_memory name shape shape_places value) = false
-  form_makes k n (views name parent form) = is_within k n (own_accesses (views name parent form))
+  form_makes k n (views name parent form) = is_between k n (own_accesses (views name parent form))
   form_makes k n (calls function arguments) = false
   form_makes k n (repeats test body) = false
   form_makes k n (counts iterator declared low high factor body combine combine_place) = false
@@ -49,8 +49,8 @@ any_makes k cs = list_any (λ c. makes k c.first c.command) cs
 
 -- the test of a command makes it
 abbrev pub form_tests : (k n : ℕ) → ActionForm → Bool
-form_tests k n (decides test chosen other) = is_within k n (term_accesses test)
-form_tests k n (repeats test body) = is_within k n (term_accesses test)
+form_tests k n (decides test chosen other) = is_between k n (term_accesses test)
+form_tests k n (repeats test body) = is_between k n (term_accesses test)
 form_tests k n (lets name declared value) = false
 form_tests k n (lets_memory name shape shape_places value) = false
 form_tests k n (views name parent form) = false

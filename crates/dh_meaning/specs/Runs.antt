@@ -35,31 +35,31 @@ turn_begun loop turn (path ∷ paths) variables = turn_begun loop turn paths (se
 -- What is still to come.
 
 -- what comes behind the block that is done
-pub data Todo : Type 0 where
+pub data RunTodo : Type 0 where
   -- nothing
-  over : Todo
+  over : RunTodo
   -- these phases, at these paths
-  phases_then : (paths : List Path) → CorePhases → Todo → Todo
+  phases_then : (paths : List Path) → CorePhases → RunTodo → RunTodo
   -- the rest of a turn is done: the next turns of a loop at these paths, with the number of the turn
-  turn_then : (paths : List Path) → (loop : Turning) → (turn : ℕ) → (body : CorePhases) → Todo → Todo
+  turn_then : (paths : List Path) → (loop : Turning) → (turn : ℕ) → (body : CorePhases) → RunTodo → RunTodo
   -- the test of a `while` is done
-  test_then : (paths : List Path) → (test : CoreTerm) → (body : CorePhases) → Todo → Todo
+  test_then : (paths : List Path) → (test : CoreTerm) → (body : CorePhases) → RunTodo → RunTodo
   -- the body of a `while` is done, and its test comes again
-  again_then : (paths : List Path) → (test : CoreTerm) → (body : CorePhases) → Todo → Todo
+  again_then : (paths : List Path) → (test : CoreTerm) → (body : CorePhases) → RunTodo → RunTodo
   -- the test of an `if` is done
-  pick_then : (paths : List Path) → (test : CoreTerm) → (chosen other : CorePhases) → Todo → Todo
+  pick_then : (paths : List Path) → (test : CoreTerm) → (chosen other : CorePhases) → RunTodo → RunTodo
 
 -- where a run stands: at its end, or at a block with what comes behind it
-pub data Place : Type 0 where
-  ended : Place
-  at : (paths : List Path) → Block → Todo → Place
+pub data RunPlace : Type 0 where
+  ended : RunPlace
+  at : (paths : List Path) → Block → RunTodo → RunPlace
 
 -- a place, and the variables there
-pub record Next : Type 0 where
-  pub place : Place
+pub record RunNext : Type 0 where
+  pub place : RunPlace
   pub variables : Variables
 
-abbrev pub next : Place → Variables → Next
+abbrev pub next : RunPlace → Variables → RunNext
 next place variables = record { place = place; variables = variables }
 
 -- the turns of a loop begin
@@ -69,11 +69,11 @@ begins loop paths variables = turn_begun loop 0 (inner_paths paths loop) variabl
 abbrev mutual
   -- Into phases at these paths: to their first block, or to what lies behind where they have none. `k` is what
   -- comes behind their last block.
-  pub enter : (paths : List Path) → CorePhases → (k : Todo) → (behind : Next) → Variables → Next
+  pub enter : (paths : List Path) → CorePhases → (k : RunTodo) → (behind : RunNext) → Variables → RunNext
   enter paths no_core_phases k behind variables = behind
   enter paths (phase_and p ps) k behind variables = enter_phase paths p (phases_then paths ps k) (enter paths ps k behind variables) variables
 
-  pub enter_phase : (paths : List Path) → CorePhase → (k : Todo) → (behind : Next) → Variables → Next
+  pub enter_phase : (paths : List Path) → CorePhase → (k : RunTodo) → (behind : RunNext) → Variables → RunNext
   enter_phase paths (straightly cs) k behind variables = next (at paths (commands cs) k) variables
   enter_phase paths (turning loop body) k behind variables =
       if loop.count == 0 then behind
@@ -90,7 +90,7 @@ abbrev pub goes_on : Begun → Variables → (paths : List Path) → CoreTerm �
 goes_on b variables paths test = holds_at b variables test (first_path paths)
 
 -- behind a block that is done: to the next one
-abbrev pub next_of : Begun → Todo → Variables → Next
+abbrev pub next_of : Begun → RunTodo → Variables → RunNext
 next_of b over variables = next ended variables
 next_of b (phases_then paths ps k) variables = enter paths ps k (next_of b k variables) variables
 next_of b (turn_then paths loop turn body k) variables =
@@ -108,12 +108,12 @@ next_of b (pick_then paths test chosen other k) variables =
 -- Steps.
 
 -- what the next step does
-abbrev pub place_run : Begun → Place → Effect → Effect
+abbrev pub place_run : Begun → RunPlace → Effect → Effect
 place_run b ended e = e
 place_run b (at paths block k) e = block_run b paths block e
 
 -- where it then stands, by the variables that it leaves
-abbrev pub place_after : Begun → Place → Variables → Next
+abbrev pub place_after : Begun → RunPlace → Variables → RunNext
 place_after b ended variables = next ended variables
 place_after b (at paths block k) variables = next_of b k variables
 
@@ -123,14 +123,14 @@ pub record RunState : Type 0 where
   pub steps : ℕ
   pub memories : List (List ℕ)
   pub variables : Variables
-  pub place : Place
+  pub place : RunPlace
 
 -- there is a next step, or no block remains
-abbrev pub outcome_at : Place → Outcome
+abbrev pub outcome_at : RunPlace → Outcome
 outcome_at ended = Ended
 outcome_at (at paths block k) = Going
 
-abbrev pub stands_at : (steps : ℕ) → List (List ℕ) → Next → RunState
+abbrev pub stands_at : (steps : ℕ) → List (List ℕ) → RunNext → RunState
 stands_at steps memories n = record { outcome = outcome_at n.place; steps = steps; memories = memories; variables = n.variables; place = n.place }
 
 abbrev pub begun_at : List MemEntry → RunState → Begun

@@ -11,23 +11,23 @@ use Rattle.dh_tree.specs.Memories.{Memory, memories_of, memory_in, same_entity}
 use Rattle.dh_tree.specs.PlainTrees.{Term, ViewPlan, Action, action, ActionForm, lets, lets_memory, views, assigns, stores, reduces, calls, blocks, decides, repeats, counts, MaybeAction, no_action, one_action, Actions, no_actions, action_then, Groups, no_groups, group_then, Program}
 use Rattle.dh_tree.specs.declared.viewing.ViewMap.{ViewMap}
 use Rattle.dh_tree.specs.ViewElements.{offsets_needed}
-use Rattle.dh_tree.specs.ViewOffsets.{offsets_of, moves, is_shift}
+use Rattle.dh_tree.specs.ViewOffsets.{offsets_of, moves, is_shift_view}
 use Rattle.dh_tree.specs.Views.{map_of}
 use Rattle.dh_meaning.specs.Bindings.{Binding, bindings_of, kind_found, depth_inside}
 
 -- Views where they stand: inside so many unrolled loops.
 
-pub record Standing : Type 0 where
+pub record ViewSite : Type 0 where
   pub name : Ref
   pub parent : Ref
   pub form : ViewPlan
   pub depth : ℕ
 
 abbrev mutual
-  pub standings : (depth : ℕ) → Action → List Standing
+  pub standings : (depth : ℕ) → Action → List ViewSite
   standings depth (action id place form) = form_standings depth form
 
-  pub form_standings : (depth : ℕ) → ActionForm → List Standing
+  pub form_standings : (depth : ℕ) → ActionForm → List ViewSite
   form_standings depth (views name parent form) = record { name = name; parent = parent; form = form; depth = depth } ∷ []
   form_standings depth (lets name declared value) = []
   form_standings depth (lets_memory name shape shape_places value) = []
@@ -41,15 +41,15 @@ abbrev mutual
   form_standings depth (counts iterator declared low high factor body combine combine_place) =
       standings (depth_inside depth factor.value) body ++ other_standings (depth_inside depth factor.value) combine
 
-  pub other_standings : (depth : ℕ) → MaybeAction → List Standing
+  pub other_standings : (depth : ℕ) → MaybeAction → List ViewSite
   other_standings depth no_action = []
   other_standings depth (one_action a) = standings depth a
 
-  pub groups_standings : (depth : ℕ) → Groups → List Standing
+  pub groups_standings : (depth : ℕ) → Groups → List ViewSite
   groups_standings depth no_groups = []
   groups_standings depth (group_then part rest) = part_standings depth part ++ groups_standings depth rest
 
-  pub part_standings : (depth : ℕ) → Actions → List Standing
+  pub part_standings : (depth : ℕ) → Actions → List ViewSite
   part_standings depth no_actions = []
   part_standings depth (action_then a rest) = standings depth a ++ part_standings depth rest
 
@@ -65,14 +65,14 @@ abbrev pub hidden_from : (first depth : ℕ) → List Term → List Hidden
 hidden_from first depth [] = []
 hidden_from first depth (t ∷ ts) = record { entity = first; kind = kind_found t; depth = depth } ∷ hidden_from (suc first) depth ts
 
-abbrev pub hidden_of : (first : ℕ) → Standing → List Hidden
+abbrev pub hidden_of : (first : ℕ) → ViewSite → List Hidden
 hidden_of first s = hidden_from first s.depth (offsets_of s.form)
 
 -- the first entity behind them
-abbrev pub behind_hidden : (first : ℕ) → Standing → ℕ
+abbrev pub behind_hidden : (first : ℕ) → ViewSite → ℕ
 behind_hidden first s = first + length (offsets_of s.form)
 
-abbrev pub behind_all : (first : ℕ) → List Standing → ℕ
+abbrev pub behind_all : (first : ℕ) → List ViewSite → ℕ
 behind_all first [] = first
 behind_all first (s ∷ ss) = behind_all (behind_hidden first s) ss
 
@@ -83,7 +83,7 @@ all_entities_of p = behind_all (length p.entities) (standings 0 p.body)
 -- Ways.
 
 -- a view on the way, with the number of offsets that it takes
-pub record Step : Type 0 where
+pub record WayStep : Type 0 where
   pub is : ViewMap
   pub offsets : ℕ
 
@@ -92,27 +92,27 @@ pub record Way : Type 0 where
   pub is : ViewMap
   pub memory : Option ℕ
   -- the views, the named one first, and where their offsets are kept, in the same order
-  pub steps : List Step
+  pub steps : List WayStep
   pub hidden : List Hidden
   -- the depth of the deepest view that moves, and of the deepest shift; 0 where there is none
   pub deepest : ℕ
   pub shifts : ℕ
 
-abbrev pub step_of : ViewMap → Step
+abbrev pub step_of : ViewMap → WayStep
 step_of v = record { is = v; offsets = offsets_needed v.sort v.parent.dims }
 
 abbrev pub depth_where : Bool → (depth : ℕ) → ℕ
 depth_where b depth = if b then depth else 0
 
 -- the way of a view, behind which that of its parent goes on; a parent without a way is a memory
-abbrev pub way_behind : (first : ℕ) → Standing → ViewMap → Option Way → Way
+abbrev pub way_behind : (first : ℕ) → ViewSite → ViewMap → Option Way → Way
 way_behind first s v None = record {
   is = v;
   memory = s.parent.entity;
   steps = step_of v ∷ [];
   hidden = hidden_of first s;
   deepest = depth_where (moves s.form) s.depth;
-  shifts = depth_where (is_shift s.form) s.depth;
+  shifts = depth_where (is_shift_view s.form) s.depth;
 }
 way_behind first s v (Some w) = record {
   is = v;
@@ -120,7 +120,7 @@ way_behind first s v (Some w) = record {
   steps = step_of v ∷ w.steps;
   hidden = hidden_of first s ++ w.hidden;
   deepest = max (depth_where (moves s.form) s.depth) w.deepest;
-  shifts = max (depth_where (is_shift s.form) s.depth) w.shifts;
+  shifts = max (depth_where (is_shift_view s.form) s.depth) w.shifts;
 }
 
 -- a view's entity with its way
@@ -148,16 +148,16 @@ shape_named None (Some w) = Some w.is.shape
 shape_named None None = None
 
 -- a view of what has this shape; one whose parent has none, as in no typed program, has no way
-abbrev pub led_of : (first : ℕ) → Standing → Option Shape → Option Way → List Led
+abbrev pub led_of : (first : ℕ) → ViewSite → Option Shape → Option Way → List Led
 led_of first s None parent = []
 led_of first s (Some shape) parent = record { entity = s.name.entity; way = way_behind first s (map_of s.form shape) parent } ∷ []
 
-abbrev pub led_after : List Memory → (first : ℕ) → (before : List Led) → Standing → List Led
+abbrev pub led_after : List Memory → (first : ℕ) → (before : List Led) → ViewSite → List Led
 led_after ms first before s =
     led_of first s (shape_named (memory_in ms s.parent.entity) (way_in before s.parent.entity)) (way_at ms before s.parent.entity)
 
 -- those behind others, of which the first hidden variable is this entity
-abbrev pub led_behind : List Memory → (first : ℕ) → (before : List Led) → List Standing → List Led
+abbrev pub led_behind : List Memory → (first : ℕ) → (before : List Led) → List ViewSite → List Led
 led_behind ms first before [] = before
 led_behind ms first before (s ∷ ss) = led_behind ms (behind_hidden first s) (before ++ led_after ms first before s) ss
 
@@ -191,7 +191,7 @@ hidden_binding h = record { entity = Some h.entity; kind = h.kind; depth = h.dep
 abbrev pub led_binding : Led → Binding
 led_binding l = record { entity = l.entity; kind = kind.Bool; depth = l.way.deepest; iterates = None }
 
-abbrev pub hidden_bindings : (first : ℕ) → List Standing → List Binding
+abbrev pub hidden_bindings : (first : ℕ) → List ViewSite → List Binding
 hidden_bindings first [] = []
 hidden_bindings first (s ∷ ss) = map hidden_binding (hidden_of first s) ++ hidden_bindings (behind_hidden first s) ss
 

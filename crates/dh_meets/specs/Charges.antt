@@ -13,7 +13,7 @@ use Rattle.dh_tree.specs.declared.tables.Dim.{Dim}
 use Rattle.dh_tree.specs.declared.trees.counters.Counter.{Counter}
 use Rattle.dh_viewing.specs.Carried.{carried_by}
 use Rattle.dh_viewing.specs.ReachedBanks.{can_reach}
-use Rattle.dh_meaning.specs.Ways.{Step, Way, all_bindings_of, way_to}
+use Rattle.dh_meaning.specs.Ways.{WayStep, Way, all_bindings_of, way_to}
 use Rattle.dh_meaning.specs.Bindings.{Binding, binding_in}
 use Rattle.dh_meaning.specs.Paths.{Path, same_path, paths_in}
 use Rattle.dh_tree.specs.Counters.{counters_of}
@@ -116,7 +116,7 @@ any_below zero test = false
 any_below (suc n) test = any_below n test || test n
 
 -- through these views an element in a bank of the first may lie in this bank behind the last
-abbrev pub may_reach : List Step → (bank behind : ℕ) → Bool
+abbrev pub may_reach : List WayStep → (bank behind : ℕ) → Bool
 may_reach [] bank behind = bank == behind
 may_reach (s ∷ ss) bank behind = any_below (banks_of s.is.parent.dims) (λ inner. can_reach s.is bank inner && may_reach ss inner behind)
 
@@ -130,12 +130,12 @@ reaches p a path memory bank = reaches_by p (way_to p a.entity) a path memory ba
 
 -- Charges.
 
-abbrev pub factors_of : List Counter → List ℕ
-factors_of loops = map (λ c. c.factor) loops
+abbrev pub loop_factors : List Counter → List ℕ
+loop_factors loops = map (λ c. c.factor) loops
 
 -- the paths at which an access is made
 abbrev pub paths_of : SourceAccess → List Path
-paths_of a = paths_in (factors_of a.site.loops)
+paths_of a = paths_in (loop_factors a.site.loops)
 
 -- the keys with which an access reaches a bank, one for each path
 abbrev pub keys_reaching : Program → SourceAccess → (memory bank : ℕ) → List (List ℕ)

@@ -6,12 +6,12 @@ use Rattle.dh_tree.specs.Elements.{banks_of}
 use Rattle.dh_tree.specs.Memories.{Memory, memory_in, memories_of}
 use Rattle.dh_tree.specs.PlainTrees.{Term, Program}
 use Rattle.dh_meaning.specs.Paths.{copies_in}
-use Rattle.dh_meets.specs.Charges.{factors_of}
+use Rattle.dh_meets.specs.Charges.{loop_factors}
 use Rattle.dh_meets.specs.SourceEvents.{in_row, SourceAccess, accesses_in, trace}
 
 -- no access stands in more copies
 abbrev pub HasFewCopies : Program → Type 0
-HasFewCopies p = (k : ℕ) (a : SourceAccess) → slice_get (accesses_in (trace p)) k ≡ Some a → copies_in (factors_of a.site.loops) ≤ most_copies
+HasFewCopies p = (k : ℕ) (a : SourceAccess) → slice_get (accesses_in (trace p)) k ≡ Some a → copies_in (loop_factors a.site.loops) ≤ most_copies
 
 -- an access by a row of a bank names a bank that its memory has
 abbrev pub NamesBanks : Program → Type 0

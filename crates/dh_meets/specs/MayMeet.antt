@@ -8,9 +8,9 @@ use Rattle.dh_tree.specs.Meets.{Meets, nothing, access, all, one}
 use Rattle.dh_tree.specs.PlainTrees.{Action, action, ActionForm, lets, lets_memory, views, assigns, stores, reduces, calls, blocks, decides, repeats, counts, MaybeAction, no_action, one_action, Actions, no_actions, action_then, Groups, no_groups, group_then, Program}
 
 -- `count` accesses, numbered from n on, of which any two may meet
-abbrev pub row_of : (n count : ℕ) → Meets
-row_of n zero = nothing
-row_of n (suc count) = all (access n) (row_of (suc n) count)
+abbrev pub row_of_accesses : (n count : ℕ) → Meets
+row_of_accesses n zero = nothing
+row_of_accesses n (suc count) = all (access n) (row_of_accesses (suc n) count)
 
 -- the arms of an `if`
 abbrev pub arms_meet : (unrolled : Bool) → (chosen other : Meets) → Meets
@@ -23,18 +23,18 @@ abbrev mutual
   meets unrolled n (action id place form) = command_meets unrolled n form
 
   pub command_meets : (unrolled : Bool) → (n : ℕ) → ActionForm → Meets
-  command_meets unrolled n (lets name declared value) = row_of n (own_accesses (lets name declared value))
+  command_meets unrolled n (lets name declared value) = row_of_accesses n (own_accesses (lets name declared value))
   command_meets unrolled n (lets_memory name shape shape_places value) = nothing
-  command_meets unrolled n (views name parent form) = row_of n (own_accesses (views name parent form))
-  command_meets unrolled n (assigns target value) = row_of n (own_accesses (assigns target value))
-  command_meets unrolled n (stores target value) = row_of n (own_accesses (stores target value))
-  command_meets unrolled n (reduces target op value) = row_of n (own_accesses (reduces target op value))
+  command_meets unrolled n (views name parent form) = row_of_accesses n (own_accesses (views name parent form))
+  command_meets unrolled n (assigns target value) = row_of_accesses n (own_accesses (assigns target value))
+  command_meets unrolled n (stores target value) = row_of_accesses n (own_accesses (stores target value))
+  command_meets unrolled n (reduces target op value) = row_of_accesses n (own_accesses (reduces target op value))
   command_meets unrolled n (calls function arguments) = nothing
   command_meets unrolled n (blocks body) = groups_meet unrolled n body
   command_meets unrolled n (decides test chosen other) =
-      all (row_of n (term_accesses test))
+      all (row_of_accesses n (term_accesses test))
       (arms_meet unrolled (meets unrolled (n + term_accesses test) chosen) (other_meets unrolled (n + term_accesses test + accesses_of chosen) other))
-  command_meets unrolled n (repeats test body) = one (row_of n (term_accesses test)) (meets unrolled (n + term_accesses test) body)
+  command_meets unrolled n (repeats test body) = one (row_of_accesses n (term_accesses test)) (meets unrolled (n + term_accesses test) body)
   command_meets unrolled n (counts iterator declared low high factor body combine combine_place) =
       all (meets (unrolled || nat_lt 1 factor.value) n body) (other_meets (unrolled || nat_lt 1 factor.value) (n + accesses_of body) combine)
 

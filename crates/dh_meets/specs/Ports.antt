@@ -15,17 +15,17 @@ use Rattle.dh_meets.specs.MayMeet.{meets_in}
 use Rattle.dh_meaning.specs.OnePhase.{in_one_phase}
 use Rattle.dh_meets.specs.SourceEvents.{SourceAccess, accesses_in, trace}
 
-abbrev pub memory_ports : Option Memory → ℕ
-memory_ports None = 0
-memory_ports (Some m) = m.shape.ports
+abbrev pub ports_or_zero : Option Memory → ℕ
+ports_or_zero None = 0
+ports_or_zero (Some m) = m.shape.ports
 
 -- the ports of each bank of the memory that is this entity
-abbrev pub ports_of : Program → ℕ → ℕ
-ports_of p memory = memory_ports (memory_in (memories_of p) (Some memory))
+abbrev pub ports_of_entity : Program → ℕ → ℕ
+ports_of_entity p memory = ports_or_zero (memory_in (memories_of p) (Some memory))
 
 -- No set of accesses of which any two may meet charges a bank beyond its ports.
 abbrev pub KeepsPorts : Program → Type 0
-KeepsPorts p = (chosen : ℕ → Bool) → Together (meets_in p) chosen → (memory bank : ℕ) → total (charge p memory bank) chosen (meets_in p) ≤ ports_of p memory
+KeepsPorts p = (chosen : ℕ → Bool) → Together (meets_in p) chosen → (memory bank : ℕ) → total (charge p memory bank) chosen (meets_in p) ≤ ports_of_entity p memory
 
 -- a set that is together, and that this access completes, charges a bank beyond its ports
 pub record Overspends (p : Program) (number : ℕ) : Type 0 where
@@ -33,7 +33,7 @@ pub record Overspends (p : Program) (number : ℕ) : Type 0 where
   pub bank : ℕ
   pub chosen : ℕ → Bool
   pub completes : Completes (meets_in p) number chosen
-  pub beyond : ports_of p memory < total (charge p memory bank) chosen (meets_in p)
+  pub beyond : ports_of_entity p memory < total (charge p memory bank) chosen (meets_in p)
 
 abbrev pub place_in : Program → ℕ → Option Place
 place_in p k = option_map (λ a. a.place) (slice_get (accesses_in (trace p)) k)

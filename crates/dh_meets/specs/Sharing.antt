@@ -67,7 +67,8 @@ abbrev mutual
 abbrev pub alike_elements : Element → Element → Bool
 alike_elements (with_indices ts) (with_indices us) = all_alike ts us
 alike_elements (in_row bank t) (in_row other u) = (bank == other) && alike t u
-alike_elements _ _ = false
+alike_elements (with_indices ts) (in_row bank t) = false
+alike_elements (in_row bank t) (with_indices ts) = false
 
 -- Variables.
 abbrev mutual

@@ -3,15 +3,15 @@ use Rattle.std.proofs.Common.{◌≡◌, ℕ, ◌+◌, List, [], ◌∷◌, ◌+
 use Rattle.dh_tree.specs.declared.breaches.Breach.{Breach}
 use Rattle.dh_tree.specs.declared.trees.programs.Sort.TheVariants.{Iterator}
 use Rattle.dh_tree.specs.PlainTrees.{Term, term, TermForm, number, truth_value, named, accessed, in_bank, applied, converted, Terms, no_terms, term_then, Suffixed, ViewPlan, shrinks, splits, suffixes, shifts, Action, action, ActionForm, lets, lets_memory, views, assigns, stores, reduces, calls, blocks, decides, repeats, counts, MaybeAction, no_action, one_action, Actions, no_actions, action_then, Groups, no_groups, group_then, Formal, Defined}
-use Rattle.dh_tree.specs.Scopes.{Binding, Scope, declare, leave, past, at_end, form_at_end, other_at_end, actions_at_end, groups_at_end, formal_sort, after_formals, body_start, after_function, after_functions}
-use Rattle.dh_tree.specs.Breaches.{unknown, twice, term_breaches, term_form_breaches, terms_breaches, list_breaches, offsets_breaches, plan_breaches, value_breaches, breaches, form_breaches, other_breaches, actions_breaches, groups_breaches, formals_breaches, function_breaches, functions_breaches}
+use Rattle.dh_tree.specs.Scopes.{ScopeEntry, Scope, declare, leave, past, at_end, form_at_end, other_at_end, actions_at_end, groups_at_end, formal_sort, after_formals, body_start, after_function, after_functions}
+use Rattle.dh_tree.specs.Breaches.{unknown, twice, term_breaches, term_form_breaches, terms_breaches, list_breaches, offsets_breaches, plan_name_breaches, maybe_value_breaches, breaches, form_breaches, other_breaches, actions_breaches, groups_breaches, formals_breaches, function_breaches, functions_breaches}
 use Rattle.dh_tree.specs.Resolved.{used, declares, numbered, resolved_term, resolved_term_form, resolved_terms, resolved_offset, resolved_plan, resolved_action, resolved_form, resolved_other, resolved_actions, resolved_groups, resolved_formals, resolved_function, resolved_functions}
 
 -- two equal parts of a list of breaches
 both : (a a' b b' : List Breach) → a ≡ a' → b ≡ b' → a ++ b ≡ a' ++ b'
 both a a' b b' p q = ap (λ x. x ++ b) p ∙ ap (λ y. a' ++ y) q
 
-module _ (bs : List Binding) where
+module _ (bs : List ScopeEntry) where
   mutual
     pub term_again : (t : Term) → resolved_term bs (resolved_term bs t) ≡ resolved_term bs t
     term_again (term place kind form) = ap (λ f. term place kind f) (term_form_again form)
@@ -71,7 +71,7 @@ module _ (bs : List Binding) where
   plan_again (suffixes by by_place) = ap (λ l. suffixes l by_place) (offsets_again by)
   plan_again (shifts by) = ap (λ l. shifts l) (list_again by)
 
-  plan_alike : (f : ViewPlan) → plan_breaches bs (resolved_plan bs f) ≡ plan_breaches bs f
+  plan_alike : (f : ViewPlan) → plan_name_breaches bs (resolved_plan bs f) ≡ plan_name_breaches bs f
   plan_alike (shrinks by by_place) = refl
   plan_alike (splits by by_place) = refl
   plan_alike (suffixes by by_place) = offsets_alike by
@@ -81,7 +81,7 @@ module _ (bs : List Binding) where
   value_again None = refl
   value_again (Some t) = ap (λ x. Some x) (term_again t)
 
-  value_alike : (v : Option Term) → value_breaches bs (option_map (resolved_term bs) v) ≡ value_breaches bs v
+  value_alike : (v : Option Term) → maybe_value_breaches bs (option_map (resolved_term bs) v) ≡ maybe_value_breaches bs v
   value_alike None = refl
   value_alike (Some t) = term_alike t
 

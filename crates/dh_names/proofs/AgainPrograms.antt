@@ -4,7 +4,7 @@ use Rattle.dh_tree.specs.declared.trees.programs.Entity.{Entity}
 use Rattle.dh_tree.specs.declared.trees.programs.Sort.TheVariants.{Memory, Function}
 use Rattle.dh_tree.specs.PlainTrees.{Action, Declared, Defined, Program}
 use Rattle.dh_tree.specs.LeastBreach.{is_before}
-use Rattle.dh_tree.specs.Scopes.{Binding, bind, Scope, at_end, after_functions, Item, memory_items, function_items, merged, items_of, after_items, entity, first_scope, body_scope, after_function}
+use Rattle.dh_tree.specs.Scopes.{ScopeEntry, bind, Scope, at_end, after_functions, Item, memory_items, function_items, merged, items_of, after_items, entity, first_scope, body_scope, after_function}
 use Rattle.dh_tree.specs.Breaches.{twice, breaches, functions_breaches, items_breaches, breaches_of}
 use Rattle.dh_tree.specs.Resolved.{numbered, resolved_action, resolved_decls, resolved_functions, resolved}
 use Rattle.dh_names.proofs.Again.{end_again, action_alike, action_again, functions_end_again, functions_alike, functions_again}
@@ -31,11 +31,11 @@ merged_again (m ∷ ms) (f ∷ fs) = by (is_before f.name.place m.name.place) (m
     by true p q = ap (λ l. item_again f ∷ l) p
     by false p q = ap (λ l. item_again m ∷ l) q
 
-items_alike : (bs : List Binding) (list : List Item) → items_breaches bs (map item_again list) ≡ items_breaches bs list
+items_alike : (bs : List ScopeEntry) (list : List Item) → items_breaches bs (map item_again list) ≡ items_breaches bs list
 items_alike bs [] = refl
 items_alike bs (i ∷ is) = ap (λ l. twice bs i.name ++ l) (items_alike (bind bs i.name.name i.entity) is)
 
-items_end_again : (bs : List Binding) (list : List Item) → after_items bs (map item_again list) ≡ after_items bs list
+items_end_again : (bs : List ScopeEntry) (list : List Item) → after_items bs (map item_again list) ≡ after_items bs list
 items_end_again bs [] = refl
 items_end_again bs (i ∷ is) = items_end_again (bind bs i.name.name i.entity) is
 

@@ -8,7 +8,7 @@ use Rattle.std.specs.Str.{bytes_eq}
 use Rattle.std.specs.String.{string_eq}
 use Rattle.indexmap.specs.IndexMap.{IndexMap, insert_entry}
 use Rattle.indexmap.proofs.CallerLemmas.{insert_entry-new}
-use Rattle.dh_tree.specs.Scopes.{Binding, binding, entity_of}
+use Rattle.dh_tree.specs.Scopes.{ScopeEntry, binding, entity_of}
 use Rattle.dh_names.specs.Entries.{bound}
 
 -- a look-up by a name's text finds what the list tells
@@ -24,12 +24,12 @@ module _ {S : Type 0} (m : IndexMap (String Global) ℕ S) (key : String Global)
       ∙ map-append bound m.entries ((key, n) ∷ [])
 
   -- the same, by what the list and the name are
-  pub entered : (bs : List Binding) (name : List ℕ) (new : List (String Global × ℕ)) → map bound m.entries ≡ bs → string_bytes key ≡ name → entity_of bs name ≡ None → new ≡ insert_entry string_eq m.entries key n → map bound new ≡ bs ++ binding name n ∷ []
+  pub entered : (bs : List ScopeEntry) (name : List ℕ) (new : List (String Global × ℕ)) → map bound m.entries ≡ bs → string_bytes key ≡ name → entity_of bs name ≡ None → new ≡ insert_entry string_eq m.entries key n → map bound new ≡ bs ++ binding name n ∷ []
   entered bs name new seen text none is =
       ap (λ es. map bound es) is
       ∙ added (ap (λ l. entity_of l (string_bytes key)) seen ∙ ap (λ t. entity_of bs t) text ∙ none)
       ∙ ap (λ l. l ++ binding (string_bytes key) n ∷ []) seen
       ∙ ap (λ t. bs ++ binding t n ∷ []) text
 
-pub found : (es : List (String Global × ℕ)) (bs : List Binding) (text name : List ℕ) → map bound es ≡ bs → text ≡ name → lookup (λ k. bytes_eq text (string_bytes k)) es ≡ entity_of bs name
+pub found : (es : List (String Global × ℕ)) (bs : List ScopeEntry) (text name : List ℕ) → map bound es ≡ bs → text ≡ name → lookup (λ k. bytes_eq text (string_bytes k)) es ≡ entity_of bs name
 found es bs text name seen is = looked_up es text ∙ ap (λ l. entity_of l text) seen ∙ ap (λ t. entity_of bs t) is

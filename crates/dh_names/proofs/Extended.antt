@@ -5,20 +5,20 @@ use Rattle.dh_tree.specs.declared.trees.expressions.Ref.{Ref}
 use Rattle.dh_tree.specs.declared.trees.programs.Sort.{Sort}
 use Rattle.dh_tree.specs.declared.trees.programs.Sort.TheVariants.{Variable, Iterator, Memory, View}
 use Rattle.dh_tree.specs.PlainTrees.{Action, action, ActionForm, lets, lets_memory, views, assigns, stores, reduces, calls, blocks, decides, repeats, counts, MaybeAction, no_action, one_action, Actions, no_actions, action_then, Groups, no_groups, group_then}
-use Rattle.dh_tree.specs.Scopes.{Binding, binding, is_visible, bind, Scope, declare, leave, past, at_end, form_at_end, other_at_end, actions_at_end, groups_at_end}
+use Rattle.dh_tree.specs.Scopes.{ScopeEntry, binding, is_visible, bind, Scope, declare, leave, past, at_end, form_at_end, other_at_end, actions_at_end, groups_at_end}
 use Rattle.dh_tree.specs.NameCounts.{declared_in, declared_in_form, declared_in_other, declared_in_actions, declared_in_groups}
 
 -- the second names are the first and further ones
-abbrev pub Further : List Binding → List Binding → Type 0
-Further xs ys = (more : List Binding) × (ys ≡ xs ++ more)
+abbrev pub Further : List ScopeEntry → List ScopeEntry → Type 0
+Further xs ys = (more : List ScopeEntry) × (ys ≡ xs ++ more)
 
-pub same : (xs : List Binding) → Further xs xs
+pub same : (xs : List ScopeEntry) → Further xs xs
 same xs = ([], sym (append-nil xs))
 
-pub onward : (xs ys zs : List Binding) → Further xs ys → Further ys zs → Further xs zs
+pub onward : (xs ys zs : List ScopeEntry) → Further xs ys → Further ys zs → Further xs zs
 onward xs ys zs f g = (f.0 ++ g.0, g.1 ∙ ap (λ l. l ++ g.0) f.1 ∙ append_assoc xs f.0 g.0)
 
-bind_further : (bs : List Binding) (name : List ℕ) (n : ℕ) → Further bs (bind bs name n)
+bind_further : (bs : List ScopeEntry) (name : List ℕ) (n : ℕ) → Further bs (bind bs name n)
 bind_further bs name n = by (is_visible bs name)
   where
     by : (b : Bool) → Further bs (if b then bs else bs ++ binding name n ∷ [])

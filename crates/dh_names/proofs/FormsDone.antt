@@ -16,10 +16,10 @@ use Rattle.dh_tree.specs.declared.trees.commands.Command.{Command}
 use Rattle.dh_tree.specs.declared.trees.commands.LoopHeader.{LoopHeader}
 use Rattle.dh_tree.specs.declared.trees.commands.Sides.{Sides}
 use Rattle.dh_tree.specs.declared.trees.commands.ViewForm.{ViewForm}
-use Rattle.dh_tree.specs.Seen.{term_seen, plan_seen, sides_seen, action_seen, low_seen, high_seen, unroll_seen, counts_seen}
+use Rattle.dh_tree.specs.Seen.{term_seen, view_plan, sides_seen, action_seen, low_seen, high_seen, unroll_seen, counts_seen}
 use Rattle.dh_tree.specs.LeastBreach.{least_of}
-use Rattle.dh_tree.specs.Scopes.{Binding, Scope, declare, leave, past, at_end, form_at_end, other_at_end}
-use Rattle.dh_tree.specs.Breaches.{unknown, twice, term_breaches, list_breaches, value_breaches, plan_breaches, breaches, form_breaches, other_breaches}
+use Rattle.dh_tree.specs.Scopes.{ScopeEntry, Scope, declare, leave, past, at_end, form_at_end, other_at_end}
+use Rattle.dh_tree.specs.Breaches.{unknown, twice, term_breaches, list_breaches, maybe_value_breaches, plan_name_breaches, breaches, form_breaches, other_breaches}
 use Rattle.dh_tree.specs.Resolved.{used, declares, resolved_term, resolved_plan, resolved_action, resolved_other}
 use Rattle.dh_tree.specs.NameCounts.{declared_in, declared_in_form, declared_in_other, declared_in_groups}
 use Rattle.dh_names.specs.Walks.{State, walked, cut, Room, with_iterator, Resolves, ResolvesForm, ResolvesOther, ResolvesInner, ResolvesNext, ResolvesGroups, is_blocks}
@@ -49,42 +49,42 @@ form_done s s' a a' b b' p q done room =
     subst (λ x. ResolvesForm s s' x b) (sym p) (subst (λ y. ResolvesForm s s' a' y) (sym q) (done (subst (λ x. Room s (declared_in_form x)) p room)))
 
 pub lets_done : (s0 s1 s2 : State) (name name' : Ref) (k : Option Kind) (v v' : Option Term)
-    → v' ≡ option_map (resolved_term s0.scope.visible) v → s1 ≡ walked s0 (value_breaches s0.scope.visible v) s0.scope
+    → v' ≡ option_map (resolved_term s0.scope.visible) v → s1 ≡ walked s0 (maybe_value_breaches s0.scope.visible v) s0.scope
     → (Room s1 1 → name' ≡ declares s1.scope name) → (Room s1 1 → s2 ≡ walked s1 (twice s1.scope.visible name) (declare s1.scope name Variable))
     → Room s0 1 → ResolvesForm s0 s2 (lets name k v) (lets name' k v')
 lets_done s0 s1 s2 name name' k v v' value one number two room =
-    let r = room_at s0 s1 (value_breaches s0.scope.visible v) s0.scope 1 one room in
+    let r = room_at s0 s1 (maybe_value_breaches s0.scope.visible v) s0.scope 1 one room in
     record {
       tree = ap (λ n. lets n k v') (number r ∙ ap (λ s. declares s.scope name) one) ∙ ap (λ w. lets (declares s0.scope name) k w) value;
-      state = next_step s0 s1 s2 (value_breaches s0.scope.visible v) s0.scope (λ s. twice s.scope.visible name) (λ s. declare s.scope name Variable) one (two r);
+      state = next_step s0 s1 s2 (maybe_value_breaches s0.scope.visible v) s0.scope (λ s. twice s.scope.visible name) (λ s. declare s.scope name Variable) one (two r);
     }
 
 pub memory_done : (s0 s1 s2 : State) (name name' : Ref) (shape : Shape) (places : ShapePlaces) (v v' : Option Term)
-    → v' ≡ option_map (resolved_term s0.scope.visible) v → s1 ≡ walked s0 (value_breaches s0.scope.visible v) s0.scope
+    → v' ≡ option_map (resolved_term s0.scope.visible) v → s1 ≡ walked s0 (maybe_value_breaches s0.scope.visible v) s0.scope
     → (Room s1 1 → name' ≡ declares s1.scope name) → (Room s1 1 → s2 ≡ walked s1 (twice s1.scope.visible name) (declare s1.scope name Memory))
     → Room s0 1 → ResolvesForm s0 s2 (lets_memory name shape places v) (lets_memory name' shape places v')
 memory_done s0 s1 s2 name name' shape places v v' value one number two room =
-    let r = room_at s0 s1 (value_breaches s0.scope.visible v) s0.scope 1 one room in
+    let r = room_at s0 s1 (maybe_value_breaches s0.scope.visible v) s0.scope 1 one room in
     record {
       tree = ap (λ n. lets_memory n shape places v') (number r ∙ ap (λ s. declares s.scope name) one) ∙ ap (λ w. lets_memory (declares s0.scope name) shape places w) value;
-      state = next_step s0 s1 s2 (value_breaches s0.scope.visible v) s0.scope (λ s. twice s.scope.visible name) (λ s. declare s.scope name Memory) one (two r);
+      state = next_step s0 s1 s2 (maybe_value_breaches s0.scope.visible v) s0.scope (λ s. twice s.scope.visible name) (λ s. declare s.scope name Memory) one (two r);
     }
 
 pub views_done : (s0 s1 s2 s3 : State) (name name' parent parent' : Ref) (f f' : ViewPlan)
     → parent' ≡ used s0.scope.visible parent → s1 ≡ walked s0 (unknown s0.scope.visible parent) s0.scope
-    → f' ≡ resolved_plan s1.scope.visible f → s2 ≡ walked s1 (plan_breaches s1.scope.visible f) s1.scope
+    → f' ≡ resolved_plan s1.scope.visible f → s2 ≡ walked s1 (plan_name_breaches s1.scope.visible f) s1.scope
     → (Room s2 1 → name' ≡ declares s2.scope name) → (Room s2 1 → s3 ≡ walked s2 (twice s2.scope.visible name) (declare s2.scope name View))
     → Room s0 1 → ResolvesForm s0 s3 (views name parent f) (views name' parent' f')
 views_done s0 s1 s2 s3 name name' parent parent' f f' use_is one plan two number three room =
     let r1 = room_at s0 s1 (unknown s0.scope.visible parent) s0.scope 1 one room in
-    let r2 = room_at s1 s2 (plan_breaches s1.scope.visible f) s1.scope 1 two r1 in
+    let r2 = room_at s1 s2 (plan_name_breaches s1.scope.visible f) s1.scope 1 two r1 in
     let same : s2.scope ≡ s0.scope = ap (λ s. s.scope) two ∙ ap (λ s. s.scope) one in
     record {
       tree = ap (λ n. views n parent' f') (number r2 ∙ ap (λ s. declares s name) same)
           ∙ ap (λ p. views (declares s0.scope name) p f') use_is
           ∙ ap (λ g. views (declares s0.scope name) (used s0.scope.visible parent) g) (plan ∙ ap (λ s. resolved_plan s.scope.visible f) one);
-      state = next_step s0 s1 s3 (unknown s0.scope.visible parent) s0.scope (λ s. plan_breaches s.scope.visible f ++ twice s.scope.visible name) (λ s. declare s.scope name View) one
-          (next_step s1 s2 s3 (plan_breaches s1.scope.visible f) s1.scope (λ s. twice s.scope.visible name) (λ s. declare s.scope name View) two (three r2));
+      state = next_step s0 s1 s3 (unknown s0.scope.visible parent) s0.scope (λ s. plan_name_breaches s.scope.visible f ++ twice s.scope.visible name) (λ s. declare s.scope name View) one
+          (next_step s1 s2 s3 (plan_name_breaches s1.scope.visible f) s1.scope (λ s. twice s.scope.visible name) (λ s. declare s.scope name View) two (three r2));
     }
 
 pub assigns_done : (s0 s1 s2 : State) (target target' : Ref) (v v' : Term)
@@ -241,7 +241,7 @@ next_other s s' id place f b is done = record {
 }
 
 -- the state with other visible names
-abbrev pub with_visible : State → List Binding → State
+abbrev pub with_visible : State → List ScopeEntry → State
 with_visible s l = record { outer = s.outer; scope = record { visible = l; entities = s.scope.entities }; least = s.least }
 
 -- What was done to what is behind a box: an expression, one that may lack, a name that is used or declared, the
@@ -252,11 +252,11 @@ expression_at s0 s1 x y w is tree state =
     (tree ∙ ap (λ (e : Expr). resolved_term s0.scope.visible (term_seen e)) is, state ∙ ap (λ (e : Expr). walked s0 (term_breaches s0.scope.visible (term_seen e)) s0.scope) is)
 
 pub value_at : (s0 s1 : State) (x y w : Option Expr) → x ≡ y
-    → option_map term_seen w ≡ option_map (resolved_term s0.scope.visible) (option_map term_seen x) → s1 ≡ walked s0 (value_breaches s0.scope.visible (option_map term_seen x)) s0.scope
-    → (option_map term_seen w ≡ option_map (resolved_term s0.scope.visible) (option_map term_seen y)) × (s1 ≡ walked s0 (value_breaches s0.scope.visible (option_map term_seen y)) s0.scope)
+    → option_map term_seen w ≡ option_map (resolved_term s0.scope.visible) (option_map term_seen x) → s1 ≡ walked s0 (maybe_value_breaches s0.scope.visible (option_map term_seen x)) s0.scope
+    → (option_map term_seen w ≡ option_map (resolved_term s0.scope.visible) (option_map term_seen y)) × (s1 ≡ walked s0 (maybe_value_breaches s0.scope.visible (option_map term_seen y)) s0.scope)
 value_at s0 s1 x y w is tree state = (
   tree ∙ ap (λ (v : Option Expr). option_map (resolved_term s0.scope.visible) (option_map term_seen v)) is,
-  state ∙ ap (λ (v : Option Expr). walked s0 (value_breaches s0.scope.visible (option_map term_seen v)) s0.scope) is,
+  state ∙ ap (λ (v : Option Expr). walked s0 (maybe_value_breaches s0.scope.visible (option_map term_seen v)) s0.scope) is,
 )
 
 pub used_at : (s0 s1 : State) (x y w : Ref) → x ≡ y → w ≡ used s0.scope.visible x → s1 ≡ walked s0 (unknown s0.scope.visible x) s0.scope
@@ -268,10 +268,10 @@ pub declared_at : (s0 s1 : State) (sort : Sort) (x y w : Ref) → x ≡ y → (R
 declared_at s0 s1 sort x y w is tree state =
     ((λ room. tree room ∙ ap (λ (r : Ref). declares s0.scope r) is), (λ room. state room ∙ ap (λ (r : Ref). walked s0 (twice s0.scope.visible r) (declare s0.scope r sort)) is))
 
-pub plan_at : (s0 s1 : State) (x y w : ViewForm) → x ≡ y → plan_seen w ≡ resolved_plan s0.scope.visible (plan_seen x) → s1 ≡ walked s0 (plan_breaches s0.scope.visible (plan_seen x)) s0.scope
-    → (plan_seen w ≡ resolved_plan s0.scope.visible (plan_seen y)) × (s1 ≡ walked s0 (plan_breaches s0.scope.visible (plan_seen y)) s0.scope)
+pub plan_at : (s0 s1 : State) (x y w : ViewForm) → x ≡ y → view_plan w ≡ resolved_plan s0.scope.visible (view_plan x) → s1 ≡ walked s0 (plan_name_breaches s0.scope.visible (view_plan x)) s0.scope
+    → (view_plan w ≡ resolved_plan s0.scope.visible (view_plan y)) × (s1 ≡ walked s0 (plan_name_breaches s0.scope.visible (view_plan y)) s0.scope)
 plan_at s0 s1 x y w is tree state =
-    (tree ∙ ap (λ (f : ViewForm). resolved_plan s0.scope.visible (plan_seen f)) is, state ∙ ap (λ (f : ViewForm). walked s0 (plan_breaches s0.scope.visible (plan_seen f)) s0.scope) is)
+    (tree ∙ ap (λ (f : ViewForm). resolved_plan s0.scope.visible (view_plan f)) is, state ∙ ap (λ (f : ViewForm). walked s0 (plan_name_breaches s0.scope.visible (view_plan f)) s0.scope) is)
 
 pub header_at : (s0 s1 : State) (x y w : LoopHeader) → x ≡ y → (Room s0 1 → w ≡ with_iterator x (declares s0.scope x.iterator))
     → (Room s0 1 → s1 ≡ walked s0 (twice s0.scope.visible x.iterator) (declare s0.scope x.iterator Iterator))

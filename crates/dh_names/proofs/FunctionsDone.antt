@@ -10,7 +10,7 @@ use Rattle.dh_tree.specs.declared.trees.programs.Function.{Function}
 use Rattle.dh_tree.specs.PlainTrees.{Action, Formal, Defined}
 use Rattle.dh_tree.specs.Seen.{formal_seen, defined_seen}
 use Rattle.dh_tree.specs.LeastBreach.{least_of}
-use Rattle.dh_tree.specs.Scopes.{Binding, bind, Scope, declare, at_end, formal_sort, after_formals, body_start, after_function, after_functions}
+use Rattle.dh_tree.specs.Scopes.{ScopeEntry, bind, Scope, declare, at_end, formal_sort, after_formals, body_start, after_function, after_functions}
 use Rattle.dh_tree.specs.Breaches.{twice, breaches, formals_breaches, function_breaches, functions_breaches}
 use Rattle.dh_tree.specs.Resolved.{declares, numbered, resolved_action, resolved_formals, resolved_function, resolved_functions}
 use Rattle.dh_tree.specs.NameCounts.{declared_in, declared_in_functions}
@@ -92,7 +92,7 @@ function_counted n s f =
     let d = formals_counted s f.parameters in omega (arith, e, d)
 
 -- the state where only these names are visible, from outside
-abbrev settled : List Binding → State → State
+abbrev settled : List ScopeEntry → State → State
 settled o s = record { outer = o; scope = record { visible = o; entities = s.scope.entities }; least = s.least }
 
 abbrev numbered_state : ℕ → State → ℕ × State
@@ -102,7 +102,7 @@ abbrev state_in : ℕ × State → State
 state_in p = p.1
 
 -- one function
-pub function_done : (n : ℕ) (s0 s1 s2 : State) (f : Defined) (ps' : List Formal) (b' : Action) (outer' own' : List Binding) → IsOutside s0 → Room s0 (length f.parameters + declared_in f.body)
+pub function_done : (n : ℕ) (s0 s1 s2 : State) (f : Defined) (ps' : List Formal) (b' : Action) (outer' own' : List ScopeEntry) → IsOutside s0 → Room s0 (length f.parameters + declared_in f.body)
     → (Room s0 (length f.parameters) → ResolvesFormals s0 s1 f.parameters ps') → (Room s1 (declared_in f.body) → Resolves s1 s2 f.body b') → own' ≡ [] → outer' ≡ bind s2.outer f.name.name n
     → ResolvesFunction n s0 (record { outer = outer'; scope = record { visible = outer' ++ own'; entities = s2.scope.entities }; least = s2.least }) f (record { place = f.place; name = numbered n f.name; parameters = ps'; body = b' })
 function_done n s0 s1 s2 f ps' b' outer' own' outside room formals command own_is outer_is =

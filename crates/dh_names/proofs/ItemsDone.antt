@@ -13,7 +13,7 @@ use Rattle.dh_tree.specs.declared.trees.programs.Function.{Function}
 use Rattle.dh_tree.specs.PlainTrees.{Declared}
 use Rattle.dh_tree.specs.Seen.{declared_seen, defined_seen}
 use Rattle.dh_tree.specs.LeastBreach.{breach, least_of}
-use Rattle.dh_tree.specs.Scopes.{Binding, entity_of, bind, Item, memory_items, function_items, merged}
+use Rattle.dh_tree.specs.Scopes.{ScopeEntry, entity_of, bind, Item, memory_items, function_items, merged}
 use Rattle.dh_tree.specs.Breaches.{twice}
 use Rattle.dh_tree.specs.Resolved.{numbered, resolved_decls}
 use Rattle.dh_names.specs.Programs.{is_function_next, left, AreLeft, BindsNext, LacksNext}
@@ -83,7 +83,7 @@ at_next xs i d within = drop-cons xs i d within ∙ ap (λ n. get_or xs i d ∷ 
 add_assoc : (a b c : ℕ) → a + b + c ≡ a + (b + c)
 add_assoc a b c = omega arith
 
-module _ (decls : List Decl) (functions : List Function) (old : List Binding) (old_least : Option Breach) (m k : ℕ) where
+module _ (decls : List Decl) (functions : List Function) (old : List ScopeEntry) (old_least : Option Breach) (m k : ℕ) where
   pub function_within : AreLeft decls functions (m, k) → is_function_next (map declared_seen (drop m decls)) (map defined_seen (drop k functions)) ≡ true → k < length functions
   function_within a test =
       let some = some_function (drop m decls) (drop k functions) test in
@@ -96,7 +96,7 @@ module _ (decls : List Decl) (functions : List Function) (old : List Binding) (o
       let some = some_memory (drop m decls) (drop k functions) test (omega (arith, a.some, a.memories, a.functions_done, e, g)) in
       omega (arith, some, g)
 
-  pub function_next : (new : List Binding) (new_least : Option Breach) → AreLeft decls functions (m, k) → (d : Function) → is_function_next (map declared_seen (drop m decls)) (map defined_seen (drop k functions)) ≡ true
+  pub function_next : (new : List ScopeEntry) (new_least : Option Breach) → AreLeft decls functions (m, k) → (d : Function) → is_function_next (map declared_seen (drop m decls)) (map defined_seen (drop k functions)) ≡ true
       → new ≡ bind old (get_or functions k d).name.name (length decls + k) → new_least ≡ least_of old_least (twice old (get_or functions k d).name)
       → BindsNext decls functions old old_least (m, k) new new_least (m, k + 1)
   function_next new new_least a d test bound least =
@@ -118,7 +118,7 @@ module _ (decls : List Decl) (functions : List Function) (old : List Binding) (o
   none_twice : (r : Ref) → entity_of old r.name ≡ None → least_of old_least (twice old r) ≡ old_least
   none_twice r none = ap (λ o. least_of old_least (if is_some o then breach NameTwice r.place ∷ [] else [])) none
 
-  pub function_lacks : (new : List Binding) (new_least : Option Breach) → AreLeft decls functions (m, k) → (d : Function) → is_function_next (map declared_seen (drop m decls)) (map defined_seen (drop k functions)) ≡ true
+  pub function_lacks : (new : List ScopeEntry) (new_least : Option Breach) → AreLeft decls functions (m, k) → (d : Function) → is_function_next (map declared_seen (drop m decls)) (map defined_seen (drop k functions)) ≡ true
       → entity_of old (get_or functions k d).name.name ≡ None → new ≡ old → new_least ≡ least_of old_least (twice old (get_or functions k d).name)
       → LacksNext decls functions old old_least (m, k) new new_least
   unfolding function_next
@@ -126,7 +126,7 @@ module _ (decls : List Decl) (functions : List Function) (old : List Binding) (o
       let n = function_next _ _ a d test refl refl in
       record { item = n.item; more = left decls functions (m, k + 1); next = n.next; unbound = none; visible = same; least = least ∙ none_twice (get_or functions k d).name none }
 
-  pub memory_next : (new : List Binding) (new_least : Option Breach) → AreLeft decls functions (m, k) → (d : Decl) → is_function_next (map declared_seen (drop m decls)) (map defined_seen (drop k functions)) ≡ false
+  pub memory_next : (new : List ScopeEntry) (new_least : Option Breach) → AreLeft decls functions (m, k) → (d : Decl) → is_function_next (map declared_seen (drop m decls)) (map defined_seen (drop k functions)) ≡ false
       → new ≡ bind old (get_or decls m d).name.name m → new_least ≡ least_of old_least (twice old (get_or decls m d).name)
       → BindsNext decls functions old old_least (m, k) new new_least (m + 1, k)
   memory_next new new_least a d test bound least =
@@ -144,7 +144,7 @@ module _ (decls : List Decl) (functions : List Function) (old : List Binding) (o
         functions_done = a.functions_done;
       }
 
-  pub memory_lacks : (new : List Binding) (new_least : Option Breach) → AreLeft decls functions (m, k) → (d : Decl) → is_function_next (map declared_seen (drop m decls)) (map defined_seen (drop k functions)) ≡ false
+  pub memory_lacks : (new : List ScopeEntry) (new_least : Option Breach) → AreLeft decls functions (m, k) → (d : Decl) → is_function_next (map declared_seen (drop m decls)) (map defined_seen (drop k functions)) ≡ false
       → entity_of old (get_or decls m d).name.name ≡ None → new ≡ old → new_least ≡ least_of old_least (twice old (get_or decls m d).name)
       → LacksNext decls functions old old_least (m, k) new new_least
   unfolding memory_next

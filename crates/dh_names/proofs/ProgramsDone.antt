@@ -10,7 +10,7 @@ use Rattle.dh_tree.specs.declared.trees.programs.Sort.TheVariants.{Memory, Funct
 use Rattle.dh_tree.specs.PlainTrees.{Action, Declared, Defined, Program}
 use Rattle.dh_tree.specs.Seen.{declared_seen, defined_seen, program_seen}
 use Rattle.dh_tree.specs.LeastBreach.{least_of}
-use Rattle.dh_tree.specs.Scopes.{Binding, Scope, at_end, after_function, after_functions, memory_items, function_items, merged, items_of, after_items, entity, outer_entities, first_scope, body_scope}
+use Rattle.dh_tree.specs.Scopes.{ScopeEntry, Scope, at_end, after_function, after_functions, memory_items, function_items, merged, items_of, after_items, entity, outer_entities, first_scope, body_scope}
 use Rattle.dh_tree.specs.Breaches.{breaches, functions_breaches, items_breaches, breaches_of}
 use Rattle.dh_tree.specs.Resolved.{resolved_action, resolved_decls, resolved_functions, resolved}
 use Rattle.dh_tree.specs.NameCounts.{declared_in, declared_in_functions, HasFewNames}
@@ -47,31 +47,31 @@ abbrev pub program : List Declared → List Defined → Action → List Entity �
 program ds fs b es = record { decls = ds; functions = fs; body = b; entities = es }
 
 -- the state before the program's body
-abbrev pub before_body : List Binding → List Binding → State → State
+abbrev pub before_body : List ScopeEntry → List ScopeEntry → State → State
 before_body outer top s = record { outer = outer; scope = record { visible = top; entities = s.scope.entities }; least = s.least }
 
-pub scope_is : (p : Program) (o w : List Binding) (es : List Entity) → o ≡ [] → w ≡ [] → es ≡ outer_entities p → record { visible = o ++ w; entities = es } ≡ first_scope p
+pub scope_is : (p : Program) (o w : List ScopeEntry) (es : List Entity) → o ≡ [] → w ≡ [] → es ≡ outer_entities p → record { visible = o ++ w; entities = es } ≡ first_scope p
 scope_is p o w es o_is w_is es_is =
     ap (λ x. record { visible = x ++ w; entities = es }) o_is ∙ ap (λ x. record { visible = x; entities = es }) w_is ∙ ap (λ x. record { visible = []; entities = x }) es_is
 
-pub nothing_own : (o w : List Binding) → w ≡ [] → o ++ w ≡ o
+pub nothing_own : (o w : List ScopeEntry) → w ≡ [] → o ++ w ≡ o
 nothing_own o w is = ap (λ x. o ++ x) is ∙ append-nil o
 
-pub no_names_seen : (o w : List Binding) → o ≡ [] → w ≡ [] → o ++ w ≡ []
+pub no_names_seen : (o w : List ScopeEntry) → o ≡ [] → w ≡ [] → o ++ w ≡ []
 no_names_seen o w o_is w_is = ap (λ x. x ++ w) o_is ∙ w_is
 
 -- names that are left, for lists that are these ones
 left_is : (ds ds' : List Decl) (fs fs' : List code.Function) → ds ≡ ds' → fs ≡ fs' → left ds fs (0, 0) ≡ merged (memory_items 0 (map declared_seen ds')) (function_items (length (map declared_seen ds')) (map defined_seen fs'))
 left_is ds ds' fs fs' p q = ap (λ x. left x fs (0, 0)) p ∙ ap (λ x. left ds' x (0, 0)) q ∙ all_left ds' fs'
 
-pub start_scope : (tree : Tree) (o w : List Binding) (es : List Entity) (ds2 : List Decl) (fs2 : List code.Function) → o ≡ [] → w ≡ [] → ds2 ≡ tree.decls.items → fs2 ≡ tree.functions.items
+pub start_scope : (tree : Tree) (o w : List ScopeEntry) (es : List Entity) (ds2 : List Decl) (fs2 : List code.Function) → o ≡ [] → w ≡ [] → ds2 ≡ tree.decls.items → fs2 ≡ tree.functions.items
     → es ≡ map (λ d. entity d.name Memory) (map declared_seen ds2) ++ map (λ f. entity f.name Function) (map defined_seen fs2) → record { visible = o ++ w; entities = es } ≡ first_scope (program_seen tree)
 start_scope tree o w es ds2 fs2 o_is w_is d2 f2 listed =
     scope_is (program_seen tree) o w es o_is w_is (listed ∙ ap (λ x. map (λ d. entity d.name Memory) (map declared_seen x) ++ map (λ f. entity f.name Function) (map defined_seen fs2)) d2
     ∙ ap (λ x. map (λ d. entity d.name Memory) (map declared_seen tree.decls.items) ++ map (λ f. entity f.name Function) (map defined_seen x)) f2)
 
 -- the walk over memories from outside and functions, whose calls saw lists that are those of the tree
-pub items_done : (tree : Tree) (s0 s1 : State) (first : Option Breach) (top vis : List Binding) (o w : List Binding) (ds1 ds2 : List Decl) (fs1 fs2 : List code.Function) (ds' : List Declared) (fs' : List Defined) (n : ℕ)
+pub items_done : (tree : Tree) (s0 s1 : State) (first : Option Breach) (top vis : List ScopeEntry) (o w : List ScopeEntry) (ds1 ds2 : List Decl) (fs1 fs2 : List code.Function) (ds' : List Declared) (fs' : List Defined) (n : ℕ)
     → o ≡ [] → w ≡ [] → first ≡ None → vis ≡ [] → s0.scope.visible ≡ o ++ w
     → ds1 ≡ tree.decls.items → fs1 ≡ tree.functions.items → ds2 ≡ tree.decls.items → fs2 ≡ tree.functions.items → n ≡ length tree.decls.items
     → s0.scope.entities ≡ map (λ d. entity d.name Memory) (map declared_seen ds2) ++ map (λ f. entity f.name Function) (map defined_seen fs2)
@@ -96,7 +96,7 @@ items_done tree s0 s1 first top vis o w ds1 ds2 fs1 fs2 ds' fs' n o_is w_is none
           ∙ ap (λ k. least_of k (functions_breaches (length p.decls) (first_scope p) p.functions)) start;
     }
 
-module _ (p : Program) (s1 s3 : State) (outer top : List Binding) (ds' : List Declared) (fs' : List Defined) (b' : Action) (few : HasFewNames p) (items : ResolvesItems p s1 top ds' fs')
+module _ (p : Program) (s1 s3 : State) (outer top : List ScopeEntry) (ds' : List Declared) (fs' : List Defined) (b' : Action) (few : HasFewNames p) (items : ResolvesItems p s1 top ds' fs')
     (body : Room (before_body outer top s1) (declared_in p.body) → Resolves (before_body outer top s1) s3 p.body b') where
   room : Room (before_body outer top s1) (declared_in p.body)
   room =

@@ -13,7 +13,7 @@ use Rattle.dh_tree.specs.declared.trees.expressions.ExprForm.TheVariants.{Access
 use Rattle.dh_tree.specs.PlainTrees.{Term, accessed, in_bank, applied, converted}
 use Rattle.dh_tree.specs.Seen.{form_seen, term_seen, terms}
 use Rattle.dh_tree.specs.LeastBreach.{least_of}
-use Rattle.dh_tree.specs.Scopes.{Binding}
+use Rattle.dh_tree.specs.Scopes.{ScopeEntry}
 use Rattle.dh_tree.specs.Breaches.{unknown, term_breaches, term_form_breaches, list_breaches}
 use Rattle.dh_tree.specs.Resolved.{used, resolved_term, resolved_term_form}
 use Rattle.dh_tree.proofs.SeenTerms.{access_is, physical_is, binary_is, cast_is}
@@ -21,7 +21,7 @@ use Rattle.dh_names.proofs.Keeping.{terms_listed, breaches_listed}
 use Rattle.dh_tree.proofs.Leasts.{least_append}
 use Rattle.dh_base.proofs.InPlace.{run, made}
 
-module _ (bs : List Binding) where
+module _ (bs : List ScopeEntry) where
   pub access_done : (form : ExprForm) (r r' : Ref) (v v' : Vec Expr Global) → form ≡ Access r v → r' ≡ used bs r → map term_seen v'.items ≡ map (resolved_term bs) (map term_seen v.items)
       → form_seen (Access r' v') ≡ resolved_term_form bs (form_seen form)
   access_done form r r' v v' is use_is all =

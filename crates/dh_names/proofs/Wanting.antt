@@ -7,12 +7,12 @@ use Rattle.dh_tree.specs.declared.trees.programs.Decl.{Decl}
 use Rattle.dh_tree.specs.declared.trees.programs.Function.{Function}
 use Rattle.dh_tree.specs.declared.trees.programs.Tree.{Tree}
 use Rattle.dh_tree.specs.Seen.{action_seen, declared_seen, defined_seen, program_seen}
-use Rattle.dh_tree.specs.Scopes.{Binding, bind}
+use Rattle.dh_tree.specs.Scopes.{ScopeEntry, bind}
 use Rattle.dh_tree.specs.NameCounts.{declared_in, names_declared}
 use Rattle.dh_names.specs.Visible.{Binds}
 use Rattle.dh_names.proofs.FunctionsDone.{length_map}
 
-pub bound_ok : (old new : List Binding) (name : List ℕ) (n : ℕ) (r : Result (Unit {0}) NoMemory) → Binds old new name n r → OnOk r (new ≡ bind old name n)
+pub bound_ok : (old new : List ScopeEntry) (name : List ℕ) (n : ℕ) (r : Result (Unit {0}) NoMemory) → Binds old new name n r → OnOk r (new ≡ bind old name n)
 bound_ok old new name n (Ok u) h = h
 bound_ok old new name n (Err e) h = tt
 

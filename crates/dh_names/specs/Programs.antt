@@ -14,7 +14,7 @@ use Rattle.dh_tree.specs.declared.trees.named.Named.{Named}
 use Rattle.dh_tree.specs.PlainTrees.{Declared, Formal, Defined, Program}
 use Rattle.dh_tree.specs.Seen.{action_seen, declared_seen, formal_seen, defined_seen, program_seen}
 use Rattle.dh_tree.specs.LeastBreach.{is_before, breach, least_of, IsLeast}
-use Rattle.dh_tree.specs.Scopes.{Binding, entity_of, bind, entity, Item, memory_items, function_items, merged, items_of, after_items, Scope, first_scope, after_formals, after_function, after_functions}
+use Rattle.dh_tree.specs.Scopes.{ScopeEntry, entity_of, bind, entity, Item, memory_items, function_items, merged, items_of, after_items, Scope, first_scope, after_formals, after_function, after_functions}
 use Rattle.dh_tree.specs.Breaches.{breaches_of, KeepsNames, twice, items_breaches, formals_breaches, function_breaches, functions_breaches}
 use Rattle.dh_tree.specs.Resolved.{resolved, resolved_decls, resolved_formals, resolved_function, resolved_functions}
 use Rattle.dh_tree.specs.NameCounts.{declared_in, declared_in_functions, names_declared}
@@ -96,7 +96,7 @@ pub record AreLeft (decls : List Decl) (functions : List Function) (done : ℕ �
   pub functions_done : done.1 ≤ length functions
 
 -- the next name of those left is made visible
-pub record BindsNext (decls : List Decl) (functions : List Function) (old : List Binding) (old_least : Option Breach) (done : ℕ × ℕ) (new : List Binding) (new_least : Option Breach) (after : ℕ × ℕ) : Type 0 where
+pub record BindsNext (decls : List Decl) (functions : List Function) (old : List ScopeEntry) (old_least : Option Breach) (done : ℕ × ℕ) (new : List ScopeEntry) (new_least : Option Breach) (after : ℕ × ℕ) : Type 0 where
   pub item : Item
   pub next : left decls functions done ≡ item ∷ left decls functions after
   pub bound : new ≡ bind old item.name.name item.entity
@@ -106,7 +106,7 @@ pub record BindsNext (decls : List Decl) (functions : List Function) (old : List
   pub functions_done : after.1 ≤ length functions
 
 -- memory is wanting for the next name of those left, which is not visible yet, and nothing is done
-pub record LacksNext (decls : List Decl) (functions : List Function) (old : List Binding) (old_least : Option Breach) (done : ℕ × ℕ) (new : List Binding) (new_least : Option Breach) : Type 0 where
+pub record LacksNext (decls : List Decl) (functions : List Function) (old : List ScopeEntry) (old_least : Option Breach) (done : ℕ × ℕ) (new : List ScopeEntry) (new_least : Option Breach) : Type 0 where
   pub item : Item
   pub more : List Item
   pub next : left decls functions done ≡ item ∷ more
@@ -154,7 +154,7 @@ pub record IsStart (w : Walk) (top : Names) : Type 0 where
 
 -- a walk over the memories from outside and the functions of a program from there on, with the names that are
 -- visible behind them
-pub record ResolvesItems (p : Program) (new : State) (top : List Binding) (ds : List Declared) (fs : List Defined) : Type 0 where
+pub record ResolvesItems (p : Program) (new : State) (top : List ScopeEntry) (ds : List Declared) (fs : List Defined) : Type 0 where
   pub decls : ds ≡ resolved_decls 0 p.decls
   pub functions : fs ≡ resolved_functions (length p.decls) (first_scope p) p.functions
   pub names : top ≡ after_items [] (items_of p)

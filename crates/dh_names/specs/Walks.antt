@@ -11,7 +11,7 @@ use Rattle.dh_tree.specs.declared.trees.programs.Sort.{Sort}
 use Rattle.dh_tree.specs.declared.trees.programs.Sort.TheVariants.{Iterator}
 use Rattle.dh_tree.specs.PlainTrees.{Action, ActionForm, blocks, MaybeAction, Actions, Groups}
 use Rattle.dh_tree.specs.LeastBreach.{least_of}
-use Rattle.dh_tree.specs.Scopes.{Binding, Scope, declare, leave, past, at_end, form_at_end, other_at_end, actions_at_end, groups_at_end}
+use Rattle.dh_tree.specs.Scopes.{ScopeEntry, Scope, declare, leave, past, at_end, form_at_end, other_at_end, actions_at_end, groups_at_end}
 use Rattle.dh_tree.specs.Breaches.{twice, breaches, form_breaches, other_breaches, actions_breaches, groups_breaches}
 use Rattle.dh_tree.specs.Resolved.{declares, resolved_action, resolved_form, resolved_other, resolved_actions, resolved_groups}
 use Rattle.dh_tree.specs.Seen.{action_seen, action_form_seen, sides_seen, part_seen, maybe_block_seen}
@@ -26,7 +26,7 @@ is_blocks form = false
 
 -- a point of the text, with the names that a function sees of the program and the least breach so far
 pub record State : Type 0 where
-  pub outer : List Binding
+  pub outer : List ScopeEntry
   pub scope : Scope
   pub least : Option Breach
 
@@ -46,7 +46,7 @@ abbrev pub Room : State → ℕ → Type 0
 Room s declared = length s.scope.entities + declared ≤ 2 ^ 32
 
 -- the walk finds the breaches that a rule finds here where the names at its point are visible, and stays there
-abbrev pub FindsBy : {A : Type 0} → (rule : List Binding → A → List Breach) → (old new : Walk) → A → Type 0
+abbrev pub FindsBy : {A : Type 0} → (rule : List ScopeEntry → A → List Breach) → (old new : Walk) → A → Type 0
 FindsBy rule old new seen = state_of new ≡ walked (state_of old) (rule (state_of old).scope.visible seen) (state_of old).scope
 
 -- a name that is declared at the walk's point takes the number of the next entity, where there is one

@@ -1,8 +1,8 @@
 //! The names within views.
 
 ghost use Rattle.std.specs.Prelude.{◌≡◌, map};
-ghost use Rattle.dh_tree.specs.Seen.{plan_seen, factor_seen};
-ghost use Rattle.dh_tree.specs.Breaches.{plan_breaches, offsets_breaches};
+ghost use Rattle.dh_tree.specs.Seen.{view_plan, factor_seen};
+ghost use Rattle.dh_tree.specs.Breaches.{plan_name_breaches, offsets_breaches};
 ghost use Rattle.dh_tree.specs.Resolved.{resolved_plan};
 ghost use Rattle.dh_names.specs.Visible.{visible};
 ghost use Rattle.dh_names.specs.InTrees.{ResolvesOffsets};
@@ -14,9 +14,9 @@ use dh_tree::{Expr, ViewForm};
 impl Walk {
     /// Gives the names of a view's offsets their numbers.
     pub fn plan(&mut self, form: &mut ViewForm)
-        ensures tree { plan_seen form.new ≡ resolved_plan (visible self.old.names)
-            (plan_seen form.old) }
-        ensures state { FindsBy plan_breaches self.old self.new (plan_seen form.old) }
+        ensures tree { view_plan form.new ≡ resolved_plan (visible self.old.names)
+            (view_plan form.old) }
+        ensures state { FindsBy plan_name_breaches self.old self.new (view_plan form.old) }
     {
         match form {
             ViewForm::Shrink { .. } => {}

@@ -2,7 +2,7 @@
 
 ghost use Rattle.std.specs.Prelude.{◌≡◌, ◌+◌, ◌-◌, ◌^◌, min, OnOk, option_map, length};
 ghost use Rattle.dh_tree.specs.Seen.{term_seen, expressions_seen};
-ghost use Rattle.dh_tree.specs.Breaches.{unknown, term_breaches, value_breaches, list_breaches};
+ghost use Rattle.dh_tree.specs.Breaches.{unknown, term_breaches, maybe_value_breaches, list_breaches};
 ghost use Rattle.dh_tree.specs.Resolved.{used};
 ghost use Rattle.dh_names.specs.Visible.{visible};
 ghost use Rattle.dh_names.specs.InTrees.{ResolvesTerm, ResolvesTerms, ResolvesValue};
@@ -45,7 +45,7 @@ impl Walk {
     /// Gives the names of an expression, which may lack, their numbers.
     pub fn value(&mut self, value: &mut Option<Expr>)
         ensures tree { ResolvesValue (visible self.old.names) value.old value.new }
-        ensures state { FindsBy value_breaches self.old self.new (option_map term_seen value.old) }
+        ensures state { FindsBy maybe_value_breaches self.old self.new (option_map term_seen value.old) }
     {
         match value {
             Some(term) => self.expression(term),

@@ -127,17 +127,17 @@ abbrev pub memory_at : List (List ℕ) → (memory : ℕ) → List ℕ
 memory_at memories memory = slice_index_or memories memory []
 
 -- the place among the elements of its memory of a row of a port's bank
-abbrev pub place_of : List MemEntry → Port → (row : ℕ) → ℕ
-place_of table p row = position_in_bank (dims_at table p.memory) p.bank row
+abbrev pub position_of_row : List MemEntry → Port → (row : ℕ) → ℕ
+position_of_row table p row = position_in_bank (dims_at table p.memory) p.bank row
 
 -- the element in a row of a port's bank, 0 where that is no row of it
 abbrev pub row_value : List MemEntry → Port → List (List ℕ) → (row : ℕ) → ℕ
-row_value table p memories row = if nat_lt row p.rows then slice_index (memory_at memories p.memory) (place_of table p row) else 0
+row_value table p memories row = if nat_lt row p.rows then slice_index (memory_at memories p.memory) (position_of_row table p row) else 0
 
 -- the memories with this value in a row of a port's bank, as they were where that is no row of it
 abbrev pub with_row : List MemEntry → Port → List (List ℕ) → (row value : ℕ) → List (List ℕ)
 with_row table p memories row value =
-    if nat_lt row p.rows then set memories p.memory (slice_set (memory_at memories p.memory) (place_of table p row) value) else memories
+    if nat_lt row p.rows then set memories p.memory (slice_set (memory_at memories p.memory) (position_of_row table p row) value) else memories
 
 -- a port's held data after the clock: the row as it was, where it reads
 abbrev pub held_by : List MemEntry → List ℕ → Port → Option Driver → List (List ℕ) → ℕ → ℕ

@@ -11,8 +11,8 @@ use Rattle.dh_expressions.specs.declared.scenes.Around.{Around}
 use Rattle.dh_expressions.specs.declared.scenes.Scene.{Scene}
 use Rattle.dh_expressions.specs.Evaluated.{counter_of}
 use Rattle.dh_expressions.proofs.ListPlaces.{place_within, some_same, there}
-use Rattle.dh_formed.specs.Formed.{Agrees, Block}
-use Rattle.dh_formed.specs.Timed.{AgreeInTime, Clocks, CurrentAt, NotedInTime, VariableAt, Within}
+use Rattle.dh_formed.specs.Formed.{Agrees, FormedBlock}
+use Rattle.dh_formed.specs.Timed.{AgreeInTime, BlockClocks, CurrentAt, NotedInTime, VariableAt, Within}
 use Rattle.dh_formed.proofs.ValuesTimed.{time_later, within_again}
 use Rattle.dh_commands.specs.declared.assignments.Values.{Values}
 use Rattle.dh_commands.specs.declared.buildings.Building.{Building}
@@ -24,7 +24,7 @@ use Rattle.dh_commands.specs.MadeCommands.{Commanding, MadeArm, MadeJoined}
 use Rattle.dh_commands.specs.ShownVariables.{register_in}
 use Rattle.dh_commands.specs.Undone.{AreReady, first_left}
 use Rattle.dh_commands.proofs.ArmsLeft.{AreSame, ArmLeft, IsSetAt}
-use Rattle.dh_laid.specs.Laid.{AreTruths}
+use Rattle.dh_laid.specs.Laid.{TestsAreTruths}
 use Rattle.dh_laid.specs.LaidCommands.{FormsCommand}
 use Rattle.dh_laid.proofs.CommandsLaid.{begun_held, begun_noted, guards_made, round_arm}
 use Rattle.dh_paced.specs.Standing.{AreCurrent, HaveGivenTo, IsGround, IsTarget, Paces, StandsFor}
@@ -34,15 +34,15 @@ use Rattle.dh_paced.proofs.ChoicesPaced.{choices_paced}
 use Rattle.dh_paced.proofs.TestsPaced.{GuardsPaced, TestsAt, guards_paced}
 
 -- an arm that is taken back: what stands behind it, and what variables were given as it ended
-pub record PacesArm (c : Clocks) (scene : Scene) (top : Around) (spaces : ℕ) (shared : ℕ → Option ℕ) (Variable Read Own : ℕ → Type 0) (old new : Building) (behind : List (Option ℕ)) (l : Levels) (next : ℕ) : Type 0 where
+pub record PacesArm (c : BlockClocks) (scene : Scene) (top : Around) (spaces : ℕ) (shared : ℕ → Option ℕ) (Variable Read Own : ℕ → Type 0) (old new : Building) (behind : List (Option ℕ)) (l : Levels) (next : ℕ) : Type 0 where
   pub within : Within c old.draft new.draft l.most
   pub in_time : NotedInTime c new.accesses
   pub given : HaveGivenTo c scene top spaces shared Variable Read Own new.accesses next
   pub left : AreCurrent c scene top spaces shared Variable Read Own behind l
 
-module _ (c : Clocks) (scene : Scene) (top : Around) (spaces : ℕ) (shared : ℕ → Option ℕ) (Variable Read Own : ℕ → Type 0) (g : IsGround c scene top spaces shared Variable Read Own) where
-  module _ (Inner : Commanding) (around : Around) (holds : Truth) (tests : List ℕ) (old new : Building) (first next : ℕ) (lefts : List Left) (m : MadeArm Inner around holds tests old new first next lefts) (Where : Block → Type 0)
-      (inner : FormsCommand scene m.arm m.begin m.inside Where) (n outer level : ℕ) (l : Levels) (s : StandsFor c scene top spaces shared Variable Read Own around old outer n l) (truths : AreTruths c.block old.draft tests) (at : TestsAt c level tests)
+module _ (c : BlockClocks) (scene : Scene) (top : Around) (spaces : ℕ) (shared : ℕ → Option ℕ) (Variable Read Own : ℕ → Type 0) (g : IsGround c scene top spaces shared Variable Read Own) where
+  module _ (Inner : Commanding) (around : Around) (holds : Truth) (tests : List ℕ) (old new : Building) (first next : ℕ) (lefts : List Left) (m : MadeArm Inner around holds tests old new first next lefts) (Where : FormedBlock → Type 0)
+      (inner : FormsCommand scene m.arm m.begin m.inside Where) (n outer level : ℕ) (l : Levels) (s : StandsFor c scene top spaces shared Variable Read Own around old outer n l) (truths : TestsAreTruths c.block old.draft tests) (at : TestsAt c level tests)
       (long : length tests ≡ paths_counted top) (few : level ≤ l.most) where
     begins : m.begin.draft ≡ m.guarded
     begins = m.begin_draft

@@ -13,7 +13,7 @@ use Rattle.dh_meaning.specs.Core.{no_commands, count_terms}
 use Rattle.dh_meaning.specs.CoreOf.{Known, core_action, core_groups, core_other, core_part, entity_number, core_terms, kept_by, way_of}
 use Rattle.dh_meaning.specs.Levels.{Levels, any_assigns}
 use Rattle.dh_meaning.specs.Ways.{Hidden, hidden_in}
-use Rattle.dh_formed.specs.Timed.{Clocks, leveled}
+use Rattle.dh_formed.specs.Timed.{BlockClocks, leveled}
 use Rattle.dh_expressions.specs.declared.scenes.Around.{Around}
 use Rattle.dh_expressions.specs.declared.scenes.Scene.{Scene}
 use Rattle.dh_expressions.specs.Evaluated.{known_in}
@@ -21,7 +21,7 @@ use Rattle.dh_paced.specs.Assigned.{IsAssignedIn, IsAssignedInGroups, IsAssigned
 use Rattle.dh_paced.specs.Paced.{action_levels, between_arms, part_levels}
 use Rattle.dh_paced.specs.Standing.{IsTarget, OwnsGroups, OwnsIn, OwnsOther, OwnsPart, OwnsView}
 use Rattle.dh_paced.proofs.CoreAppended.{action_then_assigns, part_then_assigns}
-use Rattle.dh_commands.specs.Setting.{IsAmong}
+use Rattle.dh_commands.specs.Setting.{IsVariableAmong}
 use Rattle.dh_commands.proofs.CoreRuns.{offsets_long}
 
 one_true : (e other : ℕ) → e ≡ other → ((e == other) || false) ≡ true
@@ -54,13 +54,13 @@ or_false false = refl
 untrue : false ≡ true → ⊥
 untrue h = cc
 
-among_true : (first count k e : ℕ) → k ≡ count → IsAmong first count e → (nat_le first e && nat_lt e (first + k)) ≡ true
+among_true : (first count k e : ℕ) → k ≡ count → IsVariableAmong first count e → (nat_le first e && nat_lt e (first + k)) ≡ true
 among_true first count k e same h = decided e first (first + k) h.0 (let b = h.1 in omega (arith, b, same))
   where
     decided : (k n e : ℕ) → n ≤ k → k < e → (nat_le n k && nat_lt k e) ≡ true
     decided k n e f b = grind (arith, nat_tests, f, b)
 
-true_among : (first count k e : ℕ) → k ≡ count → (nat_le first e && nat_lt e (first + k)) ≡ true → IsAmong first count e
+true_among : (first count k e : ℕ) → k ≡ count → (nat_le first e && nat_lt e (first + k)) ≡ true → IsVariableAmong first count e
 true_among first count k e same h = by (cases_lt e first) (cases_lt e (first + k))
   where
     low : e < first → (nat_le first e && nat_lt e (first + k)) ≡ false
@@ -69,7 +69,7 @@ true_among first count k e same h = by (cases_lt e first) (cases_lt e (first + k
     far : first + k ≤ e → (nat_le first e && nat_lt e (first + k)) ≡ false
     far l = grind (arith, nat_tests, l)
 
-    by : (e < first) ⊎ (first ≤ e) → (e < first + k) ⊎ (first + k ≤ e) → IsAmong first count e
+    by : (e < first) ⊎ (first ≤ e) → (e < first + k) ⊎ (first + k ≤ e) → IsVariableAmong first count e
     by (inl l) other = absurd (untrue (sym (low l) ∙ h))
     by (inr f) (inl l) = (f, omega (arith, l, same))
     by (inr f) (inr l) = absurd (untrue (sym (far l) ∙ h))
@@ -178,7 +178,7 @@ module _ (scene : Scene) where
 
 -- Targets.
 
-module _ (c : Clocks) (scene : Scene) (top : Around) (spaces : ℕ) (shared : ℕ → Option ℕ) (Variable Read Own : ℕ → Type 0) where
+module _ (c : BlockClocks) (scene : Scene) (top : Around) (spaces : ℕ) (shared : ℕ → Option ℕ) (Variable Read Own : ℕ → Type 0) where
   view_target : (hs : List Hidden) (outer n e : ℕ) (form : plain.ViewPlan) → OwnsView c scene top spaces shared Variable Read Own outer n hs form → IsKept hs (length (offsets_of form)) e → IsTarget c scene top spaces shared Variable Read Own e
   view_target [] outer n e form o h = absurd h
   view_target (x ∷ xs) outer n e form o h = (o.1 e h).0

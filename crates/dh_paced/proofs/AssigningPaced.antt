@@ -13,14 +13,14 @@ use Rattle.dh_expressions.specs.declared.scenes.Around.{Around}
 use Rattle.dh_expressions.specs.declared.scenes.Scene.{Scene}
 use Rattle.dh_expressions.specs.Evaluated.{counter_of, known_in}
 use Rattle.dh_expressions.proofs.ListPlaces.{set_here, set_other}
-use Rattle.dh_formed.specs.Timed.{Clocks, CurrentAt, EntityAt, HasClock, VariableAt}
+use Rattle.dh_formed.specs.Timed.{BlockClocks, CurrentAt, EntityAt, HasClock, VariableAt}
 use Rattle.dh_formed.proofs.LevelsBehind.{value_here, value_other}
 use Rattle.dh_commands.specs.LanesRun.{lane_of, paths_counted}
 use Rattle.dh_commands.specs.ShownVariables.{register_in}
 use Rattle.dh_paced.specs.Standing.{AreCurrent, IsGround, IsTarget, IsUnder, TakesAlone}
 use Rattle.dh_paced.proofs.AssignmentsLogged.{cases_last, register_under}
 
-module _ (c : Clocks) (scene : Scene) (top : Around) (spaces : ℕ) (shared : ℕ → Option ℕ) (Variable Read Own : ℕ → Type 0) (g : IsGround c scene top spaces shared Variable Read Own) where
+module _ (c : BlockClocks) (scene : Scene) (top : Around) (spaces : ℕ) (shared : ℕ → Option ℕ) (Variable Read Own : ℕ → Type 0) (g : IsGround c scene top spaces shared Variable Read Own) where
   -- what a variable that is no iterator was given
   pub current_of : (current : List (Option ℕ)) (e i level : ℕ) → counter_of scene e ≡ None → VariableAt c (counter_of scene e) (held_at scene.held.now e) (lane_of top i) current level
       → CurrentAt c (slice_get current (register_in scene top e i)) level

@@ -36,7 +36,7 @@ use Rattle.dh_commands.proofs.ArmsJoined.{choice_set}
 use Rattle.dh_commands.proofs.ArmsLeft.{AreSame, ArmLeft, IsSetAt, arm_ended, lefts_given, nothing_left, same_again, same_ready}
 use Rattle.dh_commands.proofs.ChangesBack.{changes_logs, logs_again, logs_none, logs_one}
 use Rattle.dh_commands.proofs.JoinedArms.{first_more, left_if, left_or}
-use Rattle.dh_commands.specs.Setting.{IsAmong, SetsFrom}
+use Rattle.dh_commands.specs.Setting.{IsVariableAmong, SetsFrom}
 use Rattle.dh_commands.proofs.KeptWords.{holds_long}
 use Rattle.dh_laid.specs.LaidCommands.{AreLogged}
 use Rattle.dh_laid.proofs.ValuesLogged.{arm_back, arm_long, tests_same}
@@ -236,10 +236,10 @@ module _ (scene : Scene) (top : Around) where
     logs : Logs (IsChange scene top May) old new
     covers : (e i : ℕ) → May e → i < count → IsSet logs.more (register_in scene top e i)
 
-  kept_logged : (around : Around) (entity : ℕ) (offsets : List Term) → IsUnder top around → (count first : ℕ) (old new : Building) (next : ℕ) → count ≤ paths_counted top → HaveRoom (IsAmong entity (length offsets)) old.values
-      → KeptTo scene around first entity offsets count old new next → LogsEach (IsAmong entity (length offsets)) count old.values new.values
+  kept_logged : (around : Around) (entity : ℕ) (offsets : List Term) → IsUnder top around → (count first : ℕ) (old new : Building) (next : ℕ) → count ≤ paths_counted top → HaveRoom (IsVariableAmong entity (length offsets)) old.values
+      → KeptTo scene around first entity offsets count old new next → LogsEach (IsVariableAmong entity (length offsets)) count old.values new.values
   kept_logged around entity offsets u zero first old new next within room m = record {
-    logs = subst (λ (b : Building). Logs (IsChange scene top (IsAmong entity (length offsets))) old.values b.values) (sym m.0) (logs_none (IsChange scene top (IsAmong entity (length offsets))) old.values);
+    logs = subst (λ (b : Building). Logs (IsChange scene top (IsVariableAmong entity (length offsets))) old.values b.values) (sym m.0) (logs_none (IsChange scene top (IsVariableAmong entity (length offsets))) old.values);
     covers = λ e i may less. absurd (never i less);
   }
     where
@@ -248,7 +248,7 @@ module _ (scene : Scene) (top : Around) where
   kept_logged around entity offsets u (suc n) first old new next within room m = further m.0 m.1.0 m.1.1.1 (kept_logged around entity offsets u n first old m.0 m.1.0 (omega (arith, within)) room m.1.1.0)
     where
       May : ℕ → Type 0
-      May e = IsAmong entity (length offsets) e
+      May e = IsVariableAmong entity (length offsets) e
 
       further : (b : Building) (k : ℕ) → MadeKept scene (lane_of around n) first entity offsets b new next → LogsEach May n old.values b.values → LogsEach May (suc n) old.values new.values
       further b k one front =
@@ -272,7 +272,7 @@ module _ (scene : Scene) (top : Around) where
       → LogsOf (IsKept hs (length (offsets_of form))) old.values new.values
   view_logged [] form around old new first next m u room = logged_none (λ e. ⊥) (λ e h. h) old.values new.values (ap (λ (b : Building). b.values) m.still)
   view_logged (x ∷ xs) form around old new first next m u room =
-      let l : LogsEach (IsAmong x.entity (length (offsets_of form))) (paths_counted top) old.values new.values =
+      let l : LogsEach (IsVariableAmong x.entity (length (offsets_of form))) (paths_counted top) old.values new.values =
       kept_logged around x.entity (offsets_of form) u (paths_counted top) first old new next (omega arith) room (subst (λ (n : ℕ). KeptTo scene around first x.entity (offsets_of form) n old new next) u.counted m) in
       record { logs = l.logs; covers = l.covers }
 

@@ -14,7 +14,7 @@ use Rattle.dh_meaning.specs.OnePhase.{any_makes}
 use Rattle.dh_meaning.specs.Phases.{Located}
 use Rattle.dh_code.specs.Slots.{held_at}
 use Rattle.dh_plan.specs.declared.operations.Operation.{Operation}
-use Rattle.dh_plan.specs.LegalSchedules.{block_clocks, greatest_of, is_read, last_clock, least_clocks, there_at}
+use Rattle.dh_plan.specs.LegalSchedules.{block_clocks, greatest_number, is_read, last_clock, least_clocks, there_at}
 use Rattle.dh_plan.specs.Ordered.{IsBetween, TakesEarlier, operation_takes}
 use Rattle.dh_plan.specs.PlainPlans.{PlainPlan, first_in, operations_in}
 use Rattle.dh_plan.specs.PlanPhases.{commands_mention, term_mentions}
@@ -27,9 +27,9 @@ use Rattle.dh_expressions.specs.Evaluated.{counter_of, known_in}
 use Rattle.dh_expressions.specs.Noted.{given_in, given_to, touched_in}
 use Rattle.dh_expressions.proofs.ListPlaces.{there}
 use Rattle.dh_formed.specs.Counted.{given_at_paths, length_given}
-use Rattle.dh_formed.specs.Formed.{Agrees, IsNoted, Site}
-use Rattle.dh_formed.specs.Timed.{AgreeInTime, Clocks, CurrentAt, GuardAt, HasClock, VariableAt, Within, clock_of, leveled}
-use Rattle.dh_formed.specs.WholeBlocks.{IsCut, clocks_of}
+use Rattle.dh_formed.specs.Formed.{Agrees, AreNotedReads, BlockSite}
+use Rattle.dh_formed.specs.Timed.{AgreeInTime, BlockClocks, CurrentAt, GuardAt, HasClock, VariableAt, Within, clock_of, leveled}
+use Rattle.dh_formed.specs.WholeBlocks.{IsCut, least_clocks_of}
 use Rattle.dh_formed.proofs.BlocksWhole.{blocks_agree, blocks_agree_in_time, lengths_least, lengths_most}
 use Rattle.dh_formed.proofs.LevelsBehind.{levels_behind}
 use Rattle.dh_formed.proofs.ReadsCounted.{given_here}
@@ -50,9 +50,9 @@ use Rattle.dh_paced.proofs.TestsPaced.{TestsPaced, tests_paced}
 
 -- Operations behind what was put down that read nothing are there no later.
 
-greatest_few : (f : ℕ → ℕ) (k : ℕ) (ns : List ℕ) → AllByRecursion (λ n. f n ≤ k) ns → greatest_of (map f ns) ≤ k
+greatest_few : (f : ℕ → ℕ) (k : ℕ) (ns : List ℕ) → AllByRecursion (λ n. f n ≤ k) ns → greatest_number (map f ns) ≤ k
 greatest_few f k [] all = omega arith
-greatest_few f k (n ∷ ns) all = join (f n) (greatest_of (map f ns)) all.0 (greatest_few f k ns all.1)
+greatest_few f k (n ∷ ns) all = join (f n) (greatest_number (map f ns)) all.0 (greatest_few f k ns all.1)
   where
     join : (a b : ℕ) → a ≤ k → b ≤ k → max a b ≤ k
     join a b e h = omega (arith, e, h)
@@ -90,7 +90,7 @@ cut_place plan block old end cut n from =
     ap (λ (os : List Operation). slice_get os n) cut.operations
     ∙ (get_behind old.operations.items (operations_in plan block) n (subst (λ (k : ℕ). k ≤ n) cut.first from) ∙ ap (λ (k : ℕ). slice_get (operations_in plan block) (n - k)) (sym cut.first))
 
-module _ (plan : PlainPlan) (block : ℕ) (old new end : Draft) (c : Clocks) (first_is : c.block.first ≡ first_in plan block) (w : IsWholeBut plan block old new end) (agree : AgreeInTime c end) (k : ℕ) (within : Within c old new k) where
+module _ (plan : PlainPlan) (block : ℕ) (old new end : Draft) (c : BlockClocks) (first_is : c.block.first ≡ first_in plan block) (w : IsWholeBut plan block old new end) (agree : AgreeInTime c end) (k : ℕ) (within : Within c old new k) where
   -- an operation of the block, by its number
   place_is : (i : ℕ) → c.block.first ≤ i → i < length end.operations.items → (o : Operation) × ((slice_get end.operations.items i ≡ Some o) × TakesEarlier (first_in plan block) i o)
   place_is i from below =
@@ -112,7 +112,7 @@ module _ (plan : PlainPlan) (block : ℕ) (old new end : Draft) (c : Clocks) (fi
       by (inr more) =
           let found = place_is i from below in
           subst (λ (n : ℕ). n ≤ k)
-          (sym (agree.each i found.0 from found.1.0 ∙ still_there found.0 (greatest_of (map (clock_of c) (operation_takes found.0))) (w.unread i found.0 more found.1.0)))
+          (sym (agree.each i found.0 from found.1.0 ∙ still_there found.0 (greatest_number (map (clock_of c) (operation_takes found.0))) (w.unread i found.0 more found.1.0)))
           (greatest_few (clock_of c) k (operation_takes found.0)
           (all_to (IsBetween (first_in plan block) i) (λ n. clock_of c n ≤ k) (λ n b. earlier n b.1 (subst (λ (m : ℕ). m ≤ n) (sym first_is) b.0)) (operation_takes found.0) found.1.1))
 
@@ -131,7 +131,7 @@ module _ (plan : PlainPlan) (block : ℕ) (old new end : Draft) (c : Clocks) (fi
 untouched : (a : Accesses) (number : ℕ) → touched_in a number ≡ None → given_at_paths a number ≡ 0
 untouched a number none = ap (λ (o : Option Touched). length_given o) none
 
-module _ (c : Clocks) (scene : Scene) (top : Around) (spaces : ℕ) (shared : ℕ → Option ℕ) (Variable Read Own : ℕ → Type 0) (old : Building) (b : BlockBegins c.block scene top spaces old) where
+module _ (c : BlockClocks) (scene : Scene) (top : Around) (spaces : ℕ) (shared : ℕ → Option ℕ) (Variable Read Own : ℕ → Type 0) (old : Building) (b : BlockBegins c.block scene top spaces old) where
   ground_of : HaveRegisters scene top spaces Variable → ShareWithin scene shared Own Read → IsGround c scene top spaces shared Variable Read Own
   ground_of v s = record { some = b.some; apart = v.apart; room = v.room; shares = s.told; earlier = s.earlier }
 
@@ -174,13 +174,13 @@ module _ (c : Clocks) (scene : Scene) (top : Around) (spaces : ℕ) (shared : �
 
 -- The end.
 
-module _ (plan : PlainPlan) (block : ℕ) (scene : Scene) (top : Around) (spaces : ℕ) (shared : ℕ → Option ℕ) (Variable Read Own : ℕ → Type 0) (sites : ℕ → Option Site) (reads outer : ℕ → ℕ) (old new : Building) (end : Draft)
+module _ (plan : PlainPlan) (block : ℕ) (scene : Scene) (top : Around) (spaces : ℕ) (shared : ℕ → Option ℕ) (Variable Read Own : ℕ → Type 0) (sites : ℕ → Option BlockSite) (reads outer : ℕ → ℕ) (old new : Building) (end : Draft)
     (w : IsWholeBut plan block old.draft new.draft end) (some : 0 < paths_counted top) where
-  abbrev own : Clocks
-  own = clocks_of plan block sites reads outer
+  abbrev own : BlockClocks
+  own = least_clocks_of plan block sites reads outer
 
   -- the block is no shorter than a read of it
-  read_within : (l : Levels) (next k : ℕ) → Paces own scene top spaces shared Variable Read Own old new l next → IsNoted own.block new.draft new.accesses → block_clocks plan block ≡ suc k → (m : ℕ) → Read m → m < next → HasSite sites m → reads m ≤ k
+  read_within : (l : Levels) (next k : ℕ) → Paces own scene top spaces shared Variable Read Own old new l next → AreNotedReads own.block new.draft new.accesses → block_clocks plan block ≡ suc k → (m : ℕ) → Read m → m < next → HasSite sites m → reads m ≤ k
   read_within l next k p noted is m read less site =
       let gave : (v : ℕ) × (given_in new.accesses m 0 ≡ Some v) = given_here new.accesses m 0 (subst (λ (n : ℕ). 0 < n) (sym (p.given.done m read less)) some) in
       let at : HasClock own (reads m) gave.0 = p.in_time.given m 0 gave.0 site.0 site.1 gave.1 in
@@ -190,7 +190,7 @@ module _ (plan : PlainPlan) (block : ℕ) (scene : Scene) (top : Around) (spaces
       lengths_least plan block sites reads outer old.draft end w.cut gave.0 (let f = kind.from in let e = w.cut.first in omega (arith, f, e)) (let b = kind.below in omega (arith, b, longer)) in
       omega (arith, at, few, is)
 
-  pub length_is : (l : Levels) (next : ℕ) → Paces own scene top spaces shared Variable Read Own old new l next → IsNoted own.block new.draft new.accesses → AgreeInTime own end → ((m : ℕ) → Read m → (m < next) × (HasSite sites m × (l.reads m ≡ reads m)))
+  pub length_is : (l : Levels) (next : ℕ) → Paces own scene top spaces shared Variable Read Own old new l next → AreNotedReads own.block new.draft new.accesses → AgreeInTime own end → ((m : ℕ) → Read m → (m < next) × (HasSite sites m × (l.reads m ≡ reads m)))
       → ((k : ℕ) → ((m : ℕ) → Read m → l.reads m ≤ k) → l.most ≤ k) → block_clocks plan block ≡ suc l.most
   length_is l next p noted agree all least =
       same last l.most (lengths_most plan block sites reads outer old.draft end w.cut l.most (within_end plan block old.draft new.draft end own refl w agree l.most p.within))
@@ -206,7 +206,7 @@ module _ (plan : PlainPlan) (block : ℕ) (scene : Scene) (top : Around) (spaces
 
 module _ (plan : PlainPlan) (block : ℕ) (scene : Scene) (around : Around) (spaces : ℕ) (shared : ℕ → Option ℕ) (cs : List Located) (old new : Building) (end : Draft) (m : MadeEach scene around cs old new)
     (h : IsStraightPaced plan block scene around spaces shared cs old new end m) where
-  abbrev sites_here : (number : ℕ) → Option Site
+  abbrev sites_here : (number : ℕ) → Option BlockSite
   sites_here number = block_sites scene around cs old new m number
 
   abbrev levels_here : Levels
@@ -215,8 +215,8 @@ module _ (plan : PlainPlan) (block : ℕ) (scene : Scene) (around : Around) (spa
   abbrev outer_here : (number : ℕ) → ℕ
   outer_here number = outer_each (known_in scene) shared cs level_ground number
 
-  abbrev clocks_here : Clocks
-  clocks_here = clocks_of plan block sites_here levels_here.reads outer_here
+  abbrev clocks_here : BlockClocks
+  clocks_here = least_clocks_of plan block sites_here levels_here.reads outer_here
 
   abbrev Made : ℕ → Type 0
   Made number = any_makes number cs ≡ true
@@ -259,7 +259,7 @@ straights_are_long plan block scene around spaces shared cs old new end m h = st
 
 module _ (plan : PlainPlan) (block : ℕ) (scene : Scene) (around : Around) (spaces : ℕ) (shared : ℕ → Option ℕ) (first : ℕ) (t : Term) (old new : Building) (end : Draft) (next : ℕ) (values : List ℕ)
     (h : IsTestPaced plan block scene around spaces shared first t old new end next values) where
-  abbrev sites_test : (number : ℕ) → Option Site
+  abbrev sites_test : (number : ℕ) → Option BlockSite
   sites_test number = test_sites scene around first t number
 
   abbrev made : Leveled
@@ -268,8 +268,8 @@ module _ (plan : PlainPlan) (block : ℕ) (scene : Scene) (around : Around) (spa
   abbrev none_outer : (number : ℕ) → ℕ
   none_outer number = 0
 
-  abbrev clocks_test : Clocks
-  clocks_test = clocks_of plan block sites_test made.levels.reads none_outer
+  abbrev clocks_test : BlockClocks
+  clocks_test = least_clocks_of plan block sites_test made.levels.reads none_outer
 
   abbrev Named : ℕ → Type 0
   Named e = term_mentions e (core_term (known_in scene) first t) ≡ true
@@ -300,7 +300,7 @@ module _ (plan : PlainPlan) (block : ℕ) (scene : Scene) (around : Around) (spa
       tests_paced clocks_test scene around spaces shared Named InTest InTest ground_test around 0 first level_ground old begun_test t h.few own_test (λ i s at less. refl) new next values h.made agrees_test
       (agree_before clocks_test new.draft end h.whole.extends agree_test) h.suits.1
 
-  test_noted : IsNoted clocks_test.block new.draft new.accesses
+  test_noted : AreNotedReads clocks_test.block new.draft new.accesses
   test_noted =
       ((tests_form scene around first t (paths_counted around) old new next values h.few h.suits.0 (omega arith) h.made).forms clocks_test.block agrees_test started_test h.begins.round h.begins.noted h.begins.held.held h.suits.1).there.notes
 

@@ -8,13 +8,13 @@ use Rattle.dh_expressions.specs.declared.scenes.Scene.{Scene}
 use Rattle.dh_expressions.specs.Drafted.{Extends}
 use Rattle.dh_expressions.proofs.ListPlaces.{set_here, set_long, set_other, some_same}
 use Rattle.dh_expressions.proofs.Pushing.{extends_again, extends_self, pushed_extends}
-use Rattle.dh_formed.specs.Timed.{AgreeInTime, Clocks, CurrentAt, HasClock, StartedInTime, TimesValue, Within}
+use Rattle.dh_formed.specs.Timed.{AgreeInTime, BlockClocks, CurrentAt, HasClock, StartedInTime, TimesValue, Within}
 use Rattle.dh_formed.proofs.CommandsFormed.{selects_in_time}
 use Rattle.dh_formed.proofs.ValuesTimed.{agree_before, shown_timed, time_later, within_again, within_more, within_none}
 use Rattle.dh_commands.specs.declared.assignments.Values.{Values}
 use Rattle.dh_commands.specs.declared.choices.Choice.{Choice}
 use Rattle.dh_commands.specs.declared.choices.Left.{Left}
-use Rattle.dh_commands.specs.Joined.{AreApart, IsLeft}
+use Rattle.dh_commands.specs.Joined.{AreApartChoices, IsLeft}
 use Rattle.dh_commands.specs.MadeCommands.{MadeBehind, MadeChoice, MadeChoiceBy, MadeChoices}
 use Rattle.dh_commands.specs.Undone.{first_left, given_at, lefts_of, value_left}
 use Rattle.dh_commands.proofs.ArmsLeft.{ArmLeft, IsSetAt, given_slot, lefts_given, lefts_some, slot}
@@ -71,10 +71,10 @@ choice_extends test d old new before after m =
 -- One choice.
 
 module _ (scene : Scene) (top : Around) (A B : ℕ → Type 0) (base one two : List (Option ℕ)) (chosen other : List Left) (arm_one : ArmLeft scene top A base one chosen) (arm_two : ArmLeft scene top B base two other) (tests : List ℕ) (choices : List Choice)
-    (c : Clocks) (level : ℕ) (at : TestsAt c level tests) (first second : (k : ℕ) → ℕ)
+    (c : BlockClocks) (level : ℕ) (at : TestsAt c level tests) (first second : (k : ℕ) → ℕ)
     (left_one : (k : ℕ) (d : Choice) → slice_get choices k ≡ Some d → CurrentAt c (slice_get one d.register) (first k)) (left_two : (k : ℕ) (d : Choice) → slice_get choices k ≡ Some d → CurrentAt c (slice_get two d.register) (second k))
     (chosen_is : (k : ℕ) (d : Choice) → slice_get choices k ≡ Some d → d.chosen ≡ value_left (first_left chosen d.register)) (other_is : (k : ℕ) (d : Choice) → slice_get choices k ≡ Some d → d.other ≡ value_left (first_left other d.register))
-    (room : (k : ℕ) (d : Choice) → slice_get choices k ≡ Some d → d.register < length base) (tested : (k : ℕ) (d : Choice) → slice_get choices k ≡ Some d → (test : ℕ) × (slice_get tests d.path ≡ Some test)) (apart : AreApart choices)
+    (room : (k : ℕ) (d : Choice) → slice_get choices k ≡ Some d → d.register < length base) (tested : (k : ℕ) (d : Choice) → slice_get choices k ≡ Some d → (test : ℕ) × (slice_get tests d.path ≡ Some test)) (apart : AreApartChoices choices)
     (most : ℕ) (few : (k : ℕ) (d : Choice) → slice_get choices k ≡ Some d → max level (max (first k) (second k)) ≤ most) where
   abbrev pub joined : (k : ℕ) → ℕ
   joined k = max level (max (first k) (second k))
@@ -92,7 +92,7 @@ module _ (scene : Scene) (top : Around) (A B : ℕ → Type 0) (base one two : L
       (λ x. (Where x × HasClock x (first k) m.yes_value) × HasClock x (second k) m.no_value) (λ x. joined k) (λ x. joined k) (λ x w. (w.0.0.0, (w.0.1, w.1))) (λ x w. refl)
       (selects_in_time m.second new m.value test m.yes_value m.no_value (λ x. level) (λ x. first k) (λ x. second k) m.pushes)))
     where
-      Where : Clocks → Type 0
+      Where : BlockClocks → Type 0
       Where x = HasClock x level test × (CurrentAt x (slice_get one d.register) (first k) × CurrentAt x (slice_get two d.register) (second k))
 
       one_few : (a b e : ℕ) → b ≤ max a (max b e)

@@ -20,8 +20,8 @@ use Rattle.dh_expressions.specs.declared.scenes.Scene.{Scene}
 use Rattle.dh_expressions.specs.Drafted.{Extends}
 use Rattle.dh_expressions.specs.Evaluated.{known_in}
 use Rattle.dh_formed.specs.Counted.{given_at_paths}
-use Rattle.dh_formed.specs.Formed.{Agrees, Block, TermSuits}
-use Rattle.dh_formed.specs.Timed.{AgreeInTime, AreBounded, Clocks, LevelsThen, ReadsAgree, leveled, named_leveled}
+use Rattle.dh_formed.specs.Formed.{Agrees, FormedBlock, TermSuits}
+use Rattle.dh_formed.specs.Timed.{AgreeInTime, AreBounded, BlockClocks, LevelsThen, ReadsAgree, leveled, named_leveled}
 use Rattle.dh_formed.proofs.LevelsBehind.{levels_behind}
 use Rattle.dh_formed.proofs.ValuesFormed.{agrees_before}
 use Rattle.dh_formed.proofs.ValuesTimed.{agree_before, time_later, within_again, within_none}
@@ -32,9 +32,9 @@ use Rattle.dh_commands.specs.LanesRun.{lane_of, paths_counted}
 use Rattle.dh_commands.specs.MadeCommands.{AssignedTo, ClearedTo, MadeActions, MadeArm, MadeCommand, MadeGroups, MadeIf, MadeOther, MadeTests, ReducedTo, StoredTo, KeptTo, MadeView}
 use Rattle.dh_commands.specs.Undone.{AreReady}
 use Rattle.dh_commands.specs.ShownVariables.{register_in}
-use Rattle.dh_laid.specs.Laid.{AreTruths, FormsJoined, FormsTested, FormsThere}
+use Rattle.dh_laid.specs.Laid.{TestsAreTruths, FormsJoined, FormsTested, FormsThere}
 use Rattle.dh_laid.specs.LaidCommands.{ActionsSuit, AreFew, AreFewOther, AssignmentSuits, ClearingSuits, CommandSuits, FormsCommand, GroupsSuit, OtherSuits, ReducingSuits, StoreSuits, TestSuits, KeepingSuits}
-use Rattle.dh_laid.specs.LaidNumbers.{Numbers, StoresReach, StoresReachGroups, StoresReachOther, StoresReachPart}
+use Rattle.dh_laid.specs.LaidNumbers.{NumbersLaid, StoresReach, StoresReachGroups, StoresReachOther, StoresReachPart}
 use Rattle.dh_laid.proofs.CommandsLaid.{FormsArm, FormsEnded, actions_form, arm_forms, command_forms, groups_form, held_moved, other_forms, tests_extend}
 use Rattle.dh_laid.proofs.CommandsNumbered.{actions_reached, command_reached, groups_reached, some_arm, tests_number}
 use Rattle.dh_laid.proofs.PathsLaid.{round_later, tests_form}
@@ -55,7 +55,7 @@ use Rattle.dh_paced.proofs.StoresPaced.{by_indices_paced, by_row_paced}
 use Rattle.dh_paced.proofs.TestsPaced.{TestsAt, TestsPaced, tests_paced}
 use Rattle.dh_paced.proofs.KeepingPaced.{kept_paced}
 
-module _ (c : Clocks) (scene : Scene) (top : Around) (spaces : ℕ) (shared : ℕ → Option ℕ) (Variable Read Own : ℕ → Type 0) (g : IsGround c scene top spaces shared Variable Read Own) where
+module _ (c : BlockClocks) (scene : Scene) (top : Around) (spaces : ℕ) (shared : ℕ → Option ℕ) (Variable Read Own : ℕ → Type 0) (g : IsGround c scene top spaces shared Variable Read Own) where
   abbrev pub Pace : (old new : Building) → Levels → (next : ℕ) → Type 0
   Pace old new l next = Paces c scene top spaces shared Variable Read Own old new l next
 
@@ -86,7 +86,7 @@ module _ (c : Clocks) (scene : Scene) (top : Around) (spaces : ℕ) (shared : �
   none_in n m h read = let f = h.0 in let b = h.1 in omega (arith, f, b)
 
   -- what stands behind a command
-  pub stands_then : (around : Around) (old middle : Building) (outer n k : ℕ) (l made : Levels) (Where : Block → Type 0) → Stand around old outer n l → FormsCommand scene around old middle Where → Agrees c.block middle.draft → Where c.block
+  pub stands_then : (around : Around) (old middle : Building) (outer n k : ℕ) (l made : Levels) (Where : FormedBlock → Type 0) → Stand around old outer n l → FormsCommand scene around old middle Where → Agrees c.block middle.draft → Where c.block
       → (AreBounded l → AreBounded made) → l.most ≤ made.most → Pace old middle made k → Stand around middle outer k made
   stands_then around old middle outer n k l made Where s f agrees w bounded more p =
       let there : FormsThere c.block old middle = f.forms c.block agrees s.started s.round s.noted s.held w in
@@ -266,7 +266,7 @@ module _ (c : Clocks) (scene : Scene) (top : Around) (spaces : ℕ) (shared : �
     some_tests : 0 < length m.tests
     some_tests = subst (λ (i : ℕ). 0 < i) (sym tests_long) g.some
 
-    chosen_reached : AreFew scene chosen m.chosen.arm m.chosen.begin m.chosen.inside m.own m.behind m.chosen.command × Numbers m.chosen.begin m.chosen.inside m.own (accesses_of chosen) m.behind
+    chosen_reached : AreFew scene chosen m.chosen.arm m.chosen.begin m.chosen.inside m.own m.behind m.chosen.command × NumbersLaid m.chosen.begin m.chosen.inside m.own (accesses_of chosen) m.behind
     chosen_reached =
         command_reached scene chosen m.chosen.arm m.chosen.begin m.chosen.inside m.own m.behind m.chosen.command reaches.0
         (some_arm (MadeCommand scene chosen) around true m.tests m.tested m.after_chosen m.own m.behind m.chosen_left m.chosen some_tests) (few_first m.own n1 (accesses_of chosen) own_is (omega (arith, few)))
@@ -275,7 +275,7 @@ module _ (c : Clocks) (scene : Scene) (top : Around) (spaces : ℕ) (shared : �
     behind_is = own_next m.own n1 (accesses_of chosen) m.behind own_is chosen_reached.1.next_is
 
     -- what is formed
-    abbrev Chosen : Block → Type 0
+    abbrev Chosen : FormedBlock → Type 0
     Chosen x = CommandSuits x scene chosen m.chosen.arm m.chosen.begin m.chosen.inside m.own m.behind m.chosen.command
 
     chosen_formed : FormsCommand scene m.chosen.arm m.chosen.begin m.chosen.inside Chosen
@@ -288,7 +288,7 @@ module _ (c : Clocks) (scene : Scene) (top : Around) (spaces : ℕ) (shared : �
     few_other no_action b d i j ls w is small = tt
     few_other (one_action a) b d i j ls w is small = (command_reached scene a w.arm w.begin w.inside i j w.command is (some_arm (MadeCommand scene a) around false m.tests b d i j ls w some_tests) small).0
 
-    abbrev Second : Block → Type 0
+    abbrev Second : FormedBlock → Type 0
     Second x = OtherSuits x scene other around m.tests m.after_chosen m.after_other m.behind next m.other_left m.other
 
     other_arm : FormsArm scene around m.tests m.after_chosen m.after_other m.other_left Second
@@ -449,11 +449,11 @@ module _ (c : Clocks) (scene : Scene) (top : Around) (spaces : ℕ) (shared : �
         given = p.given;
       }
 
-      other_truths : AreTruths c.block m.after_chosen.draft m.tests
+      other_truths : TestsAreTruths c.block m.after_chosen.draft m.tests
       other_truths = truths_later c.block m.tested.draft m.after_chosen.draft m.tests chosen_arm.extends tests_there.truths
 
       pub if_paced : (Stand m.chosen.arm m.chosen.begin inner n1 tested.levels → Agrees c.block m.chosen.inside.draft → AgreeInTime c m.chosen.inside.draft → ReadsAgree c behind_chosen n2 → Pace m.chosen.begin m.chosen.inside behind_chosen n2)
-          → (Stand around m.after_chosen outer n2 between → AreTruths c.block m.after_chosen.draft m.tests → TestsAt c tested.level m.tests → length m.tests ≡ paths_counted top → tested.level ≤ between.most → Agrees c.block m.after_other.draft → AgreeInTime c m.after_other.draft
+          → (Stand around m.after_chosen outer n2 between → TestsAreTruths c.block m.after_chosen.draft m.tests → TestsAt c tested.level m.tests → length m.tests ≡ paths_counted top → tested.level ≤ between.most → Agrees c.block m.after_other.draft → AgreeInTime c m.after_other.draft
           → ReadsAgree c behind_other_arm (n2 + other_accesses other) → PacesArm c scene top spaces shared Variable Read Own m.after_chosen m.after_other behind_two behind_other_arm (n2 + other_accesses other))
           → Pace old new made (n + (term_accesses test + (accesses_of chosen + other_accesses other)))
       if_paced first_arm second_arm =
@@ -502,7 +502,7 @@ module _ (c : Clocks) (scene : Scene) (top : Around) (spaces : ℕ) (shared : �
 
   -- an arm that has a command
   arm_with : (a : Action) (holds : Truth) (around : Around) (tests : List ℕ) (old new : Building) (first next : ℕ) (lefts : List Left) (m : MadeArm (MadeCommand scene a) around holds tests old new first next lefts) (n : ℕ) → first ≡ n → StoresReach a
-      → n + accesses_of a < 2 ^ 32 → (outer level : ℕ) (l : Levels) (s : Stand around old outer n l) → AreTruths c.block old.draft tests → TestsAt c level tests → length tests ≡ paths_counted top → level ≤ l.most
+      → n + accesses_of a < 2 ^ 32 → (outer level : ℕ) (l : Levels) (s : Stand around old outer n l) → TestsAreTruths c.block old.draft tests → TestsAt c level tests → length tests ≡ paths_counted top → level ≤ l.most
       → Agrees c.block new.draft → AgreeInTime c new.draft
       → (Stand m.arm m.begin (max outer level) n l → Agrees c.block m.inside.draft → AgreeInTime c m.inside.draft
       → Pace m.begin m.inside (action_levels (known_in scene) shared (max outer level) n a l) (n + accesses_of a))
@@ -569,7 +569,7 @@ module _ (c : Clocks) (scene : Scene) (top : Around) (spaces : ℕ) (shared : �
         still_paced around old new outer n (0 + (accesses_of body + other_accesses combine)) l m.still (λ i h read. own i (h.0, let b = h.1 in omega (arith, b)) read) s
 
     other_paced : (other : MaybeAction) (around : Around) (tests : List ℕ) (old new : Building) (first next : ℕ) (lefts : List Left) (m : MadeOther scene other around tests old new first next lefts) (n : ℕ) → first ≡ n → StoresReachOther other
-        → n + other_accesses other < 2 ^ 32 → OtherSuits c.block scene other around tests old new first next lefts m → (outer level : ℕ) (l : Levels) → Stand around old outer n l → AreTruths c.block old.draft tests → TestsAt c level tests
+        → n + other_accesses other < 2 ^ 32 → OtherSuits c.block scene other around tests old new first next lefts m → (outer level : ℕ) (l : Levels) → Stand around old outer n l → TestsAreTruths c.block old.draft tests → TestsAt c level tests
         → length tests ≡ paths_counted top → level ≤ l.most → OwnsOther c scene top spaces shared Variable Read Own (max outer level) n other l → ReadsAgree c (other_levels (known_in scene) shared (max outer level) n other l) (n + other_accesses other)
         → Agrees c.block new.draft → AgreeInTime c new.draft
         → PacesArm c scene top spaces shared Variable Read Own old new (behind_other scene top other around tests old new first next lefts m) (other_levels (known_in scene) shared (max outer level) n other l) (n + other_accesses other)

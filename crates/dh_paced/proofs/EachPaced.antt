@@ -16,8 +16,8 @@ use Rattle.dh_expressions.specs.Drafted.{Extends}
 use Rattle.dh_expressions.specs.Evaluated.{known_in}
 use Rattle.dh_expressions.proofs.Pushing.{extends_again}
 use Rattle.dh_formed.specs.Counted.{given_at_paths}
-use Rattle.dh_formed.specs.Formed.{Agrees, IsNoted, Site}
-use Rattle.dh_formed.specs.Timed.{AgreeInTime, AreBounded, Clocks}
+use Rattle.dh_formed.specs.Formed.{Agrees, AreNotedReads, BlockSite}
+use Rattle.dh_formed.specs.Timed.{AgreeInTime, AreBounded, BlockClocks}
 use Rattle.dh_formed.proofs.TermsCounted.{left_of, right_of}
 use Rattle.dh_formed.proofs.ValuesFormed.{agrees_before}
 use Rattle.dh_formed.proofs.ValuesTimed.{agree_before}
@@ -88,7 +88,7 @@ module _ (scene : Scene) (shared : ℕ → Option ℕ) where
             rest.least k (one.least k small (λ m i. subst (λ (n : ℕ). n ≤ k) (rest.before_them m (read_in (known_in scene) c.first c.command m i reach.0).1) (reads m (inl i)))) (λ m i. reads m (inr i));
       }
 
-module _ (c : Clocks) (scene : Scene) (top : Around) (spaces : ℕ) (shared : ℕ → Option ℕ) (Variable Read Own : ℕ → Type 0) (g : IsGround c scene top spaces shared Variable Read Own) where
+module _ (c : BlockClocks) (scene : Scene) (top : Around) (spaces : ℕ) (shared : ℕ → Option ℕ) (Variable Read Own : ℕ → Type 0) (g : IsGround c scene top spaces shared Variable Read Own) where
   -- numbers that no access has
   given_gap : (a : Accesses) (n k : ℕ) → n ≤ k → ((e : ℕ) → Read e → n ≤ e → k ≤ e) → HaveGivenTo c scene top spaces shared Variable Read Own a n → HaveGivenTo c scene top spaces shared Variable Read Own a k
   given_gap a n k few gap h = record { done = λ e read less. by e read less (cases_lt e n); rest = λ m is more. h.rest m is (omega (arith, few, more)) }
@@ -128,14 +128,14 @@ module _ (c : Clocks) (scene : Scene) (top : Around) (spaces : ℕ) (shared : �
 
   pub record EachPaced (old new : Building) (l : Levels) (next : ℕ) : Type 0 where
     pub paces : Paces c scene top spaces shared Variable Read Own old new l next
-    pub noted : IsNoted c.block new.draft new.accesses
+    pub noted : AreNotedReads c.block new.draft new.accesses
     pub extends : Extends old.draft new.draft
 
   pub each_paced : (cs : List Located) (from : ℕ) (old new : Building) (m : MadeEach scene top cs old new) (l : Levels) → AllByRecursion (λ (d : Located). StoresReach d.command) cs → AreRising from cs → EachSuits c.block scene top cs old new m
       → AllByRecursion (λ (d : Located). AssignsOwn scene top d.first d.command) cs → StandsFor c scene top spaces shared Variable Read Own top old 0 from l
       → ((x : ℕ) → any_makes x cs ≡ true → Own x) → ((x : ℕ) → from ≤ x → c.outer x ≡ outer_each (known_in scene) shared cs l x) → ((e : ℕ) → Read e → from ≤ e → IsReadOfEach (known_in scene) cs e)
       → ((e : ℕ) → commands_mention e (core_commands (known_in scene) cs) ≡ true → Variable e)
-      → ((x : ℕ) (s : Site) → c.block.sites x ≡ Some s → (each_levels (known_in scene) shared cs l).reads x ≡ c.reads x) → Agrees c.block new.draft → AgreeInTime c new.draft
+      → ((x : ℕ) (s : BlockSite) → c.block.sites x ≡ Some s → (each_levels (known_in scene) shared cs l).reads x ≡ c.reads x) → Agrees c.block new.draft → AgreeInTime c new.draft
       → EachPaced old new (each_levels (known_in scene) shared cs l) (end_of from cs)
   each_paced [] from old new m l reach rising suits assign s own outers reads names told agrees agree =
       subst (λ (b : Building). EachPaced old b l from) (sym m) (record {

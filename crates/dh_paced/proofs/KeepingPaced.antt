@@ -24,7 +24,7 @@ use Rattle.dh_expressions.proofs.ListPlaces.{set_here, set_long, set_other}
 use Rattle.dh_expressions.proofs.Pushing.{extends_again, extends_self}
 use Rattle.dh_formed.specs.Counted.{AreNext}
 use Rattle.dh_formed.specs.Formed.{Agrees, AreNumbers, TermsSuit}
-use Rattle.dh_formed.specs.Timed.{AgreeInTime, Clocks, CurrentAt, EntityAt, HasClock, LevelsThen, ReadsAgree, StartedInTime, TimesValue, VariableAt, Within, all_leveled, leveled}
+use Rattle.dh_formed.specs.Timed.{AgreeInTime, BlockClocks, CurrentAt, EntityAt, HasClock, LevelsThen, ReadsAgree, StartedInTime, TimesValue, VariableAt, Within, all_leveled, leveled}
 use Rattle.dh_formed.proofs.AccessesFormed.{scope_later}
 use Rattle.dh_formed.proofs.LevelsBehind.{all_levels_behind, levels_behind, value_here, value_other}
 use Rattle.dh_formed.proofs.TermsCounted.{left_of, next_first, next_second, right_of}
@@ -35,7 +35,7 @@ use Rattle.dh_commands.specs.declared.assignments.Values.{Values}
 use Rattle.dh_commands.specs.declared.buildings.Building.{Building}
 use Rattle.dh_commands.specs.LanesRun.{lane_of, paths_counted}
 use Rattle.dh_commands.specs.MadeCommands.{KeptTo, MadeHolds, MadeKept}
-use Rattle.dh_commands.specs.Setting.{IsAmong, SetsFrom}
+use Rattle.dh_commands.specs.Setting.{IsVariableAmong, SetsFrom}
 use Rattle.dh_commands.specs.ShownVariables.{register_in}
 use Rattle.dh_commands.specs.Undone.{Assigns}
 use Rattle.dh_laid.specs.Laid.{FormsAtPath, FormsThere, KeptFits}
@@ -49,19 +49,19 @@ use Rattle.dh_paced.proofs.LevelsOfCommands.{kept_go}
 
 -- Values at their own levels, each that of a variable; the entities of these follow one another.
 
-abbrev AreHeldAt : Clocks → (level : ℕ → ℕ) → (first : ℕ) → List ℕ → Type 0
+abbrev AreHeldAt : BlockClocks → (level : ℕ → ℕ) → (first : ℕ) → List ℕ → Type 0
 AreHeldAt c level first [] = Unit {0}
 AreHeldAt c level first (v ∷ values) = HasClock c (level first) v × AreHeldAt c level (suc first) values
 
-held_alike : (c : Clocks) (f h : ℕ → ℕ) (first : ℕ) (values : List ℕ) → ((e : ℕ) → first ≤ e → f e ≡ h e) → AreHeldAt c f first values → AreHeldAt c h first values
+held_alike : (c : BlockClocks) (f h : ℕ → ℕ) (first : ℕ) (values : List ℕ) → ((e : ℕ) → first ≤ e → f e ≡ h e) → AreHeldAt c f first values → AreHeldAt c h first values
 held_alike c f h first [] same a = tt
 held_alike c f h first (v ∷ values) same a = (subst (λ (k : ℕ). HasClock c k v) (same first (omega arith)) a.0, held_alike c f h (suc first) values (λ e from. same e (omega (arith, from))) a.1)
 
 -- held as the variables hold them, they are there as they were
 record HoldsTimed (level : ℕ → ℕ) (first : ℕ) (values : List ℕ) (old new : Draft) (held : List ℕ) : Type 0 where
   extends : Extends old new
-  within : (c : Clocks) → AgreeInTime c new → StartedInTime c old → AreHeldAt c level first values → (most : ℕ) → ((e : ℕ) → level e ≤ most) → Within c old new most
-  at : (c : Clocks) → AgreeInTime c new → StartedInTime c old → AreHeldAt c level first values → AreHeldAt c level first held
+  within : (c : BlockClocks) → AgreeInTime c new → StartedInTime c old → AreHeldAt c level first values → (most : ℕ) → ((e : ℕ) → level e ≤ most) → Within c old new most
+  at : (c : BlockClocks) → AgreeInTime c new → StartedInTime c old → AreHeldAt c level first values → AreHeldAt c level first held
 
 hold_timed : (level : ℕ → ℕ) (first v : ℕ) (values : List ℕ) (old d new : Draft) (h : ℕ) (more held : List ℕ) → TimesValue old d h (λ x. HasClock x (level first) v) (λ x. level first) → HoldsTimed level (suc first) values d new more → held ≡ h ∷ more
     → HoldsTimed level first (v ∷ values) old new held
@@ -100,9 +100,9 @@ module _ (shared : ℕ → Option ℕ) (outer : ℕ) where
   kept_reads no_terms e l m = refl
   kept_reads (term_and t ts) e l m = kept_reads ts (suc e) (term_leveled shared outer t l).levels m
 
-module _ (c : Clocks) (scene : Scene) (shared : ℕ → Option ℕ) (outer : ℕ) where
+module _ (c : BlockClocks) (scene : Scene) (shared : ℕ → Option ℕ) (outer : ℕ) where
   -- other variables keep their levels
-  kept_others : (offsets : List Term) (e n : ℕ) (l : Levels) (f : ℕ) → (IsAmong e (length offsets) f → ⊥) → (kept_leveled shared outer e (core_terms (known_in scene) n (terms offsets)) l).variables f ≡ l.variables f
+  kept_others : (offsets : List Term) (e n : ℕ) (l : Levels) (f : ℕ) → (IsVariableAmong e (length offsets) f → ⊥) → (kept_leveled shared outer e (core_terms (known_in scene) n (terms offsets)) l).variables f ≡ l.variables f
   kept_others [] e n l f out = refl
   kept_others (t ∷ ts) e n l f out =
       value_other (kept_leveled shared outer (suc e) (core_terms (known_in scene) (n + term_accesses t) (terms ts)) (leveled scene shared outer n t l).levels).variables e (leveled scene shared outer n t l).level f (λ same. out (omega (arith, same), omega (arith, same)))
@@ -128,7 +128,7 @@ module _ (c : Clocks) (scene : Scene) (shared : ℕ → Option ℕ) (outer : ℕ
       apart : (f : ℕ) → suc e ≤ f → f ≡ e → ⊥
       apart f from same = omega (arith, from, same)
 
-module _ (c : Clocks) (scene : Scene) (top : Around) (spaces : ℕ) (shared : ℕ → Option ℕ) (Variable Read Own : ℕ → Type 0) (g : IsGround c scene top spaces shared Variable Read Own) where
+module _ (c : BlockClocks) (scene : Scene) (top : Around) (spaces : ℕ) (shared : ℕ → Option ℕ) (Variable Read Own : ℕ → Type 0) (g : IsGround c scene top spaces shared Variable Read Own) where
   -- Offsets at a path, from the left.
   module _ (lane : Lane) (outer : ℕ) (current : List (Option ℕ)) where
     abbrev Here : (old mid : Draft) → Accesses → Levels → Type 0
@@ -223,10 +223,10 @@ module _ (c : Clocks) (scene : Scene) (top : Around) (spaces : ℕ) (shared : �
             (vars e v (right_of (term_mentions e (core_term (known_in scene) n t)) (terms_mention e (core_terms (known_in scene) (n + term_accesses t) (terms ts))) mentioned))
 
   -- Variables that keep them, from path to path.
-  module _ (entity count : ℕ) (level : ℕ → ℕ) (l : Levels) (targets : (e : ℕ) → IsAmong entity count e → IsTarget c scene top spaces shared Variable Read Own e)
-      (apart_each : (e : ℕ) → IsAmong entity count e → (i j : ℕ) → i < paths_counted top → j < paths_counted top → register_in scene top e i ≡ register_in scene top e j → i ≡ j) where
+  module _ (entity count : ℕ) (level : ℕ → ℕ) (l : Levels) (targets : (e : ℕ) → IsVariableAmong entity count e → IsTarget c scene top spaces shared Variable Read Own e)
+      (apart_each : (e : ℕ) → IsVariableAmong entity count e → (i j : ℕ) → i < paths_counted top → j < paths_counted top → register_in scene top e i ≡ register_in scene top e j → i ≡ j) where
     abbrev Among : ℕ → Type 0
-    Among e = IsAmong entity count e
+    Among e = IsVariableAmong entity count e
 
     -- the first paths, so many
     pub record Keeping (k : ℕ) (current : List (Option ℕ)) : Type 0 where
@@ -316,7 +316,7 @@ module _ (c : Clocks) (scene : Scene) (top : Around) (spaces : ℕ) (shared : �
             → VariableAt c (counter_of scene f) (held_at scene.held.now f) (lane_of top i) new (l.variables f)
         other_kept f i v out less None none m =
             variable_of c scene top spaces shared Variable Read Own g new f i (l.variables f) none
-            (kept (register_in scene top f i) (l.variables f) (λ is. out (subst (λ (e : ℕ). IsAmong entity count e) (sym (g.apart f j i k v own.is none own.no_counter less within is)) among))
+            (kept (register_in scene top f i) (l.variables f) (λ is. out (subst (λ (e : ℕ). IsVariableAmong entity count e) (sym (g.apart f j i k v own.is none own.no_counter less within is)) among))
             (current_of c scene top spaces shared Variable Read Own g old f i (l.variables f) none m))
         other_kept f i v out less (Some counter) is m =
             subst (λ (o : Option Counter). VariableAt c o (held_at scene.held.now f) (lane_of top i) new (l.variables f)) (sym is)
@@ -363,7 +363,7 @@ module _ (c : Clocks) (scene : Scene) (top : Around) (spaces : ℕ) (shared : �
   -- A view at all paths.
   module _ (around : Around) (outer first : ℕ) (l : Levels) (old : Building) (s : StandsFor c scene top spaces shared Variable Read Own around old outer first l) (entity : ℕ) (offsets : List Term) (few : first + terms_accesses (terms offsets) < 2 ^ 32)
       (owns : OwnsTerms c scene top spaces shared Variable Read Own outer first (terms offsets))
-      (targets : (e : ℕ) → IsAmong entity (length offsets) e → IsTarget c scene top spaces shared Variable Read Own e × ((i j : ℕ) → i < paths_counted top → j < paths_counted top → register_in scene top e i ≡ register_in scene top e j → i ≡ j))
+      (targets : (e : ℕ) → IsVariableAmong entity (length offsets) e → IsTarget c scene top spaces shared Variable Read Own e × ((i j : ℕ) → i < paths_counted top → j < paths_counted top → register_in scene top e i ≡ register_in scene top e j → i ≡ j))
       (reads : ReadsAgree c (kept_leveled shared outer entity (core_terms (known_in scene) first (terms offsets)) l) (first + terms_accesses (terms offsets))) where
     abbrev kept : Levels
     kept = kept_leveled shared outer entity (core_terms (known_in scene) first (terms offsets)) l
@@ -374,10 +374,10 @@ module _ (c : Clocks) (scene : Scene) (top : Around) (spaces : ℕ) (shared : �
     abbrev accesses : ℕ
     accesses = terms_accesses (terms offsets)
 
-    aims : (e : ℕ) → IsAmong entity (length offsets) e → IsTarget c scene top spaces shared Variable Read Own e
+    aims : (e : ℕ) → IsVariableAmong entity (length offsets) e → IsTarget c scene top spaces shared Variable Read Own e
     aims e a = (targets e a).0
 
-    apart : (e : ℕ) → IsAmong entity (length offsets) e → (i j : ℕ) → i < paths_counted top → j < paths_counted top → register_in scene top e i ≡ register_in scene top e j → i ≡ j
+    apart : (e : ℕ) → IsVariableAmong entity (length offsets) e → (i j : ℕ) → i < paths_counted top → j < paths_counted top → register_in scene top e i ≡ register_in scene top e j → i ≡ j
     apart e a = (targets e a).1
 
     abbrev Kept : (k : ℕ) → List (Option ℕ) → Type 0
@@ -438,10 +438,10 @@ module _ (c : Clocks) (scene : Scene) (top : Around) (spaces : ℕ) (shared : �
         vars e v mentioned =
             entity_under c scene top spaces shared Variable Read Own g around b.values.current.items l e k s.under (by (cases_lt e entity) (cases_lt e (entity + length offsets)))
           where
-            low : e < entity → IsAmong entity (length offsets) e → ⊥
+            low : e < entity → IsVariableAmong entity (length offsets) e → ⊥
             low less a = let b = a.0 in omega (arith, less, b)
 
-            far : entity + length offsets ≤ e → IsAmong entity (length offsets) e → ⊥
+            far : entity + length offsets ≤ e → IsVariableAmong entity (length offsets) e → ⊥
             far more a = let b = a.1 in omega (arith, more, b)
 
             by : (e < entity) ⊎ (entity ≤ e) → (e < entity + length offsets) ⊎ (entity + length offsets ≤ e) → EntityAt c scene (lane_of top k) b.values.current.items l e

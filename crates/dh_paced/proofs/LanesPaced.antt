@@ -18,8 +18,8 @@ use Rattle.dh_expressions.specs.Shown.{kind_written, register_at}
 use Rattle.dh_expressions.proofs.ListPlaces.{set_long}
 use Rattle.dh_expressions.proofs.Pushing.{extends_again}
 use Rattle.dh_formed.specs.Counted.{AreNext, HaveGiven, given_at_paths}
-use Rattle.dh_formed.specs.Formed.{Agrees, HeldSuits, IsNoted, IsScope, TermSuits}
-use Rattle.dh_formed.specs.Timed.{AgreeInTime, Clocks, CurrentAt, HasClock, LevelsThen, NotedInTime, ReadsAgree, TimesValue, Within, leveled}
+use Rattle.dh_formed.specs.Formed.{Agrees, HeldSuits, AreNotedReads, IsScope, TermSuits}
+use Rattle.dh_formed.specs.Timed.{AgreeInTime, BlockClocks, CurrentAt, HasClock, LevelsThen, NotedInTime, ReadsAgree, TimesValue, Within, leveled}
 use Rattle.dh_formed.proofs.LevelsBehind.{levels_behind}
 use Rattle.dh_formed.proofs.ValuesFormed.{agrees_before}
 use Rattle.dh_formed.proofs.ValuesTimed.{agree_before, held_timed, number_timed, time_later, within_again, within_more, within_none}
@@ -39,10 +39,10 @@ use Rattle.dh_paced.proofs.AssignmentsLogged.{register_under}
 use Rattle.dh_paced.proofs.LeavesPaced.{IsHere, TermHere, folded_timed, next_of, term_here}
 use Rattle.dh_paced.proofs.LevelsOfCommands.{assigned_levels}
 
-pub reads_less : (c : Clocks) (l : Levels) (j k : ℕ) → j ≤ k → ReadsAgree c l k → ReadsAgree c l j
+pub reads_less : (c : BlockClocks) (l : Levels) (j k : ℕ) → j ≤ k → ReadsAgree c l k → ReadsAgree c l j
 reads_less c l j k few h = λ m s at less. h m s at (omega (arith, few, less))
 
-module _ (c : Clocks) (scene : Scene) (top : Around) (spaces : ℕ) (shared : ℕ → Option ℕ) (Variable Read Own : ℕ → Type 0) (g : IsGround c scene top spaces shared Variable Read Own) where
+module _ (c : BlockClocks) (scene : Scene) (top : Around) (spaces : ℕ) (shared : ℕ → Option ℕ) (Variable Read Own : ℕ → Type 0) (g : IsGround c scene top spaces shared Variable Read Own) where
   -- what accesses have given where a command is done at the first paths, so many: it reads so many, and makes so many
   pub record GivenAt (first reads count k : ℕ) (a : Accesses) : Type 0 where
     pub done : (e : ℕ) → Read e → e < first → given_at_paths a e ≡ paths_counted top
@@ -76,7 +76,7 @@ module _ (c : Clocks) (scene : Scene) (top : Around) (spaces : ℕ) (shared : �
     -- what stands behind the first paths, so many
     pub record AtLane (most reads count : ℕ) (Current : List (Option ℕ) → Type 0) (k : ℕ) (b : Building) : Type 0 where
       pub extends : Extends old.draft b.draft
-      pub noted : IsNoted c.block b.draft b.accesses
+      pub noted : AreNotedReads c.block b.draft b.accesses
       pub held : AreHeld c.block b.draft b.values
       pub long : length b.values.current.items ≡ spaces
       pub within : Within c old.draft b.draft most

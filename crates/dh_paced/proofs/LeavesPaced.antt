@@ -29,8 +29,8 @@ use Rattle.dh_expressions.proofs.ListPlaces.{place_within, some_same}
 use Rattle.dh_expressions.proofs.Pushing.{extends_again, extends_self}
 use Rattle.dh_expressions.specs.declared.elements.Aim.{Aim}
 use Rattle.dh_formed.specs.Counted.{AreNext, HaveGiven, given_at_paths}
-use Rattle.dh_formed.specs.Formed.{Agrees, AreNumbers, FormsPart, IsNoted, IsScope, TermSuits, TermsSuit, NamedSuits}
-use Rattle.dh_formed.specs.Timed.{AgreeInTime, AreBounded, Clocks, CurrentAt, EntityAt, GuardAt, HasClock, NotedInTime, ReadsAgree, StandsInTime, TimesTerm, TimesTerms, TimesValue, Within, all_leveled, clock_of, leveled, TimesAim, named_leveled}
+use Rattle.dh_formed.specs.Formed.{Agrees, AreNumbers, FormsPart, AreNotedReads, IsScope, TermSuits, TermsSuit, NamedSuits}
+use Rattle.dh_formed.specs.Timed.{AgreeInTime, AreBounded, BlockClocks, CurrentAt, EntityAt, GuardAt, HasClock, NotedInTime, ReadsAgree, StandsInTime, TimesTerm, TimesTerms, TimesValue, Within, all_leveled, clock_of, leveled, TimesAim, named_leveled}
 use Rattle.dh_formed.proofs.TermsCounted.{all_counted, counted, named_counted}
 use Rattle.dh_formed.proofs.TermsFormed.{all_formed, formed, through_formed}
 use Rattle.dh_formed.proofs.TermsTimed.{all_timed, timed, through_timed}
@@ -41,14 +41,14 @@ use Rattle.dh_paced.specs.Standing.{AreOwn, IsGround, OwnsTerm, OwnsTerms, OwnsN
 
 -- Values in time.
 
-pub value_there : (old new : Draft) (value v : ℕ) (Where : Clocks → Type 0) (clock : Clocks → ℕ) → IsThere old new value v → ((c : Clocks) → Where c → HasClock c (clock c) value) → TimesValue old new v Where clock
+pub value_there : (old new : Draft) (value v : ℕ) (Where : BlockClocks → Type 0) (clock : BlockClocks → ℕ) → IsThere old new value v → ((c : BlockClocks) → Where c → HasClock c (clock c) value) → TimesValue old new v Where clock
 value_there old new value v Where clock h at = record {
   extends = subst (λ (d : Draft). Extends old d) (sym h.0) (extends_self old);
   within = λ c a s w. within_none c old new (clock c) h.0;
   at = λ c a s w. ap (λ n. clock_of c n) h.1 ∙ at c w;
 }
 
-pub value_then : (a b d : Draft) (u v : ℕ) (Where : Clocks → Type 0) (first second : Clocks → ℕ) → ((c : Clocks) → Where c → first c ≤ second c) → TimesValue a b u Where first
+pub value_then : (a b d : Draft) (u v : ℕ) (Where : BlockClocks → Type 0) (first second : BlockClocks → ℕ) → ((c : BlockClocks) → Where c → first c ≤ second c) → TimesValue a b u Where first
     → TimesValue b d v (λ c. Where c × HasClock c (first c) u) second → TimesValue a d v Where second
 value_then a b d u v Where first second few f g = record {
   extends = extends_again a b d f.extends g.extends;
@@ -58,7 +58,7 @@ value_then a b d u v Where first second few f g = record {
   at = λ c at s w. g.at c at (time_later c a b f.extends s) (w, f.at c (agree_before c b d g.extends at) s w);
 }
 
-pub value_where : (a b : Draft) (v : ℕ) (Where Other : Clocks → Type 0) (clock other : Clocks → ℕ) → ((c : Clocks) → Other c → Where c) → ((c : Clocks) → Other c → clock c ≡ other c)
+pub value_where : (a b : Draft) (v : ℕ) (Where Other : BlockClocks → Type 0) (clock other : BlockClocks → ℕ) → ((c : BlockClocks) → Other c → Where c) → ((c : BlockClocks) → Other c → clock c ≡ other c)
     → TimesValue a b v Where clock → TimesValue a b v Other other
 value_where a b v Where Other clock other more same f = record {
   extends = f.extends;
@@ -75,16 +75,16 @@ same_few n = omega arith
 left_few : (m n : ℕ) → m ≤ max m n
 left_few m n = omega arith
 
-kept_timed : (kept : Truth) (to : Kind) (value : ℕ) (k : Clocks → ℕ) (old new : Draft) (v : ℕ) → MadeConverted kept to value old new v → TimesValue old new v (λ c. HasClock c (k c) value) k
+kept_timed : (kept : Truth) (to : Kind) (value : ℕ) (k : BlockClocks → ℕ) (old new : Draft) (v : ℕ) → MadeConverted kept to value old new v → TimesValue old new v (λ c. HasClock c (k c) value) k
 kept_timed true to value k old new v m = value_there old new value v _ k m (λ c w. w)
 kept_timed false to value k old new v m = timed_pushed old new v (Convert value to) _ k m refl (λ c w. one_greatest (clock_of c value) ∙ w)
 
-old_operand_timed : (own to : Kind) (value : ℕ) (k : Clocks → ℕ) (old new : Draft) (v : ℕ) → MadeOldOperand own to value old new v → TimesValue old new v (λ c. HasClock c (k c) value) k
+old_operand_timed : (own to : Kind) (value : ℕ) (k : BlockClocks → ℕ) (old new : Draft) (v : ℕ) → MadeOldOperand own to value old new v → TimesValue old new v (λ c. HasClock c (k c) value) k
 old_operand_timed own kind.Bool value k old new v m = value_there old new value v _ k m (λ c w. w)
 old_operand_timed own (kind.Unsigned n) value k old new v m = kept_timed (same_kind own (kind.Unsigned n)) (kind.Unsigned n) value k old new v m
 old_operand_timed own (kind.Signed n) value k old new v m = kept_timed (same_kind own (kind.Signed n)) (kind.Signed n) value k old new v m
 
-operand_timed : (t : Term) (to : Kind) (value : ℕ) (k : Clocks → ℕ) (old new : Draft) (v : ℕ) → MadeOperand t to value old new v → TimesValue old new v (λ c. HasClock c (k c) value) k
+operand_timed : (t : Term) (to : Kind) (value : ℕ) (k : BlockClocks → ℕ) (old new : Draft) (v : ℕ) → MadeOperand t to value old new v → TimesValue old new v (λ c. HasClock c (k c) value) k
 operand_timed t kind.Bool value k old new v m = value_there old new value v _ k m (λ c w. w)
 operand_timed t (kind.Unsigned n) value k old new v m = held_timed t (kind.Unsigned n) value k old new v m
 operand_timed t (kind.Signed n) value k old new v m = held_timed t (kind.Signed n) value k old new v m
@@ -107,7 +107,7 @@ folded_timed lane current held op t value j k old new v f =
     (value_where f.fourth new v (λ c. HasClock c (max j k) f.all) (λ c. (((Begun c × HasClock c j f.before) × HasClock c j f.left) × HasClock c k f.right) × HasClock c (max j k) f.all) (λ c. max j k) (λ c. max j k) (λ c w. w.1) (λ c w. refl)
     (kept_timed (same_kind held.kind (extension_of op held.kind (kind_written t))) held.kind f.all (λ c. max j k) f.fourth new v f.own)))))
   where
-    Begun : Clocks → Type 0
+    Begun : BlockClocks → Type 0
     Begun c = CurrentAt c (slice_get current (register_at held lane)) j × HasClock c k value
 
     right_few : (m n : ℕ) → n ≤ max m n
@@ -115,7 +115,7 @@ folded_timed lane current held op t value j k old new v f =
 
 -- Expressions at a path.
 
-module _ (c : Clocks) (scene : Scene) (top : Around) (spaces : ℕ) (shared : ℕ → Option ℕ) (Variable Read Own : ℕ → Type 0) (g : IsGround c scene top spaces shared Variable Read Own) (lane : Lane) where
+module _ (c : BlockClocks) (scene : Scene) (top : Around) (spaces : ℕ) (shared : ℕ → Option ℕ) (Variable Read Own : ℕ → Type 0) (g : IsGround c scene top spaces shared Variable Read Own) (lane : Lane) where
   -- accesses that are next at this path
   pub next_of : (a : Accesses) (n count : ℕ) → ((m : ℕ) → IsIn n count m → Own m) → ((m : ℕ) → IsIn n count m → given_at_paths a m ≡ lane.number) → ((e : ℕ) → Read e → e < n → lane.number < given_at_paths a e) → AreNext scene lane a n count
   next_of a n count own each done = record {
@@ -134,7 +134,7 @@ module _ (c : Clocks) (scene : Scene) (top : Around) (spaces : ℕ) (shared : �
     pub agree : AgreeInTime c mid
     pub started : c.block.first ≤ length old.operations.items
     pub scope : IsScope c.block old scene lane current
-    pub noted : IsNoted c.block old before
+    pub noted : AreNotedReads c.block old before
     pub bounded : AreBounded l
     pub guards : (path : ℕ) (guard : Option ℕ) → slice_get lane.around.guards.now path ≡ Some guard → GuardAt c outer guard
     pub in_time : NotedInTime c before
@@ -157,7 +157,7 @@ module _ (c : Clocks) (scene : Scene) (top : Around) (spaces : ℕ) (shared : �
       pub extends : Extends old mid
       pub timed_is : TimesTerm c old mid after (leveled scene shared outer n t l) v
       pub given : HaveGiven lane before after n (term_accesses t)
-      pub noted : IsNoted c.block mid after
+      pub noted : AreNotedReads c.block mid after
 
     pub term_here : (t : Term) (v : ℕ) → MadeTerm scene lane current t old mid before after n next v → n + term_accesses t < 2 ^ 32 → OwnsTerm c scene top spaces shared Variable Read Own outer n t → AreNext scene lane before n (term_accesses t) → TermSuits c.block scene lane n t
         → ((e : ℕ) → Variable e → term_mentions e (core_term (known_in scene) n t) ≡ true → EntityAt c scene lane current l e) → ReadsAgree c (leveled scene shared outer n t l).levels (n + term_accesses t) → TermHere t v
@@ -175,7 +175,7 @@ module _ (c : Clocks) (scene : Scene) (top : Around) (spaces : ℕ) (shared : �
       pub extends : Extends old mid
       pub timed_is : TimesTerms c old mid after (all_leveled scene shared outer n ts l) vs
       pub given : HaveGiven lane before after n (terms_accesses ts)
-      pub noted : IsNoted c.block mid after
+      pub noted : AreNotedReads c.block mid after
 
     pub terms_here : (ts : plain.Terms) (vs : List ℕ) → MadeTerms scene lane current ts old mid before after n next vs → n + terms_accesses ts < 2 ^ 32 → OwnsTerms c scene top spaces shared Variable Read Own outer n ts → AreNext scene lane before n (terms_accesses ts)
         → TermsSuit c.block scene lane n ts × AreNumbers ts → ((e : ℕ) → Variable e → terms_mention e (core_terms (known_in scene) n ts) ≡ true → EntityAt c scene lane current l e)
@@ -195,7 +195,7 @@ module _ (c : Clocks) (scene : Scene) (top : Around) (spaces : ℕ) (shared : �
       pub extends : Extends old mid
       pub timed_is : TimesAim c old mid after (named_leveled scene shared outer n r ts l) (memory_of (known_in scene) r) aim
       pub given : HaveGiven lane before after n (terms_accesses ts)
-      pub noted : IsNoted c.block mid after
+      pub noted : AreNotedReads c.block mid after
 
     pub named_here : (r : Ref) (ts : plain.Terms) (aim : Aim) → MadeThrough scene lane current r ts old mid before after n aim → n + terms_accesses ts < 2 ^ 32 → OwnsNamed c scene top spaces shared Variable Read Own outer n r ts → AreNext scene lane before n (terms_accesses ts)
         → NamedSuits c.block scene lane n r ts → ((e : ℕ) → Variable e → target_mentions e (target_to (way_of (known_in scene) r) (core_terms (known_in scene) n ts)) ≡ true → EntityAt c scene lane current l e)

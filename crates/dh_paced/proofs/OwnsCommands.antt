@@ -13,13 +13,13 @@ use Rattle.dh_meaning.specs.Bindings.{kind_found}
 use Rattle.dh_meaning.specs.Core.{CoreCommands, CoreTerm, assign, choose, command_and, no_commands, variable, count_terms, keep}
 use Rattle.dh_meaning.specs.CoreOf.{core_action, core_groups, core_other, core_part, core_term, core_terms, depth_of, entity_number, kind_of, operation_of, store_to, kept_by, target_to, way_of}
 use Rattle.dh_meaning.specs.Levels.{Leveled, Levels, assigns_to}
-use Rattle.dh_meaning.specs.OnePhase.{groups_make, is_within, makes, other_makes, part_makes}
+use Rattle.dh_meaning.specs.OnePhase.{groups_make, is_between, makes, other_makes, part_makes}
 use Rattle.dh_meaning.specs.Ways.{Hidden, hidden_in}
 use Rattle.dh_plan.specs.PlanPhases.{commands_mention, term_mentions, terms_mention, target_mentions}
 use Rattle.dh_expressions.specs.declared.scenes.Around.{Around}
 use Rattle.dh_expressions.specs.declared.scenes.Scene.{Scene}
 use Rattle.dh_expressions.specs.Evaluated.{known_in}
-use Rattle.dh_formed.specs.Timed.{Clocks, leveled}
+use Rattle.dh_formed.specs.Timed.{BlockClocks, leveled}
 use Rattle.dh_formed.proofs.TermsCounted.{itself, left_of, operation_mentions, right_of}
 use Rattle.dh_laid.specs.Laid.{aim_accesses}
 use Rattle.dh_laid.specs.LaidNumbers.{IsAccessForm, StoresReach, StoresReachGroups, StoresReachOther, StoresReachPart}
@@ -28,7 +28,7 @@ use Rattle.dh_paced.specs.Paced.{IsIn, IsReadGroups, IsReadIn, IsReadOther, IsRe
 use Rattle.dh_paced.specs.Standing.{OwnsGroups, OwnsIn, OwnsOther, OwnsPart, OwnsTarget, OwnsTerm, OwnsTerms, OwnsNamed, OwnsView}
 use Rattle.dh_paced.proofs.CoreAppended.{action_then_mentions, appended, appended_mentions, part_then_mentions}
 use Rattle.dh_paced.proofs.LevelsOfCommands.{read_in, read_in_groups, read_in_other, read_in_part}
-use Rattle.dh_commands.specs.Setting.{IsAmong}
+use Rattle.dh_commands.specs.Setting.{IsVariableAmong}
 use Rattle.dh_commands.proofs.CoreRuns.{offsets_long}
 
 pub pick_low : (m k x y : ℕ) → m < k → (if nat_lt m k then x else y) ≡ x
@@ -37,13 +37,13 @@ pick_low m k x y less = grind (arith, nat_tests, less)
 pub pick_high : (m k x y : ℕ) → k ≤ m → (if nat_lt m k then x else y) ≡ y
 pick_high m k x y more = grind (arith, nat_tests, more)
 
-within : (k n count : ℕ) → IsIn n count k → is_within k n count ≡ true
+within : (k n count : ℕ) → IsIn n count k → is_between k n count ≡ true
 within k n count among = let f = among.0 in let b = among.1 in decided k n (n + count) f b
   where
     decided : (k n e : ℕ) → n ≤ k → k < e → (nat_le n k && nat_lt k e) ≡ true
     decided k n e f b = grind (arith, nat_tests, f, b)
 
-pub among_true : (first count k e : ℕ) → k ≡ count → IsAmong first count e → (nat_le first e && nat_lt e (first + k)) ≡ true
+pub among_true : (first count k e : ℕ) → k ≡ count → IsVariableAmong first count e → (nat_le first e && nat_lt e (first + k)) ≡ true
 among_true first count k e same h = decided e first (first + k) h.0 (let b = h.1 in omega (arith, b, same))
   where
     decided : (k n e : ℕ) → n ≤ k → k < e → (nat_le n k && nat_lt k e) ≡ true
@@ -52,7 +52,7 @@ among_true first count k e same h = decided e first (first + k) h.0 (let b = h.1
 or_none : (a : Truth) → a ≡ true → (a || false) ≡ true
 or_none a h = left_of a false h
 
-module _ (c : Clocks) (scene : Scene) (top : Around) (spaces : ℕ) (shared : ℕ → Option ℕ) (Variable Read Own : ℕ → Type 0) where
+module _ (c : BlockClocks) (scene : Scene) (top : Around) (spaces : ℕ) (shared : ℕ → Option ℕ) (Variable Read Own : ℕ → Type 0) where
   -- what is known of a command, or of parts of a block, whose accesses are so many, from a first one on
   pub record Knows (first count : ℕ) (outers : (m : ℕ) → ℕ) (IsRead : ℕ → Type 0) (made : ℕ → Truth) (cs : CoreCommands) : Type 0 where
     pub own : (m : ℕ) → made m ≡ true → Own m
@@ -102,16 +102,16 @@ module _ (c : Clocks) (scene : Scene) (top : Around) (spaces : ℕ) (shared : �
 
   -- what is assigned, with a value
   assigned_own : (outer first e : ℕ) (t : Term) (value : CoreTerm) (depth : ℕ) → ((f : ℕ) → term_mentions f (core_term (known_in scene) first t) ≡ true → term_mentions f value ≡ true)
-      → Knows first (term_accesses t + 0) (λ m. outer) (IsIn first (term_accesses t)) (λ m. is_within m first (term_accesses t)) (command_and (assign depth e value) no_commands) → OwnsTerm c scene top spaces shared Variable Read Own outer first t × Variable e
+      → Knows first (term_accesses t + 0) (λ m. outer) (IsIn first (term_accesses t)) (λ m. is_between m first (term_accesses t)) (command_and (assign depth e value) no_commands) → OwnsTerm c scene top spaces shared Variable Read Own outer first t × Variable e
   assigned_own outer first e t value depth more h = (
-    term_own outer first 0 (term_accesses t + 0) first t (λ m. outer) (IsIn first (term_accesses t)) (λ m. is_within m first (term_accesses t)) (command_and (assign depth e value) no_commands) h (omega arith) (omega arith) (λ m among. within m first (term_accesses t) among) (λ m among. refl)
+    term_own outer first 0 (term_accesses t + 0) first t (λ m. outer) (IsIn first (term_accesses t)) (λ m. is_between m first (term_accesses t)) (command_and (assign depth e value) no_commands) h (omega arith) (omega arith) (λ m among. within m first (term_accesses t) among) (λ m among. refl)
         (λ f mentioned. or_none ((f == e) || term_mentions f value) (right_of (f == e) (term_mentions f value) (more f mentioned))),
     h.names e (or_none ((e == e) || term_mentions e value) (left_of (e == e) (term_mentions e value) (itself e))),
   )
 
   -- a store
   stored_own : (outer first : ℕ) (target t : Term) → IsAccessForm (form_of target)
-      → Knows first ((term_accesses t + term_accesses target) + 0) (λ m. outer) (IsIn first (term_accesses t + aim_accesses (form_of target))) (λ m. is_within m first (term_accesses t + term_accesses target))
+      → Knows first ((term_accesses t + term_accesses target) + 0) (λ m. outer) (IsIn first (term_accesses t + aim_accesses (form_of target))) (λ m. is_between m first (term_accesses t + term_accesses target))
       (command_and (store_to (known_in scene) (first + term_accesses t) target (core_term (known_in scene) first t)) no_commands)
       → OwnsTerm c scene top spaces shared Variable Read Own outer first t × OwnsTarget c scene top spaces shared Variable Read Own outer (first + term_accesses t) (form_of target)
   stored_own outer first (plain.term place k (plain.accessed r ts)) t is h = (
@@ -212,17 +212,17 @@ module _ (c : Clocks) (scene : Scene) (top : Around) (spaces : ℕ) (shared : �
     abbrev Whole : Type 0
     Whole =
         Knows first (term_accesses test + (accesses_of chosen + other_accesses other)) (λ m. if nat_lt m n1 then outer else (if nat_lt m n2 then outer_chosen m else outer_second m))
-        (λ m. IsIn first (term_accesses test) m ⊎ (IsReadIn (known_in scene) n1 chosen m ⊎ IsReadOther (known_in scene) n2 other m)) (λ m. is_within m first (term_accesses test) || (makes m n1 chosen || other_makes m n2 other)) (command_and (choose (core_term (known_in scene) first test) core_chosen core_second) no_commands)
+        (λ m. IsIn first (term_accesses test) m ⊎ (IsReadIn (known_in scene) n1 chosen m ⊎ IsReadOther (known_in scene) n2 other m)) (λ m. is_between m first (term_accesses test) || (makes m n1 chosen || other_makes m n2 other)) (command_and (choose (core_term (known_in scene) first test) core_chosen core_second) no_commands)
 
     test_own : Whole → OwnsTerm c scene top spaces shared Variable Read Own outer first test
     test_own h =
         term_own outer first 0 (term_accesses test + (accesses_of chosen + other_accesses other)) first test _ _ _ _ h (omega arith) (omega arith)
-        (λ m among. left_of (is_within m first (term_accesses test)) (makes m n1 chosen || other_makes m n2 other) (within m first (term_accesses test) among)) (λ m among. pick_low m n1 outer (if nat_lt m n2 then outer_chosen m else outer_second m) among.1) (λ e mentioned. or_none _ (left_of (term_mentions e (core_term (known_in scene) first test)) _ mentioned))
+        (λ m among. left_of (is_between m first (term_accesses test)) (makes m n1 chosen || other_makes m n2 other) (within m first (term_accesses test) among)) (λ m among. pick_low m n1 outer (if nat_lt m n2 then outer_chosen m else outer_second m) among.1) (λ e mentioned. or_none _ (left_of (term_mentions e (core_term (known_in scene) first test)) _ mentioned))
 
     arms_known : Whole
         → Knows n1 (accesses_of chosen + other_accesses other) (λ m. if nat_lt m n2 then outer_chosen m else outer_second m) (λ m. IsReadIn (known_in scene) n1 chosen m ⊎ IsReadOther (known_in scene) n2 other m) (λ m. makes m n1 chosen || other_makes m n2 other) (appended core_chosen core_second)
     arms_known h = record {
-      own = λ m i. h.own m (right_of (is_within m first (term_accesses test)) (makes m n1 chosen || other_makes m n2 other) i);
+      own = λ m i. h.own m (right_of (is_between m first (term_accesses test)) (makes m n1 chosen || other_makes m n2 other) i);
       outer_is = λ m i. h.outer_is m (wide m i) ∙ pick_high m n1 outer (if nat_lt m n2 then outer_chosen m else outer_second m) i.0;
       reads = λ e read i. by e i (h.reads e read (wide e i));
       names = λ e mentioned. h.names e (or_none _ (right_of (term_mentions e (core_term (known_in scene) first test)) (commands_mention e core_chosen || commands_mention e core_second) (sym (appended_mentions e core_chosen core_second) ∙ mentioned)));
@@ -258,7 +258,7 @@ module _ (c : Clocks) (scene : Scene) (top : Around) (spaces : ℕ) (shared : �
   kept_mentions x xs n e (t ∷ ts) h =
       or_none _ (right_of (assigns_to e (keep x.depth x.entity (core_terms (known_in scene) n (terms (t ∷ ts))))) (terms_mention e (core_terms (known_in scene) n (terms (t ∷ ts)))) h)
 
-  kept_assigns : (x : Hidden) (xs : List Hidden) (n e : ℕ) (offsets : List Term) → IsAmong x.entity (length offsets) e → commands_mention e (kept_by (x ∷ xs) (core_terms (known_in scene) n (terms offsets)) no_commands) ≡ true
+  kept_assigns : (x : Hidden) (xs : List Hidden) (n e : ℕ) (offsets : List Term) → IsVariableAmong x.entity (length offsets) e → commands_mention e (kept_by (x ∷ xs) (core_terms (known_in scene) n (terms offsets)) no_commands) ≡ true
   kept_assigns x xs n e [] h = absurd (let f = h.0 in let b = h.1 in never x.entity f b)
     where
       never : (k : ℕ) → k ≤ e → e < k + 0 → ⊥
@@ -268,7 +268,7 @@ module _ (c : Clocks) (scene : Scene) (top : Around) (spaces : ℕ) (shared : �
       (among_true x.entity (length (t ∷ ts)) (count_terms (core_terms (known_in scene) n (terms (t ∷ ts)))) e (offsets_long (known_in scene) n (t ∷ ts)) h))
 
   view_own : (hs : List Hidden) (outer first : ℕ) (form : plain.ViewPlan) → KeepsOwn scene top hs first (offsets_of form)
-      → Knows first (plan_accesses form + 0) (λ m. outer) (IsReadOfView hs first form) (λ m. is_within m first (plan_accesses form)) (kept_by hs (core_terms (known_in scene) first (terms (offsets_of form))) no_commands)
+      → Knows first (plan_accesses form + 0) (λ m. outer) (IsReadOfView hs first form) (λ m. is_between m first (plan_accesses form)) (kept_by hs (core_terms (known_in scene) first (terms (offsets_of form))) no_commands)
       → OwnsView c scene top spaces shared Variable Read Own outer first hs form
   view_own [] outer first form a h = λ m i read. h.reads m read i
   view_own (x ∷ xs) outer first form a h = (

@@ -14,7 +14,7 @@ use Rattle.dh_expressions.specs.declared.scenes.Around.{Around}
 use Rattle.dh_expressions.specs.declared.scenes.Scene.{Scene}
 use Rattle.dh_expressions.proofs.ListPlaces.{there}
 use Rattle.dh_expressions.specs.Evaluated.{known_in}
-use Rattle.dh_formed.specs.Formed.{Site}
+use Rattle.dh_formed.specs.Formed.{BlockSite}
 use Rattle.dh_commands.specs.declared.buildings.Building.{Building}
 use Rattle.dh_commands.specs.declared.choices.Left.{Left}
 use Rattle.dh_commands.specs.MadeCommands.{MadeActions, MadeCommand, MadeGroups, MadeOther}
@@ -25,12 +25,12 @@ use Rattle.dh_laid.proofs.SitesLaid.{PlacesAgree, actions_sites_long, all_sites,
 use Rattle.dh_paced.specs.Paced.{IsIn, IsReadGroups, IsReadIn, IsReadOfEach, IsReadOther, IsReadPart, IsReadOfView}
 use Rattle.dh_paced.proofs.LevelsOfCommands.{aims_fewer}
 
-abbrev pub HasSite : (sites : ℕ → Option Site) → (number : ℕ) → Type 0
-HasSite sites number = (s : Site) × (sites number ≡ Some s)
+abbrev pub HasSite : (sites : ℕ → Option BlockSite) → (number : ℕ) → Type 0
+HasSite sites number = (s : BlockSite) × (sites number ≡ Some s)
 
-site_among : (sites : ℕ → Option Site) (first count : ℕ) (ss : List Site) → count ≤ length ss → HasSites sites first ss → (number : ℕ) → IsIn first count number → HasSite sites number
+site_among : (sites : ℕ → Option BlockSite) (first count : ℕ) (ss : List BlockSite) → count ≤ length ss → HasSites sites first ss → (number : ℕ) → IsIn first count number → HasSite sites number
 site_among sites first count ss few h number i =
-    let found : (s : Site) × (slice_get ss (number - first) ≡ Some s) = there ss (number - first) (let f = i.0 in let b = i.1 in within (length ss) f b few) in
+    let found : (s : BlockSite) × (slice_get ss (number - first) ≡ Some s) = there ss (number - first) (let f = i.0 in let b = i.1 in within (length ss) f b few) in
     (found.0, ap sites (sym (together i.0)) ∙ h (number - first) found.0 found.1)
   where
     within : (l : ℕ) → first ≤ number → number < first + count → count ≤ l → number - first < l
@@ -39,7 +39,7 @@ site_among sites first count ss few h number i =
     together : first ≤ number → first + (number - first) ≡ number
     together f = omega (arith, f)
 
-module _ (scene : Scene) (sites : ℕ → Option Site) where
+module _ (scene : Scene) (sites : ℕ → Option BlockSite) where
   term_site : (around : Around) (first : ℕ) (t : Term) → PlacesAgree sites first (all_there (term_sites scene around t)) → (number : ℕ) → IsIn first (term_accesses t) number → HasSite sites number
   term_site around first t h = site_among sites first (term_accesses t) (term_sites scene around t) (same (length (term_sites scene around t)) (term_accesses t) (term_sites_long scene around t)) (all_sites sites first (term_sites scene around t) h)
     where
@@ -115,7 +115,7 @@ module _ (scene : Scene) (sites : ℕ → Option Site) where
 
 -- Blocks.
 
-some_or : (o p : Option Site) → (s : Site) × (p ≡ Some s) → (s : Site) × (site_or o p ≡ Some s)
+some_or : (o p : Option BlockSite) → (s : BlockSite) × (p ≡ Some s) → (s : BlockSite) × (site_or o p ≡ Some s)
 some_or None p h = h
 some_or (Some r) p h = (r, refl)
 
@@ -126,7 +126,7 @@ each_read_site scene around (c ∷ cs) old new (mid, (next, (m, rest))) reach nu
     let own : HasSite (λ k. places_from c.first (command_sites scene c.command around old mid c.first next m) k) number =
     read_site scene (λ k. places_from c.first (command_sites scene c.command around old mid c.first next m) k) c.command around old mid c.first next m c.first reach.0
     (λ k o at. places_own c.first (command_sites scene c.command around old mid c.first next m) k o at) number i in
-    (own.0, ap (λ (o : Option Site). site_or o (block_sites scene around cs mid new rest number)) own.1)
+    (own.0, ap (λ (o : Option BlockSite). site_or o (block_sites scene around cs mid new rest number)) own.1)
 each_read_site scene around (c ∷ cs) old new (mid, (next, (m, rest))) reach number (inr i) =
     some_or (places_from c.first (command_sites scene c.command around old mid c.first next m) number) (block_sites scene around cs mid new rest number) (each_read_site scene around cs mid new rest reach.1 number i)
 

@@ -15,7 +15,7 @@ use Rattle.dh_meaning.specs.CoreOf.{memory_of}
 use Rattle.dh_meaning.specs.Effects.{entry_kind}
 use Rattle.dh_meaning.specs.Levels.{Leveled, Levels}
 use Rattle.dh_code.specs.Slots.{held_at}
-use Rattle.dh_plan.specs.LegalSchedules.{greatest_of}
+use Rattle.dh_plan.specs.LegalSchedules.{greatest_number}
 use Rattle.dh_plan.specs.Ordered.{one_or_none, offsets_taken}
 use Rattle.dh_plan.specs.declared.operations.ReachStep.{ReachStep}
 use Rattle.dh_expressions.specs.declared.accesses.Accesses.{Accesses}
@@ -30,8 +30,8 @@ use Rattle.dh_expressions.specs.MadeTerms.{MadeTerm, MadeWrite, MadeThrough}
 use Rattle.dh_expressions.specs.Reaching.{place_written}
 use Rattle.dh_expressions.proofs.Pushing.{extends_again, pushed_extends}
 use Rattle.dh_formed.specs.Counted.{AreNext, HaveGiven, given_at_paths}
-use Rattle.dh_formed.specs.Formed.{AccessSuits, Agrees, IsNoted, IsScope, TermSuits}
-use Rattle.dh_formed.specs.Timed.{AgreeInTime, Clocks, EntityAt, HasClock, LevelsThen, NotedInTime, ReadsAgree, TimesValue, VariableAt, Within, aim_clock, clock_of, leveled, named_leveled}
+use Rattle.dh_formed.specs.Formed.{AccessSuits, Agrees, AreNotedReads, IsScope, TermSuits}
+use Rattle.dh_formed.specs.Timed.{AgreeInTime, BlockClocks, EntityAt, HasClock, LevelsThen, NotedInTime, ReadsAgree, TimesValue, VariableAt, Within, aim_clock, clock_of, leveled, named_leveled}
 use Rattle.dh_formed.proofs.AccessesFormed.{noted_later, scope_later}
 use Rattle.dh_formed.proofs.LevelsBehind.{levels_behind, named_levels_behind}
 use Rattle.dh_formed.proofs.ReadsCounted.{write_gives}
@@ -53,12 +53,12 @@ use Rattle.dh_paced.proofs.LeavesPaced.{IsHere, TermHere, next_of, term_here, Na
 
 -- The clock of what names an element.
 
-row_clock : (c : Clocks) (memory level value : ℕ) (aim : Aim) → aim.indices ≡ [] → aim.steps ≡ [] → aim.row ≡ Some value → clock_of c value ≡ level → aim_clock c memory aim ≡ level
+row_clock : (c : BlockClocks) (memory level value : ℕ) (aim : Aim) → aim.indices ≡ [] → aim.steps ≡ [] → aim.row ≡ Some value → clock_of c value ≡ level → aim_clock c memory aim ≡ level
 row_clock c memory level value aim none still is at =
     greatest_append (clock_of c) aim.indices (offsets_taken aim.steps ++ one_or_none aim.row)
-    ∙ (ap (λ (vs : List ℕ). max (greatest_of (map (clock_of c) vs)) (greatest_of (map (clock_of c) (offsets_taken aim.steps ++ one_or_none aim.row)))) none
-    ∙ (ap (λ (ss : List ReachStep). max 0 (greatest_of (map (clock_of c) (offsets_taken ss ++ one_or_none aim.row)))) still
-    ∙ (ap (λ (o : Option ℕ). max 0 (greatest_of (map (clock_of c) (one_or_none o)))) is ∙ (ap (λ k. max 0 (max k 0)) at ∙ alone level))))
+    ∙ (ap (λ (vs : List ℕ). max (greatest_number (map (clock_of c) vs)) (greatest_number (map (clock_of c) (offsets_taken aim.steps ++ one_or_none aim.row)))) none
+    ∙ (ap (λ (ss : List ReachStep). max 0 (greatest_number (map (clock_of c) (offsets_taken ss ++ one_or_none aim.row)))) still
+    ∙ (ap (λ (o : Option ℕ). max 0 (greatest_number (map (clock_of c) (one_or_none o)))) is ∙ (ap (λ k. max 0 (max k 0)) at ∙ alone level))))
   where
     alone : (n : ℕ) → max 0 (max n 0) ≡ n
     alone n = omega arith
@@ -85,7 +85,7 @@ same_given lane x y z n a g same = record {
   behind_them = λ m more. same m ∙ g.behind_them m more;
 }
 
-module _ (c : Clocks) (scene : Scene) (top : Around) (spaces : ℕ) (shared : ℕ → Option ℕ) (Variable Read Own : ℕ → Type 0) (g : IsGround c scene top spaces shared Variable Read Own)
+module _ (c : BlockClocks) (scene : Scene) (top : Around) (spaces : ℕ) (shared : ℕ → Option ℕ) (Variable Read Own : ℕ → Type 0) (g : IsGround c scene top spaces shared Variable Read Own)
     (around : Around) (outer first : ℕ) (l : Levels) (old : Building) (s : StandsFor c scene top spaces shared Variable Read Own around old outer first l)
     (target t : Term) (own : OwnsTerm c scene top spaces shared Variable Read Own outer first t) where
   self : (n : ℕ) → n ≤ n
@@ -107,7 +107,7 @@ module _ (c : Clocks) (scene : Scene) (top : Around) (spaces : ℕ) (shared : �
     pub clock : aim_clock c memory aim ≡ aims.level
     pub in_time : NotedInTime c behind
     pub given : HaveGiven (lane_of around k) between behind n2 count
-    pub noted : IsNoted c.block end behind
+    pub noted : AreNotedReads c.block end behind
     pub number_is : aim.number ≡ n2 + count
 
   module _ (aims : Leveled) (reads : ℕ) (aims_go : LevelsThen n2 reads made.levels aims) (agree_reads : ReadsAgree c aims.levels (n2 + reads)) (aims_own : (m : ℕ) → IsIn n2 reads m → Own m) where
@@ -263,7 +263,7 @@ module _ (c : Clocks) (scene : Scene) (top : Around) (spaces : ℕ) (shared : �
           current = subst (λ (v : Values). AreCurrent c scene top spaces shared Variable Read Own v.current.items l) (sym m.same) h.current;
         }
 
-module _ (c : Clocks) (scene : Scene) (top : Around) (spaces : ℕ) (shared : ℕ → Option ℕ) (Variable Read Own : ℕ → Type 0) (g : IsGround c scene top spaces shared Variable Read Own)
+module _ (c : BlockClocks) (scene : Scene) (top : Around) (spaces : ℕ) (shared : ℕ → Option ℕ) (Variable Read Own : ℕ → Type 0) (g : IsGround c scene top spaces shared Variable Read Own)
     (around : Around) (outer first : ℕ) (l : Levels) (old : Building) (s : StandsFor c scene top spaces shared Variable Read Own around old outer first l)
     (t : Term) (own : OwnsTerm c scene top spaces shared Variable Read Own outer first t) where
   abbrev valued : Leveled

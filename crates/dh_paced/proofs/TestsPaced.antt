@@ -17,7 +17,7 @@ use Rattle.dh_expressions.specs.Shown.{guard_of, kind_written}
 use Rattle.dh_expressions.proofs.ListPlaces.{place_of_more}
 use Rattle.dh_expressions.proofs.Pushing.{extends_again}
 use Rattle.dh_formed.specs.Formed.{Agrees, FormsTerm, TermSuits}
-use Rattle.dh_formed.specs.Timed.{AgreeInTime, Clocks, GuardAt, HasClock, LevelsThen, ReadsAgree, StartedInTime, TimesValue, VariableAt, Within, leveled}
+use Rattle.dh_formed.specs.Timed.{AgreeInTime, BlockClocks, GuardAt, HasClock, LevelsThen, ReadsAgree, StartedInTime, TimesValue, VariableAt, Within, leveled}
 use Rattle.dh_formed.proofs.CommandsFormed.{selects_in_time}
 use Rattle.dh_formed.proofs.LevelsBehind.{levels_behind}
 use Rattle.dh_formed.proofs.ReadsTimed.{guard_there}
@@ -74,16 +74,16 @@ guard_timed holds guard test outer level old new v m =
     few : (a b : ℕ) → b ≤ max a b
     few a b = omega arith
 
-abbrev pub TestsAt : Clocks → (level : ℕ) → List ℕ → Type 0
+abbrev pub TestsAt : BlockClocks → (level : ℕ) → List ℕ → Type 0
 TestsAt c level tests = (path test : ℕ) → slice_get tests path ≡ Some test → HasClock c level test
 
-abbrev pub GuardsAt : Clocks → (outer : ℕ) → List (Option ℕ) → Type 0
+abbrev pub GuardsAt : BlockClocks → (outer : ℕ) → List (Option ℕ) → Type 0
 GuardsAt c outer guards = (path : ℕ) (guard : Option ℕ) → slice_get guards path ≡ Some guard → GuardAt c outer guard
 
 nothing_at : {A : Type 0} (path : ℕ) (x : A) → slice_get [] path ≡ Some x → ⊥
 nothing_at path x at = cc
 
-module _ (c : Clocks) (outer level : ℕ) where
+module _ (c : BlockClocks) (outer level : ℕ) where
   pub record GuardsPaced (old new : Draft) (arm : List (Option ℕ)) : Type 0 where
     pub within : Within c old new (max outer level)
     pub at : GuardsAt c (max outer level) arm
@@ -116,7 +116,7 @@ module _ (c : Clocks) (outer level : ℕ) where
 
 -- Tests.
 
-module _ (c : Clocks) (scene : Scene) (top : Around) (spaces : ℕ) (shared : ℕ → Option ℕ) (Variable Read Own : ℕ → Type 0) (g : IsGround c scene top spaces shared Variable Read Own)
+module _ (c : BlockClocks) (scene : Scene) (top : Around) (spaces : ℕ) (shared : ℕ → Option ℕ) (Variable Read Own : ℕ → Type 0) (g : IsGround c scene top spaces shared Variable Read Own)
     (around : Around) (outer first : ℕ) (l : Levels) (old : Building) (s : StandsFor c scene top spaces shared Variable Read Own around old outer first l)
     (t : Term) (few : first + term_accesses t < 2 ^ 32) (own : OwnsTerm c scene top spaces shared Variable Read Own outer first t) (reads : ReadsAgree c (leveled scene shared outer first t l).levels (first + term_accesses t)) where
   abbrev tested : Leveled

@@ -4,12 +4,12 @@ use Rattle.dh_tree.specs.PlainTrees.{Action, action, ActionForm, lets, lets_memo
 use Rattle.dh_tree.specs.ViewOffsets.{offsets_of}
 use Rattle.dh_meaning.specs.CoreOf.{entity_number, Known, way_of}
 use Rattle.dh_meaning.specs.Ways.{Hidden, hidden_in}
-use Rattle.dh_commands.specs.Setting.{IsAmong}
+use Rattle.dh_commands.specs.Setting.{IsVariableAmong}
 
 -- a view gives values to the variables that keep its offsets, where one keeps an offset on its way
 abbrev pub IsKept : List Hidden → (count entity : ℕ) → Type 0
 IsKept [] count entity = ⊥
-IsKept (h ∷ hs) count entity = IsAmong h.entity count entity
+IsKept (h ∷ hs) count entity = IsVariableAmong h.entity count entity
 
 module _ (known : Known) where
   abbrev mutual

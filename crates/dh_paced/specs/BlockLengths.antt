@@ -21,13 +21,13 @@ use Rattle.dh_expressions.specs.declared.scenes.Scene.{Scene}
 use Rattle.dh_expressions.specs.Drafted.{Extends}
 use Rattle.dh_expressions.specs.Evaluated.{counter_of, known_in}
 use Rattle.dh_expressions.specs.Noted.{touched_in}
-use Rattle.dh_formed.specs.Formed.{Block, IsNoted, Site}
+use Rattle.dh_formed.specs.Formed.{FormedBlock, AreNotedReads, BlockSite}
 use Rattle.dh_formed.specs.WholeBlocks.{IsCut, block_of}
 use Rattle.dh_commands.specs.declared.buildings.Building.{Building}
 use Rattle.dh_commands.specs.LanesRun.{paths_counted}
 use Rattle.dh_commands.specs.MadeCommands.{MadeTests}
 use Rattle.dh_commands.specs.ShownVariables.{register_in}
-use Rattle.dh_commands.specs.Setting.{IsAmong}
+use Rattle.dh_commands.specs.Setting.{IsVariableAmong}
 use Rattle.dh_laid.specs.BareCommands.{AreRising}
 use Rattle.dh_laid.specs.BlockSites.{MadeEach, block_sites, test_sites}
 use Rattle.dh_laid.specs.Laid.{StandsRound}
@@ -49,7 +49,7 @@ module _ (scene : Scene) (around : Around) where
   abbrev pub KeepsOwn : List Hidden → (first : ℕ) → (offsets : List Term) → Type 0
   KeepsOwn [] first offsets = Unit {0}
   KeepsOwn (h ∷ hs) first offsets =
-      (e : ℕ) → IsAmong h.entity (length offsets) e → (counter_of scene e ≡ None) × ((i j : ℕ) → i < paths_counted around → j < paths_counted around → register_in scene around e i ≡ register_in scene around e j → i ≡ j)
+      (e : ℕ) → IsVariableAmong h.entity (length offsets) e → (counter_of scene e ≡ None) × ((i j : ℕ) → i < paths_counted around → j < paths_counted around → register_in scene around e i ≡ register_in scene around e j → i ≡ j)
 
   abbrev mutual
     pub AssignsOwn : (first : ℕ) → Action → Type 0
@@ -96,15 +96,15 @@ pub record ShareWithin (scene : Scene) (shared : ℕ → Option ℕ) (Own Read :
 -- Blocks.
 
 -- What stands as a block begins: no guard round it; no variable was given a value; and no access of it has operations.
-pub record BlockBegins (x : Block) (scene : Scene) (around : Around) (spaces : ℕ) (old : Building) : Type 0 where
+pub record BlockBegins (x : FormedBlock) (scene : Scene) (around : Around) (spaces : ℕ) (old : Building) : Type 0 where
   pub some : 0 < paths_counted around
   pub round : StandsRound x old.draft scene around
   pub free : (path : ℕ) (guard : Option ℕ) → slice_get around.guards.now path ≡ Some guard → guard ≡ None
-  pub noted : IsNoted x old.draft old.accesses
+  pub noted : AreNotedReads x old.draft old.accesses
   pub held : StandsHeld x old.draft old.values
   pub given : (register value : ℕ) → slice_get old.values.current.items register ≡ Some (Some value) → ⊥
   pub long : length old.values.current.items ≡ spaces
-  pub bare : (number : ℕ) (s : Site) → x.sites number ≡ Some s → touched_in old.accesses number ≡ None
+  pub bare : (number : ℕ) (s : BlockSite) → x.sites number ≡ Some s → touched_in old.accesses number ≡ None
 
 -- what was put down is the block but for operations behind it that read nothing: registers that are set, and a flag
 pub record IsWholeBut (plan : PlainPlan) (block : ℕ) (old new end : Draft) : Type 0 where

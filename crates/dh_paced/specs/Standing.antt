@@ -17,12 +17,12 @@ use Rattle.dh_expressions.specs.declared.scenes.Around.{Around}
 use Rattle.dh_expressions.specs.declared.scenes.Scene.{Scene}
 use Rattle.dh_expressions.specs.Evaluated.{counter_of, known_in}
 use Rattle.dh_formed.specs.Counted.{given_at_paths}
-use Rattle.dh_formed.specs.Formed.{IsNoted}
-use Rattle.dh_formed.specs.Timed.{AreBounded, Clocks, EntityAt, GuardAt, NotedInTime, Within, leveled}
+use Rattle.dh_formed.specs.Formed.{AreNotedReads}
+use Rattle.dh_formed.specs.Timed.{AreBounded, BlockClocks, EntityAt, GuardAt, NotedInTime, Within, leveled}
 use Rattle.dh_commands.specs.declared.buildings.Building.{Building}
 use Rattle.dh_commands.specs.LanesRun.{lane_of, paths_counted}
 use Rattle.dh_commands.specs.ShownVariables.{register_in}
-use Rattle.dh_commands.specs.Setting.{IsAmong}
+use Rattle.dh_commands.specs.Setting.{IsVariableAmong}
 use Rattle.dh_laid.specs.Laid.{StandsRound}
 use Rattle.dh_laid.specs.LaidCommands.{StandsHeld}
 use Rattle.dh_paced.specs.Paced.{IsIn, action_levels, between_arms, part_levels}
@@ -34,7 +34,7 @@ pub record IsUnder (top around : Around) : Type 0 where
 
 -- the variables of a block, the reads that are made in it, and all of its accesses, by their numbers; `top` stands round
 -- the block, and so many registers are of variables
-module _ (c : Clocks) (scene : Scene) (top : Around) (spaces : ℕ) (shared : ℕ → Option ℕ) (Variable Read Own : ℕ → Type 0) where
+module _ (c : BlockClocks) (scene : Scene) (top : Around) (spaces : ℕ) (shared : ℕ → Option ℕ) (Variable Read Own : ℕ → Type 0) where
   pub record IsGround : Type 0 where
     pub some : 0 < paths_counted top
     -- registers of variables that are no iterators are there, and those of two are others
@@ -94,7 +94,7 @@ module _ (c : Clocks) (scene : Scene) (top : Around) (spaces : ℕ) (shared : �
   abbrev pub OwnsView : (outer first : ℕ) → List Hidden → ViewPlan → Type 0
   OwnsView outer first [] form = (m : ℕ) → IsIn first (plan_accesses form + 0) m → Read m → ⊥
   OwnsView outer first (h ∷ hs) form =
-      OwnsTerms outer first (terms (offsets_of form)) × ((e : ℕ) → IsAmong h.entity (length (offsets_of form)) e → IsTarget e × ((i j : ℕ) → i < paths_counted top → j < paths_counted top → register_in scene top e i ≡ register_in scene top e j → i ≡ j))
+      OwnsTerms outer first (terms (offsets_of form)) × ((e : ℕ) → IsVariableAmong h.entity (length (offsets_of form)) e → IsTarget e × ((i j : ℕ) → i < paths_counted top → j < paths_counted top → register_in scene top e i ≡ register_in scene top e j → i ≡ j))
 
   abbrev mutual
     pub OwnsIn : (outer first : ℕ) → Action → Levels → Type 0
@@ -145,7 +145,7 @@ module _ (c : Clocks) (scene : Scene) (top : Around) (spaces : ℕ) (shared : �
     pub under : IsUnder top around
     pub started : c.block.first ≤ length old.draft.operations.items
     pub round : StandsRound c.block old.draft scene around
-    pub noted : IsNoted c.block old.draft old.accesses
+    pub noted : AreNotedReads c.block old.draft old.accesses
     pub held : StandsHeld c.block old.draft old.values
     pub long : length old.values.current.items ≡ spaces
     pub guards : (path : ℕ) (guard : Option ℕ) → slice_get around.guards.now path ≡ Some guard → GuardAt c outer guard

@@ -10,7 +10,7 @@ use Rattle.dh_tree.specs.declared.trees.commands.Sides.{Sides}
 use Rattle.dh_tree.specs.declared.trees.commands.ViewForm.{ViewForm}
 use Rattle.dh_tree.specs.declared.trees.commands.CommandForm.TheVariants.{Let, View, Assign, Store, Reduce, Call}
 use Rattle.dh_tree.specs.PlainTrees.{Term, ActionForm, lets, views, assigns, stores, reduces, calls}
-use Rattle.dh_tree.specs.Seen.{term_seen, plan_seen, sides_seen, action_form_seen}
+use Rattle.dh_tree.specs.Seen.{term_seen, view_plan, sides_seen, action_form_seen}
 use Rattle.dh_tree.proofs.SeenActions.{let_is, view_is, assign_is, store_is, reduce_is, call_is}
 use Rattle.dh_parser.specs.Grammar.{NameText, TypeText, ValueText, ExprText, ViewText, ReducerText, AccessText, ArgumentsText, let_value, view, assign, store, reduce, call}
 use Rattle.dh_parser.specs.TreesOfTexts.{ref_of, shape_of, shape_places_of, value_of, is_memory_type, let_written, let_of, access_of, arguments_of, parent_of, reducer_op, simple_form}
@@ -20,7 +20,7 @@ use Rattle.dh_parser.specs.Answers.{SamePlan, SameTerm, SameType}
 pub view_seen : (name parent : Ref) (form : ViewForm) (held held' : Box Ref Global) (plan : Box ViewForm Global) (word equal : Place) (n : NameText) (v : ViewText)
     → held.value ≡ name → held'.value ≡ parent → plan.value ≡ form → name ≡ ref_of n → SamePlan parent form v → action_form_seen (View held held' plan) ≡ simple_form (view word n equal v)
 view_seen name parent form held held' plan word equal n v a b c e s =
-    view_is held held' plan ∙ (ap (λ r. views r held'.value (plan_seen plan.value)) (a ∙ e) ∙ (ap (λ r. views (ref_of n) r (plan_seen plan.value)) (b ∙ s.0) ∙ ap (λ p. views (ref_of n) (parent_of v) p) (ap plan_seen c ∙ s.1)))
+    view_is held held' plan ∙ (ap (λ r. views r held'.value (view_plan plan.value)) (a ∙ e) ∙ (ap (λ r. views (ref_of n) r (view_plan plan.value)) (b ∙ s.0) ∙ ap (λ p. views (ref_of n) (parent_of v) p) (ap view_plan c ∙ s.1)))
 
 pub value_seen : (name : Ref) (e : Expr) (held : Box (Option Expr) Global) (word equal : Place) (n : NameText) (t : ExprText) → held.value ≡ Some e → name ≡ ref_of n → SameTerm e t
     → action_form_seen (Let None name held) ≡ simple_form (let_value word n equal t)

@@ -6,7 +6,7 @@ use Rattle.std.proofs.lemmas.Bool.{le-leb}
 use Rattle.dh_base.specs.declared.places.Place.{Place}
 use Rattle.dh_lexer.specs.declared.tokens.Token.{Token}
 use Rattle.dh_lexer.specs.declared.tokens.TokenKind.TheVariants as kind
-use Rattle.dh_lexer.specs.LexedText.{placed}
+use Rattle.dh_lexer.specs.LexedText.{token_placed}
 use Rattle.dh_value.specs.declared.operators.Op.{Op}
 use Rattle.dh_value.specs.declared.operators.Op.TheVariants as op
 use Rattle.dh_parser.specs.declared.parsing.reading.Mark.TheVariants as mark
@@ -163,7 +163,7 @@ sign_ends_access op.Mul place x = refl
 
 sign_found : (k : ℕ) (o : Op) (place : Place) (x : List Token) → k ≤ level o → sign_at k (put (sign_of o) place x) ≡ Some (sign_text o place x)
 sign_found k o place x h =
-    ap (λ p. sign_from k p (placed (sign_of o) place) x) (op_again o)
+    ap (λ p. sign_from k p (token_placed (sign_of o) place) x) (op_again o)
     ∙ when (nat_le k (level o)) (Some (sign_text o place x)) None (Some (sign_text o place x)) (le-leb k (level o) h) refl
 
 above : (a b : ℕ) → a ≤ b → nat_le (suc b) a ≡ false
@@ -171,7 +171,7 @@ above a b h = grind (arith, nat_tests)
 
 sign_loose : (j : ℕ) (o : Op) (place : Place) (x : List Token) → level o ≤ j → sign_at (suc j) (put (sign_of o) place x) ≡ None
 sign_loose j o place x h =
-    ap (λ p. sign_from (suc j) p (placed (sign_of o) place) x) (op_again o)
+    ap (λ p. sign_from (suc j) p (token_placed (sign_of o) place) x) (op_again o)
     ∙ unless (nat_le (suc j) (level o)) (Some (sign_text o place x)) None None (above (level o) j h) refl
 
 -- what follows does not go on with the last right operand

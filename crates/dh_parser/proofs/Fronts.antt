@@ -5,7 +5,7 @@ use Rattle.std.proofs.Common.{◌≡◌, true, false, List, [], ◌∷◌, ◌++
 use Rattle.dh_base.specs.declared.places.Place.{Place}
 use Rattle.dh_lexer.specs.declared.tokens.Token.{Token}
 use Rattle.dh_lexer.specs.declared.tokens.TokenKind.{TokenKind}
-use Rattle.dh_lexer.specs.LexedText.{placed}
+use Rattle.dh_lexer.specs.LexedText.{token_placed}
 use Rattle.dh_value.specs.declared.operators.Op.{Op}
 use Rattle.dh_value.specs.declared.operators.Op.TheVariants as op
 use Rattle.dh_parser.specs.declared.parsing.reading.Mark.TheVariants as mark
@@ -28,7 +28,7 @@ pub nothing : Front (λ x. x)
 nothing = record { tokens = []; stands = λ x. refl; endless = tt }
 
 put_front : {s : List Token → List Token} (k : TokenKind) (p : Place) → is_mark k mark.End ≡ false → Front s → Front (λ x. put k p (s x))
-put_front k p e f = record { tokens = placed k p ∷ f.tokens; stands = λ x. ap (λ l. placed k p ∷ l) (f.stands x); endless = (e, f.endless) }
+put_front k p e f = record { tokens = token_placed k p ∷ f.tokens; stands = λ x. ap (λ l. token_placed k p ∷ l) (f.stands x); endless = (e, f.endless) }
 
 -- what follows a text goes along with it
 pub goes_along : {s : List Token → List Token} → Front s → (x y : List Token) → s (x ++ y) ≡ s x ++ y

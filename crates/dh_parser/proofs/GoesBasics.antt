@@ -7,7 +7,7 @@ use Rattle.dh_base.specs.declared.places.Place.{Place}
 use Rattle.dh_lexer.specs.declared.tokens.Token.{Token}
 use Rattle.dh_lexer.specs.declared.tokens.TokenKind.{TokenKind}
 use Rattle.dh_lexer.specs.declared.tokens.TokenKind.TheVariants as kind
-use Rattle.dh_lexer.specs.LexedText.{placed}
+use Rattle.dh_lexer.specs.LexedText.{token_placed}
 use Rattle.dh_parser.specs.declared.parsing.reading.Mark.{Mark}
 use Rattle.dh_parser.specs.Marks.{is_mark}
 use Rattle.dh_parser.specs.Grammar.{NameText, NumberText, TypeText, ExprText, IndexText, BlockText, ProgramText, bool_kind, no_ports, no_dims, literal, index, block, last_part, end_of_part}
@@ -126,10 +126,10 @@ after_put {A} {b} {ts} {o} t g = record { on = put_stops t b ts o g.on }
 
 -- a token is what its kind says
 pub at_token : {A : Type 0} {b : List Token → List Token} {ts : List Token} {o : Outcome A} (t : Token) {k : TokenKind} → t.kind ≡ k → Goes b (put k t.place ts) o → Goes b (t ∷ ts) o
-at_token {A} {b} {ts} {o} t {k} e g = subst (λ c. Goes b (placed c t.place ∷ ts) o) (sym e) g
+at_token {A} {b} {ts} {o} t {k} e g = subst (λ c. Goes b (token_placed c t.place ∷ ts) o) (sym e) g
 
 pub took_token : {A : Type 0} {b : List Token → List Token} {ts : List Token} {o : Outcome A} (t : Token) {k : TokenKind} → t.kind ≡ k → Goes (λ x. b (put k t.place x)) ts o → Goes b (t ∷ ts) o
-took_token {A} {b} {ts} {o} t {k} e g = at_token t e (after_put (placed k t.place) g)
+took_token {A} {b} {ts} {o} t {k} e g = at_token t e (after_put (token_placed k t.place) g)
 
 -- some place, name, number and texts of forms, for parts that are to come
 abbrev pub here : Place

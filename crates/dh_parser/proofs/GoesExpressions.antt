@@ -5,7 +5,7 @@ use Rattle.dh_base.specs.declared.places.Place.{Place}
 use Rattle.dh_lexer.specs.declared.tokens.Token.{Token}
 use Rattle.dh_lexer.specs.declared.tokens.TokenKind.{TokenKind}
 use Rattle.dh_lexer.specs.declared.tokens.TokenKind.TheVariants as kind
-use Rattle.dh_lexer.specs.LexedText.{placed}
+use Rattle.dh_lexer.specs.LexedText.{token_placed}
 use Rattle.dh_parser.specs.declared.parsing.reading.Mark.TheVariants as mark
 use Rattle.dh_parser.specs.Marks.{comes}
 use Rattle.dh_parser.specs.Grammar.{NameText, ExprText, bool_kind, negative, access, bracket, cast, binary, element, physical, index, no_indices, index_then}
@@ -47,7 +47,7 @@ indices_go rd h (suc n) b z o ts =
 
 pub access_go : (rd : Reads) → ReadsGo rd → (n : NameText) (b : List Token → List Token) (z : List Token) → Opens AccessFits spell_access b z → (ts : List Token) → Goes b (put_name n ts) (access_from rd n ts)
 access_go rd h n b z o ts =
-    after_put (placed (kind.Name n.name) n.place) (pick (comes mark.OpenBrace ts) (
+    after_put (token_placed (kind.Name n.name) n.place) (pick (comes mark.OpenBrace ts) (
     part (mark_goes mark.OpenBrace) ts _ (λ p _. o (physical n p some_number here some_index) tt) λ opener r0 _.
     part number_goes r0 _ (λ m _. o (physical n opener m here some_index) tt) λ bank r1 _.
     part (mark_goes mark.CloseBrace) r1 _ (λ p _. o (physical n opener bank p some_index) tt) λ closer r2 _.
@@ -109,7 +109,7 @@ chain_by rd h tight k b z o go c m e ts km f below (Some s) some =
     ((h (suc (level s.op))).goes (λ x. b (spell e (put (sign_of s.op) s.place x))) z (λ y g. o (binary s.op s.place e y) (sign.least, (left, g))) s.rest)
     (λ y r p. c (level s.op) (binary s.op s.place e y) r sign.least (le-refl (level s.op), (left, p.0.0)) (loose (level s.op) r p.1)) in
     subst (λ l. Goes (λ x. b (spell e x)) l (bind (rd (suc (level s.op)) s.rest) (λ y r. go (binary s.op s.place e y) r))) (sym sign.tokens)
-    (after_put (placed (sign_of s.op) s.place) right)
+    (after_put (token_placed (sign_of s.op) s.place) right)
 
 chain_go : (rd : Reads) → ReadsGo rd → Tight rd → (k : ℕ) (b : List Token → List Token) (z : List Token) → Opens (Fits k) spell b z → (n : ℕ) → ChainGoes k b (λ e ts. chain rd n k e ts)
 chain_go rd h tight k b z o zero m e ts km f below = gave_up

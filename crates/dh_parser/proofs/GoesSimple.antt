@@ -4,7 +4,7 @@ use Rattle.dh_base.specs.declared.places.Place.{Place}
 use Rattle.dh_lexer.specs.declared.tokens.Token.{Token}
 use Rattle.dh_lexer.specs.declared.tokens.TokenKind.{TokenKind}
 use Rattle.dh_lexer.specs.declared.tokens.TokenKind.TheVariants as kind
-use Rattle.dh_lexer.specs.LexedText.{placed}
+use Rattle.dh_lexer.specs.LexedText.{token_placed}
 use Rattle.dh_parser.specs.declared.parsing.reading.Mark.TheVariants as mark
 use Rattle.dh_parser.specs.Marks.{comes}
 use Rattle.dh_parser.specs.Grammar.{NameText, ViewText, ReducerText, no_more_arguments, argument_then, no_arguments, some_arguments, shrink, split, suffix, shift, no_value, some_value, adds, subtracts, multiplies, let_typed, let_value, view, assign, store, reduce, call}
@@ -153,22 +153,22 @@ store_go n b z o ts =
 after_name_go_from : (n : NameText) (b : List Token → List Token) (z : List Token) → Opens SimpleFits spell_simple b z → (k : TokenKind) (t : Token) (ts : List Token) → t.kind ≡ k
     → Goes b (put_name n (t ∷ ts)) (after_name_from n k t ts)
 after_name_go_from n b z o kind.Becomes t ts e =
-    after_put (placed (kind.Name n.name) n.place) (took_token t e (
+    after_put (token_placed (kind.Name n.name) n.place) (took_token t e (
     part expression_goes ts _ (λ x f. o (assign n t.place x) f) λ x r0 f.
     done))
 after_name_go_from n b z o kind.OpenParen t ts e =
-    after_put (placed (kind.Name n.name) n.place) (took_token t e (
+    after_put (token_placed (kind.Name n.name) n.place) (took_token t e (
     part arguments_goes ts _ (λ l f. o (call n t.place l) f) λ l r0 f.
     done))
 after_name_go_from n b z o kind.OpenBracket t ts e = store_go n b z o (t ∷ ts)
 after_name_go_from n b z o kind.OpenBrace t ts e = store_go n b z o (t ∷ ts)
-after_name_go_from n b z o kind.PlusAssign t ts e = after_put (placed (kind.Name n.name) n.place) (took_token t e (reduce_go n adds t.place b z o ts))
-after_name_go_from n b z o kind.MinusAssign t ts e = after_put (placed (kind.Name n.name) n.place) (took_token t e (reduce_go n subtracts t.place b z o ts))
-after_name_go_from n b z o kind.StarAssign t ts e = after_put (placed (kind.Name n.name) n.place) (took_token t e (reduce_go n multiplies t.place b z o ts))
-after_name_go_from n b z o _ t ts e = after_put (placed (kind.Name n.name) n.place) (stuck _ (o (assign n here some_expression) tt))
+after_name_go_from n b z o kind.PlusAssign t ts e = after_put (token_placed (kind.Name n.name) n.place) (took_token t e (reduce_go n adds t.place b z o ts))
+after_name_go_from n b z o kind.MinusAssign t ts e = after_put (token_placed (kind.Name n.name) n.place) (took_token t e (reduce_go n subtracts t.place b z o ts))
+after_name_go_from n b z o kind.StarAssign t ts e = after_put (token_placed (kind.Name n.name) n.place) (took_token t e (reduce_go n multiplies t.place b z o ts))
+after_name_go_from n b z o _ t ts e = after_put (token_placed (kind.Name n.name) n.place) (stuck _ (o (assign n here some_expression) tt))
 
 after_name_go : (n : NameText) (b : List Token → List Token) (z : List Token) → Opens SimpleFits spell_simple b z → (ts : List Token) → Goes b (put_name n ts) (after_name n ts)
-after_name_go n b z o [] = after_put (placed (kind.Name n.name) n.place) (stuck _ (o (assign n here some_expression) tt))
+after_name_go n b z o [] = after_put (token_placed (kind.Name n.name) n.place) (stuck _ (o (assign n here some_expression) tt))
 after_name_go n b z o (t ∷ ts) = after_name_go_from n b z o t.kind t ts refl
 
 simple_go_from : (b : List Token → List Token) (z : List Token) → Opens SimpleFits spell_simple b z → (k : TokenKind) (t : Token) (ts : List Token) → t.kind ≡ k → Goes b (t ∷ ts) (simple_from k t ts)

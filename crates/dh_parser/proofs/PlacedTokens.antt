@@ -6,7 +6,7 @@ use Rattle.std.proofs.Common.{◌≡◌, ℕ, suc, ◌≤◌, Bool, true, false,
 use Rattle.dh_base.specs.declared.places.Place.{Place}
 use Rattle.dh_lexer.specs.declared.tokens.Token.{Token}
 use Rattle.dh_lexer.specs.declared.tokens.TokenKind.TheVariants as kind
-use Rattle.dh_lexer.specs.LexedText.{placed, AreEnded}
+use Rattle.dh_lexer.specs.LexedText.{token_placed, AreEnded}
 use Rattle.dh_parser.specs.declared.parsing.reading.Mark.TheVariants as mark
 use Rattle.dh_parser.specs.Marks.{is_mark}
 use Rattle.dh_parser.specs.Grammar.{ProgramText}
@@ -31,7 +31,7 @@ no_more (a ∷ (b ∷ w)) e rest k h = no_more (b ∷ w) e rest k h.1.1
 all_read : (tokens : List Token) → AreEnded tokens → (p : ProgramText) (rest : List Token) → tokens ≡ spell_program p rest → rest ≡ []
 all_read tokens h p rest e =
     let front = program_front p in
-    no_more front.tokens (placed kind.End p.end) rest refl (subst AreEnded (e ∙ front.stands (put kind.End p.end rest)) h)
+    no_more front.tokens (token_placed kind.End p.end) rest refl (subst AreEnded (e ∙ front.stands (put kind.End p.end rest)) h)
 
 abbrev tail : List Token → List Token
 tail [] = []
@@ -51,10 +51,10 @@ end_differs : (a t : Token) (x y : List Token) → is_mark a.kind mark.End ≡ f
 end_differs a t x y no_end is_end e = differ (sym (ap (λ k. is_mark k mark.End) is_end) ∙ (sym (ap starts_with_end e) ∙ no_end))
 
 -- a list that ends where a program does is not the front of a longer one
-whole : (ts : List Token) → AreEnded ts → (w : List Token) → Endless w → (end : Place) (more : List Token) → w ++ (placed kind.End end ∷ []) ≡ ts ++ more → more ≡ []
+whole : (ts : List Token) → AreEnded ts → (w : List Token) → Endless w → (end : Place) (more : List Token) → w ++ (token_placed kind.End end ∷ []) ≡ ts ++ more → more ≡ []
 whole [] h w l end more e = absurd h
 whole (t ∷ []) h [] l end more e = sym (ap tail e)
-whole (t ∷ []) h (a ∷ w) l end more e = absurd (end_differs a t (w ++ (placed kind.End end ∷ [])) more l.0 h e)
+whole (t ∷ []) h (a ∷ w) l end more e = absurd (end_differs a t (w ++ (token_placed kind.End end ∷ [])) more l.0 h e)
 whole (t ∷ (u ∷ ts)) h [] l end more e = absurd (nothing_is u (ts ++ more) (ap tail e))
 whole (t ∷ (u ∷ ts)) h (a ∷ w) l end more e = whole (u ∷ ts) h.1.1 w l.1 end more (ap tail e)
 

@@ -5,7 +5,7 @@ use Rattle.dh_base.specs.declared.places.Place.{Place}
 use Rattle.dh_lexer.specs.declared.tokens.Token.{Token}
 use Rattle.dh_lexer.specs.declared.tokens.TokenKind.{TokenKind}
 use Rattle.dh_lexer.specs.declared.tokens.TokenKind.TheVariants as kind
-use Rattle.dh_lexer.specs.LexedText.{placed}
+use Rattle.dh_lexer.specs.LexedText.{token_placed}
 use Rattle.dh_parser.specs.declared.parsing.reading.Mark.{Mark}
 use Rattle.dh_parser.specs.Marks.{kind_of_mark, is_mark}
 use Rattle.dh_parser.specs.Spelling.{put, put_name, put_number}
@@ -42,10 +42,10 @@ pub mark_took : (m : Mark) (ts : List Token) → Took any (put_mark m) ts (the m
 mark_took m [] = tt
 mark_took m (t ∷ ts) =
     either (λ place rest. Unit {0} × (t ∷ ts ≡ put_mark m place rest)) (is_mark t.kind m) (good t.place ts) (bad (t ∷ ts))
-    (λ e. (tt, ap (λ k. placed k t.place ∷ ts) (told t.kind m e))) (λ e. tt)
+    (λ e. (tt, ap (λ k. token_placed k t.place ∷ ts) (told t.kind m e))) (λ e. tt)
 
 name_took_from : (k : TokenKind) (t : Token) (ts : List Token) → t.kind ≡ k → Took any put_name (t ∷ ts) (name_from k t ts)
-name_took_from (kind.Name n) t ts e = (tt, ap (λ k. placed k t.place ∷ ts) e)
+name_took_from (kind.Name n) t ts e = (tt, ap (λ k. token_placed k t.place ∷ ts) e)
 name_took_from _ t ts e = tt
 
 pub name_took : (ts : List Token) → Took any put_name ts (the_name ts)
@@ -53,7 +53,7 @@ name_took [] = tt
 name_took (t ∷ ts) = name_took_from t.kind t ts refl
 
 number_took_from : (k : TokenKind) (t : Token) (ts : List Token) → t.kind ≡ k → Took any put_number (t ∷ ts) (number_from k t ts)
-number_took_from (kind.Number n) t ts e = (tt, ap (λ k. placed k t.place ∷ ts) e)
+number_took_from (kind.Number n) t ts e = (tt, ap (λ k. token_placed k t.place ∷ ts) e)
 number_took_from _ t ts e = tt
 
 pub number_took : (ts : List Token) → Took any put_number ts (the_number ts)

@@ -5,7 +5,7 @@ use Rattle.dh_base.specs.declared.places.Place.{Place}
 use Rattle.dh_lexer.specs.declared.tokens.Token.{Token}
 use Rattle.dh_lexer.specs.declared.tokens.TokenKind.{TokenKind}
 use Rattle.dh_lexer.specs.declared.tokens.TokenKind.TheVariants as kind
-use Rattle.dh_lexer.specs.LexedText.{placed}
+use Rattle.dh_lexer.specs.LexedText.{token_placed}
 use Rattle.dh_parser.specs.declared.parsing.reading.Mark.TheVariants as mark
 use Rattle.dh_parser.specs.Marks.{comes}
 use Rattle.dh_parser.specs.Grammar.{NameText, negative, variable, access, AccessText}
@@ -83,7 +83,7 @@ negative_took k minus ts =
     (tt, cc)
 
 -- an operand whose first token is t
-operand_took_from : (rd : Reads) → Sound rd → (k : ℕ) (kd : TokenKind) (t : Token) (ts : List Token) → Good (λ x rest. Fits k x × (placed kd t.place ∷ ts ≡ spell x rest)) (operand_from rd kd t ts)
+operand_took_from : (rd : Reads) → Sound rd → (k : ℕ) (kd : TokenKind) (t : Token) (ts : List Token) → Good (λ x rest. Fits k x × (token_placed kd t.place ∷ ts ≡ spell x rest)) (operand_from rd kd t ts)
 operand_took_from rd h k (kind.Number n) t ts = (tt, refl)
 operand_took_from rd h k kind.Minus t ts = negative_took k t.place ts
 operand_took_from rd h k kind.True t ts = (tt, refl)

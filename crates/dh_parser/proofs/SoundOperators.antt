@@ -6,7 +6,7 @@ use Rattle.std.proofs.lemmas.Bool.{leb-true}
 use Rattle.dh_lexer.specs.declared.tokens.Token.{Token}
 use Rattle.dh_lexer.specs.declared.tokens.TokenKind.{TokenKind}
 use Rattle.dh_lexer.specs.declared.tokens.TokenKind.TheVariants as kind
-use Rattle.dh_lexer.specs.LexedText.{placed}
+use Rattle.dh_lexer.specs.LexedText.{token_placed}
 use Rattle.dh_value.specs.declared.operators.Op.{Op}
 use Rattle.dh_value.specs.declared.operators.Op.TheVariants as op
 use Rattle.dh_parser.specs.Grammar.{ExprText, literal, negative, truth, variable, access, bracket, cast, binary}
@@ -90,7 +90,7 @@ sign_tested : (k : ℕ) (o : Op) (t : Token) (ts : List Token) (s : Sign) (b : B
 sign_tested k o t ts s false eo eb e = none_sign s e
 sign_tested k o t ts s true eo eb e =
     subst (λ u. SignIs k (t ∷ ts) u) (sign_inj (sign_text o t.place ts) s e)
-    (record { least = leb-true k (level o) eb; tokens = ap (λ x. placed x t.place ∷ ts) (op_told t.kind o eo); first = eo })
+    (record { least = leb-true k (level o) eb; tokens = ap (λ x. token_placed x t.place ∷ ts) (op_told t.kind o eo); first = eo })
 
 sign_by : (k : ℕ) (t : Token) (ts : List Token) (s : Sign) (x : Option Op) → op_from t.kind ≡ x → sign_from k x t ts ≡ Some s → SignIs k (t ∷ ts) s
 sign_by k t ts s None eo e = none_sign s e

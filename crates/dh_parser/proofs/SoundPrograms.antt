@@ -5,7 +5,7 @@ use Rattle.dh_base.specs.declared.places.Place.{Place}
 use Rattle.dh_lexer.specs.declared.tokens.Token.{Token}
 use Rattle.dh_lexer.specs.declared.tokens.TokenKind.{TokenKind}
 use Rattle.dh_lexer.specs.declared.tokens.TokenKind.TheVariants as kind
-use Rattle.dh_lexer.specs.LexedText.{placed}
+use Rattle.dh_lexer.specs.LexedText.{token_placed}
 use Rattle.dh_parser.specs.declared.parsing.reading.Mark.TheVariants as mark
 use Rattle.dh_parser.specs.Marks.{comes}
 use Rattle.dh_parser.specs.Grammar.{HeadText, PartText, ParameterText, ItemsText, ProgramText}
@@ -210,10 +210,10 @@ def_took word go g ts =
     next ItemsFit spell_items r4 _ (go r4) _ (g r4) λ more r5 f5 e5.
     ((f2, (f4, f5)), cc)
 
-items_took_from : (go : List Token → Outcome ItemsText) → SoundItems go → (k : TokenKind) (t : Token) (ts : List Token) → t.kind ≡ k → Good (λ i rest. ItemsFit i × (placed k t.place ∷ ts ≡ spell_items i rest)) (items_from go k t ts)
+items_took_from : (go : List Token → Outcome ItemsText) → SoundItems go → (k : TokenKind) (t : Token) (ts : List Token) → t.kind ≡ k → Good (λ i rest. ItemsFit i × (token_placed k t.place ∷ ts ≡ spell_items i rest)) (items_from go k t ts)
 items_took_from go g kind.Decl t ts e = decl_took t.place go g ts
 items_took_from go g kind.Def t ts e = def_took t.place go g ts
-items_took_from go g k t ts e = (tt, ap (λ x. placed x t.place ∷ ts) (sym e))
+items_took_from go g k t ts e = (tt, ap (λ x. token_placed x t.place ∷ ts) (sym e))
 
 pub items_took : (n : ℕ) (ts : List Token) → Took ItemsFit spell_items ts (the_items n ts)
 items_took zero ts = tt

@@ -4,7 +4,7 @@ use Rattle.dh_base.specs.declared.places.Place.{Place}
 use Rattle.dh_lexer.specs.declared.tokens.Token.{Token}
 use Rattle.dh_lexer.specs.declared.tokens.TokenKind.{TokenKind}
 use Rattle.dh_lexer.specs.declared.tokens.TokenKind.TheVariants as kind
-use Rattle.dh_lexer.specs.LexedText.{placed}
+use Rattle.dh_lexer.specs.LexedText.{token_placed}
 use Rattle.dh_parser.specs.declared.parsing.reading.Mark.TheVariants as mark
 use Rattle.dh_parser.specs.Marks.{comes}
 use Rattle.dh_parser.specs.Grammar.{NameText, ViewText, shrink, split, suffix, shift, ReducerText, adds, subtracts, multiplies, SimpleText, assign, call}
@@ -99,7 +99,7 @@ brackets_took F s one h make G front spelled g sp ts =
     next (AllFit F) (spell_all s) r1 _ (more_of one (steps r1) r1) _ (more_took F s one h (steps r1) r1) λ more r2 f2 e2.
     (g parent a more f1 f2, ap front (e0 ∙ ap (λ l. put_name parent l) (e1 ∙ ap (λ l. s a l) e2)) ∙ sym (sp parent a more r2))
 
-view_took_from : (k : TokenKind) (t : Token) (ts : List Token) → Good (λ v rest. ViewFits v × (placed k t.place ∷ ts ≡ spell_view v rest)) (view_from k t ts)
+view_took_from : (k : TokenKind) (t : Token) (ts : List Token) → Good (λ v rest. ViewFits v × (token_placed k t.place ∷ ts ≡ spell_view v rest)) (view_from k t ts)
 view_took_from kind.Shrink t ts = brackets_took any spell_factor the_factor factor_took (shrink t.place) ViewFits (λ l. put kind.Shrink t.place l) spell_view (λ n a l _ _. tt) (λ n a l x. refl) ts
 view_took_from kind.Split t ts = brackets_took any spell_factor the_factor factor_took (split t.place) ViewFits (λ l. put kind.Split t.place l) spell_view (λ n a l _ _. tt) (λ n a l x. refl) ts
 view_took_from kind.Suffix t ts = brackets_took SuffixFits spell_suffix the_suffix suffix_took (suffix t.place) ViewFits (λ l. put kind.Suffix t.place l) spell_view (λ n a l f g. (f, g)) (λ n a l x. refl) ts
@@ -166,11 +166,11 @@ store_took n ts =
     next (Fits 0) spell r0 _ (the_expression r0) _ (expression_took r0) λ x r1 f1 e1.
     ((p.0, f1), p.1 ∙ ap (λ l. spell_access a l) (e0 ∙ ap (λ l. put kind.Becomes becomes l) e1))
 
-after_took_from : (n : NameText) (k : TokenKind) (t : Token) (ts : List Token) → t.kind ≡ k → Good (Named n (placed k t.place ∷ ts)) (after_name_from n k t ts)
+after_took_from : (n : NameText) (k : TokenKind) (t : Token) (ts : List Token) → t.kind ≡ k → Good (Named n (token_placed k t.place ∷ ts)) (after_name_from n k t ts)
 after_took_from n kind.Becomes t ts e = assign_took n t.place ts
 after_took_from n kind.OpenParen t ts e = call_took n t.place ts
-after_took_from n kind.OpenBracket t ts e = subst (λ k. Good (Named n (placed k t.place ∷ ts)) (store_from n (t ∷ ts))) e (store_took n (t ∷ ts))
-after_took_from n kind.OpenBrace t ts e = subst (λ k. Good (Named n (placed k t.place ∷ ts)) (store_from n (t ∷ ts))) e (store_took n (t ∷ ts))
+after_took_from n kind.OpenBracket t ts e = subst (λ k. Good (Named n (token_placed k t.place ∷ ts)) (store_from n (t ∷ ts))) e (store_took n (t ∷ ts))
+after_took_from n kind.OpenBrace t ts e = subst (λ k. Good (Named n (token_placed k t.place ∷ ts)) (store_from n (t ∷ ts))) e (store_took n (t ∷ ts))
 after_took_from n kind.PlusAssign t ts e = reduce_took n adds t.place ts
 after_took_from n kind.MinusAssign t ts e = reduce_took n subtracts t.place ts
 after_took_from n kind.StarAssign t ts e = reduce_took n multiplies t.place ts
@@ -180,7 +180,7 @@ after_took : (n : NameText) (ts : List Token) → Good (Named n ts) (after_name 
 after_took n [] = tt
 after_took n (t ∷ ts) = after_took_from n t.kind t ts refl
 
-simple_took_from : (k : TokenKind) (t : Token) (ts : List Token) → Good (λ s rest. SimpleFits s × (placed k t.place ∷ ts ≡ spell_simple s rest)) (simple_from k t ts)
+simple_took_from : (k : TokenKind) (t : Token) (ts : List Token) → Good (λ s rest. SimpleFits s × (token_placed k t.place ∷ ts ≡ spell_simple s rest)) (simple_from k t ts)
 simple_took_from kind.Let t ts = let_took t.place ts
 simple_took_from kind.View t ts = view_command_took t.place ts
 simple_took_from (kind.Name n) t ts = after_took (name_text n t.place) ts

@@ -4,7 +4,7 @@ use Rattle.std.proofs.lemmas.Bool.{leb-true}
 use Rattle.dh_lexer.specs.declared.tokens.Token.{Token}
 use Rattle.dh_lexer.specs.declared.tokens.TokenKind.{TokenKind}
 use Rattle.dh_lexer.specs.declared.tokens.TokenKind.TheVariants as kind
-use Rattle.dh_lexer.specs.LexedText.{placed}
+use Rattle.dh_lexer.specs.LexedText.{token_placed}
 use Rattle.dh_parser.specs.declared.parsing.reading.Mark.TheVariants as mark
 use Rattle.dh_parser.specs.Marks.{comes}
 use Rattle.dh_parser.specs.Grammar.{TypeText}
@@ -25,7 +25,7 @@ within n e =
 width_took_from : (k : TokenKind) (t : Token) (ts : List Token) → t.kind ≡ k → Took IsWidth put_number (t ∷ ts) (width_from k t ts)
 width_took_from (kind.Number n) t ts e =
     either (λ w rest. IsWidth w × (t ∷ ts ≡ put_number w rest)) (is_width n) (good (number_text n t.place) ts) (bad (t ∷ ts))
-    (λ w. (within n w, ap (λ k. placed k t.place ∷ ts) e)) (λ _. tt)
+    (λ w. (within n w, ap (λ k. token_placed k t.place ∷ ts) e)) (λ _. tt)
 width_took_from _ t ts e = tt
 
 pub width_took : (ts : List Token) → Took IsWidth put_number ts (the_width ts)
@@ -33,17 +33,17 @@ width_took [] = tt
 width_took (t ∷ ts) = width_took_from t.kind t ts refl
 
 kind_took_from : (k : TokenKind) (t : Token) (ts : List Token) → t.kind ≡ k → Took KindFits spell_kind (t ∷ ts) (kind_from k t ts)
-kind_took_from kind.Bool t ts e = (tt, ap (λ k. placed k t.place ∷ ts) e)
+kind_took_from kind.Bool t ts e = (tt, ap (λ k. token_placed k t.place ∷ ts) e)
 kind_took_from kind.Bit t ts e =
     next any (put_mark mark.Less) ts _ (the mark.Less ts) _ (mark_took mark.Less ts) λ less r0 _ e0.
     next IsWidth put_number r0 _ (the_width r0) _ (width_took r0) λ width r1 f1 e1.
     next any (put_mark mark.Greater) r1 _ (the mark.Greater r1) _ (mark_took mark.Greater r1) λ greater r2 _ e2.
-    (f1, ap (λ k. placed k t.place ∷ ts) e ∙ ap (λ l. put kind.Bit t.place l) (e0 ∙ ap (λ l. put kind.Less less l) (e1 ∙ ap (λ l. put_number width l) e2)))
+    (f1, ap (λ k. token_placed k t.place ∷ ts) e ∙ ap (λ l. put kind.Bit t.place l) (e0 ∙ ap (λ l. put kind.Less less l) (e1 ∙ ap (λ l. put_number width l) e2)))
 kind_took_from kind.Ubit t ts e =
     next any (put_mark mark.Less) ts _ (the mark.Less ts) _ (mark_took mark.Less ts) λ less r0 _ e0.
     next IsWidth put_number r0 _ (the_width r0) _ (width_took r0) λ width r1 f1 e1.
     next any (put_mark mark.Greater) r1 _ (the mark.Greater r1) _ (mark_took mark.Greater r1) λ greater r2 _ e2.
-    (f1, ap (λ k. placed k t.place ∷ ts) e ∙ ap (λ l. put kind.Ubit t.place l) (e0 ∙ ap (λ l. put kind.Less less l) (e1 ∙ ap (λ l. put_number width l) e2)))
+    (f1, ap (λ k. token_placed k t.place ∷ ts) e ∙ ap (λ l. put kind.Ubit t.place l) (e0 ∙ ap (λ l. put kind.Less less l) (e1 ∙ ap (λ l. put_number width l) e2)))
 kind_took_from _ t ts e = tt
 
 pub kind_took : (ts : List Token) → Took KindFits spell_kind ts (the_kind ts)

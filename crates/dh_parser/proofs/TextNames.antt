@@ -5,9 +5,9 @@ use Rattle.std.specs.List.{AllByRecursion}
 use Rattle.dh_base.specs.declared.places.Place.{Place}
 use Rattle.dh_lexer.specs.declared.tokens.Token.{Token}
 use Rattle.dh_lexer.specs.declared.tokens.TokenKind.TheVariants as kind
-use Rattle.dh_lexer.specs.LexedText.{IsSound, AreEnded}
+use Rattle.dh_lexer.specs.LexedText.{IsSoundToken, AreEnded}
 use Rattle.dh_tree.specs.NameCounts.{declared_in, declared_in_form, declared_in_groups, declared_in_actions, declared_in_other, declared_in_functions}
-use Rattle.dh_tree.specs.Written.{IsOneUnless, AreDims, IsDeclared}
+use Rattle.dh_tree.specs.Written.{IsOneUnless, HaveDimPlaces, IsDeclared}
 use Rattle.dh_parser.specs.Grammar.{NameText, PortsText, no_ports, some_ports, BanksText, no_banks, some_banks, DimsText, no_dims, dim_then, TypeText, ValueText, SimpleText, let_typed, let_value, view, assign, store, reduce, call, HeadText, BlockText, block, PartsText, last_part, part_then, PartText, end_of_part, last_simple, simple_then, compound_then, semicolon_then, CompoundText, block_alone, if_alone, while_loop, for_loop, IfText, if_else, ElseText, no_else, else_block, else_if, CombineText, no_combine, some_combine, MoreParametersText, no_more_parameters, parameter_then, ParametersText, no_parameters, some_parameters, ItemsText, no_items, decl_then, def_then}
 use Rattle.dh_parser.specs.Spelling.{put, put_number, spell_type, spell, spell_value, spell_view, spell_simple, spell_declared, spell_unroll, spell_head, spell_block, spell_parts, spell_part, spell_compound, spell_if, spell_else, spell_combine, spell_more_parameters, spell_parameters, spell_items}
 use Rattle.dh_parser.specs.TreesOfTexts.{ports_of, banks_of, word_of, braces_of, dims_of, places_of, kind_place, is_memory_type, let_of, simple_form, count_block, count_part, count_compound, block_of, parts_of, part_of, compound_of, if_of, else_of, combine_of, formals_of, more_formals, decls_of, functions_of}
@@ -19,11 +19,11 @@ longer f x = let e = ap length (f.stands x) in let n = length-append f.tokens x 
 
 -- each token holds what it may
 abbrev pub AreSound : List Token → Type 0
-AreSound ts = AllByRecursion (λ (t : Token). IsSound t.kind) ts
+AreSound ts = AllByRecursion (λ (t : Token). IsSoundToken t.kind) ts
 
 pub ended_sound : (ts : List Token) → AreEnded ts → AreSound ts
 ended_sound [] h = absurd h
-ended_sound (t ∷ []) h = (subst IsSound (sym h) tt, tt)
+ended_sound (t ∷ []) h = (subst IsSoundToken (sym h) tt, tt)
 ended_sound (t ∷ (u ∷ ts)) h = (h.1.0, ended_sound (u ∷ ts) h.1.1)
 
 cut_off : (front x : List Token) → AreSound (front ++ x) → AreSound x
@@ -42,7 +42,7 @@ one_bank : (size : Place) (banks : BanksText) → IsOneUnless (word_of banks) (b
 one_bank size no_banks = refl
 one_bank size (some_banks word banks) = tt
 
-are_dims : (ds : DimsText) → AreDims (dims_of ds) (places_of ds)
+are_dims : (ds : DimsText) → HaveDimPlaces (dims_of ds) (places_of ds)
 are_dims no_dims = tt
 are_dims (dim_then opener size banks closer more) = (one_bank size.place banks, are_dims more)
 

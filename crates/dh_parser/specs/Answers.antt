@@ -25,7 +25,7 @@ use Rattle.dh_parser.specs.declared.parsing.commands.Beginning as commands
 use Rattle.dh_parser.specs.declared.parsing.commands.Beginning.TheVariants as beginnings
 use Rattle.dh_tree.specs.declared.trees.commands.CommandForm.{CommandForm}
 use Rattle.dh_tree.specs.PlainTrees.{Placed, Unrolled, Term, term, accessed, in_bank, converted, term_then, Action, action, ActionForm, counts, decides, repeats, MaybeAction, Actions, no_actions, action_then, Groups, no_groups, group_then, blocks}
-use Rattle.dh_tree.specs.Seen.{term_seen, terms, factor_seen, plan_seen, action_form_seen, action_seen, part_seen, groups, maybe_seen, placed, unrolled, formal_seen, declared_seen, defined_seen, program_seen}
+use Rattle.dh_tree.specs.Seen.{term_seen, terms, factor_seen, view_plan, action_form_seen, action_seen, part_seen, groups, maybe_seen, placed, unrolled, formal_seen, declared_seen, defined_seen, program_seen}
 use Rattle.dh_parser.specs.declared.parsing.reading.Stop.{Stop}
 use Rattle.dh_parser.specs.declared.parsing.reading.Stop.TheVariants as stop
 use Rattle.dh_parser.specs.declared.parsing.reading.Mark.{Mark}
@@ -268,7 +268,7 @@ SameSuffixRead v s = SameSuffix v.0 v.1 s
 
 -- the parent of a view and how it shows that
 abbrev pub SamePlan : Ref → ViewForm → ViewText → Type 0
-SamePlan parent form v = (parent ≡ parent_of v) × (plan_seen form ≡ view_of v)
+SamePlan parent form v = (parent ≡ parent_of v) × (view_plan form ≡ view_of v)
 
 -- a command without blocks, that begins at a place
 abbrev pub SameSimple : Place → CommandForm → SimpleText → Type 0

@@ -4,14 +4,14 @@ use Rattle.dh_base.specs.declared.places.Place.{Place}
 use Rattle.dh_lexer.specs.declared.tokens.Token.{Token}
 use Rattle.dh_lexer.specs.declared.tokens.TokenKind.{TokenKind}
 use Rattle.dh_lexer.specs.declared.tokens.TokenKind.TheVariants as kind
-use Rattle.dh_lexer.specs.LexedText.{placed}
+use Rattle.dh_lexer.specs.LexedText.{token_placed}
 use Rattle.dh_value.specs.declared.operators.Op.{Op}
 use Rattle.dh_value.specs.declared.operators.Op.TheVariants as op
 use Rattle.dh_parser.specs.Grammar.{NameText, NumberText, KindText, bool_kind, bit_kind, ubit_kind, PortsText, no_ports, some_ports, BanksText, no_banks, some_banks, DimsText, no_dims, dim_then, TypeText, ExprText, literal, negative, truth, variable, access, bracket, cast, binary, AccessText, element, physical, IndexText, index, MoreIndicesText, no_indices, index_then, MoreArgumentsText, no_more_arguments, argument_then, ArgumentsText, no_arguments, some_arguments, FactorText, SuffixText, OffsetText, ViewText, shrink, split, suffix, shift, ValueText, no_value, some_value, ReducerText, adds, subtracts, multiplies, SimpleText, let_typed, let_value, view, assign, store, reduce, call, DeclaredText, no_declared, some_declared, UnrollText, no_unroll, some_unroll, HeadText, BlockText, block, PartsText, last_part, part_then, PartText, end_of_part, last_simple, simple_then, compound_then, semicolon_then, CompoundText, block_alone, if_alone, while_loop, for_loop, IfText, if_else, ElseText, no_else, else_block, else_if, CombineText, no_combine, some_combine, ParameterText, MoreParametersText, no_more_parameters, parameter_then, ParametersText, no_parameters, some_parameters, ItemsText, no_items, decl_then, def_then, ProgramText}
 
 -- a token in front of what follows
 abbrev pub put : TokenKind → Place → List Token → List Token
-put k place x = placed k place ∷ x
+put k place x = token_placed k place ∷ x
 
 abbrev pub put_name : NameText → List Token → List Token
 put_name n x = put (kind.Name n.name) n.place x

@@ -29,11 +29,11 @@ use Rattle.dh_laid.specs.BlockSites.{MadeEach}
 use Rattle.dh_laid.specs.LaidAccesses.{AreLaid}
 use Rattle.dh_laid.specs.LaidQuiet.{AddsQuiet, IsQuiet, StandsIn}
 use Rattle.dh_laid.proofs.CommandsQuiet.{commands_are_quiet, quiet_sets_none, terms_are_quiet}
-use Rattle.dh_blocks.specs.BlockMade.{DoEach, IsMade, SetsNone, set_made, sets_made}
+use Rattle.dh_blocks.specs.BlockMade.{DoEach, IsBlockMade, SetsNone, set_made, sets_made}
 use Rattle.dh_blocks.specs.TestMade.{IsTestMade, flag_made}
 use Rattle.dh_gathering.specs.declared.blocks.Made.{Made}
-use Rattle.dh_gathering.specs.MadeBlocks.{AddsFlag, DoesCommands, MadeStraight, MadeTest, StandsAt}
-use Rattle.dh_gathering.specs.PushedSets.{set_of, sets_of, settings}
+use Rattle.dh_gathering.specs.MadeBlocks.{AddsFlag, DoesCommands, MadeStraight, MadeTest, BlockStandsAt}
+use Rattle.dh_gathering.specs.PushedSets.{set_of, sets_pushed, settings}
 use Rattle.dh_gathering.proofs.BlocksPlanned.{first_is, none_at_begin, operations_are}
 use Rattle.dh_gathering.proofs.TestMade.{flag_extends}
 use Rattle.dh_phased.specs.DonePhases.{HasMade}
@@ -83,12 +83,12 @@ quiet_added old new h = subst (λ (l : List Operation). AllByRecursion SetsNone 
 
 -- Registers are set as both have it.
 
-settings_made : (cs : List Change) (current : List (Option ℕ)) → settings (sets_of cs current) ≡ sets_made cs current
+settings_made : (cs : List Change) (current : List (Option ℕ)) → settings (sets_pushed cs current) ≡ sets_made cs current
 settings_made [] current = refl
 settings_made (c ∷ cs) current = one (given_at current c.register) (settings_made cs (slice_set current c.register None))
   where
-    one : (o : Option ℕ) → settings (sets_of cs (slice_set current c.register None)) ≡ sets_made cs (slice_set current c.register None)
-        → settings (set_of c.register o ++ sets_of cs (slice_set current c.register None)) ≡ set_made c.register o ++ sets_made cs (slice_set current c.register None)
+    one : (o : Option ℕ) → settings (sets_pushed cs (slice_set current c.register None)) ≡ sets_made cs (slice_set current c.register None)
+        → settings (set_of c.register o ++ sets_pushed cs (slice_set current c.register None)) ≡ set_made c.register o ++ sets_made cs (slice_set current c.register None)
     one None e = e
     one (Some value) e = ap (λ (l : List Operation). record { guard = None; form = Set c.register value } ∷ l) e
 
@@ -129,14 +129,14 @@ module _ (scene : Scene) (plan : PlainPlan) (count : ℕ) (final : Made) (made :
       subst (λ (fs : List (FaultKind × Place)). AreLaid fs before.accesses) (sym made.faults)
       (laid (subst (λ (fs : List (FaultKind × Place)). length fs ≤ 2 ^ 32) made.faults made.few))
 
-  none_here : (block : ℕ) (before after : Building) → StandsAt final block before after → NoneGiven before.values count
+  none_here : (block : ℕ) (before after : Building) → BlockStandsAt final block before after → NoneGiven before.values count
   none_here block before after stands = subst (λ (n : ℕ). NoneGiven before.values n) made.given (none_at_begin final block before after stands)
 
   faults_here : (n : ℕ) (f : FaultKind × Place) → slice_get final.building.draft.faults n ≡ Some f → slice_get plan.faults n ≡ Some f
   faults_here n f at = ap (λ (fs : List (FaultKind × Place)). slice_get fs n) made.faults ∙ at
 
   pub straight_is_made : (rounds : List Round) (ls : List Located) (block : ℕ) (m : MadeStraight scene final rounds ls block) → IsOrdered (first_in plan block) (operations_in plan block)
-      → IsMade scene m.around plan count block ls m.before m.between
+      → IsBlockMade scene m.around plan count block ls m.before m.between
   straight_is_made rounds ls block m ordered =
       let quiet : AddsQuiet m.before.draft m.between.draft = each_quiet scene m.around ls m.before m.between m.stands_in m.made in
       record {
@@ -147,7 +147,7 @@ module _ (scene : Scene) (plan : PlainPlan) (count : ℕ) (final : Made) (made :
           first = first_is final plan.blocks made.blocks block m.before m.after m.stands;
           operations =
               operations_are final plan.blocks made.blocks block m.before m.after m.stands
-              ∙ (behind_added m.before.draft.operations.items m.between.draft.operations.items m.after.draft.operations.items quiet.more (settings (sets_of m.between.values.log.items m.between.values.current.items)) quiet.adds m.logged.sets.operations
+              ∙ (behind_added m.before.draft.operations.items m.between.draft.operations.items m.after.draft.operations.items quiet.more (settings (sets_pushed m.between.values.log.items m.between.values.current.items)) quiet.adds m.logged.sets.operations
               ∙ ap (λ (l : List Operation). drop (length m.before.draft.operations.items) m.between.draft.operations.items ++ l) (settings_made m.between.values.log.items m.between.values.current.items));
           ordered = ordered;
           quiet = quiet_added m.before.draft m.between.draft quiet;

@@ -7,7 +7,7 @@ use Rattle.dh_meaning.specs.Paths.{copies_in}
 use Rattle.dh_tree.specs.Memories.{same_entity}
 use Rattle.dh_tree.specs.PlainTrees.{Term, Action, action, ActionForm, lets, lets_memory, views, assigns, stores, reduces, calls, blocks, decides, repeats, counts, MaybeAction, no_action, one_action, Actions, no_actions, action_then, Groups, no_groups, group_then, Program}
 use Rattle.dh_tree.specs.ViewOffsets.{offsets_of}
-use Rattle.dh_code.specs.Declarations.{Declaration, Factored, all_declarations_of, all_hidden_declared, declaration_in, factored, form_factored, groups_factored, hidden_declarations, hidden_declared, other_factored, part_factored, declarations, factors_inside, factors_of, form_declarations, groups_declarations, other_declarations, part_declarations, placing_of}
+use Rattle.dh_code.specs.Declarations.{Declaration, Factored, all_declarations_of, all_hidden_declared, declaration_in, factored, form_factored, groups_factored, hidden_declarations, hidden_declared, other_factored, part_factored, declarations, factors_inside, declared_factors, form_declarations, groups_declarations, other_declarations, part_declarations, placing_of}
 
 -- factors of two or more
 abbrev AreMany : List ℕ → Type 0
@@ -125,15 +125,15 @@ some_copies (f ∷ fs) h = product f (copies_in fs) h.0 (some_copies fs h.1)
         never e = omega (arith, e)
     product (suc a) (suc b) l k = omega arith
 
-many_in : (ds : List Declaration) (entity : ℕ) → AllMany ds → AreMany (factors_of (declaration_in ds entity))
+many_in : (ds : List Declaration) (entity : ℕ) → AllMany ds → AreMany (declared_factors (declaration_in ds entity))
 many_in [] entity h = tt
 many_in (d ∷ ds) entity h = by (same_entity d.entity (Some entity)) (many_in ds entity h.1)
   where
-    by : (b : Bool) → AreMany (factors_of (declaration_in ds entity)) → AreMany (factors_of (if b then Some d else declaration_in ds entity))
+    by : (b : Bool) → AreMany (declared_factors (declaration_in ds entity)) → AreMany (declared_factors (if b then Some d else declaration_in ds entity))
     by true rest = h.0
     by false rest = rest
 
 pub placing_copies : (p : Program) (entity : ℕ) → 1 ≤ copies_in ((placing_of p).factors entity)
 placing_copies p entity =
-    some_copies (factors_of (declaration_in (all_declarations_of p) entity)) (many_in (all_declarations_of p) entity
+    some_copies (declared_factors (declaration_in (all_declarations_of p) entity)) (many_in (all_declarations_of p) entity
     (both HasMany (declarations [] p.body) (hidden_declarations p) (all_many [] p.body tt) (hidden_many (length p.entities) (factored [] p.body) (views_many [] p.body tt))))

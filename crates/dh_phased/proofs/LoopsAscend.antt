@@ -11,7 +11,7 @@ use Rattle.dh_tree.specs.Scopes.{Scope, declare, leave, past, at_end, form_at_en
 use Rattle.dh_base.specs.declared.places.Place.{Place}
 use Rattle.dh_meaning.specs.AccessNumbers.{accesses_of, part_accesses, term_accesses}
 use Rattle.dh_meaning.specs.Core.{Turning}
-use Rattle.dh_meaning.specs.CoreOf.{Known, entity_number, form_of, turning_of}
+use Rattle.dh_meaning.specs.CoreOf.{Known, entity_number, action_form_of, turning_of}
 use Rattle.dh_meaning.specs.Phases.{Located, Phase, turns, decided, of_list, are_straight, choice_phases, folded, form_phases, groups_phases, joined, located, one_command, other_phases, parts_phases, phases, turn_count, turn_phases}
 use Rattle.dh_meaning.specs.Sites.{Around, in_arm, in_loop, loop_of}
 use Rattle.dh_gathering.specs.MadeBlocks.{IsAmong}
@@ -99,16 +99,16 @@ module _ (all : List Counter) where
         by true = loops_within low high (loops_in_list known ps ++ loops_in_list known qs) whole
         by false = nil (loops_in_list known ps ++ loops_in_list known qs) whole
 
-    turn_ascend : (low high : ℕ) (loop : Located) (count : ℕ) (qs : List Phase) → low ≤ (turning_of known count (form_of loop.command)).iterator → IsLoopOf all (turning_of known count (form_of loop.command))
-        → Ascend (suc (turning_of known count (form_of loop.command)).iterator) high qs → Ascend low high (turn_phases loop count qs)
-    turn_ascend low high loop count [] at is h = least low (turning_of known count (form_of loop.command)).iterator high at h
+    turn_ascend : (low high : ℕ) (loop : Located) (count : ℕ) (qs : List Phase) → low ≤ (turning_of known count (action_form_of loop.command)).iterator → IsLoopOf all (turning_of known count (action_form_of loop.command))
+        → Ascend (suc (turning_of known count (action_form_of loop.command)).iterator) high qs → Ascend low high (turn_phases loop count qs)
+    turn_ascend low high loop count [] at is h = least low (turning_of known count (action_form_of loop.command)).iterator high at h
       where
         least : (n m k : ℕ) → n ≤ m → suc m ≤ k → n ≤ k
         least n m k e f = omega (arith, e, f)
     turn_ascend low high loop count (q ∷ qs) at is h = by (count == 0)
       where
         own : Turning
-        own = turning_of known count (form_of loop.command)
+        own = turning_of known count (action_form_of loop.command)
 
         whole : LoopsFrom all low high (own ∷ loops_in_list known (q ∷ qs))
         whole = (at, (is, h))

@@ -17,7 +17,7 @@ use Rattle.dh_plan.specs.PlanPhases.{IsIteratorOf}
 use Rattle.dh_expressions.specs.declared.scenes.Scene.{Scene}
 use Rattle.dh_blocks.specs.SlotsOfScene.{placing_in}
 use Rattle.dh_gathering.specs.LoopCounters.{IsCounting, LoopsCount, LoopsCountIn, loops_in, loops_of}
-use Rattle.dh_gathering.specs.MadeBlocks.{IsAmong, counter_in as register_of}
+use Rattle.dh_gathering.specs.MadeBlocks.{IsAmong, counter_register as register_of}
 use Rattle.dh_phased.specs.ProgramLoops.{HasOwnLoops, LoopsAreOwn}
 use Rattle.dh_phased.proofs.CopiesSome.{placing_copies}
 use Rattle.dh_phased.proofs.CountersAscend.{CountersFrom, counter_found, size}

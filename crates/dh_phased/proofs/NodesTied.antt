@@ -9,16 +9,16 @@ use Rattle.dh_expressions.specs.declared.scenes.Scene.{Scene}
 use Rattle.dh_blocks.specs.SlotsOfScene.{placing_in}
 use Rattle.dh_gathering.specs.declared.blocks.Made.{Made}
 use Rattle.dh_gathering.specs.LoopCounters.{AreCounting, IsCounting, LoopsCount, LoopsCountIn}
-use Rattle.dh_gathering.specs.MadeBlocks.{IsStraightBlock, IsTestBlock, counter_in, made_tie}
+use Rattle.dh_gathering.specs.MadeBlocks.{IsStraightBlock, IsTestBlock, counter_register, made_tie}
 
-pub counting_more : (scene : Scene) (rounds : List Round) (r : Round) → AreCounting scene (placing_in scene) rounds → IsCounting scene (placing_in scene) r.loop → r.counter ≡ counter_in scene r.loop → AreCounting scene (placing_in scene) (rounds ++ r ∷ [])
+pub counting_more : (scene : Scene) (rounds : List Round) (r : Round) → AreCounting scene (placing_in scene) rounds → IsCounting scene (placing_in scene) r.loop → r.counter ≡ counter_register scene r.loop → AreCounting scene (placing_in scene) (rounds ++ r ∷ [])
 counting_more scene [] r all h is = ((h, is), tt)
 counting_more scene (x ∷ rounds) r all h is = (all.0, counting_more scene rounds r all.1 h is)
 
 module _ (scene : Scene) (final : Made) (tie : Tie)
     (of_block : (rounds : List Round) (cs : CoreCommands) (block : ℕ) → AreCounting scene (placing_in scene) rounds → IsStraightBlock scene final rounds cs block → tie.of_block rounds cs block)
     (of_test : (rounds : List Round) (test : CoreTerm) (flag block : ℕ) → AreCounting scene (placing_in scene) rounds → IsTestBlock scene final rounds test flag block → tie.of_test rounds test flag block)
-    (of_loop : (rounds : List Round) (loop : Turning) (counter : ℕ) → AreCounting scene (placing_in scene) rounds → IsCounting scene (placing_in scene) loop → (IsIteratorOf rounds loop.iterator → ⊥) → counter ≡ counter_in scene loop
+    (of_loop : (rounds : List Round) (loop : Turning) (counter : ℕ) → AreCounting scene (placing_in scene) rounds → IsCounting scene (placing_in scene) loop → (IsIteratorOf rounds loop.iterator → ⊥) → counter ≡ counter_register scene loop
     → tie.of_loop rounds loop counter) where
   mutual
     pub nodes_tied : (rounds : List Round) (qs : CorePhases) (ns : Nodes) → AreCounting scene (placing_in scene) rounds → LoopsCount scene (placing_in scene) rounds qs → AreNodesOf (made_tie scene final) rounds qs ns → AreNodesOf tie rounds qs ns

@@ -15,7 +15,7 @@ use Rattle.dh_expressions.specs.declared.scenes.Scene.{Scene}
 use Rattle.dh_expressions.specs.Evaluated.{known_in}
 use Rattle.dh_laid.specs.BlockSites.{MadeEach}
 use Rattle.dh_laid.specs.LaidQuiet.{StandsIn}
-use Rattle.dh_blocks.specs.BlockMade.{IsMade, IsTop}
+use Rattle.dh_blocks.specs.BlockMade.{IsBlockMade, IsTop}
 use Rattle.dh_blocks.specs.SlotsOfScene.{HoldsVariables, placing_in, slots_in}
 use Rattle.dh_blocks.specs.TestMade.{DoesTest, IsTestMade}
 use Rattle.dh_blocks.proofs.TestDone.{made_tests_do}
@@ -24,7 +24,7 @@ use Rattle.dh_charged.specs.TouchedBlocks.{HaveCounters, StandsInPlan}
 use Rattle.dh_charged.proofs.BlocksTouch.{straights_touch, tests_touch}
 use Rattle.dh_gathering.specs.declared.blocks.Made.{Made}
 use Rattle.dh_gathering.specs.LoopCounters.{AreCounting, IsCounting}
-use Rattle.dh_gathering.specs.MadeBlocks.{IsStraightBlock, IsTestBlock, counter_in}
+use Rattle.dh_gathering.specs.MadeBlocks.{IsStraightBlock, IsTestBlock, counter_register}
 use Rattle.dh_gathering.proofs.CountersApart.{loop_register}
 use Rattle.dh_phased.specs.DonePhases.{HasMade, HasSoundBlocks, PhasesAreDone}
 use Rattle.dh_phased.proofs.BlocksMade.{straight_is_made, test_is_made}
@@ -46,8 +46,8 @@ module _ (scene : Scene) (plan : PlainPlan) (count : ℕ) (final : Made) (made :
   straight_does rounds cs block counting s =
       let k = sound.straights rounds cs block s counting in
       let top = rounds_are_top scene rounds s.made.around s.made.round s.made.stands_in in
-      let is : IsMade scene s.made.around plan count block (k.done ++ k.folds) s.made.before s.made.between =
-      subst (λ (ls : List Located). IsMade scene s.made.around plan count block ls s.made.before s.made.between) k.are (straight_is_made scene plan count final made rounds s.located block s.made k.ordered) in
+      let is : IsBlockMade scene s.made.around plan count block (k.done ++ k.folds) s.made.before s.made.between =
+      subst (λ (ls : List Located). IsBlockMade scene s.made.around plan count block ls s.made.before s.made.between) k.are (straight_is_made scene plan count final made rounds s.located block s.made k.ordered) in
       let each : MadeEach scene s.made.around (k.done ++ k.folds) s.made.before s.made.between = subst (λ (ls : List Located). MadeEach scene s.made.around ls s.made.before s.made.between) k.are s.made.made in
       subst (λ (c : CoreCommands). DoesBlock plan (slots_in scene) rounds (commands c) block × Touches plan (slots_in scene) rounds (commands c) None block)
       (sym (s.are ∙ ap (λ (ls : List Located). core_commands (known_in scene) ls) k.are)) (
@@ -68,7 +68,7 @@ module _ (scene : Scene) (plan : PlainPlan) (count : ℕ) (final : Made) (made :
       (sym (s.is ∙ ap (λ (o : Option Term). core_test_of (known_in scene) s.tested.first o) s.term_is)) (does.does, (does.sets, touches))
 
   -- the register of a loop counts it
-  loop_does : (rounds : List Round) (loop : Turning) (counter : ℕ) → AreCounting scene (placing_in scene) rounds → IsCounting scene (placing_in scene) loop → (IsIteratorOf rounds loop.iterator → ⊥) → counter ≡ counter_in scene loop
+  loop_does : (rounds : List Round) (loop : Turning) (counter : ℕ) → AreCounting scene (placing_in scene) rounds → IsCounting scene (placing_in scene) loop → (IsIteratorOf rounds loop.iterator → ⊥) → counter ≡ counter_register scene loop
       → IsLoopRegister (slots_in scene) rounds loop counter
   loop_does rounds loop counter all counts other is =
       subst (λ (n : ℕ). IsLoopRegister (slots_in scene) rounds loop n) (sym is) (loop_register scene (placing_in scene) (slots_in scene) count (slots_told scene) holds.placing rounds loop all counts other)

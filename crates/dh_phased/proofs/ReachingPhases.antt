@@ -8,7 +8,7 @@ use Rattle.dh_tree.specs.Seen.{program_seen}
 use Rattle.dh_tree.specs.Targets.{FormHasTargets, GroupsHaveTargets, HasTargets, IsAccess, OtherHasTargets, PartHasTargets}
 use Rattle.dh_meaning.specs.AccessNumbers.{accesses_of, part_accesses, term_accesses}
 use Rattle.dh_meaning.specs.Core.{Turning}
-use Rattle.dh_meaning.specs.CoreOf.{Known, form_of, turning_of}
+use Rattle.dh_meaning.specs.CoreOf.{Known, action_form_of, turning_of}
 use Rattle.dh_meaning.specs.Phases.{Located, located, Phase, straight, turns, repeated, decided, Phases, no_phases, phase, of_list, one_straight, joined, are_straight, one_command, folded, turn_count, turn_phases, choice_phases, phases, phases_of, form_phases, other_phases, groups_phases, parts_phases}
 use Rattle.dh_meaning.specs.Sites.{Around, in_arm, in_loop, loop_of, nothing_around}
 use Rattle.dh_expressions.specs.Evaluated.{known_in}
@@ -133,7 +133,7 @@ module _ (known : Known) (loops : List Turning) (cs : List Located) where
   mutual
     found_in : (p : Phase) (round : List Turning) → PhaseReaches p → StraightInLoops known round p loops cs → HaveTargets cs
     found_in (straight ds) round h s = subst (λ (l : List Located). HaveTargets l) s.1 h
-    found_in (turns loop count body) round h s = found_all body (round ++ turning_of known count (form_of loop.command) ∷ []) h s
+    found_in (turns loop count body) round h s = found_all body (round ++ turning_of known count (action_form_of loop.command) ∷ []) h s
     found_in (repeated loop body) round h s = found_all body round h s
     found_in (decided choice chosen other) round h (inl s) = found_all chosen round h.0 s
     found_in (decided choice chosen other) round h (inr s) = found_all other round h.1 s

@@ -11,7 +11,7 @@ use Rattle.dh_plan.specs.Correspondence.{Round}
 use Rattle.dh_expressions.specs.declared.paths.Level.{Level}
 use Rattle.dh_expressions.specs.Levels.{levels_inside, spread_level}
 use Rattle.dh_expressions.specs.Shown.{guard_or_none}
-use Rattle.dh_commands.specs.ShownVariables.{factors_of}
+use Rattle.dh_commands.specs.ShownVariables.{level_factors}
 use Rattle.dh_blocks.specs.PathsOfLevels.{AreSpread}
 use Rattle.dh_gathering.specs.MadeBlocks.{AreWithin, count_inside}
 use Rattle.dh_gathering.specs.PlacedPhases.{loops_round}
@@ -31,20 +31,20 @@ copies_more (g ∷ fs) f = by g (copies_in fs) (copies_in (fs ++ f ∷ [])) (cop
 abbrev inner_level : (entity : Option ℕ) → (factor : ℕ) → Level
 inner_level entity factor = record { entity = entity; factor = factor; stride = 1 }
 
-factors_more : (entity : Option ℕ) (factor : ℕ) (ls : List Level) → factors_of (map (spread_level factor) ls ++ inner_level entity factor ∷ []) ≡ factors_of ls ++ factor ∷ []
+factors_more : (entity : Option ℕ) (factor : ℕ) (ls : List Level) → level_factors (map (spread_level factor) ls ++ inner_level entity factor ∷ []) ≡ level_factors ls ++ factor ∷ []
 factors_more entity factor [] = refl
 factors_more entity factor (l ∷ ls) = ap (λ (fs : List ℕ). l.factor ∷ fs) (factors_more entity factor ls)
 
 -- strides that are not cut
-spread_more : (entity : Option ℕ) (factor : ℕ) (ls : List Level) → 1 < factor → AreSpread ls → copies_in (factors_of ls) * factor < 2 ^ 63 → AreSpread (map (spread_level factor) ls ++ inner_level entity factor ∷ [])
+spread_more : (entity : Option ℕ) (factor : ℕ) (ls : List Level) → 1 < factor → AreSpread ls → copies_in (level_factors ls) * factor < 2 ^ 63 → AreSpread (map (spread_level factor) ls ++ inner_level entity factor ∷ [])
 spread_more entity factor [] many s few = (many, (refl, tt))
 spread_more entity factor (l ∷ ls) many s few = (s.0, (stride, spread_more entity factor ls many s.1.1 within))
   where
     less : (k c : ℕ) → 1 < k → k * c * factor < 2 ^ 63 → c * factor < 2 ^ 63
     less k c m f = let r : 1 * (c * factor) ≤ k * (c * factor) = mul-le-mul_right (c * factor) (omega (arith, m)) in omega (arith, r, f)
 
-    within : copies_in (factors_of ls) * factor < 2 ^ 63
-    within = less l.factor (copies_in (factors_of ls)) s.0 few
+    within : copies_in (level_factors ls) * factor < 2 ^ 63
+    within = less l.factor (copies_in (level_factors ls)) s.0 few
 
     kept : (n m : ℕ) → n ≡ m → m * factor < 2 ^ 63 → min (n * factor) (2 ^ 64 - 1) ≡ m * factor
     kept n m e f = ap (λ (k : ℕ). min (k * factor) (2 ^ 64 - 1)) e ∙ min-eq_left (small (m * factor) f)
@@ -52,10 +52,10 @@ spread_more entity factor (l ∷ ls) many s few = (s.0, (stride, spread_more ent
         small : (k : ℕ) → k < 2 ^ 63 → k ≤ 2 ^ 64 - 1
         small k g = omega (arith, g)
 
-    stride : min (l.stride * factor) (2 ^ 64 - 1) ≡ copies_in (factors_of (map (spread_level factor) ls ++ inner_level entity factor ∷ []))
+    stride : min (l.stride * factor) (2 ^ 64 - 1) ≡ copies_in (level_factors (map (spread_level factor) ls ++ inner_level entity factor ∷ []))
     stride =
-        kept l.stride (copies_in (factors_of ls)) s.1.0 within
-        ∙ (sym (copies_more (factors_of ls) factor) ∙ sym (ap (λ (fs : List ℕ). copies_in fs) (factors_more entity factor ls)))
+        kept l.stride (copies_in (level_factors ls)) s.1.0 within
+        ∙ (sym (copies_more (level_factors ls) factor) ∙ sym (ap (λ (fs : List ℕ). copies_in fs) (factors_more entity factor ls)))
 
 -- a number of paths only grows, up to the greatest
 count_least : (count factor : ℕ) → count ≤ 2 ^ 64 - 1 → count ≤ count_inside count factor
@@ -105,11 +105,11 @@ paths_least levels count (r ∷ rounds) inner paths top (entity, (is, h)) =
 -- behind further loops
 record Inside (levels : List Level) (rounds : List Round) (inner : List Level) (paths : ℕ) : Type 0 where
   spread : AreSpread inner
-  counted : paths ≡ copies_in (factors_of inner)
-  factors_are : factors_of inner ≡ factors_of levels ++ factors (loops_round rounds)
+  counted : paths ≡ copies_in (level_factors inner)
+  factors_are : level_factors inner ≡ level_factors levels ++ factors (loops_round rounds)
 
 abbrev Goes : List Round → List Level → ℕ → Type 0
-Goes rounds inner paths = (levels : List Level) (count : ℕ) → AreSpread levels → count ≡ copies_in (factors_of levels) → count ≤ 2 ^ 64 - 1 → AreWithin levels count rounds inner paths → Inside levels rounds inner paths
+Goes rounds inner paths = (levels : List Level) (count : ℕ) → AreSpread levels → count ≡ copies_in (level_factors levels) → count ≤ 2 ^ 64 - 1 → AreWithin levels count rounds inner paths → Inside levels rounds inner paths
 
 inside_step : (r : Round) (rounds : List Round) (inner : List Level) (paths : ℕ) → paths < 2 ^ 63 → Goes rounds inner paths → Goes (r ∷ rounds) inner paths
 inside_step r rounds inner paths few go levels count s e top (entity, (is, h)) = by (nat_le r.loop.factor 1) (nat_lt 1 r.loop.factor) refl refl h
@@ -148,13 +148,13 @@ inside_step r rounds inner paths few go levels count s e top (entity, (is, h)) =
     by false false a c k = absurd (neither a c)
     by true false a c k =
         let i = go levels count s e top k in
-        record { spread = i.spread; counted = i.counted; factors_are = i.factors_are ∙ ap (λ (b : Bool). factors_of levels ++ (if b then r.loop.factor ∷ factors (loops_round rounds) else factors (loops_round rounds))) (sym c) }
+        record { spread = i.spread; counted = i.counted; factors_are = i.factors_are ∙ ap (λ (b : Bool). level_factors levels ++ (if b then r.loop.factor ∷ factors (loops_round rounds) else factors (loops_round rounds))) (sym c) }
     by false true a c k =
         let within : count * r.loop.factor < 2 ^ 63 = uncut (count * r.loop.factor) (paths_least (map (spread_level r.loop.factor) levels ++ record { entity = entity; factor = r.loop.factor; stride = 1 } ∷ []) (min (count * r.loop.factor) (2 ^ 64 - 1)) rounds inner paths (most (count * r.loop.factor)) k) in
-        let copies : copies_in (factors_of levels) * r.loop.factor < 2 ^ 63 = subst (λ (n : ℕ). n * r.loop.factor < 2 ^ 63) e within in
+        let copies : copies_in (level_factors levels) * r.loop.factor < 2 ^ 63 = subst (λ (n : ℕ). n * r.loop.factor < 2 ^ 63) e within in
         let i = go (map (spread_level r.loop.factor) levels ++ record { entity = entity; factor = r.loop.factor; stride = 1 } ∷ []) (min (count * r.loop.factor) (2 ^ 64 - 1)) (spread_more entity r.loop.factor levels (many c) s copies)
         (min-eq_left (small (count * r.loop.factor) within)
-        ∙ (ap (λ (n : ℕ). n * r.loop.factor) e ∙ (sym (copies_more (factors_of levels) r.loop.factor) ∙ sym (ap (λ (fs : List ℕ). copies_in fs) (factors_more entity r.loop.factor levels)))))
+        ∙ (ap (λ (n : ℕ). n * r.loop.factor) e ∙ (sym (copies_more (level_factors levels) r.loop.factor) ∙ sym (ap (λ (fs : List ℕ). copies_in fs) (factors_more entity r.loop.factor levels)))))
         (most (count * r.loop.factor)) k in
         record {
           spread = i.spread;
@@ -162,15 +162,15 @@ inside_step r rounds inner paths few go levels count s e top (entity, (is, h)) =
           factors_are =
               i.factors_are
               ∙ (ap (λ (fs : List ℕ). fs ++ factors (loops_round rounds)) (factors_more entity r.loop.factor levels)
-              ∙ (append_assoc (factors_of levels) (r.loop.factor ∷ []) (factors (loops_round rounds))
-              ∙ ap (λ (b : Bool). factors_of levels ++ (if b then r.loop.factor ∷ factors (loops_round rounds) else factors (loops_round rounds))) (sym c)));
+              ∙ (append_assoc (level_factors levels) (r.loop.factor ∷ []) (factors (loops_round rounds))
+              ∙ ap (λ (b : Bool). level_factors levels ++ (if b then r.loop.factor ∷ factors (loops_round rounds) else factors (loops_round rounds))) (sym c)));
         }
 
 goes : (rounds : List Round) (inner : List Level) (paths : ℕ) → paths < 2 ^ 63 → Goes rounds inner paths
 goes [] inner paths few levels count s e top h = record {
   spread = subst (λ (ls : List Level). AreSpread ls) (sym h.0) s;
-  counted = h.1 ∙ (e ∙ ap (λ (ls : List Level). copies_in (factors_of ls)) (sym h.0));
-  factors_are = ap (λ (ls : List Level). factors_of ls) h.0 ∙ sym (append-nil (factors_of levels));
+  counted = h.1 ∙ (e ∙ ap (λ (ls : List Level). copies_in (level_factors ls)) (sym h.0));
+  factors_are = ap (λ (ls : List Level). level_factors ls) h.0 ∙ sym (append-nil (level_factors levels));
 }
 goes (r ∷ rounds) inner paths few levels count s e top h = inside_step r rounds inner paths few (goes rounds inner paths few) levels count s e top h
 

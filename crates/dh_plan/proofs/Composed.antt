@@ -17,7 +17,7 @@ use Rattle.dh_plan.specs.PassesCompose.{PassesCompose}
 use Rattle.dh_plan.specs.PlainPlans.{Node, block_node, turns_node, loop_node, choice_node, threads_node, Nodes, no_nodes, node_then, PlainPlan}
 use Rattle.dh_plan.specs.PlanKinds.{Names}
 use Rattle.dh_plan.specs.PlanPhases.{AreNodesOf, IsNodeOf}
-use Rattle.dh_plan.specs.PlanRuns.{Place, blocks_at}
+use Rattle.dh_plan.specs.PlanRuns.{PlanPlace, blocks_at}
 use Rattle.dh_plan.specs.PlayedPlans.{longest, plan_run, times_phases, WritesLast, PlaysPlan}
 use Rattle.dh_plan.specs.SoundPlans.{blocks_of, node_blocks}
 use Rattle.dh_plan.proofs.LeastLengths.{has_least_lengths}
@@ -28,7 +28,7 @@ use Rattle.dh_plan.proofs.ValuesAlike.{all_left, all_right}
 pub one_run : (u q : PlainPlan) (lengths : List ℕ) (start : List (List ℕ)) → RunTheSame u q → Fits u.table start → plan_run q lengths start ≡ plan_run u lengths start
 one_run u q lengths start same fits =
     same_run (plan_run q lengths start) (plan_run u lengths start) (λ n. same.outcome start n fits) (λ n. same.memories_same start n fits)
-    (λ n. ap (λ (x : Place). longest lengths (blocks_at x)) (same.places start n fits))
+    (λ n. ap (λ (x : PlanPlace). longest lengths (blocks_at x)) (same.places start n fits))
 
 -- so a net that plays the one plays the other
 pub plays_before : (u q : PlainPlan) (lengths : List ℕ) (net : Net) → IsAddressingOf u q → PlaysPlan q lengths net → PlaysPlan u lengths net

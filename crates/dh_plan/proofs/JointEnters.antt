@@ -19,25 +19,25 @@ use Rattle.dh_plan.specs.PlainPlans.{Node, block_node, turns_node, loop_node, ch
 use Rattle.dh_plan.specs.Blocks.{kind_at}
 use Rattle.dh_plan.specs.Correspondence.{Slots, FitKinds, Holding, Round}
 use Rattle.dh_plan.specs.PlanPhases.{IsCounterOf, IsIteratorOf, IsLoopRegister, IsNodeOf, Tie, both_ties, does_phases}
-use Rattle.dh_plan.specs.PlanRuns.{turn_then, test_then, pick_then, ended, Next, next, enter, enter_node, next_of, flag_holds, counted_up}
+use Rattle.dh_plan.specs.PlanRuns.{turn_then, test_then, pick_then, ended, PlanNext, plan_next, enter, enter_node, plan_next_of, flag_holds, counted_up}
 use Rattle.dh_plan.specs.SoundPlans.{CountsTurns, KeepsCounter, IsNeverSet, countings, node_countings}
 use Rattle.dh_plan.proofs.ValuesAlike.{all_left, all_right}
 use Rattle.dh_plan.proofs.SourceMoves.{begun_other, begun_here}
 use Rattle.dh_plan.proofs.JointPlaces.{Joint, j_over, j_phases, j_turn, j_again, round, around, paths_at, source_todo, plan_todo, s_ended, s_block, s_loop, s_pick, GoodCounters, counting, NodesRun, TestRuns, Valid, Live, Met, counter_before, counter_last, counter_split, turned_moves}
 
 -- both take the same arm
-pub met_if : (plan : PlainPlan) (slots : Slots) (extra : Tie) (t u : Bool) → u ≡ t → (a b : source.Next) (c d : Next) → (t ≡ true → Met plan slots extra a c) → (t ≡ false → Met plan slots extra b d)
+pub met_if : (plan : PlainPlan) (slots : Slots) (extra : Tie) (t u : Bool) → u ≡ t → (a b : source.RunNext) (c d : PlanNext) → (t ≡ true → Met plan slots extra a c) → (t ≡ false → Met plan slots extra b d)
     → Met plan slots extra (if t then a else b) (if u then c else d)
 met_if plan slots extra true u e a b c d f g = subst (λ (v : Bool). Met plan slots extra a (if v then c else d)) (sym e) (f refl)
 met_if plan slots extra false u e a b c d f g = subst (λ (v : Bool). Met plan slots extra b (if v then c else d)) (sym e) (g refl)
 
 -- the one takes its first arm where the other takes its second
-pub met_unless : (plan : PlainPlan) (slots : Slots) (extra : Tie) (t u : Bool) → u ≡ not t → (a b : source.Next) (c d : Next) → (t ≡ true → Met plan slots extra a d) → (t ≡ false → Met plan slots extra b c)
+pub met_unless : (plan : PlainPlan) (slots : Slots) (extra : Tie) (t u : Bool) → u ≡ not t → (a b : source.RunNext) (c d : PlanNext) → (t ≡ true → Met plan slots extra a d) → (t ≡ false → Met plan slots extra b c)
     → Met plan slots extra (if t then a else b) (if u then c else d)
 met_unless plan slots extra true u e a b c d f g = subst (λ (v : Bool). Met plan slots extra a (if v then c else d)) (sym e) (f refl)
 met_unless plan slots extra false u e a b c d f g = subst (λ (v : Bool). Met plan slots extra b (if v then c else d)) (sym e) (g refl)
 
-pub met_end : (plan : PlainPlan) (slots : Slots) (extra : Tie) (variables : Variables) (registers : List ℕ) → Met plan slots extra (source.next source.ended variables) (next ended registers)
+pub met_end : (plan : PlainPlan) (slots : Slots) (extra : Tie) (variables : Variables) (registers : List ℕ) → Met plan slots extra (source.next source.ended variables) (plan_next ended registers)
 met_end plan slots extra variables registers = record { stand = s_ended; valid = tt; source_is = refl; plan_is = refl; live = tt }
 
 -- Registers.
@@ -176,13 +176,13 @@ leave_live plan slots extra k loop counter turn ps ns registers variables own co
 
 abbrev pub IntoNodes : PlainPlan → Slots → Tie → CorePhases → Nodes → Type 0
 IntoNodes plan slots extra ps ns =
-    (k : Joint) (behind : source.Next) (beyond : Next) (registers : List ℕ) (variables : Variables)
+    (k : Joint) (behind : source.RunNext) (beyond : PlanNext) (registers : List ℕ) (variables : Variables)
     → NodesRun plan slots extra (around k) ps ns → Valid plan slots extra k → Met plan slots extra behind beyond → Live plan slots extra k registers variables
     → Met plan slots extra (source.enter (paths_at k) ps (source_todo k) behind variables) (enter ns (plan_todo k) beyond registers)
 
 abbrev pub IntoNode : PlainPlan → Slots → Tie → CorePhase → Node → Type 0
 IntoNode plan slots extra p n =
-    (k : Joint) (ps : CorePhases) (ns : Nodes) (behind : source.Next) (beyond : Next) (registers : List ℕ) (variables : Variables)
+    (k : Joint) (ps : CorePhases) (ns : Nodes) (behind : source.RunNext) (beyond : PlanNext) (registers : List ℕ) (variables : Variables)
     → IsNodeOf (both_ties (does_phases plan slots) extra) (around k) p n → GoodCounters plan (node_countings n) → NodesRun plan slots extra (around k) ps ns → Valid plan slots extra k
     → Met plan slots extra behind beyond → Live plan slots extra k registers variables
     → Met plan slots extra (source.enter_phase (paths_at k) p (source_todo (j_phases ps ns k)) behind variables) (enter_node n (plan_todo (j_phases ps ns k)) beyond registers)
@@ -250,7 +250,7 @@ pub more_turns : (turn turns : ℕ) → nat_lt (suc turn) turns ≡ true → suc
 more_turns turn turns h = grind (arith, nat_tests)
 
 pub behind_met : (plan : PlainPlan) (slots : Slots) (extra : Tie) (b : Begun) (k : Joint) (registers : List ℕ) (variables : Variables) → Valid plan slots extra k → Live plan slots extra k registers variables
-    → Met plan slots extra (source.next_of b (source_todo k) variables) (next_of plan.registers (plan_todo k) registers)
+    → Met plan slots extra (source.next_of b (source_todo k) variables) (plan_next_of plan.registers (plan_todo k) registers)
 behind_met plan slots extra b j_over registers variables valid live = met_end plan slots extra variables registers
 behind_met plan slots extra b (j_phases ps ns k) registers variables valid live =
     into_nodes plan slots extra ps ns k _ _ registers variables valid.0 valid.1 (behind_met plan slots extra b k registers variables valid.1 live) live
@@ -258,7 +258,7 @@ behind_met plan slots extra b (j_turn loop counter turn ps ns k) registers varia
     let vs = turn_begun loop (suc turn) (inner_paths (paths_at k) loop) variables in
     let rs = counted_up plan.registers counter registers in
     met_unless plan slots extra (nat_lt (suc turn) loop.count) (slice_index registers counter == loop.count - 1) (last_turn _ turn loop.count live.1.0.1.counts live.1.0.1.below) _ _ _ _
-    (λ more. into_nodes plan slots extra ps ns (j_turn loop counter (suc turn) ps ns k) (source.next source.ended variables) (next ended rs) rs vs valid.1.0 valid (met_end plan slots extra variables rs)
+    (λ more. into_nodes plan slots extra ps ns (j_turn loop counter (suc turn) ps ns k) (source.next source.ended variables) (plan_next ended rs) rs vs valid.1.0 valid (met_end plan slots extra variables rs)
     (again_live plan slots extra k loop counter turn ps ns registers variables valid.0.0.0 valid.0.1.0 (more_turns turn loop.count more) live))
     (λ last. behind_met plan slots extra b k (slice_set registers counter 0) variables valid.1.1 (leave_live plan slots extra k loop counter turn ps ns registers variables valid.0.0.0 valid.0.1.0 live))
 behind_met plan slots extra b (j_again test ps block flag ns k) registers variables valid live =
@@ -268,7 +268,7 @@ behind_met plan slots extra b (j_again test ps block flag ns k) registers variab
 pub loop_met : (plan : PlainPlan) (slots : Slots) (extra : Tie) (b : Begun) (test : CoreTerm) (ps : CorePhases) (block flag : ℕ) (ns : Nodes) (k : Joint) (registers : List ℕ) (variables : Variables)
     → TestRuns plan slots extra (around k) test flag block → NodesRun plan slots extra (around k) ps ns → Valid plan slots extra k → Live plan slots extra k registers variables
     → flag_holds registers flag ≡ goes_on b variables (paths_at k) test
-    → Met plan slots extra (source.next_of b (source.test_then (paths_at k) test ps (source_todo k)) variables) (next_of plan.registers (test_then block flag ns (plan_todo k)) registers)
+    → Met plan slots extra (source.next_of b (source.test_then (paths_at k) test ps (source_todo k)) variables) (plan_next_of plan.registers (test_then block flag ns (plan_todo k)) registers)
 loop_met plan slots extra b test ps block flag ns k registers variables runs nodes valid live tells =
     met_if plan slots extra (goes_on b variables (paths_at k) test) (flag_holds registers flag) tells _ _ _ _
     (λ holds. into_nodes plan slots extra ps ns (j_again test ps block flag ns k) _ _ registers variables nodes (runs, (nodes, valid))
@@ -279,7 +279,7 @@ loop_met plan slots extra b test ps block flag ns k registers variables runs nod
 pub pick_met : (plan : PlainPlan) (slots : Slots) (extra : Tie) (b : Begun) (test : CoreTerm) (chosen other : CorePhases) (flag : ℕ) (ns ms : Nodes) (k : Joint) (registers : List ℕ) (variables : Variables)
     → NodesRun plan slots extra (around k) chosen ns → NodesRun plan slots extra (around k) other ms → Valid plan slots extra k → Live plan slots extra k registers variables
     → flag_holds registers flag ≡ goes_on b variables (paths_at k) test
-    → Met plan slots extra (source.next_of b (source.pick_then (paths_at k) test chosen other (source_todo k)) variables) (next_of plan.registers (pick_then flag ns ms (plan_todo k)) registers)
+    → Met plan slots extra (source.next_of b (source.pick_then (paths_at k) test chosen other (source_todo k)) variables) (plan_next_of plan.registers (pick_then flag ns ms (plan_todo k)) registers)
 pick_met plan slots extra b test chosen other flag ns ms k registers variables first second valid live tells =
     met_if plan slots extra (goes_on b variables (paths_at k) test) (flag_holds registers flag) tells _ _ _ _
     (λ holds. into_nodes plan slots extra chosen ns k _ _ registers variables first valid (behind_met plan slots extra b k registers variables valid live) live)

@@ -12,7 +12,7 @@ use Rattle.dh_meaning.specs.Runs.{inner_paths, iterator_value}
 use Rattle.dh_plan.specs.PlainPlans.{Nodes, PlainPlan}
 use Rattle.dh_plan.specs.Correspondence.{Slots, FitKinds, Holding, Round, paths_within, paths_of_rounds, IsCounted, AreCounted, StandFor}
 use Rattle.dh_plan.specs.PlanPhases.{DoesBlock, SetsFlag, Touches, IsCounterOf, IsIteratorOf, IsLoopRegister, Tie, both_ties, AreNodesOf, does_phases}
-use Rattle.dh_plan.specs.PlanRuns.{Todo, over, nodes_then, turn_then, test_then, again_then, pick_then, Place, ended, at, Next}
+use Rattle.dh_plan.specs.PlanRuns.{PlanTodo, over, nodes_then, turn_then, test_then, again_then, pick_then, PlanPlace, ended, at, PlanNext}
 use Rattle.dh_plan.specs.SoundPlans.{CountsTurns, KeepsCounter, IsNeverSet, Counting, countings}
 
 -- what is still to come of both
@@ -39,13 +39,13 @@ paths_at (j_phases ps ns k) = paths_at k
 paths_at (j_turn loop counter turn ps ns k) = inner_paths (paths_at k) loop
 paths_at (j_again test ps block flag ns k) = paths_at k
 
-abbrev pub source_todo : Joint → source.Todo
+abbrev pub source_todo : Joint → source.RunTodo
 source_todo j_over = source.over
 source_todo (j_phases ps ns k) = source.phases_then (paths_at k) ps (source_todo k)
 source_todo (j_turn loop counter turn ps ns k) = source.turn_then (paths_at k) loop turn ps (source_todo k)
 source_todo (j_again test ps block flag ns k) = source.again_then (paths_at k) test ps (source_todo k)
 
-abbrev pub plan_todo : Joint → Todo
+abbrev pub plan_todo : Joint → PlanTodo
 plan_todo j_over = over
 plan_todo (j_phases ps ns k) = nodes_then ns (plan_todo k)
 plan_todo (j_turn loop counter turn ps ns k) = turn_then counter loop.count ns (plan_todo k)
@@ -58,13 +58,13 @@ pub data Stand : Type 0 where
   s_loop : (test : CoreTerm) → CorePhases → (block flag : ℕ) → Nodes → Joint → Stand
   s_pick : (test : CoreTerm) → (chosen other : CorePhases) → (block flag : ℕ) → (ns ms : Nodes) → Joint → Stand
 
-abbrev pub source_place : Stand → source.Place
+abbrev pub source_place : Stand → source.RunPlace
 source_place s_ended = source.ended
 source_place (s_block cs block ps ns k) = source.at (paths_at k) (commands cs) (source.phases_then (paths_at k) ps (source_todo k))
 source_place (s_loop test ps block flag ns k) = source.at (paths_at k) (tests test) (source.test_then (paths_at k) test ps (source_todo k))
 source_place (s_pick test chosen other block flag ns ms k) = source.at (paths_at k) (tests test) (source.pick_then (paths_at k) test chosen other (source_todo k))
 
-abbrev pub plan_place : Stand → Place
+abbrev pub plan_place : Stand → PlanPlace
 plan_place s_ended = ended
 plan_place (s_block cs block ps ns k) = at block (nodes_then ns (plan_todo k))
 plan_place (s_loop test ps block flag ns k) = at block (test_then block flag ns (plan_todo k))
@@ -133,7 +133,7 @@ LiveStand plan slots extra (s_loop test ps block flag ns k) registers variables 
 LiveStand plan slots extra (s_pick test chosen other block flag ns ms k) registers variables = Live plan slots extra k registers variables
 
 -- both go on to one stand
-pub record Met (plan : PlainPlan) (slots : Slots) (extra : Tie) (n : source.Next) (m : Next) : Type 0 where
+pub record Met (plan : PlainPlan) (slots : Slots) (extra : Tie) (n : source.RunNext) (m : PlanNext) : Type 0 where
   pub stand : Stand
   pub valid : ValidStand plan slots extra stand
   pub source_is : n.place ≡ source_place stand

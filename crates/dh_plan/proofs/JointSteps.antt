@@ -26,7 +26,7 @@ use Rattle.dh_plan.specs.Blocks.{kind_at, is_on, BlockEvent, first_fault, puts_o
 use Rattle.dh_plan.specs.Correspondence.{Slots}
 use Rattle.dh_plan.specs.DoneProgram.{RunsAs, NeverStuck, PhasesMakeRuns}
 use Rattle.dh_plan.specs.PlanPhases.{NamesFault, DoesEffect, DoesBlock, SetsFlag, Touches, DoesPhases, Tie, both_ties, no_tie, AreNodesOf, does_phases}
-use Rattle.dh_plan.specs.PlanRuns.{Todo, nodes_then, test_then, pick_then, Place, at, Next, next, PlanState, plan_stands_at, plan_state_after, plan_step_from, next_plan_state, first_registers, plan_state, start_at, events_of_block, sets_of_block, block_values, outcome_named, next_of, flag_holds}
+use Rattle.dh_plan.specs.PlanRuns.{PlanTodo, nodes_then, test_then, pick_then, PlanPlace, at, PlanNext, plan_next, PlanState, plan_stands_at, plan_state_after, plan_step_from, next_plan_state, first_registers, plan_state, start_at, events_of_block, sets_of_block, block_values, outcome_named, plan_next_of, flag_holds}
 use Rattle.dh_plan.specs.SoundPlans.{CountsTurns, KeepsCounter, countings}
 use Rattle.dh_plan.specs.SourceEffects.{failure_of}
 use Rattle.dh_plan.proofs.Appends.{sets_in_order}
@@ -108,19 +108,19 @@ pub record Alike (plan : PlainPlan) (slots : Slots) (extra : Tie) (s : RunState)
   pub plan_is : t.place ≡ plan_place stand
   pub live : LiveStand plan slots extra stand t.registers s.variables
 
-pub outcomes_same : (st : Stand) → (plan_stands_at 0 [] (next (plan_place st) [])).outcome ≡ (stands_at 0 [] (source.next (source_place st) unset)).outcome
+pub outcomes_same : (st : Stand) → (plan_stands_at 0 [] (plan_next (plan_place st) [])).outcome ≡ (stands_at 0 [] (source.next (source_place st) unset)).outcome
 outcomes_same s_ended = refl
 outcomes_same (s_block cs block ps ns k) = refl
 outcomes_same (s_loop test ps block flag ns k) = refl
 outcomes_same (s_pick test chosen other block flag ns ms k) = refl
 
-pub met_alike : (plan : PlainPlan) (slots : Slots) (extra : Tie) (steps : ℕ) (memories memories' : List (List ℕ)) (n : source.Next) (m : Next) → memories' ≡ memories → Met plan slots extra n m
+pub met_alike : (plan : PlainPlan) (slots : Slots) (extra : Tie) (steps : ℕ) (memories memories' : List (List ℕ)) (n : source.RunNext) (m : PlanNext) → memories' ≡ memories → Met plan slots extra n m
     → Alike plan slots extra (stands_at steps memories n) (plan_stands_at steps memories' m)
 met_alike plan slots extra steps memories memories' n m same met =
     record {
       outcome =
-          ap (λ (p : Place). (plan_stands_at 0 [] (next p [])).outcome) met.plan_is
-          ∙ (outcomes_same met.stand ∙ sym (ap (λ (p : source.Place). (stands_at 0 [] (source.next p unset)).outcome) met.source_is));
+          ap (λ (p : PlanPlace). (plan_stands_at 0 [] (plan_next p [])).outcome) met.plan_is
+          ∙ (outcomes_same met.stand ∙ sym (ap (λ (p : source.RunPlace). (stands_at 0 [] (source.next p unset)).outcome) met.source_is));
       steps = refl;
       memories = same;
       stand = met.stand;
@@ -150,21 +150,21 @@ finish plan slots extra s t e events sets (Some fault) (Some failure) before h f
       live = before.live;
     }
 
-abbrev pub run_at : (steps : ℕ) → List (List ℕ) → Variables → source.Place → RunState
+abbrev pub run_at : (steps : ℕ) → List (List ℕ) → Variables → source.RunPlace → RunState
 run_at steps memories variables p = record { outcome = Going; steps = steps; memories = memories; variables = variables; place = p }
 
-abbrev pub plan_at : (steps : ℕ) → List (List ℕ) → List ℕ → Place → PlanState
+abbrev pub plan_at : (steps : ℕ) → List (List ℕ) → List ℕ → PlanPlace → PlanState
 plan_at steps memories registers p = record { outcome = Going; steps = steps; memories = memories; registers = registers; place = p }
 
 -- a step that does a block, of which it is told where both go on behind it
-pub block_step : (plan : PlainPlan) (slots : Slots) (extra : Tie) (k : Joint) (blk : Block) (block : ℕ) (todo : source.Todo) (rest : Todo)
+pub block_step : (plan : PlainPlan) (slots : Slots) (extra : Tie) (k : Joint) (blk : Block) (block : ℕ) (todo : source.RunTodo) (rest : PlanTodo)
     (steps : ℕ) (memories : List (List ℕ)) (registers : List ℕ) (variables : Variables)
     → DoesBlock plan slots (around k) blk block → Live plan slots extra k registers variables
     → Alike plan slots extra (run_at steps memories variables (source.at (paths_at k) blk todo)) (plan_at steps memories registers (at block rest))
     → NotStuck (stop_after plan.table [] (effect_at plan memories k blk variables).events)
     → (failure_of (effect_at plan memories k blk variables).events ≡ None
     → Met plan slots extra (source.next_of (begun plan memories) todo (effect_at plan memories k blk variables).variables)
-    (next_of plan.registers rest (all_set (sets_of_block plan (start_at plan registers memories) block) registers)))
+    (plan_next_of plan.registers rest (all_set (sets_of_block plan (start_at plan registers memories) block) registers)))
     → Alike plan slots extra (next_state plan.table (run_at steps memories variables (source.at (paths_at k) blk todo))) (next_plan_state plan (plan_at steps memories registers (at block rest)))
 block_step plan slots extra k blk block todo rest steps memories registers variables does live before free on =
     let s = run_at steps memories variables (source.at (paths_at k) blk todo) in
@@ -252,18 +252,18 @@ step_alike plan slots extra (s_pick test chosen other block flag ns ms k) steps 
 -- Whole states.
 
 -- a state that is going, by its parts
-pub run_is : (s : RunState) (p : source.Place) → s.outcome ≡ Going → s.place ≡ p → s ≡ run_at s.steps s.memories s.variables p
+pub run_is : (s : RunState) (p : source.RunPlace) → s.outcome ≡ Going → s.place ≡ p → s ≡ run_at s.steps s.memories s.variables p
 run_is s p going here =
     ap (λ (o : Outcome). record { outcome = o; steps = s.steps; memories = s.memories; variables = s.variables; place = s.place }) going
-    ∙ ap (λ (x : source.Place). run_at s.steps s.memories s.variables x) here
+    ∙ ap (λ (x : source.RunPlace). run_at s.steps s.memories s.variables x) here
 
-pub plan_is_at : (t : PlanState) (steps : ℕ) (memories : List (List ℕ)) (p : Place) → t.outcome ≡ Going → t.steps ≡ steps → t.memories ≡ memories → t.place ≡ p
+pub plan_is_at : (t : PlanState) (steps : ℕ) (memories : List (List ℕ)) (p : PlanPlace) → t.outcome ≡ Going → t.steps ≡ steps → t.memories ≡ memories → t.place ≡ p
     → t ≡ plan_at steps memories t.registers p
 plan_is_at t steps memories p going same_steps same_memories here =
     ap (λ (o : Outcome). record { outcome = o; steps = t.steps; memories = t.memories; registers = t.registers; place = t.place }) going
     ∙ (ap (λ (n : ℕ). plan_at n t.memories t.registers t.place) same_steps
     ∙ (ap (λ (m : List (List ℕ)). plan_at steps m t.registers t.place) same_memories
-    ∙ ap (λ (x : Place). plan_at steps memories t.registers x) here))
+    ∙ ap (λ (x : PlanPlace). plan_at steps memories t.registers x) here))
 
 -- a state is not that a bank is spent
 abbrev pub IsFree : RunState → Type 0

@@ -7,7 +7,7 @@ use Rattle.std.specs.List.{AllByRecursion}
 use Rattle.std.proofs.Math.Seq.{get_or-append_seam}
 use Rattle.std.proofs.lemmas.List.{get_or_append_left, append_assoc}
 use Rattle.dh_plan.specs.declared.operations.Operation.{Operation}
-use Rattle.dh_plan.specs.LegalSchedules.{value_clock, greatest_of, needed_clock, depths_in, IsWithin, least_clocks}
+use Rattle.dh_plan.specs.LegalSchedules.{value_clock, greatest_number, needed_clock, depths_in, IsWithin, least_clocks}
 use Rattle.dh_plan.specs.Ordered.{operation_takes, IsBetween, TakesEarlier}
 use Rattle.dh_plan.specs.ScheduleLaws.{LeastIsLegal}
 use Rattle.dh_plan.proofs.ValuesAlike.{all_map}
@@ -42,7 +42,7 @@ pub needed_same : (first own : ℕ) (os ps : List Operation) (cs ds : List ℕ)
     → ((k : ℕ) → first + k < own → (slice_get os k ≡ slice_get ps k) × (get_or cs k 0 ≡ get_or ds k 0))
     → (o : Operation) → TakesEarlier first own o → needed_clock first os cs o ≡ needed_clock first ps ds o
 needed_same first own os ps cs ds same o early =
-    ap greatest_of (map_same (value_clock first os cs) (value_clock first ps ds) (operation_takes o)
+    ap greatest_number (map_same (value_clock first os cs) (value_clock first ps ds) (operation_takes o)
     (all_map (IsBetween first own) (λ (n : ℕ). value_clock first os cs n ≡ value_clock first ps ds n) (operation_takes o)
     (λ n b. one_clock first os ps cs ds n (same (n - first) (omega (arith, b)))) early))
 

@@ -14,7 +14,7 @@ use Rattle.dh_plan.specs.PlainPlans.{PlainPlan}
 use Rattle.dh_plan.specs.Correspondence.{Slots}
 use Rattle.dh_plan.specs.DoneProgram.{NeverStuck}
 use Rattle.dh_plan.specs.PlanPhases.{AreNodesOf, DoesPhases, does_phases}
-use Rattle.dh_plan.specs.PlanRuns.{Place, blocks_at, plan_state}
+use Rattle.dh_plan.specs.PlanRuns.{PlanPlace, blocks_at, plan_state}
 use Rattle.dh_plan.specs.PlayedPlans.{longest, plan_run, place_length, program_run, times_phases, PlansPlayPrograms}
 use Rattle.dh_plan.specs.SoundPlans.{CountsTurns, KeepsCounter, countings}
 use Rattle.dh_plan.proofs.JointPlaces.{Stand, s_ended, s_block, s_loop, s_pick, source_place, plan_place, ValidStand}
@@ -35,8 +35,8 @@ stand_length p plan slots lengths (s_pick test chosen other block flag ns ms k) 
 pub alike_length : (p : Program) (plan : PlainPlan) (slots : Slots) (lengths : List ℕ) (s : source.RunState) (t : _) → Alike plan slots (times_phases p lengths) s t
     → longest lengths (blocks_at t.place) ≡ place_length p s.place
 alike_length p plan slots lengths s t h =
-    ap (λ (x : Place). longest lengths (blocks_at x)) h.plan_is
-    ∙ (stand_length p plan slots lengths h.stand h.valid ∙ sym (ap (λ (x : source.Place). place_length p x) h.source_is))
+    ap (λ (x : PlanPlace). longest lengths (blocks_at x)) h.plan_is
+    ∙ (stand_length p plan slots lengths h.stand h.valid ∙ sym (ap (λ (x : source.RunPlace). place_length p x) h.source_is))
 
 -- runs with equal parts are one
 pub same_run : (r s : Run) → ((n : ℕ) → r.outcome n ≡ s.outcome n) → ((n : ℕ) → r.memories n ≡ s.memories n) → ((n : ℕ) → r.length n ≡ s.length n) → r ≡ s

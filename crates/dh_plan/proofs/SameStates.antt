@@ -12,7 +12,7 @@ use Rattle.dh_plan.specs.AlikeRuns.{DoesAlike, BlocksDoAlike, PlansRunAlike}
 use Rattle.dh_plan.specs.BlockLaws.{fault_or}
 use Rattle.dh_plan.specs.Blocks.{BlockEvent, first_fault, RegisterSet, Put, puts_of, all_put, all_set}
 use Rattle.dh_plan.specs.PlainPlans.{Nodes, PlainPlan}
-use Rattle.dh_plan.specs.PlanRuns.{over, next, ended, enter, place_after, start_at, blocks_at, events_of_block, sets_of_block, step_events, step_sets, PlanState, plan_stands_at, outcome_named, plan_state_after, plan_step_from, first_registers, first_plan_state, plan_state}
+use Rattle.dh_plan.specs.PlanRuns.{over, plan_next, ended, enter, place_after, start_at, blocks_at, events_of_block, sets_of_block, step_events, step_sets, PlanState, plan_stands_at, outcome_named, plan_state_after, plan_step_from, first_registers, first_plan_state, plan_state}
 use Rattle.dh_plan.specs.SoundPlans.{IsOneOf, IsFormed}
 use Rattle.dh_plan.specs.SoundRuns.{StandsInStep}
 use Rattle.dh_plan.proofs.Appends.{fault_behind, puts_behind}
@@ -103,7 +103,7 @@ by_outcome p q kinds faults alike (Stuck memory bank place) s stands e = refl
 
 -- how a run begins, by the nodes and the registers
 abbrev begin_at : (memories : List (List ℕ)) → Nodes → (registers : List ℕ) → PlanState
-begin_at memories body registers = plan_stands_at 0 memories (enter body over (next ended registers) registers)
+begin_at memories body registers = plan_stands_at 0 memories (enter body over (plan_next ended registers) registers)
 
 first_same : (p q : PlainPlan) (memories : List (List ℕ)) → q.registers ≡ p.registers → q.body ≡ p.body → first_plan_state q memories ≡ first_plan_state p memories
 first_same p q memories kinds body =

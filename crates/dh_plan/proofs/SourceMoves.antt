@@ -9,7 +9,7 @@ use Rattle.dh_base.specs.declared.outcomes.Outcome.TheVariants.{Faulted, Stuck}
 use Rattle.dh_base.specs.declared.places.Place.{Place}
 use Rattle.dh_tree.specs.declared.tables.MemEntry.{MemEntry}
 use Rattle.dh_meaning.specs.Core.{Turning, CoreCommand, store, assign, choose, CoreCommands, no_commands, command_and}
-use Rattle.dh_meaning.specs.Effects.{Begun, Variables, set_variable, Event, reads, writes, faults, Effect, Block, commands, tests, command_run, commands_run, block_run, at_each, stored_at, assigned_at, tested_at, paths_where, holds_at, put_element, written, is_beyond, stop_after}
+use Rattle.dh_meaning.specs.Effects.{Begun, Variables, set_variable, Event, reads, writes, faults, Effect, Block, commands, tests, command_run, commands_run, block_run, at_each, stored_at, assigned_at, tested_at, paths_where, holds_at, put_element, written, spends_beyond, stop_after}
 use Rattle.dh_meaning.specs.Levels.{assigns_to, any_assigns}
 use Rattle.dh_meaning.specs.Paths.{Path, same_path}
 use Rattle.dh_meaning.specs.Runs.{iterator_value, turn_begun}
@@ -45,10 +45,10 @@ unless_stuck false memory bank place rest want h f = f h
 pub stops_with : (table : List MemEntry) (before es : List Event) → NotStuck (stop_after table before es) → stop_after table before es ≡ outcome_of (failure_of es)
 stops_with table before [] h = refl
 stops_with table before (reads number place path spot ∷ es) h =
-    unless_stuck (is_beyond table (before ++ reads number place path spot ∷ []) spot) spot.memory spot.bank place _ _ h
+    unless_stuck (spends_beyond table (before ++ reads number place path spot ∷ []) spot) spot.memory spot.bank place _ _ h
     (stops_with table (before ++ reads number place path spot ∷ []) es)
 stops_with table before (writes number place path spot value ∷ es) h =
-    unless_stuck (is_beyond table (before ++ writes number place path spot value ∷ []) spot) spot.memory spot.bank place _ _ h
+    unless_stuck (spends_beyond table (before ++ writes number place path spot value ∷ []) spot) spot.memory spot.bank place _ _ h
     (stops_with table (before ++ writes number place path spot value ∷ []) es)
 stops_with table before (faults number place path kind ∷ es) h = refl
 

@@ -10,7 +10,7 @@ use Rattle.dh_base.specs.declared.places.Place as source
 use Rattle.dh_tree.specs.Tables.{Fits}
 use Rattle.dh_plan.specs.Blocks.{BlockEvent, first_fault, RegisterSet, puts_of, all_put, all_set}
 use Rattle.dh_plan.specs.PlainPlans.{PlainPlan}
-use Rattle.dh_plan.specs.PlanRuns.{over, Place, ended, at, inside, Next, next, has_ended, enter, place_after, start_at, blocks_at, step_events, step_sets, PlanState, outcome_at, plan_stands_at, outcome_named, plan_state_after, plan_step_from, first_registers, plan_state}
+use Rattle.dh_plan.specs.PlanRuns.{over, PlanPlace, ended, at, inside, PlanNext, plan_next, has_ended, enter, place_after, start_at, blocks_at, step_events, step_sets, PlanState, plan_outcome_at, plan_stands_at, outcome_named, plan_state_after, plan_step_from, first_registers, plan_state}
 use Rattle.dh_plan.specs.SoundPlans.{Counting, countings, IsFormed}
 use Rattle.dh_plan.specs.SoundRuns.{RunsMakeSteps}
 use Rattle.dh_plan.proofs.FittingEffects.{step_sets_fit, step_events_fit, all_set_fit, puts_fit, all_put_fit}
@@ -25,12 +25,12 @@ record PlanStands (plan : PlainPlan) (s : PlanState) : Type 0 where
   memories : Fits plan.table s.memories
   going : s.outcome ≡ Going → has_ended s.place ≡ false
 
-going_at : (p : Place) → outcome_at p ≡ Going → has_ended p ≡ false
+going_at : (p : PlanPlace) → plan_outcome_at p ≡ Going → has_ended p ≡ false
 going_at ended e = absurd (cc)
 going_at (at block k) e = refl
 going_at (inside ps k) e = refl
 
-stands_at_next : (plan : PlainPlan) (steps : ℕ) (memories : List (List ℕ)) (n : Next) → NextStands plan plan.body [] n → Fits plan.table memories
+stands_at_next : (plan : PlainPlan) (steps : ℕ) (memories : List (List ℕ)) (n : PlanNext) → NextStands plan plan.body [] n → Fits plan.table memories
     → PlanStands plan (plan_stands_at steps memories n)
 stands_at_next plan steps memories n h fits = record { place = h.0; registers = h.1; memories = fits; going = going_at n.place }
 
@@ -72,8 +72,8 @@ own_loops (c ∷ cs) P h = (h 0 c refl, own_loops cs P (λ i d there. h (suc i) 
 runs_stand : (plan : PlainPlan) (memories : List (List ℕ)) → IsFormed plan → Fits plan.table memories → (n : ℕ) → PlanStands plan (plan_state plan memories n)
 runs_stand plan memories formed fits zero =
     let comes : NodesCome plan plan.body [] [] plan.body = ((λ bs ls s. s), own_loops (countings plan.body) (IsLoopOf plan) (λ i c there. (i, there))) in
-    stands_at_next plan 0 memories (enter plan.body over (next ended (first_registers plan)) (first_registers plan))
-    (enter_stands plan plan.body [] plan.body over (next ended (first_registers plan)) (first_registers plan) comes tt (tt, first_stands plan) (first_stands plan)) fits
+    stands_at_next plan 0 memories (enter plan.body over (plan_next ended (first_registers plan)) (first_registers plan))
+    (enter_stands plan plan.body [] plan.body over (plan_next ended (first_registers plan)) (first_registers plan) comes tt (tt, first_stands plan) (first_stands plan)) fits
 runs_stand plan memories formed fits (suc n) =
     let before = runs_stand plan memories formed fits n in
     by_outcome plan formed (plan_state plan memories n).outcome (plan_state plan memories n) before

@@ -10,38 +10,38 @@ use Rattle.dh_plan.specs.ExamplePasses.{storing_flow, storing_timing, storing_us
 use Rattle.dh_plan.specs.ExamplePrograms.{storing_plan}
 use Rattle.dh_plan.specs.LegalSchedules.{is_product}
 use Rattle.dh_plan.specs.PlainPlans.{block_node, no_nodes, operations_in}
-use Rattle.dh_plan.specs.PlanRuns.{Todo, over, nodes_then, turn_then, Next, next_of}
+use Rattle.dh_plan.specs.PlanRuns.{PlanTodo, over, nodes_then, turn_then, PlanNext, plan_next_of}
 use Rattle.dh_plan.specs.SoundPlans.{HasUse, IsListed, plan_charge}
-use Rattle.dh_plan.specs.Ways.{FlowsAs, Led, leads_to, resolve, way_of_stop, way_of_join}
+use Rattle.dh_plan.specs.Ways.{FlowsAs, GraphLed, leads_to, resolve, way_of_stop, way_of_join}
 use Rattle.dh_plan.proofs.StoringPlan.{absent, the_write, write_found}
 
 -- The graph.
 
 -- what is still to come behind the one state
-abbrev pub still_to_come : Todo
+abbrev pub still_to_come : PlanTodo
 still_to_come = nodes_then no_nodes (turn_then 0 3 (nodes (block_node 0 ∷ [])) (nodes_then no_nodes over))
 
-abbrev pub behind_state : ℕ → Todo
+abbrev pub behind_state : ℕ → PlanTodo
 behind_state zero = still_to_come
 behind_state (suc n) = over
 
-abbrev pub behind_fork : ℕ → Todo
+abbrev pub behind_fork : ℕ → PlanTodo
 behind_fork n = over
 
-pub led_by : (t : Bool) (a b : Led) (c d : Next) → leads_to storing_flow.states behind_state behind_fork a ≡ c → leads_to storing_flow.states behind_state behind_fork b ≡ d
+pub led_by : (t : Bool) (a b : GraphLed) (c d : PlanNext) → leads_to storing_flow.states behind_state behind_fork a ≡ c → leads_to storing_flow.states behind_state behind_fork b ≡ d
     → leads_to storing_flow.states behind_state behind_fork (if t then a else b) ≡ (if t then c else d)
 led_by true a b c d e f = e
 led_by false a b c d e f = f
 
 pub storing_each : (state : ℕ) (registers : List ℕ)
     → leads_to storing_flow.states behind_state behind_fork (resolve storing_plan.registers (way_of_stop (slice_get storing_flow.states state)) registers)
-    ≡ next_of storing_plan.registers (behind_state state) registers
+    ≡ plan_next_of storing_plan.registers (behind_state state) registers
 storing_each zero registers = led_by (slice_index registers 0 == 2) _ _ _ _ refl refl
 storing_each (suc state) registers = refl
 
 pub storing_joined : (fork : ℕ) (registers : List ℕ)
     → leads_to storing_flow.states behind_state behind_fork (resolve storing_plan.registers (way_of_join (slice_get storing_flow.joins fork)) registers)
-    ≡ next_of storing_plan.registers (behind_fork fork) registers
+    ≡ plan_next_of storing_plan.registers (behind_fork fork) registers
 storing_joined zero registers = refl
 storing_joined (suc fork) registers = refl
 

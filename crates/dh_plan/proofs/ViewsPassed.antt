@@ -3,7 +3,7 @@ use Rattle.std.proofs.Common.{◌≡◌, List, [], ◌∷◌, take, drop, Option
 use Rattle.dh_tree.specs.declared.viewing.ViewMap.{ViewMap}
 use Rattle.dh_tree.specs.ViewElements.{view_through, where_inside}
 use Rattle.dh_meaning.specs.Effects.{indices_through}
-use Rattle.dh_meaning.specs.Ways.{Step}
+use Rattle.dh_meaning.specs.Ways.{WayStep}
 use Rattle.dh_plan.specs.Passages.{Passage, indices_behind, through_view}
 use Rattle.dh_plan.specs.WaysPassed.{AreOfSteps}
 
@@ -11,7 +11,7 @@ follows_same : (o : Option (List ℤ)) (f g : List ℤ → Option (List ℤ)) �
 follows_same None f g h = refl
 follows_same (Some is) f g h = h is
 
-pub passed : (views : List ViewMap) (steps : List Step) (passages : List Passage) (offsets indices : List ℤ) → AreOfSteps views steps passages offsets
+pub passed : (views : List ViewMap) (steps : List WayStep) (passages : List Passage) (offsets indices : List ℤ) → AreOfSteps views steps passages offsets
     → indices_behind views passages indices ≡ indices_through steps indices offsets
 passed views [] [] offsets indices h = refl
 passed views [] (p ∷ ps) offsets indices h = absurd h

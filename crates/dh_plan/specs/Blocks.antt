@@ -58,13 +58,13 @@ abbrev pub passages : (first : ℕ) → List Word → List ReachStep → List Pa
 passages first ws steps = map (λ s. record { view = s.view; offsets = numbers_at first ws s.offsets }) steps
 
 -- the first of the banks that are listed
-abbrev pub first_bank : List (ℕ × ℕ) → ℕ
-first_bank [] = 0
-first_bank (b ∷ bs) = b.0
+abbrev pub first_listed_bank : List (ℕ × ℕ) → ℕ
+first_listed_bank [] = 0
+first_listed_bank (b ∷ bs) = b.0
 
 -- the bank that is picked, or the only one
 abbrev pub bank_picked : (first : ℕ) → List Word → List (ℕ × ℕ) → Option ℕ → ℕ
-bank_picked first ws banks None = first_bank banks
+bank_picked first ws banks None = first_listed_bank banks
 bank_picked first ws banks (Some v) = (word_at first ws v).bits
 
 -- where an access leads, None where it is out of range: by its indices through its views, or by a row of a bank

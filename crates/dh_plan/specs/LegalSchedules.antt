@@ -41,13 +41,13 @@ abbrev pub value_clock : (first : ℕ) → List Operation → (clocks : List ℕ
 value_clock first os clocks number = there_from (slice_get os (number - first)) (slice_index clocks (number - first))
 
 -- the greatest of numbers, 0 of none
-abbrev pub greatest_of : List ℕ → ℕ
-greatest_of [] = 0
-greatest_of (n ∷ ns) = max n (greatest_of ns)
+abbrev pub greatest_number : List ℕ → ℕ
+greatest_number [] = 0
+greatest_number (n ∷ ns) = max n (greatest_number ns)
 
 -- the clock from which on all is there that an operation takes
 abbrev pub needed_clock : (first : ℕ) → List Operation → (clocks : List ℕ) → Operation → ℕ
-needed_clock first os clocks o = greatest_of (map (value_clock first os clocks) (operation_takes o))
+needed_clock first os clocks o = greatest_number (map (value_clock first os clocks) (operation_takes o))
 
 -- when the last value of a block is there
 abbrev pub last_clock : List Operation → (clocks : List ℕ) → ℕ
@@ -79,8 +79,8 @@ depth_taken first clock clocks depths number = if slice_index clocks (number - f
 -- how many operators follow one another, in the clock of an operation and up to it
 abbrev pub depth_at : (first clock : ℕ) → (clocks depths : List ℕ) → Operation → ℕ
 depth_at first clock clocks depths o =
-    if is_operator o.form then suc (greatest_of (map (depth_taken first clock clocks depths) (operation_takes o)))
-    else greatest_of (map (depth_taken first clock clocks depths) (operation_takes o))
+    if is_operator o.form then suc (greatest_number (map (depth_taken first clock clocks depths) (operation_takes o)))
+    else greatest_number (map (depth_taken first clock clocks depths) (operation_takes o))
 
 -- the depths of operations behind those with these depths
 abbrev pub depths_behind : (first : ℕ) → (clocks depths : List ℕ) → List Operation → List ℕ

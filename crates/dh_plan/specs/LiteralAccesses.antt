@@ -10,7 +10,7 @@ use Rattle.dh_tree.specs.declared.viewing.ViewSort.TheVariants.{Shrink, Split, S
 use Rattle.dh_tree.specs.Elements.{Spot}
 use Rattle.dh_tree.specs.PlainTrees as plain
 use Rattle.dh_tree.specs.PlainTrees.{Program}
-use Rattle.dh_meaning.specs.Ways.{Step, Way, way_to}
+use Rattle.dh_meaning.specs.Ways.{WayStep, Way, way_to}
 use Rattle.dh_meets.specs.SourceEvents.{Element, with_indices, in_row, SourceAccess, accesses_in, trace}
 use Rattle.dh_plan.specs.declared.operations.OperationForm.TheVariants.{Constant, Check, Probe}
 use Rattle.dh_plan.specs.declared.operations.Reach.{Reach}
@@ -54,7 +54,7 @@ StandsStill Shift = ⊥
 -- none on the way does; a memory has no way
 abbrev pub IsStill : Option Way → Type 0
 IsStill None = Unit {0}
-IsStill (Some w) = AllByRecursion (λ (s : Step). StandsStill s.is.sort) w.steps
+IsStill (Some w) = AllByRecursion (λ (s : WayStep). StandsStill s.is.sort) w.steps
 
 -- an access of the program whose element is named by literals, through views that stand still
 pub record IsLiteralSource (p : Program) (a : SourceAccess) : Type 0 where

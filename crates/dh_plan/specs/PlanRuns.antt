@@ -14,72 +14,72 @@ use Rattle.dh_plan.specs.PlainPlans.{Node, block_node, turns_node, loop_node, ch
 use Rattle.dh_plan.specs.Blocks.{StepStart, kind_at, in_memories, values_of, BlockEvent, block_events, RegisterSet, block_sets, first_fault, puts_of, all_put, all_set}
 
 -- What is still to come behind a block that is done.
-pub data Todo : Type 0 where
+pub data PlanTodo : Type 0 where
   -- nothing
-  over : Todo
+  over : PlanTodo
   -- these phases
-  nodes_then : Nodes → Todo → Todo
+  nodes_then : Nodes → PlanTodo → PlanTodo
   -- a turn is done: the next ones of a loop of so many
-  turn_then : (counter turns : ℕ) → (body : Nodes) → Todo → Todo
+  turn_then : (counter turns : ℕ) → (body : Nodes) → PlanTodo → PlanTodo
   -- the test of a loop is done
-  test_then : (test flag : ℕ) → (body : Nodes) → Todo → Todo
+  test_then : (test flag : ℕ) → (body : Nodes) → PlanTodo → PlanTodo
   -- the body of a loop is done, and its test comes again
-  again_then : (test flag : ℕ) → (body : Nodes) → Todo → Todo
+  again_then : (test flag : ℕ) → (body : Nodes) → PlanTodo → PlanTodo
   -- the test before two arms is done
-  pick_then : (flag : ℕ) → (chosen other : Nodes) → Todo → Todo
+  pick_then : (flag : ℕ) → (chosen other : Nodes) → PlanTodo → PlanTodo
 
 mutual
   -- where a thread stands
-  pub data Place : Type 0 where
-    ended : Place
-    at : (block : ℕ) → Todo → Place
+  pub data PlanPlace : Type 0 where
+    ended : PlanPlace
+    at : (block : ℕ) → PlanTodo → PlanPlace
     -- its threads stand here, and when all have ended this comes
-    inside : Places → Todo → Place
+    inside : PlanPlaces → PlanTodo → PlanPlace
 
-  pub data Places : Type 0 where
-    no_places : Places
-    place_then : Place → Places → Places
+  pub data PlanPlaces : Type 0 where
+    no_places : PlanPlaces
+    place_then : PlanPlace → PlanPlaces → PlanPlaces
 
 -- a place, and the registers there
-pub record Next : Type 0 where
-  pub place : Place
+pub record PlanNext : Type 0 where
+  pub place : PlanPlace
   pub registers : List ℕ
 
-abbrev pub next : Place → List ℕ → Next
-next place registers = record { place = place; registers = registers }
+abbrev pub plan_next : PlanPlace → List ℕ → PlanNext
+plan_next place registers = record { place = place; registers = registers }
 
-abbrev pub has_ended : Place → Bool
+abbrev pub has_ended : PlanPlace → Bool
 has_ended ended = true
 has_ended (at block k) = false
 has_ended (inside ps k) = false
 
-abbrev pub all_ended : Places → Bool
+abbrev pub all_ended : PlanPlaces → Bool
 all_ended no_places = true
 all_ended (place_then p ps) = has_ended p && all_ended ps
 
 -- threads go on, or what comes where they have nothing to do
-abbrev pub inside_or : Places → (k : Todo) → (behind : Next) → (registers : List ℕ) → Next
-inside_or ps k behind registers = if all_ended ps then behind else next (inside ps k) registers
+abbrev pub inside_or : PlanPlaces → (k : PlanTodo) → (behind : PlanNext) → (registers : List ℕ) → PlanNext
+inside_or ps k behind registers = if all_ended ps then behind else plan_next (inside ps k) registers
 
 abbrev mutual
   -- Into phases: to their first block, or to what lies behind where they have none. `k` is what comes behind
   -- their last block. A loop begins with its counter at 0.
-  pub enter : Nodes → (k : Todo) → (behind : Next) → (registers : List ℕ) → Next
+  pub enter : Nodes → (k : PlanTodo) → (behind : PlanNext) → (registers : List ℕ) → PlanNext
   enter no_nodes k behind registers = behind
   enter (node_then n ns) k behind registers = enter_node n (nodes_then ns k) (enter ns k behind registers) registers
 
-  pub enter_node : Node → (k : Todo) → (behind : Next) → (registers : List ℕ) → Next
-  enter_node (block_node block) k behind registers = next (at block k) registers
+  pub enter_node : Node → (k : PlanTodo) → (behind : PlanNext) → (registers : List ℕ) → PlanNext
+  enter_node (block_node block) k behind registers = plan_next (at block k) registers
   enter_node (turns_node counter turns body) k behind registers =
       if turns == 0 then behind else enter body (turn_then counter turns body k) behind registers
-  enter_node (loop_node test flag body) k behind registers = next (at test (test_then test flag body k)) registers
-  enter_node (choice_node test flag chosen other) k behind registers = next (at test (pick_then flag chosen other k)) registers
+  enter_node (loop_node test flag body) k behind registers = plan_next (at test (test_then test flag body k)) registers
+  enter_node (choice_node test flag chosen other) k behind registers = plan_next (at test (pick_then flag chosen other k)) registers
   enter_node (threads_node lists) k behind registers = inside_or (enter_lists lists registers) k behind registers
 
   -- threads begin, each at its own first block
-  pub enter_lists : NodeLists → (registers : List ℕ) → Places
+  pub enter_lists : NodeLists → (registers : List ℕ) → PlanPlaces
   enter_lists no_lists registers = no_places
-  enter_lists (list_then ns lists) registers = place_then (enter ns over (next ended registers) registers).place (enter_lists lists registers)
+  enter_lists (list_then ns lists) registers = place_then (enter ns over (plan_next ended registers) registers).place (enter_lists lists registers)
 
 -- a flag holds
 abbrev pub flag_holds : (registers : List ℕ) → (flag : ℕ) → Bool
@@ -90,41 +90,41 @@ abbrev pub counted_up : List Kind → (counter : ℕ) → (registers : List ℕ)
 counted_up kinds counter registers = slice_set registers counter ((slice_index registers counter + 1) % 2 ^ width_of (kind_at kinds counter))
 
 -- behind a block that is done: to the next one, by the registers as they then are
-abbrev pub next_of : List Kind → Todo → (registers : List ℕ) → Next
-next_of kinds over registers = next ended registers
-next_of kinds (nodes_then ns k) registers = enter ns k (next_of kinds k registers) registers
-next_of kinds (turn_then counter turns body k) registers =
+abbrev pub plan_next_of : List Kind → PlanTodo → (registers : List ℕ) → PlanNext
+plan_next_of kinds over registers = plan_next ended registers
+plan_next_of kinds (nodes_then ns k) registers = enter ns k (plan_next_of kinds k registers) registers
+plan_next_of kinds (turn_then counter turns body k) registers =
     if slice_index registers counter == turns - 1
-    then next_of kinds k (slice_set registers counter 0)
-    else enter body (turn_then counter turns body k) (next ended (counted_up kinds counter registers)) (counted_up kinds counter registers)
-next_of kinds (test_then test flag body k) registers =
+    then plan_next_of kinds k (slice_set registers counter 0)
+    else enter body (turn_then counter turns body k) (plan_next ended (counted_up kinds counter registers)) (counted_up kinds counter registers)
+plan_next_of kinds (test_then test flag body k) registers =
     if flag_holds registers flag
-    then enter body (again_then test flag body k) (next (at test (test_then test flag body k)) registers) registers
-    else next_of kinds k registers
-next_of kinds (again_then test flag body k) registers = next (at test (test_then test flag body k)) registers
-next_of kinds (pick_then flag chosen other k) registers =
-    if flag_holds registers flag then enter chosen k (next_of kinds k registers) registers else enter other k (next_of kinds k registers) registers
+    then enter body (again_then test flag body k) (plan_next (at test (test_then test flag body k)) registers) registers
+    else plan_next_of kinds k registers
+plan_next_of kinds (again_then test flag body k) registers = plan_next (at test (test_then test flag body k)) registers
+plan_next_of kinds (pick_then flag chosen other k) registers =
+    if flag_holds registers flag then enter chosen k (plan_next_of kinds k registers) registers else enter other k (plan_next_of kinds k registers) registers
 
 -- threads that went on, and the registers there
-pub record NextPlaces : Type 0 where
-  pub places : Places
+pub record PlanNextPlaces : Type 0 where
+  pub places : PlanPlaces
   pub registers : List ℕ
 
-abbrev pub with_first : Next → NextPlaces → NextPlaces
+abbrev pub with_first : PlanNext → PlanNextPlaces → PlanNextPlaces
 with_first n ns = record { places = place_then n.place ns.places; registers = ns.registers }
 
 -- threads that have all ended are left
-abbrev pub joined : List Kind → NextPlaces → (k : Todo) → Next
-joined kinds ns k = if all_ended ns.places then next_of kinds k ns.registers else next (inside ns.places k) ns.registers
+abbrev pub threads_joined : List Kind → PlanNextPlaces → (k : PlanTodo) → PlanNext
+threads_joined kinds ns k = if all_ended ns.places then plan_next_of kinds k ns.registers else plan_next (inside ns.places k) ns.registers
 
 abbrev mutual
   -- where a thread stands behind a step; registers go through threads in order
-  pub place_after : List Kind → Place → (registers : List ℕ) → Next
-  place_after kinds ended registers = next ended registers
-  place_after kinds (at block k) registers = next_of kinds k registers
-  place_after kinds (inside ps k) registers = joined kinds (places_after kinds ps registers) k
+  pub place_after : List Kind → PlanPlace → (registers : List ℕ) → PlanNext
+  place_after kinds ended registers = plan_next ended registers
+  place_after kinds (at block k) registers = plan_next_of kinds k registers
+  place_after kinds (inside ps k) registers = threads_joined kinds (places_after kinds ps registers) k
 
-  pub places_after : List Kind → Places → (registers : List ℕ) → NextPlaces
+  pub places_after : List Kind → PlanPlaces → (registers : List ℕ) → PlanNextPlaces
   places_after kinds no_places registers = record { places = no_places; registers = registers }
   places_after kinds (place_then p ps) registers =
       with_first (place_after kinds p registers) (places_after kinds ps (place_after kinds p registers).registers)
@@ -133,12 +133,12 @@ abbrev mutual
 
 abbrev mutual
   -- the blocks that the next step does, in order of threads
-  pub blocks_at : Place → List ℕ
+  pub blocks_at : PlanPlace → List ℕ
   blocks_at ended = []
   blocks_at (at block k) = block ∷ []
   blocks_at (inside ps k) = blocks_at_all ps
 
-  pub blocks_at_all : Places → List ℕ
+  pub blocks_at_all : PlanPlaces → List ℕ
   blocks_at_all no_places = []
   blocks_at_all (place_then p ps) = blocks_at p ++ blocks_at_all ps
 
@@ -172,16 +172,16 @@ pub record PlanState : Type 0 where
   pub steps : ℕ
   pub memories : List (List ℕ)
   pub registers : List ℕ
-  pub place : Place
+  pub place : PlanPlace
 
-abbrev pub outcome_at : Place → Outcome
-outcome_at ended = Ended
-outcome_at (at block k) = Going
-outcome_at (inside ps k) = Going
+abbrev pub plan_outcome_at : PlanPlace → Outcome
+plan_outcome_at ended = Ended
+plan_outcome_at (at block k) = Going
+plan_outcome_at (inside ps k) = Going
 
-abbrev pub plan_stands_at : (steps : ℕ) → List (List ℕ) → Next → PlanState
+abbrev pub plan_stands_at : (steps : ℕ) → List (List ℕ) → PlanNext → PlanState
 plan_stands_at steps memories n =
-    record { outcome = outcome_at n.place; steps = steps; memories = memories; registers = n.registers; place = n.place }
+    record { outcome = plan_outcome_at n.place; steps = steps; memories = memories; registers = n.registers; place = n.place }
 
 -- the outcome that a fault names; a plan names each of its faults
 abbrev pub outcome_named : Option (FaultKind × source.Place) → Outcome
@@ -215,7 +215,7 @@ first_registers plan = replicate (length plan.registers) 0
 
 -- how a run from these memories stands before its first step
 abbrev pub first_plan_state : PlainPlan → List (List ℕ) → PlanState
-first_plan_state plan memories = plan_stands_at 0 memories (enter plan.body over (next ended (first_registers plan)) (first_registers plan))
+first_plan_state plan memories = plan_stands_at 0 memories (enter plan.body over (plan_next ended (first_registers plan)) (first_registers plan))
 
 -- how it stands after n logical steps
 abbrev pub plan_state : PlainPlan → List (List ℕ) → ℕ → PlanState

@@ -37,7 +37,7 @@ plan_run plan lengths start = record {
 }
 
 -- The length of the step that a run does next.
-abbrev pub place_length : Program → source.Place → ℕ
+abbrev pub place_length : Program → source.RunPlace → ℕ
 place_length p source.ended = 0
 place_length p (source.at paths block k) = block_length (shared p) block
 

@@ -20,7 +20,7 @@ use Rattle.dh_events.specs.declared.events.Site.{Site}
 use Rattle.dh_ports.specs.declared.moves.Move.{Move}
 use Rattle.dh_ports.specs.Claims.{access_of, base_of, keys_on, counts_to, claims_from, claims_in, claims_at, claims_of, count_on, owner_of}
 use Rattle.dh_ports.specs.Courses.{count}
-use Rattle.dh_events.specs.Incidents.{Incident, touches, assigned, arm_begins, arm_ends, begins, next, ends}
+use Rattle.dh_events.specs.Incidents.{PortEvent, touches, assigned, arm_begins, arm_ends, begins, next, ends}
 use Rattle.dh_ports.specs.Wholes.{Touched, touched, touched_by, of_access, sites_in, at_touches}
 
 absurd : {A : Type 0} → ⊥ → A
@@ -44,7 +44,7 @@ none_below : (n : ℕ) → n < 0 → ⊥
 none_below n e = omega (arith, e)
 
 -- the place among all of the incident that is the access of this number
-abbrev pub event_of : List Incident → ℕ → ℕ
+abbrev pub event_of : List PortEvent → ℕ → ℕ
 event_of [] k = 0
 event_of (touches access writes site ∷ xs) zero = 0
 event_of (touches access writes site ∷ xs) (suc k) = suc (event_of xs k)
@@ -55,7 +55,7 @@ event_of (begins ∷ xs) k = suc (event_of xs k)
 event_of (next ∷ xs) k = suc (event_of xs k)
 event_of (ends ∷ xs) k = suc (event_of xs k)
 
-pub at_event : {A : Type 0} (xs : List Incident) (zs : List A) (k : ℕ) → length zs ≡ length xs → k < count xs → slice_get (at_touches xs zs) k ≡ slice_get zs (event_of xs k)
+pub at_event : {A : Type 0} (xs : List PortEvent) (zs : List A) (k : ℕ) → length zs ≡ length xs → k < count xs → slice_get (at_touches xs zs) k ≡ slice_get zs (event_of xs k)
 at_event [] [] k l h = refl
 at_event (x ∷ xs) [] k l h = absurd (none_more (length xs) l)
 at_event [] (a ∷ zs) k l h = absurd (none_below k h)
@@ -74,7 +74,7 @@ there_is [] k h = absurd (none_below k h)
 there_is (a ∷ zs) zero h = (a, refl)
 there_is (a ∷ zs) (suc k) h = there_is zs k (fewer _ _ h)
 
-pub touched_long : (xs : List Incident) → length (touched xs) ≡ count xs
+pub touched_long : (xs : List PortEvent) → length (touched xs) ≡ count xs
 touched_long [] = refl
 touched_long (touches t w f ∷ xs) = ap suc (touched_long xs)
 touched_long (assigned e ∷ xs) = touched_long xs
@@ -113,7 +113,7 @@ nth_claims [] k = []
 nth_claims (c ∷ cs) zero = c
 nth_claims (c ∷ cs) (suc k) = nth_claims cs k
 
-abbrev pub claim_lists : Program → (Option ℕ → List Counter) → (event : ℕ) → List Incident → List (List Move)
+abbrev pub claim_lists : Program → (Option ℕ → List Counter) → (event : ℕ) → List PortEvent → List (List Move)
 claim_lists p loops event [] = []
 claim_lists p loops event (touches access writes site ∷ xs) = claims_of p event (access_of (loops site.round) writes access) ∷ claim_lists p loops (event + 1) xs
 claim_lists p loops event (assigned entity ∷ xs) = claim_lists p loops (event + 1) xs
@@ -125,7 +125,7 @@ claim_lists p loops event (ends ∷ xs) = claim_lists p loops (event + 1) xs
 
 module _ (p : Program) (loops : Option ℕ → List Counter) where
   -- an access among incidents
-  pub record TouchAt (event : ℕ) (xs : List Incident) (k : ℕ) : Type 0 where
+  pub record TouchAt (event : ℕ) (xs : List PortEvent) (k : ℕ) : Type 0 where
     pub access : Term
     pub writes : Bool
     pub site : Site
@@ -135,13 +135,13 @@ module _ (p : Program) (loops : Option ℕ → List Counter) where
     pub claims : nth_claims (claim_lists p loops event xs) k ≡ claims_of p (event + event_of xs k) (access_of (loops site.round) writes access)
 
   -- behind one incident more that is no access
-  next_claims : (event m : ℕ) (a : SourceAccess) (xs : List Incident) (k : ℕ) → nth_claims (claim_lists p loops (event + 1) xs) k ≡ claims_of p (event + 1 + m) a → nth_claims (claim_lists p loops (event + 1) xs) k ≡ claims_of p (event + suc m) a
+  next_claims : (event m : ℕ) (a : SourceAccess) (xs : List PortEvent) (k : ℕ) → nth_claims (claim_lists p loops (event + 1) xs) k ≡ claims_of p (event + 1 + m) a → nth_claims (claim_lists p loops (event + 1) xs) k ≡ claims_of p (event + suc m) a
   next_claims event m a xs k e = e ∙ ap (λ n. claims_of p n a) (shift event m)
     where
       shift : (n j : ℕ) → n + 1 + j ≡ n + suc j
       shift n j = omega arith
 
-  pub touch_at : (event : ℕ) (xs : List Incident) (k : ℕ) → k < count xs → TouchAt event xs k
+  pub touch_at : (event : ℕ) (xs : List PortEvent) (k : ℕ) → k < count xs → TouchAt event xs k
   touch_at event [] k h = absurd (none_below k h)
   touch_at event (touches t w s ∷ xs) zero h = record { access = t; writes = w; site = s; touch = refl; sited = refl; stands = refl; claims = ap (λ n. claims_of p n (access_of (loops s.round) w t)) (plus_none event) }
     where
@@ -170,7 +170,7 @@ module _ (p : Program) (loops : Option ℕ → List Counter) where
       record { access = r.access; writes = r.writes; site = r.site; touch = r.touch; sited = r.sited; stands = r.stands; claims = next_claims event (event_of xs k) (access_of (loops r.site.round) r.writes r.access) xs k r.claims }
 
   -- no access has a number beyond
-  pub none_claims : (event : ℕ) (xs : List Incident) (k : ℕ) → count xs ≤ k → nth_claims (claim_lists p loops event xs) k ≡ []
+  pub none_claims : (event : ℕ) (xs : List PortEvent) (k : ℕ) → count xs ≤ k → nth_claims (claim_lists p loops event xs) k ≡ []
   none_claims event [] k h = refl
   none_claims event (touches t w s ∷ xs) zero h = absurd (none (count xs) h)
     where

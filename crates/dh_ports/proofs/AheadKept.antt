@@ -11,7 +11,7 @@ use Rattle.dh_tree.specs.LeastBreach.{least_of}
 use Rattle.dh_events.specs.declared.classes.Key.{Key}
 use Rattle.dh_events.specs.declared.events.Event.{Event}
 use Rattle.dh_events.specs.declared.events.Event.TheVariants as event
-use Rattle.dh_events.specs.Classes.{AreDistinct}
+use Rattle.dh_events.specs.Classes.{KeysAreDistinct}
 use Rattle.dh_events.specs.Noted.{all_seen}
 use Rattle.dh_ports.specs.declared.levels.Step.{Step}
 use Rattle.dh_ports.specs.declared.levels.Step.TheVariants as step
@@ -64,21 +64,21 @@ keys_in events (m ∷ ms) = added (key_of events m) (keys_in events ms)
 abbrev Has : List Key → Key → Type 0
 Has ks k = (slot : ℕ) × (slice_get ks slot ≡ Some k)
 
-distinct_first : (k : Key) (ks : List Key) → ((n : ℕ) → slice_get ks n ≡ Some k → ⊥) → AreDistinct ks → (m n : ℕ) (x : Key) → slice_get (k ∷ ks) m ≡ Some x → slice_get (k ∷ ks) n ≡ Some x → m ≡ n
+distinct_first : (k : Key) (ks : List Key) → ((n : ℕ) → slice_get ks n ≡ Some k → ⊥) → KeysAreDistinct ks → (m n : ℕ) (x : Key) → slice_get (k ∷ ks) m ≡ Some x → slice_get (k ∷ ks) n ≡ Some x → m ≡ n
 distinct_first k ks none d zero zero x e f = refl
 distinct_first k ks none d zero (suc n) x e f = absurd (none n (f ∙ sym e))
 distinct_first k ks none d (suc m) zero x e f = absurd (none m (e ∙ sym f))
 distinct_first k ks none d (suc m) (suc n) x e f = ap suc (d m n x e f)
 
-distinct_added : (o : Option Key) (ks : List Key) → AreDistinct ks → AreDistinct (added o ks)
+distinct_added : (o : Option Key) (ks : List Key) → KeysAreDistinct ks → KeysAreDistinct (added o ks)
 distinct_added None ks d = d
 distinct_added (Some k) ks d = by_slot (slot_in ks k) refl
   where
-    by_slot : (o : Option ℕ) → slot_in ks k ≡ o → AreDistinct (added_at o k ks)
+    by_slot : (o : Option ℕ) → slot_in ks k ≡ o → KeysAreDistinct (added_at o k ks)
     by_slot None e = distinct_first k ks (slot_none ks k e) d
     by_slot (Some slot) e = d
 
-distinct_all : (events : List Event) (ms : List Move) → AreDistinct (keys_in events ms)
+distinct_all : (events : List Event) (ms : List Move) → KeysAreDistinct (keys_in events ms)
 distinct_all events [] = λ m n k e f. absurd (nothing k e)
   where
     nothing : (k : Key) → ◌≡◌ {A = Option Key} None (Some k) → ⊥

@@ -12,7 +12,7 @@ use Rattle.dh_events.specs.declared.structures.Structure.{Structure}
 use Rattle.dh_events.specs.declared.structures.Sort.{Sort}
 use Rattle.dh_events.specs.declared.structures.Sort.TheVariants as sort
 use Rattle.dh_events.specs.declared.structures.Form.TheVariants as form
-use Rattle.dh_events.specs.Structures.{sort_of, sort_found, Describes, DescribesForm, DescribesFrom, DescribesElement, AreDistinct, IsNameless, FormNameless, AnyNameless, newest_in, form_newest, newest_behind, entity_newest, element_newest}
+use Rattle.dh_events.specs.Structures.{kind_sort, sort_found, Describes, DescribesForm, DescribesFrom, DescribesElement, StructuresAreDistinct, IsNameless, FormNameless, AnyNameless, newest_in, form_newest, newest_behind, entity_newest, element_newest}
 use Rattle.dh_events.specs.Elements.{ElementNameless}
 use Rattle.dh_events.proofs.StructureFacts.{one_number, alike_sorts}
 use Rattle.dh_ports.proofs.AlikeNumbers.{first_true, second_true, truths_same, entities_same, alike_kinds}
@@ -22,7 +22,7 @@ absurd e = elim e [ ]
 
 -- One number.
 
-module _ (known : List Structure) (distinct : AreDistinct known) where
+module _ (known : List Structure) (distinct : StructuresAreDistinct known) where
   mutual
     pub alike_number : (m n : ℕ) (t u : Term) → Describes known m t → Describes known n u → alike t u ≡ true → m ≡ n
     alike_number m n (term p j f) (term q k g) d e h = forms_number m n (sort_found j) (sort_found k) f g (alike_kinds j k (first_true (same_maybe_kind j k) _ h)) d e (second_true (same_maybe_kind j k) _ h)
@@ -46,7 +46,7 @@ module _ (known : List Structure) (distinct : AreDistinct known) where
         (ap (λ v. form.Operation v l r) (eqb-true (number_of_op o) (number_of_op p) (first_true (number_of_op o == number_of_op p) _ h))
         ∙ (ap (λ v. form.Operation (number_of_op p) v r) (alike_number l k a c i x (first_true (alike a c) _ both)) ∙ ap (λ v. form.Operation (number_of_op p) k v) (alike_number r w b g j y (second_true (alike a c) _ both)))) d e
     forms_number m n s t (converted a to) (converted b other) q (l, (i, d)) (k, (j, e)) h =
-        one_number known distinct m n s t _ _ q (ap (λ v. form.Cast v l) (alike_sorts to other (first_true (same_kind to other) _ h)) ∙ ap (λ v. form.Cast (sort_of other) v) (alike_number l k a b i j (second_true (same_kind to other) _ h))) d e
+        one_number known distinct m n s t _ _ q (ap (λ v. form.Cast v l) (alike_sorts to other (first_true (same_kind to other) _ h)) ∙ ap (λ v. form.Cast (kind_sort other) v) (alike_number l k a b i j (second_true (same_kind to other) _ h))) d e
     forms_number m n s t f g q d e h = cc
 
     from_number : (m n : ℕ) (b c : Option ℕ) (ts us : Terms) → DescribesFrom known b ts m → DescribesFrom known c us n → b ≡ c → all_alike ts us ≡ true → m ≡ n

@@ -15,7 +15,7 @@ use Rattle.dh_events.specs.declared.structures.Sort.{Sort}
 use Rattle.dh_events.specs.declared.structures.Sort.TheVariants as sort
 use Rattle.dh_events.specs.declared.structures.Form.{Form}
 use Rattle.dh_events.specs.declared.structures.Form.TheVariants as form
-use Rattle.dh_events.specs.Structures.{sort_of, sort_found, Stands, Describes, DescribesForm, DescribesFrom, DescribesElement}
+use Rattle.dh_events.specs.Structures.{kind_sort, sort_found, StructureStands, Describes, DescribesForm, DescribesFrom, DescribesElement}
 use Rattle.dh_events.proofs.StructureFacts.{one_sort, one_form, sorts_alike, alike_sorts}
 
 absurd : {A : Type 0} → ⊥ → A
@@ -129,7 +129,7 @@ tag_of (applied op left right) = 4
 tag_of (converted inner to) = 5
 
 module _ (known : List Structure) where
-  stands_so : (n : ℕ) (s : Sort) (f : TermForm) → DescribesForm known n s f → (x : Form) × (Stands known n s x × (tag x ≡ tag_of f))
+  stands_so : (n : ℕ) (s : Sort) (f : TermForm) → DescribesForm known n s f → (x : Form) × (StructureStands known n s x × (tag x ≡ tag_of f))
   stands_so n s (number negative value) d = (_, (d, refl))
   stands_so n s (truth_value value) d = (_, (d, refl))
   stands_so n s (named r) (e, (h, d)) = (_, (d, refl))
@@ -150,7 +150,7 @@ module _ (known : List Structure) where
   -- how many indices stand behind one another in a number
   abbrev HasHeight : (h : ℕ) → Option ℕ → Type 0
   HasHeight zero b = b ≡ None
-  HasHeight (suc h) b = (m : ℕ) × ((b ≡ Some m) × ((c : Option ℕ) × ((l : ℕ) × (Stands known m sort.Unknown (form.Index c l) × HasHeight h c))))
+  HasHeight (suc h) b = (m : ℕ) × ((b ≡ Some m) × ((c : Option ℕ) × ((l : ℕ) × (StructureStands known m sort.Unknown (form.Index c l) × HasHeight h c))))
 
   some_one : (m n : ℕ) → Some m ≡ Some n → m ≡ n
   some_one m n e = cc
@@ -167,7 +167,7 @@ module _ (known : List Structure) where
       apart m e = cc
   one_height (suc h) (suc i) b (m, (d, (c, (l, (s, r))))) (n, (e, (c1, (l1, (s1, r1))))) =
       let same : m ≡ n = some_one m n (sym d ∙ e) in
-      let both : form.Index c l ≡ form.Index c1 l1 = one_form known n sort.Unknown sort.Unknown _ _ (subst (λ (x : ℕ). Stands known x sort.Unknown (form.Index c l)) same s) s1 in
+      let both : form.Index c l ≡ form.Index c1 l1 = one_form known n sort.Unknown sort.Unknown _ _ (subst (λ (x : ℕ). StructureStands known x sort.Unknown (form.Index c l)) same s) s1 in
       let before : c ≡ c1 = befores c c1 l l1 both in
       ap suc (one_height h i c1 (subst (λ (x : Option ℕ). HasHeight h x) before r) r1)
     where
@@ -195,18 +195,18 @@ module _ (known : List Structure) where
       one_more : (n : ℕ) → 1 + n ≡ suc n
       one_more n = omega arith
 
-  index_tag : (h n : ℕ) → HasHeight (suc h) (Some n) → (x : Form) × (Stands known n sort.Unknown x × (tag x ≡ 7))
-  index_tag h n (m, (e, (c, (l, (s, r))))) = (form.Index c l, (subst (λ (x : ℕ). Stands known x sort.Unknown (form.Index c l)) (sym (some_one n m e)) s, refl))
+  index_tag : (h n : ℕ) → HasHeight (suc h) (Some n) → (x : Form) × (StructureStands known n sort.Unknown x × (tag x ≡ 7))
+  index_tag h n (m, (e, (c, (l, (s, r))))) = (form.Index c l, (subst (λ (x : ℕ). StructureStands known x sort.Unknown (form.Index c l)) (sym (some_one n m e)) s, refl))
 
   -- the form of the number of indices
   abbrev IsIndices : Form → Type 0
   IsIndices x = (tag x ≡ 6) ⊎ (tag x ≡ 7)
 
-  indices_tag : (ts : Terms) (n : ℕ) → DescribesFrom known None ts n → (x : Form) × (Stands known n sort.Unknown x × IsIndices x)
+  indices_tag : (ts : Terms) (n : ℕ) → DescribesFrom known None ts n → (x : Form) × (StructureStands known n sort.Unknown x × IsIndices x)
   indices_tag no_terms n d = (form.NoIndex, (d, inl refl))
   indices_tag (term_then t ts) n d = let x = index_tag (many ts) n (tall_all t ts n d) in (x.0, (x.1.0, inr x.1.1))
 
-  no_row : (ts : Terms) (n bank l : ℕ) → DescribesFrom known None ts n → Stands known n sort.Unknown (form.Row bank l) → ⊥
+  no_row : (ts : Terms) (n bank l : ℕ) → DescribesFrom known None ts n → StructureStands known n sort.Unknown (form.Row bank l) → ⊥
   no_row ts n bank l d s =
       let x = indices_tag ts n d in
       let same : tag x.0 ≡ 8 = ap tag (one_form known n sort.Unknown sort.Unknown x.0 (form.Row bank l) x.1.0 s) in
@@ -242,7 +242,7 @@ module _ (known : List Structure) where
         absurd (no_row ts l bank k (subst (λ (z : ℕ). DescribesFrom known None ts z) (sym (read_element y x l m (one_form known n s t (form.Read y l) (form.Read x m) e d))) a) c)
     forms_alike n s t (in_bank r bank bank_place u) (in_bank q other other_place v) (x, (m, (l, (h, (a, (c, d)))))) (y, (m1, (l1, (i, (b, (c1, e)))))) =
         let k = one_form known n s t (form.Read x m) (form.Read y m1) d e in
-        let rows = one_form known m1 sort.Unknown sort.Unknown (form.Row bank l) (form.Row other l1) (subst (λ (z : ℕ). Stands known z sort.Unknown (form.Row bank l)) (read_element x y m m1 k) c) c1 in
+        let rows = one_form known m1 sort.Unknown sort.Unknown (form.Row bank l) (form.Row other l1) (subst (λ (z : ℕ). StructureStands known z sort.Unknown (form.Row bank l)) (read_element x y m m1 k) c) c1 in
         both_true (same_entity r.entity q.entity) ((bank == other) && alike u v) (entities_alike r.entity q.entity y (h ∙ ap (λ z. Some z) (read_entity x y m m1 k)) i)
         (both_true (bank == other) (alike u v) (eq-eqb bank other (row_bank bank other l l1 rows)) (numbers_alike l1 u v (subst (λ (z : ℕ). Describes known z u) (row_inner bank other l l1 rows) a) b))
     forms_alike n s t (applied o a b) (applied p c g) (l, (r, (i, (j, d)))) (l1, (r1, (i1, (j1, e)))) =
@@ -251,8 +251,8 @@ module _ (known : List Structure) where
         (both_true (alike a c) (alike b g) (numbers_alike l1 a c (subst (λ (z : ℕ). Describes known z a) (operation_left (number_of_op o) (number_of_op p) l l1 r r1 k) i) i1)
         (numbers_alike r1 b g (subst (λ (z : ℕ). Describes known z b) (operation_right (number_of_op o) (number_of_op p) l l1 r r1 k) j) j1))
     forms_alike n s t (converted a to) (converted b other) (m, (i, d)) (m1, (i1, e)) =
-        let k = one_form known n s t (form.Cast (sort_of to) m) (form.Cast (sort_of other) m1) d e in
-        both_true (same_kind to other) (alike a b) (sorts_alike to other (cast_sort (sort_of to) (sort_of other) m m1 k)) (numbers_alike m1 a b (subst (λ (z : ℕ). Describes known z a) (cast_inner (sort_of to) (sort_of other) m m1 k) i) i1)
+        let k = one_form known n s t (form.Cast (kind_sort to) m) (form.Cast (kind_sort other) m1) d e in
+        both_true (same_kind to other) (alike a b) (sorts_alike to other (cast_sort (kind_sort to) (kind_sort other) m m1 k)) (numbers_alike m1 a b (subst (λ (z : ℕ). Describes known z a) (cast_inner (kind_sort to) (kind_sort other) m m1 k) i) i1)
     forms_alike n s t (number a b) (truth_value k) d e = absurd (clash 0 1 (tags_same n s t (number a b) (truth_value k) d e) refl)
     forms_alike n s t (number a b) (named k) d e = absurd (clash 0 2 (tags_same n s t (number a b) (named k) d e) refl)
     forms_alike n s t (number a b) (accessed k l) d e = absurd (clash 0 3 (tags_same n s t (number a b) (accessed k l) d e) refl)
@@ -308,7 +308,7 @@ module _ (known : List Structure) where
     indices_alike n (term_then t ts) (term_then u us) (l, (m, (i, (s, r)))) (l1, (m1, (i1, (s1, r1)))) =
         let long : suc (many ts) ≡ suc (many us) = one_height (suc (many ts)) (suc (many us)) (Some n) (tall_all t ts n (l, (m, (i, (s, r))))) (tall_all u us n (l1, (m1, (i1, (s1, r1))))) in
         let rest = rest_alike n ts us m m1 (less (many ts) (many us) long) r r1 in
-        let both : form.Index None l ≡ form.Index None l1 = one_form known m1 sort.Unknown sort.Unknown _ _ (subst (λ (z : ℕ). Stands known z sort.Unknown (form.Index None l)) rest.0 s) s1 in
+        let both : form.Index None l ≡ form.Index None l1 = one_form known m1 sort.Unknown sort.Unknown _ _ (subst (λ (z : ℕ). StructureStands known z sort.Unknown (form.Index None l)) rest.0 s) s1 in
         let inner : l ≡ l1 = last l l1 both in
         both_true (alike t u) (all_alike ts us) (numbers_alike l1 t u (subst (λ (z : ℕ). Describes known z t) inner i) i1) rest.1
       where
@@ -330,7 +330,7 @@ module _ (known : List Structure) where
         none n e = omega (arith, e)
     rest_alike n (term_then t ts) (term_then u us) b c h (l, (m, (i, (s, r)))) (l1, (m1, (i1, (s1, r1)))) =
         let rest = rest_alike n ts us m m1 (less (many ts) (many us) h) r r1 in
-        let both : form.Index (Some b) l ≡ form.Index (Some c) l1 = one_form known m1 sort.Unknown sort.Unknown _ _ (subst (λ (z : ℕ). Stands known z sort.Unknown (form.Index (Some b) l)) rest.0 s) s1 in
+        let both : form.Index (Some b) l ≡ form.Index (Some c) l1 = one_form known m1 sort.Unknown sort.Unknown _ _ (subst (λ (z : ℕ). StructureStands known z sort.Unknown (form.Index (Some b) l)) rest.0 s) s1 in
         let inner : l ≡ l1 = last b c l l1 both in
         (before b c l l1 both, both_true (alike t u) (all_alike ts us) (numbers_alike l1 t u (subst (λ (z : ℕ). Describes known z t) inner i) i1) rest.1)
       where

@@ -14,7 +14,7 @@ use Rattle.dh_viewing.specs.Carried.{carried, carried_as, carried_by, largest}
 use Rattle.dh_viewing.specs.ReachedBanks.{bank_at, covering}
 use Rattle.dh_viewing.proofs.BankDigits.{bank_at_below, digits_bank, digits_inside, indices_of}
 use Rattle.dh_viewing.proofs.ViewBanks.{covered_digits, covered_element, same_inside}
-use Rattle.dh_meaning.specs.Ways.{Step}
+use Rattle.dh_meaning.specs.Ways.{WayStep}
 use Rattle.dh_ways.specs.Leading.{StepsLead, next_dims}
 use Rattle.dh_ports.specs.Carriers.{banks_behind, has_shift, is_shift, source_in, source_through}
 use Rattle.dh_ports.proofs.ClaimedBanks.{banks_some}
@@ -178,18 +178,18 @@ carried_source (v ∷ vs) charge bank e =
     let parts = or_parts (is_shift v.sort) (has_shift vs) e in
     carried_source vs (carried v charge) bank parts.1 ∙ as_source v.sort v.shape.dims v.parent.dims charge (source_through vs bank) parts.0
 
-pub source_inside : (ss : List Step) (memory : List Dim) (bank : ℕ) → StepsLead ss memory → has_shift (map (λ s. s.is) ss) ≡ false → bank < banks_of memory → source_through (map (λ s. s.is) ss) bank < banks_of (next_dims ss memory)
+pub source_inside : (ss : List WayStep) (memory : List Dim) (bank : ℕ) → StepsLead ss memory → has_shift (map (λ s. s.is) ss) ≡ false → bank < banks_of memory → source_through (map (λ s. s.is) ss) bank < banks_of (next_dims ss memory)
 source_inside [] memory bank lead e below = below
 source_inside (s ∷ ss) memory bank lead e below =
     let parts = or_parts (is_shift s.is.sort) (has_shift (map (λ s. s.is) ss)) e in
     source_below s.is.shape.dims s.is.parent.dims s.is.by lead.0.own.dims lead.0.parent.dims s.is.sort (source_through (map (λ s. s.is) ss) bank) lead.0.shape parts.0
     (subst (λ (ds : List Dim). source_through (map (λ s. s.is) ss) bank < banks_of ds) (sym lead.1.0) (source_inside ss memory bank lead.1.1 parts.1 below))
 
-carried_one : (ss : List Step) (memory : List Dim) (charge : ℕ → ℕ) (most bank : ℕ) → StepsLead ss memory → ((b : ℕ) → charge b ≡ most) → carried_by (map (λ s. s.is) ss) charge bank ≡ most
+carried_one : (ss : List WayStep) (memory : List Dim) (charge : ℕ → ℕ) (most bank : ℕ) → StepsLead ss memory → ((b : ℕ) → charge b ≡ most) → carried_by (map (λ s. s.is) ss) charge bank ≡ most
 carried_one [] memory charge most bank lead e = e bank
 carried_one (s ∷ ss) memory charge most bank lead e = carried_one ss memory (carried s.is charge) most bank lead.1.1 (λ b. as_one s.is.sort s.is.shape.dims s.is.parent.dims charge most b lead.0.own.dims e)
 
-pub carried_evenly : (ss : List Step) (memory : List Dim) (charge : ℕ → ℕ) (bank : ℕ) → StepsLead ss memory → has_shift (map (λ s. s.is) ss) ≡ true → carried_by (map (λ s. s.is) ss) charge bank ≡ largest charge (banks_of (next_dims ss memory))
+pub carried_evenly : (ss : List WayStep) (memory : List Dim) (charge : ℕ → ℕ) (bank : ℕ) → StepsLead ss memory → has_shift (map (λ s. s.is) ss) ≡ true → carried_by (map (λ s. s.is) ss) charge bank ≡ largest charge (banks_of (next_dims ss memory))
 carried_evenly [] memory charge bank lead e = cc
 carried_evenly (s ∷ ss) memory charge bank lead e = by (is_shift s.is.sort) refl e (carried_evenly ss memory (carried s.is charge) bank lead.1.1)
   where
@@ -203,11 +203,11 @@ carried_evenly (s ∷ ss) memory charge bank lead e = by (is_shift s.is.sort) re
         ∙ largest_kept s.is.shape.dims s.is.parent.dims s.is.by lead.0.own.dims lead.0.parent.dims s.is.sort charge lead.0.shape f))
 
 -- each of these views has the shape of its sort
-pub all_maps : (ss : List Step) (memory : List Dim) → StepsLead ss memory → AllByRecursion IsViewMap (map (λ s. s.is) ss)
+pub all_maps : (ss : List WayStep) (memory : List Dim) → StepsLead ss memory → AllByRecursion IsViewMap (map (λ s. s.is) ss)
 all_maps [] memory lead = tt
 all_maps (s ∷ ss) memory lead = (lead.0, all_maps ss memory lead.1.1)
 
 -- behind the last of them are the banks of the memory
-pub end_banks : (s : Step) (ss : List Step) (memory : List Dim) (banks : ℕ) → StepsLead (s ∷ ss) memory → banks_behind banks (map (λ s. s.is) (s ∷ ss)) ≡ banks_of memory
+pub end_banks : (s : WayStep) (ss : List WayStep) (memory : List Dim) (banks : ℕ) → StepsLead (s ∷ ss) memory → banks_behind banks (map (λ s. s.is) (s ∷ ss)) ≡ banks_of memory
 end_banks s [] memory banks lead = ap (λ ds. banks_of ds) lead.1.0
 end_banks s (t ∷ ss) memory banks lead = end_banks t ss memory (banks_of s.is.parent.dims) lead.1.1

@@ -11,7 +11,7 @@ use Rattle.dh_tree.specs.Elements.{banks_of}
 use Rattle.dh_tree.specs.ViewShapes.{IsViewMap}
 use Rattle.dh_viewing.specs.Carried.{carried_by, largest}
 use Rattle.dh_meaning.specs.Ways.{step_of}
-use Rattle.dh_ways.specs.Kept.{Led, Way}
+use Rattle.dh_ways.specs.Kept.{KeptLed, KeptWay}
 use Rattle.dh_ways.specs.Linked.{IsParentAt, way_there}
 use Rattle.dh_ways.specs.Leading.{StepsLead}
 use Rattle.dh_ways.specs.Seen.{way_seen}
@@ -39,7 +39,7 @@ zero_at zero b = refl
 zero_at (suc n) zero = refl
 zero_at (suc n) (suc b) = zero_at n b
 
-module _ (w : Way) where
+module _ (w : KeptWay) where
   views_are : map (λ s. s.is) (way_seen w).steps ≡ views_of w
   views_are = views_back (views_of w)
 
@@ -119,7 +119,7 @@ sources_next v vs end evenly behind e so =
     by false false = sym (each_mapped (source_in v.sort v.shape.dims v.parent.dims) (source_through vs) end)
 
 -- of a view of a memory
-first_made : (w : Way) (c : Carrier) → w.behind ≡ [] → IsCarrierOn w.view false (each_below itself (banks_of w.view.parent.dims)) c → IsMadeOf w c
+first_made : (w : KeptWay) (c : Carrier) → w.behind ≡ [] → IsCarrierOn w.view false (each_below itself (banks_of w.view.parent.dims)) c → IsMadeOf w c
 first_made w c alone on = record {
   banks = on.banks;
   even = on.even ∙ ap (λ vs. has_shift (w.view ∷ vs)) (sym alone);
@@ -130,7 +130,7 @@ first_made w c alone on = record {
 }
 
 -- and of a view of another one
-next_made : (w m : Way) (d c : Carrier) → w.behind ≡ m.view ∷ m.behind → IsMadeOf m d → IsCarrierOn w.view d.evenly d.sources.items c → IsMadeOf w c
+next_made : (w m : KeptWay) (d c : Carrier) → w.behind ≡ m.view ∷ m.behind → IsMadeOf m d → IsCarrierOn w.view d.evenly d.sources.items c → IsMadeOf w c
 next_made w m d c above made on = record {
   banks = on.banks;
   even = on.even ∙ (ap (λ b. is_shift w.view.sort || b) made.even ∙ ap (λ vs. has_shift (w.view ∷ vs)) (sym above));
@@ -141,58 +141,58 @@ next_made w m d c above made on = record {
 }
 
 -- what a way tells of the view at its place
-way_of_place : (ls : List Led) (place : ℕ) (w : Way) (l : Led) → Some w ≡ way_there ls (Some place) → slice_get ls place ≡ Some l → w ≡ l.way
-way_of_place ls place w l there at = same_Some w l.way (there ∙ ap (option_map (λ (x : Led). x.way)) at)
+way_of_place : (ls : List KeptLed) (place : ℕ) (w : KeptWay) (l : KeptLed) → Some w ≡ way_there ls (Some place) → slice_get ls place ≡ Some l → w ≡ l.way
+way_of_place ls place w l there at = same_Some w l.way (there ∙ ap (option_map (λ (x : KeptLed). x.way)) at)
 
-all_follow : (ls : List Led) (place : ℕ) (l : Led) → AllByRecursion (λ (x : Led). Follow x.way) ls → slice_get ls place ≡ Some l → Follow l.way
+all_follow : (ls : List KeptLed) (place : ℕ) (l : KeptLed) → AllByRecursion (λ (x : KeptLed). Follow x.way) ls → slice_get ls place ≡ Some l → Follow l.way
 all_follow [] place l h e = absurd (none-some l e)
-all_follow (x ∷ ls) zero l h e = subst (λ (y : Led). Follow y.way) (same_Some x l e) h.0
+all_follow (x ∷ ls) zero l h e = subst (λ (y : KeptLed). Follow y.way) (same_Some x l e) h.0
 all_follow (x ∷ ls) (suc place) l h e = all_follow ls place l h.1 e
 
-pub view_follows : (ls : List Led) (place : ℕ) (w : Way) (v : ViewMap) → AllByRecursion (λ (x : Led). Follow x.way) ls → place < length ls → Some w ≡ way_there ls (Some place) → v ≡ w.view → IsViewMap v
+pub view_follows : (ls : List KeptLed) (place : ℕ) (w : KeptWay) (v : ViewMap) → AllByRecursion (λ (x : KeptLed). Follow x.way) ls → place < length ls → Some w ≡ way_there ls (Some place) → v ≡ w.view → IsViewMap v
 view_follows ls place w v all inside there is =
     let at = stands_in ls place inside in
-    subst (λ (x : ViewMap). IsViewMap x) (sym (is ∙ ap (λ (x : Way). x.view) (way_of_place ls place w at.item there at.there))) (maps_follow at.item.way (all_follow ls place at.item all at.there)).0
+    subst (λ (x : ViewMap). IsViewMap x) (sym (is ∙ ap (λ (x : KeptWay). x.view) (way_of_place ls place w at.item there at.there))) (maps_follow at.item.way (all_follow ls place at.item all at.there)).0
 
-pub parent_before : (ls : List Led) (place parent : ℕ) (o : Option ℕ) (n : ℕ) → IsParentAt ls place o → o ≡ Some parent → place ≤ n → parent < n
+pub parent_before : (ls : List KeptLed) (place parent : ℕ) (o : Option ℕ) (n : ℕ) → IsParentAt ls place o → o ≡ Some parent → place ≤ n → parent < n
 parent_before ls place parent o n h e many = let less = (subst (λ (x : Option ℕ). IsParentAt ls place x) e h).0 in omega (arith, less, many)
 
-pub made_first : (ls : List Led) (place : ℕ) (w : Way) (v : ViewMap) (o : Option ℕ) (c : Carrier) → Some w ≡ way_there ls (Some place) → v ≡ w.view → IsParentAt ls place o → o ≡ None
-    → IsCarrierOn v false (each_below itself (banks_of v.parent.dims)) c → (l : Led) → slice_get ls place ≡ Some l → IsMadeOf l.way c
+pub made_first : (ls : List KeptLed) (place : ℕ) (w : KeptWay) (v : ViewMap) (o : Option ℕ) (c : Carrier) → Some w ≡ way_there ls (Some place) → v ≡ w.view → IsParentAt ls place o → o ≡ None
+    → IsCarrierOn v false (each_below itself (banks_of v.parent.dims)) c → (l : KeptLed) → slice_get ls place ≡ Some l → IsMadeOf l.way c
 made_first ls place w v o c there is parent none on l at =
     first_made l.way c (subst (λ (x : Option ℕ). IsParentAt ls place x) none parent l at)
-    (subst (λ (x : ViewMap). IsCarrierOn x false (each_below itself (banks_of x.parent.dims)) c) (is ∙ ap (λ (x : Way). x.view) (way_of_place ls place w l there at)) on)
+    (subst (λ (x : ViewMap). IsCarrierOn x false (each_below itself (banks_of x.parent.dims)) c) (is ∙ ap (λ (x : KeptWay). x.view) (way_of_place ls place w l there at)) on)
 
-pub made_behind : (ls : List Led) (place parent : ℕ) (w : Way) (v : ViewMap) (o : Option ℕ) (each : List Carrier) (d c : Carrier) → AreMade ls each → Some w ≡ way_there ls (Some place) → v ≡ w.view → IsParentAt ls place o → o ≡ Some parent → place < length ls → parent < length each
-    → d ≡ get_or each parent d → IsCarrierOn v d.evenly d.sources.items c → (l : Led) → slice_get ls place ≡ Some l → IsMadeOf l.way c
+pub made_behind : (ls : List KeptLed) (place parent : ℕ) (w : KeptWay) (v : ViewMap) (o : Option ℕ) (each : List Carrier) (d c : Carrier) → AreMade ls each → Some w ≡ way_there ls (Some place) → v ≡ w.view → IsParentAt ls place o → o ≡ Some parent → place < length ls → parent < length each
+    → d ≡ get_or each parent d → IsCarrierOn v d.evenly d.sources.items c → (l : KeptLed) → slice_get ls place ≡ Some l → IsMadeOf l.way c
 made_behind ls place parent w v o each d c made there is told some inside below d_is on l at =
     let p = subst (λ (x : Option ℕ). IsParentAt ls place x) some told in
     let above = stands_in ls parent (less parent place (length ls) p.0 inside) in
     next_made l.way above.item.way d c (p.1 l above.item at above.there) (made parent above.item d above.there (slice_get-get_or each parent d below ∙ ap Some (sym d_is)))
-    (subst (λ (x : ViewMap). IsCarrierOn x d.evenly d.sources.items c) (is ∙ ap (λ (x : Way). x.view) (way_of_place ls place w l there at)) on)
+    (subst (λ (x : ViewMap). IsCarrierOn x d.evenly d.sources.items c) (is ∙ ap (λ (x : KeptWay). x.view) (way_of_place ls place w l there at)) on)
   where
     less : (a b n : ℕ) → a < b → b < n → a < n
     less a b n e f = omega (arith, e, f)
 
 -- Each view has its carrier.
 
-pub made_none : (ls : List Led) (each : List Carrier) → each ≡ [] → (length each ≡ 0) × AreMade ls each
+pub made_none : (ls : List KeptLed) (each : List Carrier) → each ≡ [] → (length each ≡ 0) × AreMade ls each
 made_none ls each e = (ap (λ (cs : List Carrier). length cs) e, λ k l c at there. absurd (none-some c (ap (λ (cs : List Carrier). slice_get cs k) (sym e) ∙ there)))
 
-pub made_more : (ls : List Led) (each new : List Carrier) (place : ℕ) (c : Carrier) → (length each ≡ place) × AreMade ls each → ((l : Led) → slice_get ls place ≡ Some l → IsMadeOf l.way c) → new ≡ each ++ c ∷ [] → (length new ≡ place + 1) × AreMade ls new
+pub made_more : (ls : List KeptLed) (each new : List Carrier) (place : ℕ) (c : Carrier) → (length each ≡ place) × AreMade ls each → ((l : KeptLed) → slice_get ls place ≡ Some l → IsMadeOf l.way c) → new ≡ each ++ c ∷ [] → (length new ≡ place + 1) × AreMade ls new
 made_more ls each new place c (long, made) own e = (
   ap (λ (cs : List Carrier). length cs) e ∙ (length_push each c ∙ ap (λ n. n + 1) long),
   λ k l d at there. by k l d at (pushed_cases each c k d (ap (λ (cs : List Carrier). slice_get cs k) (sym e) ∙ there)),
 )
   where
-    by : (k : ℕ) (l : Led) (d : Carrier) → slice_get ls k ≡ Some l → (slice_get each k ≡ Some d) ⊎ ((k ≡ length each) × (d ≡ c)) → IsMadeOf l.way d
+    by : (k : ℕ) (l : KeptLed) (d : Carrier) → slice_get ls k ≡ Some l → (slice_get each k ≡ Some d) ⊎ ((k ≡ length each) × (d ≡ c)) → IsMadeOf l.way d
     by k l d at (inl before) = made k l d at before
     by k l d at (inr last) = subst (λ (x : Carrier). IsMadeOf l.way x) (sym last.1) (own l (ap (slice_get ls) (sym (last.0 ∙ long)) ∙ at))
 
 abbrev carrier_with : Carrier → (evenly : Bool) → Carrier
 carrier_with c evenly = record { banks = c.banks; evenly = evenly; sources = c.sources }
 
-made_carries : (w : Way) (c : Carrier) → Follow w → IsMadeOf w c → IsCarrier (way_seen w) c
+made_carries : (w : KeptWay) (c : Carrier) → Follow w → IsMadeOf w c → IsCarrier (way_seen w) c
 made_carries w c f made = by (has_shift (views_of w)) refl
   where
     told : (b : Bool) → has_shift (views_of w) ≡ b → c.sources.items ≡ (if b then replicate (banks_at_end w) 0 else each_below (source_through (views_of w)) (banks_at_end w))
@@ -202,7 +202,7 @@ made_carries w c f made = by (has_shift (views_of w)) refl
     by true e = subst (λ (t : Bool). IsCarrier (way_seen w) (carrier_with c t)) (sym (made.even ∙ e)) (carrier_evenly w c.banks c.sources (banks_at_end w) f made.banks refl e (told true e))
     by false e = subst (λ (t : Bool). IsCarrier (way_seen w) (carrier_with c t)) (sym (made.even ∙ e)) (carrier_plain w c.banks c.sources (banks_at_end w) f made.banks refl e (told false e))
 
-each_made : (ls : List Led) (each : List Carrier) → length each ≡ length ls → AllByRecursion (λ (l : Led). Follow l.way) ls → AreMade ls each → AreEach ls each
+each_made : (ls : List KeptLed) (each : List Carrier) → length each ≡ length ls → AllByRecursion (λ (l : KeptLed). Follow l.way) ls → AreMade ls each → AreEach ls each
 each_made [] [] long all made = tt
 each_made [] (c ∷ cs) long all made = cc
 each_made (l ∷ ls) [] long all made = cc
@@ -211,7 +211,7 @@ each_made (l ∷ ls) (c ∷ cs) long all made = (made_carries l.way c all.0 (mad
     less : (m n : ℕ) → suc m ≡ suc n → m ≡ n
     less m n e = omega (arith, e)
 
-pub each_done : (ls : List Led) (each : List Carrier) (place n : ℕ) → n ≡ length ls → n ≤ place → place ≤ n → AllByRecursion (λ (l : Led). Follow l.way) ls → (length each ≡ place) × AreMade ls each → AreEach ls each
+pub each_done : (ls : List KeptLed) (each : List Carrier) (place n : ℕ) → n ≡ length ls → n ≤ place → place ≤ n → AllByRecursion (λ (l : KeptLed). Follow l.way) ls → (length each ≡ place) × AreMade ls each → AreEach ls each
 each_done ls each place n many past inside all (long, made) = each_made ls each (long ∙ (same place n past inside ∙ many)) all made
   where
     same : (a b : ℕ) → b ≤ a → a ≤ b → a ≡ b

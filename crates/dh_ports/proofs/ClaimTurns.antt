@@ -27,7 +27,7 @@ use Rattle.dh_events.specs.declared.dependence.Scope.{Scope}
 use Rattle.dh_ports.specs.declared.moves.Layout.{Layout}
 use Rattle.dh_ports.specs.declared.moves.Move.TheVariants as move
 use Rattle.dh_ports.specs.Banks.{bank_at_path, each_below}
-use Rattle.dh_events.specs.Accesses.{entity_in, loops_in}
+use Rattle.dh_events.specs.Accesses.{entity_in, loops_listed}
 use Rattle.dh_ports.specs.Claims.{base_of, AreBases, keys_on, counts_to, claim_at, claim_in, claims_from, claims_in, claims_at, claims_of, source_of, count_on}
 use Rattle.dh_ports.specs.Layouts.{IsLayout}
 use Rattle.dh_events.specs.Scopes.{AreScopes}
@@ -285,7 +285,7 @@ some_loop loops b e f none = apart (sym (ap (λ (l : List Counter). length l == 
     apart : true ≡ false → ⊥
     apart e = cc
 
-pub scopes_at : (p : Program) (layout : Layout) → IsLayout p layout → (round : Option ℕ) → (loops_in layout.rounds.items round ≡ [] → ⊥) → AreScopes (all_bindings_of p) layout.scopes.items
+pub scopes_at : (p : Program) (layout : Layout) → IsLayout p layout → (round : Option ℕ) → (loops_listed layout.rounds.items round ≡ [] → ⊥) → AreScopes (all_bindings_of p) layout.scopes.items
 scopes_at p layout l None h = absurd (h refl)
 scopes_at p layout l (Some id) h = l.scopes id h
 

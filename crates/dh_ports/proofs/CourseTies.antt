@@ -7,7 +7,7 @@ use Rattle.dh_events.specs.declared.events.Site.{Site}
 use Rattle.dh_tree.specs.Meets.{Meets, nothing, access, all, one, In, has, load, upto}
 use Rattle.dh_tree.proofs.LargestSums.{in_has, upto_first, upto_second, upto_one_first, upto_one_second}
 use Rattle.dh_ports.specs.Levels.{Level, level, begun, kept_back, settled}
-use Rattle.dh_events.specs.Incidents.{Incident, touches, assigned, arm_begins, arm_ends, begins, next, ends}
+use Rattle.dh_events.specs.Incidents.{PortEvent, touches, assigned, arm_begins, arm_ends, begins, next, ends}
 use Rattle.dh_ports.specs.Courses.{count, less, course, before_at, Ties, PartsTie}
 
 absurd : {A : Type 0} → ⊥ → A
@@ -29,7 +29,7 @@ shift n m = omega arith
 no_more : (n : ℕ) → n ≡ n + 0
 no_more n = omega arith
 
-pub count_append : (xs ys : List Incident) → count (xs ++ ys) ≡ count xs + count ys
+pub count_append : (xs ys : List PortEvent) → count (xs ++ ys) ≡ count xs + count ys
 count_append [] ys = from_none (count ys)
   where
     from_none : (n : ℕ) → n ≡ 0 + n
@@ -45,7 +45,7 @@ count_append (begins ∷ xs) ys = count_append xs ys
 count_append (next ∷ xs) ys = count_append xs ys
 count_append (ends ∷ xs) ys = count_append xs ys
 
-pub course_append : (c : ℕ → ℕ) (n : ℕ) (l : Level) (xs ys : List Incident) → course c n l (xs ++ ys) ≡ course c (n + count xs) (course c n l xs) ys
+pub course_append : (c : ℕ → ℕ) (n : ℕ) (l : Level) (xs ys : List PortEvent) → course c n l (xs ++ ys) ≡ course c (n + count xs) (course c n l xs) ys
 course_append c n l [] ys = ap (λ m. course c m l ys) (no_more n)
 course_append c n l (touches a w s ∷ xs) ys = course_append c (suc n) (less (c n) l) xs ys ∙ ap (λ m. course c m (course c (suc n) (less (c n) l) xs) ys) (shift n (count xs))
 course_append c n l (assigned e ∷ xs) ys = course_append c n l xs ys
@@ -61,7 +61,7 @@ unequal n k none = elim (cases_Bool (n == k)) [ inl e ↦ absurd (none (eqb-true
 same_test : (b : Bool) (x y z : ℕ) → y ≡ z → (if b then x else y) ≡ (if b then x else z)
 same_test b x y z e = ap (λ v. if b then x else v) e
 
-pub before_first : (c : ℕ → ℕ) (n : ℕ) (l : Level) (xs ys : List Incident) (k : ℕ) → n ≤ k → k < n + count xs → before_at c n l (xs ++ ys) k ≡ before_at c n l xs k
+pub before_first : (c : ℕ → ℕ) (n : ℕ) (l : Level) (xs ys : List PortEvent) (k : ℕ) → n ≤ k → k < n + count xs → before_at c n l (xs ++ ys) k ≡ before_at c n l xs k
 before_first c n l [] ys k least most = absurd (none n k least most)
   where
     none : (n k : ℕ) → n ≤ k → k < n + 0 → ⊥
@@ -85,7 +85,7 @@ before_first c n l (begins ∷ xs) ys k a b = before_first c n (begun l) xs ys k
 before_first c n l (next ∷ xs) ys k a b = before_first c n (kept_back l) xs ys k a b
 before_first c n l (ends ∷ xs) ys k a b = before_first c n (settled (kept_back l)) xs ys k a b
 
-pub before_second : (c : ℕ → ℕ) (n : ℕ) (l : Level) (xs ys : List Incident) (k : ℕ) → n + count xs ≤ k → before_at c n l (xs ++ ys) k ≡ before_at c (n + count xs) (course c n l xs) ys k
+pub before_second : (c : ℕ → ℕ) (n : ℕ) (l : Level) (xs ys : List PortEvent) (k : ℕ) → n + count xs ≤ k → before_at c n l (xs ++ ys) k ≡ before_at c (n + count xs) (course c n l xs) ys k
 before_second c n l [] ys k least = ap (λ m. before_at c m l ys k) (no_more n)
 before_second c n l (touches a w s ∷ xs) ys k least =
     ap (λ b. if b then l.now else before_at c (suc n) (less (c n) l) (xs ++ ys) k) (unequal n k (λ s. far n k (count xs) least s))
@@ -141,7 +141,7 @@ module _ (c : ℕ → ℕ) (n : ℕ) where
       none x = omega arith
 
   -- one behind the other
-  pub ties_all : (xs ys : List Incident) (t u : Meets) → Ties c n xs t → Ties c (n + count xs) ys u → Ties c n (xs ++ ys) (all t u)
+  pub ties_all : (xs ys : List PortEvent) (t u : Meets) → Ties c n xs t → Ties c (n + count xs) ys u → Ties c n (xs ++ ys) (all t u)
   ties_all xs ys t u f g = record {
     first = λ k i. elim i [ inl j ↦ f.first k j | inr j ↦ below n (count xs) k (g.first k j) ];
     last = λ k i. subst (λ (m : ℕ). k < n + m) (sym (count_append xs ys)) (elim i [ inl j ↦ longer n (count xs) (count ys) k (f.last k j) | inr j ↦ regroup n (count xs) (count ys) k (g.last k j) ]);
@@ -177,7 +177,7 @@ module _ (c : ℕ → ℕ) (n : ℕ) where
       none : (m b : ℕ) → m ≤ b → m ≡ min m (b - 0)
       none m b e = grind (arith, e)
 
-  pub parts_one : (xs ys : List Incident) (t u : Meets) → Ties c n xs t → PartsTie c (n + count xs) ys u → PartsTie c n (xs ++ next ∷ ys) (one t u)
+  pub parts_one : (xs ys : List PortEvent) (t u : Meets) → Ties c n xs t → PartsTie c (n + count xs) ys u → PartsTie c n (xs ++ next ∷ ys) (one t u)
   parts_one xs ys t u f g = record {
     first = λ k i. elim i [ inl j ↦ f.first k j | inr j ↦ below n (count xs) k (g.first k j) ];
     last = λ k i. subst (λ (m : ℕ). k < n + m) (sym (count_append xs (next ∷ ys))) (elim i [ inl j ↦ longer n (count xs) (count ys) k (f.last k j) | inr j ↦ regroup n (count xs) (count ys) k (g.last k j) ]);
@@ -207,7 +207,7 @@ module _ (c : ℕ → ℕ) (n : ℕ) where
       lower m x b e = grind (arith, e)
 
   -- a node: its parts between its begin and its end
-  pub ties_parts : (xs : List Incident) (t : Meets) → PartsTie c n xs t → Ties c n (begins ∷ (xs ++ ends ∷ [])) t
+  pub ties_parts : (xs : List PortEvent) (t : Meets) → PartsTie c n xs t → Ties c n (begins ∷ (xs ++ ends ∷ [])) t
   ties_parts xs t f = record {
     first = f.first;
     last = λ k i. subst (λ (m : ℕ). k < n + m) (sym (count_append xs (ends ∷ []))) (longer n (count xs) k (f.last k i));
@@ -222,7 +222,7 @@ module _ (c : ℕ → ℕ) (n : ℕ) where
       taken x a = grind arith
 
   -- the last of two parts has no mark behind it
-  pub ties_two : (xs ys : List Incident) (t u : Meets) → Ties c n xs t → Ties c (n + count xs) ys u → Ties c n (begins ∷ (xs ++ (next ∷ (ys ++ ends ∷ [])))) (one t u)
+  pub ties_two : (xs ys : List PortEvent) (t u : Meets) → Ties c n xs t → Ties c (n + count xs) ys u → Ties c n (begins ∷ (xs ++ (next ∷ (ys ++ ends ∷ [])))) (one t u)
   ties_two xs ys t u f g = record {
     first = λ k i. elim i [ inl j ↦ f.first k j | inr j ↦ below n (count xs) k (g.first k j) ];
     last = λ k i. subst (λ (m : ℕ). k < n + m) (sym (count_append xs (next ∷ (ys ++ ends ∷ [])))) (subst (λ (m : ℕ). k < n + (count xs + m)) (sym (count_append ys (ends ∷ []))) (elim i [ inl j ↦ longer n (count xs) (count ys) k (f.last k j) | inr j ↦ regroup n (count xs) (count ys) k (g.last k j) ]));
@@ -267,7 +267,7 @@ module _ (c : ℕ → ℕ) (n : ℕ) where
       most k e = omega (arith, e)
 
   -- what is no access and changes nothing
-  pub ties_behind : (xs : List Incident) (y : Incident) (t : Meets) → count (y ∷ []) ≡ 0 → ((m : ℕ) (l : Level) → course c m l (y ∷ []) ≡ l) → Ties c n xs t → Ties c n (xs ++ y ∷ []) t
+  pub ties_behind : (xs : List PortEvent) (y : PortEvent) (t : Meets) → count (y ∷ []) ≡ 0 → ((m : ℕ) (l : Level) → course c m l (y ∷ []) ≡ l) → Ties c n xs t → Ties c n (xs ++ y ∷ []) t
   ties_behind xs y t none same f = record {
     first = f.first;
     last = λ k i. subst (λ (m : ℕ). k < n + m) (sym (count_append xs (y ∷ []))) (longer n (count xs) (count (y ∷ [])) k (f.last k i));
@@ -279,7 +279,7 @@ module _ (c : ℕ → ℕ) (n : ℕ) where
       longer n m p k e = omega (arith, e)
 
   -- of a part beside nothing none begins and none ends
-  pub ties_single : (xs : List Incident) (t : Meets) → Ties c n xs t → Ties c n xs (one t nothing)
+  pub ties_single : (xs : List PortEvent) (t : Meets) → Ties c n xs t → Ties c n xs (one t nothing)
   ties_single xs t f = record {
     first = λ k i. elim i [ inl j ↦ f.first k j | inr j ↦ absurd j ];
     last = λ k i. elim i [ inl j ↦ f.last k j | inr j ↦ absurd j ];

@@ -4,7 +4,7 @@ use Rattle.std.specs.Prelude.{Some, slice_get}
 use Rattle.std.proofs.lemmas.Bool.{eqb-true, eq-eqb, cases_Bool, cases_lt}
 use Rattle.dh_ports.specs.declared.levels.Step.{Step}
 use Rattle.dh_ports.specs.declared.levels.Step.TheVariants as step
-use Rattle.dh_events.specs.Incidents.{Incident, touches, assigned, arm_begins, arm_ends, begins, next, ends}
+use Rattle.dh_events.specs.Incidents.{PortEvent, touches, assigned, arm_begins, arm_ends, begins, next, ends}
 use Rattle.dh_ports.specs.Levels.{Level, level, begun, kept_back, settled, taken, advance, left_before, lefts_of}
 use Rattle.dh_ports.specs.Courses.{count, less, before_at}
 use Rattle.dh_ports.specs.Expanded.{level_behind, taken_by, all_taken, IsTaking, AreTaking, expand, steps_before}
@@ -107,11 +107,11 @@ module _ (f : ℕ → List Step) (taking : (k : ℕ) → AreTaking (f k)) (slot 
   takes_of k = all_taken slot (f k)
 
   -- the step j of access k, and what is left before it where nothing of the slot was taken by the steps before it
-  pub record Placed (n : ℕ) (l : Level) (xs : List Incident) (k j : ℕ) (s : Step) (i : ℕ) : Type 0 where
+  pub record Placed (n : ℕ) (l : Level) (xs : List PortEvent) (k j : ℕ) (s : Step) (i : ℕ) : Type 0 where
     pub stands : slice_get (expand f n xs) i ≡ Some s
     pub left : all_taken slot (take j (f k)) ≡ 0 → (level_behind slot l (take i (expand f n xs))).now ≡ before_at takes_of n l xs k
 
-  pub placed : (n : ℕ) (l : Level) (xs : List Incident) (k j : ℕ) (s : Step) (i : ℕ) → n ≤ k → k < n + count xs → slice_get (f k) j ≡ Some s → i ≡ steps_before f n xs k + j → Placed n l xs k j s i
+  pub placed : (n : ℕ) (l : Level) (xs : List PortEvent) (k j : ℕ) (s : Step) (i : ℕ) → n ≤ k → k < n + count xs → slice_get (f k) j ≡ Some s → i ≡ steps_before f n xs k + j → Placed n l xs k j s i
   placed n l [] k j s i least most is at = absurd (none n k least most)
     where
       none : (n k : ℕ) → n ≤ k → k < n + 0 → ⊥

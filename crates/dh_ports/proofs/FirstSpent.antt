@@ -7,7 +7,7 @@ use Rattle.dh_tree.specs.PlainTrees.{Program}
 use Rattle.dh_tree.specs.Meets.{Meets, nothing, access, all, one, In, Distinct, Before, total, load, upto}
 use Rattle.dh_meets.specs.Charges.{charge}
 use Rattle.dh_meets.specs.MayMeet.{meets_in}
-use Rattle.dh_meets.specs.Ports.{ports_of, place_in, KeepsPorts, PortsSpent}
+use Rattle.dh_meets.specs.Ports.{ports_of_entity, place_in, KeepsPorts, PortsSpent}
 use Rattle.dh_tree.proofs.LargestSums.{before_left, upto_first, upto_second, upto_one_first, upto_one_second, load_is_largest, upto_is_largest}
 use Rattle.dh_ports.specs.Spent.{Spends}
 use Rattle.dh_ports.proofs.Wholes.{whole}
@@ -118,8 +118,8 @@ module _ (p : Program) where
   -- a program of which no access is such keeps its ports
   pub none_spends : ((k : ℕ) → In k (meets_in p) → Spends p k → ⊥) → KeepsPorts p
   none_spends none chosen together memory bank =
-      elim (cases_lt (ports_of p memory) (total (charge p memory bank) chosen (meets_in p))) [
-        | inl over ↦ let x = load_exceeds (charge p memory bank) (ports_of p memory) (meets_in p) (whole p).distinct (above _ _ _ over ((load_is_largest (charge p memory bank) (meets_in p) (whole p).distinct).most chosen together)) in
+      elim (cases_lt (ports_of_entity p memory) (total (charge p memory bank) chosen (meets_in p))) [
+        | inl over ↦ let x = load_exceeds (charge p memory bank) (ports_of_entity p memory) (meets_in p) (whole p).distinct (above _ _ _ over ((load_is_largest (charge p memory bank) (meets_in p) (whole p).distinct).most chosen together)) in
             absurd (none x.number x.inside (record { memory = memory; bank = bank; charged = x.charged; beyond = x.beyond }))
         | inr fits ↦ fits
       ]
@@ -131,9 +131,9 @@ module _ (p : Program) where
       record {
         number = k;
         stands = stands;
-        spent = record { memory = s.memory; bank = s.bank; chosen = reached.0; completes = reached.1.0; beyond = subst (λ (n : ℕ). ports_of p s.memory < n) (sym reached.1.1) s.beyond };
+        spent = record { memory = s.memory; bank = s.bank; chosen = reached.0; completes = reached.1.0; beyond = subst (λ (n : ℕ). ports_of_entity p s.memory < n) (sym reached.1.1) s.beyond };
         first = λ x before o.
-            let at = upto_exceeds (charge p o.memory o.bank) (ports_of p o.memory) (meets_in p) x (whole p).distinct (before_left (meets_in p) x k before)
+            let at = upto_exceeds (charge p o.memory o.bank) (ports_of_entity p o.memory) (meets_in p) x (whole p).distinct (before_left (meets_in p) x k before)
             (above _ _ _ o.beyond ((upto_is_largest (charge p o.memory o.bank) (meets_in p) x (whole p).distinct (before_left (meets_in p) x k before)).most o.chosen o.completes)) in
             earlier at.at.number (sooner x k at.at.number ((whole p).before x k before) (elim at.by [ inl e ↦ inl e | inr b ↦ inr ((whole p).before at.at.number x b) ])) (record { memory = o.memory; bank = o.bank; charged = at.at.charged; beyond = at.at.beyond });
       }

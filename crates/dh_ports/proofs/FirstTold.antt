@@ -17,21 +17,21 @@ use Rattle.dh_events.specs.declared.events.Site.{Site}
 use Rattle.dh_ports.specs.declared.levels.Step.{Step}
 use Rattle.dh_ports.specs.declared.moves.Layout.{Layout}
 use Rattle.dh_ports.specs.declared.moves.Move.{Move}
-use Rattle.dh_events.specs.Accesses.{loops_in}
+use Rattle.dh_events.specs.Accesses.{loops_listed}
 use Rattle.dh_ports.specs.Claims.{moves_from}
 use Rattle.dh_ports.specs.Copies.{copies_round}
 use Rattle.dh_ports.specs.Courses.{count}
 use Rattle.dh_events.specs.declared.events.Notes.{Notes}
 use Rattle.dh_events.specs.declared.structures.Structure.{Structure}
 use Rattle.dh_events.specs.Elements.{AreReads, no_clocks, IsNoted}
-use Rattle.dh_events.specs.Incidents.{Incident, touches, assigned, arm_begins, arm_ends, begins, next, ends, closed, incidents}
+use Rattle.dh_events.specs.Incidents.{PortEvent, touches, assigned, arm_begins, arm_ends, begins, next, ends, closed, incidents}
 use Rattle.dh_ports.specs.EventMoves.{moves_known}
 use Rattle.dh_ports.specs.Layouts.{IsLayout, HaveFewCopies}
 use Rattle.dh_events.specs.Noted.{event_seen, all_seen}
 use Rattle.dh_ports.specs.Scanned.{is_late, late_at, place_in, all_late, spent_place, spent_at, FindsLate, KeepsLate}
 use Rattle.dh_events.specs.Stages.{stages_in}
-use Rattle.dh_events.specs.Structures.{AreDistinct}
-use Rattle.dh_events.specs.Tables.{numbered}
+use Rattle.dh_events.specs.Structures.{StructuresAreDistinct}
+use Rattle.dh_events.specs.Tables.{kept_at}
 use Rattle.dh_meets.specs.FewCopies.{HasFewCopies}
 use Rattle.dh_base.specs.Limits.{most_copies}
 use Rattle.dh_ports.specs.Told.{TellsFirst}
@@ -61,7 +61,7 @@ one_late (Some place) b (suc k, l, e) = absurd (none k l)
     none : (k : ℕ) → suc k < 1 → ⊥
     none k e = omega (arith, e)
 
-late_reads : (whole : List Incident) (ms : List Move) (ss : List Step) (ls : List ℕ) (b : Breach) → Contains (all_late whole ms ss ls) b → b ≡ breach rule.ReadAfterWrite b.place
+late_reads : (whole : List PortEvent) (ms : List Move) (ss : List Step) (ls : List ℕ) (b : Breach) → Contains (all_late whole ms ss ls) b → b ≡ breach rule.ReadAfterWrite b.place
 late_reads whole [] ss ls b c = absurd (nothing_in b c)
 late_reads whole (m ∷ ms) [] ls b c = absurd (nothing_in b c)
 late_reads whole (m ∷ ms) (s ∷ ss) [] b c = absurd (nothing_in b c)
@@ -135,15 +135,15 @@ found_first p events flags moves moves_are tells_spent tells_late place place_is
     (λ b c. late_reads (all_seen events) _ kept.found.steps _ b (subst (λ (l : List Breach). Contains l b) kept.found.told c)) place spent new (sym (kept.kept ∙ ap (λ o. least_of o kept.late) old_is))
 
 -- the loops that the layout knows
-layout_loops : (p : Program) (layout : Layout) → IsLayout p layout → ◌≡◌ {A = Option ℕ → List Counter} (loops_in layout.rounds.items) (loops_known p)
+layout_loops : (p : Program) (layout : Layout) → IsLayout p layout → ◌≡◌ {A = Option ℕ → List Counter} (loops_listed layout.rounds.items) (loops_known p)
 layout_loops p layout l = fun_ext each
   where
-    each : (o : Option ℕ) → loops_in layout.rounds.items o ≡ loops_known p o
+    each : (o : Option ℕ) → loops_listed layout.rounds.items o ≡ loops_known p o
     each None = refl
     each (Some id) = ap (λ (f : ℕ → List Counter). f id) l.rounds
 
 -- the number of an access by its event
-number_at : (xs : List Incident) (i : ℕ) (t : Term) (w : Bool) (s : Site) → slice_get xs i ≡ Some (touches t w s) → (k : ℕ) × ((slice_get (sites_in xs) k ≡ Some s) × (k < count xs))
+number_at : (xs : List PortEvent) (i : ℕ) (t : Term) (w : Bool) (s : Site) → slice_get xs i ≡ Some (touches t w s) → (k : ℕ) × ((slice_get (sites_in xs) k ≡ Some s) × (k < count xs))
 number_at [] i t w s e = cc
 number_at (touches u v z ∷ xs) zero t w s e = (0, (ap (λ x. Some x) (site_same u t v w z s (some_same _ _ e)), some (count xs)))
   where
@@ -182,28 +182,28 @@ few_copies p events layout few loops seen l i access writes phase round element 
     subst (λ (ls : List Counter). copies_round ls ≤ most_copies) (sym (ap (λ (f : Option ℕ → List Counter). f round) (layout_loops p layout l) ∙ w.loops n.0 _ a.0 n.1.0 a.1)) (few n.0 a.0 a.1)
 
 -- what is noted of a body
-body_seen : (p : Program) (old new : List ℕ) (events before : List Event) → old ≡ [] → numbered new ≡ stages_in p.body (numbered old) → before ≡ [] → all_seen events ≡ all_seen before ++ incidents (numbered new) None closed p.body → all_seen events ≡ happenings_of p
+body_seen : (p : Program) (old new : List ℕ) (events before : List Event) → old ≡ [] → kept_at new ≡ stages_in p.body (kept_at old) → before ≡ [] → all_seen events ≡ all_seen before ++ incidents (kept_at new) None closed p.body → all_seen events ≡ happenings_of p
 body_seen p old new events before none noted empty seen =
     seen
-    ∙ (ap (λ l. all_seen l ++ incidents (numbered new) None closed p.body) empty
-    ∙ ap (λ f. incidents f None closed p.body) (noted ∙ ap (stages_in p.body) (ap numbered none ∙ fun_ext nothing)))
+    ∙ (ap (λ l. all_seen l ++ incidents (kept_at new) None closed p.body) empty
+    ∙ ap (λ f. incidents f None closed p.body) (noted ∙ ap (stages_in p.body) (ap kept_at none ∙ fun_ext nothing)))
   where
-    nothing : (n : ℕ) → numbered [] n ≡ no_stages n
+    nothing : (n : ℕ) → kept_at [] n ≡ no_stages n
     nothing zero = refl
     nothing (suc n) = refl
 
-pub events_seen : (p q : Program) → q ≡ p → (old new shown : List ℕ) (before noted events : List Event) → old ≡ [] → numbered new ≡ stages_in q.body (numbered old) → shown ≡ new → before ≡ []
-    → all_seen noted ≡ all_seen before ++ incidents (numbered shown) None closed q.body → events ≡ noted → all_seen events ≡ happenings_of p
+pub events_seen : (p q : Program) → q ≡ p → (old new shown : List ℕ) (before noted events : List Event) → old ≡ [] → kept_at new ≡ stages_in q.body (kept_at old) → shown ≡ new → before ≡ []
+    → all_seen noted ≡ all_seen before ++ incidents (kept_at shown) None closed q.body → events ≡ noted → all_seen events ≡ happenings_of p
 events_seen p q same old new shown before noted events none counted shown_is empty seen events_are =
     ap all_seen events_are
-    ∙ (body_seen q old new noted before none counted empty (seen ∙ ap (λ l. all_seen before ++ incidents (numbered l) None closed q.body) shown_is) ∙ ap happenings_of same)
+    ∙ (body_seen q old new noted before none counted empty (seen ∙ ap (λ l. all_seen before ++ incidents (kept_at l) None closed q.body) shown_is) ∙ ap happenings_of same)
 
 -- events that were noted from nothing on, with the structures that the notes keep
-pub are_events : (p : Program) (notes : Notes) (events : List Event) → events ≡ notes.events.items → all_seen events ≡ happenings_of p → (keys : List Structure) → keys ≡ notes.structures → AreDistinct keys → IsNoted notes → AreEventsOf p events
+pub are_events : (p : Program) (notes : Notes) (events : List Event) → events ≡ notes.events.items → all_seen events ≡ happenings_of p → (keys : List Structure) → keys ≡ notes.structures → StructuresAreDistinct keys → IsNoted notes → AreEventsOf p events
 are_events p notes events events_are seen keys keys_are distinct noted = record {
   seen = seen;
   known = notes.structures;
-  distinct = subst (λ (l : List Structure). AreDistinct l) keys_are distinct;
+  distinct = subst (λ (l : List Structure). StructuresAreDistinct l) keys_are distinct;
   reads = subst (λ (l : List Event). AreReads notes.structures no_clocks 0 l) (sym events_are) noted.reads;
 }
 

@@ -9,10 +9,10 @@ use Rattle.dh_tree.specs.PlainTrees.{Term, term, TermForm, number, truth_value, 
 use Rattle.dh_tree.specs.Seen.{terms}
 use Rattle.dh_tree.specs.ViewOffsets.{offsets_of}
 use Rattle.dh_meaning.specs.AccessNumbers.{term_accesses, form_accesses, terms_accesses, maybe_accesses, own_accesses, inner_accesses, accesses_of, other_accesses, groups_accesses, part_accesses, plan_accesses}
-use Rattle.dh_meets.specs.MayMeet.{row_of, arms_meet, meets, command_meets, other_meets, groups_meet, part_meets}
+use Rattle.dh_meets.specs.MayMeet.{row_of_accesses, arms_meet, meets, command_meets, other_meets, groups_meet, part_meets}
 use Rattle.dh_events.specs.declared.events.Site.{Site}
 use Rattle.dh_events.specs.declared.noting.Open.{Open}
-use Rattle.dh_events.specs.Incidents.{Incident, touches, assigned, arm_begins, arm_ends, begins, next, ends, site_at, term_incidents, form_incidents, terms_incidents, maybe_incidents, target_incidents, is_stepped, closed, released, phase_of, tested, inside_choice, round_inside, when_parted, has_other, arms_part, are_parts, open_after, part_open, open_combine, incidents, command_incidents, other_incidents, combine_incidents, groups_incidents, part_incidents}
+use Rattle.dh_events.specs.Incidents.{PortEvent, touches, assigned, arm_begins, arm_ends, begins, next, ends, site_at, term_incidents, form_incidents, terms_incidents, maybe_incidents, target_incidents, is_stepped, closed, released, phase_of, tested, inside_choice, round_inside, when_parted, has_other, arms_part, are_parts, open_after, part_open, open_combine, incidents, command_incidents, other_incidents, combine_incidents, groups_incidents, part_incidents}
 use Rattle.dh_ports.specs.Courses.{count, Ties, PartsTie}
 use Rattle.dh_ports.proofs.CourseTies.{count_append, ties_nothing, ties_all, parts_none, parts_one, ties_parts, ties_two, ties_access, ties_behind, ties_single}
 
@@ -26,16 +26,16 @@ with_none x = omega arith
 from_none : (x : ℕ) → x ≡ 0 + x
 from_none x = omega arith
 
-both_count : (xs ys : List Incident) (m n : ℕ) → count xs ≡ m → count ys ≡ n → count (xs ++ ys) ≡ m + n
+both_count : (xs ys : List PortEvent) (m n : ℕ) → count xs ≡ m → count ys ≡ n → count (xs ++ ys) ≡ m + n
 both_count xs ys m n e f = count_append xs ys ∙ sums _ _ _ _ e f
 
-one_more : (xs : List Incident) (y : Incident) (m : ℕ) → count (y ∷ []) ≡ 1 → count xs ≡ m → count (xs ++ y ∷ []) ≡ suc m
+one_more : (xs : List PortEvent) (y : PortEvent) (m : ℕ) → count (y ∷ []) ≡ 1 → count xs ≡ m → count (xs ++ y ∷ []) ≡ suc m
 one_more xs y m e f = count_append xs (y ∷ []) ∙ add (count xs) (count (y ∷ [])) m e f
   where
     add : (a b m : ℕ) → b ≡ 1 → a ≡ m → a + b ≡ suc m
     add a b m e f = omega (arith, e, f)
 
-none_more : (xs : List Incident) (y : Incident) (m : ℕ) → count (y ∷ []) ≡ 0 → count xs ≡ m → count (xs ++ y ∷ []) ≡ m
+none_more : (xs : List PortEvent) (y : PortEvent) (m : ℕ) → count (y ∷ []) ≡ 0 → count xs ≡ m → count (xs ++ y ∷ []) ≡ m
 none_more xs y m e f = count_append xs (y ∷ []) ∙ add (count xs) (count (y ∷ [])) m e f
   where
     add : (a b m : ℕ) → b ≡ 0 → a ≡ m → a + b ≡ m
@@ -72,11 +72,11 @@ target_count s (term place kind (applied op left right)) = both_count (term_inci
 target_count s (term place kind (converted inner to)) = term_count s inner
 
 -- marks of parts are no accesses
-parted_count : (b : Bool) (y : Incident) (xs : List Incident) → count (y ∷ xs) ≡ count xs → count (when_parted b y ++ xs) ≡ count xs
+parted_count : (b : Bool) (y : PortEvent) (xs : List PortEvent) → count (y ∷ xs) ≡ count xs → count (when_parted b y ++ xs) ≡ count xs
 parted_count true y xs none = none
 parted_count false y xs none = refl
 
-behind_count : (b : Bool) (y : Incident) (xs : List Incident) → count (y ∷ []) ≡ 0 → count (xs ++ when_parted b y) ≡ count xs
+behind_count : (b : Bool) (y : PortEvent) (xs : List PortEvent) → count (y ∷ []) ≡ 0 → count (xs ++ when_parted b y) ≡ count xs
 behind_count true y xs none = none_more xs y (count xs) none refl
 behind_count false y xs none = count_append xs [] ∙ with_none (count xs)
 
@@ -132,11 +132,11 @@ mutual
   part_count f round g (action_then a rest) = both_count (incidents f round g a) (part_incidents f round (open_after f g a) rest) _ _ (action_count f round g a) (part_count f round (open_after f g a) rest)
 
 -- accesses with no mark among them are a row
-pub data IsFlat : List Incident → Type 0 where
+pub data IsFlat : List PortEvent → Type 0 where
   flat_end : IsFlat []
-  flat_touch : (t : Term) (writes : Bool) (s : Site) (xs : List Incident) → IsFlat xs → IsFlat (touches t writes s ∷ xs)
+  flat_touch : (t : Term) (writes : Bool) (s : Site) (xs : List PortEvent) → IsFlat xs → IsFlat (touches t writes s ∷ xs)
 
-flat_append : (xs ys : List Incident) → IsFlat xs → IsFlat ys → IsFlat (xs ++ ys)
+flat_append : (xs ys : List PortEvent) → IsFlat xs → IsFlat ys → IsFlat (xs ++ ys)
 flat_append _ ys flat_end g = g
 flat_append _ ys (flat_touch t w s xs x) g = flat_touch t w s (xs ++ ys) (flat_append xs ys x g)
 
@@ -173,13 +173,13 @@ target_flat s (term place kind (in_bank r bank bank_place t)) = flat_append (ter
 target_flat s (term place kind (applied op left right)) = flat_append (term_incidents s left) (term_incidents s right) (term_flat s left) (term_flat s right)
 target_flat s (term place kind (converted inner to)) = term_flat s inner
 
-flat_ties : (c : ℕ → ℕ) (n : ℕ) (xs : List Incident) (m : ℕ) → IsFlat xs → count xs ≡ m → Ties c n xs (row_of n m)
+flat_ties : (c : ℕ → ℕ) (n : ℕ) (xs : List PortEvent) (m : ℕ) → IsFlat xs → count xs ≡ m → Ties c n xs (row_of_accesses n m)
 flat_ties c n _ zero flat_end e = ties_nothing c n
 flat_ties c n _ (suc m) flat_end e = cc
 flat_ties c n _ zero (flat_touch t w s xs x) e = cc
 flat_ties c n _ (suc m) (flat_touch t w s xs x) e =
-    ties_all c n (touches t w s ∷ []) xs (access n) (row_of (suc n) m) (ties_access c n t w s)
-    (subst (λ (k : ℕ). Ties c k xs (row_of (suc n) m)) (next_one n) (flat_ties c (suc n) xs m x (one_less _ _ e)))
+    ties_all c n (touches t w s ∷ []) xs (access n) (row_of_accesses (suc n) m) (ties_access c n t w s)
+    (subst (λ (k : ℕ). Ties c k xs (row_of_accesses (suc n) m)) (next_one n) (flat_ties c (suc n) xs m x (one_less _ _ e)))
   where
     one_less : (x y : ℕ) → suc x ≡ suc y → x ≡ y
     one_less x y e = omega (arith, e)
@@ -188,27 +188,27 @@ flat_ties c n _ (suc m) (flat_touch t w s xs x) e =
     next_one n = omega arith
 
 -- an arm between its marks
-arm_ties : (c : ℕ → ℕ) (n : ℕ) (xs : List Incident) (t : Meets) → Ties c n xs t → Ties c n (arm_begins ∷ (xs ++ arm_ends ∷ [])) t
+arm_ties : (c : ℕ → ℕ) (n : ℕ) (xs : List PortEvent) (t : Meets) → Ties c n xs t → Ties c n (arm_begins ∷ (xs ++ arm_ends ∷ [])) t
 arm_ties c n xs t f =
     let r = ties_behind c n xs arm_ends t refl (λ m l. refl) f in
     record { first = r.first; last = r.last; after = r.after; during = r.during }
 
 -- the arms of an `if`: both may meet in an unrolled loop; else they are parts, where there are two
-arms_ties : (c : ℕ → ℕ) (n : ℕ) (round : Option ℕ) (other : MaybeAction) (xs ys : List Incident) (t u : Meets) → Ties c n xs t → Ties c (n + count xs) ys u → (has_other other ≡ false → (ys ≡ []) × (u ≡ nothing))
+arms_ties : (c : ℕ → ℕ) (n : ℕ) (round : Option ℕ) (other : MaybeAction) (xs ys : List PortEvent) (t u : Meets) → Ties c n xs t → Ties c (n + count xs) ys u → (has_other other ≡ false → (ys ≡ []) × (u ≡ nothing))
     → Ties c n (when_parted (arms_part round other) begins ++ (xs ++ (when_parted (arms_part round other) next ++ (ys ++ when_parted (arms_part round other) ends)))) (arms_meet (is_some round) t u)
 arms_ties c n (Some r) other xs ys t u f g lacks =
-    subst (λ (zs : List Incident). Ties c n (xs ++ zs) (all t u)) (no_end ys) (ties_all c n xs ys t u f g)
+    subst (λ (zs : List PortEvent). Ties c n (xs ++ zs) (all t u)) (no_end ys) (ties_all c n xs ys t u f g)
   where
-    no_end : (ys : List Incident) → ys ≡ ys ++ []
+    no_end : (ys : List PortEvent) → ys ≡ ys ++ []
     no_end [] = refl
     no_end (y ∷ ys) = ap (λ l. y ∷ l) (no_end ys)
 arms_ties c n None (one_action a) xs ys t u f g lacks = ties_two c n xs ys t u f g
 arms_ties c n None no_action xs ys t u f g lacks =
-    subst (λ (zs : List Incident). Ties c n (xs ++ (zs ++ [])) (one t u)) (sym (lacks refl).0)
+    subst (λ (zs : List PortEvent). Ties c n (xs ++ (zs ++ [])) (one t u)) (sym (lacks refl).0)
     (subst (λ (v : Meets). Ties c n (xs ++ []) (one t v)) (sym (lacks refl).1)
-    (subst (λ (zs : List Incident). Ties c n zs (one t nothing)) (no_end xs) (ties_single c n xs t f)))
+    (subst (λ (zs : List PortEvent). Ties c n zs (one t nothing)) (no_end xs) (ties_single c n xs t f)))
   where
-    no_end : (ys : List Incident) → ys ≡ ys ++ []
+    no_end : (ys : List PortEvent) → ys ≡ ys ++ []
     no_end [] = refl
     no_end (y ∷ ys) = ap (λ l. y ∷ l) (no_end ys)
 
@@ -227,7 +227,7 @@ lacking f round g unrolled n no_action e = (refl, refl)
 lacking f round g unrolled n (one_action a) e = cc
 
 -- a block, whose parts are marked where they are more than one
-abbrev first_incidents : (ℕ → ℕ) → Option ℕ → Open → Groups → List Incident
+abbrev first_incidents : (ℕ → ℕ) → Option ℕ → Open → Groups → List PortEvent
 first_incidents f round g no_groups = []
 first_incidents f round g (group_then part rest) = part_incidents f round g part
 
@@ -240,9 +240,9 @@ block_ties : (c f : ℕ → ℕ) (n : ℕ) (round : Option ℕ) (stepped : Bool)
     → Ties c n (when_parted (are_parts body) begins ++ (groups_incidents f round stepped (are_parts body) g body ++ when_parted (are_parts body) ends)) (groups_meet (is_some round) n body)
 block_ties c f n round stepped g no_groups one_part parts = ties_nothing c n
 block_ties c f n round stepped g (group_then part no_groups) one_part parts =
-    subst (λ (zs : List Incident). Ties c n zs (one (part_meets (is_some round) n part) nothing)) (no_ends (part_incidents f round (released stepped g) part)) (ties_single c n (part_incidents f round (released stepped g) part) _ one_part)
+    subst (λ (zs : List PortEvent). Ties c n zs (one (part_meets (is_some round) n part) nothing)) (no_ends (part_incidents f round (released stepped g) part)) (ties_single c n (part_incidents f round (released stepped g) part) _ one_part)
   where
-    no_ends : (xs : List Incident) → xs ≡ (xs ++ []) ++ []
+    no_ends : (xs : List PortEvent) → xs ≡ (xs ++ []) ++ []
     no_ends [] = refl
     no_ends (x ∷ xs) = ap (λ l. x ∷ l) (no_ends xs)
 block_ties c f n round stepped g (group_then part (group_then other rest)) one_part parts = ties_parts c n (groups_incidents f round stepped true g (group_then part (group_then other rest))) _ parts
@@ -273,11 +273,11 @@ mutual
       block_ties c f n round (is_stepped f id) (released (is_stepped f id) g) body (first_ties c f n round (released (is_stepped f id) (released (is_stepped f id) g)) body)
       (groups_ties c f n round (is_stepped f id) (released (is_stepped f id) g) body)
   command_ties c f n round g id (decides test chosen other) =
-      ties_all c n tests _ (row_of n (term_accesses test)) _
+      ties_all c n tests _ (row_of_accesses n (term_accesses test)) _
       (flat_ties c n tests (term_accesses test) (term_flat (site_at (tested (is_stepped f id) g id) round) test) (term_count (site_at (tested (is_stepped f id) g id) round) test))
       (subst (λ (m : ℕ). Ties c (n + m) (when_parted (arms_part round other) begins ++ (arm_begins ∷ (incidents f round h chosen ++ (arm_ends ∷ (when_parted (arms_part round other) next ++ (other_incidents f round h other ++ when_parted (arms_part round other) ends)))))) (arms_meet (is_some round) (meets (is_some round) (n + term_accesses test) chosen) (other_meets (is_some round) (n + term_accesses test + accesses_of chosen) other)))
       (sym (term_count (site_at (tested (is_stepped f id) g id) round) test))
-      (subst (λ (zs : List Incident). Ties c (n + term_accesses test) (when_parted (arms_part round other) begins ++ (arm_begins ∷ zs)) (arms_meet (is_some round) (meets (is_some round) (n + term_accesses test) chosen) (other_meets (is_some round) (n + term_accesses test + accesses_of chosen) other)))
+      (subst (λ (zs : List PortEvent). Ties c (n + term_accesses test) (when_parted (arms_part round other) begins ++ (arm_begins ∷ zs)) (arms_meet (is_some round) (meets (is_some round) (n + term_accesses test) chosen) (other_meets (is_some round) (n + term_accesses test + accesses_of chosen) other)))
       (regroup (incidents f round h chosen) (when_parted (arms_part round other) next ++ (other_incidents f round h other ++ when_parted (arms_part round other) ends)))
       (arms_ties c (n + term_accesses test) round other (arm_begins ∷ (incidents f round h chosen ++ arm_ends ∷ [])) (other_incidents f round h other) _ _
       (arm_ties c (n + term_accesses test) (incidents f round h chosen) _ (action_ties c f (n + term_accesses test) round h chosen))
@@ -289,14 +289,14 @@ mutual
       h : Open
       h = inside_choice (is_stepped f id) (tested (is_stepped f id) g id)
 
-      tests : List Incident
+      tests : List PortEvent
       tests = term_incidents (site_at (tested (is_stepped f id) g id) round) test
 
-      regroup : (xs zs : List Incident) → (xs ++ arm_ends ∷ []) ++ zs ≡ xs ++ (arm_ends ∷ zs)
+      regroup : (xs zs : List PortEvent) → (xs ++ arm_ends ∷ []) ++ zs ≡ xs ++ (arm_ends ∷ zs)
       regroup [] zs = refl
       regroup (x ∷ xs) zs = ap (λ l. x ∷ l) (regroup xs zs)
   command_ties c f n round g id (repeats test body) =
-      ties_two c n (term_incidents (site_at id round) test) (incidents f round closed body) (row_of n (term_accesses test)) (meets (is_some round) (n + term_accesses test) body)
+      ties_two c n (term_incidents (site_at id round) test) (incidents f round closed body) (row_of_accesses n (term_accesses test)) (meets (is_some round) (n + term_accesses test) body)
       (flat_ties c n (term_incidents (site_at id round) test) (term_accesses test) (term_flat (site_at id round) test) (term_count (site_at id round) test))
       (subst (λ (m : ℕ). Ties c (n + m) (incidents f round closed body) (meets (is_some round) (n + term_accesses test) body)) (sym (term_count (site_at id round) test)) (action_ties c f (n + term_accesses test) round closed body))
   command_ties c f n round g id (counts iterator declared low high factor body combine combine_place) =

@@ -18,7 +18,7 @@ use Rattle.dh_meets.specs.SourceEvents as source
 use Rattle.dh_meets.specs.SourceEvents.{SourceAccess, SourceEvent, site_of, one_access, term_events, form_events, terms_events, maybe_events, write_events, events, command_events, other_events, groups_events, part_events}
 use Rattle.dh_events.specs.declared.events.Site.{Site}
 use Rattle.dh_events.specs.declared.noting.Open.{Open}
-use Rattle.dh_events.specs.Incidents.{Incident, touches, assigned, arm_begins, arm_ends, begins, next, ends, site_at, term_incidents, form_incidents, terms_incidents, maybe_incidents, target_incidents, is_stepped, closed, released, phase_of, tested, inside_choice, round_inside, when_parted, arms_part, are_parts, open_after, part_open, open_combine, incidents, command_incidents, other_incidents, combine_incidents, groups_incidents, part_incidents}
+use Rattle.dh_events.specs.Incidents.{PortEvent, touches, assigned, arm_begins, arm_ends, begins, next, ends, site_at, term_incidents, form_incidents, terms_incidents, maybe_incidents, target_incidents, is_stepped, closed, released, phase_of, tested, inside_choice, round_inside, when_parted, arms_part, are_parts, open_after, part_open, open_combine, incidents, command_incidents, other_incidents, combine_incidents, groups_incidents, part_incidents}
 use Rattle.dh_ports.specs.Wholes.{touched_by, of_access}
 
 absurd : {A : Type 0} → ⊥ → A
@@ -33,7 +33,7 @@ pub data Happens : Type 0 where
   part_next : Happens
   parts_end : Happens
 
-abbrev pub incident_of : Happens → Incident
+abbrev pub incident_of : Happens → PortEvent
 incident_of (touch_of access writes site source) = touches access writes site
 incident_of (set_at entity) = assigned entity
 incident_of (arm_opens arm) = arm_begins
@@ -42,7 +42,7 @@ incident_of parts_begin = begins
 incident_of part_next = next
 incident_of parts_end = ends
 
-abbrev pub incidents_of : List Happens → List Incident
+abbrev pub incidents_of : List Happens → List PortEvent
 incidents_of [] = []
 incidents_of (e ∷ es) = incident_of e ∷ incidents_of es
 
@@ -96,7 +96,7 @@ abbrev pub OpensIn : (Arm → Type 0) → (seen more : List Arm) → Type 0
 OpensIn R seen more = (b : Arm) → (R b → ⊥) → has_arm b seen ≡ false → has_arm b more ≡ false
 
 -- incidents and events are those of one list of events, which opens arms of a set alone
-pub record Joins (R : Arm → Type 0) (arms : List Arm) (xs : List Incident) (hs : List SourceEvent) : Type 0 where
+pub record Joins (R : Arm → Type 0) (arms : List Arm) (xs : List PortEvent) (hs : List SourceEvent) : Type 0 where
   pub happens : List Happens
   pub as_incidents : incidents_of happens ≡ xs
   pub as_events : events_of happens ≡ hs
@@ -105,7 +105,7 @@ pub record Joins (R : Arm → Type 0) (arms : List Arm) (xs : List Incident) (hs
 joins_none : (R : Arm → Type 0) (arms : List Arm) → Joins R arms [] []
 joins_none R arms = record { happens = []; as_incidents = refl; as_events = refl; runs = λ seen outer rest free on. on seen (λ b n h. h) }
 
-module _ (R S T : Arm → Type 0) (arms : List Arm) (xs ys : List Incident) (hs is : List SourceEvent) (apart : (b : Arm) → R b → S b → ⊥) (first : (b : Arm) → R b → T b) (second : (b : Arm) → S b → T b) (j : Joins R arms xs hs) (k : Joins S arms ys is) where
+module _ (R S T : Arm → Type 0) (arms : List Arm) (xs ys : List PortEvent) (hs is : List SourceEvent) (apart : (b : Arm) → R b → S b → ⊥) (first : (b : Arm) → R b → T b) (second : (b : Arm) → S b → T b) (j : Joins R arms xs hs) (k : Joins S arms ys is) where
   both_run : (seen : List Arm) (outer : List (List Arm)) (rest : List Happens) → IsFree T seen → ((more : List Arm) → OpensIn T seen more → Runs more outer arms rest) → Runs seen outer arms ((j.happens ++ k.happens) ++ rest)
   both_run seen outer rest free on =
       subst (λ (l : List Happens). Runs seen outer arms l) (sym (append_assoc j.happens k.happens rest))
@@ -125,13 +125,13 @@ module _ (R S T : Arm → Type 0) (arms : List Arm) (xs ys : List Incident) (hs 
 abbrev Nowhere : Arm → Type 0
 Nowhere b = ⊥
 
-joins_first : (T : Arm → Type 0) (arms : List Arm) (xs ys : List Incident) (hs is : List SourceEvent) → Joins Nowhere arms xs hs → Joins T arms ys is → Joins T arms (xs ++ ys) (hs ++ is)
+joins_first : (T : Arm → Type 0) (arms : List Arm) (xs ys : List PortEvent) (hs is : List SourceEvent) → Joins Nowhere arms xs hs → Joins T arms ys is → Joins T arms (xs ++ ys) (hs ++ is)
 joins_first T arms xs ys hs is j k = joins_append Nowhere T T arms xs ys hs is (λ b n t. n) (λ b n. absurd n) (λ b t. t) j k
 
-joins_last : (T : Arm → Type 0) (arms : List Arm) (xs ys : List Incident) (hs is : List SourceEvent) → Joins T arms xs hs → Joins Nowhere arms ys is → Joins T arms (xs ++ ys) (hs ++ is)
+joins_last : (T : Arm → Type 0) (arms : List Arm) (xs ys : List PortEvent) (hs is : List SourceEvent) → Joins T arms xs hs → Joins Nowhere arms ys is → Joins T arms (xs ++ ys) (hs ++ is)
 joins_last T arms xs ys hs is j k = joins_append T Nowhere T arms xs ys hs is (λ b t n. n) (λ b t. t) (λ b n. absurd n) j k
 
-joins_within : (R T : Arm → Type 0) (arms : List Arm) (xs : List Incident) (hs : List SourceEvent) → ((b : Arm) → R b → T b) → Joins R arms xs hs → Joins T arms xs hs
+joins_within : (R T : Arm → Type 0) (arms : List Arm) (xs : List PortEvent) (hs : List SourceEvent) → ((b : Arm) → R b → T b) → Joins R arms xs hs → Joins T arms xs hs
 joins_within R T arms xs hs inside j = record {
   happens = j.happens;
   as_incidents = j.as_incidents;
@@ -139,7 +139,7 @@ joins_within R T arms xs hs inside j = record {
   runs = λ seen outer rest free on. j.runs seen outer rest (λ b r. free b (inside b r)) (λ more opened. on more (λ b not_in h. opened b (λ r. not_in (inside b r)) h));
 }
 
-joins_same : (R : Arm → Type 0) (arms : List Arm) (xs : List Incident) (hs is : List SourceEvent) → hs ≡ is → Joins R arms xs hs → Joins R arms xs is
+joins_same : (R : Arm → Type 0) (arms : List Arm) (xs : List PortEvent) (hs is : List SourceEvent) → hs ≡ is → Joins R arms xs hs → Joins R arms xs is
 joins_same R arms xs hs is e j = subst (λ (l : List SourceEvent). Joins R arms xs l) e j
 
 joins_touch : (arms : List Arm) (t : Term) (w : Bool) (s : Site) (a : SourceAccess) → a.site.arms ≡ arms → touched_by t w ≡ of_access a → Joins Nowhere arms (touches t w s ∷ []) (source.accesses a ∷ [])
@@ -165,7 +165,7 @@ joins_ends : (arms : List Arm) (b : Bool) → Joins Nowhere arms (when_parted b 
 joins_ends arms true = record { happens = parts_end ∷ []; as_incidents = refl; as_events = refl; runs = λ seen outer rest free on. on seen (λ b n h. h) }
 joins_ends arms false = joins_none Nowhere arms
 
-joins_ended : (R : Arm → Type 0) (arms : List Arm) (b : Bool) (xs : List Incident) (hs : List SourceEvent) → Joins R arms xs hs → Joins R arms (xs ++ when_parted b ends) hs
+joins_ended : (R : Arm → Type 0) (arms : List Arm) (b : Bool) (xs : List PortEvent) (hs : List SourceEvent) → Joins R arms xs hs → Joins R arms (xs ++ when_parted b ends) hs
 joins_ended R arms b xs hs j = joins_same R arms (xs ++ when_parted b ends) (hs ++ []) hs (append-nil hs) (joins_last R arms xs (when_parted b ends) hs [] j (joins_ends arms b))
 
 -- arms that are the same
@@ -198,7 +198,7 @@ other_arm b a seen apart h = by_test (same_arm b a) refl
     by_test false e = ap (λ x. x || has_arm b seen) e ∙ h
 
 -- what stands in an arm
-module _ (R T : Arm → Type 0) (a : Arm) (arms : List Arm) (xs : List Incident) (hs : List SourceEvent) (new : R a → ⊥) (own : T a) (inside : (b : Arm) → R b → T b) (j : Joins R (arms ++ a ∷ []) xs hs) where
+module _ (R T : Arm → Type 0) (a : Arm) (arms : List Arm) (xs : List PortEvent) (hs : List SourceEvent) (new : R a → ⊥) (own : T a) (inside : (b : Arm) → R b → T b) (j : Joins R (arms ++ a ∷ []) xs hs) where
   arm_runs : (seen : List Arm) (outer : List (List Arm)) (rest : List Happens) → IsFree T seen → ((more : List Arm) → OpensIn T seen more → Runs more outer arms rest) → Runs seen outer arms ((arm_opens a ∷ (j.happens ++ arm_closes ∷ [])) ++ rest)
   arm_runs seen outer rest free on = (
     free a own,
@@ -303,14 +303,14 @@ under_within n low high last first e f g b (inr p) = within low high n last (bef
     before n low e = omega (arith, e)
 
 -- one arm of a command
-one_arm : (n low high : ℕ) (first : Bool) (arms : List Arm) (xs : List Incident) (hs : List SourceEvent) → n < low → Joins (Within low high) (arms ++ arm_at n first ∷ []) xs hs → Joins (Under (arm_at n first) low high) arms (arm_begins ∷ (xs ++ arm_ends ∷ [])) hs
+one_arm : (n low high : ℕ) (first : Bool) (arms : List Arm) (xs : List PortEvent) (hs : List SourceEvent) → n < low → Joins (Within low high) (arms ++ arm_at n first ∷ []) xs hs → Joins (Under (arm_at n first) low high) arms (arm_begins ∷ (xs ++ arm_ends ∷ [])) hs
 one_arm n low high first arms xs hs e j = joins_arm (Within low high) (Under (arm_at n first) low high) (arm_at n first) arms xs hs (λ w. apart n low e w.least) (inl refl) (λ b w. inr w) j
   where
     apart : (n low : ℕ) → n < low → low ≤ n → ⊥
     apart n low e f = omega (arith, e, f)
 
 -- two arms of a command, each with what stands in it and what is told of it
-two_arms : (s : Site) (z : source.Site) (b : Bool) (id inside others : ℕ) (test : Term) (cs os : List Incident) (es fs : List SourceEvent)
+two_arms : (s : Site) (z : source.Site) (b : Bool) (id inside others : ℕ) (test : Term) (cs os : List PortEvent) (es fs : List SourceEvent)
     → Joins (Under (arm_at id true) (suc id) (suc id + inside)) z.arms (arm_begins ∷ (cs ++ arm_ends ∷ [])) es
     → Joins (Under (arm_at id false) (suc id + inside) (suc id + inside + others)) z.arms os fs
     → Joins (Within id (id + suc (inside + others))) z.arms
@@ -319,7 +319,7 @@ two_arms : (s : Site) (z : source.Site) (b : Bool) (id inside others : ℕ) (tes
 two_arms s z b id inside others test cs os es fs j k =
     joins_first _ z.arms (term_incidents s test) _ (term_events z test) _ (term_joins s z test)
     (joins_first _ z.arms (when_parted b begins) (arm_begins ∷ (cs ++ (arm_ends ∷ (when_parted b next ++ (os ++ when_parted b ends))))) [] (es ++ fs) (joins_begins z.arms b)
-    (subst (λ (l : List Incident). Joins (Within id (id + suc (inside + others))) z.arms (arm_begins ∷ l) (es ++ fs))
+    (subst (λ (l : List PortEvent). Joins (Within id (id + suc (inside + others))) z.arms (arm_begins ∷ l) (es ++ fs))
     (append_assoc cs (arm_ends ∷ []) (when_parted b next ++ (os ++ when_parted b ends)))
     (joins_append (Under (arm_at id true) (suc id) (suc id + inside)) (Under (arm_at id false) (suc id + inside) (suc id + inside + others)) (Within id (id + suc (inside + others))) z.arms (arm_begins ∷ (cs ++ arm_ends ∷ [])) (when_parted b next ++ (os ++ when_parted b ends)) es fs
     (arms_apart id (suc id) (suc id + inside) (suc id + inside + others) (more id) (further (suc id) inside))
@@ -355,7 +355,7 @@ same_end : (n : ℕ) → n ≤ n
 same_end n = omega arith
 
 -- a command that is the body of another
-inner_joins : (n m : ℕ) (arms : List Arm) (xs : List Incident) (hs : List SourceEvent) → Joins (Within (suc n) (suc n + m)) arms xs hs → Joins (Within n (n + suc m)) arms xs hs
+inner_joins : (n m : ℕ) (arms : List Arm) (xs : List PortEvent) (hs : List SourceEvent) → Joins (Within (suc n) (suc n + m)) arms xs hs → Joins (Within n (n + suc m)) arms xs hs
 inner_joins n m arms xs hs j = joins_within (Within (suc n) (suc n + m)) (Within n (n + suc m)) arms xs hs (within (suc n) (suc n + m) n (n + suc m) (less n) (sums n m)) j
   where
     less : (n : ℕ) → n ≤ suc n
@@ -365,7 +365,7 @@ inner_joins n m arms xs hs j = joins_within (Within (suc n) (suc n + m)) (Within
     sums n m = omega arith
 
 -- two that follow one another
-parts_join : (n m p : ℕ) (arms : List Arm) (xs ys : List Incident) (hs is : List SourceEvent) → Joins (Within n (n + m)) arms xs hs → Joins (Within (n + m) (n + m + p)) arms ys is → Joins (Within n (n + (m + p))) arms (xs ++ ys) (hs ++ is)
+parts_join : (n m p : ℕ) (arms : List Arm) (xs ys : List PortEvent) (hs is : List SourceEvent) → Joins (Within n (n + m)) arms xs hs → Joins (Within (n + m) (n + m + p)) arms ys is → Joins (Within n (n + (m + p))) arms (xs ++ ys) (hs ++ is)
 parts_join n m p arms xs ys hs is j k =
     joins_append (Within n (n + m)) (Within (n + m) (n + m + p)) (Within n (n + (m + p))) arms xs ys hs is (beside n (n + m) (n + m) (n + m + p) (same_end (n + m)))
     (within n (n + m) n (n + (m + p)) (same_end n) (sum_one n m p)) (within (n + m) (n + m + p) n (n + (m + p)) (behind n m) (sum_two n m p)) j k
@@ -377,7 +377,7 @@ parts_join n m p arms xs ys hs is j k =
     sum_two n m p = omega arith
 
 -- no arm of a command
-plain_joins : (R : Arm → Type 0) (arms : List Arm) (xs : List Incident) (hs : List SourceEvent) → Joins Nowhere arms xs hs → Joins R arms xs hs
+plain_joins : (R : Arm → Type 0) (arms : List Arm) (xs : List PortEvent) (hs : List SourceEvent) → Joins Nowhere arms xs hs → Joins R arms xs hs
 plain_joins R arms xs hs j = joins_within Nowhere R arms xs hs (λ b n. absurd n) j
 
 -- a loop opens no arm
@@ -458,7 +458,7 @@ module _ (f : ℕ → ℕ) where
         (action_joins n r round g a s.0) (part_joins (n + commands_in a) r round (open_after f g a) rest s.1)
 
 -- a command by itself
-pub record Walked (xs : List Incident) (hs : List SourceEvent) : Type 0 where
+pub record Walked (xs : List PortEvent) (hs : List SourceEvent) : Type 0 where
   pub happens : List Happens
   pub as_incidents : incidents_of happens ≡ xs
   pub as_events : events_of happens ≡ hs

@@ -12,11 +12,11 @@ use Rattle.dh_tree.specs.Elements.{banks_of, bank_of}
 use Rattle.dh_tree.specs.Indices.{index_kind}
 use Rattle.dh_tree.specs.Seen.{form_seen, term_seen, terms}
 use Rattle.dh_tree.specs.Shapes.{IsDim}
-use Rattle.dh_meets.specs.Charges.{factors_of, index_in, indices_in}
+use Rattle.dh_meets.specs.Charges.{loop_factors, index_in, indices_in}
 use Rattle.dh_ports.specs.declared.banks.Start.{Start}
 use Rattle.dh_ports.specs.declared.copies.Level.{Level}
 use Rattle.dh_ports.specs.declared.copies.Lane.{Lane}
-use Rattle.dh_ports.specs.Banks.{path_at, IsLevel, IsStart}
+use Rattle.dh_ports.specs.Banks.{path_of_number, IsLevel, IsStart}
 use Rattle.dh_shape.specs.Classified.{loops_in}
 use Rattle.dh_ports.specs.Copies.{copy_in, bank_of_lanes, all_lane_banks, HaveBanks, AreLevels, AreLanes}
 use Rattle.dh_ports.proofs.BankTurns.{has_banks, banks_more, no_bank}
@@ -32,7 +32,7 @@ before i n e f = omega (arith, e, f)
 
 -- the indices at the path of a number, from one on
 abbrev pub indices_at : Tree → List Counter → (number : ℕ) → List Expr → List ℕ
-indices_at tree loops number es = indices_in (loops_in tree) loops (path_at (factors_of loops) number) (terms (map term_seen es))
+indices_at tree loops number es = indices_in (loops_in tree) loops (path_of_number (loop_factors loops) number) (terms (map term_seen es))
 
 abbrev pub as_lane : (banks times low : ℕ) → (offset : ℤ) → (level : ℕ) → Lane
 as_lane banks times low offset level = record { banks = banks; times = times; low = low; offset = offset; level = level }
@@ -42,7 +42,7 @@ pub record LanesSoFar (tree : Tree) (loops : List Counter) (dims : List Dim) (es
   pub counted : times ≡ banks_of (drop i dims)
   pub few : all_lane_banks lanes ≤ 2 * banks_of (drop i dims)
   pub banks : HaveBanks lanes
-  pub each : (picks : ℕ → Bool) (levels : List Level) (number : ℕ) → AreLevels picks 0 (factors_of loops) levels
+  pub each : (picks : ℕ → Bool) (levels : List Level) (number : ℕ) → AreLevels picks 0 (loop_factors loops) levels
       → bank_of_lanes levels lanes number ≡ bank_of (drop i dims) (indices_at tree loops number (drop i es))
 
 abbrev value_of : List Level → (number : ℕ) → Lane → ℕ
@@ -66,7 +66,7 @@ have_append : (ls : List Lane) (l : Lane) → HaveBanks ls → 1 ≤ l.banks →
 have_append [] l h e = (e, tt)
 have_append (x ∷ ls) l h e = (h.0, have_append ls l h.1 e)
 
-factors_long : (loops : List Counter) → length (factors_of loops) ≡ length loops
+factors_long : (loops : List Counter) → length (loop_factors loops) ≡ length loops
 factors_long [] = refl
 factors_long (c ∷ cs) = ap suc (factors_long cs)
 
@@ -135,7 +135,7 @@ module _ (tree : Tree) (loops : List Counter) (ds : List Dim) (es : List Expr) (
     -- the indices from one more on
     indices_here : (number : ℕ) (e : Expr) → i - 1 < length es → e ≡ get_or es (i - 1) e
         → bank_of (drop (i - 1) ds) (indices_at tree loops number (drop (i - 1) es))
-        ≡ (index_in loops (path_at (factors_of loops) number) (index_kind (loops_in tree) e.kind (form_seen e.form)) % (get_or ds (i - 1) d).banks) * banks_of (drop i ds) + bank_of (drop i ds) (indices_at tree loops number (drop i es))
+        ≡ (index_in loops (path_of_number (loop_factors loops) number) (index_kind (loops_in tree) e.kind (form_seen e.form)) % (get_or ds (i - 1) d).banks) * banks_of (drop i ds) + bank_of (drop i ds) (indices_at tree loops number (drop i es))
     indices_here number e inside is =
         ap (λ l. bank_of l (indices_at tree loops number (drop (i - 1) es))) here
         ∙ ap (λ l. bank_of (get_or ds (i - 1) d ∷ drop i ds) (indices_at tree loops number l)) (at_place es (i - 1) e inside ∙ (ap (λ x. x ∷ drop (i - 1 + 1) es) (sym is) ∙ ap (λ n. e ∷ drop n es) (back i some)))
@@ -151,10 +151,10 @@ module _ (tree : Tree) (loops : List Counter) (ds : List Dim) (es : List Expr) (
       each = λ picks levels number a.
           ap (λ ls. bank_of_lanes levels ls number) pushed
           ∙ (told_append levels lanes _ number
-          ∙ (ap (λ n. (unsigned_abs (pos (start.low + n) +ℤ start.offset) % (get_or ds (i - 1) d).banks) * times + bank_of_lanes levels lanes number) (copy_told picks 0 (factors_of loops) levels number level a ∙ l (path_at (factors_of loops) number) (path_long (factors_of loops) number ∙ factors_long loops))
-          ∙ (ap (λ n. (n % (get_or ds (i - 1) d).banks) * times + bank_of_lanes levels lanes number) (sym (s.value loops (path_at (factors_of loops) number)))
-          ∙ (ap (λ n. (index_in loops (path_at (factors_of loops) number) (index_kind (loops_in tree) e.kind (form_seen e.form)) % (get_or ds (i - 1) d).banks) * n + bank_of_lanes levels lanes number) so.counted
-          ∙ (ap (λ n. (index_in loops (path_at (factors_of loops) number) (index_kind (loops_in tree) e.kind (form_seen e.form)) % (get_or ds (i - 1) d).banks) * banks_of (drop i ds) + n) (so.each picks levels number a)
+          ∙ (ap (λ n. (unsigned_abs (pos (start.low + n) +ℤ start.offset) % (get_or ds (i - 1) d).banks) * times + bank_of_lanes levels lanes number) (copy_told picks 0 (loop_factors loops) levels number level a ∙ l (path_of_number (loop_factors loops) number) (path_long (loop_factors loops) number ∙ factors_long loops))
+          ∙ (ap (λ n. (n % (get_or ds (i - 1) d).banks) * times + bank_of_lanes levels lanes number) (sym (s.value loops (path_of_number (loop_factors loops) number)))
+          ∙ (ap (λ n. (index_in loops (path_of_number (loop_factors loops) number) (index_kind (loops_in tree) e.kind (form_seen e.form)) % (get_or ds (i - 1) d).banks) * n + bank_of_lanes levels lanes number) so.counted
+          ∙ (ap (λ n. (index_in loops (path_of_number (loop_factors loops) number) (index_kind (loops_in tree) e.kind (form_seen e.form)) % (get_or ds (i - 1) d).banks) * banks_of (drop i ds) + n) (so.each picks levels number a)
           ∙ sym (indices_here number e inside is))))));
     }
       where
@@ -176,8 +176,8 @@ module _ (tree : Tree) (loops : List Counter) (ds : List Dim) (es : List Expr) (
           let e = item_there es (i - 1) inside in
           ap (λ ls. bank_of_lanes levels ls number) same
           ∙ (so.each picks levels number a
-          ∙ (none (index_in loops (path_at (factors_of loops) number) (index_kind (loops_in tree) e.0.kind (form_seen e.0.form)) % (get_or ds (i - 1) d).banks) (banks_of (drop i ds)) _
-          (zero_of _ (get_or ds (i - 1) d).banks (mod-lt (index_in loops (path_at (factors_of loops) number) (index_kind (loops_in tree) e.0.kind (form_seen e.0.form))) {m = (get_or ds (i - 1) d).banks} some_banks) small)
+          ∙ (none (index_in loops (path_of_number (loop_factors loops) number) (index_kind (loops_in tree) e.0.kind (form_seen e.0.form)) % (get_or ds (i - 1) d).banks) (banks_of (drop i ds)) _
+          (zero_of _ (get_or ds (i - 1) d).banks (mod-lt (index_in loops (path_of_number (loop_factors loops) number) (index_kind (loops_in tree) e.0.kind (form_seen e.0.form))) {m = (get_or ds (i - 1) d).banks} some_banks) small)
           ∙ sym (indices_here number e.0 inside e.1)));
     }
       where

@@ -29,7 +29,7 @@ use Rattle.dh_ports.specs.declared.moves.Move.TheVariants as move
 use Rattle.dh_ports.specs.Claims.{access_of, base_of, claims_of, moves_from}
 use Rattle.dh_ports.specs.Courses.{count, before_at}
 use Rattle.dh_ports.specs.Expanded.{taken_by, all_taken}
-use Rattle.dh_events.specs.Incidents.{Incident, touches, assigned, arm_begins, arm_ends, begins, next, ends}
+use Rattle.dh_events.specs.Incidents.{PortEvent, touches, assigned, arm_begins, arm_ends, begins, next, ends}
 use Rattle.dh_ports.specs.Levels.{Level, start}
 use Rattle.dh_events.specs.Noted.{event_seen, all_seen}
 use Rattle.dh_ports.specs.Orders.{slot_in, step_in, order_of, order_step}
@@ -92,7 +92,7 @@ all_append P [] ys h = (tt, h)
 all_append P (x ∷ xs) ys h = let r = all_append P xs ys h.1 in ((h.0, r.0), r.1)
 
 -- what holds of all moves holds of the claims of each access
-claims_all : (P : Move → Type 0) (p : Program) (loops : _) (event : ℕ) (xs : List Incident) → AllByRecursion P (moves_from p loops event xs) → (k : ℕ) → AllByRecursion P (nth_claims (claim_lists p loops event xs) k)
+claims_all : (P : Move → Type 0) (p : Program) (loops : _) (event : ℕ) (xs : List PortEvent) → AllByRecursion P (moves_from p loops event xs) → (k : ℕ) → AllByRecursion P (nth_claims (claim_lists p loops event xs) k)
 claims_all P p loops event [] h k = tt
 claims_all P p loops event (touches t w s ∷ xs) h zero = (all_append P (claims_of p event (access_of (loops s.round) w t)) (moves_from p loops (event + 1) xs) h).0
 claims_all P p loops event (touches t w s ∷ xs) h (suc k) = claims_all P p loops (event + 1) xs (all_append P (claims_of p event (access_of (loops s.round) w t)) (moves_from p loops (event + 1) xs) h).1 k
@@ -348,7 +348,7 @@ is_charged p memory bank read number c =
 -- Late reads.
 
 module _ (p : Program) (events : List Event) (h0 : IsToldBefore p) (loops : TellsLoops p) (phases : TellsPhases p) (are : AreEventsOf p events) (late : List Breach) (finds : FindsLate events (moves_from p (loops_known p) 0 (all_seen events)) late) where
-  abbrev xs : List Incident
+  abbrev xs : List PortEvent
   xs = all_seen events
 
   w : IsWhole p (all_seen events)

@@ -20,10 +20,10 @@ use Rattle.dh_ports.specs.declared.levels.Step.TheVariants as step
 use Rattle.dh_ports.specs.declared.moves.Move.{Move}
 use Rattle.dh_ports.specs.declared.moves.Move.TheVariants as move
 use Rattle.dh_ports.specs.Claims.{access_of, claims_of, moves_from}
-use Rattle.dh_events.specs.Classes.{AreDistinct}
+use Rattle.dh_events.specs.Classes.{KeysAreDistinct}
 use Rattle.dh_ports.specs.Courses.{less, before_at}
 use Rattle.dh_ports.specs.Expanded.{level_behind, all_taken, AreTaking}
-use Rattle.dh_events.specs.Incidents.{Incident, touches, assigned, arm_begins, arm_ends, begins, next, ends}
+use Rattle.dh_events.specs.Incidents.{PortEvent, touches, assigned, arm_begins, arm_ends, begins, next, ends}
 use Rattle.dh_ports.specs.Levels.{Level, level, taken, begun, kept_back, settled, lefts_of}
 use Rattle.dh_events.specs.Noted.{event_seen, all_seen}
 use Rattle.dh_ports.specs.Orders.{key_test, order_of, order_step, slot_in, step_in}
@@ -74,7 +74,7 @@ slot_none (x ∷ xs) k e n f = by_test (cases_Bool (key_test x k)) n f (slot_non
     by_test (inr g) zero f rest = clash (key_test x k) (subst (λ (y : Key). key_test x y ≡ true) (some_same x k f) (own_key x)) g
     by_test (inr g) (suc n) f rest = rest (none_of (slot_in xs k) (sym (ap (λ b. if b then Some 0 else option_map suc (slot_in xs k)) g) ∙ e)) n f
 
-module _ (known : List Key) (distinct : AreDistinct known) where
+module _ (known : List Key) (distinct : KeysAreDistinct known) where
   pub slot_is : (k : Key) (s : ℕ) → slice_get known s ≡ Some k → slot_in known k ≡ Some s
   slot_is k s e = by_slot (slot_in known k) refl
     where
@@ -93,7 +93,7 @@ module _ (known : List Key) (distinct : AreDistinct known) where
   steps_at k takes s (inl (slot, (e, f))) = f ∙ sym (ap (λ o. step_in o takes) (slot_is k slot e))
   steps_at k takes s (inr (none, f)) = f ∙ sym (ap (λ o. step_in o takes) (slot_lacks k none))
 
-module _ (known : List Key) (distinct : AreDistinct known) (events : List Event) where
+module _ (known : List Key) (distinct : KeysAreDistinct known) (events : List Event) where
   pub order_is : (m : Move) (s : Step) → IsOrdering known events m s → s ≡ order_step known events m
   order_is (move.Claim e bank keys) s h = of_event (slice_get events e) h
     where
@@ -193,7 +193,7 @@ looks_nothing slot (step.Next ∷ ss) h = absurd h.0
 looks_nothing slot (step.End ∷ ss) h = absurd h.0
 looks_nothing slot (step.Back ∷ ss) h = absurd h.0
 
-module _ (whole : List Incident) where
+module _ (whole : List PortEvent) where
   abbrev pub scan : (ℕ → Level) → List Move → List Step → List Breach
   scan levels ms ss = all_late whole ms ss (lefts_of levels ss)
 
@@ -321,10 +321,10 @@ module _ (known : List Key) (events : List Event) (p : Program) (loops : Option 
   abbrev takes_of : (slot k : ℕ) → ℕ
   takes_of slot k = all_taken slot (f k)
 
-  abbrev pub left_of : (n : ℕ) → (ℕ → Level) → List Incident → (slot k : ℕ) → ℕ
+  abbrev pub left_of : (n : ℕ) → (ℕ → Level) → List PortEvent → (slot k : ℕ) → ℕ
   left_of n levels xs slot k = before_at (takes_of slot) n (levels slot) xs k
 
-  abbrev pub Lined : (n event : ℕ) → List Incident → Type 0
+  abbrev pub Lined : (n event : ℕ) → List PortEvent → Type 0
   Lined n event xs = (j : ℕ) → f (n + j) ≡ map step_of (nth_claims (claim_lists p loops event xs) j)
 
   -- a read of a slot of which nothing is left
@@ -339,10 +339,10 @@ module _ (known : List Key) (events : List Event) (p : Program) (loops : Option 
     pub looks : Looks slot (f number)
     pub gone : left slot number ≡ 0
 
-  abbrev Walks : (n : ℕ) → (ℕ → Level) → List Incident → List Breach → Type 0
+  abbrev Walks : (n : ℕ) → (ℕ → Level) → List PortEvent → List Breach → Type 0
   Walks n levels xs late = (b : Breach) → (Contains late b → Late (left_of n levels xs) n (touched xs) b) × (Late (left_of n levels xs) n (touched xs) b → Contains late b)
 
-  abbrev seen : List Incident
+  abbrev seen : List PortEvent
   seen = all_seen events
 
   map_append : (xs ys : List Move) → map step_of (xs ++ ys) ≡ map step_of xs ++ map step_of ys
@@ -417,7 +417,7 @@ module _ (known : List Key) (events : List Event) (p : Program) (loops : Option 
   abbrev next_levels : (ℕ → Level) → ℕ → ℕ → Level
   next_levels levels n slot = less (takes_of slot n) (levels slot)
 
-  module _ (n event : ℕ) (levels : ℕ → Level) (t : Term) (site : Site) (xs : List Incident) where
+  module _ (n event : ℕ) (levels : ℕ → Level) (t : Term) (site : Site) (xs : List PortEvent) where
     later : (w : Bool) (b : Breach) → Late (left_of (suc n) (next_levels levels n) xs) (suc n) (touched xs) b → Late (left_of n levels (touches t w site ∷ xs)) n (touched (touches t w site ∷ xs)) b
     later w b r = record {
       number = r.number;
@@ -546,7 +546,7 @@ module _ (known : List Key) (events : List Event) (p : Program) (loops : Option 
         same_level : (l : Level) (c : ℕ) → c ≡ 0 → l ≡ less c l
         same_level l c e = ap (λ n. level n l.base l.low l.outer) (less_none l.now c e)
 
-  pub walk : (n event : ℕ) (levels : ℕ → Level) (xs : List Incident) → Lined n event xs → Follows xs seen event → Walks n levels xs (scan seen levels (moves_from p loops event xs) (map step_of (moves_from p loops event xs)))
+  pub walk : (n event : ℕ) (levels : ℕ → Level) (xs : List PortEvent) → Lined n event xs → Follows xs seen event → Walks n levels xs (scan seen levels (moves_from p loops event xs) (map step_of (moves_from p loops event xs)))
   walk n event levels [] lined follows = λ b. (λ c. absurd (nothing b c), λ r. absurd (none_there r.place r.stands))
     where
       nothing : (b : Breach) → Contains [] b → ⊥

@@ -11,9 +11,9 @@ use Rattle.dh_tree.specs.Memories.{Memory}
 use Rattle.dh_tree.specs.PlainTrees.{Action, Program}
 use Rattle.dh_meaning.specs.Bindings.{Binding, bindings}
 use Rattle.dh_meaning.specs.Ways as definitions
-use Rattle.dh_meaning.specs.Ways.{Standing, all_bindings_of, behind_hidden, hidden_binding, hidden_bindings, hidden_of, led_binding, standings, view_bindings, ways_of}
+use Rattle.dh_meaning.specs.Ways.{ViewSite, all_bindings_of, behind_hidden, hidden_binding, hidden_bindings, hidden_of, led_binding, standings, view_bindings, ways_of}
 use Rattle.dh_ways.specs.declared.ways.Hidden.{Hidden}
-use Rattle.dh_ways.specs.Kept.{Led}
+use Rattle.dh_ways.specs.Kept.{KeptLed}
 use Rattle.dh_ways.specs.HiddenVariables.{all_hidden}
 use Rattle.dh_ways.specs.Leading.{LeadsTo}
 use Rattle.dh_ways.specs.Seen.{hidden_seen, led_seen}
@@ -25,7 +25,7 @@ use Rattle.dh_ports.specs.Layouts.{no_rounds, AreRoundsOf, AreScopesNoted}
 use Rattle.dh_events.specs.Rounds.{rounds_in, rounds_of, AreRounds}
 use Rattle.dh_events.specs.Scopes.{scope_at, scopes_in, AreScopes}
 use Rattle.dh_events.specs.Stages.{stages_in}
-use Rattle.dh_events.specs.Tables.{numbered}
+use Rattle.dh_events.specs.Tables.{kept_at}
 use Rattle.dh_ports.proofs.SingleRounds.{single_rounds}
 
 absurd : {A : Type 0} → ⊥ → A
@@ -49,8 +49,8 @@ rounds_none p rounds empty single =
     ap (λ (l : List (Vec Counter Global)). rounds_of l) empty ∙ (fun_ext no_round ∙ sym (single_rounds [] p.body no_rounds single))
 
 -- phases that were counted from nothing on
-pub stages_noted : (p : Program) (body : Action) → body ≡ p.body → (old new : List ℕ) → old ≡ [] → numbered new ≡ stages_in body (numbered old) → numbered new ≡ stages_in p.body (numbered [])
-stages_noted p body same old new empty noted = noted ∙ (ap (λ (l : List ℕ). stages_in body (numbered l)) empty ∙ ap (λ (a : Action). stages_in a (numbered [])) same)
+pub stages_noted : (p : Program) (body : Action) → body ≡ p.body → (old new : List ℕ) → old ≡ [] → kept_at new ≡ stages_in body (kept_at old) → kept_at new ≡ stages_in p.body (kept_at [])
+stages_noted p body same old new empty noted = noted ∙ (ap (λ (l : List ℕ). stages_in body (kept_at l)) empty ∙ ap (λ (a : Action). stages_in a (kept_at [])) same)
 
 -- variables that were noted from nothing on
 pub scopes_noted : (p : Program) (body : Action) → body ≡ p.body → (old new : List (Option Scope)) → old ≡ [] → scope_at new ≡ scopes_in 0 body (scope_at old) → scope_at new ≡ scopes_in 0 p.body (scope_at [])
@@ -76,21 +76,21 @@ no_scopes p rounds scopes e id h = absurd (h (no_loops rounds e id))
 
 -- Views.
 
-hidden_told : (first : ℕ) (ss : List Standing) → map hidden_binding (all_hidden first ss) ≡ hidden_bindings first ss
+hidden_told : (first : ℕ) (ss : List ViewSite) → map hidden_binding (all_hidden first ss) ≡ hidden_bindings first ss
 hidden_told first [] = refl
 hidden_told first (s ∷ ss) = map-append hidden_binding (hidden_of first s) (all_hidden (behind_hidden first s) ss) ∙ ap (λ l. map hidden_binding (hidden_of first s) ++ l) (hidden_told (behind_hidden first s) ss)
 
 -- the variables of views that code finds are those of the program
-pub bindings_found : (p : Program) (led : List Led) (hidden shown : List Hidden) → map led_seen led ≡ ways_of p → hidden ≡ hidden_of_program p → shown ≡ hidden → map led_binding (map led_seen led) ++ map hidden_binding (map hidden_seen shown) ≡ view_bindings p
+pub bindings_found : (p : Program) (led : List KeptLed) (hidden shown : List Hidden) → map led_seen led ≡ ways_of p → hidden ≡ hidden_of_program p → shown ≡ hidden → map led_binding (map led_seen led) ++ map hidden_binding (map hidden_seen shown) ≡ view_bindings p
 bindings_found p led hidden shown e f g =
     ap (λ ls. map led_binding ls ++ map hidden_binding (map hidden_seen shown)) e
     ∙ (ap (λ hs. map led_binding (ways_of p) ++ map hidden_binding (map hidden_seen hs)) (g ∙ f)
     ∙ (ap (λ hs. map led_binding (ways_of p) ++ map hidden_binding hs) (hidden_are p) ∙ ap (λ bs. map led_binding (ways_of p) ++ bs) (hidden_told (length p.entities) (standings 0 p.body))))
 
 -- ways that lead to memories are followed
-pub follow_all : (ms : List Memory) (led : List Led) (ws : List definitions.Led) → map led_seen led ≡ ws → AllByRecursion (λ l. LeadsTo ms l.way) ws → AllByRecursion (λ l. Follow l.way) led
+pub follow_all : (ms : List Memory) (led : List KeptLed) (ws : List definitions.Led) → map led_seen led ≡ ws → AllByRecursion (λ l. LeadsTo ms l.way) ws → AllByRecursion (λ l. Follow l.way) led
 follow_all ms led ws e h = all led (subst (λ (ls : List definitions.Led). AllByRecursion (λ l. LeadsTo ms l.way) ls) (sym e) h)
   where
-    all : (ls : List Led) → AllByRecursion (λ l. LeadsTo ms l.way) (map led_seen ls) → AllByRecursion (λ l. Follow l.way) ls
+    all : (ls : List KeptLed) → AllByRecursion (λ l. LeadsTo ms l.way) (map led_seen ls) → AllByRecursion (λ l. Follow l.way) ls
     all [] h = tt
     all (l ∷ ls) h = (record { dims = h.0.memory.shape.dims; lead = h.0.steps }, all ls h.1)

@@ -8,11 +8,11 @@ use Rattle.std.proofs.lemmas.List.{reverse-append}
 use Rattle.dh_tree.specs.declared.trees.counters.Counter.{Counter}
 use Rattle.dh_tree.specs.declared.trees.expressions.Expr.{Expr}
 use Rattle.dh_meaning.specs.Bindings.{Binding}
-use Rattle.dh_meets.specs.Charges.{factors_of, depends}
+use Rattle.dh_meets.specs.Charges.{loop_factors, depends}
 use Rattle.dh_ports.specs.declared.copies.Level.{Level}
 use Rattle.dh_ports.specs.declared.copies.Paths.{Paths}
 use Rattle.dh_events.specs.declared.dependence.Scope.{Scope}
-use Rattle.dh_ports.specs.Banks.{path_at, keys_in, key_number}
+use Rattle.dh_ports.specs.Banks.{path_of_number, keys_in, key_number}
 use Rattle.dh_ports.specs.Claims.{source_of}
 use Rattle.dh_ports.specs.Copies.{copies_round, copy_in, greatest_key, key_of_levels, AreLevels, ArePaths, IsSpread}
 use Rattle.dh_events.specs.Scopes.{AreScopes}
@@ -29,9 +29,9 @@ most = 2 ^ 64 - 1
 
 -- the levels so far, the innermost first
 pub record LevelsSoFar (scopes : List (Option Scope)) (loops : List Counter) (access : Expr) (writes : Bool) (i : ℕ) (levels : List Level) (count keys : ℕ) : Type 0 where
-  pub counted : count ≡ min (copies_in (factors_of (drop i loops))) most
+  pub counted : count ≡ min (copies_in (loop_factors (drop i loops))) most
   pub each : (bs : List Binding) → AreScopes bs scopes → 1 ≤ copies_round loops
-      → AreLevels (depends bs (source_of loops writes access)) i (factors_of (drop i loops)) (reverse levels) × (keys ≡ keys_in (depends bs (source_of loops writes access)) i (factors_of (drop i loops)))
+      → AreLevels (depends bs (source_of loops writes access)) i (loop_factors (drop i loops)) (reverse levels) × (keys ≡ keys_in (depends bs (source_of loops writes access)) i (loop_factors (drop i loops)))
 
 -- a product that stays at the most
 saturated : (p f m : ℕ) → min (min p m * f) m ≡ min (f * p) m
@@ -63,7 +63,7 @@ saturated p f m = by (cases_lt m p)
         at_most zero = none m p
         at_most (suc f) = min-eq_right (times m f) ∙ sym (min-eq_right (more m p f large))
 
-copies_rest : (fs : List Counter) (i : ℕ) → 1 ≤ copies_round fs → (1 ≤ copies_in (factors_of (drop i fs))) × (copies_in (factors_of (drop i fs)) ≤ copies_round fs)
+copies_rest : (fs : List Counter) (i : ℕ) → 1 ≤ copies_round fs → (1 ≤ copies_in (loop_factors (drop i fs))) × (copies_in (loop_factors (drop i fs)) ≤ copies_round fs)
 copies_rest fs zero e = (e, same (copies_round fs))
   where
     same : (n : ℕ) → n ≤ n
@@ -73,7 +73,7 @@ copies_rest [] (suc i) e = (e, same (copies_in []))
     same : (n : ℕ) → n ≤ n
     same n = omega arith
 copies_rest (c ∷ fs) (suc i) e =
-    let more = one_more c.factor (factors_of fs) e in
+    let more = one_more c.factor (loop_factors fs) e in
     let rest = copies_rest fs i more.1 in
     (rest.0, times c.factor _ _ more.0 rest.1)
   where
@@ -92,10 +92,10 @@ as_level factor stride share = record { factor = factor; stride = stride; share 
 module _ (scopes : List (Option Scope)) (loops : List Counter) (access : Expr) (writes : Bool) (few : copies_round loops ≤ 256) where
   pub levels_none : (n : ℕ) (levels : List Level) → n ≡ length loops → levels ≡ [] → LevelsSoFar scopes loops access writes n levels 1 1
   levels_none n levels e f = record {
-    counted = ap (λ (l : List Counter). min (copies_in (factors_of l)) most) (sym past);
+    counted = ap (λ (l : List Counter). min (copies_in (loop_factors l)) most) (sym past);
     each = λ bs are one. (
-      subst (λ (l : List Counter). AreLevels (depends bs (source_of loops writes access)) n (factors_of l) (reverse levels)) (sym past) (subst (λ (ls : List Level). AreLevels (depends bs (source_of loops writes access)) n [] (reverse ls)) (sym f) tt),
-      ap (λ (l : List Counter). keys_in (depends bs (source_of loops writes access)) n (factors_of l)) (sym past),
+      subst (λ (l : List Counter). AreLevels (depends bs (source_of loops writes access)) n (loop_factors l) (reverse levels)) (sym past) (subst (λ (ls : List Level). AreLevels (depends bs (source_of loops writes access)) n [] (reverse ls)) (sym f) tt),
+      ap (λ (l : List Counter). keys_in (depends bs (source_of loops writes access)) n (loop_factors l)) (sym past),
     );
   }
     where
@@ -109,7 +109,7 @@ module _ (scopes : List (Option Scope)) (loops : List Counter) (access : Expr) (
   pub paths_done : (paths : Paths) (levels : List Level) (count keys : ℕ) → LevelsSoFar scopes loops access writes 0 levels count keys → paths.count ≡ count → paths.levels.items ≡ reverse levels → ArePaths scopes loops access writes paths
   paths_done paths levels count keys so e f = record {
     count = e ∙ (so.counted ∙ min-eq_left (below (copies_round loops) few));
-    levels = λ bs are one. subst (λ (ls : List Level). AreLevels (depends bs (source_of loops writes access)) 0 (factors_of loops) ls) (sym f) (so.each bs are one).0;
+    levels = λ bs are one. subst (λ (ls : List Level). AreLevels (depends bs (source_of loops writes access)) 0 (loop_factors loops) ls) (sym f) (so.each bs are one).0;
   }
     where
       below : (n : ℕ) → n ≤ 256 → n ≤ 2 ^ 64 - 1
@@ -117,25 +117,25 @@ module _ (scopes : List (Option Scope)) (loops : List Counter) (access : Expr) (
 
   module _ (i : ℕ) (d : Counter) (some : 0 < i) (within : i ≤ length loops) (levels levels1 : List Level) (count keys count1 keys1 : ℕ) (counts : Bool) (so : LevelsSoFar scopes loops access writes i levels count keys)
       (told : (bs : List Binding) → AreScopes bs scopes → counts ≡ depends bs (source_of loops writes access) (i - 1)) where
-    here : factors_of (drop (i - 1) loops) ≡ (get_or loops (i - 1) d).factor ∷ factors_of (drop i loops)
-    here = ap factors_of (at_place loops (i - 1) d (before i (length loops) some within) ∙ ap (λ n. get_or loops (i - 1) d ∷ drop n loops) (back i some))
+    here : loop_factors (drop (i - 1) loops) ≡ (get_or loops (i - 1) d).factor ∷ loop_factors (drop i loops)
+    here = ap loop_factors (at_place loops (i - 1) d (before i (length loops) some within) ∙ ap (λ n. get_or loops (i - 1) d ∷ drop n loops) (back i some))
 
     pub levels_turn : levels1 ≡ levels ++ as_level (get_or loops (i - 1) d).factor count (if counts then keys else 0) ∷ [] → count1 ≡ min (count * (get_or loops (i - 1) d).factor) most → keys1 ≡ (if counts then min (keys * (get_or loops (i - 1) d).factor) most else keys)
         → LevelsSoFar scopes loops access writes (i - 1) levels1 count1 keys1
     levels_turn pushed counted keyed = record {
-      counted = counted ∙ (ap (λ n. min (n * (get_or loops (i - 1) d).factor) most) so.counted ∙ (saturated (copies_in (factors_of (drop i loops))) (get_or loops (i - 1) d).factor most ∙ ap (λ l. min (copies_in l) most) (sym here)));
+      counted = counted ∙ (ap (λ n. min (n * (get_or loops (i - 1) d).factor) most) so.counted ∙ (saturated (copies_in (loop_factors (drop i loops))) (get_or loops (i - 1) d).factor most ∙ ap (λ l. min (copies_in l) most) (sym here)));
       each = λ bs are one.
           let rest = copies_rest loops i one in
           let all = copies_rest loops (i - 1) one in
           let old = so.each bs are one in (
-            subst (λ (ls : List Level). AreLevels (depends bs (source_of loops writes access)) (i - 1) (factors_of (drop (i - 1) loops)) ls) (sym (ap reverse pushed ∙ reverse-append levels (as_level (get_or loops (i - 1) d).factor count (if counts then keys else 0) ∷ [])))
+            subst (λ (ls : List Level). AreLevels (depends bs (source_of loops writes access)) (i - 1) (loop_factors (drop (i - 1) loops)) ls) (sym (ap reverse pushed ∙ reverse-append levels (as_level (get_or loops (i - 1) d).factor count (if counts then keys else 0) ∷ [])))
                 (subst (λ (fs : List ℕ). AreLevels (depends bs (source_of loops writes access)) (i - 1) fs (as_level (get_or loops (i - 1) d).factor count (if counts then keys else 0) ∷ reverse levels)) (sym here) (
                   (refl, (so.counted ∙ min-eq_left (below _ _ rest.1 few), ap (λ b. if b then keys else 0) (told bs are) ∙ ap (λ n. if depends bs (source_of loops writes access) (i - 1) then n else 0) (old.1 ∙ at_next bs))),
-                  subst (λ (n : ℕ). AreLevels (depends bs (source_of loops writes access)) n (factors_of (drop i loops)) (reverse levels)) (sym (back i some)) old.0,
+                  subst (λ (n : ℕ). AreLevels (depends bs (source_of loops writes access)) n (loop_factors (drop i loops)) (reverse levels)) (sym (back i some)) old.0,
                 )),
             keyed
                 ∙ (by_keys counts keys _ (get_or loops (i - 1) d).factor (old.1 ∙ at_next bs) (λ picked. key_most bs one picked)
-                ∙ (ap (λ (b : Bool). if b then (get_or loops (i - 1) d).factor * keys_in (depends bs (source_of loops writes access)) (i - 1 + 1) (factors_of (drop i loops)) else keys_in (depends bs (source_of loops writes access)) (i - 1 + 1) (factors_of (drop i loops))) (told bs are)
+                ∙ (ap (λ (b : Bool). if b then (get_or loops (i - 1) d).factor * keys_in (depends bs (source_of loops writes access)) (i - 1 + 1) (loop_factors (drop i loops)) else keys_in (depends bs (source_of loops writes access)) (i - 1 + 1) (loop_factors (drop i loops))) (told bs are)
                 ∙ ap (keys_in (depends bs (source_of loops writes access)) (i - 1)) (sym here))),
           );
     }
@@ -143,8 +143,8 @@ module _ (scopes : List (Option Scope)) (loops : List Counter) (access : Expr) (
         below : (n m : ℕ) → n ≤ m → m ≤ 256 → n ≤ 2 ^ 64 - 1
         below n m e f = omega (arith, e, f)
 
-        at_next : (bs : List Binding) → keys_in (depends bs (source_of loops writes access)) i (factors_of (drop i loops)) ≡ keys_in (depends bs (source_of loops writes access)) (i - 1 + 1) (factors_of (drop i loops))
-        at_next bs = ap (λ n. keys_in (depends bs (source_of loops writes access)) n (factors_of (drop i loops))) (sym (back i some))
+        at_next : (bs : List Binding) → keys_in (depends bs (source_of loops writes access)) i (loop_factors (drop i loops)) ≡ keys_in (depends bs (source_of loops writes access)) (i - 1 + 1) (loop_factors (drop i loops))
+        at_next bs = ap (λ n. keys_in (depends bs (source_of loops writes access)) n (loop_factors (drop i loops))) (sym (back i some))
 
         product : (f k c : ℕ) → k ≤ c → f * k ≤ f * c
         product f k c a = grind arith
@@ -152,12 +152,12 @@ module _ (scopes : List (Option Scope)) (loops : List Counter) (access : Expr) (
         fits : (n m c : ℕ) → n ≤ m → m ≤ c → c ≤ 256 → n ≤ 2 ^ 64 - 1
         fits n m c e f g = omega (arith, e, f, g)
 
-        key_most : (bs : List Binding) → 1 ≤ copies_round loops → counts ≡ true → (get_or loops (i - 1) d).factor * keys_in (depends bs (source_of loops writes access)) (i - 1 + 1) (factors_of (drop i loops)) ≤ 2 ^ 64 - 1
+        key_most : (bs : List Binding) → 1 ≤ copies_round loops → counts ≡ true → (get_or loops (i - 1) d).factor * keys_in (depends bs (source_of loops writes access)) (i - 1 + 1) (loop_factors (drop i loops)) ≤ 2 ^ 64 - 1
         key_most bs one picked =
             let rest = copies_rest loops i one in
             let all = copies_rest loops (i - 1) one in
-            fits _ (copies_in (factors_of (drop (i - 1) loops))) _
-            (subst (λ (n : ℕ). (get_or loops (i - 1) d).factor * keys_in (depends bs (source_of loops writes access)) (i - 1 + 1) (factors_of (drop i loops)) ≤ n) (sym (ap copies_in here)) (product _ _ _ (keys_most (depends bs (source_of loops writes access)) (i - 1 + 1) (factors_of (drop i loops)) rest.0).1))
+            fits _ (copies_in (loop_factors (drop (i - 1) loops))) _
+            (subst (λ (n : ℕ). (get_or loops (i - 1) d).factor * keys_in (depends bs (source_of loops writes access)) (i - 1 + 1) (loop_factors (drop i loops)) ≤ n) (sym (ap copies_in here)) (product _ _ _ (keys_most (depends bs (source_of loops writes access)) (i - 1 + 1) (loop_factors (drop i loops)) rest.0).1))
             all.1 few
 
         by_keys : (b : Bool) (keys k f : ℕ) → keys ≡ k → (b ≡ true → f * k ≤ 2 ^ 64 - 1) → (if b then min (keys * f) most else keys) ≡ (if b then f * k else k)
@@ -229,7 +229,7 @@ greatest_below picks level (f ∷ fs) (l ∷ ls) e h =
     by true (suc f) some e = first f (keys_in picks (level + 1) fs) (greatest_key ls) e
     by false f some e = other f _ _ e
 
-pub copy_told : (picks : ℕ → Bool) (level : ℕ) (fs : List ℕ) (ls : List Level) (n k : ℕ) → AreLevels picks level fs ls → copy_in ls k n ≡ slice_index_or (path_at fs n) k 0
+pub copy_told : (picks : ℕ → Bool) (level : ℕ) (fs : List ℕ) (ls : List Level) (n k : ℕ) → AreLevels picks level fs ls → copy_in ls k n ≡ slice_index_or (path_of_number fs n) k 0
 copy_told picks level [] [] n k h = refl
 copy_told picks level [] (l ∷ ls) n k h = absurd h
 copy_told picks level (f ∷ fs) [] n k h = absurd h

@@ -11,7 +11,7 @@ use Rattle.dh_meets.specs.SourceEvents as source
 use Rattle.dh_meets.specs.SourceEvents.{SourceEvent, accesses_in, site_of, term_events, form_events, terms_events, maybe_events, write_events, events, command_events, other_events, groups_events, part_events}
 use Rattle.dh_events.specs.declared.events.Site.{Site}
 use Rattle.dh_events.specs.declared.noting.Open.{Open}
-use Rattle.dh_events.specs.Incidents.{Incident, touches, assigned, arm_begins, arm_ends, begins, next, ends, site_at, term_incidents, form_incidents, terms_incidents, maybe_incidents, target_incidents, is_stepped, closed, released, phase_of, tested, inside_choice, round_inside, when_parted, arms_part, are_parts, open_after, part_open, open_combine, incidents, command_incidents, other_incidents, combine_incidents, groups_incidents, part_incidents}
+use Rattle.dh_events.specs.Incidents.{PortEvent, touches, assigned, arm_begins, arm_ends, begins, next, ends, site_at, term_incidents, form_incidents, terms_incidents, maybe_incidents, target_incidents, is_stepped, closed, released, phase_of, tested, inside_choice, round_inside, when_parted, arms_part, are_parts, open_after, part_open, open_combine, incidents, command_incidents, other_incidents, combine_incidents, groups_incidents, part_incidents}
 use Rattle.dh_tree.specs.declared.trees.counters.Counter.{Counter}
 use Rattle.dh_events.specs.Rounds.{inside_loop}
 use Rattle.dh_ports.specs.Wholes.{sites_in}
@@ -23,7 +23,7 @@ loops_at l None = []
 loops_at l (Some id) = l id
 
 -- those of each access
-abbrev pub looped : (ℕ → List Counter) → List Incident → List (List Counter)
+abbrev pub looped : (ℕ → List Counter) → List PortEvent → List (List Counter)
 looped ls xs = map (λ s. loops_at ls s.round) (sites_in xs)
 
 -- the same of events
@@ -55,7 +55,7 @@ inside_loops r c = by (nat_lt 1 c.factor)
     by false = refl
 
 module _ (ls : ℕ → List Counter) where
-  looped_append : (xs ys : List Incident) → looped ls (xs ++ ys) ≡ looped ls xs ++ looped ls ys
+  looped_append : (xs ys : List PortEvent) → looped ls (xs ++ ys) ≡ looped ls xs ++ looped ls ys
   looped_append [] ys = refl
   looped_append (touches t w s ∷ xs) ys = ap (λ l. loops_at ls s.round ∷ l) (looped_append xs ys)
   looped_append (assigned e ∷ xs) ys = looped_append xs ys
@@ -65,18 +65,18 @@ module _ (ls : ℕ → List Counter) where
   looped_append (next ∷ xs) ys = looped_append xs ys
   looped_append (ends ∷ xs) ys = looped_append xs ys
 
-  both : (xs ys : List Incident) (es fs : List SourceEvent) → looped ls xs ≡ seen_in es → looped ls ys ≡ seen_in fs → looped ls (xs ++ ys) ≡ seen_in (es ++ fs)
+  both : (xs ys : List PortEvent) (es fs : List SourceEvent) → looped ls xs ≡ seen_in es → looped ls ys ≡ seen_in fs → looped ls (xs ++ ys) ≡ seen_in (es ++ fs)
   both xs ys es fs e f = looped_append xs ys ∙ (ap (λ l. l ++ looped ls ys) e ∙ (ap (λ l. seen_in es ++ l) f ∙ sym (seen_append es fs)))
 
   -- marks are no accesses
-  none_more : (xs : List Incident) (y : Incident) (es : List SourceEvent) → looped ls (y ∷ []) ≡ [] → looped ls xs ≡ seen_in es → looped ls (xs ++ y ∷ []) ≡ seen_in es
+  none_more : (xs : List PortEvent) (y : PortEvent) (es : List SourceEvent) → looped ls (y ∷ []) ≡ [] → looped ls xs ≡ seen_in es → looped ls (xs ++ y ∷ []) ≡ seen_in es
   none_more xs y es e f = looped_append xs (y ∷ []) ∙ (ap (λ l. looped ls xs ++ l) e ∙ (nothing_more (looped ls xs) ∙ f))
 
-  parted_first : (b : Bool) (y : Incident) (xs : List Incident) → looped ls (y ∷ xs) ≡ looped ls xs → looped ls (when_parted b y ++ xs) ≡ looped ls xs
+  parted_first : (b : Bool) (y : PortEvent) (xs : List PortEvent) → looped ls (y ∷ xs) ≡ looped ls xs → looped ls (when_parted b y ++ xs) ≡ looped ls xs
   parted_first true y xs e = e
   parted_first false y xs e = refl
 
-  parted_last : (b : Bool) (y : Incident) (xs : List Incident) → looped ls (y ∷ []) ≡ [] → looped ls (xs ++ when_parted b y) ≡ looped ls xs
+  parted_last : (b : Bool) (y : PortEvent) (xs : List PortEvent) → looped ls (y ∷ []) ≡ [] → looped ls (xs ++ when_parted b y) ≡ looped ls xs
   parted_last true y xs e = looped_append xs (y ∷ []) ∙ (ap (λ l. looped ls xs ++ l) e ∙ nothing_more (looped ls xs))
   parted_last false y xs e = ap (looped ls) (nothing_more xs)
 
@@ -111,7 +111,7 @@ module _ (ls : ℕ → List Counter) where
   target_same s z (term place kind (converted inner to)) h = term_same s z inner h
 
   -- a value and an assignment behind it
-  assigned_same : (xs : List Incident) (es : List SourceEvent) (e : Option ℕ) → looped ls xs ≡ seen_in es → looped ls (xs ++ assigned e ∷ []) ≡ seen_in (es ++ source.assigned e ∷ [])
+  assigned_same : (xs : List PortEvent) (es : List SourceEvent) (e : Option ℕ) → looped ls xs ≡ seen_in es → looped ls (xs ++ assigned e ∷ []) ≡ seen_in (es ++ source.assigned e ∷ [])
   assigned_same xs es e f = both xs (assigned e ∷ []) es (source.assigned e ∷ []) f refl
 
   mutual

@@ -4,7 +4,7 @@ use Rattle.std.proofs.lemmas.Bool.{cases_lt}
 use Rattle.dh_tree.specs.Meets.{Meets, nothing, access, all, one, In, Distinct, Before}
 use Rattle.dh_tree.specs.PlainTrees.{Action, action, ActionForm, lets, lets_memory, views, assigns, stores, reduces, calls, blocks, decides, repeats, counts, MaybeAction, no_action, one_action, Actions, no_actions, action_then, Groups, no_groups, group_then}
 use Rattle.dh_meaning.specs.AccessNumbers.{term_accesses, maybe_accesses, plan_accesses, own_accesses, inner_accesses, accesses_of, other_accesses, groups_accesses, part_accesses}
-use Rattle.dh_meets.specs.MayMeet.{row_of, arms_meet, meets, command_meets, other_meets, groups_meet, part_meets}
+use Rattle.dh_meets.specs.MayMeet.{row_of_accesses, arms_meet, meets, command_meets, other_meets, groups_meet, part_meets}
 
 absurd : {A : Type 0} → ⊥ → A
 absurd e = elim e [ ]
@@ -88,11 +88,11 @@ module _ (n m p : ℕ) (l r : Meets) (f : Numbered n m l) (g : Numbered (n + m) 
   pub numbered_one : Numbered n (m + p) (one l r)
   numbered_one = record { distinct = ((f.distinct, g.distinct), disjoint); inside = which; first = least; last = most; before = order; behind = from_order }
 
-numbered_row : (n m : ℕ) → Numbered n m (row_of n m)
+numbered_row : (n m : ℕ) → Numbered n m (row_of_accesses n m)
 numbered_row n zero = numbered_nothing n
 numbered_row n (suc m) =
-    subst (λ (k : ℕ). Numbered n k (row_of n (suc m))) (one_more m)
-    (numbered_all n 1 m (access n) (row_of (suc n) m) (numbered_access n) (subst (λ (k : ℕ). Numbered k m (row_of (suc n) m)) (next_one n) (numbered_row (suc n) m)))
+    subst (λ (k : ℕ). Numbered n k (row_of_accesses n (suc m))) (one_more m)
+    (numbered_all n 1 m (access n) (row_of_accesses (suc n) m) (numbered_access n) (subst (λ (k : ℕ). Numbered k m (row_of_accesses (suc n) m)) (next_one n) (numbered_row (suc n) m)))
   where
     one_more : (m : ℕ) → 1 + m ≡ suc m
     one_more m = omega arith

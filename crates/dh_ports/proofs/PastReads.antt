@@ -13,9 +13,9 @@ use Rattle.dh_events.specs.declared.classes.Key.{Key}
 use Rattle.dh_events.specs.declared.events.Site.{Site}
 use Rattle.dh_events.specs.declared.structures.Structure.{Structure}
 use Rattle.dh_events.specs.Classes as classes
-use Rattle.dh_events.specs.Elements.{assigned_at, IsElement, IsNumberOf, ElementNameless}
+use Rattle.dh_events.specs.Elements.{moment_assigned_at, IsElement, IsNumberOf, ElementNameless}
 use Rattle.dh_ports.specs.Scanned.{key_with}
-use Rattle.dh_events.specs.Structures.{AreDistinct, DescribesElement, element_newest}
+use Rattle.dh_events.specs.Structures.{StructuresAreDistinct, DescribesElement, element_newest}
 use Rattle.dh_ports.proofs.AlikeNumbers.{element_alike}
 use Rattle.dh_ports.proofs.AlikeFacts.{element_number, first_element, second_element, element_newest_alike, element_most, element_least, element_newest_same}
 use Rattle.dh_ports.proofs.MentionedSame.{set_by, set_in, unset_where, reassigned_where}
@@ -225,7 +225,7 @@ module _ (w : Walk) (v : ℕ → ℕ) (at : ℕ) where
       untrue : false ≡ true → ⊥
       untrue e = cc
 
-  moves_set : (entity : Option ℕ) → Moves v (assigned_at v (at + 1) entity) at (assigned entity)
+  moves_set : (entity : Option ℕ) → Moves v (moment_assigned_at v (at + 1) entity) at (assigned entity)
   moves_set None = record { same = λ e n. refl; later = λ e n. absurd (untrue n) }
     where
       untrue : false ≡ true → ⊥
@@ -238,10 +238,10 @@ module _ (w : Walk) (v : ℕ → ℕ) (at : ℕ) where
       more : (n : ℕ) → n < n + 1
       more n = omega arith
 
-  pub kept_set : (past : List Noted) (entity : Option ℕ) → Kept w v at 0 past → Kept w (assigned_at v (at + 1) entity) (at + 1) 0 (past ++ noted_set entity ∷ [])
-  kept_set past entity k = kept_more w v (assigned_at v (at + 1) entity) at (assigned entity) (moves_set entity) 0 past (noted_set entity) refl tt k
+  pub kept_set : (past : List Noted) (entity : Option ℕ) → Kept w v at 0 past → Kept w (moment_assigned_at v (at + 1) entity) (at + 1) 0 (past ++ noted_set entity ∷ [])
+  kept_set past entity k = kept_more w v (moment_assigned_at v (at + 1) entity) at (assigned entity) (moves_set entity) 0 past (noted_set entity) refl tt k
 
-pub bounded_set : (v : ℕ → ℕ) (at : ℕ) (entity : Option ℕ) → ((e : ℕ) → v e ≤ at) → (e : ℕ) → assigned_at v (at + 1) entity e ≤ at + 1
+pub bounded_set : (v : ℕ → ℕ) (at : ℕ) (entity : Option ℕ) → ((e : ℕ) → v e ≤ at) → (e : ℕ) → moment_assigned_at v (at + 1) entity e ≤ at + 1
 bounded_set v at None b e = more (v e) at (b e)
   where
     more : (n m : ℕ) → n ≤ m → n ≤ m + 1
@@ -308,7 +308,7 @@ one_same false false m p r c n e f = ap (λ b. r && b) (f refl) ∙ shuffle m p 
 abbrev pub Phased : Walk → Type 0
 Phased w = (i j : ℕ) (s t : Site) → slice_get w.sites i ≡ Some s → slice_get w.sites j ≡ Some t → in_one_phase w.program i j ≡ (s.phase == t.phase)
 
-module _ (w : Walk) (phased : Phased w) (apart_keys : classes.AreDistinct w.keys) (apart_structures : AreDistinct w.structures) (v : ℕ → ℕ) (number : ℕ) (site : Site) (sited : slice_get w.sites number ≡ Some site)
+module _ (w : Walk) (phased : Phased w) (apart_keys : classes.KeysAreDistinct w.keys) (apart_structures : StructuresAreDistinct w.structures) (v : ℕ → ℕ) (number : ℕ) (site : Site) (sited : slice_get w.sites number ≡ Some site)
     (x : SourceAccess) (key : Option ℕ) (reads : x.writes ≡ false) (classed : Classed w v site x key) where
   module _ (at j : ℕ) (a : SourceAccess) (other : Option ℕ) (hs : List SourceEvent) (held : Held w v at j a other hs) (earlier_reads : a.writes ≡ false) where
     abbrev class : Classed w held.versions held.site a other

@@ -9,7 +9,7 @@ use Rattle.std.proofs.Math.Nat.{div-div-eq-div-mul, mod-eq_of_lt, mod-lt, mul_co
 use Rattle.dh_tree.proofs.BankElements.{column_exists, row_below}
 use Rattle.dh_meaning.specs.Paths.{Path, copies_in, same_path}
 use Rattle.dh_ports.specs.declared.copies.Level.{Level}
-use Rattle.dh_ports.specs.Banks.{each_below, path_at}
+use Rattle.dh_ports.specs.Banks.{each_below, path_of_number}
 use Rattle.dh_ports.specs.Copies.{stride_in, AreLevels}
 use Rattle.dh_ports.proofs.PathNumbers.{each_more, each_same, path_round}
 
@@ -54,13 +54,13 @@ copies_split (f ∷ fs) (suc s) = ap (λ n. f * n) (copies_split fs s) ∙ group
     grouped a b c = omega arith
 
 -- the copies of a path in the outer loops are the path of the number of its block
-pub take_path : (fs : List ℕ) (s n : ℕ) → take s (path_at fs n) ≡ path_at (take s fs) (n / copies_in (drop s fs))
+pub take_path : (fs : List ℕ) (s n : ℕ) → take s (path_of_number fs n) ≡ path_of_number (take s fs) (n / copies_in (drop s fs))
 take_path [] zero n = refl
 take_path [] (suc s) n = refl
 take_path (f ∷ fs) zero n = refl
 take_path (f ∷ fs) (suc s) n =
     ap (λ l. (n / copies_in fs) % f ∷ l) (take_path fs s n)
-    ∙ ap (λ m. m % f ∷ path_at (take s fs) (n / copies_in (drop s fs)))
+    ∙ ap (λ m. m % f ∷ path_of_number (take s fs) (n / copies_in (drop s fs)))
     (ap (λ c. n / c) (copies_split fs s ∙ mul_comm (copies_in (take s fs)) (copies_in (drop s fs))) ∙ sym (div-div-eq-div-mul n (copies_in (drop s fs)) (copies_in (take s fs))))
 
 -- how many paths there are inside the outer loops is kept with the levels of all loops
@@ -81,7 +81,7 @@ stride_is picks level (f ∷ fs) (l ∷ ls) (suc s) count h e =
     one_less s = omega arith
 
 -- paths of two numbers that are one belong to one number
-same_more : (f : ℕ) (fs : List ℕ) (m n : ℕ) → m < copies_in (f ∷ fs) → n < copies_in (f ∷ fs) → path_at (f ∷ fs) m ≡ path_at (f ∷ fs) n → ((j k : ℕ) → j < copies_in fs → k < copies_in fs → path_at fs j ≡ path_at fs k → j ≡ k) → m ≡ n
+same_more : (f : ℕ) (fs : List ℕ) (m n : ℕ) → m < copies_in (f ∷ fs) → n < copies_in (f ∷ fs) → path_of_number (f ∷ fs) m ≡ path_of_number (f ∷ fs) n → ((j k : ℕ) → j < copies_in fs → k < copies_in fs → path_of_number fs j ≡ path_of_number fs k → j ≡ k) → m ≡ n
 same_more f fs m n below under e inner =
     sym (div-add-mod' m (copies_in fs))
     ∙ (ap (λ q. q * copies_in fs + m % copies_in fs) first ∙ (ap (λ r. n / copies_in fs * copies_in fs + r) rest ∙ div-add-mod' n (copies_in fs)))
@@ -98,27 +98,27 @@ same_more f fs m n below under e inner =
     first : m / copies_in fs ≡ n / copies_in fs
     first = sym (mod-eq_of_lt (row_below m f (copies_in fs) below)) ∙ (head_is _ _ _ _ e ∙ mod-eq_of_lt (row_below n f (copies_in fs) under))
 
-    short : (k : ℕ) → path_at fs k ≡ path_at fs (k % copies_in fs)
-    short k = ap (path_at fs) (sym (div-add-mod' k (copies_in fs))) ∙ path_round fs (k / copies_in fs) (k % copies_in fs) some
+    short : (k : ℕ) → path_of_number fs k ≡ path_of_number fs (k % copies_in fs)
+    short k = ap (path_of_number fs) (sym (div-add-mod' k (copies_in fs))) ∙ path_round fs (k / copies_in fs) (k % copies_in fs) some
 
     rest : m % copies_in fs ≡ n % copies_in fs
     rest = inner (m % copies_in fs) (n % copies_in fs) (mod-lt m {m = copies_in fs} some) (mod-lt n {m = copies_in fs} some) (sym (short m) ∙ (tail_is _ _ _ _ e ∙ short n))
 
-pub path_same : (fs : List ℕ) (m n : ℕ) → m < copies_in fs → n < copies_in fs → path_at fs m ≡ path_at fs n → m ≡ n
+pub path_same : (fs : List ℕ) (m n : ℕ) → m < copies_in fs → n < copies_in fs → path_of_number fs m ≡ path_of_number fs n → m ≡ n
 path_same [] m n below under e = one m n below under
   where
     one : (m n : ℕ) → m < 1 → n < 1 → m ≡ n
     one m n a b = omega (arith, a, b)
 path_same (f ∷ fs) m n below under e = same_more f fs m n below under e (path_same fs)
 
-pub paths_apart : (fs : List ℕ) (m n : ℕ) → m < copies_in fs → n < copies_in fs → same_path (path_at fs m) (path_at fs n) ≡ (m == n)
-paths_apart fs m n below under = by (m == n) (same_path (path_at fs m) (path_at fs n)) refl refl
+pub paths_apart : (fs : List ℕ) (m n : ℕ) → m < copies_in fs → n < copies_in fs → same_path (path_of_number fs m) (path_of_number fs n) ≡ (m == n)
+paths_apart fs m n below under = by (m == n) (same_path (path_of_number fs m) (path_of_number fs n)) refl refl
   where
-    by : (b c : Bool) → (m == n) ≡ b → same_path (path_at fs m) (path_at fs n) ≡ c → c ≡ b
+    by : (b c : Bool) → (m == n) ≡ b → same_path (path_of_number fs m) (path_of_number fs n) ≡ c → c ≡ b
     by true true e f = refl
     by false false e f = refl
-    by true false e f = absurd (clash (same_path (path_at fs m) (path_at fs n)) (ap (λ k. same_path (path_at fs m) (path_at fs k)) (sym (eqb-true m n e)) ∙ same_self (path_at fs m)) f)
-    by false true e f = absurd (clash (m == n) (eq-eqb m n (path_same fs m n below under (same_both (path_at fs m) (path_at fs n) f))) e)
+    by true false e f = absurd (clash (same_path (path_of_number fs m) (path_of_number fs n)) (ap (λ k. same_path (path_of_number fs m) (path_of_number fs k)) (sym (eqb-true m n e)) ∙ same_self (path_of_number fs m)) f)
+    by false true e f = absurd (clash (m == n) (eq-eqb m n (path_same fs m n below under (same_both (path_of_number fs m) (path_of_number fs n) f))) e)
 
 -- Filters over blocks.
 
@@ -290,17 +290,17 @@ any_found t f (suc n) e = by (list_any t (each_below f n)) (t (f n)) refl refl (
     by false false g h e rest = absurd (clash (list_any t (each_below f n) || (t (f n) || false)) e (ap (λ a. a || (t (f n) || false)) g ∙ ap (λ b. b || false) h))
 
 -- the blocks of all paths have one path each
-pub blocks_unique : (fs : List ℕ) (stride groups : ℕ) → 1 ≤ stride → groups ≤ copies_in fs → unique_keys same_path (each_below (λ k. path_at fs (k / stride)) (groups * stride)) ≡ each_below (path_at fs) groups
-blocks_unique fs stride zero some few = ap (λ n. unique_keys same_path (each_below (λ k. path_at fs (k / stride)) n)) (none stride)
+pub blocks_unique : (fs : List ℕ) (stride groups : ℕ) → 1 ≤ stride → groups ≤ copies_in fs → unique_keys same_path (each_below (λ k. path_of_number fs (k / stride)) (groups * stride)) ≡ each_below (path_of_number fs) groups
+blocks_unique fs stride zero some few = ap (λ n. unique_keys same_path (each_below (λ k. path_of_number fs (k / stride)) n)) (none stride)
   where
     none : (s : ℕ) → 0 * s ≡ 0
     none s = omega arith
 blocks_unique fs stride (suc group) some few =
-    ap (λ n. unique_keys same_path (each_below (λ k. path_at fs (k / stride)) n)) (next group stride)
+    ap (λ n. unique_keys same_path (each_below (λ k. path_of_number fs (k / stride)) n)) (next group stride)
     ∙ (ap (unique_keys same_path)
-    (each_more (λ k. path_at fs (k / stride)) (group * stride) stride ∙ ap (λ l. each_below (λ k. path_at fs (k / stride)) (group * stride) ++ l) (each_same (λ k. path_at fs ((group * stride + k) / stride)) (λ k. path_at fs group) stride (λ k i. ap (path_at fs) (div-mul-add group stride k i))))
-    ∙ (unique_join (each_below (λ k. path_at fs (k / stride)) (group * stride)) (each_below (λ k. path_at fs group) stride) apart
-    ∙ (ap (λ l. l ++ unique_keys same_path (each_below (λ k. path_at fs group) stride)) (blocks_unique fs stride group some (before group (copies_in fs) few)) ∙ ap (λ l. each_below (path_at fs) group ++ l) (unique_const (path_at fs group) stride some))))
+    (each_more (λ k. path_of_number fs (k / stride)) (group * stride) stride ∙ ap (λ l. each_below (λ k. path_of_number fs (k / stride)) (group * stride) ++ l) (each_same (λ k. path_of_number fs ((group * stride + k) / stride)) (λ k. path_of_number fs group) stride (λ k i. ap (path_of_number fs) (div-mul-add group stride k i))))
+    ∙ (unique_join (each_below (λ k. path_of_number fs (k / stride)) (group * stride)) (each_below (λ k. path_of_number fs group) stride) apart
+    ∙ (ap (λ l. l ++ unique_keys same_path (each_below (λ k. path_of_number fs group) stride)) (blocks_unique fs stride group some (before group (copies_in fs) few)) ∙ ap (λ l. each_below (path_of_number fs) group ++ l) (unique_const (path_of_number fs group) stride some))))
   where
     next : (g s : ℕ) → suc g * s ≡ g * s + s
     next g s = omega arith
@@ -317,10 +317,10 @@ blocks_unique fs stride (suc group) some few =
     other : (m g : ℕ) → m < g → m ≡ g → ⊥
     other m g e f = omega (arith, e, f)
 
-    apart : (x : Path) → list_any (λ z. same_path z x) (each_below (λ k. path_at fs (k / stride)) (group * stride)) ≡ true → is_member same_path (each_below (λ k. path_at fs group) stride) x ≡ false
+    apart : (x : Path) → list_any (λ z. same_path z x) (each_below (λ k. path_of_number fs (k / stride)) (group * stride)) ≡ true → is_member same_path (each_below (λ k. path_of_number fs group) stride) x ≡ false
     apart x h =
-        let found = any_found (λ z. same_path z x) (λ k. path_at fs (k / stride)) (group * stride) h in
+        let found = any_found (λ z. same_path z x) (λ k. path_of_number fs (k / stride)) (group * stride) h in
         let less = row_below found.0 group stride found.1.0 in
-        any_none (same_path x) (λ k. path_at fs group) stride (λ k i.
-        ap (λ y. same_path y (path_at fs group)) (sym (same_both (path_at fs (found.0 / stride)) x found.1.1))
+        any_none (same_path x) (λ k. path_of_number fs group) stride (λ k i.
+        ap (λ y. same_path y (path_of_number fs group)) (sym (same_both (path_of_number fs (found.0 / stride)) x found.1.1))
         ∙ (paths_apart fs (found.0 / stride) group (below (found.0 / stride) group (copies_in fs) less few) (under group (copies_in fs) few) ∙ ne_eqb (found.0 / stride) group (other (found.0 / stride) group less)))

@@ -5,7 +5,7 @@ use Rattle.std.proofs.Math.Nat.{mod-lt, mul-add-div_right, mul-add-mod_self_righ
 use Rattle.std.proofs.lemmas.Nat.{mul-add-lt, div-mul-add, mod-mul-add}
 use Rattle.dh_meaning.specs.Paths.{Path, same_path, outer_paths, copies_of, all_copies, paths_from, paths_in}
 use Rattle.dh_meets.specs.Charges.{picked}
-use Rattle.dh_ports.specs.Banks.{path_at, keys_in, key_number}
+use Rattle.dh_ports.specs.Banks.{path_of_number, keys_in, key_number}
 pub use Rattle.dh_ports.specs.Banks.{each_below}
 use Rattle.dh_meaning.specs.Paths.{copies_in}
 
@@ -49,13 +49,13 @@ one_more (suc f) fs e = (omega arith, by (copies_in fs) e)
     by (suc n) e = omega arith
 
 -- a multiple of the copies more leads to the same path
-pub path_round : (fs : List ℕ) (k n : ℕ) → 1 ≤ copies_in fs → path_at fs (k * copies_in fs + n) ≡ path_at fs n
+pub path_round : (fs : List ℕ) (k n : ℕ) → 1 ≤ copies_in fs → path_of_number fs (k * copies_in fs + n) ≡ path_of_number fs n
 path_round [] k n e = refl
 path_round (f ∷ fs) k n e =
     let more = one_more f fs e in
-    ap (λ m. (m / copies_in fs) % f ∷ path_at fs m) (grouped k f (copies_in fs) n)
-    ∙ (ap (λ c. c % f ∷ path_at fs (k * f * copies_in fs + n)) (mul-add-div_right {m = copies_in fs} more.1 (k * f) n)
-    ∙ (ap (λ c. c ∷ path_at fs (k * f * copies_in fs + n)) (mul-add-mod_self_right k f (n / copies_in fs)) ∙ ap (λ l. (n / copies_in fs) % f ∷ l) (path_round fs (k * f) n more.1)))
+    ap (λ m. (m / copies_in fs) % f ∷ path_of_number fs m) (grouped k f (copies_in fs) n)
+    ∙ (ap (λ c. c % f ∷ path_of_number fs (k * f * copies_in fs + n)) (mul-add-div_right {m = copies_in fs} more.1 (k * f) n)
+    ∙ (ap (λ c. c ∷ path_of_number fs (k * f * copies_in fs + n)) (mul-add-mod_self_right k f (n / copies_in fs)) ∙ ap (λ l. (n / copies_in fs) % f ∷ l) (path_round fs (k * f) n more.1)))
   where
     grouped : (k f c n : ℕ) → k * (f * c) + n ≡ k * f * c + n
     grouped k f c n = omega arith
@@ -76,17 +76,17 @@ append_none : {A : Type 0} (xs : List A) → xs ++ [] ≡ xs
 append_none [] = refl
 append_none (x ∷ xs) = ap (λ l. x ∷ l) (append_none xs)
 
-from_copies : (p : Path) (f : ℕ) (fs : List ℕ) → 1 ≤ f → 1 ≤ copies_in fs → ((q : Path) → paths_from (q ∷ []) fs ≡ each_below (λ n. q ++ path_at fs n) (copies_in fs)) → (j : ℕ) → j ≤ f
-    → paths_from (copies_of p j) fs ≡ each_below (λ n. p ++ path_at (f ∷ fs) n) (j * copies_in fs)
-from_copies p f fs some each one zero e = from_none fs ∙ sym (ap (each_below (λ n. p ++ path_at (f ∷ fs) n)) (none (copies_in fs)))
+from_copies : (p : Path) (f : ℕ) (fs : List ℕ) → 1 ≤ f → 1 ≤ copies_in fs → ((q : Path) → paths_from (q ∷ []) fs ≡ each_below (λ n. q ++ path_of_number fs n) (copies_in fs)) → (j : ℕ) → j ≤ f
+    → paths_from (copies_of p j) fs ≡ each_below (λ n. p ++ path_of_number (f ∷ fs) n) (j * copies_in fs)
+from_copies p f fs some each one zero e = from_none fs ∙ sym (ap (each_below (λ n. p ++ path_of_number (f ∷ fs) n)) (none (copies_in fs)))
   where
     none : (n : ℕ) → 0 * n ≡ 0
     none n = omega arith
 from_copies p f fs some each one (suc j) e =
     from_append (copies_of p j) ((p ++ j ∷ []) ∷ []) fs
     ∙ (ap (λ l. l ++ paths_from ((p ++ j ∷ []) ∷ []) fs) (from_copies p f fs some each one j (omega (arith, e)))
-    ∙ (ap (λ l. each_below (λ n. p ++ path_at (f ∷ fs) n) (j * copies_in fs) ++ l) (one (p ++ j ∷ []) ∙ each_same _ (λ k. p ++ path_at (f ∷ fs) (j * copies_in fs + k)) (copies_in fs) (λ k h. there k h))
-    ∙ (sym (each_more (λ n. p ++ path_at (f ∷ fs) n) (j * copies_in fs) (copies_in fs)) ∙ ap (each_below (λ n. p ++ path_at (f ∷ fs) n)) (next j (copies_in fs)))))
+    ∙ (ap (λ l. each_below (λ n. p ++ path_of_number (f ∷ fs) n) (j * copies_in fs) ++ l) (one (p ++ j ∷ []) ∙ each_same _ (λ k. p ++ path_of_number (f ∷ fs) (j * copies_in fs + k)) (copies_in fs) (λ k h. there k h))
+    ∙ (sym (each_more (λ n. p ++ path_of_number (f ∷ fs) n) (j * copies_in fs) (copies_in fs)) ∙ ap (each_below (λ n. p ++ path_of_number (f ∷ fs) n)) (next j (copies_in fs)))))
   where
     next : (j n : ℕ) → j * n + n ≡ suc j * n
     next j n = omega arith
@@ -97,18 +97,18 @@ from_copies p f fs some each one (suc j) e =
         zeros : (j f : ℕ) → j ≡ 0 * f + j
         zeros j f = omega arith
 
-    there : (k : ℕ) → k < copies_in fs → (p ++ j ∷ []) ++ path_at fs k ≡ p ++ path_at (f ∷ fs) (j * copies_in fs + k)
+    there : (k : ℕ) → k < copies_in fs → (p ++ j ∷ []) ++ path_of_number fs k ≡ p ++ path_of_number (f ∷ fs) (j * copies_in fs + k)
     there k h =
-        append_assoc p (j ∷ []) (path_at fs k)
-        ∙ sym (ap (λ c. p ++ (c ∷ path_at fs (j * copies_in fs + k))) (first k h) ∙ ap (λ l. p ++ (j ∷ l)) (path_round fs j k each))
+        append_assoc p (j ∷ []) (path_of_number fs k)
+        ∙ sym (ap (λ c. p ++ (c ∷ path_of_number fs (j * copies_in fs + k))) (first k h) ∙ ap (λ l. p ++ (j ∷ l)) (path_round fs j k each))
 
-from_one : (p : Path) (fs : List ℕ) → 1 ≤ copies_in fs → paths_from (p ∷ []) fs ≡ each_below (λ n. p ++ path_at fs n) (copies_in fs)
+from_one : (p : Path) (fs : List ℕ) → 1 ≤ copies_in fs → paths_from (p ∷ []) fs ≡ each_below (λ n. p ++ path_of_number fs n) (copies_in fs)
 from_one p [] e = ap (λ q. q ∷ []) (sym (append_none p))
 from_one p (f ∷ fs) e =
     let more = one_more f fs e in
     ap (λ l. paths_from l fs) (append_none (copies_of p f)) ∙ from_copies p f fs more.0 more.1 (λ q. from_one q fs more.1) f (omega arith)
 
-pub paths_are : (fs : List ℕ) → 1 ≤ copies_in fs → paths_in fs ≡ each_below (path_at fs) (copies_in fs)
+pub paths_are : (fs : List ℕ) → 1 ≤ copies_in fs → paths_in fs ≡ each_below (path_of_number fs) (copies_in fs)
 paths_are fs e = from_one [] fs e
 
 -- where a loop has no copies there are no paths
@@ -134,7 +134,7 @@ no_paths fs e = none fs outer_paths e
     none (zero ∷ fs) ps e = ap (λ l. paths_from l fs) (no_copies ps) ∙ from_none fs
     none (suc f ∷ fs) ps e = none fs (all_copies ps (suc f)) (product f (copies_in fs) e)
 
-pub path_long : (fs : List ℕ) (n : ℕ) → length (path_at fs n) ≡ length fs
+pub path_long : (fs : List ℕ) (n : ℕ) → length (path_of_number fs n) ≡ length fs
 path_long [] n = refl
 path_long (f ∷ fs) n = ap suc (path_long fs n)
 
@@ -193,18 +193,18 @@ same_sums a b k r s p q = by (cases_Bool (a == b)) (cases_Bool (r == s))
 
 -- keys are one where their numbers are
 pub same_keys : (picks : ℕ → Bool) (level : ℕ) (fs : List ℕ) (m n : ℕ) → 1 ≤ copies_in fs
-    → (key_number picks level fs m == key_number picks level fs n) ≡ same_path (picked picks level (path_at fs m)) (picked picks level (path_at fs n))
+    → (key_number picks level fs m == key_number picks level fs n) ≡ same_path (picked picks level (path_of_number fs m)) (picked picks level (path_of_number fs n))
 same_keys picks level [] m n e = eq-eqb 0 0 refl
 same_keys picks level (f ∷ fs) m n e =
     let more = (one_more f fs e).1 in
-    by (picks level) (key_below picks (level + 1) fs m more) (key_below picks (level + 1) fs n more) (same_keys picks (level + 1) fs m n more ∙ ap (λ l. same_path (picked picks l (path_at fs m)) (picked picks l (path_at fs n))) (add-one level))
+    by (picks level) (key_below picks (level + 1) fs m more) (key_below picks (level + 1) fs n more) (same_keys picks (level + 1) fs m n more ∙ ap (λ l. same_path (picked picks l (path_of_number fs m)) (picked picks l (path_of_number fs n))) (add-one level))
   where
     none : (n : ℕ) → 0 + n ≡ n
     none n = omega arith
 
     by : (t : Bool) → key_number picks (level + 1) fs m < keys_in picks (level + 1) fs → key_number picks (level + 1) fs n < keys_in picks (level + 1) fs
-        → (key_number picks (level + 1) fs m == key_number picks (level + 1) fs n) ≡ same_path (picked picks (suc level) (path_at fs m)) (picked picks (suc level) (path_at fs n))
+        → (key_number picks (level + 1) fs m == key_number picks (level + 1) fs n) ≡ same_path (picked picks (suc level) (path_of_number fs m)) (picked picks (suc level) (path_of_number fs n))
         → (((if t then ((m / copies_in fs) % f) * keys_in picks (level + 1) fs else 0) + key_number picks (level + 1) fs m) == ((if t then ((n / copies_in fs) % f) * keys_in picks (level + 1) fs else 0) + key_number picks (level + 1) fs n))
-        ≡ same_path (if t then ((m / copies_in fs) % f) ∷ picked picks (suc level) (path_at fs m) else picked picks (suc level) (path_at fs m)) (if t then ((n / copies_in fs) % f) ∷ picked picks (suc level) (path_at fs n) else picked picks (suc level) (path_at fs n))
+        ≡ same_path (if t then ((m / copies_in fs) % f) ∷ picked picks (suc level) (path_of_number fs m) else picked picks (suc level) (path_of_number fs m)) (if t then ((n / copies_in fs) % f) ∷ picked picks (suc level) (path_of_number fs n) else picked picks (suc level) (path_of_number fs n))
     by true p q h = same_sums _ _ _ _ _ p q ∙ ap (λ x. (((m / copies_in fs) % f) == ((n / copies_in fs) % f)) && x) h
     by false p q h = ap (λ x. x == (0 + key_number picks (level + 1) fs n)) (none _) ∙ (ap (λ x. key_number picks (level + 1) fs m == x) (none _) ∙ h)

@@ -9,12 +9,12 @@ use Rattle.dh_tree.specs.PlainTrees.{Term, term, TermForm, number, truth_value, 
 use Rattle.dh_tree.specs.Seen.{terms}
 use Rattle.dh_tree.specs.ViewOffsets.{offsets_of}
 use Rattle.dh_meaning.specs.AccessNumbers.{term_accesses, accesses_of, part_accesses, terms_accesses}
-use Rattle.dh_meaning.specs.OnePhase.{is_within, makes, test_makes}
+use Rattle.dh_meaning.specs.OnePhase.{is_between, makes, test_makes}
 use Rattle.dh_meaning.specs.Phases.{Located, Phase, decided, of_list, joined, are_straight, one_command, folded, turn_count, turn_phases, choice_phases, located, phases, form_phases, other_phases, groups_phases, parts_phases, unless_turns, idle_phases, idle_form_phases, idle_other_phases, idle_groups_phases, idle_part_phases}
 use Rattle.dh_meaning.specs.Sites.{Around, in_arm, in_loop, loop_of}
 use Rattle.dh_events.specs.declared.events.Site.{Site}
 use Rattle.dh_events.specs.declared.noting.Open.{Open}
-use Rattle.dh_events.specs.Incidents.{Incident, touches, assigned, arm_begins, arm_ends, begins, next, ends, site_at, term_incidents, form_incidents, terms_incidents, maybe_incidents, target_incidents, is_stepped, closed, released, phase_at, phase_of, tested, inside_choice, into_combine, round_inside, when_parted, arms_part, are_parts, open_after, part_open, open_combine, incidents, command_incidents, other_incidents, combine_incidents, groups_incidents, part_incidents}
+use Rattle.dh_events.specs.Incidents.{PortEvent, touches, assigned, arm_begins, arm_ends, begins, next, ends, site_at, term_incidents, form_incidents, terms_incidents, maybe_incidents, target_incidents, is_stepped, closed, released, phase_at, phase_of, tested, inside_choice, into_combine, round_inside, when_parted, arms_part, are_parts, open_after, part_open, open_combine, incidents, command_incidents, other_incidents, combine_incidents, groups_incidents, part_incidents}
 use Rattle.dh_tree.specs.PhaseKinds.{phase_kind, form_phase_kind, other_phase_kind, groups_phase_kind, part_phase_kind}
 use Rattle.dh_ports.specs.Courses.{count}
 use Rattle.dh_ports.proofs.CourseTies.{count_append}
@@ -25,7 +25,7 @@ use Rattle.dh_ports.proofs.StagesKnown.{Known, KnownInside, KnownOther, KnownGro
 use Rattle.dh_ports.proofs.PhaseSizes.{choice_straight, TurnCases, loop_turns, stage_size, other_size, groups_size, part_size, groups_full, makes_tops, other_tops, max_first, sum_first, sum_second, stepped_at, stepped_choice, after, part_straight, few_parts, within_none}
 
 -- the access of a number has this phase
-abbrev pub tells : ℕ → List Incident → (k p : ℕ) → Bool
+abbrev pub tells : ℕ → List PortEvent → (k p : ℕ) → Bool
 tells n [] k p = false
 tells n (touches t w s ∷ xs) k p = ((s.phase == p) && (n == k)) || tells (suc n) xs k p
 tells n (assigned e ∷ xs) k p = tells n xs k p
@@ -41,7 +41,7 @@ with_none n = omega arith
 suc_sum : (a b : ℕ) → suc a + b ≡ a + suc b
 suc_sum a b = omega arith
 
-pub tells_append : (n : ℕ) (xs ys : List Incident) (k p : ℕ) → tells n (xs ++ ys) k p ≡ (tells n xs k p || tells (n + count xs) ys k p)
+pub tells_append : (n : ℕ) (xs ys : List PortEvent) (k p : ℕ) → tells n (xs ++ ys) k p ≡ (tells n xs k p || tells (n + count xs) ys k p)
 tells_append n [] ys k p = ap (λ m. tells m ys k p) (with_none n)
 tells_append n (touches t w s ∷ xs) ys k p =
     ap (λ b. ((s.phase == p) && (n == k)) || b) (tells_append (suc n) xs ys k p ∙ ap (λ m. tells (suc n) xs k p || tells m ys k p) (suc_sum n (count xs)))
@@ -54,24 +54,24 @@ tells_append n (next ∷ xs) ys k p = tells_append n xs ys k p
 tells_append n (ends ∷ xs) ys k p = tells_append n xs ys k p
 
 -- the same by how many accesses the first ones have
-tells_two : (n m : ℕ) (xs ys : List Incident) (k p : ℕ) (x y : Bool) → count xs ≡ m → tells n xs k p ≡ x → tells (n + m) ys k p ≡ y → tells n (xs ++ ys) k p ≡ (x || y)
+tells_two : (n m : ℕ) (xs ys : List PortEvent) (k p : ℕ) (x y : Bool) → count xs ≡ m → tells n xs k p ≡ x → tells (n + m) ys k p ≡ y → tells n (xs ++ ys) k p ≡ (x || y)
 tells_two n m xs ys k p x y c e f = tells_append n xs ys k p ∙ or_both _ _ _ _ e (ap (λ l. tells (n + l) ys k p) c ∙ f)
 
 -- marks are no accesses
-parted_tells : (b : Bool) (x : Incident) (n : ℕ) (ys : List Incident) (k p : ℕ) → tells n (x ∷ ys) k p ≡ tells n ys k p → tells n (when_parted b x ++ ys) k p ≡ tells n ys k p
+parted_tells : (b : Bool) (x : PortEvent) (n : ℕ) (ys : List PortEvent) (k p : ℕ) → tells n (x ∷ ys) k p ≡ tells n ys k p → tells n (when_parted b x ++ ys) k p ≡ tells n ys k p
 parted_tells true x n ys k p e = e
 parted_tells false x n ys k p e = refl
 
-behind_tells : (b : Bool) (x : Incident) (n : ℕ) (xs : List Incident) (k p : ℕ) → ((m : ℕ) → tells m (x ∷ []) k p ≡ false) → tells n (xs ++ when_parted b x) k p ≡ tells n xs k p
+behind_tells : (b : Bool) (x : PortEvent) (n : ℕ) (xs : List PortEvent) (k p : ℕ) → ((m : ℕ) → tells m (x ∷ []) k p ≡ false) → tells n (xs ++ when_parted b x) k p ≡ tells n xs k p
 behind_tells true x n xs k p e = tells_append n xs (x ∷ []) k p ∙ (ap (λ v. tells n xs k p || v) (e (n + count xs)) ∙ or_none (tells n xs k p))
 behind_tells false x n xs k p e = tells_append n xs [] k p ∙ or_none (tells n xs k p)
 
-one_behind : (x : Incident) (n : ℕ) (xs : List Incident) (k p : ℕ) → ((m : ℕ) → tells m (x ∷ []) k p ≡ false) → tells n (xs ++ x ∷ []) k p ≡ tells n xs k p
+one_behind : (x : PortEvent) (n : ℕ) (xs : List PortEvent) (k p : ℕ) → ((m : ℕ) → tells m (x ∷ []) k p ≡ false) → tells n (xs ++ x ∷ []) k p ≡ tells n xs k p
 one_behind x n xs k p e = behind_tells true x n xs k p e
 
 -- Accesses of one phase.
 
-abbrev AllIn : ℕ → List Incident → Type 0
+abbrev AllIn : ℕ → List PortEvent → Type 0
 AllIn q [] = Unit {0}
 AllIn q (touches t w s ∷ xs) = (s.phase ≡ q) × AllIn q xs
 AllIn q (assigned e ∷ xs) = AllIn q xs
@@ -81,7 +81,7 @@ AllIn q (begins ∷ xs) = AllIn q xs
 AllIn q (next ∷ xs) = AllIn q xs
 AllIn q (ends ∷ xs) = AllIn q xs
 
-all_append : (q : ℕ) (xs ys : List Incident) → AllIn q xs → AllIn q ys → AllIn q (xs ++ ys)
+all_append : (q : ℕ) (xs ys : List PortEvent) → AllIn q xs → AllIn q ys → AllIn q (xs ++ ys)
 all_append q [] ys g h = h
 all_append q (touches t w s ∷ xs) ys g h = (g.0, all_append q xs ys g.1 h)
 all_append q (assigned e ∷ xs) ys g h = all_append q xs ys g h
@@ -91,7 +91,7 @@ all_append q (begins ∷ xs) ys g h = all_append q xs ys g h
 all_append q (next ∷ xs) ys g h = all_append q xs ys g h
 all_append q (ends ∷ xs) ys g h = all_append q xs ys g h
 
-within_next : (k n c : ℕ) → ((n == k) || is_within k (suc n) c) ≡ is_within k n (suc c)
+within_next : (k n c : ℕ) → ((n == k) || is_between k (suc n) c) ≡ is_between k n (suc c)
 within_next k n c = grind (arith, nat_tests)
 
 and_or : (b x y z : Bool) → (x || y) ≡ z → ((b && x) || (b && y)) ≡ (b && z)
@@ -102,12 +102,12 @@ and_none : (b : Bool) (x : Bool) → x ≡ false → (b && x) ≡ false
 and_none true x e = e
 and_none false x e = refl
 
-row_tells : (q n : ℕ) (xs : List Incident) (k p : ℕ) → AllIn q xs → tells n xs k p ≡ ((q == p) && is_within k n (count xs))
-row_tells q n [] k p h = sym (and_none (q == p) (is_within k n 0) (within_none k n))
+row_tells : (q n : ℕ) (xs : List PortEvent) (k p : ℕ) → AllIn q xs → tells n xs k p ≡ ((q == p) && is_between k n (count xs))
+row_tells q n [] k p h = sym (and_none (q == p) (is_between k n 0) (within_none k n))
 row_tells q n (touches t w s ∷ xs) k p h =
     ap (λ v. ((v == p) && (n == k)) || tells (suc n) xs k p) h.0
     ∙ (ap (λ v. ((q == p) && (n == k)) || v) (row_tells q (suc n) xs k p h.1)
-    ∙ and_or (q == p) (n == k) (is_within k (suc n) (count xs)) (is_within k n (suc (count xs))) (within_next k n (count xs)))
+    ∙ and_or (q == p) (n == k) (is_between k (suc n) (count xs)) (is_between k n (suc (count xs))) (within_next k n (count xs)))
 row_tells q n (assigned e ∷ xs) k p h = row_tells q n xs k p h
 row_tells q n (arm_begins ∷ xs) k p h = row_tells q n xs k p h
 row_tells q n (arm_ends ∷ xs) k p h = row_tells q n xs k p h
@@ -115,8 +115,8 @@ row_tells q n (begins ∷ xs) k p h = row_tells q n xs k p h
 row_tells q n (next ∷ xs) k p h = row_tells q n xs k p h
 row_tells q n (ends ∷ xs) k p h = row_tells q n xs k p h
 
-counted_row : (q n c : ℕ) (xs : List Incident) (k p : ℕ) → AllIn q xs → count xs ≡ c → tells n xs k p ≡ ((q == p) && is_within k n c)
-counted_row q n c xs k p h e = row_tells q n xs k p h ∙ ap (λ m. (q == p) && is_within k n m) e
+counted_row : (q n c : ℕ) (xs : List PortEvent) (k p : ℕ) → AllIn q xs → count xs ≡ c → tells n xs k p ≡ ((q == p) && is_between k n c)
+counted_row q n c xs k p h e = row_tells q n xs k p h ∙ ap (λ m. (q == p) && is_between k n m) e
 
 mutual
   term_in : (s : Site) (t : Term) → AllIn s.phase (term_incidents s t)
@@ -148,7 +148,7 @@ target_in s (term place kind (in_bank r bank bank_place row)) = all_append s.pha
 target_in s (term place kind (applied op left right)) = all_append s.phase (term_incidents s left) _ (term_in s left) (term_in s right)
 target_in s (term place kind (converted inner to)) = term_in s inner
 
-test_tells : (q n : ℕ) (round : Option ℕ) (t : Term) (k p : ℕ) → tells n (term_incidents (site_at q round) t) k p ≡ ((q == p) && is_within k n (term_accesses t))
+test_tells : (q n : ℕ) (round : Option ℕ) (t : Term) (k p : ℕ) → tells n (term_incidents (site_at q round) t) k p ≡ ((q == p) && is_between k n (term_accesses t))
 test_tells q n round t k p = counted_row q n (term_accesses t) (term_incidents (site_at q round) t) k p (term_in (site_at q round) t) (term_count (site_at q round) t)
 
 -- One command that is a phase of its own.
@@ -158,8 +158,8 @@ own_run true true = refl
 own_run true false = refl
 own_run false x = refl
 
-value_tells : (q n : ℕ) (xs : List Incident) (e : Option ℕ) (c k p : ℕ) → AllIn q xs → count xs ≡ c → tells n (xs ++ assigned e ∷ []) k p ≡ ((((q == p) && (is_within k n c || false)) || false) || false)
-value_tells q n xs e c k p h f = one_behind (assigned e) n xs k p (λ m. refl) ∙ (counted_row q n c xs k p h f ∙ own_run (q == p) (is_within k n c))
+value_tells : (q n : ℕ) (xs : List PortEvent) (e : Option ℕ) (c k p : ℕ) → AllIn q xs → count xs ≡ c → tells n (xs ++ assigned e ∷ []) k p ≡ ((((q == p) && (is_between k n c || false)) || false) || false)
+value_tells q n xs e c k p h f = one_behind (assigned e) n xs k p (λ m. refl) ∙ (counted_row q n c xs k p h f ∙ own_run (q == p) (is_between k n c))
 
 -- An `if`.
 
@@ -262,9 +262,9 @@ store_count s value target = count_append (term_incidents s value) (target_incid
     sums : (a b c d : ℕ) → a ≡ c → b ≡ d → a + b ≡ c + d
     sums a b c d e f = omega (arith, e, f)
 
-offsets_tell : (q n : ℕ) (round : Option ℕ) (ts : Terms) (k p : ℕ) → tells n (terms_incidents (site_at q round) ts) k p ≡ ((((q == p) && (is_within k n (terms_accesses ts) || false)) || false) || false)
+offsets_tell : (q n : ℕ) (round : Option ℕ) (ts : Terms) (k p : ℕ) → tells n (terms_incidents (site_at q round) ts) k p ≡ ((((q == p) && (is_between k n (terms_accesses ts) || false)) || false) || false)
 offsets_tell q n round ts k p =
-    counted_row q n (terms_accesses ts) (terms_incidents (site_at q round) ts) k p (terms_in (site_at q round) ts) (terms_count (site_at q round) ts) ∙ own_run (q == p) (is_within k n (terms_accesses ts))
+    counted_row q n (terms_accesses ts) (terms_incidents (site_at q round) ts) k p (terms_in (site_at q round) ts) (terms_count (site_at q round) ts) ∙ own_run (q == p) (is_between k n (terms_accesses ts))
 
 max_few : (k l : ℕ) → false ≡ nat_le 2 (max k l) → max k l ≤ 1
 max_few k l e = few_size (max k l) e
@@ -298,7 +298,7 @@ module _ (f : ℕ → ℕ) where
         counted_row (phase_of b id) n _ (term_incidents (site_at (phase_of b id) round) value ++ target_incidents (site_at (phase_of b id) round) target) k p
         (all_append (phase_of b id) (term_incidents (site_at (phase_of b id) round) value) _ (term_in (site_at (phase_of b id) round) value) (target_in (site_at (phase_of b id) round) target))
         (store_count (site_at (phase_of b id) round) value target)
-        ∙ own_run (phase_of b id == p) (is_within k n (term_accesses value + term_accesses target))
+        ∙ own_run (phase_of b id == p) (is_between k n (term_accesses value + term_accesses target))
     form_told round b r n id place (reduces target op value) k p e h =
         value_tells (phase_of b id) n (term_incidents (site_at (phase_of b id) round) value) target.entity _ k p (term_in (site_at (phase_of b id) round) value) (term_count (site_at (phase_of b id) round) value)
     form_told round b r n id place (calls function arguments) k p e h = refl
@@ -315,13 +315,13 @@ module _ (f : ℕ → ℕ) where
         (parted_tells (arms_part round other) next (n + term_accesses test + accesses_of chosen) _ k p refl
         ∙ (behind_tells (arms_part round other) ends (n + term_accesses test + accesses_of chosen) (other_incidents f round (inside_choice (is_stepped f id) (tested (is_stepped f id) b id)) other) k p (λ m. refl)
         ∙ other_told round (inside_choice (is_stepped f id) (tested (is_stepped f id) b id)) (in_arm r id false) (n + term_accesses test + accesses_of chosen) other k p h.1)))
-        ∙ (five ((tested (is_stepped f id) b id == p) && is_within k n (term_accesses test)) (stands (into (phases (in_arm r id true) (n + term_accesses test) chosen) (inside_choice (is_stepped f id) (tested (is_stepped f id) b id)).going) (flat (phases (in_arm r id true) (n + term_accesses test) chosen)) k p) (stands None (flat (idle_phases (in_arm r id true) (n + term_accesses test) chosen)) k p) (stands (into (other_phases (in_arm r id false) (n + term_accesses test + accesses_of chosen) other) (inside_choice (is_stepped f id) (tested (is_stepped f id) b id)).going) (flat (other_phases (in_arm r id false) (n + term_accesses test + accesses_of chosen) other)) k p) (stands None (flat (idle_other_phases (in_arm r id false) (n + term_accesses test + accesses_of chosen) other)) k p)
+        ∙ (five ((tested (is_stepped f id) b id == p) && is_between k n (term_accesses test)) (stands (into (phases (in_arm r id true) (n + term_accesses test) chosen) (inside_choice (is_stepped f id) (tested (is_stepped f id) b id)).going) (flat (phases (in_arm r id true) (n + term_accesses test) chosen)) k p) (stands None (flat (idle_phases (in_arm r id true) (n + term_accesses test) chosen)) k p) (stands (into (other_phases (in_arm r id false) (n + term_accesses test + accesses_of chosen) other) (inside_choice (is_stepped f id) (tested (is_stepped f id) b id)).going) (flat (other_phases (in_arm r id false) (n + term_accesses test + accesses_of chosen) other)) k p) (stands None (flat (idle_other_phases (in_arm r id false) (n + term_accesses test + accesses_of chosen) other)) k p)
         ∙ or_both _ _ _ _
         (choice_stands (is_stepped f id) b (located r n (action id place (decides test chosen other))) id (phases (in_arm r id true) (n + term_accesses test) chosen) (other_phases (in_arm r id false) (n + term_accesses test + accesses_of chosen) other)
-        (is_within k n (term_accesses test)) k p
+        (is_between k n (term_accesses test)) k p
         (choice_straight (phases (in_arm r id true) (n + term_accesses test) chosen) (other_phases (in_arm r id false) (n + term_accesses test + accesses_of chosen) other) (phase_kind chosen) (other_phase_kind other) (stage_size (in_arm r id true) (n + term_accesses test) chosen) (other_size (in_arm r id false) (n + term_accesses test + accesses_of chosen) other) ∙ ap not (sym (stepped_choice (is_stepped f id) (phase_kind chosen) (other_phase_kind other) (ap (nat_le 2) e))))
         refl refl
-        (λ z. ap (λ v. is_within k n (term_accesses test) || v) (or_both _ _ _ _ (makes_tops (in_arm r id true) k (n + term_accesses test) chosen (first_few (phase_kind chosen) (other_phase_kind other) (sym z ∙ (stepped_choice (is_stepped f id) (phase_kind chosen) (other_phase_kind other) (ap (nat_le 2) e)))))
+        (λ z. ap (λ v. is_between k n (term_accesses test) || v) (or_both _ _ _ _ (makes_tops (in_arm r id true) k (n + term_accesses test) chosen (first_few (phase_kind chosen) (other_phase_kind other) (sym z ∙ (stepped_choice (is_stepped f id) (phase_kind chosen) (other_phase_kind other) (ap (nat_le 2) e)))))
         (other_tops (in_arm r id false) k (n + term_accesses test + accesses_of chosen) other (second_few (phase_kind chosen) (other_phase_kind other) (sym z ∙ (stepped_choice (is_stepped f id) (phase_kind chosen) (other_phase_kind other) (ap (nat_le 2) e))))))))
         (idle_append (idle_phases (in_arm r id true) (n + term_accesses test) chosen) (idle_other_phases (in_arm r id false) (n + term_accesses test + accesses_of chosen) other) k p))
     form_told round b r n id place (repeats test body) k p e h =
@@ -329,7 +329,7 @@ module _ (f : ℕ → ℕ) where
         (one_behind ends (n + term_accesses test) (incidents f round closed body) k p (λ m. refl) ∙ (told round closed r (n + term_accesses test) body k p h
         ∙ ap (λ v. v || stands None (flat (idle_phases r (n + term_accesses test) body)) k p) (ap (λ o. stands o (flat (phases r (n + term_accesses test) body)) k p) (into_none (phases r (n + term_accesses test) body))
         ∙ ap (λ l. stands None l k p) (sym (runs_nil (flat_all (of_list (phases r (n + term_accesses test) body))) ∙ flat_of_list (phases r (n + term_accesses test) body))))))
-        ∙ sym (or_assoc ((id == p) && is_within k n (term_accesses test)) (stands None (flat_all (of_list (phases r (n + term_accesses test) body)) ++ []) k p) (stands None (flat (idle_phases r (n + term_accesses test) body)) k p))
+        ∙ sym (or_assoc ((id == p) && is_between k n (term_accesses test)) (stands None (flat_all (of_list (phases r (n + term_accesses test) body)) ++ []) k p) (stands None (flat (idle_phases r (n + term_accesses test) body)) k p))
     form_told round b r n id place (counts iterator declared low high factor body combine combine_place) k p e h =
         tells_two n (accesses_of body) (incidents f (round_inside round id factor.value) closed body) _ k p _ _ (action_count f (round_inside round id factor.value) closed body)
         (told (round_inside round id factor.value) closed (in_loop r (loop_of iterator low high factor)) n body k p h.0)

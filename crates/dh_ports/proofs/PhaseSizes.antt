@@ -7,7 +7,7 @@ use Rattle.dh_base.specs.declared.places.Place.{Place}
 use Rattle.dh_tree.specs.PlainTrees.{shrinks, splits, suffixes, shifts, Action, action, ActionForm, lets, lets_memory, views, assigns, stores, reduces, calls, blocks, decides, repeats, counts, MaybeAction, no_action, one_action, Actions, no_actions, action_then, Groups, no_groups, group_then}
 use Rattle.dh_tree.specs.ViewOffsets.{moves}
 use Rattle.dh_meaning.specs.AccessNumbers.{term_accesses, accesses_of, part_accesses}
-use Rattle.dh_meaning.specs.OnePhase.{is_within, makes, form_makes, other_makes, groups_make, part_makes}
+use Rattle.dh_meaning.specs.OnePhase.{is_between, makes, form_makes, other_makes, groups_make, part_makes}
 use Rattle.dh_meaning.specs.Phases.{Located, Phase, straight, turns, repeated, decided, of_list, joined, are_straight, one_command, folded, turn_count, turn_phases, choice_phases, located, phases, form_phases, other_phases, groups_phases, parts_phases}
 use Rattle.dh_meaning.specs.Sites.{Around, in_arm, in_loop, loop_of}
 use Rattle.dh_events.specs.declared.noting.Open.{Open}
@@ -209,7 +209,7 @@ few_choice k l h = by (nat_le 2 (max k l)) refl
     by true e = absurd (never (subst (λ (b : Bool). (if b then 2 else 1) ≤ 1) e h))
     by false e = e
 
-pub within_none : (k n : ℕ) → is_within k n 0 ≡ false
+pub within_none : (k n : ℕ) → is_between k n 0 ≡ false
 within_none k n = grind (arith, nat_tests)
 
 twice_none : (x : Bool) → x ≡ ((x || false) || false)

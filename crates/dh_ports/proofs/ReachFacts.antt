@@ -12,13 +12,13 @@ use Rattle.dh_tree.specs.declared.trees.programs.Tree.{Tree}
 use Rattle.dh_tree.specs.PlainTrees.{Term, accessed, in_bank, no_terms}
 use Rattle.dh_tree.specs.Seen.{form_seen, term_seen, terms}
 use Rattle.dh_meaning.specs.Bindings.{Binding}
-use Rattle.dh_meets.specs.Charges.{bank_reached, factors_of, depends}
+use Rattle.dh_meets.specs.Charges.{bank_reached, loop_factors, depends}
 use Rattle.dh_meets.specs.SourceEvents.{with_indices}
 use Rattle.dh_ports.specs.declared.copies.Level.{Level}
 use Rattle.dh_ports.specs.declared.copies.Lane.{Lane}
 use Rattle.dh_ports.specs.declared.copies.Paths.{Paths}
 use Rattle.dh_events.specs.declared.dependence.Scope.{Scope}
-use Rattle.dh_ports.specs.Banks.{key_number, path_at}
+use Rattle.dh_ports.specs.Banks.{key_number, path_of_number}
 use Rattle.dh_shape.specs.Classified.{loops_in}
 use Rattle.dh_events.specs.Accesses.{element_in}
 use Rattle.dh_ports.specs.Claims.{source_of}
@@ -39,7 +39,7 @@ module _ (tree : Tree) (loops : List Counter) (dims : List Dim) (access : Expr) 
     alone = inl refl;
     each = λ picks levels writes number a.
         none (bank_of_lanes levels lanes number)
-        ∙ (are.each picks levels number a ∙ sym (ap (λ f. bank_reached (loops_in tree) dims (source_of loops writes access) (path_at (factors_of loops) number) (element_in f)) e));
+        ∙ (are.each picks levels number a ∙ sym (ap (λ f. bank_reached (loops_in tree) dims (source_of loops writes access) (path_of_number (loop_factors loops) number) (element_in f)) e));
   }
     where
       none : (n : ℕ) → 0 + n ≡ n
@@ -51,7 +51,7 @@ module _ (tree : Tree) (loops : List Counter) (dims : List Dim) (access : Expr) 
     alone = inr l;
     each = λ picks levels writes number a.
         ap (λ x. bank + bank_of_lanes levels x number) l
-        ∙ (none bank ∙ sym (ap (λ f. bank_reached (loops_in tree) dims (source_of loops writes access) (path_at (factors_of loops) number) (element_in f)) e));
+        ∙ (none bank ∙ sym (ap (λ f. bank_reached (loops_in tree) dims (source_of loops writes access) (path_of_number (loop_factors loops) number) (element_in f)) e));
   }
     where
       none : (n : ℕ) → n + 0 ≡ n
@@ -63,7 +63,7 @@ module _ (tree : Tree) (loops : List Counter) (dims : List Dim) (access : Expr) 
     alone = inr l;
     each = λ picks levels writes number a.
         ap (λ x. 0 + bank_of_lanes levels x number) l
-        ∙ (sym (no_bank dims) ∙ sym (ap (λ f. bank_reached (loops_in tree) dims (source_of loops writes access) (path_at (factors_of loops) number) f) e));
+        ∙ (sym (no_bank dims) ∙ sym (ap (λ f. bank_reached (loops_in tree) dims (source_of loops writes access) (path_of_number (loop_factors loops) number) f) e));
   }
 
   -- an own bank and what lanes tell fit a word
@@ -84,23 +84,23 @@ module _ (bs : List Binding) (scopes : List (Option Scope)) (loops : List Counte
   pub copies_some : 1 ≤ copies_round loops
   copies_some = subst (λ (n : ℕ). 1 ≤ n) so.count one
 
-  pub levels_are : AreLevels (depends bs (source_of loops writes access)) 0 (factors_of loops) paths.levels.items
+  pub levels_are : AreLevels (depends bs (source_of loops writes access)) 0 (loop_factors loops) paths.levels.items
   levels_are = so.levels bs are copies_some
 
   pub paths_spread : AllByRecursion IsSpread paths.levels.items
-  paths_spread = levels_spread (depends bs (source_of loops writes access)) 0 (factors_of loops) paths.levels.items copies_some levels_are
+  paths_spread = levels_spread (depends bs (source_of loops writes access)) 0 (loop_factors loops) paths.levels.items copies_some levels_are
 
   pub paths_few : copies_round loops ≤ 256 → HasFewKeys paths.levels.items
-  paths_few few = within (greatest_key paths.levels.items) _ (copies_round loops) (greatest_below (depends bs (source_of loops writes access)) 0 (factors_of loops) paths.levels.items copies_some levels_are) (keys_most (depends bs (source_of loops writes access)) 0 (factors_of loops) copies_some).1 few
+  paths_few few = within (greatest_key paths.levels.items) _ (copies_round loops) (greatest_below (depends bs (source_of loops writes access)) 0 (loop_factors loops) paths.levels.items copies_some levels_are) (keys_most (depends bs (source_of loops writes access)) 0 (loop_factors loops) copies_some).1 few
     where
       within : (g k c : ℕ) → g + 1 ≤ k → k ≤ c → c ≤ 256 → g ≤ 256 * 256
       within g k c e f h = omega (arith, e, f, h)
 
-  pub paths_key : (number : ℕ) → key_of_levels paths.levels.items number ≡ key_number (depends bs (source_of loops writes access)) 0 (factors_of loops) number
-  paths_key number = key_told (depends bs (source_of loops writes access)) 0 (factors_of loops) paths.levels.items number levels_are
+  pub paths_key : (number : ℕ) → key_of_levels paths.levels.items number ≡ key_number (depends bs (source_of loops writes access)) 0 (loop_factors loops) number
+  paths_key number = key_told (depends bs (source_of loops writes access)) 0 (loop_factors loops) paths.levels.items number levels_are
 
-  pub keys_below : (number : ℕ) → key_number (depends bs (source_of loops writes access)) 0 (factors_of loops) number < copies_round loops
-  keys_below number = less _ _ _ (key_below (depends bs (source_of loops writes access)) 0 (factors_of loops) number copies_some) (keys_most (depends bs (source_of loops writes access)) 0 (factors_of loops) copies_some).1
+  pub keys_below : (number : ℕ) → key_number (depends bs (source_of loops writes access)) 0 (loop_factors loops) number < copies_round loops
+  keys_below number = less _ _ _ (key_below (depends bs (source_of loops writes access)) 0 (loop_factors loops) number copies_some) (keys_most (depends bs (source_of loops writes access)) 0 (loop_factors loops) copies_some).1
     where
       less : (a b c : ℕ) → a < b → b ≤ c → a < c
       less a b c e f = omega (arith, e, f)

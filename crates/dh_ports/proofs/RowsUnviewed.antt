@@ -5,7 +5,7 @@ use Rattle.std.specs.Prelude.{Option, Some, None, slice_get}
 use Rattle.dh_tree.specs.declared.trees.expressions.Ref.{Ref}
 use Rattle.dh_tree.specs.declared.viewing.Viewed.{Viewed}
 use Rattle.dh_tree.specs.declared.viewing.ViewMap.{ViewMap}
-use Rattle.dh_tree.specs.Indices.{access_breaches, term_index_breaches}
+use Rattle.dh_tree.specs.Indices.{access_index_breaches, term_index_breaches}
 use Rattle.dh_tree.specs.Memories.{same_entity}
 use Rattle.dh_tree.specs.PlainTrees.{Term, term, number, truth_value, named, accessed, in_bank, applied, converted, Terms, no_terms, term_then, Action, action, ActionForm, lets, lets_memory, views, assigns, stores, reduces, calls, blocks, decides, repeats, counts, MaybeAction, no_action, one_action, Actions, no_actions, action_then, Groups, no_groups, group_then, Program}
 use Rattle.dh_tree.specs.Seen.{terms}
@@ -47,7 +47,7 @@ module _ (kv : KnownViews) where
     term_keeps site (term place k (named r)) e = tt
     term_keeps site (term place k (accessed r indices)) e =
         both_keep kv.views (terms_events site indices) (one_access place r.entity (with_indices indices) false site)
-        (terms_keep site indices (second_none (access_breaches kv.names.counters (dims_through (view_in kv.kept r.entity)) indices) (terms_view_breaches kv indices) e)) (tt, tt)
+        (terms_keep site indices (second_none (access_index_breaches kv.names.counters (dims_through (view_in kv.kept r.entity)) indices) (terms_view_breaches kv indices) e)) (tt, tt)
     term_keeps site (term place k (in_bank r bank bank_place row)) e =
         both_keep kv.views (term_events site row) (one_access place r.entity (in_row bank row) false site)
         (term_keeps site row (second_none (physical_broken (view_in kv.views r.entity) r) (term_view_breaches kv row) e))
@@ -69,7 +69,7 @@ module _ (kv : KnownViews) where
   write_keeps site (term place k (named r)) e = tt
   write_keeps site (term place k (accessed r indices)) e =
       both_keep kv.views (terms_events site indices) (one_access place r.entity (with_indices indices) true site)
-      (terms_keep site indices (second_none (access_breaches kv.names.counters (dims_through (view_in kv.kept r.entity)) indices) (terms_view_breaches kv indices) e)) (tt, tt)
+      (terms_keep site indices (second_none (access_index_breaches kv.names.counters (dims_through (view_in kv.kept r.entity)) indices) (terms_view_breaches kv indices) e)) (tt, tt)
   write_keeps site (term place k (in_bank r bank bank_place row)) e =
       both_keep kv.views (term_events site row) (one_access place r.entity (in_row bank row) true site)
       (term_keeps site row (second_none (physical_broken (view_in kv.views r.entity) r) (term_view_breaches kv row) e))

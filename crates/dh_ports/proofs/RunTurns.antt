@@ -12,8 +12,8 @@ use Rattle.dh_tree.proofs.Leasts.{least_append}
 use Rattle.dh_events.specs.declared.classes.Key.{Key}
 use Rattle.dh_events.specs.declared.events.Event.{Event}
 use Rattle.dh_events.specs.declared.events.Event.TheVariants as event
-use Rattle.dh_events.specs.Classes.{AreDistinct, Extends}
-use Rattle.dh_events.specs.Incidents.{Incident}
+use Rattle.dh_events.specs.Classes.{KeysAreDistinct, ExtendsKeys}
+use Rattle.dh_events.specs.Incidents.{PortEvent}
 use Rattle.dh_events.specs.Noted.{all_seen}
 use Rattle.dh_events.proofs.Turns.{at_place}
 use Rattle.dh_ports.specs.declared.levels.Levels.{Levels}
@@ -161,7 +161,7 @@ run_rest P rs i d inside h = all_rest P (moves_of_run (get_or rs i d)) (moves_in
 
 -- Ports.
 
-module _ (whole : List Incident) (shared : List Bool) where
+module _ (whole : List PortEvent) (shared : List Bool) where
   -- a move that takes no more than is left
   spent_pass : (old new : Levels) (m : Move) → is_beyond (spending_step shared m) (left_before (spending_step shared m) (λ k. level_at old k)) ≡ false → ((k : ℕ) → level_at new k ≡ advance k (spending_step shared m) (level_at old k)) → (rest : List Move)
       → beyond_from whole shared new rest ≡ beyond_from whole shared old (m ∷ rest)
@@ -256,7 +256,7 @@ orders_told : (known : List Key) (events : List Event) (ms : List Move) → AllB
 orders_told known events [] h = tt
 orders_told known events (m ∷ ms) h = (one_told known events m h.0, orders_told known events ms h.1)
 
-pub keeps_late : (known : List Key) (events : List Event) (ms : List Move) (before after : Option Breach) (starts : List ℕ) → AreDistinct known → AllByRecursion (IsMoveOf (length events)) ms → AllByRecursion (IsNotedFor known events) ms
+pub keeps_late : (known : List Key) (events : List Event) (ms : List Move) (before after : Option Breach) (starts : List ℕ) → KeysAreDistinct known → AllByRecursion (IsMoveOf (length events)) ms → AllByRecursion (IsNotedFor known events) ms
     → starts ≡ replicate (length known) 1 → after ≡ least_of before (all_from known events starts ms) → KeepsLate events ms before after
 keeps_late known events ms before after starts distinct within written ones kept = record {
   late = all_from known events (replicate (length known) 1) ms;
@@ -299,7 +299,7 @@ module _ (known : List Key) (events : List Event) where
       ∙ (ap (least_of before) (behind_same old new m stepped rest)
       ∙ sym (ap (λ b. least_of before (tested old m rest b)) late))
 
-  module _ (distinct : AreDistinct known) (first m : Move) (slot end : ℕ) (first_levels old new : Levels) (s : Step) (left : ℕ) (late : Bool) (inside : slot < end) (move_is : m ≡ at_slot first slot) (ordering : IsOrdering known events m s) (left_is : left ≡ left_before s (λ k. level_at old k)) (late_is : late ≡ is_late s left)
+  module _ (distinct : KeysAreDistinct known) (first m : Move) (slot end : ℕ) (first_levels old new : Levels) (s : Step) (left : ℕ) (late : Bool) (inside : slot < end) (move_is : m ≡ at_slot first slot) (ordering : IsOrdering known events m s) (left_is : left ≡ left_before s (λ k. level_at old k)) (late_is : late ≡ is_late s left)
       (stepped : (k : ℕ) → level_at new k ≡ advance k s (level_at old k)) (ms : List Move) (first_kept kept : Option Breach) (so : (rest : List Move) → least_of kept (late_from known events old (row_of first slot (end - slot) ++ rest)) ≡ least_of first_kept (late_from known events first_levels (ms ++ rest))) where
     late_test : (b : Bool) → late ≡ b → is_late (order_step known events m) (left_before (order_step known events m) (λ k. level_at old k)) ≡ b
     late_test b e = sym (late_is ∙ (ap (is_late s) left_is ∙ ap (λ x. is_late x (left_before x (λ k. level_at old k))) (order_is known distinct events m s ordering))) ∙ e
@@ -341,18 +341,18 @@ module _ (known : List Key) (events : List Event) where
 -- Keys that are written. Whatever keys there come to be: where the rest is noted, all is.
 
 abbrev pub NotesAll : List Key → List Event → (rest whole : List Move) → Type 0
-NotesAll known events rest whole = (more : List Key) → Extends known more → AllByRecursion (IsNoted more events) rest → AllByRecursion (IsNoted more events) whole
+NotesAll known events rest whole = (more : List Key) → ExtendsKeys known more → AllByRecursion (IsNoted more events) rest → AllByRecursion (IsNoted more events) whole
 
 pub notes_first : (known : List Key) (events : List Event) (ms : List Move) → NotesAll known events ms ms
 notes_first known events ms = λ more extends h. h
 
-pub extends_none : (known : List Key) → Extends known known
+pub extends_none : (known : List Key) → ExtendsKeys known known
 extends_none known = λ n k e. e
 
-pub extends_both : (a b c : List Key) → Extends a b → Extends b c → Extends a c
+pub extends_both : (a b c : List Key) → ExtendsKeys a b → ExtendsKeys b c → ExtendsKeys a c
 extends_both a b c f g = λ n k e. g n k (f n k e)
 
-pub note_turn : (old new : List Key) (events : List Event) (first m : Move) (slot end : ℕ) (whole : List Move) → slot < end → m ≡ at_slot first slot → Extends old new → IsNoted new events m → NotesAll old events (row_of first slot (end - slot)) whole
+pub note_turn : (old new : List Key) (events : List Event) (first m : Move) (slot end : ℕ) (whole : List Move) → slot < end → m ≡ at_slot first slot → ExtendsKeys old new → IsNoted new events m → NotesAll old events (row_of first slot (end - slot)) whole
     → NotesAll new events (row_of first (slot + 1) (end - (slot + 1))) whole
 note_turn old new events first m slot end whole inside is extends noted so = λ more further h.
     so more (extends_both old new more extends further)

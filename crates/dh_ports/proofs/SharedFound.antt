@@ -25,14 +25,14 @@ use Rattle.dh_ports.specs.declared.levels.Step.{Step}
 use Rattle.dh_ports.specs.declared.levels.Step.TheVariants as step
 use Rattle.dh_events.specs.Accesses.{entity_in}
 use Rattle.dh_events.specs.Classes as classes
-use Rattle.dh_events.specs.Elements.{assigned_at, clocks_after, element_of, IsElement, IsRead, AreReads, no_clocks}
-use Rattle.dh_events.specs.Incidents.{Incident, touches, arm_begins, arm_ends, begins, next, ends, site_at, closed, incidents}
+use Rattle.dh_events.specs.Elements.{moment_assigned_at, clocks_after, element_of, IsElement, IsRead, AreReads, no_clocks}
+use Rattle.dh_events.specs.Incidents.{PortEvent, touches, arm_begins, arm_ends, begins, next, ends, site_at, closed, incidents}
 use Rattle.dh_events.specs.Incidents as incident
 use Rattle.dh_ports.specs.Levels.{Level, start, left_before, lefts_of, lefts_from, begun, gone_back, advance}
 use Rattle.dh_events.specs.Noted.{event_seen, all_seen}
 use Rattle.dh_ports.specs.Scanned.{shares, all_share, key_with, TakesOf, IsSharing, AreSharing, FindsShared}
 use Rattle.dh_events.specs.Stages.{stages_in}
-use Rattle.dh_events.specs.Structures.{AreDistinct}
+use Rattle.dh_events.specs.Structures.{StructuresAreDistinct}
 use Rattle.dh_ports.specs.Wholes.{no_stages, happenings_of, at_touches, Touched, touched_by, of_access, sites_in, TellsPhases, AreEventsOf, TellsShared}
 use Rattle.dh_ports.proofs.AccessClaims.{Follows, follow_here, follow_next, follow_all}
 use Rattle.dh_ports.proofs.JoinedWalks.{Happens, touch_of, set_at, arm_opens, arm_closes, parts_begin, part_next, parts_end, incident_of, incidents_of, events_of, Runs, walked}
@@ -82,7 +82,7 @@ set_entity a b e = cc
 -- the moments of variables after what happens
 abbrev moments_after : (ℕ → ℕ) → (place : ℕ) → Happens → ℕ → ℕ
 moments_after v place (touch_of t writes site a) = v
-moments_after v place (set_at entity) = assigned_at v (place + 1) entity
+moments_after v place (set_at entity) = moment_assigned_at v (place + 1) entity
 moments_after v place (arm_opens arm) = v
 moments_after v place arm_closes = v
 moments_after v place parts_begin = v
@@ -156,7 +156,7 @@ module _ (w : Walk) where
         (subst (λ (x : Site). Touching v (term_seen access.now) false x a s) (touch_site _ _ _ _ _ _ e) (reading v (term_seen access.now) (site_at phase round) a s element newest r i))),
     refl,
   )
-  goes v place (set_at entity) (event.Assigned other) s e i r = (i, ap (λ x. assigned_at v (place + 1) x) (set_entity _ _ e))
+  goes v place (set_at entity) (event.Assigned other) s e i r = (i, ap (λ x. moment_assigned_at v (place + 1) x) (set_entity _ _ e))
   goes v place (arm_opens arm) event.ArmBegins s e i r = (i, refl)
   goes v place arm_closes event.ArmEnds s e i r = (i, refl)
   goes v place parts_begin event.Begins s e i r = (i, refl)
@@ -174,7 +174,7 @@ module _ (w : Walk) where
       let g = goes v place h x s (first_same _ _ _ _ e) i.0 r.0 in
       (g.0, all_go (moments_after v place h) (place + 1) hs es ss (rest_same _ _ _ _ e) i.1 (subst (λ (u : ℕ → ℕ). AreReads w.structures u (place + 1) es) g.1 r.1))
 
-  module _ (phased : Phased w) (apart_keys : classes.AreDistinct w.keys) (apart_structures : AreDistinct w.structures) where
+  module _ (phased : Phased w) (apart_keys : classes.KeysAreDistinct w.keys) (apart_structures : StructuresAreDistinct w.structures) where
     -- of each access to come, whether it shares one
     abbrev Tells : List Happens → List Step → List Noted → (number : ℕ) → (ℕ → Level) → Type 0
     Tells es ss past number levels = (k : ℕ) (flag : Bool) → slice_get (at_touches (incidents_of es) (all_share ss (lefts_of levels ss))) k ≡ Some flag → flag ≡ is_some (share_in w.program (happened past) (events_of es) (number + k) k)
@@ -282,7 +282,7 @@ module _ (w : Walk) where
         (subst (λ (l : List Arm). Standing w (length w.keys) seen outer l (past ++ noted_access a g.0.key ∷ []) v (at + 1) (number + 1) (λ slot. advance slot (step_of_key g.0.key) (levels slot))) r.0.0 now.1) r.1 g.1 (follow_next site (sites_in (incidents_of es)) w.sites number sites)))
     told (set_at entity ∷ es) (x ∷ ss) seen outer arms past v at number levels s r g sites =
         subst (λ (y : Step). Tells (set_at entity ∷ es) (y ∷ ss) past number levels) (sym g.0)
-        (set_tells entity es ss past number levels (told es ss seen outer arms (past ++ noted_set entity ∷ []) (assigned_at v (at + 1) entity) (at + 1) number levels (stands_set w (length w.keys) seen past v at number levels outer arms entity s) r g.1 sites))
+        (set_tells entity es ss past number levels (told es ss seen outer arms (past ++ noted_set entity ∷ []) (moment_assigned_at v (at + 1) entity) (at + 1) number levels (stands_set w (length w.keys) seen past v at number levels outer arms entity s) r g.1 sites))
     told (arm_opens arm ∷ es) (x ∷ ss) seen outer arms past v at number levels s r g sites =
         subst (λ (y : Step). Tells (arm_opens arm ∷ es) (y ∷ ss) past number levels) (sym g.0)
         (told es ss (arm ∷ seen) (arms ∷ outer) (arms ++ arm ∷ []) past v (at + 1) number (λ slot. begun (levels slot)) (stands_opens w (length w.keys) seen past v at number levels outer arms arm r.0 s) r.1 g.1 sites)
@@ -321,8 +321,8 @@ shared_found first p events flags numbered phases are finds k flag e =
     told (record { program = p; keys = finds.known; structures = are.known; sites = sites_in (happenings_of p) }) phases finds.distinct are.distinct j.happens finds.steps [] [] [] [] no_clocks 0 0 (λ s. start (slice_index (replicate (length finds.known) 1) s))
     (begins_so (record { program = p; keys = finds.known; structures = are.known; sites = sites_in (happenings_of p) })) j.runs
     (all_go (record { program = p; keys = finds.known; structures = are.known; sites = sites_in (happenings_of p) }) no_clocks 0 j.happens events finds.steps seen finds.sharing are.reads)
-    (subst (λ (xs : List Incident). Follows (sites_in xs) (sites_in (happenings_of p)) 0) (sym j.as_incidents) (follow_all (sites_in (happenings_of p)))) k flag
-    (subst (λ (xs : List Incident). slice_get (at_touches xs (all_share finds.steps (lefts_from (replicate (length finds.known) 1) finds.steps))) k ≡ Some flag) seen (ap (λ (l : List Bool). slice_get (at_touches (all_seen events) l) k) (sym finds.told) ∙ e))
+    (subst (λ (xs : List PortEvent). Follows (sites_in xs) (sites_in (happenings_of p)) 0) (sym j.as_incidents) (follow_all (sites_in (happenings_of p)))) k flag
+    (subst (λ (xs : List PortEvent). slice_get (at_touches xs (all_share finds.steps (lefts_from (replicate (length finds.known) 1) finds.steps))) k ≡ Some flag) seen (ap (λ (l : List Bool). slice_get (at_touches (all_seen events) l) k) (sym finds.told) ∙ e))
     ∙ (ap (λ (es : List SourceEvent). is_some (share_in p [] es (0 + k) k)) j.as_events ∙ ap (λ n. is_some (share_in p [] (trace p) n k)) (from_none k))
   where
     from_none : (k : ℕ) → 0 + k ≡ k

@@ -8,7 +8,7 @@ use Rattle.std.proofs.lemmas.Option.{slice_get-get_or, slice_get_within}
 use Rattle.dh_events.specs.declared.classes.Key.{Key}
 use Rattle.dh_events.specs.declared.events.Event.{Event}
 use Rattle.dh_events.specs.declared.events.Event.TheVariants as event
-use Rattle.dh_events.specs.Classes.{AreDistinct, Numbers}
+use Rattle.dh_events.specs.Classes.{KeysAreDistinct, NumbersKey}
 use Rattle.dh_ports.specs.declared.levels.Levels.{Levels}
 use Rattle.dh_ports.specs.declared.levels.Step.{Step}
 use Rattle.dh_ports.specs.declared.levels.Step.TheVariants as step
@@ -25,7 +25,7 @@ absurd e = elim e [ ]
 -- Classes.
 
 -- no more than one key is added
-pub numbers_few : (old new : List Key) (k : Key) (n : ℕ) → AreDistinct new → Numbers old new k n → length new ≤ length old + 1
+pub numbers_few : (old new : List Key) (k : Key) (n : ℕ) → KeysAreDistinct new → NumbersKey old new k n → length new ≤ length old + 1
 numbers_few old new k n distinct numbers = by_test (cases_Bool (nat_lt (length old + 1) (length new)))
   where
     under : (a b : ℕ) → nat_lt a b ≡ true → a < b
@@ -156,7 +156,7 @@ module _ (known : List Key) (events : List Event) (i : ℕ) (levels : Levels) (f
   all_told : flags ≡ all_share so.steps (lefts_from (replicate (length events) 1) so.steps)
   all_told = sym (append-nil flags) ∙ (so.told [] ∙ ap (λ l. all_share l (lefts_from (replicate (length events) 1) l)) (append-nil so.steps))
 
-  share_done : AreDistinct known → FindsShared events flags
+  share_done : KeysAreDistinct known → FindsShared events flags
   share_done distinct = record {
     known = known;
     distinct = distinct;

@@ -11,7 +11,7 @@ use Rattle.dh_meaning.specs.Phases.{Phase, phases_of, idle_phases_of}
 use Rattle.dh_meaning.specs.Sites.{nothing_around}
 use Rattle.dh_meets.specs.SourceEvents.{accesses_in, trace}
 use Rattle.dh_events.specs.declared.events.Site.{Site}
-use Rattle.dh_events.specs.Incidents.{Incident, touches, assigned, arm_begins, arm_ends, begins, next, ends, closed}
+use Rattle.dh_events.specs.Incidents.{PortEvent, touches, assigned, arm_begins, arm_ends, begins, next, ends, closed}
 use Rattle.dh_events.specs.Rounds.{rounds_in}
 use Rattle.dh_events.specs.Stages.{stages_in}
 use Rattle.dh_ports.specs.Layouts.{no_rounds}
@@ -24,7 +24,7 @@ use Rattle.dh_ports.proofs.PhaseTags.{runs_append, tagged, one_at_most}
 use Rattle.dh_ports.proofs.LoopsKnown as loops
 use Rattle.dh_ports.proofs.LoopsTold.{loops_at, action_same}
 
-tells_early : (n : ℕ) (xs : List Incident) (k p : ℕ) → k < n → tells n xs k p ≡ false
+tells_early : (n : ℕ) (xs : List PortEvent) (k p : ℕ) → k < n → tells n xs k p ≡ false
 tells_early n [] k p e = refl
 tells_early n (touches t w s ∷ xs) k p e = none (s.phase == p) (n == k) (tells (suc n) xs k p) (ne_eqb n k (λ f. omega (arith, e, f))) (tells_early (suc n) xs k p (omega (arith, e)))
   where
@@ -42,7 +42,7 @@ same_site : (s t : Site) → Some s ≡ Some t → s ≡ t
 same_site s t e = cc
 
 -- the phase of an access's site is the one that is told of it
-tells_site : (n : ℕ) (xs : List Incident) (i p : ℕ) (s : Site) → slice_get (sites_in xs) i ≡ Some s → tells n xs (n + i) p ≡ (s.phase == p)
+tells_site : (n : ℕ) (xs : List PortEvent) (i p : ℕ) (s : Site) → slice_get (sites_in xs) i ≡ Some s → tells n xs (n + i) p ≡ (s.phase == p)
 tells_site n [] i p s e = absurd cc
 tells_site n (touches t w z ∷ xs) zero p s e =
     found (z.phase == p) (n == n + 0) (tells (suc n) xs (n + 0) p) (eq-eqb n (n + 0) (omega arith)) (tells_early (suc n) xs (n + 0) p (omega arith)) ∙ ap (λ y. y.phase == p) (same_site z s e)

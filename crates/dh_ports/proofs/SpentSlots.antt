@@ -10,7 +10,7 @@ use Rattle.dh_meaning.specs.Sites.{Arm}
 use Rattle.dh_meets.specs.Sharing.{same_arm, same_truth, all_arms_of}
 use Rattle.dh_meets.specs.SourceEvents.{SourceAccess}
 use Rattle.dh_ports.specs.Levels.{Floor, Level, level, taken, begun, gone_back}
-use Rattle.dh_events.specs.Elements.{assigned_at}
+use Rattle.dh_events.specs.Elements.{moment_assigned_at}
 use Rattle.dh_ports.proofs.JoinedWalks.{has_arm}
 use Rattle.dh_ports.proofs.PastReads.{Noted, noted_access, noted_set, many, many_set, many_access, spends, spends_append, or_false, Walk, Held, Kept, kept_later, kept_access, kept_set, bounded_set}
 
@@ -299,7 +299,7 @@ module _ (w : Walk) (slots : ℕ) (seen : List Arm) (past : List Noted) (v : ℕ
     leaves = s.leaves;
   }
 
-  pub stands_set : (outer : List (List Arm)) (arms : List Arm) (entity : Option ℕ) → Standing w slots seen outer arms past v at number levels → Standing w slots seen outer arms (past ++ noted_set entity ∷ []) (assigned_at v (at + 1) entity) (at + 1) number levels
+  pub stands_set : (outer : List (List Arm)) (arms : List Arm) (entity : Option ℕ) → Standing w slots seen outer arms past v at number levels → Standing w slots seen outer arms (past ++ noted_set entity ∷ []) (moment_assigned_at v (at + 1) entity) (at + 1) number levels
   stands_set outer arms entity s = record {
     known = s.known;
     known_outside = s.known_outside;

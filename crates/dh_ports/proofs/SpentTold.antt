@@ -25,7 +25,7 @@ use Rattle.dh_ways.proofs.WaysLead.{ways_lead}
 use Rattle.dh_meaning.specs.Sites.{nothing_around}
 use Rattle.dh_meets.specs.Charges.{bank_reached, charge, charge_of, indices_in, charge_by}
 use Rattle.dh_meets.specs.MayMeet.{meets_in}
-use Rattle.dh_meets.specs.Ports.{memory_ports, ports_of, place_in}
+use Rattle.dh_meets.specs.Ports.{ports_or_zero, ports_of_entity, place_in}
 use Rattle.dh_meets.specs.Sharing.{shared}
 use Rattle.dh_meets.specs.SourceEvents.{Element, with_indices, in_row, SourceAccess, accesses_in, trace}
 use Rattle.dh_events.specs.declared.events.Event.{Event}
@@ -36,7 +36,7 @@ use Rattle.dh_ports.specs.declared.moves.Move.TheVariants as move
 use Rattle.dh_ports.specs.Claims.{access_of, base_of, ports_in, claims_of, moves_from}
 use Rattle.dh_ports.specs.Courses.{count, before_at, Ties}
 use Rattle.dh_ports.specs.Expanded.{all_taken}
-use Rattle.dh_events.specs.Incidents.{Incident, closed}
+use Rattle.dh_events.specs.Incidents.{PortEvent, closed}
 use Rattle.dh_ports.specs.Levels.{Level, start}
 use Rattle.dh_events.specs.Noted.{all_seen}
 use Rattle.dh_ports.specs.Scanned.{flag_at, spending_step, spent_place}
@@ -63,26 +63,26 @@ some_same : {A : Type 0} (x y : A) → Some x ≡ Some y → x ≡ y
 some_same x y e = cc
 
 -- What is known of what happens in a whole program.
-pub record IsWhole (p : Program) (xs : List Incident) : Type 0 where
+pub record IsWhole (p : Program) (xs : List PortEvent) : Type 0 where
   pub touched_all : touched xs ≡ map of_access (accesses_in (trace p))
   pub loops : (k : ℕ) (s : Site) (a : SourceAccess) → slice_get (sites_in xs) k ≡ Some s → slice_get (accesses_in (trace p)) k ≡ Some a → loops_known p s.round ≡ a.site.loops
   pub ties : (c : ℕ → ℕ) → Ties c 0 xs (meets_in p)
 
-pub whole_is : (p : Program) (xs : List Incident) → TellsLoops p → xs ≡ happenings_of p → IsWhole p xs
-whole_is p xs loops e = subst (λ (l : List Incident). IsWhole p l) (sym e) (record {
+pub whole_is : (p : Program) (xs : List PortEvent) → TellsLoops p → xs ≡ happenings_of p → IsWhole p xs
+whole_is p xs loops e = subst (λ (l : List PortEvent). IsWhole p l) (sym e) (record {
   touched_all = action_same (stages_in p.body no_stages) None closed nothing_around p.body;
   loops = loops;
   ties = λ c. action_ties c (stages_in p.body no_stages) 0 None closed p.body;
 })
 
 -- an access, and the incident that it is
-pub record AccessAt (p : Program) (xs : List Incident) (k : ℕ) (a : SourceAccess) : Type 0 where
+pub record AccessAt (p : Program) (xs : List PortEvent) (k : ℕ) (a : SourceAccess) : Type 0 where
   pub within : k < count xs
   pub touch : TouchAt p (loops_known p) 0 xs k
   pub same : access_of (loops_known p touch.site.round) touch.writes touch.access ≡ stripped a
   pub claims : nth_claims (claim_lists p (loops_known p) 0 xs) k ≡ claims_of p (event_of xs k) a
 
-module _ (p : Program) (xs : List Incident) (w : IsWhole p xs) where
+module _ (p : Program) (xs : List PortEvent) (w : IsWhole p xs) where
   counted : length (accesses_in (trace p)) ≡ count xs
   counted = sym (length-map _ _) ∙ (ap length (sym w.touched_all) ∙ touched_long xs)
 
@@ -168,7 +168,7 @@ ports_at (x ∷ es) (suc number) bank e h b =
 abbrev taken_at : (flags : List Bool) → (event keys : ℕ) → ℕ
 taken_at flags event keys = if flag_at (slice_get flags event) then 0 else keys
 
-module _ (p : Program) (xs : List Incident) (w : IsWhole p xs) (flags : List Bool) (table : IsProgramTable (table_of p))
+module _ (p : Program) (xs : List PortEvent) (w : IsWhole p xs) (flags : List Bool) (table : IsProgramTable (table_of p))
     (bounds : (k : ℕ) (a : SourceAccess) → slice_get (accesses_in (trace p)) k ≡ Some a → Bounds p a)
     (told : (k : ℕ) → k < count xs → slice_get flags (event_of xs k) ≡ Some (is_some (shared p k))) where
   abbrev steps_of : ℕ → List Step
@@ -209,16 +209,16 @@ module _ (p : Program) (xs : List Incident) (w : IsWhole p xs) (flags : List Boo
     takes_are : (λ k. takes slot k) ≡ charge p memory bank
     takes_are = fun_ext takes_one
 
-    left_is : (k : ℕ) → In k (meets_in p) → before_at (takes slot) 0 (levels slot) xs k ≡ ports_of p memory - (upto (charge p memory bank) k (meets_in p) - charge p memory bank k)
+    left_is : (k : ℕ) → In k (meets_in p) → before_at (takes slot) 0 (levels slot) xs k ≡ ports_of_entity p memory - (upto (charge p memory bank) k (meets_in p) - charge p memory bank k)
     left_is k i =
         ap (λ (c : ℕ → ℕ). before_at c 0 (levels slot) xs k) takes_are
         ∙ ((w.ties (charge p memory bank)).during (levels slot) k i
         ∙ ap (λ n. n - (upto (charge p memory bank) k (meets_in p) - charge p memory bank k)) (ports_at (table_of p) number bank entry stands inside ∙ sym ports_are))
       where
-        ports_are : ports_of p memory ≡ entry.shape.ports
+        ports_are : ports_of_entity p memory ≡ entry.shape.ports
         ports_are =
             let mine = found (memories_of p) (Some memory) number known in
-            ap memory_ports mine.is ∙ ap (λ (e : MemEntry). e.shape.ports) (some_same (entry_of mine.memory) entry (sym mine.entry ∙ stands))
+            ap ports_or_zero mine.is ∙ ap (λ (e : MemEntry). e.shape.ports) (some_same (entry_of mine.memory) entry (sym mine.entry ∙ stands))
 
     over_beyond : (ports up c : ℕ) → c ≤ up → ports - (up - c) < c → ports < up
     over_beyond ports up c e f = omega (arith, e, f)
@@ -228,17 +228,17 @@ module _ (p : Program) (xs : List Incident) (w : IsWhole p xs) (flags : List Boo
 
     spends_if : (k : ℕ) → In k (meets_in p) → before_at (takes slot) 0 (levels slot) xs k < takes slot k → Spends p k
     spends_if k i over =
-        let more : ports_of p memory - (upto (charge p memory bank) k (meets_in p) - charge p memory bank k) < charge p memory bank k =
+        let more : ports_of_entity p memory - (upto (charge p memory bank) k (meets_in p) - charge p memory bank k) < charge p memory bank k =
         subst (λ (n : ℕ). n < charge p memory bank k) (left_is k i) (subst (λ (n : ℕ). before_at (takes slot) 0 (levels slot) xs k < n) (takes_one k) over) in
-        record { memory = memory; bank = bank; charged = some _ _ more; beyond = over_beyond (ports_of p memory) (upto (charge p memory bank) k (meets_in p)) (charge p memory bank k) (upto_most (charge p memory bank) k (meets_in p) (whole p).distinct i) more }
+        record { memory = memory; bank = bank; charged = some _ _ more; beyond = over_beyond (ports_of_entity p memory) (upto (charge p memory bank) k (meets_in p)) (charge p memory bank k) (upto_most (charge p memory bank) k (meets_in p) (whole p).distinct i) more }
       where
         some : (m n : ℕ) → m < n → 1 ≤ n
         some m n e = omega (arith, e)
 
-    if_spends : (k : ℕ) → In k (meets_in p) → 1 ≤ charge p memory bank k → ports_of p memory < upto (charge p memory bank) k (meets_in p) → before_at (takes slot) 0 (levels slot) xs k < takes slot k
+    if_spends : (k : ℕ) → In k (meets_in p) → 1 ≤ charge p memory bank k → ports_of_entity p memory < upto (charge p memory bank) k (meets_in p) → before_at (takes slot) 0 (levels slot) xs k < takes slot k
     if_spends k i some beyond =
         subst (λ (n : ℕ). before_at (takes slot) 0 (levels slot) xs k < n) (sym (takes_one k))
-        (subst (λ (n : ℕ). n < charge p memory bank k) (sym (left_is k i)) (beyond_over (ports_of p memory) (upto (charge p memory bank) k (meets_in p)) (charge p memory bank k) some beyond))
+        (subst (λ (n : ℕ). n < charge p memory bank k) (sym (left_is k i)) (beyond_over (ports_of_entity p memory) (upto (charge p memory bank) k (meets_in p)) (charge p memory bank k) some beyond))
 
   -- steps that take of a slot are claims of it
   taken_claims : (other : ℕ) (ms : List Move) → 1 ≤ all_taken other (map (spending_step flags) ms) → Claims other ms

@@ -15,7 +15,7 @@ use Rattle.dh_ports.specs.declared.moves.Move.TheVariants as move
 use Rattle.dh_ports.specs.Claims.{access_of, claims_of, moves_from}
 use Rattle.dh_ports.specs.Courses.{count, less, before_at}
 use Rattle.dh_ports.specs.Expanded.{level_behind, all_taken, AreTaking}
-use Rattle.dh_events.specs.Incidents.{Incident, touches, assigned, arm_begins, arm_ends, begins, next, ends}
+use Rattle.dh_events.specs.Incidents.{PortEvent, touches, assigned, arm_begins, arm_ends, begins, next, ends}
 use Rattle.dh_ports.specs.Levels.{Level, level, taken, begun, kept_back, settled, lefts_of}
 use Rattle.dh_ports.specs.Scanned.{flag_at, spending_step, place_found, term_place, first_beyond}
 use Rattle.dh_ports.specs.Wholes.{Touched, touched}
@@ -68,7 +68,7 @@ Over levels ss = (slot : ℕ) × ((levels slot).now < all_taken slot ss)
 abbrev Fits : (ℕ → Level) → List Step → Type 0
 Fits levels ss = (slot : ℕ) → all_taken slot ss ≤ (levels slot).now
 
-module _ (flags : List Bool) (whole : List Incident) where
+module _ (flags : List Bool) (whole : List PortEvent) where
   abbrev step_of : Move → Step
   step_of m = spending_step flags m
 
@@ -140,11 +140,11 @@ module _ (flags : List Bool) (whole : List Incident) where
     abbrev pub takes_of : (slot k : ℕ) → ℕ
     takes_of slot k = all_taken slot (f k)
 
-    abbrev pub left_of : (n : ℕ) → (ℕ → Level) → List Incident → (slot k : ℕ) → ℕ
+    abbrev pub left_of : (n : ℕ) → (ℕ → Level) → List PortEvent → (slot k : ℕ) → ℕ
     left_of n levels xs slot k = before_at (takes_of slot) n (levels slot) xs k
 
     -- the steps of accesses from a first number on are those of these incidents
-    abbrev pub Lined : (n event : ℕ) → List Incident → Type 0
+    abbrev pub Lined : (n event : ℕ) → List PortEvent → Type 0
     Lined n event xs = (j : ℕ) → f (n + j) ≡ map step_of (nth_claims (claim_lists p loops event xs) j)
 
     -- an access that takes more than is left, and none before it
@@ -161,11 +161,11 @@ module _ (flags : List Bool) (whole : List Incident) where
     Stops left n count ts None = (x other : ℕ) → n ≤ x → x < n + count → takes_of other x ≤ left other x
     Stops left n count ts (Some place) = FirstOver left n ts place
 
-    abbrev Walked : (n : ℕ) → (ℕ → Level) → List Incident → Option Place → Type 0
+    abbrev Walked : (n : ℕ) → (ℕ → Level) → List PortEvent → Option Place → Type 0
     Walked n levels xs o = Stops (left_of n levels xs) n (count xs) (touched xs) o
 
     -- an access, and what comes behind it
-    module _ (n : ℕ) (levels : ℕ → Level) (t : Term) (w : Bool) (site : Site) (xs : List Incident) where
+    module _ (n : ℕ) (levels : ℕ → Level) (t : Term) (w : Bool) (site : Site) (xs : List PortEvent) where
       pub left_here : (slot : ℕ) → left_of n levels (touches t w site ∷ xs) slot n ≡ (levels slot).now
       left_here slot = ap (λ b. if b then (levels slot).now else before_at (takes_of slot) (suc n) (less (takes_of slot n) (levels slot)) xs n) (eq-eqb n n refl)
 
@@ -215,7 +215,7 @@ module _ (flags : List Bool) (whole : List Incident) where
     abbrev own_claims : (event : ℕ) → Term → Bool → Site → List Move
     own_claims event t w site = claims_of p event (access_of (loops site.round) w t)
 
-    module _ (n event : ℕ) (levels : ℕ → Level) (t : Term) (w : Bool) (site : Site) (xs : List Incident) (lined : Lined n event (touches t w site ∷ xs)) (follows : Follows (touches t w site ∷ xs) whole event) where
+    module _ (n event : ℕ) (levels : ℕ → Level) (t : Term) (w : Bool) (site : Site) (xs : List PortEvent) (lined : Lined n event (touches t w site ∷ xs)) (follows : Follows (touches t w site ∷ xs) whole event) where
       none_more : (n : ℕ) → n + 0 ≡ n
       none_more n = omega arith
 
@@ -252,7 +252,7 @@ module _ (flags : List Bool) (whole : List Incident) where
           (later n levels t w site xs (λ slot. subst (λ (ss : List Step). all_taken slot ss ≤ (levels slot).now) (sym steps) (fits slot)) _
           (subst (λ (ls : ℕ → Level). Walked (suc n) (λ slot. less (takes_of slot n) (levels slot)) xs (scan ls (moves_from p loops (event + 1) xs))) (sym levels_are) rest))
 
-    pub walk : (n event : ℕ) (levels : ℕ → Level) (xs : List Incident) → Lined n event xs → Follows xs whole event → Walked n levels xs (scan levels (moves_from p loops event xs))
+    pub walk : (n event : ℕ) (levels : ℕ → Level) (xs : List PortEvent) → Lined n event xs → Follows xs whole event → Walked n levels xs (scan levels (moves_from p loops event xs))
     walk n event levels [] lined follows = λ x other e f. absurd (none n x e f)
       where
         none : (n x : ℕ) → n ≤ x → x < n + 0 → ⊥

@@ -23,7 +23,7 @@ use Rattle.dh_meaning.specs.Ways.{Way, all_bindings_of, way_in, way_to, way_unle
 use Rattle.dh_meets.specs.Charges.{bank_named, bank_reached, charge_through, key_of, keys_in_group, sum_over}
 use Rattle.dh_events.specs.Accesses.{entity_in}
 use Rattle.dh_ways.specs.Kept as kept
-use Rattle.dh_ways.specs.Kept.{Led}
+use Rattle.dh_ways.specs.Kept.{KeptLed}
 use Rattle.dh_ways.specs.Linked.{way_there}
 use Rattle.dh_ways.specs.Placed.{FindsPlace}
 use Rattle.dh_ways.specs.Leading.{LeadsTo}
@@ -237,7 +237,7 @@ other_way_to p entity w none e = ap (λ o. way_unless o (way_in (ways_of p) enti
     as_it_is None = refl
     as_it_is (Some x) = refl
 
-module _ (p : Program) (ways_are : List Led) (carriers : List Carrier) (these : map led_seen ways_are ≡ ways_of p) (so : AreEach ways_are carriers) (all : AllByRecursion (λ l. LeadsTo (memories_of p) l.way) (ways_of p)) (entity : Option ℕ) (other : number_in (memories_of p) entity ≡ None) (o : Option ℕ) (finds : FindsPlace ways_are entity o) where
+module _ (p : Program) (ways_are : List KeptLed) (carriers : List Carrier) (these : map led_seen ways_are ≡ ways_of p) (so : AreEach ways_are carriers) (all : AllByRecursion (λ l. LeadsTo (memories_of p) l.way) (ways_of p)) (entity : Option ℕ) (other : number_in (memories_of p) entity ≡ None) (o : Option ℕ) (finds : FindsPlace ways_are entity o) where
   pub unfound : o ≡ None → way_to p entity ≡ None
   unfound none = other_way_to p entity None other (ap (λ ls. way_in ls entity) (sym these) ∙ subst (λ (x : Option ℕ). FindsPlace ways_are entity x) none finds)
 
@@ -251,12 +251,12 @@ module _ (p : Program) (ways_are : List Led) (carriers : List Carrier) (these : 
     pub each_within : (each : List Carrier) → each ≡ carriers → place < length each
     each_within each same = subst (λ (cs : List Carrier). place < length cs) (sym same) (subst (λ (n : ℕ). place < n) (sym (each_many ways_are carriers so)) led_within)
 
-    module _ (w : kept.Way) (there : Some w ≡ way_there ways_are (Some place)) where
+    module _ (w : kept.KeptWay) (there : Some w ≡ way_there ways_are (Some place)) where
       way_same : w ≡ at.0.way
-      way_same = some_same w at.0.way (there ∙ ap (option_map (λ (l : Led). l.way)) at.1.0)
+      way_same = some_same w at.0.way (there ∙ ap (option_map (λ (l : KeptLed). l.way)) at.1.0)
 
       view_in : way_in (ways_of p) entity ≡ Some (way_seen w)
-      view_in = ap (λ ls. way_in ls entity) (sym these) ∙ (at.1.1 ∙ ap (λ (x : kept.Way). Some (way_seen x)) (sym way_same))
+      view_in = ap (λ ls. way_in ls entity) (sym these) ∙ (at.1.1 ∙ ap (λ (x : kept.KeptWay). Some (way_seen x)) (sym way_same))
 
       pub view_named : way_to p entity ≡ Some (way_seen w)
       view_named = other_way_to p entity (Some (way_seen w)) other view_in
@@ -266,4 +266,4 @@ module _ (p : Program) (ways_are : List Led) (carriers : List Carrier) (these : 
 
       pub view_carrier : (each : List Carrier) (k : Carrier) → each ≡ carriers → k ≡ get_or each place k → IsCarrier (way_seen w) k
       view_carrier each k shown_are k_is =
-          subst (λ (x : kept.Way). IsCarrier (way_seen x) k) (sym way_same) (carrier_is ways_are carriers place at.0 k so at.1.0 (k_is ∙ ap (λ cs. get_or cs place k) shown_are))
+          subst (λ (x : kept.KeptWay). IsCarrier (way_seen x) k) (sym way_same) (carrier_is ways_are carriers place at.0 k so at.1.0 (k_is ∙ ap (λ cs. get_or cs place k) shown_are))

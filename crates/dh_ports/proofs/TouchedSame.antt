@@ -11,7 +11,7 @@ use Rattle.dh_meets.specs.SourceEvents as source
 use Rattle.dh_meets.specs.SourceEvents.{SourceEvent, accesses_in, site_of, term_events, form_events, terms_events, maybe_events, write_events, events, command_events, other_events, groups_events, part_events}
 use Rattle.dh_events.specs.declared.events.Site.{Site}
 use Rattle.dh_events.specs.declared.noting.Open.{Open}
-use Rattle.dh_events.specs.Incidents.{Incident, touches, assigned, arm_begins, arm_ends, begins, next, ends, site_at, term_incidents, form_incidents, terms_incidents, maybe_incidents, target_incidents, is_stepped, closed, released, phase_of, tested, inside_choice, round_inside, when_parted, arms_part, are_parts, open_after, part_open, open_combine, incidents, command_incidents, other_incidents, combine_incidents, groups_incidents, part_incidents}
+use Rattle.dh_events.specs.Incidents.{PortEvent, touches, assigned, arm_begins, arm_ends, begins, next, ends, site_at, term_incidents, form_incidents, terms_incidents, maybe_incidents, target_incidents, is_stepped, closed, released, phase_of, tested, inside_choice, round_inside, when_parted, arms_part, are_parts, open_after, part_open, open_combine, incidents, command_incidents, other_incidents, combine_incidents, groups_incidents, part_incidents}
 use Rattle.dh_ports.specs.Wholes.{Touched, touched, touched_by, of_access}
 
 -- the same of events
@@ -22,7 +22,7 @@ nothing_more : {X : Type 0} (xs : List X) → xs ++ [] ≡ xs
 nothing_more [] = refl
 nothing_more (x ∷ xs) = ap (λ l. x ∷ l) (nothing_more xs)
 
-touched_append : (xs ys : List Incident) → touched (xs ++ ys) ≡ touched xs ++ touched ys
+touched_append : (xs ys : List PortEvent) → touched (xs ++ ys) ≡ touched xs ++ touched ys
 touched_append [] ys = refl
 touched_append (touches t w s ∷ xs) ys = ap (λ l. touched_by t w ∷ l) (touched_append xs ys)
 touched_append (assigned e ∷ xs) ys = touched_append xs ys
@@ -37,18 +37,18 @@ seen_append [] ys = refl
 seen_append (source.accesses a ∷ xs) ys = ap (λ l. of_access a ∷ l) (seen_append xs ys)
 seen_append (source.assigned e ∷ xs) ys = seen_append xs ys
 
-both : (xs ys : List Incident) (es fs : List SourceEvent) → touched xs ≡ seen_in es → touched ys ≡ seen_in fs → touched (xs ++ ys) ≡ seen_in (es ++ fs)
+both : (xs ys : List PortEvent) (es fs : List SourceEvent) → touched xs ≡ seen_in es → touched ys ≡ seen_in fs → touched (xs ++ ys) ≡ seen_in (es ++ fs)
 both xs ys es fs e f = touched_append xs ys ∙ (ap (λ l. l ++ touched ys) e ∙ (ap (λ l. seen_in es ++ l) f ∙ sym (seen_append es fs)))
 
 -- marks are no accesses
-none_more : (xs : List Incident) (y : Incident) (es : List SourceEvent) → touched (y ∷ []) ≡ [] → touched xs ≡ seen_in es → touched (xs ++ y ∷ []) ≡ seen_in es
+none_more : (xs : List PortEvent) (y : PortEvent) (es : List SourceEvent) → touched (y ∷ []) ≡ [] → touched xs ≡ seen_in es → touched (xs ++ y ∷ []) ≡ seen_in es
 none_more xs y es e f = touched_append xs (y ∷ []) ∙ (ap (λ l. touched xs ++ l) e ∙ (nothing_more (touched xs) ∙ f))
 
-parted_first : (b : Bool) (y : Incident) (xs : List Incident) → touched (y ∷ xs) ≡ touched xs → touched (when_parted b y ++ xs) ≡ touched xs
+parted_first : (b : Bool) (y : PortEvent) (xs : List PortEvent) → touched (y ∷ xs) ≡ touched xs → touched (when_parted b y ++ xs) ≡ touched xs
 parted_first true y xs e = e
 parted_first false y xs e = refl
 
-parted_last : (b : Bool) (y : Incident) (xs : List Incident) → touched (y ∷ []) ≡ [] → touched (xs ++ when_parted b y) ≡ touched xs
+parted_last : (b : Bool) (y : PortEvent) (xs : List PortEvent) → touched (y ∷ []) ≡ [] → touched (xs ++ when_parted b y) ≡ touched xs
 parted_last true y xs e = touched_append xs (y ∷ []) ∙ (ap (λ l. touched xs ++ l) e ∙ nothing_more (touched xs))
 parted_last false y xs e = ap touched (nothing_more xs)
 
@@ -83,7 +83,7 @@ target_same s z (term place kind (applied op left right)) = both (term_incidents
 target_same s z (term place kind (converted inner to)) = term_same s z inner
 
 -- a value and an assignment behind it
-assigned_same : (xs : List Incident) (es : List SourceEvent) (e : Option ℕ) → touched xs ≡ seen_in es → touched (xs ++ assigned e ∷ []) ≡ seen_in (es ++ source.assigned e ∷ [])
+assigned_same : (xs : List PortEvent) (es : List SourceEvent) (e : Option ℕ) → touched xs ≡ seen_in es → touched (xs ++ assigned e ∷ []) ≡ seen_in (es ++ source.assigned e ∷ [])
 assigned_same xs es e f = both xs (assigned e ∷ []) es (source.assigned e ∷ []) f refl
 
 mutual

@@ -7,8 +7,8 @@ use Rattle.std.proofs.lemmas.List.{drop_all}
 use Rattle.dh_events.specs.declared.classes.Key.{Key}
 use Rattle.dh_events.specs.declared.events.Event.{Event}
 use Rattle.dh_events.specs.declared.events.Event.TheVariants as event
-use Rattle.dh_events.specs.Classes.{Extends}
-use Rattle.dh_events.specs.Tables.{numbered}
+use Rattle.dh_events.specs.Classes.{ExtendsKeys}
+use Rattle.dh_events.specs.Tables.{kept_at}
 use Rattle.dh_events.proofs.Turns.{at_place}
 use Rattle.dh_ports.specs.declared.moves.Move.{Move}
 use Rattle.dh_ports.specs.declared.moves.Move.TheVariants as move
@@ -31,7 +31,7 @@ marks_kept : (old new : List ℕ) (e : Event) → MarksRead old new e → (phase
 marks_kept old new (event.Touch true phase round access element newest) m p h = ap (λ (f : ℕ → ℕ). f p) m ∙ h
 marks_kept old new (event.Touch false phase round access element newest) m p h = ap (λ (f : ℕ → ℕ). f p) m ∙ either (phase == p)
   where
-    either : (b : Bool) → (if b then 1 else numbered old p) ≡ 1
+    either : (b : Bool) → (if b then 1 else kept_at old p) ≡ 1
     either true = refl
     either false = h
 marks_kept old new (event.Assigned entity) m p h = ap (λ (f : ℕ → ℕ). f p) m ∙ h
@@ -43,7 +43,7 @@ marks_kept old new event.Ends m p h = ap (λ (f : ℕ → ℕ). f p) m ∙ h
 
 marks_read : (old new : List ℕ) (e : Event) → MarksRead old new e → (phase : ℕ) → IsReadAt (Some e) phase → slice_index new phase ≡ 1
 marks_read old new (event.Touch true phase round access element newest) m p h = absurd h
-marks_read old new (event.Touch false phase round access element newest) m p h = ap (λ (f : ℕ → ℕ). f p) m ∙ ap (λ b. if b then 1 else numbered old p) (eq-eqb phase p h)
+marks_read old new (event.Touch false phase round access element newest) m p h = ap (λ (f : ℕ → ℕ). f p) m ∙ ap (λ b. if b then 1 else kept_at old p) (eq-eqb phase p h)
 marks_read old new (event.Assigned entity) m p h = absurd h
 marks_read old new event.ArmBegins m p h = absurd h
 marks_read old new event.ArmEnds m p h = absurd h
@@ -115,16 +115,16 @@ needed known events (m ∷ ms) h = (λ has. h.0, needed known events ms h.1)
 
 -- Whatever keys there come to be: where the rest is noted, all is.
 abbrev pub NeedsAll : List Key → List Event → (rest whole : List Move) → Type 0
-NeedsAll known events rest whole = (more : List Key) → Extends known more → AllByRecursion (IsNotedFor more events) rest → AllByRecursion (IsNotedFor more events) whole
+NeedsAll known events rest whole = (more : List Key) → ExtendsKeys known more → AllByRecursion (IsNotedFor more events) rest → AllByRecursion (IsNotedFor more events) whole
 
 pub needs_first : (known : List Key) (events : List Event) (ms : List Move) → NeedsAll known events ms ms
 needs_first known events ms = λ more extends h. h
 
-all_still : (old new : List Key) (events : List Event) → Extends old new → (ms : List Move) → AllByRecursion (IsNotedFor old events) ms → AllByRecursion (IsNotedFor new events) ms
+all_still : (old new : List Key) (events : List Event) → ExtendsKeys old new → (ms : List Move) → AllByRecursion (IsNotedFor old events) ms → AllByRecursion (IsNotedFor new events) ms
 all_still old new events extends [] h = tt
 all_still old new events extends (m ∷ ms) h = (λ has. noted_still old new extends events m (h.0 has), all_still old new events extends ms h.1)
 
-pub needs_turn : (old new : List Key) (events : List Event) (rs : List Run) (i : ℕ) (d : Run) (whole : List Move) → i < length rs → Extends old new → AllByRecursion (IsNotedFor new events) (moves_of_run (get_or rs i d)) → NeedsAll old events (moves_in (drop i rs)) whole
+pub needs_turn : (old new : List Key) (events : List Event) (rs : List Run) (i : ℕ) (d : Run) (whole : List Move) → i < length rs → ExtendsKeys old new → AllByRecursion (IsNotedFor new events) (moves_of_run (get_or rs i d)) → NeedsAll old events (moves_in (drop i rs)) whole
     → NeedsAll new events (moves_in (drop (i + 1) rs)) whole
 needs_turn old new events rs i d whole inside extends noted so = λ more further h.
     so more (extends_both old new more extends further)

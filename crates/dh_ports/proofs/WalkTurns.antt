@@ -7,9 +7,9 @@ use Rattle.dh_base.specs.declared.places.Place.{Place}
 use Rattle.dh_tree.specs.Memories.{table_of}
 use Rattle.dh_tree.specs.PlainTrees.{Program}
 use Rattle.dh_events.specs.declared.events.Event.{Event}
-use Rattle.dh_events.specs.Accesses.{loops_in}
-use Rattle.dh_events.specs.Classes.{AreDistinct}
-use Rattle.dh_events.specs.Incidents.{Incident}
+use Rattle.dh_events.specs.Accesses.{loops_listed}
+use Rattle.dh_events.specs.Classes.{KeysAreDistinct}
+use Rattle.dh_events.specs.Incidents.{PortEvent}
 use Rattle.dh_events.specs.Noted.{all_seen}
 use Rattle.dh_ports.specs.declared.lasts.LastWrites.{LastWrites}
 use Rattle.dh_ports.specs.declared.levels.Levels.{Levels}
@@ -83,11 +83,11 @@ item_once es i d e inside is_d is_e = is_e ∙ (item_any es i e d inside ∙ sym
 -- What moves come to.
 
 -- from here the place is found in the rest as in all
-abbrev pub SpentSo : List Incident → (shared : List Bool) → Levels → Walked → (rest : List Move) → (place : Option Place) → Type 0
+abbrev pub SpentSo : List PortEvent → (shared : List Bool) → Levels → Walked → (rest : List Move) → (place : Option Place) → Type 0
 SpentSo xs shared levels walked.Past rest place = beyond_from xs shared levels rest ≡ place
 SpentSo xs shared levels (walked.Beyond found) rest place = found ≡ place
 
-module _ (xs : List Incident) (shared : List Bool) where
+module _ (xs : List PortEvent) (shared : List Bool) where
   spends_kept : (old new : Levels) (before after : Walked) (ms : List Move) → SpendsTo xs shared before old ms after new → KeptWhile after new
   spends_kept old new walked.Past walked.Past ms h = h.0
   spends_kept old new walked.Past (walked.Beyond place) ms h = tt
@@ -107,12 +107,12 @@ module _ (xs : List Incident) (shared : List Bool) where
 -- so much is found of so many of these events, whatever is found of those behind them
 pub record WalksTo (p : Program) (layout : Layout) (events : List Event) (i : ℕ) (sharing : Sharing) (lasts : LastWrites) (levels : Levels) (after : Walked) : Type 0 where
   pub before : List Move
-  pub whole : before ++ moves_from p (loops_in layout.rounds.items) i (all_seen (drop i events)) ≡ moves_known p layout events
+  pub whole : before ++ moves_from p (loops_listed layout.rounds.items) i (all_seen (drop i events)) ≡ moves_known p layout events
   pub within : AllByRecursion (IsMoveOf (length events)) before
   pub ahead : IsAhead events before lasts
   pub shared : IsShared events i sharing
   pub kept : KeptWhile after levels
-  pub spent : (more : List Bool) → SpentSo (all_seen events) (sharing.flags.items ++ more) levels after (moves_from p (loops_in layout.rounds.items) i (all_seen (drop i events))) (first_from (all_seen events) (sharing.flags.items ++ more) (ports_in (table_of p)) (moves_known p layout events))
+  pub spent : (more : List Bool) → SpentSo (all_seen events) (sharing.flags.items ++ more) levels after (moves_from p (loops_listed layout.rounds.items) i (all_seen (drop i events))) (first_from (all_seen events) (sharing.flags.items ++ more) (ports_in (table_of p)) (moves_known p layout events))
 
 module _ (p : Program) (layout : Layout) (events : List Event) where
   pub walk_begins : (sharing : Sharing) (lasts : LastWrites) (levels : Levels) (ports : List ℕ) → IsShared events 0 sharing → IsKept levels → ((s : ℕ) → level_at levels s ≡ start (slice_index ports s)) → ports ≡ ports_in (table_of p) → WalksTo p layout events 0 sharing lasts levels walked.Past
@@ -143,27 +143,27 @@ module _ (p : Program) (layout : Layout) (events : List Event) where
         few : (n k : ℕ) → n ≡ i + 1 → i < k → n ≤ k
         few n k e f = omega (arith, e, f)
 
-    pub moves_inside : (n : ℕ) → n ≡ i + 1 → (ms : List Move) → ms ≡ moves_of p (loops_in layout.rounds.items) i d → AllByRecursion (IsMoveOf n) ms
-    moves_inside n long ms are = subst (λ (l : List Move). AllByRecursion (IsMoveOf n) l) (sym are) (moves_within p (loops_in layout.rounds.items) n i d (behind n long))
+    pub moves_inside : (n : ℕ) → n ≡ i + 1 → (ms : List Move) → ms ≡ moves_of p (loops_listed layout.rounds.items) i d → AllByRecursion (IsMoveOf n) ms
+    moves_inside n long ms are = subst (λ (l : List Move). AllByRecursion (IsMoveOf n) l) (sym are) (moves_within p (loops_listed layout.rounds.items) n i d (behind n long))
       where
         behind : (n : ℕ) → n ≡ i + 1 → i < n
         behind n e = omega (arith, e)
 
-    pub moves_there : (ms : List Move) → ms ≡ moves_of p (loops_in layout.rounds.items) i d → AllByRecursion (IsMoveOf (length events)) ms
-    moves_there ms are = subst (λ (l : List Move). AllByRecursion (IsMoveOf (length events)) l) (sym are) (moves_within p (loops_in layout.rounds.items) (length events) i d inside)
+    pub moves_there : (ms : List Move) → ms ≡ moves_of p (loops_listed layout.rounds.items) i d → AllByRecursion (IsMoveOf (length events)) ms
+    moves_there ms are = subst (λ (l : List Move). AllByRecursion (IsMoveOf (length events)) l) (sym are) (moves_within p (loops_listed layout.rounds.items) (length events) i d inside)
 
     -- one event more
 
-    module _ (old new : Sharing) (old_lasts new_lasts : LastWrites) (old_levels new_levels : Levels) (old_walked new_walked : Walked) (ms : List Move) (so : WalksTo p layout events i old old_lasts old_levels old_walked) (notes : NotesShare old new d) (are : ms ≡ moves_of p (loops_in layout.rounds.items) i d)
+    module _ (old new : Sharing) (old_lasts new_lasts : LastWrites) (old_levels new_levels : Levels) (old_walked new_walked : Walked) (ms : List Move) (so : WalksTo p layout events i old old_lasts old_levels old_walked) (notes : NotesShare old new d) (are : ms ≡ moves_of p (loops_listed layout.rounds.items) i d)
         (ahead : NotesMoves events old_lasts ms new_lasts) (spends : (more : List Bool) → SpendsTo (all_seen events) (new.flags.items ++ more) old_walked old_levels ms new_walked new_levels) where
       abbrev rest : List Move
-      rest = moves_from p (loops_in layout.rounds.items) (i + 1) (all_seen (drop (i + 1) events))
+      rest = moves_from p (loops_listed layout.rounds.items) (i + 1) (all_seen (drop (i + 1) events))
 
       abbrev place_by : List Bool → Option Place
       place_by shared = first_from (all_seen events) shared (ports_in (table_of p)) (moves_known p layout events)
 
-      rest_is : moves_from p (loops_in layout.rounds.items) i (all_seen (drop i events)) ≡ ms ++ rest
-      rest_is = moves_here p (loops_in layout.rounds.items) events i d inside is ∙ ap (λ l. l ++ rest) (sym are)
+      rest_is : moves_from p (loops_listed layout.rounds.items) i (all_seen (drop i events)) ≡ ms ++ rest
+      rest_is = moves_here p (loops_listed layout.rounds.items) events i d inside is ∙ ap (λ l. l ++ rest) (sym are)
 
       flags_are : (more : List Bool) → new.flags.items ++ more ≡ old.flags.items ++ (notes.flag ∷ more)
       flags_are more = ap (λ l. l ++ more) notes.more ∙ append_assoc old.flags.items (notes.flag ∷ []) more
@@ -176,8 +176,8 @@ module _ (p : Program) (layout : Layout) (events : List Event) where
       pub walk_turn : WalksTo p layout events (i + 1) new new_lasts new_levels new_walked
       walk_turn = record {
         before = so.before ++ ms;
-        whole = moves_turn p (loops_in layout.rounds.items) events i d so.before (so.before ++ ms) (moves_known p layout events) inside is so.whole (ap (λ l. so.before ++ l) are);
-        within = within_turn p (loops_in layout.rounds.items) (length events) i d so.before (so.before ++ ms) inside so.within (ap (λ l. so.before ++ l) are);
+        whole = moves_turn p (loops_listed layout.rounds.items) events i d so.before (so.before ++ ms) (moves_known p layout events) inside is so.whole (ap (λ l. so.before ++ l) are);
+        within = within_turn p (loops_listed layout.rounds.items) (length events) i d so.before (so.before ++ ms) inside so.within (ap (λ l. so.before ++ l) are);
         ahead = ahead so.before so.ahead;
         shared = share_turn events i d old new inside is notes so.shared;
         kept = spends_kept (all_seen events) (new.flags.items ++ []) old_levels new_levels old_walked new_walked ms (spends []);
@@ -188,17 +188,17 @@ module _ (p : Program) (layout : Layout) (events : List Event) where
 
   module _ (i : ℕ) (sharing : Sharing) (lasts : LastWrites) (levels : Levels) (after : Walked) (past : length events ≤ i) (so : WalksTo p layout events i sharing lasts levels after) where
     all_before : so.before ≡ moves_known p layout events
-    all_before = moves_done p (loops_in layout.rounds.items) events i so.before (moves_known p layout events) past so.whole
+    all_before = moves_done p (loops_listed layout.rounds.items) events i so.before (moves_known p layout events) past so.whole
 
-    nothing_left : moves_from p (loops_in layout.rounds.items) i (all_seen (drop i events)) ≡ []
-    nothing_left = ap (λ l. moves_from p (loops_in layout.rounds.items) i (all_seen l)) (drop_all i events past)
+    nothing_left : moves_from p (loops_listed layout.rounds.items) i (all_seen (drop i events)) ≡ []
+    nothing_left = ap (λ l. moves_from p (loops_listed layout.rounds.items) i (all_seen l)) (drop_all i events past)
 
     spent_all : (shared : List Bool) → sharing.flags.items ++ [] ≡ shared → SpentSo (all_seen events) shared levels after [] (first_from (all_seen events) shared (ports_in (table_of p)) (moves_known p layout events))
     spent_all shared is =
         subst (λ (l : List Bool). SpentSo (all_seen events) l levels after [] (first_from (all_seen events) l (ports_in (table_of p)) (moves_known p layout events))) is
         (subst (λ (ms : List Move). SpentSo (all_seen events) (sharing.flags.items ++ []) levels after ms (first_from (all_seen events) (sharing.flags.items ++ []) (ports_in (table_of p)) (moves_known p layout events))) nothing_left (so.spent []))
 
-    pub walk_done : AreDistinct sharing.classes → IsWalked p layout events sharing lasts after
+    pub walk_done : KeysAreDistinct sharing.classes → IsWalked p layout events sharing lasts after
     walk_done distinct = record {
       distinct = distinct;
       shared = share_ends events i sharing past so.shared;

@@ -40,9 +40,9 @@ each_below f zero = []
 each_below f (suc n) = each_below f n ++ f n ∷ []
 
 -- the path of a number, in ascending order: the copies of the last loop change first
-abbrev pub path_at : (factors : List ℕ) → (number : ℕ) → Path
-path_at [] number = []
-path_at (factor ∷ factors) number = (number / copies_in factors) % factor ∷ path_at factors number
+abbrev pub path_of_number : (factors : List ℕ) → (number : ℕ) → Path
+path_of_number [] number = []
+path_of_number (factor ∷ factors) number = (number / copies_in factors) % factor ∷ path_of_number factors number
 
 -- how many keys there are in loops of which a test picks those that count
 abbrev pub keys_in : (picks : ℕ → Bool) → (level : ℕ) → (factors : List ℕ) → ℕ

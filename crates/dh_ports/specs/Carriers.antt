@@ -10,7 +10,7 @@ use Rattle.dh_viewing.specs.Carried.{carried_by, largest}
 use Rattle.dh_viewing.specs.ReachedBanks.{covering}
 use Rattle.dh_meaning.specs.Ways as ways
 use Rattle.dh_base.specs.Limits.{most_copies}
-use Rattle.dh_ways.specs.Kept.{Led, Way}
+use Rattle.dh_ways.specs.Kept.{KeptLed, KeptWay}
 use Rattle.dh_ways.specs.Leading.{StepsLead}
 use Rattle.dh_ways.specs.Seen.{way_seen}
 use Rattle.dh_ports.specs.declared.carrying.Carrier.{Carrier}
@@ -51,11 +51,11 @@ banks_behind banks [] = banks
 banks_behind banks (v ∷ vs) = banks_behind (banks_of v.parent.dims) vs
 
 -- the views on a way that the code keeps, the named one first
-abbrev pub views_of : Way → List ViewMap
+abbrev pub views_of : KeptWay → List ViewMap
 views_of w = w.view ∷ w.behind
 
 -- they lead to something of some dimensions
-pub record Follow (w : Way) : Type 0 where
+pub record Follow (w : KeptWay) : Type 0 where
   pub dims : List Dim
   pub lead : StepsLead (way_seen w).steps dims
 
@@ -95,7 +95,7 @@ claims_carried c event base bank = claims_from event base (each_below (carried_t
 -- All views of a program.
 
 -- each view has its carrier
-abbrev pub AreEach : List Led → List Carrier → Type 0
+abbrev pub AreEach : List KeptLed → List Carrier → Type 0
 AreEach [] [] = Unit {0}
 AreEach (l ∷ ls) (c ∷ cs) = IsCarrier (way_seen l.way) c × AreEach ls cs
 AreEach _ _ = ⊥

@@ -2,7 +2,7 @@
 use Rattle.std.specs.Prelude.{◌≡◌, ℕ, ◌||◌, Bool, if◌then◌else◌, List, length, map, replicate, slice_get, Some}
 use Rattle.dh_tree.specs.declared.viewing.ViewMap.{ViewMap}
 use Rattle.dh_tree.specs.Elements.{banks_of}
-use Rattle.dh_ways.specs.Kept.{Led, Way}
+use Rattle.dh_ways.specs.Kept.{KeptLed, KeptWay}
 use Rattle.dh_ports.specs.declared.carrying.Carrier.{Carrier}
 use Rattle.dh_ports.specs.Banks.{each_below}
 use Rattle.dh_ports.specs.Carriers.{banks_behind, has_shift, is_shift, source_in, source_through, views_of}
@@ -34,14 +34,14 @@ abbrev pub sources_told : List ViewMap → (end : ℕ) → List ℕ
 sources_told vs end = if has_shift vs then replicate end 0 else each_below (source_through vs) end
 
 -- the banks behind the last view
-abbrev pub banks_at_end : Way → ℕ
+abbrev pub banks_at_end : KeptWay → ℕ
 banks_at_end w = banks_behind (banks_of w.view.parent.dims) w.behind
 
-pub record IsMadeOf (w : Way) (c : Carrier) : Type 0 where
+pub record IsMadeOf (w : KeptWay) (c : Carrier) : Type 0 where
   pub banks : c.banks ≡ banks_of w.view.shape.dims
   pub even : c.evenly ≡ has_shift (views_of w)
   pub sources : c.sources.items ≡ sources_told (views_of w) (banks_at_end w)
 
 -- each of the first views has its carrier
-abbrev pub AreMade : List Led → List Carrier → Type 0
-AreMade ls cs = (place : ℕ) (l : Led) (c : Carrier) → slice_get ls place ≡ Some l → slice_get cs place ≡ Some c → IsMadeOf l.way c
+abbrev pub AreMade : List KeptLed → List Carrier → Type 0
+AreMade ls cs = (place : ℕ) (l : KeptLed) (c : Carrier) → slice_get ls place ≡ Some l → slice_get cs place ≡ Some c → IsMadeOf l.way c

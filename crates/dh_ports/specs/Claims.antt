@@ -20,7 +20,7 @@ use Rattle.dh_meets.specs.SourceEvents.{SourceAccess}
 use Rattle.dh_ports.specs.declared.moves.Move.{Move}
 use Rattle.dh_ports.specs.declared.moves.Move.TheVariants as move
 use Rattle.dh_events.specs.Accesses.{entity_in, element_in}
-use Rattle.dh_events.specs.Incidents.{Incident, touches, assigned, arm_begins, arm_ends, begins, next, ends}
+use Rattle.dh_events.specs.Incidents.{PortEvent, touches, assigned, arm_begins, arm_ends, begins, next, ends}
 
 -- Banks.
 
@@ -107,7 +107,7 @@ claims_of p event a = claims_at p event (number_in (memories_of p) (owner_of p a
 
 -- what incidents do to banks, from the event of a number on, where `loops` says which unrolled loops stand
 -- round what stands innermost in one
-abbrev pub moves_from : Program → (loops : Option ℕ → List Counter) → (event : ℕ) → List Incident → List Move
+abbrev pub moves_from : Program → (loops : Option ℕ → List Counter) → (event : ℕ) → List PortEvent → List Move
 moves_from p loops event [] = []
 moves_from p loops event (touches access writes site ∷ xs) = claims_of p event (access_of (loops site.round) writes access) ++ moves_from p loops (event + 1) xs
 moves_from p loops event (assigned entity ∷ xs) = moves_from p loops (event + 1) xs

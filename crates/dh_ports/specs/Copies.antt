@@ -10,7 +10,7 @@ use Rattle.dh_tree.specs.declared.trees.programs.Tree.{Tree}
 use Rattle.dh_tree.specs.Elements.{bank_of}
 use Rattle.dh_tree.specs.Seen.{term_seen, terms}
 use Rattle.dh_meaning.specs.Bindings.{Binding}
-use Rattle.dh_meets.specs.Charges.{factors_of, depends, indices_in}
+use Rattle.dh_meets.specs.Charges.{loop_factors, depends, indices_in}
 use Rattle.dh_meets.specs.SourceEvents.{SourceAccess}
 use Rattle.dh_ports.specs.declared.copies.Copied.{Copied}
 use Rattle.dh_ports.specs.declared.copies.Level.{Level}
@@ -19,17 +19,17 @@ use Rattle.dh_ports.specs.declared.copies.Paths.{Paths}
 use Rattle.dh_ports.specs.declared.copies.Reach.{Reach}
 use Rattle.dh_ports.specs.declared.counting.Seen.{Seen}
 use Rattle.dh_events.specs.declared.dependence.Scope.{Scope}
-use Rattle.dh_ports.specs.Banks.{bank_at_path, each_below, keys_in, path_at}
+use Rattle.dh_ports.specs.Banks.{bank_at_path, each_below, keys_in, path_of_number}
 use Rattle.dh_shape.specs.Classified.{loops_in}
 use Rattle.dh_ports.specs.Claims.{source_of}
 use Rattle.dh_events.specs.Scopes.{AreScopes}
-use Rattle.dh_events.specs.Tables.{numbered, with_number}
+use Rattle.dh_events.specs.Tables.{kept_at, with_number}
 use Rattle.dh_meaning.specs.Paths.{copies_in}
 use Rattle.dh_base.specs.Limits.{most_copies}
 
 -- the copies of what stands in these loops
 abbrev pub copies_round : List Counter → ℕ
-copies_round loops = copies_in (factors_of loops)
+copies_round loops = copies_in (loop_factors loops)
 
 -- a loop has copies
 pub record IsSpread (level : Level) : Type 0 where
@@ -46,7 +46,7 @@ AreLevels picks level _ _ = ⊥
 -- the loops round an access as numbers of paths tell their copies
 pub record ArePaths (scopes : List (Option Scope)) (loops : List Counter) (access : Expr) (writes : Bool) (paths : Paths) : Type 0 where
   pub count : paths.count ≡ copies_round loops
-  pub levels : (bs : List Binding) → AreScopes bs scopes → 1 ≤ copies_round loops → AreLevels (depends bs (source_of loops writes access)) 0 (factors_of loops) paths.levels.items
+  pub levels : (bs : List Binding) → AreScopes bs scopes → 1 ≤ copies_round loops → AreLevels (depends bs (source_of loops writes access)) 0 (loop_factors loops) paths.levels.items
 
 -- the number of the key of the path of a number
 abbrev pub key_of_levels : List Level → (number : ℕ) → ℕ
@@ -87,14 +87,14 @@ pub record HasFewBanks (lanes : List Lane) : Type 0 where
 pub record IsReach (tree : Tree) (loops : List Counter) (dims : List Dim) (access : Expr) (lanes : List Lane) (own : ℕ) : Type 0 where
   pub few : HasFewBanks lanes
   pub alone : (own ≡ 0) ⊎ (lanes ≡ [])
-  pub each : (picks : ℕ → Bool) (levels : List Level) (writes : Bool) (number : ℕ) → AreLevels picks 0 (factors_of loops) levels
-      → own + bank_of_lanes levels lanes number ≡ bank_at_path tree dims (source_of loops writes access) (path_at (factors_of loops) number)
+  pub each : (picks : ℕ → Bool) (levels : List Level) (writes : Bool) (number : ℕ) → AreLevels picks 0 (loop_factors loops) levels
+      → own + bank_of_lanes levels lanes number ≡ bank_at_path tree dims (source_of loops writes access) (path_of_number (loop_factors loops) number)
 
 -- the same of indices
 pub record AreLanes (tree : Tree) (loops : List Counter) (dims : List Dim) (indices : List Expr) (lanes : List Lane) : Type 0 where
   pub few : HasFewBanks lanes
-  pub each : (picks : ℕ → Bool) (levels : List Level) (number : ℕ) → AreLevels picks 0 (factors_of loops) levels
-      → bank_of_lanes levels lanes number ≡ bank_of dims (indices_in (loops_in tree) loops (path_at (factors_of loops) number) (terms (map term_seen indices)))
+  pub each : (picks : ℕ → Bool) (levels : List Level) (number : ℕ) → AreLevels picks 0 (loop_factors loops) levels
+      → bank_of_lanes levels lanes number ≡ bank_of dims (indices_in (loops_in tree) loops (path_of_number (loop_factors loops) number) (terms (map term_seen indices)))
 
 -- an access by the numbers of its paths: its loops, and the lanes and the bank that tell what it reaches
 pub record Reaches (scopes : List (Option Scope)) (tree : Tree) (loops : List Counter) (dims : List Dim) (access : Expr) (writes : Bool) (reach : Reach) : Type 0 where
@@ -138,21 +138,21 @@ stride_in (l ∷ ls) loops count = if loops == 0 then count else stride_in ls (l
 
 -- no pair was seen since the present moment began
 abbrev pub IsUnseen : Seen → Type 0
-IsUnseen seen = (pair : ℕ) → numbered seen.moments.items pair < seen.moment
+IsUnseen seen = (pair : ℕ) → kept_at seen.moments.items pair < seen.moment
 
 -- and none was seen later than it
 abbrev pub IsPast : Seen → Type 0
-IsPast seen = (pair : ℕ) → numbered seen.moments.items pair ≤ seen.moment
+IsPast seen = (pair : ℕ) → kept_at seen.moments.items pair ≤ seen.moment
 
 -- a pair is seen, and was not seen at this moment before
 pub record Sees (old new : Seen) (pair : ℕ) (first : Bool) : Type 0 where
-  pub told : first ≡ not (numbered old.moments.items pair == old.moment)
-  pub seen : numbered new.moments.items ≡ with_number (numbered old.moments.items) pair old.moment
+  pub told : first ≡ not (kept_at old.moments.items pair == old.moment)
+  pub seen : kept_at new.moments.items ≡ with_number (kept_at old.moments.items) pair old.moment
   pub same : new.moment ≡ old.moment
 
 -- a pair is noted at the present moment
 pub record IsMarked (old new : Seen) (pair : ℕ) : Type 0 where
-  pub seen : numbered new.moments.items ≡ with_number (numbered old.moments.items) pair old.moment
+  pub seen : kept_at new.moments.items ≡ with_number (kept_at old.moments.items) pair old.moment
   pub same : new.moment ≡ old.moment
 
 -- a bank's count rises where the pair was not seen at this moment
@@ -160,7 +160,7 @@ abbrev pub counted_at : (seen : Bool) → List ℕ → (bank : ℕ) → List ℕ
 counted_at seen counts bank = if seen then counts else slice_set counts bank (slice_index counts bank + 1)
 
 abbrev pub IsCounted : Seen → (old new : Vec ℕ Global) → (bank pair : ℕ) → Type 0
-IsCounted seen old new bank pair = new.items ≡ counted_at (numbered seen.moments.items pair == seen.moment) old.items bank
+IsCounted seen old new bank pair = new.items ≡ counted_at (kept_at seen.moments.items pair == seen.moment) old.items bank
 
 -- Counts.
 

@@ -7,7 +7,7 @@ use Rattle.dh_tree.specs.PlainTrees.{Program}
 use Rattle.dh_tree.specs.Seen.{program_seen}
 use Rattle.dh_events.specs.declared.events.Event.{Event}
 use Rattle.dh_events.specs.declared.events.Event.TheVariants as event
-use Rattle.dh_events.specs.Accesses.{loops_in}
+use Rattle.dh_events.specs.Accesses.{loops_listed}
 use Rattle.dh_events.specs.Noted.{all_seen}
 use Rattle.dh_base.specs.Limits.{most_copies}
 use Rattle.dh_ports.specs.declared.moves.Claimant.{Claimant}
@@ -29,17 +29,17 @@ moves_of p loops place event.Ends = move.End ∷ []
 
 -- what all do, where the layout tells the loops round each
 abbrev pub moves_known : Program → Layout → List Event → List Move
-moves_known p layout events = moves_from p (loops_in layout.rounds.items) 0 (all_seen events)
+moves_known p layout events = moves_from p (loops_listed layout.rounds.items) 0 (all_seen events)
 
 -- Of a program as the code knows it, where the layout tells the loops round each access.
 
 -- the claims of an access
 abbrev pub claims_by : Tree → Layout → Claimant → List Move
-claims_by tree layout c = claims_of (program_seen tree) c.event (source_of (loops_in layout.rounds.items c.round) c.writes c.access.now)
+claims_by tree layout c = claims_of (program_seen tree) c.event (source_of (loops_listed layout.rounds.items c.round) c.writes c.access.now)
 
 -- what an event at a place does, and what all do
 abbrev pub moves_at : Tree → Layout → (place : ℕ) → Event → List Move
-moves_at tree layout place e = moves_of (program_seen tree) (loops_in layout.rounds.items) place e
+moves_at tree layout place e = moves_of (program_seen tree) (loops_listed layout.rounds.items) place e
 
 abbrev pub moves_by : Tree → Layout → List Event → List Move
 moves_by tree layout events = moves_known (program_seen tree) layout events
@@ -48,7 +48,7 @@ moves_by tree layout events = moves_known (program_seen tree) layout events
 
 -- an access does not stand in too many copies
 abbrev pub HasFewCopiesAt : List (Vec Counter Global) → Event → Type 0
-HasFewCopiesAt rounds (event.Touch writes phase round access element newest) = copies_round (loops_in rounds round) ≤ most_copies
+HasFewCopiesAt rounds (event.Touch writes phase round access element newest) = copies_round (loops_listed rounds round) ≤ most_copies
 HasFewCopiesAt rounds (event.Assigned entity) = Unit {0}
 HasFewCopiesAt rounds event.ArmBegins = Unit {0}
 HasFewCopiesAt rounds event.ArmEnds = Unit {0}

@@ -2,7 +2,7 @@
 use Rattle.std.specs.Prelude.{ℕ, suc, ◌+◌, ◌==◌, if◌then◌else◌, List, [], ◌∷◌, ◌++◌, length}
 use Rattle.dh_ports.specs.declared.levels.Step.{Step}
 use Rattle.dh_ports.specs.declared.levels.Step.TheVariants as step
-use Rattle.dh_events.specs.Incidents.{Incident, touches, assigned, arm_begins, arm_ends, begins, next, ends}
+use Rattle.dh_events.specs.Incidents.{PortEvent, touches, assigned, arm_begins, arm_ends, begins, next, ends}
 use Rattle.dh_ports.specs.Levels.{Level, advance}
 
 -- the level of a slot behind steps
@@ -37,7 +37,7 @@ AreTaking [] = Unit {0}
 AreTaking (s ∷ ss) = IsTaking s × AreTaking ss
 
 -- the steps of incidents of which the first access has this number
-abbrev pub expand : (ℕ → List Step) → ℕ → List Incident → List Step
+abbrev pub expand : (ℕ → List Step) → ℕ → List PortEvent → List Step
 expand f n [] = []
 expand f n (touches t writes site ∷ xs) = f n ++ expand f (suc n) xs
 expand f n (assigned entity ∷ xs) = expand f n xs
@@ -48,7 +48,7 @@ expand f n (next ∷ xs) = step.Next ∷ expand f n xs
 expand f n (ends ∷ xs) = step.End ∷ expand f n xs
 
 -- how many steps stand before those of an access
-abbrev pub steps_before : (ℕ → List Step) → ℕ → List Incident → (k : ℕ) → ℕ
+abbrev pub steps_before : (ℕ → List Step) → ℕ → List PortEvent → (k : ℕ) → ℕ
 steps_before f n [] k = 0
 steps_before f n (touches t writes site ∷ xs) k = if n == k then 0 else length (f n) + steps_before f (suc n) xs k
 steps_before f n (assigned entity ∷ xs) k = steps_before f n xs k

@@ -7,7 +7,7 @@ use Rattle.dh_tree.specs.Memories.{memories_of, table_of}
 use Rattle.dh_tree.specs.PlainTrees.{Program}
 use Rattle.dh_meaning.specs.Ways.{all_bindings_of, ways_of}
 use Rattle.dh_ways.specs.declared.ways.Hidden.{Hidden}
-use Rattle.dh_ways.specs.Kept.{Led}
+use Rattle.dh_ways.specs.Kept.{KeptLed}
 use Rattle.dh_ways.specs.Leading.{LeadsTo}
 use Rattle.dh_ways.specs.Seen.{led_seen}
 use Rattle.dh_ways.specs.Stands.{hidden_of_program}
@@ -15,14 +15,14 @@ use Rattle.dh_events.specs.declared.dependence.Scope.{Scope}
 use Rattle.dh_events.specs.declared.events.Event.{Event}
 use Rattle.dh_events.specs.declared.events.Event.TheVariants as event
 use Rattle.dh_ports.specs.declared.moves.Layout.{Layout}
-use Rattle.dh_events.specs.Accesses.{loops_in}
+use Rattle.dh_events.specs.Accesses.{loops_listed}
 use Rattle.dh_ports.specs.Carriers.{AreEach}
 use Rattle.dh_ports.specs.Claims.{AreBases}
 use Rattle.dh_ports.specs.Copies.{copies_round}
 use Rattle.dh_events.specs.Rounds.{rounds_in, rounds_of}
 use Rattle.dh_events.specs.Scopes.{scope_at, scopes_in, AreScopes}
 use Rattle.dh_events.specs.Stages.{stages_in}
-use Rattle.dh_events.specs.Tables.{numbered}
+use Rattle.dh_events.specs.Tables.{kept_at}
 use Rattle.dh_base.specs.Limits.{most_copies}
 
 -- no loop is known
@@ -31,7 +31,7 @@ no_rounds id = []
 
 -- the phases of a program's commands are counted so
 abbrev pub AreStagesOf : Program → (stages : List ℕ) → Type 0
-AreStagesOf p stages = numbered stages ≡ stages_in p.body (numbered [])
+AreStagesOf p stages = kept_at stages ≡ stages_in p.body (kept_at [])
 
 -- the unrolled loops of a program are noted so
 abbrev pub AreRoundsOf : Program → List (Vec Counter Global) → Type 0
@@ -47,7 +47,7 @@ AreScopesWhere p rounds scopes = (id : ℕ) → (rounds_of rounds id ≡ [] → 
 
 -- Where the variables of a body were noted, they and what its views keep are: of each program that has these views, of
 -- which these variables keep the offsets.
-abbrev pub NotesViews : List Led → List Hidden → (rounds : List (Vec Counter Global)) → (old new : List (Option Scope)) → Type 0
+abbrev pub NotesViews : List KeptLed → List Hidden → (rounds : List (Vec Counter Global)) → (old new : List (Option Scope)) → Type 0
 NotesViews ways hidden rounds old new =
     (p : Program) → map led_seen ways ≡ ways_of p → hidden ≡ hidden_of_program p → AreScopesNoted p rounds old → AreScopesWhere p rounds new
 
@@ -65,4 +65,4 @@ pub record IsLayout (p : Program) (layout : Layout) : Type 0 where
 -- no access stands in too many copies
 abbrev pub HaveFewCopies : List (Vec Counter Global) → List Event → Type 0
 HaveFewCopies rounds events =
-    (i : ℕ) (access : _) (writes : Bool) (phase : ℕ) (round : Option ℕ) (element : Option ℕ) (newest : ℕ) → slice_get events i ≡ Some (event.Touch writes phase round access element newest) → copies_round (loops_in rounds round) ≤ most_copies
+    (i : ℕ) (access : _) (writes : Bool) (phase : ℕ) (round : Option ℕ) (element : Option ℕ) (newest : ℕ) → slice_get events i ≡ Some (event.Touch writes phase round access element newest) → copies_round (loops_listed rounds round) ≤ most_copies

@@ -5,7 +5,7 @@ use Rattle.dh_tree.specs.declared.breaches.Breach.{Breach}
 use Rattle.dh_tree.specs.LeastBreach.{least_of}
 use Rattle.dh_events.specs.declared.classes.Key.{Key}
 use Rattle.dh_events.specs.declared.events.Event.{Event}
-use Rattle.dh_events.specs.Incidents.{Incident}
+use Rattle.dh_events.specs.Incidents.{PortEvent}
 use Rattle.dh_events.specs.Noted.{all_seen}
 use Rattle.dh_ports.specs.declared.levels.Levels.{Levels}
 use Rattle.dh_ports.specs.declared.moves.Move.{Move}
@@ -18,16 +18,16 @@ use Rattle.dh_ports.specs.Scanned.{all_late, first_beyond, spending_step}
 -- Ports.
 
 -- the place of the first move that takes more than is left, from these levels on
-abbrev pub beyond_from : List Incident → (shared : List Bool) → Levels → List Move → Option Place
+abbrev pub beyond_from : List PortEvent → (shared : List Bool) → Levels → List Move → Option Place
 beyond_from xs shared levels ms = first_beyond xs ms (map (spending_step shared) ms) (lefts_of (λ s. level_at levels s) (map (spending_step shared) ms))
 
 -- the same from so much of each slot on
-abbrev pub first_from : List Incident → (shared : List Bool) → (starts : List ℕ) → List Move → Option Place
+abbrev pub first_from : List PortEvent → (shared : List Bool) → (starts : List ℕ) → List Move → Option Place
 first_from xs shared starts ms = first_beyond xs ms (map (spending_step shared) ms) (lefts_from starts (map (spending_step shared) ms))
 
 -- Moves take what is left, so that what stands behind them is found from the levels now as it is behind them; or the
 -- first that takes more than is left is one of them, at a place.
-abbrev pub ComesTo : List Incident → (shared : List Bool) → (old : Levels) → List Move → (new : Levels) → Walked → Type 0
+abbrev pub ComesTo : List PortEvent → (shared : List Bool) → (old : Levels) → List Move → (new : Levels) → Walked → Type 0
 ComesTo xs shared old ms new walked.Past = IsKept new × ((rest : List Move) → beyond_from xs shared new rest ≡ beyond_from xs shared old (ms ++ rest))
 ComesTo xs shared old ms new (walked.Beyond place) = (rest : List Move) → place ≡ beyond_from xs shared old (ms ++ rest)
 

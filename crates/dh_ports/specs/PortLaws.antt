@@ -15,7 +15,7 @@ use Rattle.dh_meets.specs.SourceEvents as source
 use Rattle.dh_meets.specs.SourceEvents.{SourceAccess, accesses_in}
 use Rattle.dh_events.specs.declared.events.Event.{Event}
 use Rattle.dh_events.specs.declared.noting.Open.{Open}
-use Rattle.dh_events.specs.Incidents.{Incident, incidents}
+use Rattle.dh_events.specs.Incidents.{PortEvent, incidents}
 use Rattle.dh_events.specs.Noted.{all_seen}
 use Rattle.dh_ports.specs.declared.levels.Step.{Step}
 use Rattle.dh_ports.specs.declared.levels.Step.TheVariants as step
@@ -47,7 +47,7 @@ MeetingsAreCharged = (charge : ℕ → ℕ) (t : Meets) (k : ℕ) → Distinct t
 -- before a step of an access is left of a slot what its course leaves there, where the access took nothing of it before
 abbrev pub StepsFollowCourses : Type 0
 StepsFollowCourses =
-    (f : ℕ → List Step) → ((k : ℕ) → AreTaking (f k)) → (slot n : ℕ) (levels : ℕ → Level) (xs : List Incident) (k j takes : ℕ) → n ≤ k → k < n + count xs → slice_get (f k) j ≡ Some (step.Access slot takes) → all_taken slot (take j (f k)) ≡ 0
+    (f : ℕ → List Step) → ((k : ℕ) → AreTaking (f k)) → (slot n : ℕ) (levels : ℕ → Level) (xs : List PortEvent) (k j takes : ℕ) → n ≤ k → k < n + count xs → slice_get (f k) j ≡ Some (step.Access slot takes) → all_taken slot (take j (f k)) ≡ 0
     → slice_get (lefts_of levels (expand f n xs)) (steps_before f n xs k + j) ≡ Some (before_at (λ k. all_taken slot (f k)) n (levels slot) xs k)
 
 -- the accesses of a command's incidents are those of its events, in order

@@ -13,14 +13,14 @@ use Rattle.dh_events.specs.declared.events.Event.{Event}
 use Rattle.dh_events.specs.declared.events.Event.TheVariants as event
 use Rattle.dh_events.specs.Accesses.{entity_in}
 use Rattle.dh_ports.specs.Claims.{ports_in}
-use Rattle.dh_events.specs.Classes.{AreDistinct}
+use Rattle.dh_events.specs.Classes.{KeysAreDistinct}
 use Rattle.dh_ports.specs.Levels.{lefts_from}
 use Rattle.dh_events.specs.Noted.{all_seen}
 use Rattle.dh_ports.specs.declared.levels.Step.{Step}
 use Rattle.dh_ports.specs.declared.levels.Step.TheVariants as step
 use Rattle.dh_ports.specs.declared.moves.Move.{Move}
 use Rattle.dh_ports.specs.declared.moves.Move.TheVariants as move
-use Rattle.dh_events.specs.Incidents.{Incident, touches, assigned, arm_begins, arm_ends, begins, next, ends}
+use Rattle.dh_events.specs.Incidents.{PortEvent, touches, assigned, arm_begins, arm_ends, begins, next, ends}
 
 -- Sharing.
 
@@ -65,7 +65,7 @@ abbrev pub term_place : Term → Place
 term_place (term place kind form) = place
 
 -- the place of an incident that is an access
-abbrev pub place_of : Incident → Option Place
+abbrev pub place_of : PortEvent → Option Place
 place_of (touches access writes site) = Some (term_place access)
 place_of (assigned entity) = None
 place_of arm_begins = None
@@ -74,19 +74,19 @@ place_of begins = None
 place_of next = None
 place_of ends = None
 
-abbrev pub place_found : Option Incident → Option Place
+abbrev pub place_found : Option PortEvent → Option Place
 place_found None = None
 place_found (Some x) = place_of x
 
 -- the place of the access of a move
-abbrev pub place_in : List Incident → Move → Option Place
+abbrev pub place_in : List PortEvent → Move → Option Place
 place_in xs (move.Claim event slot keys) = place_found (slice_get xs event)
 place_in xs move.Begin = None
 place_in xs move.Next = None
 place_in xs move.End = None
 
 -- the place of the first move whose step takes more than is left
-abbrev pub first_beyond : List Incident → List Move → List Step → List ℕ → Option Place
+abbrev pub first_beyond : List PortEvent → List Move → List Step → List ℕ → Option Place
 first_beyond xs (m ∷ ms) (s ∷ ss) (l ∷ ls) = if is_beyond s l then place_in xs m else first_beyond xs ms ss ls
 first_beyond xs _ _ _ = None
 
@@ -105,7 +105,7 @@ abbrev pub late_at : Option Place → List Breach
 late_at None = []
 late_at (Some place) = breach rule.ReadAfterWrite place ∷ []
 
-abbrev pub all_late : List Incident → List Move → List Step → List ℕ → List Breach
+abbrev pub all_late : List PortEvent → List Move → List Step → List ℕ → List Breach
 all_late xs (m ∷ ms) (s ∷ ss) (l ∷ ls) = if is_late s l then late_at (place_in xs m) ++ all_late xs ms ss ls else all_late xs ms ss ls
 all_late xs _ _ _ = []
 
@@ -150,7 +150,7 @@ AreSharing known _ _ = ⊥
 -- of each event a flag: a read shares where nothing is left of its class
 pub record FindsShared (events : List Event) (flags : List Bool) : Type 0 where
   pub known : List Key
-  pub distinct : AreDistinct known
+  pub distinct : KeysAreDistinct known
   pub steps : List Step
   pub sharing : AreSharing known events steps
   pub told : flags ≡ all_share steps (lefts_from (replicate (length known) 1) steps)
@@ -249,7 +249,7 @@ AreOrdering known events _ _ = ⊥
 -- the reads that come behind a write of a bank in their phase
 pub record FindsLate (events : List Event) (moves : List Move) (late : List Breach) : Type 0 where
   pub known : List Key
-  pub distinct : AreDistinct known
+  pub distinct : KeysAreDistinct known
   pub written : AllByRecursion (IsNotedFor known events) moves
   pub steps : List Step
   pub ordering : AreOrdering known events moves steps

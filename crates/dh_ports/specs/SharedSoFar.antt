@@ -2,7 +2,7 @@
 use Rattle.std.specs.Prelude.{◌≡◌, ℕ, ◌+◌, ◌≤◌, Bool, List, [], ◌∷◌, ◌++◌, length, replicate, take}
 use Rattle.dh_events.specs.declared.classes.Key.{Key}
 use Rattle.dh_events.specs.declared.events.Event.{Event}
-use Rattle.dh_events.specs.Classes.{AreDistinct, Extends}
+use Rattle.dh_events.specs.Classes.{KeysAreDistinct, ExtendsKeys}
 use Rattle.dh_ports.specs.declared.levels.Levels.{Levels}
 use Rattle.dh_ports.specs.declared.levels.Step.{Step}
 use Rattle.dh_ports.specs.declared.sharing.Sharing.{Sharing}
@@ -13,7 +13,7 @@ use Rattle.dh_ports.specs.Scanned.{all_share, shares, AreSharing, FindsShared, I
 pub record SharesNext (old_known known : List Key) (old new : Levels) (e : Event) (flag : Bool) : Type 0 where
   pub step : Step
   pub sharing : IsSharing known e step
-  pub extends : Extends old_known known
+  pub extends : ExtendsKeys old_known known
   pub few : length known ≤ length old_known + 1
   pub told : flag ≡ shares step (left_before step (λ s. level_at old s))
   pub kept : IsKept new
@@ -44,5 +44,5 @@ BeginsShared count s = (events : List Event) → length events ≡ count → IsS
 
 -- all is noted of these events
 pub record AreShared (events : List Event) (s : Sharing) : Type 0 where
-  pub found : AreDistinct s.classes → FindsShared events s.flags.items
+  pub found : KeysAreDistinct s.classes → FindsShared events s.flags.items
   pub long : length s.flags.items ≡ length events

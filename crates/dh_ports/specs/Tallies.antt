@@ -2,7 +2,7 @@
 use Rattle.std.specs.Prelude.{◌≡◌, ℕ, length}
 use Rattle.dh_tree.specs.PlainTrees.{Program}
 use Rattle.dh_meets.specs.Charges.{charge_through}
-use Rattle.dh_ways.specs.Kept.{Way}
+use Rattle.dh_ways.specs.Kept.{KeptWay}
 use Rattle.dh_ways.specs.Seen.{way_seen}
 use Rattle.dh_ports.specs.declared.carrying.Carrier.{Carrier}
 use Rattle.dh_ports.specs.declared.copies.Copied.{Copied}
@@ -58,5 +58,5 @@ abbrev pub KeepsKeys : Program → Copied → Tally → Type 0
 KeepsKeys p c tally = tally.direct.counts.items ≡ each_below (keys_on p c.dims.now (source_copied c)) c.banks
 
 -- how much they charge each bank of the memory, through the views on a way
-abbrev pub KeepsCharges : Program → Way → Copied → Carrier → Tally → Type 0
+abbrev pub KeepsCharges : Program → KeptWay → Copied → Carrier → Tally → Type 0
 KeepsCharges p w c carrier tally = tally.last.sums.items ≡ each_below (charge_through p (way_seen w) (source_copied c)) (length carrier.sources.items)

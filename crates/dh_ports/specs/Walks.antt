@@ -5,8 +5,8 @@ use Rattle.dh_base.specs.declared.places.Place.{Place}
 use Rattle.dh_tree.specs.Memories.{table_of}
 use Rattle.dh_tree.specs.PlainTrees.{Program}
 use Rattle.dh_events.specs.declared.events.Event.{Event}
-use Rattle.dh_events.specs.Classes.{AreDistinct}
-use Rattle.dh_events.specs.Incidents.{Incident}
+use Rattle.dh_events.specs.Classes.{KeysAreDistinct}
+use Rattle.dh_events.specs.Incidents.{PortEvent}
 use Rattle.dh_events.specs.Noted.{all_seen}
 use Rattle.dh_ports.specs.declared.lasts.LastWrites.{LastWrites}
 use Rattle.dh_ports.specs.declared.levels.Levels.{Levels}
@@ -33,7 +33,7 @@ KeptWhile walked.Past levels = IsKept levels
 KeptWhile (walked.Beyond place) levels = Unit {0}
 
 -- moves come to this behind those that came to that
-abbrev pub SpendsTo : List Incident → (shared : List Bool) → (before : Walked) → (old : Levels) → List Move → (after : Walked) → (new : Levels) → Type 0
+abbrev pub SpendsTo : List PortEvent → (shared : List Bool) → (before : Walked) → (old : Levels) → List Move → (after : Walked) → (new : Levels) → Type 0
 SpendsTo xs shared walked.Past old ms after new = ComesTo xs shared old ms new after
 SpendsTo xs shared (walked.Beyond place) old ms after new = after ≡ walked.Beyond place
 
@@ -43,7 +43,7 @@ SpendsToSoFar events shared before old ms after new = (more : List Bool) → Spe
 
 -- all is found of these events
 pub record IsWalked (p : Program) (layout : Layout) (events : List Event) (sharing : Sharing) (lasts : LastWrites) (walked : Walked) : Type 0 where
-  pub distinct : AreDistinct sharing.classes
+  pub distinct : KeysAreDistinct sharing.classes
   pub shared : AreShared events sharing
   pub within : AllByRecursion (IsMoveOf (length events)) (moves_known p layout events)
   pub ahead : IsAhead events (moves_known p layout events) lasts

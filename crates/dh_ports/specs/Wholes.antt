@@ -22,24 +22,24 @@ use Rattle.dh_events.specs.Accesses.{entity_in, element_in}
 use Rattle.dh_ports.specs.Claims.{base_of, claims_of}
 use Rattle.dh_events.specs.Elements.{AreReads, no_clocks}
 use Rattle.dh_ports.specs.Expanded.{all_taken}
-use Rattle.dh_events.specs.Incidents.{Incident, touches, assigned, arm_begins, arm_ends, begins, next, ends, closed, incidents}
+use Rattle.dh_events.specs.Incidents.{PortEvent, touches, assigned, arm_begins, arm_ends, begins, next, ends, closed, incidents}
 use Rattle.dh_ports.specs.Layouts.{no_rounds}
 use Rattle.dh_events.specs.Noted.{all_seen}
 use Rattle.dh_events.specs.Rounds.{rounds_in}
 use Rattle.dh_ports.specs.Scanned.{spending_step}
 use Rattle.dh_events.specs.Stages.{stages_in}
-use Rattle.dh_events.specs.Structures.{AreDistinct}
+use Rattle.dh_events.specs.Structures.{StructuresAreDistinct}
 
 -- no command is counted
 abbrev pub no_stages : ℕ → ℕ
 no_stages n = 0
 
 -- what happens in a program's body
-abbrev pub happenings_of : Program → List Incident
+abbrev pub happenings_of : Program → List PortEvent
 happenings_of p = incidents (stages_in p.body no_stages) None closed p.body
 
 -- of each incident, those that are accesses alone
-abbrev pub at_touch : {A : Type 0} → Incident → A → List A → List A
+abbrev pub at_touch : {A : Type 0} → PortEvent → A → List A → List A
 at_touch (touches access writes site) a rest = a ∷ rest
 at_touch (assigned entity) a rest = rest
 at_touch arm_begins a rest = rest
@@ -48,7 +48,7 @@ at_touch begins a rest = rest
 at_touch next a rest = rest
 at_touch ends a rest = rest
 
-abbrev pub at_touches : {A : Type 0} → List Incident → List A → List A
+abbrev pub at_touches : {A : Type 0} → List PortEvent → List A → List A
 at_touches (x ∷ xs) (a ∷ rest) = at_touch x a (at_touches xs rest)
 at_touches _ _ = []
 
@@ -62,7 +62,7 @@ pub record Touched : Type 0 where
 abbrev pub touched_by : Term → Bool → Touched
 touched_by (term place kind form) writes = record { place = place; entity = entity_in form; element = element_in form; writes = writes }
 
-abbrev pub touched : List Incident → List Touched
+abbrev pub touched : List PortEvent → List Touched
 touched [] = []
 touched (touches access writes site ∷ xs) = touched_by access writes ∷ touched xs
 touched (assigned entity ∷ xs) = touched xs
@@ -76,7 +76,7 @@ abbrev pub of_access : SourceAccess → Touched
 of_access a = record { place = a.place; entity = a.entity; element = a.element; writes = a.writes }
 
 -- where the accesses of incidents stand
-abbrev pub sites_in : List Incident → List Site
+abbrev pub sites_in : List PortEvent → List Site
 sites_in [] = []
 sites_in (touches access writes site ∷ xs) = site ∷ sites_in xs
 sites_in (assigned entity ∷ xs) = sites_in xs
@@ -103,7 +103,7 @@ TellsLoops p = (k : ℕ) (s : Site) (a : SourceAccess) → slice_get (sites_in (
 pub record AreEventsOf (p : Program) (events : List Event) : Type 0 where
   pub seen : all_seen events ≡ happenings_of p
   pub known : List Structure
-  pub distinct : AreDistinct known
+  pub distinct : StructuresAreDistinct known
   pub reads : AreReads known no_clocks 0 events
 
 -- flags that tell of each access whether it shares an earlier one

@@ -2,7 +2,7 @@
 
 ghost use Rattle.std.specs.Prelude.{◌≡◌, ◌<◌, ◌≤◌, Some, length, slice_get, IfOk};
 ghost use Rattle.std.specs.List.{AllByRecursion};
-ghost use Rattle.dh_ways.specs.Kept.{Led};
+ghost use Rattle.dh_ways.specs.Kept.{KeptLed};
 ghost use Rattle.dh_ports.specs.Carriers.{AreEach, Follow};
 ghost use Rattle.dh_ports.specs.CarriersMade.{AreMade, IsMadeOf};
 
@@ -22,7 +22,7 @@ fn carrier_at(
     requires follow { AllByRecursion (λ l. Follow l.way) ways.now }
     requires many { place ≤ length each.now }
     requires made { AreMade ways.now each.now }
-    ensures { IfOk result (λ carrier. (l : Led) → slice_get ways.now place ≡ Some l
+    ensures { IfOk result (λ carrier. (l : KeptLed) → slice_get ways.now place ≡ Some l
         → IsMadeOf l.way carrier) }
 {
     let way = ways.at(place);

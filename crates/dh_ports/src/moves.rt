@@ -7,7 +7,7 @@ ghost use Rattle.dh_tree.specs.Shapes.{IsProgramTable};
 ghost use Rattle.dh_ways.specs.CutStands.{HasFewWays};
 ghost use Rattle.dh_ways.specs.Leading.{LeadsTo};
 ghost use Rattle.dh_ways.specs.Seen.{way_seen};
-ghost use Rattle.dh_events.specs.Accesses.{entity_in, loops_in};
+ghost use Rattle.dh_events.specs.Accesses.{entity_in, loops_listed};
 ghost use Rattle.dh_ports.specs.Carriers.{claims_carried, IsCarrier};
 ghost use Rattle.dh_ports.specs.Claims.{claim_in, claims_from, NamesMemory, NamesView};
 ghost use Rattle.dh_ports.specs.Copies.{copies_round};
@@ -392,7 +392,7 @@ fn claim_memory(
 ) -> Result<(), NoMemory>
     requires table { IsProgramTable (table_of (program_seen typed.now)) }
     requires layout { IsLayout (program_seen typed.now) layout.now }
-    requires copies { copies_round (loops_in layout.now.rounds.items claimant.round) ≤ most_copies }
+    requires copies { copies_round (loops_listed layout.now.rounds.items claimant.round) ≤ most_copies }
     requires named { NamesMemory (program_seen typed.now) claimant.access.now memory }
     requires past { IsReady tally.old }
     ensures claims { OnOk result (AddsMoves moves.old moves.new
@@ -436,7 +436,7 @@ fn claim_view(
 ) -> Result<(), NoMemory>
     requires table { IsProgramTable (table_of (program_seen typed.now)) }
     requires layout { IsLayout (program_seen typed.now) layout.now }
-    requires copies { copies_round (loops_in layout.now.rounds.items claimant.round) ≤ most_copies }
+    requires copies { copies_round (loops_listed layout.now.rounds.items claimant.round) ≤ most_copies }
     requires leads { LeadsTo (memories_of (program_seen typed.now)) (way_seen way.now) }
     requires named { NamesView (program_seen typed.now) claimant.access.now (way_seen way.now) }
     requires carrier { IsCarrier (way_seen way.now) carrier.now }
@@ -482,7 +482,7 @@ fn claim_led(
     requires table { IsProgramTable (table_of (program_seen typed.now)) }
     requires layout { IsLayout (program_seen typed.now) layout.now }
     requires leads { AllWaysLead (program_seen typed.now) }
-    requires copies { copies_round (loops_in layout.now.rounds.items claimant.round) ≤ most_copies }
+    requires copies { copies_round (loops_listed layout.now.rounds.items claimant.round) ≤ most_copies }
     requires entity { entity ≡ entity_in (form_seen claimant.access.now.form) }
     requires other { number_in (memories_of (program_seen typed.now)) entity ≡ None }
     requires past { IsReady tally.old }
@@ -519,7 +519,7 @@ fn claim(
     requires table { IsProgramTable (table_of (program_seen typed.now)) }
     requires layout { IsLayout (program_seen typed.now) layout.now }
     requires leads { AllWaysLead (program_seen typed.now) }
-    requires copies { copies_round (loops_in layout.now.rounds.items claimant.round) ≤ most_copies }
+    requires copies { copies_round (loops_listed layout.now.rounds.items claimant.round) ≤ most_copies }
     requires past { IsReady tally.old }
     ensures claims { OnOk result (AddsMoves moves.old moves.new
         (claims_by typed.now layout.now claimant.entry)) }

@@ -3,7 +3,7 @@
 ghost use Rattle.std.specs.Prelude.{◌≡◌, Some, IfOk, OnOk, length, slice_get};
 ghost use Rattle.std.specs.List.{AllByRecursion};
 ghost use Rattle.dh_tree.specs.LeastBreach.{least_of};
-ghost use Rattle.dh_events.specs.Classes.{AreDistinct, Extends};
+ghost use Rattle.dh_events.specs.Classes.{KeysAreDistinct, ExtendsKeys};
 ghost use Rattle.dh_ports.specs.Levels.{IsKept};
 ghost use Rattle.dh_ports.specs.Orders as orders;
 ghost use Rattle.dh_ports.specs.Orders.{AreMarked, AreRead, MarksRead};
@@ -42,7 +42,7 @@ fn note_key(
 ) -> Result<usize, NoMemory>
     ensures stands { IfOk result (λ slot. slice_get classes.new slot
         ≡ Some (scanned.bank_key phase bank)) }
-    ensures extends { IfOk result (λ _. Extends classes.old classes.new) }
+    ensures extends { IfOk result (λ _. ExtendsKeys classes.old classes.new) }
     ensures marked { IfOk result (λ _. AreMarked classes.old marked.old.items
         → AreMarked classes.new marked.new.items) }
 {
@@ -59,7 +59,7 @@ fn note_write(
 ) -> Result<(), NoMemory>
     requires within { IsMoveOf (length events.now) next }
     ensures written { OnOk result (scanned.IsNoted classes.new events.now next) }
-    ensures extends { OnOk result (Extends classes.old classes.new) }
+    ensures extends { OnOk result (ExtendsKeys classes.old classes.new) }
     ensures marked { OnOk result (AreMarked classes.old marked.old.items
         → AreMarked classes.new marked.new.items) }
 {
@@ -119,7 +119,7 @@ fn note_run(
     requires within { AllByRecursion (IsMoveOf (length events.now)) (moves_of_run run) }
     ensures written { OnOk result (AllByRecursion (scanned.IsNotedFor classes.new events.now)
         (moves_of_run run)) }
-    ensures extends { OnOk result (Extends classes.old classes.new) }
+    ensures extends { OnOk result (ExtendsKeys classes.old classes.new) }
     ensures marked { OnOk result (AreMarked classes.old marked.old.items
         → AreMarked classes.new marked.new.items) }
 {
@@ -268,7 +268,7 @@ fn keep_run(
     levels: &mut Levels,
     run: Run,
 ) -> Result<(), NoMemory>
-    requires distinct { AreDistinct classes.now }
+    requires distinct { KeysAreDistinct classes.now }
     requires marked { AreMarked classes.now marked.now }
     requires within { AllByRecursion (IsMoveOf (length events.now)) (moves_of_run run) }
     requires kept { IsKept levels.old }
@@ -301,7 +301,7 @@ fn keep_all(
     starts: Vec<usize>,
     moves: &[Run],
 ) -> Result<(), NoMemory>
-    requires distinct { AreDistinct classes.now }
+    requires distinct { KeysAreDistinct classes.now }
     requires marked { AreMarked classes.now marked.now }
     requires within { AllByRecursion (IsMoveOf (length events.now)) (moves_in moves.now) }
     ensures { OnOk result (KeepsFrom classes.now events.now starts.items (moves_in moves.now)

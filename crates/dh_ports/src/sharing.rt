@@ -1,7 +1,7 @@
 //! Which reads share an earlier one.
 
 ghost use Rattle.std.specs.Prelude.{◌≡◌, ◌≤◌, ◌+◌, IfOk, length, replicate};
-ghost use Rattle.dh_events.specs.Classes.{Extends};
+ghost use Rattle.dh_events.specs.Classes.{ExtendsKeys};
 ghost use Rattle.dh_ports.specs.Levels.{IsKept};
 ghost use Rattle.dh_ports.specs.SharedSoFar.{BeginsShared, NotesShare, SharesNext};
 ghost use Rattle.dh_ports.specs.Scanned as scanned;
@@ -55,7 +55,7 @@ fn read_key(event: Event<'_>) -> Option<Key>
 /// The step that an access is for the sharing of reads.
 fn read_step(classes: &mut Classes, key: Option<Key>) -> Result<Step, NoMemory>
     ensures steps { IfOk result (λ s. scanned.TakesOf classes.new 1 key s) }
-    ensures extends { IfOk result (λ s. Extends classes.old classes.new) }
+    ensures extends { IfOk result (λ s. ExtendsKeys classes.old classes.new) }
     ensures few { IfOk result (λ s. length classes.new ≤ length classes.old + 1) }
 {
     match key {
@@ -72,7 +72,7 @@ fn read_step(classes: &mut Classes, key: Option<Key>) -> Result<Step, NoMemory>
 /// The step that an event is for the sharing of reads.
 fn share_step(classes: &mut Classes, event: Event<'_>) -> Result<Step, NoMemory>
     ensures steps { IfOk result (λ s. IsSharing classes.new event.entry s) }
-    ensures extends { IfOk result (λ s. Extends classes.old classes.new) }
+    ensures extends { IfOk result (λ s. ExtendsKeys classes.old classes.new) }
     ensures few { IfOk result (λ s. length classes.new ≤ length classes.old + 1) }
 {
     match event {

@@ -17,15 +17,15 @@ use Rattle.dh_expressions.specs.declared.accesses.Touched.{Touched}
 use Rattle.dh_expressions.specs.declared.drafts.Draft.{Draft}
 use Rattle.dh_expressions.specs.declared.scenes.Around.{Around}
 use Rattle.dh_expressions.specs.declared.scenes.Scene.{Scene}
-use Rattle.dh_expressions.specs.Drafted.{Begun, Fits, Step}
+use Rattle.dh_expressions.specs.Drafted.{BlockBegun, FitsStep, BlockStep}
 use Rattle.dh_expressions.specs.Noted.{touched_in}
 use Rattle.dh_expressions.proofs.ListPlaces.{place_within}
 use Rattle.dh_expressions.proofs.Pushing.{begun_later, fits_before}
 use Rattle.dh_formed.specs.Counted.{given_at_paths, length_given}
-use Rattle.dh_formed.specs.Formed.{Site}
+use Rattle.dh_formed.specs.Formed.{BlockSite}
 use Rattle.dh_commands.specs.declared.buildings.Building.{Building}
 use Rattle.dh_commands.specs.LanesRun.{paths_counted}
-use Rattle.dh_blocks.specs.BlockMade.{AreRising, IsBare, step_of}
+use Rattle.dh_blocks.specs.BlockMade.{AreRising, IsBare, step_of_block}
 use Rattle.dh_blocks.proofs.BlockBegins.{begun_here, fits_here}
 use Rattle.dh_laid.specs.BlockSites.{MadeEach, block_sites, command_sites, one_site, places_from, site_or, term_sites, test_sites}
 use Rattle.dh_laid.specs.LaidNumbers.{StoresReach}
@@ -60,15 +60,15 @@ unused_each : (P : Put → Reach → Type 0) (os : List Operation) → AreUnused
 unused_each P [] h = tt
 unused_each P (o ∷ os) h = (λ r e. absurd (no_reach (use_in o.form) r h.0 e), unused_each P os h.1)
 
-unused_behind : (x : Step) (sites : ℕ → Option Site) (u : Put) (os : List Operation) → AreUnused os → AllByRecursion (Goes x sites u) (unused_puts os)
+unused_behind : (x : BlockStep) (sites : ℕ → Option BlockSite) (u : Put) (os : List Operation) → AreUnused os → AllByRecursion (Goes x sites u) (unused_puts os)
 unused_behind x sites u [] h = tt
 unused_behind x sites u (o ∷ os) h = (λ r t e f. absurd (no_reach (use_in o.form) t h.0 f), unused_behind x sites u os h.1)
 
-unused_order : (x : Step) (sites : ℕ → Option Site) (os : List Operation) → AreUnused os → AreInOrder x sites (unused_puts os)
+unused_order : (x : BlockStep) (sites : ℕ → Option BlockSite) (os : List Operation) → AreUnused os → AreInOrder x sites (unused_puts os)
 unused_order x sites [] h = tt
 unused_order x sites (o ∷ os) h = (unused_behind x sites (record { operation = o; path = 0 }) os h.1, unused_order x sites os h.1)
 
-unused_go : (x : Step) (sites : ℕ → Option Site) (us : List Put) (os : List Operation) → AreUnused os → GoAll x sites us (unused_puts os)
+unused_go : (x : BlockStep) (sites : ℕ → Option BlockSite) (us : List Put) (os : List Operation) → AreUnused os → GoAll x sites us (unused_puts os)
 unused_go x sites [] os h = tt
 unused_go x sites (u ∷ us) os h = (unused_behind x sites u os h, unused_go x sites us os h)
 
@@ -77,7 +77,7 @@ drop_front [] ys = refl
 drop_front (x ∷ xs) ys = drop_front xs ys
 
 -- what is put down, with what is behind it, is the block
-block_uses : (plan : PlainPlan) (block : ℕ) (x : Step) (sites : ℕ → Option Site) (first count : ℕ) (old new : Draft) (more : List Operation) → operations_in plan block ≡ drop (length old.operations.items) new.operations.items ++ more → AreUnused more
+block_uses : (plan : PlainPlan) (block : ℕ) (x : BlockStep) (sites : ℕ → Option BlockSite) (first count : ℕ) (old new : Draft) (more : List Operation) → operations_in plan block ≡ drop (length old.operations.items) new.operations.items ++ more → AreUnused more
     → PutsDown x sites first count old new → BlockUses plan block x sites
 block_uses plan block x sites first count old new more is unused h = record {
   puts = h.puts ++ unused_puts more;
@@ -97,13 +97,13 @@ not_bare : (a : Accesses) (m : ℕ) (t : Touched) → touched_in a m ≡ None �
 not_bare a m t e f = let g : None ≡ Some t = sym e ∙ f in cc
 
 -- a site has the number of one of the accesses
-pub place_told : (first number : ℕ) (ss : List (Option Site)) (s : Site) → places_from first ss number ≡ Some s → (first ≤ number) × (number < first + length ss)
+pub place_told : (first number : ℕ) (ss : List (Option BlockSite)) (s : BlockSite) → places_from first ss number ≡ Some s → (first ≤ number) × (number < first + length ss)
 place_told first number ss s e = by (nat_lt number first) refl e
   where
     above : (n k : ℕ) → nat_lt n k ≡ false → k ≤ n
     above n k f = grind (arith, nat_tests)
 
-    there_is : (o : Option (Option Site)) → slice_get ss (number - first) ≡ o → one_site o ≡ Some s → number - first < length ss
+    there_is : (o : Option (Option BlockSite)) → slice_get ss (number - first) ≡ o → one_site o ≡ Some s → number - first < length ss
     there_is None g f = absurd (cc)
     there_is (Some q) g f = place_within ss (number - first) q g
 
@@ -115,12 +115,12 @@ place_told first number ss s e = by (nat_lt number first) refl e
         (low, omega (arith, low, less))
 
 module _ (scene : Scene) (around : Around) where
-  pub site_cases : (a b : Option Site) (s : Site) → site_or a b ≡ Some s → (a ≡ Some s) ⊎ (b ≡ Some s)
+  pub site_cases : (a b : Option BlockSite) (s : BlockSite) → site_or a b ≡ Some s → (a ≡ Some s) ⊎ (b ≡ Some s)
   site_cases None b s e = inr e
   site_cases (Some r) b s e = inl e
 
   -- the accesses of a block have no operations as it begins
-  all_bare : (a : Accesses) (cs : List Located) (old new : Building) (m : MadeEach scene around cs old new) → AllByRecursion (IsBare a) cs → AllByRecursion (λ (c : Located). StoresReach c.command) cs → (number : ℕ) (s : Site)
+  all_bare : (a : Accesses) (cs : List Located) (old new : Building) (m : MadeEach scene around cs old new) → AllByRecursion (IsBare a) cs → AllByRecursion (λ (c : Located). StoresReach c.command) cs → (number : ℕ) (s : BlockSite)
       → block_sites scene around cs old new m number ≡ Some s → (number < length a.touched.items) × (touched_in a number ≡ None)
   all_bare a [] old new m h is number s e = absurd (cc)
   all_bare a (c ∷ cs) old new (mid, (next, (one, rest))) h is number s e =
@@ -141,7 +141,7 @@ module _ (scene : Scene) (around : Around) where
 
 -- Commands one behind the other.
 
-module _ (x : Step) (sites : ℕ → Option Site) (scene : Scene) (table : x.start.table ≡ table_of (program_seen scene.program.now)) (IsRead : ℕ → Type 0) (around : Around) (stands : StandsSpread scene around)
+module _ (x : BlockStep) (sites : ℕ → Option BlockSite) (scene : Scene) (table : x.start.table ≡ table_of (program_seen scene.program.now)) (IsRead : ℕ → Type 0) (around : Around) (stands : StandsSpread scene around)
     (shares : BlockShares IsRead scene sites) where
   abbrev Stood : Accesses → (upto : ℕ) → Type 0
   Stood a upto = Behind x sites scene table IsRead (paths_counted around) a upto
@@ -159,7 +159,7 @@ module _ (x : Step) (sites : ℕ → Option Site) (scene : Scene) (table : x.sta
       by e is below (inr more) = absurd (none e more below is)
 
   each_put : (cs : List Located) (from : ℕ) (old new : Building) (m : MadeEach scene around cs old new) → AreRising from cs → AllByRecursion (λ (c : Located). StoresReach c.command) cs → BlockReads IsRead from cs
-      → AllByRecursion (λ (c : Located). CommandKeeps x scene around.levels.now c.command) cs → ((number : ℕ) → from ≤ number → sites number ≡ block_sites scene around cs old new m number) → Fits x new.draft → Begun x old.draft → Stood old.accesses from
+      → AllByRecursion (λ (c : Located). CommandKeeps x scene around.levels.now c.command) cs → ((number : ℕ) → from ≤ number → sites number ≡ block_sites scene around cs old new m number) → FitsStep x new.draft → BlockBegun x old.draft → Stood old.accesses from
       → (count : ℕ) × PutsDown x sites from count old.draft new.draft
   each_put [] from old new m rising is reads keeps at f b h =
       (0, (puts_added x sites from 0 (λ u r. Unit {0}) (λ n. Unit {0}) old.draft new.draft (none_still old.draft new.draft (ap (λ (c : Building). c.draft) m))).down)
@@ -195,12 +195,12 @@ module _ (x : Step) (sites : ℕ → Option Site) (scene : Scene) (table : x.sta
 
 pub straight_reaches : StraightReaches
 straight_reaches scene around plan count block cs old new made more reads h registers memories keeps =
-    block_uses plan block (step_of plan block registers memories) (block_sites scene around cs old new made) 0 all.0 old.draft new.draft more h.put.operations h.unused all.1
+    block_uses plan block (step_of_block plan block registers memories) (block_sites scene around cs old new made) 0 all.0 old.draft new.draft more h.put.operations h.unused all.1
   where
-    bare : (number : ℕ) (s : Site) → block_sites scene around cs old new made number ≡ Some s → (number < length old.accesses.touched.items) × (touched_in old.accesses number ≡ None)
+    bare : (number : ℕ) (s : BlockSite) → block_sites scene around cs old new made number ≡ Some s → (number < length old.accesses.touched.items) × (touched_in old.accesses number ≡ None)
     bare number s at = all_bare scene around old.accesses cs old new made h.bare h.stores number s at
 
-    begun : Behind (step_of plan block registers memories) (block_sites scene around cs old new made) scene keeps.table (ReadBy reads) (paths_counted around) old.accesses 0
+    begun : Behind (step_of_block plan block registers memories) (block_sites scene around cs old new made) scene keeps.table (ReadBy reads) (paths_counted around) old.accesses 0
     begun = record {
       sited = record { touched = λ number t s is at. absurd (not_bare old.accesses number t (bare number s at).1 is); there = λ number s at. (bare number s at).0; none = h.put.counts };
       given = λ e is below. absurd (never e below);
@@ -210,15 +210,15 @@ straight_reaches scene around plan count block cs old new made more reads h regi
         never : (e : ℕ) → e < 0 → ⊥
         never e l = omega (arith, l)
 
-    all : (count : ℕ) × PutsDown (step_of plan block registers memories) (block_sites scene around cs old new made) 0 count old.draft new.draft
-    all = each_put (step_of plan block registers memories) (block_sites scene around cs old new made) scene keeps.table (ReadBy reads) around h.stands h.shares cs 0 old new made h.rising h.stores h.reads_told keeps.each (λ number low. refl)
+    all : (count : ℕ) × PutsDown (step_of_block plan block registers memories) (block_sites scene around cs old new made) 0 count old.draft new.draft
+    all = each_put (step_of_block plan block registers memories) (block_sites scene around cs old new made) scene keeps.table (ReadBy reads) around h.stands h.shares cs 0 old new made h.rising h.stores h.reads_told keeps.each (λ number low. refl)
         (fits_here plan count block old new more h.put registers memories) (begun_here plan count block old new more h.put registers memories) begun
 
 pub test_reaches : TestReaches
 test_reaches scene around plan count block first t old new next tests more reads h registers memories table keeps =
-    block_uses plan block (step_of plan block registers memories) (test_sites scene around first t) first (term_accesses t) old.draft new.draft more h.put.operations h.unused all.down
+    block_uses plan block (step_of_block plan block registers memories) (test_sites scene around first t) first (term_accesses t) old.draft new.draft more h.put.operations h.unused all.down
   where
-    bare : (number : ℕ) (s : Site) → test_sites scene around first t number ≡ Some s → (number < length old.accesses.touched.items) × (touched_in old.accesses number ≡ None)
+    bare : (number : ℕ) (s : BlockSite) → test_sites scene around first t number ≡ Some s → (number < length old.accesses.touched.items) × (touched_in old.accesses number ≡ None)
     bare number s at =
         let told = site_told first number (term_sites scene around t) s at in
         let long = sites_long scene around t in
@@ -228,13 +228,13 @@ test_reaches scene around plan count block first t old new next tests more reads
         whole : first ≤ number → first + (number - first) ≡ number
         whole l = omega (arith, l)
 
-    begun : Behind (step_of plan block registers memories) (test_sites scene around first t) scene table (ReadBy reads) (paths_counted around) old.accesses first
+    begun : Behind (step_of_block plan block registers memories) (test_sites scene around first t) scene table (ReadBy reads) (paths_counted around) old.accesses first
     begun = record {
       sited = record { touched = λ number t s is at. absurd (not_bare old.accesses number t (bare number s at).1 is); there = λ number s at. (bare number s at).0; none = h.put.counts };
       given = λ e is below. absurd (h.none_before e below is);
       fresh = λ m s at low. bare_given old.accesses m (bare m s at).1;
     }
 
-    all : CommandPut (step_of plan block registers memories) (test_sites scene around first t) scene table (ReadBy reads) (paths_counted around) h.stands.some h.shares first (term_accesses t) old new
-    all = tests_put (step_of plan block registers memories) (test_sites scene around first t) scene table (ReadBy reads) (paths_counted around) h.stands.some h.shares around h.stands refl first old new
+    all : CommandPut (step_of_block plan block registers memories) (test_sites scene around first t) scene table (ReadBy reads) (paths_counted around) h.stands.some h.shares first (term_accesses t) old new
+    all = tests_put (step_of_block plan block registers memories) (test_sites scene around first t) scene table (ReadBy reads) (paths_counted around) h.stands.some h.shares around h.stands refl first old new
         (fits_here plan count block old new more h.put registers memories) (begun_here plan count block old new more h.put registers memories) begun t next tests h.made h.few (λ i s at. site_by first (term_sites scene around t) i s at) keeps

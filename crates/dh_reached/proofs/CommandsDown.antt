@@ -16,10 +16,10 @@ use Rattle.dh_expressions.specs.declared.drafts.Draft.{Draft}
 use Rattle.dh_expressions.specs.declared.paths.Level.{Level}
 use Rattle.dh_expressions.specs.declared.scenes.Around.{Around}
 use Rattle.dh_expressions.specs.declared.scenes.Scene.{Scene}
-use Rattle.dh_expressions.specs.Drafted.{Begun, Fits, Step}
+use Rattle.dh_expressions.specs.Drafted.{BlockBegun, FitsStep, BlockStep}
 use Rattle.dh_expressions.specs.Evaluated.{known_in}
 use Rattle.dh_expressions.proofs.Pushing.{begun_later, fits_before}
-use Rattle.dh_formed.specs.Formed.{Site}
+use Rattle.dh_formed.specs.Formed.{BlockSite}
 use Rattle.dh_commands.specs.declared.buildings.Building.{Building}
 use Rattle.dh_commands.specs.declared.choices.Left.{Left}
 use Rattle.dh_commands.specs.LanesRun.{paths_counted}
@@ -51,7 +51,7 @@ store_long : (scene : Scene) (around : Around) (t : Term) (place : Place) (j : O
     → length (term_sites scene around t ++ target_sites scene around (plain.term place j form)) ≡ term_accesses t + form_accesses form
 store_long scene around t place j form is = stored_long scene around t (plain.term place j form) is
 
-module _ (x : Step) (sites : ℕ → Option Site) (scene : Scene) (table : x.start.table ≡ table_of (program_seen scene.program.now)) (IsRead : ℕ → Type 0) (paths : ℕ) (some : 0 < paths) (shares : BlockShares IsRead scene sites) where
+module _ (x : BlockStep) (sites : ℕ → Option BlockSite) (scene : Scene) (table : x.start.table ≡ table_of (program_seen scene.program.now)) (IsRead : ℕ → Type 0) (paths : ℕ) (some : 0 < paths) (shares : BlockShares IsRead scene sites) where
   abbrev Stood : Accesses → (upto : ℕ) → Type 0
   Stood a upto = Behind x sites scene table IsRead paths a upto
 
@@ -69,9 +69,9 @@ module _ (x : Step) (sites : ℕ → Option Site) (scene : Scene) (table : x.sta
   }
 
   -- what stands where an arm begins
-  arm_begun : (Inner : Commanding) (around : Around) (holds : Truth) (tests : List ℕ) (old new : Building) (first next : ℕ) (lefts : List Left) (m : MadeArm Inner around holds tests old new first next lefts) → Begun x old.draft → Begun x m.begin.draft
+  arm_begun : (Inner : Commanding) (around : Around) (holds : Truth) (tests : List ℕ) (old new : Building) (first next : ℕ) (lefts : List Left) (m : MadeArm Inner around holds tests old new first next lefts) → BlockBegun x old.draft → BlockBegun x m.begin.draft
   arm_begun Inner around holds tests old new first next lefts m b =
-      subst (λ (d : Draft). Begun x d) (sym m.begin_draft)
+      subst (λ (d : Draft). BlockBegun x d) (sym m.begin_draft)
       (begun_later old.draft m.guarded x (arm_guards_form holds around.guards.now tests (length tests) old.draft m.guarded m.arm.guards.now m.guards).extends b)
 
   -- an `if` behind its parts
@@ -89,7 +89,7 @@ module _ (x : Step) (sites : ℕ → Option Site) (scene : Scene) (table : x.sta
 
   -- the offsets of a view, where a variable keeps one on its way
   view_put : (hs : List Hidden) (form : ViewPlan) (around : Around) (old new : Building) (first next : ℕ) → MadeView scene hs form around old new first next → StandsSpread scene around → paths_counted around ≡ paths
-      → first + (plan_accesses form + 0) < 2 ^ 32 → PlacesAt sites first (view_sites scene around hs form) → ViewKeeps x scene around.levels.now hs (offsets_of form) → Fits x new.draft → Begun x old.draft → Stood old.accesses first
+      → first + (plan_accesses form + 0) < 2 ^ 32 → PlacesAt sites first (view_sites scene around hs form) → ViewKeeps x scene around.levels.now hs (offsets_of form) → FitsStep x new.draft → BlockBegun x old.draft → Stood old.accesses first
       → PutHere first (plan_accesses form + 0) old new
   view_put [] form around old new first next m stands same few at keeps f b h =
       put_as x sites scene table IsRead paths some shares first 0 (plan_accesses form + 0) old new
@@ -101,13 +101,13 @@ module _ (x : Step) (sites : ℕ → Option Site) (scene : Scene) (table : x.sta
 
   mutual
     pub command_put : (a : Action) (around : Around) (old new : Building) (first next : ℕ) (m : MadeCommand scene a around old new first next) → StoresReach a → StandsSpread scene around → paths_counted around ≡ paths
-        → first + accesses_of a < 2 ^ 32 → PlacesAt sites first (command_sites scene a around old new first next m) → CommandKeeps x scene around.levels.now a → CommandReads IsRead a first → Fits x new.draft → Begun x old.draft
+        → first + accesses_of a < 2 ^ 32 → PlacesAt sites first (command_sites scene a around old new first next m) → CommandKeeps x scene around.levels.now a → CommandReads IsRead a first → FitsStep x new.draft → BlockBegun x old.draft
         → Stood old.accesses first → PutHere first (accesses_of a) old new
     command_put (action id place form) around old new first next m is stands same few at keeps reads f b h = form_put form around old new first next m is stands same few at keeps reads f b h
 
     form_put : (form : ActionForm) (around : Around) (old new : Building) (first next : ℕ) (m : MadeActionForm scene form around old new first next) → StoresReachForm form → StandsSpread scene around → paths_counted around ≡ paths
-        → first + (own_accesses form + inner_accesses form) < 2 ^ 32 → PlacesAt sites first (action_sites scene form around old new first next m) → ActionKeeps x scene around.levels.now form → ActionReads IsRead form first → Fits x new.draft
-        → Begun x old.draft → Stood old.accesses first → PutHere first (own_accesses form + inner_accesses form) old new
+        → first + (own_accesses form + inner_accesses form) < 2 ^ 32 → PlacesAt sites first (action_sites scene form around old new first next m) → ActionKeeps x scene around.levels.now form → ActionReads IsRead form first → FitsStep x new.draft
+        → BlockBegun x old.draft → Stood old.accesses first → PutHere first (own_accesses form + inner_accesses form) old new
     form_put (lets name declared (Some value)) around old new first next m is stands same few at keeps reads f b h =
         put_as x sites scene table IsRead paths some shares first (term_accesses value) (term_accesses value + 0) old new (plus_none (term_accesses value))
         (assigned_put x sites scene table IsRead paths some shares around stands same first old new f b h (entity_number name.entity) value next m (omega (arith, few)) (places_there sites first (term_sites scene around value) at) keeps)
@@ -156,7 +156,7 @@ module _ (x : Step) (sites : ℕ → Option Site) (scene : Scene) (table : x.sta
         (arm_paths (MadeCommand scene chosen) around true m.tests m.tested m.after_chosen m.own m.behind m.chosen_left m.chosen many ∙ same) few_chosen
         (places_front sites m.own (command_sites scene chosen m.chosen.arm m.chosen.begin m.chosen.inside m.own m.behind m.chosen.command) _ behind_at)
         (subst (λ (ls : List Level). CommandKeeps x scene ls chosen) (sym m.chosen.levels) keeps.1.0) (subst (λ (n : ℕ). CommandReads IsRead chosen n) (sym own) reads.0)
-        (subst (λ (d : Draft). Fits x d) m.chosen.draft f_chosen) (arm_begun (MadeCommand scene chosen) around true m.tests m.tested m.after_chosen m.own m.behind m.chosen_left m.chosen b_tested)
+        (subst (λ (d : Draft). FitsStep x d) m.chosen.draft f_chosen) (arm_begun (MadeCommand scene chosen) around true m.tests m.tested m.after_chosen m.own m.behind m.chosen_left m.chosen b_tested)
         (subst (λ (a : Accesses). Stood a m.own) (sym m.chosen.begin_accesses) (subst (λ (n : ℕ). Stood m.tested.accesses n) (sym own) tested.behind))) in
         let two : PutHere m.behind (other_accesses other) m.after_chosen m.after_other =
         other_put other around m.tests m.after_chosen m.after_other m.behind next m.other_left m.other is.1 stands same many (omega (arith, few, own, behind))
@@ -182,16 +182,16 @@ module _ (x : Step) (sites : ℕ → Option Site) (scene : Scene) (table : x.sta
 
     other_put : (other : MaybeAction) (around : Around) (tests : List ℕ) (old new : Building) (first next : ℕ) (lefts : List Left) (m : MadeOther scene other around tests old new first next lefts) → StoresReachOther other → StandsSpread scene around
         → paths_counted around ≡ paths → length tests ≡ paths_counted around → first + other_accesses other < 2 ^ 32 → PlacesAt sites first (other_sites scene other around tests old new first next lefts m) → OtherKeeps x scene around.levels.now other
-        → OtherReads IsRead other first → Fits x new.draft → Begun x old.draft → Stood old.accesses first → PutHere first (other_accesses other) old new
+        → OtherReads IsRead other first → FitsStep x new.draft → BlockBegun x old.draft → Stood old.accesses first → PutHere first (other_accesses other) old new
     other_put no_action around tests old new first next lefts m is stands same many few at keeps reads f b h = put_none x sites scene table IsRead paths some shares first old new m.still h
     other_put (one_action a) around tests old new first next lefts m is stands same many few at keeps reads f b h =
         arm_put (MadeCommand scene a) around false tests old new first next lefts m (accesses_of a)
         (command_put a m.arm m.begin m.inside first next m.command is (spread_arm scene (MadeCommand scene a) around false tests old new first next lefts m stands many)
         (arm_paths (MadeCommand scene a) around false tests old new first next lefts m many ∙ same) few at (subst (λ (ls : List Level). CommandKeeps x scene ls a) (sym m.levels) keeps) reads
-        (subst (λ (d : Draft). Fits x d) m.draft f) (arm_begun (MadeCommand scene a) around false tests old new first next lefts m b) (subst (λ (c : Accesses). Stood c first) (sym m.begin_accesses) h))
+        (subst (λ (d : Draft). FitsStep x d) m.draft f) (arm_begun (MadeCommand scene a) around false tests old new first next lefts m b) (subst (λ (c : Accesses). Stood c first) (sym m.begin_accesses) h))
 
     actions_put : (part : Actions) (around : Around) (old new : Building) (first next : ℕ) (m : MadeActions scene part around old new first next) → StoresReachPart part → StandsSpread scene around → paths_counted around ≡ paths
-        → first + part_accesses part < 2 ^ 32 → PlacesAt sites first (actions_sites scene part around old new first next m) → ActionsKeep x scene around.levels.now part → ActionsRead IsRead part first → Fits x new.draft → Begun x old.draft
+        → first + part_accesses part < 2 ^ 32 → PlacesAt sites first (actions_sites scene part around old new first next m) → ActionsKeep x scene around.levels.now part → ActionsRead IsRead part first → FitsStep x new.draft → BlockBegun x old.draft
         → Stood old.accesses first → PutHere first (part_accesses part) old new
     actions_put no_actions around old new first next m is stands same few at keeps reads f b h = put_none x sites scene table IsRead paths some shares first old new m.still h
     actions_put (action_then a rest) around old new first next m is stands same few at keeps reads f b h =
@@ -210,7 +210,7 @@ module _ (x : Step) (sites : ℕ → Option Site) (scene : Scene) (table : x.sta
         keeps.1 (subst (λ (n : ℕ). ActionsRead IsRead rest n) (sym own) reads.1) f (begun_later old.draft m.middle.draft x e_one b) (subst (λ (n : ℕ). Stood m.middle.accesses n) (sym own) one.behind)))
 
     groups_put : (body : Groups) (around : Around) (old new : Building) (first next : ℕ) (m : MadeGroups scene body around old new first next) → StoresReachGroups body → StandsSpread scene around → paths_counted around ≡ paths
-        → first + groups_accesses body < 2 ^ 32 → PlacesAt sites first (groups_sites scene body around old new first next m) → GroupsKeep x scene around.levels.now body → GroupsRead IsRead body first → Fits x new.draft → Begun x old.draft
+        → first + groups_accesses body < 2 ^ 32 → PlacesAt sites first (groups_sites scene body around old new first next m) → GroupsKeep x scene around.levels.now body → GroupsRead IsRead body first → FitsStep x new.draft → BlockBegun x old.draft
         → Stood old.accesses first → PutHere first (groups_accesses body) old new
     groups_put no_groups around old new first next m is stands same few at keeps reads f b h = put_none x sites scene table IsRead paths some shares first old new m.still h
     groups_put (group_then part rest) around old new first next m is stands same few at keeps reads f b h =

@@ -21,12 +21,12 @@ use Rattle.dh_expressions.specs.declared.drafts.Draft.{Draft}
 use Rattle.dh_expressions.specs.declared.paths.Level.{Level}
 use Rattle.dh_expressions.specs.declared.scenes.Around.{Around}
 use Rattle.dh_expressions.specs.declared.scenes.Scene.{Scene}
-use Rattle.dh_expressions.specs.Drafted.{Begun, Extends, Fits, Step}
+use Rattle.dh_expressions.specs.Drafted.{BlockBegun, Extends, FitsStep, BlockStep}
 use Rattle.dh_expressions.specs.Levels.{path_at, rank_number}
 use Rattle.dh_expressions.specs.Shown.{guard_of}
 use Rattle.dh_expressions.proofs.ListPlaces.{there}
 use Rattle.dh_formed.specs.Counted.{AreNext, given_at_paths}
-use Rattle.dh_formed.specs.Formed.{Site}
+use Rattle.dh_formed.specs.Formed.{BlockSite}
 use Rattle.dh_formed.proofs.ValuesCounted.{shown_counts}
 use Rattle.dh_commands.specs.declared.assignments.Values.{Values}
 use Rattle.dh_commands.specs.declared.buildings.Building.{Building}
@@ -34,8 +34,8 @@ use Rattle.dh_commands.specs.declared.choices.Choice.{Choice}
 use Rattle.dh_commands.specs.declared.choices.Left.{Left}
 use Rattle.dh_commands.specs.LanesRun.{lane_of, paths_counted}
 use Rattle.dh_commands.specs.MadeCommands.{Commanding, MadeArm, MadeArmGuard, MadeArmGuards, MadeAssigned, MadeBehind, MadeChoiceBy, MadeChoices, MadeCleared, MadeGuard, MadeKept, MadeLanes, MadeOutcome, MadeReduced, MadeStored, MadeTested, MadeTests}
-use Rattle.dh_commands.specs.Setting.{IsAmong}
-use Rattle.dh_commands.specs.ShownVariables.{ArePlaced, IsSeen, depth_in, factors_of, register_in, seen_path}
+use Rattle.dh_commands.specs.Setting.{IsVariableAmong}
+use Rattle.dh_commands.specs.ShownVariables.{ArePlaced, IsSeen, depth_in, level_factors, register_in, seen_path}
 use Rattle.dh_blocks.specs.PathsOfLevels.{AreSpread}
 use Rattle.dh_laid.specs.BlockSites.{target_sites, term_sites, terms_sites}
 use Rattle.dh_laid.specs.Laid.{aim_accesses}
@@ -124,7 +124,7 @@ spread_arm scene Inner around holds tests old new first next lefts m s many = re
   some = subst (λ (n : ℕ). 0 < n) (sym (paths_same Inner around holds tests old new first next lefts m many)) s.some;
   few = subst (λ (n : ℕ). n < 2 ^ 32) (sym (paths_same Inner around holds tests old new first next lefts m many)) s.few;
   spread = subst (λ (ls : List Level). AreSpread ls) (sym m.levels) s.spread;
-  counted = paths_same Inner around holds tests old new first next lefts m many ∙ (s.counted ∙ ap (λ (ls : List Level). copies_in (factors_of ls)) (sym m.levels));
+  counted = paths_same Inner around holds tests old new first next lefts m many ∙ (s.counted ∙ ap (λ (ls : List Level). copies_in (level_factors ls)) (sym m.levels));
   placed = placed_by scene m.arm around m.levels (paths_same Inner around holds tests old new first next lefts m many) s.placed;
 }
   where
@@ -138,7 +138,7 @@ arm_paths Inner around holds tests old new first next lefts m many = arm_long ho
 
 -- Whole commands.
 
-module _ (x : Step) (sites : ℕ → Option Site) where
+module _ (x : BlockStep) (sites : ℕ → Option BlockSite) where
   each_any : (us : List Put) → EachUse (λ u r. Unit {0}) us
   each_any [] = tt
   each_any (u ∷ us) = (λ r at. tt, each_any us)
@@ -156,7 +156,7 @@ module _ (x : Step) (sites : ℕ → Option Site) where
   pub down_before : (first count : ℕ) (a b c : Draft) → PutsDown x sites first count a b → AddsNone b c → PutsDown x sites first count a c
   down_before first count a b c h k = (before_none x sites first count (λ u r. Unit {0}) (λ n. Unit {0}) a b c (loose first count a b h) k).down
 
-module _ (x : Step) (sites : ℕ → Option Site) (scene : Scene) (table : x.start.table ≡ table_of (program_seen scene.program.now)) (IsRead : ℕ → Type 0) (paths : ℕ) (some : 0 < paths) (shares : BlockShares IsRead scene sites) where
+module _ (x : BlockStep) (sites : ℕ → Option BlockSite) (scene : Scene) (table : x.start.table ≡ table_of (program_seen scene.program.now)) (IsRead : ℕ → Type 0) (paths : ℕ) (some : 0 < paths) (shares : BlockShares IsRead scene sites) where
   abbrev pub Stood : Accesses → (upto : ℕ) → Type 0
   Stood a upto = Behind x sites scene table IsRead paths a upto
 
@@ -197,9 +197,9 @@ module _ (x : Step) (sites : ℕ → Option Site) (scene : Scene) (table : x.sta
 
   -- Commands without arms.
 
-  module _ (around : Around) (stands : StandsSpread scene around) (same : paths_counted around ≡ paths) (first : ℕ) (old new : Building) (f : Fits x new.draft) (b : Begun x old.draft) (h : Stood old.accesses first) where
+  module _ (around : Around) (stands : StandsSpread scene around) (same : paths_counted around ≡ paths) (first : ℕ) (old new : Building) (f : FitsStep x new.draft) (b : BlockBegun x old.draft) (h : Stood old.accesses first) where
     -- at each of so many numbers a site is
-    sites_are : (ss : List Site) (count : ℕ) → count ≤ length ss → SitesAt sites first ss → (m : ℕ) → first ≤ m → m < first + count → (s : Site) × (sites m ≡ Some s)
+    sites_are : (ss : List BlockSite) (count : ℕ) → count ≤ length ss → SitesAt sites first ss → (m : ℕ) → first ≤ m → m < first + count → (s : BlockSite) × (sites m ≡ Some s)
     sites_are ss count few at m from below =
         let s = there ss (m - first) (omega (arith, few, from, below)) in
         (s.0, ap sites (let e : m ≡ first + (m - first) = omega (arith, from) in e) ∙ at (m - first) s.0 s.1)
@@ -230,8 +230,8 @@ module _ (x : Step) (sites : ℕ → Option Site) (scene : Scene) (table : x.sta
     rises ways u v r t less within = led_rise x scene around begun stands.placed stands.spread stands.counted sites ways u v r t less within stands.few
 
     module _ (Sets : ℕ → Type 0) where
-      lanes_put : (ss : List Site) (ws : List (Option Way)) (count : ℕ) → length ss ≡ count → (One : ℕ → (b d : Building) → ℕ → Type 0) → ((n : ℕ) (b d : Building) (k : ℕ) → One n b d k → Extends b.draft d.draft)
-          → ((n : ℕ) (b d : Building) (k : ℕ) → n < paths_counted around → One n b d k → Fits x d.draft → Begun x b.draft → Stays scene around Sets begun b.values.current.items → AreSited x sites b.accesses
+      lanes_put : (ss : List BlockSite) (ws : List (Option Way)) (count : ℕ) → length ss ≡ count → (One : ℕ → (b d : Building) → ℕ → Type 0) → ((n : ℕ) (b d : Building) (k : ℕ) → One n b d k → Extends b.draft d.draft)
+          → ((n : ℕ) (b d : Building) (k : ℕ) → n < paths_counted around → One n b d k → FitsStep x d.draft → BlockBegun x b.draft → Stays scene around Sets begun b.values.current.items → AreSited x sites b.accesses
           → AreNext scene (lane_of around n) b.accesses first count → LaneDone x sites scene table IsRead paths (ways_at ws) begun Sets around n first count count (λ i. ⊥) b d)
           → SitesAt sites first ss → (next : ℕ) → MadeLanes One (paths_counted around) first old new next → CommandPut first count old new
       lanes_put ss ws count long One extends step at next m =
@@ -267,12 +267,12 @@ module _ (x : Step) (sites : ℕ → Option Site) (scene : Scene) (table : x.sta
     -- the offsets that a view keeps
     pub kept_put : (entity : ℕ) (offsets : List Term) (next : ℕ) → MadeLanes (λ n b d k. MadeKept scene (lane_of around n) first entity offsets b d k) (paths_counted around) first old new next
         → first + terms_accesses (terms offsets) < 2 ^ 32 → SitesAt sites first (terms_sites scene around (terms offsets))
-        → TermsKeep x scene around.levels.now (λ e. IsAmong entity (length offsets) e) (terms offsets) × AreSeenFrom scene around.levels.now entity (length offsets) → CommandPut first (terms_accesses (terms offsets)) old new
+        → TermsKeep x scene around.levels.now (λ e. IsVariableAmong entity (length offsets) e) (terms offsets) × AreSeenFrom scene around.levels.now entity (length offsets) → CommandPut first (terms_accesses (terms offsets)) old new
     kept_put entity offsets next m few at keeps =
-        lanes_put (λ e. IsAmong entity (length offsets) e) (terms_sites scene around (terms offsets)) (terms_ways scene (terms offsets)) (terms_accesses (terms offsets)) (all_sites_long scene around (terms offsets))
+        lanes_put (λ e. IsVariableAmong entity (length offsets) e) (terms_sites scene around (terms offsets)) (terms_ways scene (terms offsets)) (terms_accesses (terms offsets)) (all_sites_long scene around (terms offsets))
         (λ n b d k. MadeKept scene (lane_of around n) first entity offsets b d k) (λ n b d k one. (kept_lays scene (lane_of around n) stands.stands first entity offsets b d k one).extends)
         (λ n b d k less one fd bd stays sited next.
-        kept_lane x sites scene table IsRead paths (ways_at (terms_ways scene (terms offsets))) begun (λ e. IsAmong entity (length offsets) e) around stands n less first entity offsets b d k keeps.1 (λ e among. among) one few at
+        kept_lane x sites scene table IsRead paths (ways_at (terms_ways scene (terms offsets))) begun (λ e. IsVariableAmong entity (length offsets) e) around stands n less first entity offsets b d k keeps.1 (λ e among. among) one few at
         (ways_are (terms_ways scene (terms offsets))) keeps.0 fd bd stays sited next) at next m
 
     pub cleared_put : (entity : ℕ) (next : ℕ) → MadeLanes (λ n b d k. MadeCleared scene (lane_of around n) entity b d × (k ≡ first)) (paths_counted around) first old new next → CommandPut first 0 old new
@@ -281,7 +281,7 @@ module _ (x : Step) (sites : ℕ → Option Site) (scene : Scene) (table : x.sta
         (λ n b d k less one fd bd stays sited next.
         cleared_lane x sites scene table IsRead paths (ways_at []) begun (λ e. Unit {0}) around stands n less first entity b d (λ e path seen free inside. absurd (free tt)) one.0 sited) (λ i s at. absurd (never at)) next m
       where
-        never : {s : Site} → None ≡ Some s → ⊥
+        never : {s : BlockSite} → None ≡ Some s → ⊥
         never e = cc
 
     pub stored_put : (place : Place) (j : Option Kind) (form : plain.TermForm) (t : Term) (next : ℕ) → MadeLanes (λ n b d k. MadeStored scene (lane_of around n) first (plain.term place j form) t b d k) (paths_counted around) first old new next

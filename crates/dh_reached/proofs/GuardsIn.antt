@@ -18,11 +18,11 @@ use Rattle.dh_expressions.specs.declared.scenes.Scene.{Scene}
 use Rattle.dh_expressions.specs.Evaluated.{known_in}
 use Rattle.dh_meaning.specs.CoreOf.{way_of}
 use Rattle.dh_meaning.specs.Ways.{Hidden, hidden_in}
-use Rattle.dh_expressions.specs.Drafted.{Begun, Fits, Gives, Step, holds, shown}
+use Rattle.dh_expressions.specs.Drafted.{BlockBegun, FitsStep, Gives, BlockStep, holds, word_shown}
 use Rattle.dh_expressions.specs.Shown.{guard_of}
 use Rattle.dh_expressions.proofs.ListPlaces.{there}
 use Rattle.dh_expressions.proofs.Pushing.{begun_later, computes, fits_before}
-use Rattle.dh_formed.specs.Formed.{Site}
+use Rattle.dh_formed.specs.Formed.{BlockSite}
 use Rattle.dh_formed.proofs.ElementsFormed.{all_append, all_weaker}
 use Rattle.dh_commands.specs.declared.buildings.Building.{Building}
 use Rattle.dh_commands.specs.declared.choices.Left.{Left}
@@ -40,18 +40,18 @@ use Rattle.dh_reached.proofs.CommandsPut.{arm_paths, spread_arm}
 
 -- Guards of arms, by what was put down for them.
 
-guard_on : (guard : Option ℕ) (t : ℕ) (old new : Draft) (v : ℕ) → MadeGuard guard t old new v → MakesGuard old new guard (λ x. is_true (shown x t)) v
+guard_on : (guard : Option ℕ) (t : ℕ) (old new : Draft) (v : ℕ) → MadeGuard guard t old new v → MakesGuard old new guard (λ x. is_true (word_shown x t)) v
 guard_on None t old new v m =
-    subst (λ (e : Draft). MakesGuard old e None (λ x. is_true (shown x t)) v) (sym m.0) (subst (λ (k : ℕ). MakesGuard old old None (λ x. is_true (shown x t)) k) (sym m.1) (both_alone old t))
+    subst (λ (e : Draft). MakesGuard old e None (λ x. is_true (word_shown x t)) v) (sym m.0) (subst (λ (k : ℕ). MakesGuard old old None (λ x. is_true (word_shown x t)) k) (sym m.1) (both_alone old t))
 guard_on (Some g) t old new v m = both_made old new g t v (computes old new v (Compute Both g t) m (λ s first ws. refl))
 
-arm_guard_on : (holds_so : Truth) (guard : Option ℕ) (test : ℕ) (old new : Draft) (v : ℕ) → MadeArmGuard holds_so guard test old new v → MakesGuard old new guard (λ x. comes_out holds_so (is_true (shown x test))) v
+arm_guard_on : (holds_so : Truth) (guard : Option ℕ) (test : ℕ) (old new : Draft) (v : ℕ) → MadeArmGuard holds_so guard test old new v → MakesGuard old new guard (λ x. comes_out holds_so (is_true (word_shown x test))) v
 arm_guard_on true guard test old new v m =
-    subst (λ (d : Draft). MakesGuard d new guard (λ x. is_true (shown x test)) v) m.comes_out.0
-    (subst (λ (k : ℕ). MakesGuard m.middle new guard (λ x. is_true (shown x k)) v) m.comes_out.1 (guard_on guard m.outcome m.middle new v m.joins))
+    subst (λ (d : Draft). MakesGuard d new guard (λ x. is_true (word_shown x test)) v) m.comes_out.0
+    (subst (λ (k : ℕ). MakesGuard m.middle new guard (λ x. is_true (word_shown x k)) v) m.comes_out.1 (guard_on guard m.outcome m.middle new v m.joins))
 arm_guard_on false guard test old new v m = guard_not old m.middle new guard test m.outcome v (by m.comes_out) (guard_on guard m.outcome m.middle new v m.joins)
   where
-    by : MadeNot test old m.middle m.outcome → Gives old m.middle m.outcome (λ x. truth (not (is_true (shown x test))))
+    by : MadeNot test old m.middle m.outcome → Gives old m.middle m.outcome (λ x. truth (not (is_true (word_shown x test))))
     by k = not_made old k.first k.second m.middle k.no_value k.yes_value test m.outcome (truth false) (truth true) refl refl (computes old k.first k.no_value (Constant (truth false)) k.no_made (λ s first ws. refl))
         (computes k.first k.second k.yes_value (Constant (truth true)) k.yes_made (λ s first ws. refl)) (computes k.second m.middle m.outcome (Select test k.no_value k.yes_value) k.pushes (λ s first ws. refl))
 
@@ -70,45 +70,45 @@ second_both : (a b : Truth) → (a && b) ≡ true → b ≡ true
 second_both true b e = e
 second_both false b e = absurd (cc)
 
-module _ (x : Step) where
+module _ (x : BlockStep) where
   module _ (Inner : Commanding) (around : Around) (holds_so : Truth) (tests : List ℕ) (old new : Building) (first next : ℕ) (lefts : List Left) (m : MadeArm Inner around holds_so tests old new first next lefts)
-      (f : Fits x m.guarded) (b : Begun x old.draft) where
+      (f : FitsStep x m.guarded) (b : BlockBegun x old.draft) where
     arm_guards : MakesGuards old.draft m.guarded around.guards.now tests holds_so (length tests) m.arm.guards.now
     arm_guards = arm_makes holds_so around.guards.now tests (length tests) old.draft m.guarded m.arm.guards.now m.guards
 
     -- where the guard of an arm holds, that round it does, and the test is so
-    pub arm_on : (n test : ℕ) → n < length tests → slice_get tests n ≡ Some test → holds x (guard_of m.arm.guards.now n) → holds x (guard_of around.guards.now n) × (comes_out holds_so (is_true (shown x test)) ≡ true)
+    pub arm_on : (n test : ℕ) → n < length tests → slice_get tests n ≡ Some test → holds x (guard_of m.arm.guards.now n) → holds x (guard_of around.guards.now n) × (comes_out holds_so (is_true (word_shown x test)) ≡ true)
     arm_on n test less at on =
         let both = sym (arm_guards.on x f b n test less at) ∙ on in
-        (first_both (is_on x.first x.words (guard_of around.guards.now n)) (comes_out holds_so (is_true (shown x test))) both, second_both (is_on x.first x.words (guard_of around.guards.now n)) (comes_out holds_so (is_true (shown x test))) both)
+        (first_both (is_on x.first x.words (guard_of around.guards.now n)) (comes_out holds_so (is_true (word_shown x test))) both, second_both (is_on x.first x.words (guard_of around.guards.now n)) (comes_out holds_so (is_true (word_shown x test))) both)
 
   -- the guards of an access are those of an arm inside, or the very ones
-  pub record IsGuardedIn (around : Around) (s : Site) : Type 0 where
+  pub record IsGuardedIn (around : Around) (s : BlockSite) : Type 0 where
     pub long : length s.standing.guards ≡ paths_counted around
     pub on : (n : ℕ) → n < paths_counted around → holds x (guard_of s.standing.guards n) → holds x (guard_of around.guards.now n)
 
-  abbrev pub EachPlace : (Site → Type 0) → List (Option Site) → Type 0
-  EachPlace P ss = AllByRecursion (λ (o : Option Site). (s : Site) → o ≡ Some s → P s) ss
+  abbrev pub EachPlace : (BlockSite → Type 0) → List (Option BlockSite) → Type 0
+  EachPlace P ss = AllByRecursion (λ (o : Option BlockSite). (s : BlockSite) → o ≡ Some s → P s) ss
 
-  pub none_place : (P : Site → Type 0) (n : ℕ) → EachPlace P (none_there n)
+  pub none_place : (P : BlockSite → Type 0) (n : ℕ) → EachPlace P (none_there n)
   none_place P zero = tt
   none_place P (suc n) = (λ s e. absurd (cc), none_place P n)
 
-  pub there_place : (P : Site → Type 0) (ss : List Site) → AllByRecursion P ss → EachPlace P (all_there ss)
+  pub there_place : (P : BlockSite → Type 0) (ss : List BlockSite) → AllByRecursion P ss → EachPlace P (all_there ss)
   there_place P [] h = tt
   there_place P (s ∷ ss) h = (λ q e. subst P (same s q e) h.0, there_place P ss h.1)
     where
-      same : (a b : Site) → Some a ≡ Some b → a ≡ b
+      same : (a b : BlockSite) → Some a ≡ Some b → a ≡ b
       same a b e = cc
 
-  pub place_so : (P Q : Site → Type 0) (ss : List (Option Site)) → ((s : Site) → P s → Q s) → EachPlace P ss → EachPlace Q ss
-  place_so P Q ss so h = all_weaker (λ (o : Option Site). (s : Site) → o ≡ Some s → P s) (λ (o : Option Site). (s : Site) → o ≡ Some s → Q s) ss (λ o p s e. so s (p s e)) h
+  pub place_so : (P Q : BlockSite → Type 0) (ss : List (Option BlockSite)) → ((s : BlockSite) → P s → Q s) → EachPlace P ss → EachPlace Q ss
+  place_so P Q ss so h = all_weaker (λ (o : Option BlockSite). (s : BlockSite) → o ≡ Some s → P s) (λ (o : Option BlockSite). (s : BlockSite) → o ≡ Some s → Q s) ss (λ o p s e. so s (p s e)) h
 
-  pub place_both : (P : Site → Type 0) (xs ys : List (Option Site)) → EachPlace P xs → EachPlace P ys → EachPlace P (xs ++ ys)
-  place_both P xs ys h k = all_append (λ (o : Option Site). (s : Site) → o ≡ Some s → P s) xs ys h k
+  pub place_both : (P : BlockSite → Type 0) (xs ys : List (Option BlockSite)) → EachPlace P xs → EachPlace P ys → EachPlace P (xs ++ ys)
+  place_both P xs ys h k = all_append (λ (o : Option BlockSite). (s : BlockSite) → o ≡ Some s → P s) xs ys h k
 
   module _ (scene : Scene) (around : Around) where
-    itself : (s : Site) → s.standing.guards ≡ around.guards.now → IsGuardedIn around s
+    itself : (s : BlockSite) → s.standing.guards ≡ around.guards.now → IsGuardedIn around s
     itself s e = record { long = ap (λ (gs : List (Option ℕ)). length gs) e; on = λ n less on. subst (λ (gs : List (Option ℕ)). holds x (guard_of gs n)) e on }
 
     mutual
@@ -139,7 +139,7 @@ module _ (x : Step) where
 
   -- an access of an arm is guarded so round it
   pub arm_guarded : (Inner : Commanding) (around : Around) (holds_so : Truth) (tests : List ℕ) (old new : Building) (first next : ℕ) (lefts : List Left) (m : MadeArm Inner around holds_so tests old new first next lefts)
-      → Fits x m.guarded → Begun x old.draft → length tests ≡ paths_counted around → (s : Site) → IsGuardedIn m.arm s → IsGuardedIn around s
+      → FitsStep x m.guarded → BlockBegun x old.draft → length tests ≡ paths_counted around → (s : BlockSite) → IsGuardedIn m.arm s → IsGuardedIn around s
   arm_guarded Inner around holds_so tests old new first next lefts m f b many s h = record {
     long = h.long ∙ arm_paths Inner around holds_so tests old new first next lefts m many;
     on = λ n less on.
@@ -150,17 +150,17 @@ module _ (x : Step) where
 
   -- what fits behind an arm fits behind its guards
   pub guards_fit : (scene : Scene) (a : Action) (around : Around) (holds_so : Truth) (tests : List ℕ) (old new : Building) (first next : ℕ) (lefts : List Left) (m : MadeArm (MadeCommand scene a) around holds_so tests old new first next lefts)
-      → StandsSpread scene around → length tests ≡ paths_counted around → Fits x new.draft → Fits x m.guarded
+      → StandsSpread scene around → length tests ≡ paths_counted around → FitsStep x new.draft → FitsStep x m.guarded
   guards_fit scene a around holds_so tests old new first next lefts m s many f =
-      subst (λ (d : Draft). Fits x d) m.begin_draft
+      subst (λ (d : Draft). FitsStep x d) m.begin_draft
       (fits_before m.begin.draft m.inside.draft x
       (command_lays scene a m.arm m.begin m.inside first next (spread_arm scene (MadeCommand scene a) around holds_so tests old new first next lefts m s many).stands m.command).extends
-      (subst (λ (d : Draft). Fits x d) m.draft f))
+      (subst (λ (d : Draft). FitsStep x d) m.draft f))
 
   -- where an arm begins
-  pub arm_started : (Inner : Commanding) (around : Around) (holds_so : Truth) (tests : List ℕ) (old new : Building) (first next : ℕ) (lefts : List Left) (m : MadeArm Inner around holds_so tests old new first next lefts) → Begun x old.draft → Begun x m.begin.draft
+  pub arm_started : (Inner : Commanding) (around : Around) (holds_so : Truth) (tests : List ℕ) (old new : Building) (first next : ℕ) (lefts : List Left) (m : MadeArm Inner around holds_so tests old new first next lefts) → BlockBegun x old.draft → BlockBegun x m.begin.draft
   arm_started Inner around holds_so tests old new first next lefts m b =
-      subst (λ (d : Draft). Begun x d) (sym m.begin_draft)
+      subst (λ (d : Draft). BlockBegun x d) (sym m.begin_draft)
       (begun_later old.draft m.guarded x (arm_guards_form holds_so around.guards.now tests (length tests) old.draft m.guarded m.arm.guards.now m.guards).extends b)
 
   -- Whole commands.
@@ -171,11 +171,11 @@ module _ (x : Step) where
     view_guarded (h ∷ hs) form around = there_place (IsGuardedIn around) (terms_sites scene around (terms (offsets_of form))) (terms_guarded scene around (terms (offsets_of form)))
 
     mutual
-      pub command_guarded : (a : Action) (around : Around) (old new : Building) (first next : ℕ) (m : MadeCommand scene a around old new first next) → StandsSpread scene around → Fits x new.draft → Begun x old.draft
+      pub command_guarded : (a : Action) (around : Around) (old new : Building) (first next : ℕ) (m : MadeCommand scene a around old new first next) → StandsSpread scene around → FitsStep x new.draft → BlockBegun x old.draft
           → EachPlace (IsGuardedIn around) (command_sites scene a around old new first next m)
       command_guarded (action id place form) around old new first next m s f b = form_guarded form around old new first next m s f b
 
-      form_guarded : (form : ActionForm) (around : Around) (old new : Building) (first next : ℕ) (m : MadeActionForm scene form around old new first next) → StandsSpread scene around → Fits x new.draft → Begun x old.draft
+      form_guarded : (form : ActionForm) (around : Around) (old new : Building) (first next : ℕ) (m : MadeActionForm scene form around old new first next) → StandsSpread scene around → FitsStep x new.draft → BlockBegun x old.draft
           → EachPlace (IsGuardedIn around) (action_sites scene form around old new first next m)
       form_guarded (lets name declared (Some value)) around old new first next m s f b = places_of scene around value
       form_guarded (lets name declared None) around old new first next m s f b = tt
@@ -200,7 +200,7 @@ module _ (x : Step) where
           (place_so (IsGuardedIn m.chosen.arm) (IsGuardedIn around) (command_sites scene chosen m.chosen.arm m.chosen.begin m.chosen.inside m.own m.behind m.chosen.command)
           (arm_guarded (MadeCommand scene chosen) around true m.tests m.tested m.after_chosen m.own m.behind m.chosen_left m.chosen
           (guards_fit scene chosen around true m.tests m.tested m.after_chosen m.own m.behind m.chosen_left m.chosen s many f_chosen) b_tested many)
-          (command_guarded chosen m.chosen.arm m.chosen.begin m.chosen.inside m.own m.behind m.chosen.command spread (subst (λ (d : Draft). Fits x d) m.chosen.draft f_chosen)
+          (command_guarded chosen m.chosen.arm m.chosen.begin m.chosen.inside m.own m.behind m.chosen.command spread (subst (λ (d : Draft). FitsStep x d) m.chosen.draft f_chosen)
           (arm_started (MadeCommand scene chosen) around true m.tests m.tested m.after_chosen m.own m.behind m.chosen_left m.chosen b_tested)))
           (other_guarded other around m.tests m.after_chosen m.after_other m.behind next m.other_left m.other s many f_other b_chosen))
       form_guarded (blocks body) around old new first next m s f b = groups_guarded body around old new first next m s f b
@@ -211,15 +211,15 @@ module _ (x : Step) where
       form_guarded (counts iterator declared low high factor body combine combine_place) around old new first next m s f b = none_place (IsGuardedIn around) (accesses_of body + other_accesses combine)
 
       other_guarded : (other : MaybeAction) (around : Around) (tests : List ℕ) (old new : Building) (first next : ℕ) (lefts : List Left) (m : MadeOther scene other around tests old new first next lefts) → StandsSpread scene around
-          → length tests ≡ paths_counted around → Fits x new.draft → Begun x old.draft → EachPlace (IsGuardedIn around) (other_sites scene other around tests old new first next lefts m)
+          → length tests ≡ paths_counted around → FitsStep x new.draft → BlockBegun x old.draft → EachPlace (IsGuardedIn around) (other_sites scene other around tests old new first next lefts m)
       other_guarded no_action around tests old new first next lefts m s many f b = tt
       other_guarded (one_action a) around tests old new first next lefts m s many f b =
           place_so (IsGuardedIn m.arm) (IsGuardedIn around) (command_sites scene a m.arm m.begin m.inside first next m.command)
           (arm_guarded (MadeCommand scene a) around false tests old new first next lefts m (guards_fit scene a around false tests old new first next lefts m s many f) b many)
-          (command_guarded a m.arm m.begin m.inside first next m.command (spread_arm scene (MadeCommand scene a) around false tests old new first next lefts m s many) (subst (λ (d : Draft). Fits x d) m.draft f)
+          (command_guarded a m.arm m.begin m.inside first next m.command (spread_arm scene (MadeCommand scene a) around false tests old new first next lefts m s many) (subst (λ (d : Draft). FitsStep x d) m.draft f)
           (arm_started (MadeCommand scene a) around false tests old new first next lefts m b))
 
-      actions_guarded : (part : Actions) (around : Around) (old new : Building) (first next : ℕ) (m : MadeActions scene part around old new first next) → StandsSpread scene around → Fits x new.draft → Begun x old.draft
+      actions_guarded : (part : Actions) (around : Around) (old new : Building) (first next : ℕ) (m : MadeActions scene part around old new first next) → StandsSpread scene around → FitsStep x new.draft → BlockBegun x old.draft
           → EachPlace (IsGuardedIn around) (actions_sites scene part around old new first next m)
       actions_guarded no_actions around old new first next m s f b = tt
       actions_guarded (action_then a rest) around old new first next m s f b =
@@ -227,7 +227,7 @@ module _ (x : Step) where
           (command_guarded a around old m.middle first m.own m.one s (fits_before m.middle.draft new.draft x (actions_lays scene rest around m.middle new m.own next s.stands m.rest).extends f) b)
           (actions_guarded rest around m.middle new m.own next m.rest s f (begun_later old.draft m.middle.draft x (command_lays scene a around old m.middle first m.own s.stands m.one).extends b))
 
-      groups_guarded : (body : Groups) (around : Around) (old new : Building) (first next : ℕ) (m : MadeGroups scene body around old new first next) → StandsSpread scene around → Fits x new.draft → Begun x old.draft
+      groups_guarded : (body : Groups) (around : Around) (old new : Building) (first next : ℕ) (m : MadeGroups scene body around old new first next) → StandsSpread scene around → FitsStep x new.draft → BlockBegun x old.draft
           → EachPlace (IsGuardedIn around) (groups_sites scene body around old new first next m)
       groups_guarded no_groups around old new first next m s f b = tt
       groups_guarded (group_then part rest) around old new first next m s f b =

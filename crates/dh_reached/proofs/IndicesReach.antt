@@ -21,7 +21,7 @@ use Rattle.dh_tree.specs.declared.trees.counters.Counter.{Counter}
 use Rattle.dh_tree.specs.declared.trees.expressions.Ref.{Ref}
 use Rattle.dh_tree.specs.Counters.{counter_in, counters_of}
 use Rattle.dh_tree.specs.Elements.{Spot, bank_of, banks_of}
-use Rattle.dh_tree.specs.Indices.{IndexKind, constant, iterator, dynamic, counted, form_of, index_breaches, index_kind, indices_breaches, sum_kind}
+use Rattle.dh_tree.specs.Indices.{IndexKind, constant, iterator, dynamic, counted, form_of, one_index_breaches, index_kind, indices_breaches, sum_kind}
 use Rattle.dh_tree.specs.Kinds.{found, signed_number, same_kind}
 use Rattle.dh_tree.specs.Memories.{same_entity}
 use Rattle.dh_tree.specs.PlainTrees as plain
@@ -39,7 +39,7 @@ use Rattle.dh_code.specs.declared.places.Held.{Held}
 use Rattle.dh_code.specs.Slots.{held_at}
 use Rattle.dh_plan.specs.Blocks.{numbers_at, spot_in_row, spot_of_reach}
 use Rattle.dh_plan.specs.declared.operations.OperationForm.TheVariants.{Compute, Constant, Convert}
-use Rattle.dh_sound.specs.IndexValues.{AllHaveIndexKinds, AnyLoop, AreOperands, FormInTurn, HasIndexKinds, HasIntegerKind, IsInTurn, IsIndexValue, NameInTurn, copy_at}
+use Rattle.dh_sound.specs.IndexValues.{AllHaveIndexKinds, AnyLoop, AreSumOperands, FormInTurn, HasIndexKinds, HasIntegerKind, IsInTurn, IsIndexValue, NameInTurn, copy_at}
 use Rattle.dh_sound.proofs.BanksReached.{index_bank, spot_row}
 use Rattle.dh_sound.proofs.ValuesOfIndices.{index_value}
 use Rattle.dh_expressions.specs.declared.accesses.Accesses.{Accesses}
@@ -48,7 +48,7 @@ use Rattle.dh_expressions.specs.declared.elements.Aim.{Aim}
 use Rattle.dh_expressions.specs.declared.paths.Level.{Level}
 use Rattle.dh_expressions.specs.declared.scenes.Lane.{Lane}
 use Rattle.dh_expressions.specs.declared.scenes.Scene.{Scene}
-use Rattle.dh_expressions.specs.Drafted.{Begun, Extends, Fits, Step, shown}
+use Rattle.dh_expressions.specs.Drafted.{BlockBegun, Extends, FitsStep, BlockStep, word_shown}
 use Rattle.dh_expressions.specs.Evaluated.{IsTurning, begun_of, copy_in_turn, counter_of, known_in, lane_path}
 use Rattle.dh_expressions.specs.Levels.{copy_number, copy_to, last_number, path_at}
 use Rattle.dh_expressions.specs.MadeTerms.{MadeTerm, MadeTerms}
@@ -124,13 +124,13 @@ kept_of_word t to w h kept =
     first_of true b e = refl
     first_of false b e = cc
 
-converted_shows : (x : Step) (kept : Bool) (to : Kind) (value : ℕ) (old new : Draft) (v : ℕ) → MadeConverted kept to value old new v → Fits x new → Begun x old
-    → shown x v ≡ (if kept then shown x value else word_of to (words.value_of (shown x value)))
-converted_shows x true to value old new v m f b = ap (λ n. shown x n) m.1
+converted_shows : (x : BlockStep) (kept : Bool) (to : Kind) (value : ℕ) (old new : Draft) (v : ℕ) → MadeConverted kept to value old new v → FitsStep x new → BlockBegun x old
+    → word_shown x v ≡ (if kept then word_shown x value else word_of to (words.value_of (word_shown x value)))
+converted_shows x true to value old new v m f b = ap (λ n. word_shown x n) m.1
 converted_shows x false to value old new v m f b = (computes old new v (Convert value to) m (λ s first ws. refl)).is x f b
 
-extended_shows : (x : Step) (t : plain.Term) (to : Kind) (value : ℕ) (old new : Draft) (v : ℕ) → MadeExtended t to value old new v → Fits x new → Begun x old → shown x v ≡ extended_shown t to (shown x value)
-extended_shows x t kind.Bool value old new v m f b = ap (λ n. shown x n) m.1
+extended_shows : (x : BlockStep) (t : plain.Term) (to : Kind) (value : ℕ) (old new : Draft) (v : ℕ) → MadeExtended t to value old new v → FitsStep x new → BlockBegun x old → word_shown x v ≡ extended_shown t to (word_shown x value)
+extended_shows x t kind.Bool value old new v m f b = ap (λ n. word_shown x n) m.1
 extended_shows x t (kind.Unsigned w) value old new v m f b = converted_shows x (is_kept t (kind.Unsigned w)) (kind.Unsigned w) value old new v m f b
 extended_shows x t (kind.Signed w) value old new v m f b = converted_shows x (is_kept t (kind.Signed w)) (kind.Signed w) value old new v m f b
 
@@ -142,8 +142,8 @@ extended_extends t (kind.Signed w) value old new v m = converted_extends (is_kep
 abbrev extension_by : Op → (left right : plain.Term) → Kind
 extension_by o left right = extension_of o (kind_written left) (kind_written right)
 
-operation_shows : (x : Step) (o : Op) (left right : plain.Term) (a b : ℕ) (old new : Draft) (v : ℕ) → MadeOperation o left right a b old new v → Fits x new → Begun x old
-    → shown x v ≡ binary_of o (extended_shown left (extension_by o left right) (shown x a)) (extended_shown right (extension_by o left right) (shown x b))
+operation_shows : (x : BlockStep) (o : Op) (left right : plain.Term) (a b : ℕ) (old new : Draft) (v : ℕ) → MadeOperation o left right a b old new v → FitsStep x new → BlockBegun x old
+    → word_shown x v ≡ binary_of o (extended_shown left (extension_by o left right) (word_shown x a)) (extended_shown right (extension_by o left right) (word_shown x b))
 operation_shows x o left right a b old new v m f s =
     let pushed = pushed_extends m.second new v None (Compute o m.x m.y) m.pushes in
     let f2 = fits_before m.second new x pushed f in
@@ -153,8 +153,8 @@ operation_shows x o left right a b old new v m f s =
     let s1 = begun_later old m.first x one s in
     let s2 = begun_later m.first m.second x two s1 in
     (computes m.second new v (Compute o m.x m.y) m.pushes (λ s first ws. refl)).is x f s2
-    ∙ (ap (λ w. binary_of o w (shown x m.y)) (extended_shows x left (extension_by o left right) a old m.first m.x m.left_made f1 s)
-    ∙ ap (λ w. binary_of o (extended_shown left (extension_by o left right) (shown x a)) w) (extended_shows x right (extension_by o left right) b m.first m.second m.y m.right_made f2 s1))
+    ∙ (ap (λ w. binary_of o w (word_shown x m.y)) (extended_shows x left (extension_by o left right) a old m.first m.x m.left_made f1 s)
+    ∙ ap (λ w. binary_of o (extended_shown left (extension_by o left right) (word_shown x a)) w) (extended_shows x right (extension_by o left right) b m.first m.second m.y m.right_made f2 s1))
 
 -- Which sums are told: of a name and a number.
 
@@ -165,7 +165,7 @@ is_told f g = false
 
 -- Expressions that show what the program has.
 
-module _ (x : Step) (scene : Scene) (lane : Lane) (stands : StandsIn scene lane.around) (current : List (Option ℕ)) where
+module _ (x : BlockStep) (scene : Scene) (lane : Lane) (stands : StandsIn scene lane.around) (current : List (Option ℕ)) where
   abbrev levels : List Level
   levels = lane.around.levels.now
 
@@ -186,13 +186,13 @@ module _ (x : Step) (scene : Scene) (lane : Lane) (stands : StandsIn scene lane.
   worth m t = value_of (begun_of x) vars (lane_path lane) (core_term (known_in scene) m t)
 
   abbrev ShowsTerm : plain.Term → Type 0
-  ShowsTerm t = (old new : Draft) (before after : Accesses) (n next v m : ℕ) → Made t old new before after n next v → Fits x new → Begun x old → shown x v ≡ worth m t
+  ShowsTerm t = (old new : Draft) (before after : Accesses) (n next v m : ℕ) → Made t old new before after n next v → FitsStep x new → BlockBegun x old → word_shown x v ≡ worth m t
 
   number_shows : (place : Place) (k : Option Kind) (negative : Bool) (z : ℕ) → IsKind (kind_or_first k) → ShowsTerm (plain.term place k (plain.number negative z))
   number_shows place k negative z sized old new before after n next v m made f b =
       (computes old new v (Constant made.part.word) made.part.pushes (λ s first ws. refl)).is x f b ∙ made.part.is sized
 
-  by_counter : (o : Option Counter) (held : Held) (k : Kind) (old new : Draft) (v : ℕ) (c : Counter) → MadeBy o held lane current k old new v → o ≡ Some c → IsTurning x c held k → Fits x new → Begun x old → shown x v ≡ word_of k (held_value o held)
+  by_counter : (o : Option Counter) (held : Held) (k : Kind) (old new : Draft) (v : ℕ) (c : Counter) → MadeBy o held lane current k old new v → o ≡ Some c → IsTurning x c held k → FitsStep x new → BlockBegun x old → word_shown x v ≡ word_of k (held_value o held)
   by_counter None held k old new v c m e t f b = absurd (cc)
   by_counter (Some d) held k old new v c m e t f b = m.1.is x f b (subst (λ (a : Counter). IsTurning x a held k) (sym (some_same d c e)) t)
 
@@ -271,7 +271,7 @@ module _ (x : Step) (scene : Scene) (lane : Lane) (stands : StandsIn scene lane.
       let w = one old made.middle before made.between n made.own made.a m made.first f1 b in
       let u = two made.middle made.end made.between after made.own next made.b (m + term_accesses left) made.second f2 b1 in
       operation_shows x o left right made.a made.b made.end new v made.operation f b2
-      ∙ (ap (λ z. binary_of o (extended_shown left (extension_by o left right) z) (extended_shown right (extension_by o left right) (shown x made.b))) w
+      ∙ (ap (λ z. binary_of o (extended_shown left (extension_by o left right) z) (extended_shown right (extension_by o left right) (word_shown x made.b))) w
       ∙ (ap (λ z. binary_of o (extended_shown left (extension_by o left right) (worth m left)) (extended_shown right (extension_by o left right) z)) u
       ∙ (ap (λ z. binary_of o z (extended_shown right (extension_by o left right) (worth (m + term_accesses left) right)))
       (extended_same left (extension_by o left right) (worth m left) (λ kept. kept_of_word left (extension_by o left right) (worth m left) (first m) kept))
@@ -322,7 +322,7 @@ module _ (x : Step) (scene : Scene) (lane : Lane) (stands : StandsIn scene lane.
   number_word place k negative z integer m = record { kind_is = refl; word = bits_small (kind_or_first k) negative z (integer_width (kind_or_first k) integer) }
 
   module _ (place a b : Place) (k j i : Option Kind) (r : Ref) (negative : Bool) (z : ℕ) (t : NameTurns x scene levels r) (c : Counter) (e : counter_in cs r.entity ≡ Some c) (w : Kind) where
-    name_number : (o : Op) → AreOperands cs w (plain.term a j (plain.named r)) (plain.term b i (plain.number negative z))
+    name_number : (o : Op) → AreSumOperands cs w (plain.term a j (plain.named r)) (plain.term b i (plain.number negative z))
         → ShowsTerm (plain.term place k (plain.applied o (plain.term a j (plain.named r)) (plain.term b i (plain.number negative z))))
     name_number o h =
         let first = whole_kind (plain.term a j (plain.named r)) h.first in
@@ -330,7 +330,7 @@ module _ (x : Step) (scene : Scene) (lane : Lane) (stands : StandsIn scene lane.
         pair_shows place k o (plain.term a j (plain.named r)) (plain.term b i (plain.number negative z)) (named_shows a j r t c e first) (number_shows b i negative z (integer_width (kind_or_first i) second))
         (named_word a j r first) (number_word b i negative z second)
 
-    number_name : (o : Op) → AreOperands cs w (plain.term b i (plain.number negative z)) (plain.term a j (plain.named r))
+    number_name : (o : Op) → AreSumOperands cs w (plain.term b i (plain.number negative z)) (plain.term a j (plain.named r))
         → ShowsTerm (plain.term place k (plain.applied o (plain.term b i (plain.number negative z)) (plain.term a j (plain.named r))))
     number_name o h =
         let first = whole_kind (plain.term b i (plain.number negative z)) h.first in
@@ -339,14 +339,14 @@ module _ (x : Step) (scene : Scene) (lane : Lane) (stands : StandsIn scene lane.
         (number_word b i negative z first) (named_word a j r second)
 
   abbrev Tells : plain.Term → Type 0
-  Tells t = (old new : Draft) (before after : Accesses) (n next v : ℕ) → HasIndexKinds cs t → IndexTurns x scene levels (form_of t) → Made t old new before after n next v → Fits x new → Begun x old → Told t (shown x v)
+  Tells t = (old new : Draft) (before after : Accesses) (n next v : ℕ) → HasIndexKinds cs t → IndexTurns x scene levels (form_of t) → Made t old new before after n next v → FitsStep x new → BlockBegun x old → Told t (word_shown x v)
 
   -- a name and a number
   first_tells : (place a b : Place) (k j i : Option Kind) (r : Ref) (negative : Bool) (z : ℕ) (o : Op) → Tells (plain.term place k (plain.applied o (plain.term a j (plain.named r)) (plain.term b i (plain.number negative z))))
   first_tells place a b k j i r negative z op.Add old new before after n next v h t m f s =
-      with_name _ r (shown x v) (λ none. ap (λ o. counted k o (signed_number negative z)) none) (λ c e. name_number place a b k j i r negative z t.0 c e h.whole.kind op.Add (h.parts refl) old new before after n next v 0 m f s) h (name_turns r t.0, tt)
+      with_name _ r (word_shown x v) (λ none. ap (λ o. counted k o (signed_number negative z)) none) (λ c e. name_number place a b k j i r negative z t.0 c e h.whole.kind op.Add (h.parts refl) old new before after n next v 0 m f s) h (name_turns r t.0, tt)
   first_tells place a b k j i r negative z op.Sub old new before after n next v h t m f s =
-      with_name _ r (shown x v) (λ none. ap (λ o. counted k o (neg_ℤ (signed_number negative z))) none) (λ c e. name_number place a b k j i r negative z t.0 c e h.whole.kind op.Sub (h.parts refl) old new before after n next v 0 m f s) h (name_turns r t.0, tt)
+      with_name _ r (word_shown x v) (λ none. ap (λ o. counted k o (neg_ℤ (signed_number negative z))) none) (λ c e. name_number place a b k j i r negative z t.0 c e h.whole.kind op.Sub (h.parts refl) old new before after n next v 0 m f s) h (name_turns r t.0, tt)
   first_tells place a b k j i r negative z op.Mul old new before after n next v h t m f s = tt
   first_tells place a b k j i r negative z op.And old new before after n next v h t m f s = tt
   first_tells place a b k j i r negative z op.Or old new before after n next v h t m f s = tt
@@ -365,7 +365,7 @@ module _ (x : Step) (scene : Scene) (lane : Lane) (stands : StandsIn scene lane.
   -- a number and a name
   second_tells : (place a b : Place) (k j i : Option Kind) (r : Ref) (negative : Bool) (z : ℕ) (o : Op) → Tells (plain.term place k (plain.applied o (plain.term b i (plain.number negative z)) (plain.term a j (plain.named r))))
   second_tells place a b k j i r negative z op.Add old new before after n next v h t m f s =
-      with_name _ r (shown x v) (λ none. ap (λ o. counted k o (signed_number negative z)) none) (λ c e. number_name place a b k j i r negative z t.1 c e h.whole.kind op.Add (h.parts refl) old new before after n next v 0 m f s) h (tt, name_turns r t.1)
+      with_name _ r (word_shown x v) (λ none. ap (λ o. counted k o (signed_number negative z)) none) (λ c e. number_name place a b k j i r negative z t.1 c e h.whole.kind op.Add (h.parts refl) old new before after n next v 0 m f s) h (tt, name_turns r t.1)
   second_tells place a b k j i r negative z op.Sub old new before after n next v h t m f s = tt
   second_tells place a b k j i r negative z op.Mul old new before after n next v h t m f s = tt
   second_tells place a b k j i r negative z op.And old new before after n next v h t m f s = tt
@@ -438,7 +438,7 @@ module _ (x : Step) (scene : Scene) (lane : Lane) (stands : StandsIn scene lane.
   no_sum k op.Either f g e = refl
 
   not_told : (place a b : Place) (k j i : Option Kind) (o : Op) (f g : plain.TermForm) → is_told f g ≡ false → Tells (plain.term place k (plain.applied o (plain.term a j f) (plain.term b i g)))
-  not_told place a b k j i o f g none old new before after n next v h turns made fits s = told_not (plain.term place k (plain.applied o (plain.term a j f) (plain.term b i g))) (shown x v) (no_sum k o f g none)
+  not_told place a b k j i o f g none old new before after n next v h turns made fits s = told_not (plain.term place k (plain.applied o (plain.term a j f) (plain.term b i g))) (word_shown x v) (no_sum k o f g none)
 
   pair_tells : (place a b : Place) (k j i : Option Kind) (o : Op) (f g : plain.TermForm) → Tells (plain.term place k (plain.applied o (plain.term a j f) (plain.term b i g)))
   pair_tells place a b k j i o (plain.named r) (plain.number negative z) = first_tells place a b k j i r negative z o
@@ -493,10 +493,10 @@ module _ (x : Step) (scene : Scene) (lane : Lane) (stands : StandsIn scene lane.
 
   index_tells : (t : plain.Term) → Tells t
   index_tells (plain.term place k (plain.number negative z)) old new before after n next v h t m f s =
-      told_as _ (shown x v) h tt (number_shows place k negative z (integer_width (kind_or_first k) (whole_kind (plain.term place k (plain.number negative z)) h.whole)) old new before after n next v 0 m f s)
+      told_as _ (word_shown x v) h tt (number_shows place k negative z (integer_width (kind_or_first k) (whole_kind (plain.term place k (plain.number negative z)) h.whole)) old new before after n next v 0 m f s)
   index_tells (plain.term place k (plain.truth_value b)) old new before after n next v h t m f s = tt
   index_tells (plain.term place k (plain.named r)) old new before after n next v h t m f s =
-      with_name _ r (shown x v) (λ none. ap (λ o. counted k o (pos 0)) none)
+      with_name _ r (word_shown x v) (λ none. ap (λ o. counted k o (pos 0)) none)
       (λ c e. named_shows place k r t c e (whole_kind (plain.term place k (plain.named r)) h.whole) old new before after n next v 0 m f s) h (name_turns r t)
   index_tells (plain.term place k (plain.accessed r ts)) old new before after n next v h t m f s = tt
   index_tells (plain.term place k (plain.in_bank r bank at row)) old new before after n next v h t m f s = tt
@@ -506,7 +506,7 @@ module _ (x : Step) (scene : Scene) (lane : Lane) (stands : StandsIn scene lane.
   -- Banks.
 
   -- what an index adds to the bank is told of its path
-  residue : (d : Dim) (place : Place) (k : IndexKind) (z : ℤ) → IsDim d → index_breaches d place k ≡ [] → IsIndexValue AnyLoop (loops_of levels) (lane_path lane) k z → unsigned_abs z % d.banks ≡ index_first levels lane.number k % d.banks
+  residue : (d : Dim) (place : Place) (k : IndexKind) (z : ℤ) → IsDim d → one_index_breaches d place k ≡ [] → IsIndexValue AnyLoop (loops_of levels) (lane_path lane) k z → unsigned_abs z % d.banks ≡ index_first levels lane.number k % d.banks
   residue d place (constant w) z h e v = index_bank (loops_of levels) (lane_path lane) d place (constant w) z h tt e v
   residue d place (iterator c offset) z h e v =
       let w = (v tt).in_turn.copy in
@@ -532,7 +532,7 @@ module _ (x : Step) (scene : Scene) (lane : Lane) (stands : StandsIn scene lane.
   values_none dims vs e = ap (λ (l : List ℕ). bank_of dims (map (λ z. unsigned_abs z) (numbers_at x.first x.words l))) e
 
   terms_bank : (dims : List Dim) (ts : plain.Terms) (old new : Draft) (before after : Accesses) (n next : ℕ) (vs : List ℕ) → MadeTerms scene lane current ts old new before after n next vs → AllByRecursion IsDim dims → AllHaveIndexKinds cs ts
-      → AllTurn x scene levels ts → indices_breaches cs dims ts ≡ [] → Fits x new → Begun x old
+      → AllTurn x scene levels ts → indices_breaches cs dims ts ≡ [] → FitsStep x new → BlockBegun x old
       → bank_of dims (map (λ z. unsigned_abs z) (numbers_at x.first x.words vs)) ≡ bank_of dims (indices_first cs levels lane.number ts)
   terms_bank dims plain.no_terms old new before after n next vs m h kinds turns e f s = values_none dims vs m.none
   terms_bank [] (plain.term_then (plain.term place k form) ts) old new before after n next vs m h kinds turns e f s = ap (λ (l : List ℕ). bank_of [] (map (λ z. unsigned_abs z) (numbers_at x.first x.words l))) m.values_are
@@ -540,8 +540,8 @@ module _ (x : Step) (scene : Scene) (lane : Lane) (stands : StandsIn scene lane.
       let rest_extends = (terms_lay scene lane stands current ts m.middle new m.between after m.own next m.more m.rest).extends in
       let first_extends = (term_lays scene lane stands current (plain.term place k form) old m.middle before m.between n m.own m.a m.first).extends in
       let fm = fits_before m.middle new x rest_extends f in
-      let one = residue d place (index_kind cs k form) (words.value_of (shown x m.a)) h.0 (first_of (index_breaches d place (index_kind cs k form)) _ e) (index_tells (plain.term place k form) old m.middle before m.between n m.own m.a kinds.0 turns.0 m.first fm s) in
-      let rest = terms_bank ds ts m.middle new m.between after m.own next m.more m.rest h.1 kinds.1 turns.1 (second_of (index_breaches d place (index_kind cs k form)) _ e) f (begun_later old m.middle x first_extends s) in
+      let one = residue d place (index_kind cs k form) (words.value_of (word_shown x m.a)) h.0 (first_of (one_index_breaches d place (index_kind cs k form)) _ e) (index_tells (plain.term place k form) old m.middle before m.between n m.own m.a kinds.0 turns.0 m.first fm s) in
+      let rest = terms_bank ds ts m.middle new m.between after m.own next m.more m.rest h.1 kinds.1 turns.1 (second_of (one_index_breaches d place (index_kind cs k form)) _ e) f (begun_later old m.middle x first_extends s) in
       ap (λ (l : List ℕ). bank_of (d ∷ ds) (map (λ z. unsigned_abs z) (numbers_at x.first x.words l))) m.values_are
       ∙ (ap (λ r. r * banks_of ds + bank_of ds (map (λ z. unsigned_abs z) (numbers_at x.first x.words m.more))) one ∙ ap (λ r. (index_first levels lane.number (index_kind cs k form) % d.banks) * banks_of ds + r) rest)
 
@@ -565,7 +565,7 @@ module _ (x : Step) (scene : Scene) (lane : Lane) (stands : StandsIn scene lane.
 
   -- by indices, of dimensions of what is named
   pub indices_bank : (memory : ℕ) (dims : List Dim) (ts : plain.Terms) (aim : Aim) (old new : Draft) (before after : Accesses) (n : ℕ) → MadeTerms scene lane current ts old new before after n aim.number aim.indices
-      → IndicesKeep x scene levels memory dims ts → Fits x new → Begun x old → bank_of dims (map unsigned_abs (numbers_at x.first x.words aim.indices)) ≡ narrowed (bank_of dims (indices_first cs levels lane.number ts))
+      → IndicesKeep x scene levels memory dims ts → FitsStep x new → BlockBegun x old → bank_of dims (map unsigned_abs (numbers_at x.first x.words aim.indices)) ≡ narrowed (bank_of dims (indices_first cs levels lane.number ts))
   indices_bank memory dims ts aim old new before after n m k f s =
       let below = bank_small dims (indices_first cs levels lane.number ts) k.dims in
       let few = k.few in
@@ -575,4 +575,4 @@ module _ (x : Step) (scene : Scene) (lane : Lane) (stands : StandsIn scene lane.
   -- by a row
   pub row_reaches : (memory value : ℕ) (aim : Aim) (b : ℕ × ℕ) (spot : Spot) → aim.row ≡ Some value → spot_of_reach x.start x.first x.words (reach_told memory aim (b ∷ [])) ≡ Some spot → spot.bank ≡ b.0
   row_reaches memory value aim b spot row e =
-      (spot_row x.start.table (narrowed memory) b.0 (words.value_of (shown x value)) spot (ap (λ o. spot_in_row x.start x.first x.words (reach_told memory aim (b ∷ [])) o) (sym row) ∙ e)).1
+      (spot_row x.start.table (narrowed memory) b.0 (words.value_of (word_shown x value)) spot (ap (λ o. spot_in_row x.start x.first x.words (reach_told memory aim (b ∷ [])) o) (sym row) ∙ e)).1

@@ -21,13 +21,13 @@ use Rattle.dh_expressions.specs.declared.drafts.Draft.{Draft}
 use Rattle.dh_expressions.specs.declared.scenes.Around.{Around}
 use Rattle.dh_expressions.specs.declared.scenes.Lane.{Lane}
 use Rattle.dh_expressions.specs.declared.scenes.Scene.{Scene}
-use Rattle.dh_expressions.specs.Drafted.{Begun, Extends, Fits, Step}
+use Rattle.dh_expressions.specs.Drafted.{BlockBegun, Extends, FitsStep, BlockStep}
 use Rattle.dh_expressions.specs.MadeTerms.{MadeTerm, MadeTerms}
 use Rattle.dh_expressions.specs.MadeValues.{MadeHeld}
 use Rattle.dh_expressions.specs.Shown.{kind_written, register_at}
 use Rattle.dh_expressions.proofs.Pushing.{begun_later, extends_again, extends_self, fits_before}
 use Rattle.dh_formed.specs.Counted.{AreNext, HaveGiven, given_at_paths}
-use Rattle.dh_formed.specs.Formed.{Site}
+use Rattle.dh_formed.specs.Formed.{BlockSite}
 use Rattle.dh_formed.proofs.TermsCounted.{given_none}
 use Rattle.dh_formed.proofs.ValuesCounted.{held_counts, number_counts, shown_counts}
 use Rattle.dh_formed.proofs.ValuesFormed.{held_forms}
@@ -35,7 +35,7 @@ use Rattle.dh_commands.specs.declared.assignments.Values.{Values}
 use Rattle.dh_commands.specs.declared.buildings.Building.{Building}
 use Rattle.dh_commands.specs.LanesRun.{lane_of, paths_counted}
 use Rattle.dh_commands.specs.ShownVariables.{IsSeen}
-use Rattle.dh_commands.specs.Setting.{IsAmong}
+use Rattle.dh_commands.specs.Setting.{IsVariableAmong}
 use Rattle.dh_commands.specs.MadeCommands.{FoldedWith, MadeAssigned, MadeCleared, MadeHolds, MadeKept, MadeLanes, MadeOldOperand, MadeOperand, MadeReduced, MadeTested}
 use Rattle.dh_laid.specs.BlockSites.{term_sites, terms_sites}
 use Rattle.dh_laid.proofs.AccessesLaid.{folded_extends}
@@ -99,12 +99,12 @@ offsets_counted scene lane current (t ∷ ts) old new before after n next values
 
 -- Paths.
 
-module _ (x : Step) (sites : ℕ → Option Site) (scene : Scene) (table : x.start.table ≡ table_of (program_seen scene.program.now)) (IsRead : ℕ → Type 0) (paths : ℕ) where
+module _ (x : BlockStep) (sites : ℕ → Option BlockSite) (scene : Scene) (table : x.start.table ≡ table_of (program_seen scene.program.now)) (IsRead : ℕ → Type 0) (paths : ℕ) where
   -- where the commands up to a number are put down: reads before it have given at all paths, those behind it at none
   pub record Behind (a : Accesses) (upto : ℕ) : Type 0 where
     pub sited : AreSited x sites a
     pub given : (e : ℕ) → IsRead e → e < upto → paths ≤ given_at_paths a e
-    pub fresh : (m : ℕ) (s : Site) → sites m ≡ Some s → upto ≤ m → given_at_paths a m ≡ 0
+    pub fresh : (m : ℕ) (s : BlockSite) → sites m ≡ Some s → upto ≤ m → given_at_paths a m ≡ 0
 
   -- of what is led so, where a command that sets these variables began with these
   module _ (ways : ℕ → Option (Option Way)) (start : List (Option ℕ)) (Sets : ℕ → Type 0) where
@@ -118,9 +118,9 @@ module _ (x : Step) (sites : ℕ → Option Site) (scene : Scene) (table : x.sta
     module _ (around : Around) (same : paths_counted around ≡ paths) (shares : BlockShares IsRead scene sites) (first count reads : ℕ) (within : reads ≤ count) (Written : ℕ → Type 0) (one : (i j : ℕ) → Written i → Written j → i ≡ j)
         (rises : (u v : Put) (r t : Reach) → u.path < v.path → v.path < paths_counted around → r.access ≡ t.access → IsUse x sites u r → IsLed x scene around start sites ways u r → IsLed x scene around start sites ways v t → PlacesRise x sites u v r t)
         (One : ℕ → (b d : Building) → ℕ → Type 0) (extends : (n : ℕ) (b d : Building) (k : ℕ) → One n b d k → Extends b.draft d.draft)
-        (step : (n : ℕ) (b d : Building) (k : ℕ) → n < paths_counted around → One n b d k → Fits x d.draft → Begun x b.draft → Stays scene around Sets start b.values.current.items → AreSited x sites b.accesses → AreNext scene (lane_of around n) b.accesses first reads
+        (step : (n : ℕ) (b d : Building) (k : ℕ) → n < paths_counted around → One n b d k → FitsStep x d.draft → BlockBegun x b.draft → Stays scene around Sets start b.values.current.items → AreSited x sites b.accesses → AreNext scene (lane_of around n) b.accesses first reads
         → LaneDone around n first count reads Written b d)
-        (old : Building) (begins : start ≡ old.values.current.items) (h : Behind old.accesses first) (there_are : (m : ℕ) → first ≤ m → m < first + reads → (s : Site) × (sites m ≡ Some s)) (b0 : Begun x old.draft) where
+        (old : Building) (begins : start ≡ old.values.current.items) (h : Behind old.accesses first) (there_are : (m : ℕ) → first ≤ m → m < first + reads → (s : BlockSite) × (sites m ≡ Some s)) (b0 : BlockBegun x old.draft) where
       record Lanes (n : ℕ) (d : Building) : Type 0 where
         puts : PutsAt x sites first count (λ u r. (u.path < n) × IsLed x scene around start sites ways u r) Written old.draft d.draft
         sited : AreSited x sites d.accesses
@@ -169,7 +169,7 @@ module _ (x : Step) (sites : ℕ → Option Site) (scene : Scene) (table : x.sta
         behind_them = λ m more. s.given.behind_them m more ∙ l.behind_them m more;
       }
 
-      lanes : (n : ℕ) → n ≤ paths_counted around → (d : Building) (next : ℕ) → MadeLanes One n first old d next → Fits x d.draft → Lanes n d
+      lanes : (n : ℕ) → n ≤ paths_counted around → (d : Building) (next : ℕ) → MadeLanes One n first old d next → FitsStep x d.draft → Lanes n d
       lanes zero few d next m f = lanes_none d m.0
       lanes (suc n) few d next m f =
           let l = lanes n (omega (arith, few)) m.0 m.1.0 m.1.1.0 (fits_before (m.0).draft d.draft x (extends n m.0 d next m.1.1.1) f) in
@@ -181,7 +181,7 @@ module _ (x : Step) (sites : ℕ → Option Site) (scene : Scene) (table : x.sta
         pub down : PutsDown x sites first count old.draft d.draft
         pub behind : Behind d.accesses (first + count)
 
-      pub all_lanes : (d : Building) (next : ℕ) → MadeLanes One (paths_counted around) first old d next → Fits x d.draft → ((e : ℕ) → first + reads ≤ e → e < first + count → IsRead e → ⊥) → AllLanes d
+      pub all_lanes : (d : Building) (next : ℕ) → MadeLanes One (paths_counted around) first old d next → FitsStep x d.draft → ((e : ℕ) → first + reads ≤ e → e < first + count → IsRead e → ⊥) → AllLanes d
       all_lanes d next m f rest = record {
         down = l.puts.down;
         behind = record {
@@ -207,7 +207,7 @@ module _ (x : Step) (sites : ℕ → Option Site) (scene : Scene) (table : x.sta
 
       -- an expression, and what is made of its value
       pub term_lane : (t : Term) (first : ℕ) (middle : Draft) (b d : Building) (k v : ℕ) → Stays scene around Sets b.values.current.items d.values.current.items → MadeTerm scene (lane_of around n) b.values.current.items t b.draft middle b.accesses d.accesses first k v → AddsNone middle d.draft → Extends middle d.draft
-          → first + term_accesses t < 2 ^ 32 → SitesAt sites first (term_sites scene around t) → SitesAt ways first (term_ways scene t) → TermKeeps x scene around.levels.now Sets t → Fits x d.draft → Begun x b.draft → Stays scene around Sets start b.values.current.items → AreSited x sites b.accesses
+          → first + term_accesses t < 2 ^ 32 → SitesAt sites first (term_sites scene around t) → SitesAt ways first (term_ways scene t) → TermKeeps x scene around.levels.now Sets t → FitsStep x d.draft → BlockBegun x b.draft → Stays scene around Sets start b.values.current.items → AreSited x sites b.accesses
           → AreNext scene (lane_of around n) b.accesses first (term_accesses t) → LaneDone around n first (term_accesses t) (term_accesses t) (λ i. ⊥) b d
       term_lane t first middle b d k v kept m none e few at wat keeps f s stays sited next =
           let all : Done x sites scene (lane_of around n) stands within table ways start first (term_accesses t) b.draft d.draft b.accesses d.accesses =
@@ -216,21 +216,21 @@ module _ (x : Step) (sites : ℕ → Option Site) (scene : Scene) (table : x.sta
           record { puts = all.here.puts; sited = all.here.sited; given = all.given; kept = kept }
 
       pub assigned_lane : (first entity : ℕ) (t : Term) (b d : Building) (k : ℕ) → IsSeen scene around.levels.now entity → Sets entity → MadeAssigned scene (lane_of around n) first entity t b d k
-          → first + term_accesses t < 2 ^ 32 → SitesAt sites first (term_sites scene around t) → SitesAt ways first (term_ways scene t) → TermKeeps x scene around.levels.now Sets t → Fits x d.draft → Begun x b.draft → Stays scene around Sets start b.values.current.items → AreSited x sites b.accesses
+          → first + term_accesses t < 2 ^ 32 → SitesAt sites first (term_sites scene around t) → SitesAt ways first (term_ways scene t) → TermKeeps x scene around.levels.now Sets t → FitsStep x d.draft → BlockBegun x b.draft → Stays scene around Sets start b.values.current.items → AreSited x sites b.accesses
           → AreNext scene (lane_of around n) b.accesses first (term_accesses t) → LaneDone around n first (term_accesses t) (term_accesses t) (λ i. ⊥) b d
       assigned_lane first entity t b d k seen set m few at wat keeps f s stays sited next =
           term_lane t first m.middle b d k m.value (stays_set scene around Sets stands.placed n within entity m.held b.values d.values seen set m.sets) m.term (held_none t (held_at scene.held.now entity).kind m.value m.middle d.draft m.held m.holds)
           (held_forms t (held_at scene.held.now entity).kind m.value m.middle d.draft m.held m.holds).extends few at wat keeps f s stays sited next
 
       pub reduced_lane : (first entity : ℕ) (op : Op) (t : Term) (b d : Building) (k : ℕ) → IsSeen scene around.levels.now entity → Sets entity → MadeReduced scene (lane_of around n) first entity op t b d k
-          → first + term_accesses t < 2 ^ 32 → SitesAt sites first (term_sites scene around t) → SitesAt ways first (term_ways scene t) → TermKeeps x scene around.levels.now Sets t → Fits x d.draft → Begun x b.draft → Stays scene around Sets start b.values.current.items → AreSited x sites b.accesses
+          → first + term_accesses t < 2 ^ 32 → SitesAt sites first (term_sites scene around t) → SitesAt ways first (term_ways scene t) → TermKeeps x scene around.levels.now Sets t → FitsStep x d.draft → BlockBegun x b.draft → Stays scene around Sets start b.values.current.items → AreSited x sites b.accesses
           → AreNext scene (lane_of around n) b.accesses first (term_accesses t) → LaneDone around n first (term_accesses t) (term_accesses t) (λ i. ⊥) b d
       reduced_lane first entity op t b d k seen set m few at wat keeps f s stays sited next =
           term_lane t first m.middle b d k m.value (stays_set scene around Sets stands.placed n within entity m.folded b.values d.values seen set m.sets) m.term (folded_none (lane_of around n) b.values.current.items (held_at scene.held.now entity) op t m.value m.middle d.draft m.folded m.folds)
           (folded_extends (lane_of around n) b.values.current.items (held_at scene.held.now entity) op t m.value m.middle d.draft m.folded m.folds) few at wat keeps f s stays sited next
 
       pub tested_lane : (first : ℕ) (t : Term) (b d : Building) (k v : ℕ) → MadeTested scene (lane_of around n) first t b d k v
-          → first + term_accesses t < 2 ^ 32 → SitesAt sites first (term_sites scene around t) → SitesAt ways first (term_ways scene t) → TermKeeps x scene around.levels.now Sets t → Fits x d.draft → Begun x b.draft → Stays scene around Sets start b.values.current.items → AreSited x sites b.accesses
+          → first + term_accesses t < 2 ^ 32 → SitesAt sites first (term_sites scene around t) → SitesAt ways first (term_ways scene t) → TermKeeps x scene around.levels.now Sets t → FitsStep x d.draft → BlockBegun x b.draft → Stays scene around Sets start b.values.current.items → AreSited x sites b.accesses
           → AreNext scene (lane_of around n) b.accesses first (term_accesses t) → LaneDone around n first (term_accesses t) (term_accesses t) (λ i. ⊥) b d
       tested_lane first t b d k v m few at wat keeps f s stays sited next =
           term_lane t first d.draft b d k v (stays_same scene around Sets b.values.current.items d.values.current.items (ap (λ (w : Values). w.current.items) m.same)) m.term (none_still d.draft d.draft refl) (record { operations = λ n o at. at; faults = λ n f at. at; longer = omega arith }) few at wat keeps f s stays sited next
@@ -245,9 +245,9 @@ module _ (x : Step) (sites : ℕ → Option Site) (scene : Scene) (table : x.sta
       }
 
       -- a view that keeps its offsets
-      pub kept_lane : (first entity : ℕ) (offsets : List Term) (b d : Building) (k : ℕ) → AreSeenFrom scene around.levels.now entity (length offsets) → ((e : ℕ) → IsAmong entity (length offsets) e → Sets e)
+      pub kept_lane : (first entity : ℕ) (offsets : List Term) (b d : Building) (k : ℕ) → AreSeenFrom scene around.levels.now entity (length offsets) → ((e : ℕ) → IsVariableAmong entity (length offsets) e → Sets e)
           → MadeKept scene (lane_of around n) first entity offsets b d k → first + terms_accesses (terms offsets) < 2 ^ 32 → SitesAt sites first (terms_sites scene around (terms offsets)) → SitesAt ways first (terms_ways scene (terms offsets))
-          → TermsKeep x scene around.levels.now Sets (terms offsets) → Fits x d.draft → Begun x b.draft → Stays scene around Sets start b.values.current.items → AreSited x sites b.accesses
+          → TermsKeep x scene around.levels.now Sets (terms offsets) → FitsStep x d.draft → BlockBegun x b.draft → Stays scene around Sets start b.values.current.items → AreSited x sites b.accesses
           → AreNext scene (lane_of around n) b.accesses first (terms_accesses (terms offsets)) → LaneDone around n first (terms_accesses (terms offsets)) (terms_accesses (terms offsets)) (λ i. ⊥) b d
       kept_lane first entity offsets b d k seen sets m few at wat keeps f s stays sited next =
           let all : Done x sites scene (lane_of around n) stands within table ways start first (terms_accesses (terms offsets)) b.draft d.draft b.accesses d.accesses =

@@ -4,7 +4,7 @@ use Rattle.std.specs.Prelude.{Bool, true, false, ◌||◌, nat_lt}
 use Rattle.dh_tree.specs.Meets.{In, Meets, access, all, one}
 use Rattle.dh_tree.specs.PlainTrees.{Action, action, ActionForm, lets, lets_memory, views, assigns, stores, reduces, calls, blocks, decides, repeats, counts, MaybeAction, no_action, one_action, Actions, no_actions, action_then, Groups, no_groups, group_then, Program}
 use Rattle.dh_meaning.specs.AccessNumbers.{accesses_of, own_accesses, other_accesses, part_accesses, term_accesses}
-use Rattle.dh_meets.specs.MayMeet.{arms_meet, command_meets, groups_meet, meets, meets_in, other_meets, part_meets, row_of}
+use Rattle.dh_meets.specs.MayMeet.{arms_meet, command_meets, groups_meet, meets, meets_in, other_meets, part_meets, row_of_accesses}
 use Rattle.dh_sound.proofs.Sums.{groups_within, meets_within, other_within, part_within, row_within}
 use Rattle.dh_reached.specs.StepBanks.{StandInOrder}
 
@@ -28,14 +28,14 @@ arms_order : (u : Bool) (l r : Meets) → StandInOrder l → StandInOrder r → 
 arms_order true l r h k before = all_order l r h k before
 arms_order false l r h k before = one_order l r h k before
 
-row_order : (n count : ℕ) → StandInOrder (row_of n count)
+row_order : (n count : ℕ) → StandInOrder (row_of_accesses n count)
 row_order n zero a b p q less = absurd p
-row_order n (suc count) a b p q less = all_order (access n) (row_of (suc n) count) single (row_order (suc n) count) first a b p q less
+row_order n (suc count) a b p q less = all_order (access n) (row_of_accesses (suc n) count) single (row_order (suc n) count) first a b p q less
   where
     single : StandInOrder (access n)
     single a b p q less = absurd (omega (arith, p, q, less))
 
-    first : AreBefore (access n) (row_of (suc n) count)
+    first : AreBefore (access n) (row_of_accesses (suc n) count)
     first i j p q = let w = (row_within j (suc n) count q).0 in omega (arith, p, w)
 
 -- by ranges of numbers
@@ -56,7 +56,7 @@ mutual
   form_order u n (calls function arguments) = λ a b p q less. absurd p
   form_order u n (blocks body) = groups_order u n body
   form_order u n (decides test chosen other) =
-      all_order (row_of n (term_accesses test)) (arms_meet u (meets u (n + term_accesses test) chosen) (other_meets u (n + term_accesses test + accesses_of chosen) other)) (row_order n (term_accesses test))
+      all_order (row_of_accesses n (term_accesses test)) (arms_meet u (meets u (n + term_accesses test) chosen) (other_meets u (n + term_accesses test + accesses_of chosen) other)) (row_order n (term_accesses test))
       (arms_order u (meets u (n + term_accesses test) chosen) (other_meets u (n + term_accesses test + accesses_of chosen) other) (meets_order u (n + term_accesses test) chosen)
       (other_order u (n + term_accesses test + accesses_of chosen) other)
       (λ i j p q. ranges_before i j (n + term_accesses test) (accesses_of chosen) (other_accesses other) (meets_within i u (n + term_accesses test) chosen p) (other_within j u (n + term_accesses test + accesses_of chosen) other q)))
@@ -70,13 +70,13 @@ mutual
       either true l r j q = q
       either false l r j q = q
 
-      before_arms : (v : Bool) (i j : ℕ) → In i (row_of n (term_accesses test)) → In j (arms_meet v (meets u (n + term_accesses test) chosen) (other_meets u (n + term_accesses test + accesses_of chosen) other)) → i < j
+      before_arms : (v : Bool) (i j : ℕ) → In i (row_of_accesses n (term_accesses test)) → In j (arms_meet v (meets u (n + term_accesses test) chosen) (other_meets u (n + term_accesses test + accesses_of chosen) other)) → i < j
       before_arms v i j p q =
           let w = (row_within i n (term_accesses test) p).1 in
           let l = low j (either v (meets u (n + term_accesses test) chosen) (other_meets u (n + term_accesses test + accesses_of chosen) other) j q) in
           omega (arith, w, l)
   form_order u n (repeats test body) =
-      one_order (row_of n (term_accesses test)) (meets u (n + term_accesses test) body) (row_order n (term_accesses test)) (meets_order u (n + term_accesses test) body)
+      one_order (row_of_accesses n (term_accesses test)) (meets u (n + term_accesses test) body) (row_order n (term_accesses test)) (meets_order u (n + term_accesses test) body)
       (λ i j p q. ranges_before i j n (term_accesses test) (accesses_of body) (row_within i n (term_accesses test) p) (meets_within j u (n + term_accesses test) body q))
   form_order u n (counts iterator declared low high factor body combine combine_place) =
       all_order (meets (u || nat_lt 1 factor.value) n body) (other_meets (u || nat_lt 1 factor.value) (n + accesses_of body) combine) (meets_order (u || nat_lt 1 factor.value) n body)

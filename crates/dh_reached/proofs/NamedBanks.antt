@@ -11,7 +11,7 @@ use Rattle.dh_tree.specs.ViewElements.{is_inside, named_by}
 use Rattle.dh_viewing.specs.Carried.{AllLead, Among, Copy, Goes, bank_in}
 use Rattle.dh_viewing.specs.ReachedBanks.{bank_at, covering}
 use Rattle.dh_meaning.specs.Effects.{indices_through}
-use Rattle.dh_meaning.specs.Ways.{Hidden, Step}
+use Rattle.dh_meaning.specs.Ways.{Hidden, WayStep}
 use Rattle.dh_ways.specs.Leading.{StepsLead, next_dims}
 use Rattle.dh_sound.proofs.CopiesThrough.{Passes, SameAtShifts, all_lead, banks_along, behind_step}
 use Rattle.dh_reached.specs.IndicesKept.{ShiftsKept}
@@ -39,24 +39,24 @@ all_back (v ∷ vs) cs level c d h hc hd e =
 -- Two elements.
 
 module _ (dims : List Dim) where
-  last_bank : (ss : List Step) (indices offsets last : List ℤ) → indices_through ss indices offsets ≡ Some last → slice_index (banks_along dims ss indices offsets) (length ss) ≡ bank_at dims last
+  last_bank : (ss : List WayStep) (indices offsets last : List ℤ) → indices_through ss indices offsets ≡ Some last → slice_index (banks_along dims ss indices offsets) (length ss) ≡ bank_at dims last
   last_bank [] indices offsets last h = ap (λ (l : List ℤ). bank_at dims l) (same indices last h)
     where
       same : (xs ys : List ℤ) → Some xs ≡ Some ys → xs ≡ ys
       same xs ys e = cc
   last_bank (s ∷ ss) indices offsets last h = last_bank ss (named_by s.is (take s.offsets offsets) indices) (drop s.offsets offsets) last (behind_step s ss indices offsets last h)
 
-  first_bank : (ss : List Step) (indices offsets : List ℤ) → slice_index (banks_along dims ss indices offsets) 0 ≡ bank_at (next_dims ss dims) indices
+  first_bank : (ss : List WayStep) (indices offsets : List ℤ) → slice_index (banks_along dims ss indices offsets) 0 ≡ bank_at (next_dims ss dims) indices
   first_bank [] indices offsets = refl
   first_bank (s ∷ ss) indices offsets = refl
 
-  pub record Reached (ss : List Step) (indices offsets : List ℤ) (bank : ℕ) : Type 0 where
+  pub record Reached (ss : List WayStep) (indices offsets : List ℤ) (bank : ℕ) : Type 0 where
     pub last : List ℤ
     pub through : indices_through ss indices offsets ≡ Some last
     pub inside : is_inside dims last ≡ true
     pub is : bank ≡ bank_at dims last
 
-  module _ (ss : List Step) (leads : StepsLead ss dims) (is js os ps : List ℤ) (bank : ℕ) (a : Reached ss is os bank) (b : Reached ss js ps bank) (same : SameAtShifts ss os ps) (turned : SameAtShifts ss ps os) (own : SameAtShifts ss os os)
+  module _ (ss : List WayStep) (leads : StepsLead ss dims) (is js os ps : List ℤ) (bank : ℕ) (a : Reached ss is os bank) (b : Reached ss js ps bank) (same : SameAtShifts ss os ps) (turned : SameAtShifts ss ps os) (own : SameAtShifts ss os os)
       (other : SameAtShifts ss ps ps) where
     abbrev one : Copy
     one = record { key = []; banks = banks_along dims ss is os }
@@ -88,13 +88,13 @@ module _ (dims : List Dim) where
         ∙ (all_back (map (λ s. s.is) ss) copies 0 one two (all_lead dims ss 0 copies leads passes common) (inl refl) (inr (inl refl)) last
         ∙ first_bank ss js ps)
       where
-        long : 0 + length (map (λ (s : Step). s.is) ss) ≡ length ss
-        long = plain (length (map (λ (s : Step). s.is) ss)) ∙ length-map ss (λ (s : Step). s.is)
+        long : 0 + length (map (λ (s : WayStep). s.is) ss) ≡ length ss
+        long = plain (length (map (λ (s : WayStep). s.is) ss)) ∙ length-map ss (λ (s : WayStep). s.is)
           where
             plain : (n : ℕ) → 0 + n ≡ n
             plain n = omega arith
 
-        last : bank_in (0 + length (map (λ (s : Step). s.is) ss)) one ≡ bank_in (0 + length (map (λ (s : Step). s.is) ss)) two
+        last : bank_in (0 + length (map (λ (s : WayStep). s.is) ss)) one ≡ bank_in (0 + length (map (λ (s : WayStep). s.is) ss)) two
         last =
             ap (λ (n : ℕ). slice_index (banks_along dims ss is os) n) long
             ∙ (last_bank ss is os a.last a.through ∙ (sym a.is ∙ (b.is ∙ sym (ap (λ (n : ℕ). slice_index (banks_along dims ss js ps) n) long ∙ last_bank ss js ps b.last b.through))))
@@ -129,7 +129,7 @@ dropped k zero hs = refl
 dropped k (suc n) [] = refl
 dropped k (suc n) (h ∷ hs) = dropped k n hs
 
-pub same_at_shifts : (f g : Hidden → ℤ) (deepest : ℕ) (Kept : Hidden → Type 0) → ((h : Hidden) → Kept h → h.depth ≤ deepest → f h ≡ g h) → (ss : List Step) (hs : List Hidden) → ShiftsKept ss hs deepest → AllByRecursion Kept hs
+pub same_at_shifts : (f g : Hidden → ℤ) (deepest : ℕ) (Kept : Hidden → Type 0) → ((h : Hidden) → Kept h → h.depth ≤ deepest → f h ≡ g h) → (ss : List WayStep) (hs : List Hidden) → ShiftsKept ss hs deepest → AllByRecursion Kept hs
     → SameAtShifts ss (map f hs) (map g hs)
 same_at_shifts f g deepest Kept so [] hs h k = tt
 same_at_shifts f g deepest Kept so (s ∷ ss) hs h k = (

@@ -9,7 +9,7 @@ use Rattle.dh_tree.specs.PlainTrees as plain
 use Rattle.dh_tree.specs.PlainTrees.{Term, Action, action, ActionForm, lets, lets_memory, views, assigns, stores, reduces, calls, blocks, decides, repeats, counts}
 use Rattle.dh_tree.specs.Seen.{program_seen}
 use Rattle.dh_meaning.specs.AccessNumbers.{accesses_of, term_accesses}
-use Rattle.dh_meaning.specs.CoreOf.{form_of, test_of}
+use Rattle.dh_meaning.specs.CoreOf.{action_form_of, test_of}
 use Rattle.dh_meaning.specs.OnePhase.{test_makes, tests_make}
 use Rattle.dh_meaning.specs.Paths.{copies_in}
 use Rattle.dh_meaning.specs.Phases.{Located}
@@ -19,14 +19,14 @@ use Rattle.dh_meets.specs.Charges as charged
 use Rattle.dh_meets.specs.SourceEvents.{SourceAccess, SourceEvent, accesses_in, trace}
 use Rattle.dh_expressions.specs.declared.scenes.Around.{Around}
 use Rattle.dh_expressions.specs.declared.scenes.Scene.{Scene}
-use Rattle.dh_expressions.specs.Drafted.{Begun, Fits, Step, holds}
+use Rattle.dh_expressions.specs.Drafted.{BlockBegun, FitsStep, BlockStep, holds}
 use Rattle.dh_expressions.specs.Shown.{guard_of}
 use Rattle.dh_expressions.proofs.ListPlaces.{some_same, there}
 use Rattle.dh_expressions.proofs.Pushing.{begun_later, fits_before}
-use Rattle.dh_formed.specs.Formed.{Site}
+use Rattle.dh_formed.specs.Formed.{BlockSite}
 use Rattle.dh_commands.specs.declared.buildings.Building.{Building}
 use Rattle.dh_commands.specs.LanesRun.{paths_counted}
-use Rattle.dh_blocks.specs.BlockMade.{step_of}
+use Rattle.dh_blocks.specs.BlockMade.{step_of_block}
 use Rattle.dh_blocks.proofs.BlockBegins.{begun_here, fits_here}
 use Rattle.dh_laid.specs.BlockSites.{MadeEach, block_sites, command_sites, places_from, term_sites, test_sites}
 use Rattle.dh_laid.specs.LaidNumbers.{StoresReach}
@@ -102,7 +102,7 @@ fold_accesses (action id place (decides test chosen other)) is = absurd is
 fold_accesses (action id place (repeats test body)) is = absurd is
 fold_accesses (action id place (counts iterator declared low high factor body combine combine_place)) is = absurd is
 
-module _ (scene : Scene) (around : Around) (j : ℕ) (s : Site) where
+module _ (scene : Scene) (around : Around) (j : ℕ) (s : BlockSite) where
   folds_none : (folds : List Located) (old new : Building) (m : MadeEach scene around folds old new) → AreFolds folds → AllByRecursion (λ (c : Located). StoresReach c.command) folds → block_sites scene around folds old new m j ≡ Some s → ⊥
   folds_none [] old new m quiet is e = absurd (cc)
   folds_none (c ∷ cs) old new (mid, (next, (one, rest))) quiet is e =
@@ -177,14 +177,14 @@ record IsLater (r : stood.Around) (before : List SourceEvent) (a : SourceAccess)
   below : Below number r.arms
   fresh : AllBelow number before
 
-module _ (x : Step) (scene : Scene) (around : Around) (stands : StandsSpread scene around) where
+module _ (x : BlockStep) (scene : Scene) (around : Around) (stands : StandsSpread scene around) where
   -- what is told of a command's accesses
   arms_told : (r : stood.Around) (before : List SourceEvent) (c : Located) (j : ℕ) (a : SourceAccess) (h : StandsBehind r before c) → At c.first j (of_located c) a → StandsWithin r h.number (h.number + commands_in c.command) a
   arms_told r before c j a h at =
       subst (λ (q : stood.Around). StandsWithin q h.number (h.number + commands_in c.command) a) h.around
       (at_each (StandsWithin c.around h.number (h.number + commands_in c.command)) c.first j (of_located c) a (action_stands c.around h.number c.command h.numbered) at)
 
-  later : (j : ℕ) (s : Site) (a : SourceAccess) (r : stood.Around) (before part : List SourceEvent) (done folds : List Located) (old new : Building) (m : MadeEach scene around (done ++ folds) old new) → Follows r before part done
+  later : (j : ℕ) (s : BlockSite) (a : SourceAccess) (r : stood.Around) (before part : List SourceEvent) (done folds : List Located) (old new : Building) (m : MadeEach scene around (done ++ folds) old new) → Follows r before part done
       → Pair scene around j s a done folds old new m → IsLater r before a
   later j s a r before part [] folds old new m follows pair = absurd pair
   later j s a r before part (c ∷ cs) folds old new (mid, (next, (one, rest_made))) (gap, (rest, (all, (h, follows)))) (inl own) =
@@ -218,14 +218,14 @@ module _ (x : Step) (scene : Scene) (around : Around) (stands : StandsSpread sce
   not_twice true = refl
   not_twice false = refl
 
-  pairs_exclude : (j k : ℕ) (s t : Site) (a b : SourceAccess) (r : stood.Around) → HasOneOfEach r.arms → (before part : List SourceEvent) (done folds : List Located) (old new : Building) (m : MadeEach scene around (done ++ folds) old new)
-      → Follows r before part done → AllByRecursion (λ (c : Located). StoresReach c.command) (done ++ folds) → Fits x new.draft → Begun x old.draft → Pair scene around j s a done folds old new m → Pair scene around k t b done folds old new m
+  pairs_exclude : (j k : ℕ) (s t : BlockSite) (a b : SourceAccess) (r : stood.Around) → HasOneOfEach r.arms → (before part : List SourceEvent) (done folds : List Located) (old new : Building) (m : MadeEach scene around (done ++ folds) old new)
+      → Follows r before part done → AllByRecursion (λ (c : Located). StoresReach c.command) (done ++ folds) → FitsStep x new.draft → BlockBegun x old.draft → Pair scene around j s a done folds old new m → Pair scene around k t b done folds old new m
       → (id : ℕ) (side : Truth) → HasArm (arm_of id side) a.site.arms → HasArm (arm_of id (not side)) b.site.arms → (n : ℕ) → n < paths_counted around → holds x (guard_of s.standing.guards n) → holds x (guard_of t.standing.guards n) → ⊥
   pairs_exclude j k s t a b r once before part [] folds old new m follows is f begun one two id side ha hb n less on_s on_t = one
   pairs_exclude j k s t a b r once before part (c ∷ cs) folds old new (mid, (next, (made, rest_made))) (gap, (rest, (all, (h, follows)))) is f begun one two id side ha hb n less on_s on_t =
       by one two (λ p q. pairs_exclude j k s t a b r once ((before ++ gap) ++ of_located c) rest cs folds mid new rest_made follows is.1 f (begun_later old.draft mid.draft x (command_lays scene c.command around old mid c.first next stands.stands made).extends begun) p q id side ha hb n less on_s on_t)
     where
-      f_mid : Fits x mid.draft
+      f_mid : FitsStep x mid.draft
       f_mid = fits_before mid.draft new.draft x (each_lays scene around (cs ++ folds) mid new stands.stands rest_made).extends f
 
       once_here : HasOneOfEach c.around.arms
@@ -247,7 +247,7 @@ module _ (x : Step) (scene : Scene) (around : Around) (stands : StandsSpread sce
       by (inr p) (inr q) more = more p q
 
   -- a site of a block is guarded inside what stands round it
-  block_guarded : (cs : List Located) (old new : Building) (m : MadeEach scene around cs old new) (number : ℕ) (s : Site) → Fits x new.draft → Begun x old.draft → block_sites scene around cs old new m number ≡ Some s → IsGuardedIn x around s
+  block_guarded : (cs : List Located) (old new : Building) (m : MadeEach scene around cs old new) (number : ℕ) (s : BlockSite) → FitsStep x new.draft → BlockBegun x old.draft → block_sites scene around cs old new m number ≡ Some s → IsGuardedIn x around s
   block_guarded [] old new m number s f b e = absurd (cc)
   block_guarded (c ∷ cs) old new (mid, (next, (one, rest))) number s f b e =
       by (site_cases scene around (places_from c.first (command_sites scene c.command around old mid c.first next one) number) (block_sites scene around cs mid new rest number) s e)
@@ -270,13 +270,13 @@ pub straight_never : StraightNever
 straight_never scene around plan count block done folds old new made more reads h along meets registers memories j k m n s t at_j at_k apart done_j done_k =
     by opposite.opposite
   where
-    x : Step
-    x = step_of plan block registers memories
+    x : BlockStep
+    x = step_of_block plan block registers memories
 
-    fits : Fits (step_of plan block registers memories) new.draft
+    fits : FitsStep (step_of_block plan block registers memories) new.draft
     fits = fits_here plan count block old new more h.put registers memories
 
-    begun : Begun (step_of plan block registers memories) old.draft
+    begun : BlockBegun (step_of_block plan block registers memories) old.draft
     begun = begun_here plan count block old new more h.put registers memories
 
     one : (a : SourceAccess) × ((slice_get (accesses_in ([] ++ trace (program_seen scene.program.now))) j ≡ Some a) × Pair scene around j s a done folds old new made)
@@ -290,35 +290,35 @@ straight_never scene around plan count block done folds old new made more reads 
         ((meets.apart j k (apart_first plan.meets j k apart) (apart_second plan.meets j k apart)).0 apart) one.0 two.0 one.1.0 two.1.0
 
     told : IsLater along.round [] one.0
-    told = later (step_of plan block registers memories) scene around h.stands j s one.0 along.round [] (trace (program_seen scene.program.now)) done folds old new made along.follows one.1.1
+    told = later (step_of_block plan block registers memories) scene around h.stands j s one.0 along.round [] (trace (program_seen scene.program.now)) done folds old new made along.follows one.1.1
 
     once : HasOneOfEach along.round.arms
     once = front_once along.round.arms told.further (subst (λ (l : List Arm). HasOneOfEach l) told.arms_are (arms_once (program_seen scene.program.now) along.lowest along.numbered j one.0 one.1.0))
 
     one_path : paths_counted around ≡ 1
-    one_path = h.stands.counted ∙ (ap (λ (fs : List ℕ). copies_in fs) along.loops_are ∙ ap (λ (ls : List Counter). copies_in (charged.factors_of ls)) bare)
+    one_path = h.stands.counted ∙ (ap (λ (fs : List ℕ). copies_in fs) along.loops_are ∙ ap (λ (ls : List Counter). copies_in (charged.loop_factors ls)) bare)
       where
         bare : along.round.loops ≡ []
         bare = no_loops along.round.loops told.inner (sym told.loops_are ∙ opposite.single)
 
-    guarded_s : IsGuardedIn (step_of plan block registers memories) around s
-    guarded_s = block_guarded (step_of plan block registers memories) scene around h.stands (done ++ folds) old new made j s fits begun at_j
+    guarded_s : IsGuardedIn (step_of_block plan block registers memories) around s
+    guarded_s = block_guarded (step_of_block plan block registers memories) scene around h.stands (done ++ folds) old new made j s fits begun at_j
 
-    guarded_t : IsGuardedIn (step_of plan block registers memories) around t
-    guarded_t = block_guarded (step_of plan block registers memories) scene around h.stands (done ++ folds) old new made k t fits begun at_k
+    guarded_t : IsGuardedIn (step_of_block plan block registers memories) around t
+    guarded_t = block_guarded (step_of_block plan block registers memories) scene around h.stands (done ++ folds) old new made k t fits begun at_k
 
     first_is : (p : ℕ) → p < paths_counted around → p ≡ 0
     first_is p l = let e = one_path in omega (arith, l, e)
 
-    on_s : holds (step_of plan block registers memories) (guard_of s.standing.guards 0)
-    on_s = subst (λ (p : ℕ). holds (step_of plan block registers memories) (guard_of s.standing.guards p)) (first_is done_j.path (subst (λ (l : ℕ). done_j.path < l) guarded_s.long done_j.within)) done_j.on
+    on_s : holds (step_of_block plan block registers memories) (guard_of s.standing.guards 0)
+    on_s = subst (λ (p : ℕ). holds (step_of_block plan block registers memories) (guard_of s.standing.guards p)) (first_is done_j.path (subst (λ (l : ℕ). done_j.path < l) guarded_s.long done_j.within)) done_j.on
 
-    on_t : holds (step_of plan block registers memories) (guard_of t.standing.guards 0)
-    on_t = subst (λ (p : ℕ). holds (step_of plan block registers memories) (guard_of t.standing.guards p)) (first_is done_k.path (subst (λ (l : ℕ). done_k.path < l) guarded_t.long done_k.within)) done_k.on
+    on_t : holds (step_of_block plan block registers memories) (guard_of t.standing.guards 0)
+    on_t = subst (λ (p : ℕ). holds (step_of_block plan block registers memories) (guard_of t.standing.guards p)) (first_is done_k.path (subst (λ (l : ℕ). done_k.path < l) guarded_t.long done_k.within)) done_k.on
 
     never : (side : Truth) → HasArm (arm_of opposite.command side) one.0.site.arms → HasArm (arm_of opposite.command (not side)) two.0.site.arms → ⊥
     never side p q =
-        pairs_exclude (step_of plan block registers memories) scene around h.stands j k s t one.0 two.0 along.round once [] (trace (program_seen scene.program.now)) done folds old new made along.follows h.stores fits begun one.1.1 two.1.1
+        pairs_exclude (step_of_block plan block registers memories) scene around h.stands j k s t one.0 two.0 along.round once [] (trace (program_seen scene.program.now)) done folds old new made along.follows h.stores fits begun one.1.1 two.1.1
         opposite.command side p q 0 (let e = one_path in omega (arith, e)) on_s on_t
 
     by : AreOpposite opposite.command one.0.site.arms two.0.site.arms → ⊥
@@ -327,7 +327,7 @@ straight_never scene around plan count block done folds old new made more reads 
 
 -- Tests.
 
-pub tests_within : (a : Action) (t : Term) (j n : ℕ) → test_of (form_of a) ≡ Some t → n ≤ j → j < n + term_accesses t → tests_make j n a ≡ true
+pub tests_within : (a : Action) (t : Term) (j n : ℕ) → test_of (action_form_of a) ≡ Some t → n ≤ j → j < n + term_accesses t → tests_make j n a ≡ true
 tests_within (action id place (decides test chosen other)) t j n e l u = within_is j n (term_accesses test) l (subst (λ (q : Term). j < n + term_accesses q) (sym (some_same test t e)) u)
 tests_within (action id place (repeats test body)) t j n e l u = within_is j n (term_accesses test) l (subst (λ (q : Term). j < n + term_accesses q) (sym (some_same test t e)) u)
 tests_within (action id place (lets name declared value)) t j n e l u = absurd (cc)
@@ -344,7 +344,7 @@ pub test_never : TestNever
 test_never scene around plan block tested t has is meets registers memories j k m n s q at_j at_k apart done_j done_k =
     test_together (program_seen scene.program.now) tested j k has (made j s at_j) (made k q at_k) ((meets.apart j k (apart_first plan.meets j k apart) (apart_second plan.meets j k apart)).0 apart)
   where
-    made : (i : ℕ) (o : Site) → test_sites scene around tested.first t i ≡ Some o → test_makes i tested ≡ true
+    made : (i : ℕ) (o : BlockSite) → test_sites scene around tested.first t i ≡ Some o → test_makes i tested ≡ true
     made i o e =
         let told = site_told tested.first i (term_sites scene around t) o e in
         let l = told.0 in let u = told.1 in

@@ -9,9 +9,9 @@ use Rattle.dh_plan.specs.declared.operations.OperationForm.TheVariants.{Check, C
 use Rattle.dh_plan.specs.declared.operations.Reach.{Reach}
 use Rattle.dh_plan.specs.SoundPlans.{use_in, writes_memory}
 use Rattle.dh_expressions.specs.declared.drafts.Draft.{Draft}
-use Rattle.dh_expressions.specs.Drafted.{Pushes, Step}
+use Rattle.dh_expressions.specs.Drafted.{Pushes, BlockStep}
 use Rattle.dh_formed.specs.Counted.{Counts, FormIs}
-use Rattle.dh_formed.specs.Formed.{Site}
+use Rattle.dh_formed.specs.Formed.{BlockSite}
 use Rattle.dh_formed.proofs.ElementsFormed.{all_append}
 use Rattle.dh_reached.specs.Puts.{AreInOrder, EachUse, Goes, GoesBefore, IsUse, PlacesRise, Put, PutsAt, PutsDown, is_write, operations_of}
 use Rattle.dh_reached.proofs.PutLists.{each_both, each_two, each_weaker, go_by, operations_both, order_both}
@@ -47,11 +47,11 @@ none_each : (P : Put → Reach → Type 0) (os : List Operation) → AllByRecurs
 none_each P [] h = tt
 none_each P (o ∷ os) h = (λ r e. absurd (none_used o.form r h.0 e), none_each P os h.1)
 
-none_goes : (x : Step) (sites : ℕ → Option Site) (o : Operation) (path : ℕ) (us : List Put) → UsesNone o.form → AllByRecursion (Goes x sites (record { operation = o; path = path })) us
+none_goes : (x : BlockStep) (sites : ℕ → Option BlockSite) (o : Operation) (path : ℕ) (us : List Put) → UsesNone o.form → AllByRecursion (Goes x sites (record { operation = o; path = path })) us
 none_goes x sites o path [] h = tt
 none_goes x sites o path (u ∷ us) h = (λ r t e f. absurd (none_used o.form r h e), none_goes x sites o path us h)
 
-none_order : (x : Step) (sites : ℕ → Option Site) (os : List Operation) → AllByRecursion (λ o. UsesNone o.form) os → AreInOrder x sites (at_none os)
+none_order : (x : BlockStep) (sites : ℕ → Option BlockSite) (os : List Operation) → AllByRecursion (λ o. UsesNone o.form) os → AreInOrder x sites (at_none os)
 none_order x sites [] h = tt
 none_order x sites (o ∷ os) h = (none_goes x sites o 0 (at_none os) h.0, none_order x sites os h.1)
 
@@ -80,7 +80,7 @@ none_again a b c h k = record {
   each = all_append (λ (o : Operation). UsesNone o.form) h.more k.more h.each k.each;
 }
 
-module _ (x : Step) (sites : ℕ → Option Site) (first count : ℕ) (IsAt : Put → Reach → Type 0) (IsWritten : ℕ → Type 0) where
+module _ (x : BlockStep) (sites : ℕ → Option BlockSite) (first count : ℕ) (IsAt : Put → Reach → Type 0) (IsWritten : ℕ → Type 0) where
   pub puts_added : (old new : Draft) → AddsNone old new → PutsAt x sites first count IsAt IsWritten old new
   puts_added old new c = record {
     down = record {
@@ -127,10 +127,10 @@ module _ (x : Step) (sites : ℕ → Option Site) (first count : ℕ) (IsAt : Pu
       upper a l = omega (arith, l, high)
 
 -- One behind the other, where the uses of the first go before those of the second.
-abbrev pub Joins : Step → (sites : ℕ → Option Site) → (P Q : Put → Reach → Type 0) → Type 0
+abbrev pub Joins : BlockStep → (sites : ℕ → Option BlockSite) → (P Q : Put → Reach → Type 0) → Type 0
 Joins x sites P Q = (a b : Put) (r t : Reach) → P a r → Q b t → GoesBefore x sites a b r t
 
-module _ (x : Step) (sites : ℕ → Option Site) where
+module _ (x : BlockStep) (sites : ℕ → Option BlockSite) where
   -- of accesses and then of later ones
   pub down_then : (first many more : ℕ) (a b c : Draft) → PutsDown x sites first many a b → PutsDown x sites (first + many) more b c → PutsDown x sites first (many + more) a c
   down_then first many more a b c h k = record {

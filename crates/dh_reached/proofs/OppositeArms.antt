@@ -21,11 +21,11 @@ use Rattle.dh_expressions.specs.declared.drafts.Draft.{Draft}
 use Rattle.dh_expressions.specs.declared.scenes.Around.{Around}
 use Rattle.dh_expressions.specs.declared.scenes.Scene.{Scene}
 use Rattle.dh_expressions.specs.Evaluated.{known_in}
-use Rattle.dh_expressions.specs.Drafted.{Begun, Fits, Step, holds, shown}
+use Rattle.dh_expressions.specs.Drafted.{BlockBegun, FitsStep, BlockStep, holds, word_shown}
 use Rattle.dh_expressions.specs.Shown.{guard_of}
 use Rattle.dh_expressions.proofs.ListPlaces.{there}
 use Rattle.dh_expressions.proofs.Pushing.{begun_later, fits_before}
-use Rattle.dh_formed.specs.Formed.{Site}
+use Rattle.dh_formed.specs.Formed.{BlockSite}
 use Rattle.dh_commands.specs.declared.buildings.Building.{Building}
 use Rattle.dh_commands.specs.declared.choices.Left.{Left}
 use Rattle.dh_commands.specs.LanesRun.{paths_counted}
@@ -127,22 +127,22 @@ each_back P [] fs h = h
 each_back P (accesses b ∷ es) fs h = each_back P es fs h.1
 each_back P (assigned e ∷ es) fs h = each_back P es fs h
 
-front_place : (xs ys : List (Option Site)) (n : ℕ) → n < length xs → slice_get (xs ++ ys) n ≡ slice_get xs n
+front_place : (xs ys : List (Option BlockSite)) (n : ℕ) → n < length xs → slice_get (xs ++ ys) n ≡ slice_get xs n
 front_place [] ys n l = absurd (omega (arith, l))
 front_place (x ∷ xs) ys zero l = refl
 front_place (x ∷ xs) ys (suc n) l = front_place xs ys n (omega (arith, l))
 
-back_place : (xs ys : List (Option Site)) (n : ℕ) → length xs ≤ n → slice_get (xs ++ ys) n ≡ slice_get ys (n - length xs)
+back_place : (xs ys : List (Option BlockSite)) (n : ℕ) → length xs ≤ n → slice_get (xs ++ ys) n ≡ slice_get ys (n - length xs)
 back_place [] ys n l = ap (λ k. slice_get ys k) (let e : n ≡ n - 0 = omega arith in e)
 back_place (x ∷ xs) ys zero l = absurd (omega (arith, l))
 back_place (x ∷ xs) ys (suc n) l = back_place xs ys n (omega (arith, l)) ∙ ap (λ k. slice_get ys k) (let e : n - length xs ≡ suc n - suc (length xs) = omega arith in e)
 
 -- a place that is there
-pub record Placed (f : ℕ) (ss : List (Option Site)) (j : ℕ) (s : Site) : Type 0 where
+pub record Placed (f : ℕ) (ss : List (Option BlockSite)) (j : ℕ) (s : BlockSite) : Type 0 where
   pub from : f ≤ j
   pub at : one_site (slice_get ss (j - f)) ≡ Some s
 
-pub placed_of : (f : ℕ) (ss : List (Option Site)) (j : ℕ) (s : Site) → places_from f ss j ≡ Some s → Placed f ss j s
+pub placed_of : (f : ℕ) (ss : List (Option BlockSite)) (j : ℕ) (s : BlockSite) → places_from f ss j ≡ Some s → Placed f ss j s
 placed_of f ss j s e = by (nat_lt j f) refl e
   where
     above : (n k : ℕ) → nat_lt n k ≡ false → k ≤ n
@@ -152,7 +152,7 @@ placed_of f ss j s e = by (nat_lt j f) refl e
     by true g h = absurd (cc)
     by false g h = record { from = above j f g; at = h }
 
-place_of : (f : ℕ) (ss : List (Option Site)) (j : ℕ) (s : Site) → Placed f ss j s → places_from f ss j ≡ Some s
+place_of : (f : ℕ) (ss : List (Option BlockSite)) (j : ℕ) (s : BlockSite) → Placed f ss j s → places_from f ss j ≡ Some s
 place_of f ss j s h = by (nat_lt j f) (above j f h.from)
   where
     above : (n k : ℕ) → k ≤ n → nat_lt n k ≡ false
@@ -162,13 +162,13 @@ place_of f ss j s h = by (nat_lt j f) (above j f h.from)
     by true g = absurd (cc)
     by false g = h.at
 
-pub place_left : (f : ℕ) (xs ys : List (Option Site)) (j : ℕ) (s : Site) → j < f + length xs → places_from f (xs ++ ys) j ≡ Some s → places_from f xs j ≡ Some s
+pub place_left : (f : ℕ) (xs ys : List (Option BlockSite)) (j : ℕ) (s : BlockSite) → j < f + length xs → places_from f (xs ++ ys) j ≡ Some s → places_from f xs j ≡ Some s
 place_left f xs ys j s l e =
     let h = placed_of f (xs ++ ys) j s e in
     let low = h.from in
     place_of f xs j s (record { from = low; at = sym (ap one_site (front_place xs ys (j - f) (omega (arith, l, low)))) ∙ h.at })
 
-pub place_right : (f : ℕ) (xs ys : List (Option Site)) (j : ℕ) (s : Site) → f + length xs ≤ j → places_from f (xs ++ ys) j ≡ Some s → places_from (f + length xs) ys j ≡ Some s
+pub place_right : (f : ℕ) (xs ys : List (Option BlockSite)) (j : ℕ) (s : BlockSite) → f + length xs ≤ j → places_from f (xs ++ ys) j ≡ Some s → places_from (f + length xs) ys j ≡ Some s
 place_right f xs ys j s l e =
     let h = placed_of f (xs ++ ys) j s e in
     let low = h.from in
@@ -177,30 +177,30 @@ place_right f xs ys j s l e =
       at = ap (λ k. one_site (slice_get ys k)) (let d : j - (f + length xs) ≡ j - f - length xs = omega arith in d) ∙ (sym (ap one_site (back_place xs ys (j - f) (omega (arith, l, low)))) ∙ h.at);
     })
 
-pub place_each : (x : Step) (P : Site → Type 0) (f : ℕ) (ss : List (Option Site)) (j : ℕ) (s : Site) → EachPlace x P ss → places_from f ss j ≡ Some s → P s
+pub place_each : (x : BlockStep) (P : BlockSite → Type 0) (f : ℕ) (ss : List (Option BlockSite)) (j : ℕ) (s : BlockSite) → EachPlace x P ss → places_from f ss j ≡ Some s → P s
 place_each x P f ss j s h e = each ss (j - f) h (placed_of f ss j s e).at
   where
-    each : (ss : List (Option Site)) (n : ℕ) → EachPlace x P ss → one_site (slice_get ss n) ≡ Some s → P s
+    each : (ss : List (Option BlockSite)) (n : ℕ) → EachPlace x P ss → one_site (slice_get ss n) ≡ Some s → P s
     each [] n h e = absurd (cc)
     each (o ∷ ss) zero h e = h.0 s e
     each (o ∷ ss) (suc n) h e = each ss n h.1 e
 
 -- Parts.
 
-module _ (x : Step) (paths : ℕ) where
+module _ (x : BlockStep) (paths : ℕ) where
   -- two accesses of the first list and of the second, with opposite arms, are not both done at a path
-  abbrev pub Exclude : (ss : List (Option Site)) → (es : List SourceEvent) → (ts : List (Option Site)) → (gs : List SourceEvent) → Type 0
+  abbrev pub Exclude : (ss : List (Option BlockSite)) → (es : List SourceEvent) → (ts : List (Option BlockSite)) → (gs : List SourceEvent) → Type 0
   Exclude ss es ts gs =
-      (f g j k : ℕ) (s t : Site) (a b : SourceAccess) → places_from f ss j ≡ Some s → places_from g ts k ≡ Some t → At f j es a → At g k gs b → (id : ℕ) (side : Truth) → HasArm (arm_of id side) a.site.arms
+      (f g j k : ℕ) (s t : BlockSite) (a b : SourceAccess) → places_from f ss j ≡ Some s → places_from g ts k ≡ Some t → At f j es a → At g k gs b → (id : ℕ) (side : Truth) → HasArm (arm_of id side) a.site.arms
       → HasArm (arm_of id (not side)) b.site.arms → (n : ℕ) → n < paths → holds x (guard_of s.standing.guards n) → holds x (guard_of t.standing.guards n) → ⊥
 
   -- so two of one list
-  abbrev pub Excludes : List (Option Site) → List SourceEvent → Type 0
+  abbrev pub Excludes : List (Option BlockSite) → List SourceEvent → Type 0
   Excludes ss es =
-      (f j k : ℕ) (s t : Site) (a b : SourceAccess) → places_from f ss j ≡ Some s → places_from f ss k ≡ Some t → At f j es a → At f k es b → (id : ℕ) (side : Truth) → HasArm (arm_of id side) a.site.arms
+      (f j k : ℕ) (s t : BlockSite) (a b : SourceAccess) → places_from f ss j ≡ Some s → places_from f ss k ≡ Some t → At f j es a → At f k es b → (id : ℕ) (side : Truth) → HasArm (arm_of id side) a.site.arms
       → HasArm (arm_of id (not side)) b.site.arms → (n : ℕ) → n < paths → holds x (guard_of s.standing.guards n) → holds x (guard_of t.standing.guards n) → ⊥
 
-  both_exclude : (xs ys : List (Option Site)) (es gs : List SourceEvent) → length xs ≡ count_in es → Excludes xs es → Excludes ys gs → Exclude xs es ys gs → Excludes (xs ++ ys) (es ++ gs)
+  both_exclude : (xs ys : List (Option BlockSite)) (es gs : List SourceEvent) → length xs ≡ count_in es → Excludes xs es → Excludes ys gs → Exclude xs es ys gs → Excludes (xs ++ ys) (es ++ gs)
   both_exclude xs ys es gs long one two cross f j k s t a b sj sk aj ak id side ha hb n less on_s on_t = by (cases_lt j (f + length xs)) (cases_lt k (f + length xs))
     where
       here : f + count_in es ≡ f + length xs
@@ -219,14 +219,14 @@ module _ (x : Step) (paths : ℕ) where
 
   -- by the numbers of commands
   module _ (r : stood.Around) (m : ℕ) (w : Below m r.arms) (o : HasOneOfEach r.arms) where
-    by_numbers : (xs ys : List (Option Site)) (es gs : List SourceEvent) (lo hi low high : ℕ) → m ≤ lo → m ≤ low → (hi ≤ low) ⊎ (high ≤ lo) → EachAccess (StandsWithin r lo hi) es → EachAccess (StandsWithin r low high) gs → Exclude xs es ys gs
+    by_numbers : (xs ys : List (Option BlockSite)) (es gs : List SourceEvent) (lo hi low high : ℕ) → m ≤ lo → m ≤ low → (hi ≤ low) ⊎ (high ≤ lo) → EachAccess (StandsWithin r lo hi) es → EachAccess (StandsWithin r low high) gs → Exclude xs es ys gs
     by_numbers xs ys es gs lo hi low high from from_two apart one two f g j k s t a b sj sk aj ak id side ha hb n less on_s on_t =
         let p = at_each (StandsWithin r lo hi) f j es a one aj in
         let q = at_each (StandsWithin r low high) g k gs b two ak in
         arms_apart r.arms p.arms q.arms lo hi low high (below_up m lo r.arms from w) (below_up m low r.arms from_two w) o apart p.within q.within id side (subst (λ (l : List Arm). HasArm (arm_of id side) l) p.arms_are ha) (subst (λ (l : List Arm). HasArm (arm_of id (not side)) l) q.arms_are hb)
 
     -- of accesses that stand in no further arm
-    leaf : (ss : List (Option Site)) (es : List SourceEvent) → EachAccess (StandsWithin r m m) es → Excludes ss es
+    leaf : (ss : List (Option BlockSite)) (es : List SourceEvent) → EachAccess (StandsWithin r m m) es → Excludes ss es
     leaf ss es h f j k s t a b sj sk aj ak = by_numbers ss ss es es m m m m (omega arith) (omega arith) (inl (omega arith)) h h f f j k s t a b sj sk aj ak
 
   nothing_excludes : (es : List SourceEvent) → Excludes [] es
@@ -249,11 +249,11 @@ comes_apart : (t : Truth) → t ≡ true → not t ≡ true → ⊥
 comes_apart true e f = absurd (cc)
 comes_apart false e f = absurd (cc)
 
-module _ (x : Step) (scene : Scene) (paths : ℕ) where
+module _ (x : BlockStep) (scene : Scene) (paths : ℕ) where
   -- in the two arms of an `if`
   arms_exclude : (chosen : Action) (other : MaybeAction) (around : Around) (tests : List ℕ) (tested after_chosen after_other : Building) (own behind next : ℕ) (lefts left : List Left)
       (c : MadeArm (MadeCommand scene chosen) around true tests tested after_chosen own behind lefts) (o : MadeOther scene other around tests after_chosen after_other behind next left)
-      → StandsSpread scene around → paths_counted around ≡ paths → length tests ≡ paths_counted around → Fits x after_chosen.draft → Fits x after_other.draft → Begun x tested.draft → Begun x after_chosen.draft → (es gs : List SourceEvent)
+      → StandsSpread scene around → paths_counted around ≡ paths → length tests ≡ paths_counted around → FitsStep x after_chosen.draft → FitsStep x after_other.draft → BlockBegun x tested.draft → BlockBegun x after_chosen.draft → (es gs : List SourceEvent)
       → Exclude x paths (command_sites scene chosen c.arm c.begin c.inside own behind c.command) es (other_sites scene other around tests after_chosen after_other behind next left o) gs
   arms_exclude chosen no_action around tests tested after_chosen after_other own behind next lefts left c o stands same many fc fo bt bc es gs f g j k s t a b sj sk aj ak id side ha hb n less on_s on_t =
       absurd (no_place (placed_of g [] k t sk).at)
@@ -261,7 +261,7 @@ module _ (x : Step) (scene : Scene) (paths : ℕ) where
       no_place : one_site (slice_get [] (k - g)) ≡ Some t → ⊥
       no_place e = cc
   arms_exclude chosen (one_action other) around tests tested after_chosen after_other own behind next lefts left c o stands same many fc fo bt bc es gs f g j k s t a b sj sk aj ak id side ha hb n less on_s on_t =
-      comes_apart (is_true (shown x test.0)) yes_side no_side
+      comes_apart (is_true (word_shown x test.0)) yes_side no_side
     where
       spread_one : StandsSpread scene c.arm
       spread_one = spread_arm scene (MadeCommand scene chosen) around true tests tested after_chosen own behind lefts c stands many
@@ -271,11 +271,11 @@ module _ (x : Step) (scene : Scene) (paths : ℕ) where
 
       one : IsGuardedIn x c.arm s
       one = place_each x (IsGuardedIn x c.arm) f (command_sites scene chosen c.arm c.begin c.inside own behind c.command) j s
-          (command_guarded x scene chosen c.arm c.begin c.inside own behind c.command spread_one (subst (λ (d : Draft). Fits x d) c.draft fc) (arm_started x (MadeCommand scene chosen) around true tests tested after_chosen own behind lefts c bt)) sj
+          (command_guarded x scene chosen c.arm c.begin c.inside own behind c.command spread_one (subst (λ (d : Draft). FitsStep x d) c.draft fc) (arm_started x (MadeCommand scene chosen) around true tests tested after_chosen own behind lefts c bt)) sj
 
       two : IsGuardedIn x o.arm t
       two = place_each x (IsGuardedIn x o.arm) g (command_sites scene other o.arm o.begin o.inside behind next o.command) k t
-          (command_guarded x scene other o.arm o.begin o.inside behind next o.command spread_two (subst (λ (d : Draft). Fits x d) o.draft fo) (arm_started x (MadeCommand scene other) around false tests after_chosen after_other behind next left o bc)) sk
+          (command_guarded x scene other o.arm o.begin o.inside behind next o.command spread_two (subst (λ (d : Draft). FitsStep x d) o.draft fo) (arm_started x (MadeCommand scene other) around false tests after_chosen after_other behind next left o bc)) sk
 
       within : n < length tests
       within = subst (λ (i : ℕ). n < i) (sym (many ∙ same)) less
@@ -283,12 +283,12 @@ module _ (x : Step) (scene : Scene) (paths : ℕ) where
       test : (v : ℕ) × (slice_get tests n ≡ Some v)
       test = there tests n within
 
-      yes_side : is_true (shown x test.0) ≡ true
+      yes_side : is_true (word_shown x test.0) ≡ true
       yes_side =
           (arm_on x (MadeCommand scene chosen) around true tests tested after_chosen own behind lefts c (guards_fit x scene chosen around true tests tested after_chosen own behind lefts c stands many fc) bt n test.0 within test.1
           (one.on n (subst (λ (i : ℕ). n < i) (sym (arm_paths (MadeCommand scene chosen) around true tests tested after_chosen own behind lefts c many ∙ same)) less) on_s)).1
 
-      no_side : not (is_true (shown x test.0)) ≡ true
+      no_side : not (is_true (word_shown x test.0)) ≡ true
       no_side =
           (arm_on x (MadeCommand scene other) around false tests after_chosen after_other behind next left o (guards_fit x scene other around false tests after_chosen after_other behind next left o stands many fo) bc n test.0 within test.1
           (two.on n (subst (λ (i : ℕ). n < i) (sym (arm_paths (MadeCommand scene other) around false tests after_chosen after_other behind next left o many ∙ same)) less) on_t)).1
@@ -300,13 +300,13 @@ module _ (x : Step) (scene : Scene) (paths : ℕ) where
       leaf x paths r id w o (all_there (terms_sites scene around (terms (offsets_of form)))) (terms_events (site_of r id) (terms (offsets_of form))) (terms_stand r id id id (terms (offsets_of form)))
 
   mutual
-    pub command_excludes : (a : Action) (around : Around) (old new : Building) (first next : ℕ) (m : MadeCommand scene a around old new first next) → StoresReach a → StandsSpread scene around → paths_counted around ≡ paths → Fits x new.draft
-        → Begun x old.draft → (r : stood.Around) (q : ℕ) → IsNumbered q a → Below q r.arms → HasOneOfEach r.arms → Excludes x paths (command_sites scene a around old new first next m) (events r a)
+    pub command_excludes : (a : Action) (around : Around) (old new : Building) (first next : ℕ) (m : MadeCommand scene a around old new first next) → StoresReach a → StandsSpread scene around → paths_counted around ≡ paths → FitsStep x new.draft
+        → BlockBegun x old.draft → (r : stood.Around) (q : ℕ) → IsNumbered q a → Below q r.arms → HasOneOfEach r.arms → Excludes x paths (command_sites scene a around old new first next m) (events r a)
     command_excludes (action id place form) around old new first next m is stands same f b r q num w o =
         form_excludes form place around old new first next m is stands same f b r id (subst (λ (i : ℕ). IsNumberedInside (suc i) form) (sym num.0) num.1) (subst (λ (i : ℕ). Below i r.arms) (sym num.0) w) o
 
     form_excludes : (form : ActionForm) (place : Place) (around : Around) (old new : Building) (first next : ℕ) (m : MadeActionForm scene form around old new first next) → StoresReachForm form → StandsSpread scene around → paths_counted around ≡ paths
-        → Fits x new.draft → Begun x old.draft → (r : stood.Around) (id : ℕ) → IsNumberedInside (suc id) form → Below id r.arms → HasOneOfEach r.arms
+        → FitsStep x new.draft → BlockBegun x old.draft → (r : stood.Around) (id : ℕ) → IsNumberedInside (suc id) form → Below id r.arms → HasOneOfEach r.arms
         → Excludes x paths (action_sites scene form around old new first next m) (command_events r (site_of r id) form)
     form_excludes (lets name declared (Some value)) place around old new first next m is stands same f b r id num w o =
         leaf x paths r id w o (all_there (term_sites scene around value)) (term_events (site_of r id) value ++ assigned name.entity ∷ [])
@@ -342,7 +342,7 @@ module _ (x : Step) (scene : Scene) (paths : ℕ) where
         (other_sites scene other around m.tests m.after_chosen m.after_other m.behind next m.other_left m.other) (events (in_arm r id true) chosen) (other_events (in_arm r id false) other)
         (places_long scene chosen m.chosen.arm m.chosen.begin m.chosen.inside m.own m.behind m.chosen.command is.0 ∙ sym (events_counted (in_arm r id true) chosen))
         (command_excludes chosen m.chosen.arm m.chosen.begin m.chosen.inside m.own m.behind m.chosen.command is.0 spread
-        (arm_paths (MadeCommand scene chosen) around true m.tests m.tested m.after_chosen m.own m.behind m.chosen_left m.chosen many ∙ same) (subst (λ (d : Draft). Fits x d) m.chosen.draft f_chosen)
+        (arm_paths (MadeCommand scene chosen) around true m.tests m.tested m.after_chosen m.own m.behind m.chosen_left m.chosen many ∙ same) (subst (λ (d : Draft). FitsStep x d) m.chosen.draft f_chosen)
         (arm_started x (MadeCommand scene chosen) around true m.tests m.tested m.after_chosen m.own m.behind m.chosen_left m.chosen b_tested) (in_arm r id true) (suc id) num.0 (below_in id true r.arms w) (once_in id true r.arms w o))
         (other_excludes other around m.tests m.after_chosen m.after_other m.behind next m.other_left m.other is.1 stands same many f_other b_chosen (in_arm r id false) (suc id + commands_in chosen) num.1
         (below_up (suc id) (suc id + commands_in chosen) (in_arm r id false).arms (omega arith) (below_in id false r.arms w)) (once_in id false r.arms w o))
@@ -362,15 +362,15 @@ module _ (x : Step) (scene : Scene) (paths : ℕ) where
         idle_excludes x paths (accesses_of body + other_accesses combine) (command_events r (site_of r id) (counts iterator declared low high factor body combine combine_place))
 
     other_excludes : (other : MaybeAction) (around : Around) (tests : List ℕ) (old new : Building) (first next : ℕ) (lefts : List Left) (m : MadeOther scene other around tests old new first next lefts) → StoresReachOther other → StandsSpread scene around
-        → paths_counted around ≡ paths → length tests ≡ paths_counted around → Fits x new.draft → Begun x old.draft → (r : stood.Around) (q : ℕ) → IsNumberedOther q other → Below q r.arms → HasOneOfEach r.arms
+        → paths_counted around ≡ paths → length tests ≡ paths_counted around → FitsStep x new.draft → BlockBegun x old.draft → (r : stood.Around) (q : ℕ) → IsNumberedOther q other → Below q r.arms → HasOneOfEach r.arms
         → Excludes x paths (other_sites scene other around tests old new first next lefts m) (other_events r other)
     other_excludes no_action around tests old new first next lefts m is stands same many f b r q num w o = nothing_excludes x paths []
     other_excludes (one_action a) around tests old new first next lefts m is stands same many f b r q num w o =
         command_excludes a m.arm m.begin m.inside first next m.command is (spread_arm scene (MadeCommand scene a) around false tests old new first next lefts m stands many)
-        (arm_paths (MadeCommand scene a) around false tests old new first next lefts m many ∙ same) (subst (λ (d : Draft). Fits x d) m.draft f) (arm_started x (MadeCommand scene a) around false tests old new first next lefts m b) r q num w o
+        (arm_paths (MadeCommand scene a) around false tests old new first next lefts m many ∙ same) (subst (λ (d : Draft). FitsStep x d) m.draft f) (arm_started x (MadeCommand scene a) around false tests old new first next lefts m b) r q num w o
 
     actions_exclude : (part : Actions) (around : Around) (old new : Building) (first next : ℕ) (m : MadeActions scene part around old new first next) → StoresReachPart part → StandsSpread scene around → paths_counted around ≡ paths
-        → Fits x new.draft → Begun x old.draft → (r : stood.Around) (q : ℕ) → AreNumbered q part → Below q r.arms → HasOneOfEach r.arms → Excludes x paths (actions_sites scene part around old new first next m) (part_events r part)
+        → FitsStep x new.draft → BlockBegun x old.draft → (r : stood.Around) (q : ℕ) → AreNumbered q part → Below q r.arms → HasOneOfEach r.arms → Excludes x paths (actions_sites scene part around old new first next m) (part_events r part)
     actions_exclude no_actions around old new first next m is stands same f b r q num w o = nothing_excludes x paths []
     actions_exclude (action_then a rest) around old new first next m is stands same f b r q num w o =
         both_exclude x paths (command_sites scene a around old m.middle first m.own m.one) (actions_sites scene rest around m.middle new m.own next m.rest) (events r a) (part_events r rest)
@@ -382,7 +382,7 @@ module _ (x : Step) (scene : Scene) (paths : ℕ) where
         (q + commands_in a + commands_in_part rest) (omega arith) (omega arith) (inl (omega arith)) (action_stands r q a num.0) (part_stands r (q + commands_in a) rest num.1))
 
     groups_exclude : (body : Groups) (around : Around) (old new : Building) (first next : ℕ) (m : MadeGroups scene body around old new first next) → StoresReachGroups body → StandsSpread scene around → paths_counted around ≡ paths
-        → Fits x new.draft → Begun x old.draft → (r : stood.Around) (q : ℕ) → AreNumberedGroups q body → Below q r.arms → HasOneOfEach r.arms → Excludes x paths (groups_sites scene body around old new first next m) (groups_events r body)
+        → FitsStep x new.draft → BlockBegun x old.draft → (r : stood.Around) (q : ℕ) → AreNumberedGroups q body → Below q r.arms → HasOneOfEach r.arms → Excludes x paths (groups_sites scene body around old new first next m) (groups_events r body)
     groups_exclude no_groups around old new first next m is stands same f b r q num w o = nothing_excludes x paths []
     groups_exclude (group_then part rest) around old new first next m is stands same f b r q num w o =
         both_exclude x paths (actions_sites scene part around old m.middle first m.own m.one) (groups_sites scene rest around m.middle new m.own next m.rest) (part_events r part) (groups_events r rest)

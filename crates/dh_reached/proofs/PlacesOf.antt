@@ -17,7 +17,7 @@ use Rattle.dh_expressions.specs.declared.scenes.Scene.{Scene}
 use Rattle.dh_expressions.specs.Evaluated.{known_in}
 use Rattle.dh_expressions.proofs.ListPlaces.{place_within}
 use Rattle.dh_expressions.proofs.Pushing.{in_front}
-use Rattle.dh_formed.specs.Formed.{Site}
+use Rattle.dh_formed.specs.Formed.{BlockSite}
 use Rattle.dh_commands.specs.declared.buildings.Building.{Building}
 use Rattle.dh_commands.specs.declared.choices.Left.{Left}
 use Rattle.dh_commands.specs.MadeCommands.{MadeActionForm, MadeActions, MadeCommand, MadeGroups, MadeOther}
@@ -26,32 +26,32 @@ use Rattle.dh_laid.specs.LaidNumbers.{IsAccessForm, StoresReach, StoresReachForm
 use Rattle.dh_reached.proofs.TermsPut.{SitesAt, all_sites_long, sites_long}
 
 -- accesses from a number on have these places
-abbrev pub PlacesAt : (sites : ℕ → Option Site) → (n : ℕ) → List (Option Site) → Type 0
-PlacesAt sites n ss = (i : ℕ) (s : Site) → slice_get ss i ≡ Some (Some s) → sites (n + i) ≡ Some s
+abbrev pub PlacesAt : (sites : ℕ → Option BlockSite) → (n : ℕ) → List (Option BlockSite) → Type 0
+PlacesAt sites n ss = (i : ℕ) (s : BlockSite) → slice_get ss i ≡ Some (Some s) → sites (n + i) ≡ Some s
 
-pub places_front : (sites : ℕ → Option Site) (n : ℕ) (xs ys : List (Option Site)) → PlacesAt sites n (xs ++ ys) → PlacesAt sites n xs
+pub places_front : (sites : ℕ → Option BlockSite) (n : ℕ) (xs ys : List (Option BlockSite)) → PlacesAt sites n (xs ++ ys) → PlacesAt sites n xs
 places_front sites n xs ys h i s at = h i s (in_front xs ys i (Some s) at)
 
-behind_front : (xs ys : List (Option Site)) (i : ℕ) → slice_get (xs ++ ys) (length xs + i) ≡ slice_get ys i
+behind_front : (xs ys : List (Option BlockSite)) (i : ℕ) → slice_get (xs ++ ys) (length xs + i) ≡ slice_get ys i
 behind_front [] ys i = ap (λ k. slice_get ys k) (let e : 0 + i ≡ i = omega arith in e)
 behind_front (x ∷ xs) ys i = ap (λ k. slice_get (x ∷ (xs ++ ys)) k) (let e : suc (length xs) + i ≡ suc (length xs + i) = omega arith in e) ∙ behind_front xs ys i
 
-pub places_back : (sites : ℕ → Option Site) (n a : ℕ) (xs ys : List (Option Site)) → length xs ≡ a → PlacesAt sites n (xs ++ ys) → PlacesAt sites (n + a) ys
+pub places_back : (sites : ℕ → Option BlockSite) (n a : ℕ) (xs ys : List (Option BlockSite)) → length xs ≡ a → PlacesAt sites n (xs ++ ys) → PlacesAt sites (n + a) ys
 places_back sites n a xs ys long h i s at =
     ap sites (let e : n + a + i ≡ n + (length xs + i) = omega (arith, long) in e) ∙ h (length xs + i) s (behind_front xs ys i ∙ at)
 
-there_at : (ss : List Site) (i : ℕ) (s : Site) → slice_get ss i ≡ Some s → slice_get (all_there ss) i ≡ Some (Some s)
+there_at : (ss : List BlockSite) (i : ℕ) (s : BlockSite) → slice_get ss i ≡ Some s → slice_get (all_there ss) i ≡ Some (Some s)
 there_at [] i s at = absurd (none i at)
   where
     none : (i : ℕ) → slice_get [] i ≡ Some s → ⊥
     none i e = cc
-there_at (x ∷ ss) zero s at = ap (λ (o : Option Site). Some o) at
+there_at (x ∷ ss) zero s at = ap (λ (o : Option BlockSite). Some o) at
 there_at (x ∷ ss) (suc i) s at = there_at ss i s at
 
-pub places_there : (sites : ℕ → Option Site) (n : ℕ) (ss : List Site) → PlacesAt sites n (all_there ss) → SitesAt sites n ss
+pub places_there : (sites : ℕ → Option BlockSite) (n : ℕ) (ss : List BlockSite) → PlacesAt sites n (all_there ss) → SitesAt sites n ss
 places_there sites n ss h i s at = h i s (there_at ss i s at)
 
-pub there_long : (ss : List Site) → length (all_there ss) ≡ length ss
+pub there_long : (ss : List BlockSite) → length (all_there ss) ≡ length ss
 there_long [] = refl
 there_long (s ∷ ss) = ap suc (there_long ss)
 
@@ -76,7 +76,7 @@ module _ (scene : Scene) (around : Around) where
       length-append (term_sites scene around t) (target_sites scene around (plain.term place k form))
       ∙ (ap (λ n. n + length (target_sites scene around (plain.term place k form))) (sites_long scene around t) ∙ ap (λ n. term_accesses t + n) (target_long place k form is))
 
-both_long : (xs ys : List (Option Site)) (a b : ℕ) → length xs ≡ a → length ys ≡ b → length (xs ++ ys) ≡ a + b
+both_long : (xs ys : List (Option BlockSite)) (a b : ℕ) → length xs ≡ a → length ys ≡ b → length (xs ++ ys) ≡ a + b
 both_long xs ys a b p q = length-append xs ys ∙ (ap (λ n. n + length ys) p ∙ ap (λ n. a + n) q)
 
 plus_none : (n : ℕ) → n ≡ n + 0
@@ -137,7 +137,7 @@ module _ (scene : Scene) where
 -- Of a block.
 
 -- a place by its number
-pub place_by : (first : ℕ) (ss : List (Option Site)) (i : ℕ) (s : Site) → slice_get ss i ≡ Some (Some s) → places_from first ss (first + i) ≡ Some s
+pub place_by : (first : ℕ) (ss : List (Option BlockSite)) (i : ℕ) (s : BlockSite) → slice_get ss i ≡ Some (Some s) → places_from first ss (first + i) ≡ Some s
 place_by first ss i s at = by (nat_lt (first + i) first) (above first i)
   where
     above : (n i : ℕ) → nat_lt (n + i) n ≡ false
@@ -147,13 +147,13 @@ place_by first ss i s at = by (nat_lt (first + i) first) (above first i)
     by true e = absurd (cc)
     by false e = ap (λ k. one_site (slice_get ss k)) (let d : first + i - first ≡ i = omega arith in d) ∙ ap one_site at
 
-past_none : (ss : List (Option Site)) (i : ℕ) → length ss ≤ i → slice_get ss i ≡ None
+past_none : (ss : List (Option BlockSite)) (i : ℕ) → length ss ≤ i → slice_get ss i ≡ None
 past_none [] i l = refl
 past_none (s ∷ ss) zero l = absurd (omega (arith, l))
 past_none (s ∷ ss) (suc i) l = past_none ss i (omega (arith, l))
 
 -- none behind them
-pub place_past : (first number : ℕ) (ss : List (Option Site)) → first + length ss ≤ number → places_from first ss number ≡ None
+pub place_past : (first number : ℕ) (ss : List (Option BlockSite)) → first + length ss ≤ number → places_from first ss number ≡ None
 place_past first number ss past = by (nat_lt number first)
   where
     by : (b : Bool) → (if b then None else one_site (slice_get ss (number - first))) ≡ None
@@ -161,7 +161,7 @@ place_past first number ss past = by (nat_lt number first)
     by false = ap one_site (past_none ss (number - first) (omega (arith, past)))
 
 -- The same of sites.
-pub site_by : (first : ℕ) (ss : List Site) (i : ℕ) (s : Site) → slice_get ss i ≡ Some s → sites_from first ss (first + i) ≡ Some s
+pub site_by : (first : ℕ) (ss : List BlockSite) (i : ℕ) (s : BlockSite) → slice_get ss i ≡ Some s → sites_from first ss (first + i) ≡ Some s
 site_by first ss i s at = by (nat_lt (first + i) first) (above first i)
   where
     above : (n i : ℕ) → nat_lt (n + i) n ≡ false
@@ -171,7 +171,7 @@ site_by first ss i s at = by (nat_lt (first + i) first) (above first i)
     by true e = absurd (cc)
     by false e = ap (λ k. slice_get ss k) (let d : first + i - first ≡ i = omega arith in d) ∙ at
 
-pub site_told : (first number : ℕ) (ss : List Site) (s : Site) → sites_from first ss number ≡ Some s → (first ≤ number) × (number < first + length ss)
+pub site_told : (first number : ℕ) (ss : List BlockSite) (s : BlockSite) → sites_from first ss number ≡ Some s → (first ≤ number) × (number < first + length ss)
 site_told first number ss s e = by (nat_lt number first) refl e
   where
     above : (n k : ℕ) → nat_lt n k ≡ false → k ≤ n

@@ -4,14 +4,14 @@ use Rattle.std.specs.Prelude.{[], ◌++◌}
 use Rattle.dh_tree.specs.PlainTrees.{Action, Term, action, assigns, blocks, calls, counts, decides, lets, lets_memory, reduces, repeats, stores, views}
 use Rattle.dh_tree.specs.Seen.{program_seen}
 use Rattle.dh_meaning.specs.AccessNumbers.{accesses_of, term_accesses}
-use Rattle.dh_meaning.specs.CoreOf.{form_of, test_of}
+use Rattle.dh_meaning.specs.CoreOf.{action_form_of, test_of}
 use Rattle.dh_meaning.specs.Phases.{Located, idle_phases_of, phases_of}
 use Rattle.dh_meaning.specs.Sites.{nothing_around}
 use Rattle.dh_meets.specs.SourceEvents.{accesses_in, events, trace}
 use Rattle.dh_expressions.specs.declared.scenes.Around.{Around}
 use Rattle.dh_expressions.specs.declared.scenes.Scene.{Scene}
 use Rattle.dh_expressions.proofs.ListPlaces.{place_within, some_same}
-use Rattle.dh_formed.specs.Formed.{Site}
+use Rattle.dh_formed.specs.Formed.{BlockSite}
 use Rattle.dh_commands.specs.declared.buildings.Building.{Building}
 use Rattle.dh_laid.specs.BlockSites.{MadeEach, block_sites, term_sites, test_sites}
 use Rattle.dh_laid.specs.LaidNumbers.{StoresReach}
@@ -25,7 +25,7 @@ use Rattle.dh_reached.proofs.PlacesOf.{site_told}
 use Rattle.dh_reached.proofs.TermsPut.{sites_long}
 
 -- a command has the accesses of its test
-test_in : (a : Action) (t : Term) → test_of (form_of a) ≡ Some t → term_accesses t ≤ accesses_of a
+test_in : (a : Action) (t : Term) → test_of (action_form_of a) ≡ Some t → term_accesses t ≤ accesses_of a
 test_in (action id place (decides test chosen other)) t e = subst (λ (q : Term). term_accesses q ≤ accesses_of (action id place (decides test chosen other))) (some_same test t e) (omega arith)
 test_in (action id place (repeats test body)) t e = subst (λ (q : Term). term_accesses q ≤ accesses_of (action id place (repeats test body))) (some_same test t e) (omega arith)
 test_in (action id place (lets name declared value)) t e = absurd (cc)
@@ -38,14 +38,14 @@ test_in (action id place (calls function arguments)) t e = absurd (cc)
 test_in (action id place (blocks body)) t e = absurd (cc)
 test_in (action id place (counts iterator declared low high factor body combine combine_place)) t e = absurd (cc)
 
-module _ (scene : Scene) (around : Around) (number : ℕ) (s : Site) where
+module _ (scene : Scene) (around : Around) (number : ℕ) (s : BlockSite) where
   pub straight_numbers : (done folds : List Located) (old new : Building) (made : MadeEach scene around (done ++ folds) old new) → StandsAlong scene around done folds → AllByRecursion (λ (c : Located). StoresReach c.command) (done ++ folds)
       → block_sites scene around (done ++ folds) old new made number ≡ Some s → number < accesses_of (program_seen scene.program.now).body
   straight_numbers done folds old new made along is at =
       let pair = pair_of scene around number s along.round [] (trace (program_seen scene.program.now)) done folds old new made along.follows along.quiet is at in
       subst (λ n. number < n) (events_counted nothing_around (program_seen scene.program.now).body) (place_within (accesses_in (trace (program_seen scene.program.now))) number pair.0 pair.1.0)
 
-  pub test_numbers : (tested : Located) (t : Term) → HasTest (phases_of (program_seen scene.program.now)) tested → test_of (form_of tested.command) ≡ Some t
+  pub test_numbers : (tested : Located) (t : Term) → HasTest (phases_of (program_seen scene.program.now)) tested → test_of (action_form_of tested.command) ≡ Some t
       → test_sites scene around tested.first t number ≡ Some s → number < accesses_of (program_seen scene.program.now).body
   test_numbers tested t has is at =
       let told = site_told tested.first number (term_sites scene around t) s at in

@@ -4,8 +4,8 @@ use Rattle.std.specs.Prelude.{[], ◌∷◌, ◌++◌, slice_get, Option}
 use Rattle.std.specs.List.{AllByRecursion}
 use Rattle.dh_plan.specs.declared.operations.Operation.{Operation}
 use Rattle.dh_plan.specs.declared.operations.Reach.{Reach}
-use Rattle.dh_expressions.specs.Drafted.{Step}
-use Rattle.dh_formed.specs.Formed.{Site}
+use Rattle.dh_expressions.specs.Drafted.{BlockStep}
+use Rattle.dh_formed.specs.Formed.{BlockSite}
 use Rattle.dh_formed.proofs.ElementsFormed.{all_append, all_weaker}
 use Rattle.dh_reached.specs.Puts.{AreInOrder, EachUse, Goes, GoesBefore, Put, operations_of, used}
 
@@ -38,7 +38,7 @@ operations_both (u ∷ us) vs = ap (λ (os : List Operation). u.operation ∷ os
 
 -- Order, in a step.
 
-module _ (x : Step) (sites : ℕ → Option Site) where
+module _ (x : BlockStep) (sites : ℕ → Option BlockSite) where
   pub goes_at : (us : List Put) (i j : ℕ) (a b : Put) → AreInOrder x sites us → slice_get us i ≡ Some a → slice_get us j ≡ Some b → i < j → Goes x sites a b
   goes_at [] i j a b all at next less = absurd (none i at)
     where

@@ -21,24 +21,24 @@ use Rattle.dh_expressions.specs.declared.scenes.Around.{Around}
 use Rattle.dh_expressions.specs.declared.scenes.Lane.{Lane}
 use Rattle.dh_expressions.specs.declared.scenes.Scene.{Scene}
 use Rattle.dh_expressions.specs.Copying.{AreCopies, AreNone, DoneBy, IsCopy, depends_at}
-use Rattle.dh_expressions.specs.Drafted.{Begun, Extends, Fits, Pushes, Step, holds}
+use Rattle.dh_expressions.specs.Drafted.{BlockBegun, Extends, FitsStep, Pushes, BlockStep, holds}
 use Rattle.dh_expressions.specs.Evaluated.{lane_guard, source_at}
 use Rattle.dh_expressions.specs.Levels.{leader_number, path_at}
 use Rattle.dh_expressions.specs.MadeTerms.{MadeRead, MadeWrite}
 use Rattle.dh_expressions.specs.Noted.{Notes, copied_in, copied_of, copy_or_alone, given_by, given_in, noted_in, touched_in}
 use Rattle.dh_expressions.specs.Named.{banks_told}
 use Rattle.dh_expressions.specs.Reaching.{Finds, copy_banks, place_written, reach_told}
-use Rattle.dh_expressions.specs.Standings.{IsTouched, Standing, banks_at, copy_places, standing_at}
+use Rattle.dh_expressions.specs.Standings.{IsTouched, AccessStanding, banks_at, copy_places, standing_at}
 use Rattle.dh_expressions.specs.Touching.{AddsTouched, IsNew, TouchesAt}
 use Rattle.dh_expressions.proofs.AccessesKept.{noted_touched, place_noted}
 use Rattle.dh_expressions.proofs.ListPlaces.{set_long, some_same, there}
 use Rattle.dh_expressions.proofs.Pushing.{extends_again, fits_before, pushed_extends}
 use Rattle.dh_formed.specs.Counted.{AreNext, HaveGiven, given_at_paths}
-use Rattle.dh_formed.specs.Formed.{Site}
+use Rattle.dh_formed.specs.Formed.{BlockSite}
 use Rattle.dh_formed.proofs.ElementsFormed.{found_extends}
 use Rattle.dh_formed.proofs.ReadsCounted.{given_here, given_past, notes_other, notes_own, touch_gives}
 use Rattle.dh_formed.proofs.ValuesCounted.{copies_counts}
-use Rattle.dh_commands.specs.ShownVariables.{factors_of}
+use Rattle.dh_commands.specs.ShownVariables.{level_factors}
 use Rattle.dh_blocks.specs.PathsOfLevels.{AreSpread}
 use Rattle.dh_blocks.proofs.PathNumbers.{kept, leader_within, leads, number_is}
 use Rattle.dh_laid.specs.LaidQuiet.{StandsIn}
@@ -52,22 +52,22 @@ kept_all : (counts : ℕ → Truth) → ((l : ℕ) → counts l ≡ true) → (l
 kept_all counts all level [] = refl
 kept_all counts all level (c ∷ p) = ap (λ (b : Truth). (if b then c else 0) ∷ kept counts (level + 1) p) (all level) ∙ ap (λ (q : Path). c ∷ q) (kept_all counts all (level + 1) p)
 
-all_lead : (levels : List Level) → AreSpread levels → (counts : ℕ → Truth) → ((l : ℕ) → counts l ≡ true) → (n : ℕ) → n < copies_in (factors_of levels) → leader_number levels counts n ≡ n
+all_lead : (levels : List Level) → AreSpread levels → (counts : ℕ → Truth) → ((l : ℕ) → counts l ≡ true) → (n : ℕ) → n < copies_in (level_factors levels) → leader_number levels counts n ≡ n
 all_lead levels spread counts all n below =
     number_is levels spread (leader_number levels counts n) n (leader_within levels spread counts n below) below ((leads levels spread counts n below).path_is ∙ kept_all counts all 0 (path_at levels n))
 
 -- Accesses as they stand.
 
-module _ (x : Step) (sites : ℕ → Option Site) (scene : Scene) (around : Around) (stands : StandsIn scene around) where
+module _ (x : BlockStep) (sites : ℕ → Option BlockSite) (scene : Scene) (around : Around) (stands : StandsIn scene around) where
   -- one that gets its operations
-  touch_sited : (memory : ℕ) (s : Standing) (old new : Draft) (before after : Accesses) (number : ℕ) → TouchesAt scene around s old new before after number → sites number ≡ Some (record { memory = memory; standing = s })
-      → Fits x new → Begun x old → AreSited x sites before → AreSited x sites after
+  touch_sited : (memory : ℕ) (s : AccessStanding) (old new : Draft) (before after : Accesses) (number : ℕ) → TouchesAt scene around s old new before after number → sites number ≡ Some (record { memory = memory; standing = s })
+      → FitsStep x new → BlockBegun x old → AreSited x sites before → AreSited x sites after
   touch_sited memory s old new before after number t site f b h = record {
     touched = λ m u o at is.
         ⊎_elim (λ was. h.touched m u o was is)
         (λ (fresh : IsNew old new scene around s number m u).
         let own : record { memory = memory; standing = s } ≡ o = some_same (record { memory = memory; standing = s }) o (sym site ∙ (ap sites (sym fresh.own) ∙ is)) in
-        subst (λ (w : Site). IsTouched x w.standing u) own (fresh.is stands.scopes stands.low x f b))
+        subst (λ (w : BlockSite). IsTouched x w.standing u) own (fresh.is stands.scopes stands.low x f b))
         (t.known m u at);
     there = λ m o is. subst (λ (l : ℕ). m < l) (sym t.long) (h.there m o is);
     none = t.none h.none;
@@ -81,7 +81,7 @@ module _ (x : Step) (sites : ℕ → Option Site) (scene : Scene) (around : Arou
     none = subst (λ (ns : List ℕ). AreNone ns) (sym n.counts) h.none;
   }
     where
-      by : (m : ℕ) (u : Touched) (o : Site) → touched_in after m ≡ Some u → sites m ≡ Some o
+      by : (m : ℕ) (u : Touched) (o : BlockSite) → touched_in after m ≡ Some u → sites m ≡ Some o
           → (touched_in after m ≡ touched_in before m) ⊎ ((m ≡ number) × (touched_in after m ≡ noted_in (touched_in before m) path value)) → IsTouched x o.standing u
       by m u o at is (inl same) = h.touched m u o (sym same ∙ at) is
       by m u o at is (inr p) =
@@ -94,7 +94,7 @@ module _ (x : Step) (sites : ℕ → Option Site) (scene : Scene) (around : Arou
 
 -- At a path.
 
-module _ (x : Step) (sites : ℕ → Option Site) (scene : Scene) (lane : Lane) (stands : StandsSpread scene lane.around) (within : lane.number < length lane.around.guards.now) (Led : Put → Reach → Type 0) where
+module _ (x : BlockStep) (sites : ℕ → Option BlockSite) (scene : Scene) (lane : Lane) (stands : StandsSpread scene lane.around) (within : lane.number < length lane.around.guards.now) (Led : Put → Reach → Type 0) where
   -- at this path, where uses lead so
   abbrev pub AtLane : Put → Reach → Type 0
   AtLane u r = (u.path ≡ lane.number) × Led u r
@@ -105,20 +105,20 @@ module _ (x : Step) (sites : ℕ → Option Site) (scene : Scene) (lane : Lane) 
     pub sited : AreSited x sites after
 
   -- the reach of an access by its values, with the banks of this path
-  abbrev pub own_reach : (memory : ℕ) → Aim → Standing → Reach
+  abbrev pub own_reach : (memory : ℕ) → Aim → AccessStanding → Reach
   own_reach memory aim s = reach_told memory aim (banks_at s lane.number)
 
   -- where the values of an access lead in this step: to a bank that is listed, each with the place of this path
-  pub record ReachesAt (memory : ℕ) (aim : Aim) (s : Standing) : Type 0 where
+  pub record ReachesAt (memory : ℕ) (aim : Aim) (s : AccessStanding) : Type 0 where
     pub listed : (spot : Spot) → spot_of_reach x.start x.first x.words (own_reach memory aim s) ≡ Some spot → IsListed spot.bank (s.places lane.number) (banks_at s lane.number)
     pub placed : (bank place : ℕ) → IsListed bank place (banks_at s lane.number) → place ≡ s.places lane.number
     pub led : (u : Put) → u.path ≡ lane.number → Led u (own_reach memory aim s)
 
   module _ (access : plain.Term) (memory : ℕ) (aim : Aim) (writes : Truth) where
-    abbrev stood : Standing
+    abbrev stood : AccessStanding
     stood = standing_at scene lane.around memory (place_written access) (form_of access) writes
 
-    abbrev site : Site
+    abbrev site : BlockSite
     site = record { memory = memory; standing = stood }
 
     low : (p : ℕ) → stood.leader p ≤ p
@@ -167,7 +167,7 @@ module _ (x : Step) (sites : ℕ → Option Site) (scene : Scene) (lane : Lane) 
 
   -- A read.
   module _ (access : plain.Term) (memory : ℕ) (aim : Aim) (at : sites aim.number ≡ Some (site access memory aim false)) (reaches : ReachesAt memory aim (stood access memory aim false)) where
-    abbrev own : Standing
+    abbrev own : AccessStanding
     own = stood access memory aim false
 
     -- the operation that reads, with a copy of the access
@@ -253,7 +253,7 @@ module _ (x : Step) (sites : ℕ → Option Site) (scene : Scene) (lane : Lane) 
               let found = given_here a earlier lane.number (shares earlier e1) in
               found_puts (given_in a earlier lane.number) found.0 found.1 h
 
-    module _ (old new : Draft) (before after : Accesses) (v : ℕ) (m : MadeRead scene lane access memory aim old new before after v) (f : Fits x new) (b : Begun x old) (h : AreSited x sites before)
+    module _ (old new : Draft) (before after : Accesses) (v : ℕ) (m : MadeRead scene lane access memory aim old new before after v) (f : FitsStep x new) (b : BlockBegun x old) (h : AreSited x sites before)
         (next : AreNext scene lane before aim.number 1) where
       pushed : Extends m.first m.second
       pushed = pushed_extends m.first m.second _ _ _ m.probes
@@ -306,8 +306,8 @@ module _ (x : Step) (sites : ℕ → Option Site) (scene : Scene) (lane : Lane) 
 
   -- A write.
   module _ (access : plain.Term) (memory : ℕ) (aim : Aim) (at : sites aim.number ≡ Some (site access memory aim true)) (reaches : ReachesAt memory aim (stood access memory aim true)) (old new : Draft) (before after : Accesses) (value : ℕ)
-      (m : MadeWrite scene lane access memory aim value old new before after) (f : Fits x new) (b : Begun x old) (h : AreSited x sites before) where
-    abbrev put_own : Standing
+      (m : MadeWrite scene lane access memory aim value old new before after) (f : FitsStep x new) (b : BlockBegun x old) (h : AreSited x sites before) where
+    abbrev put_own : AccessStanding
     put_own = stood access memory aim true
 
     write_probed : Extends m.first m.second

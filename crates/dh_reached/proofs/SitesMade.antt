@@ -10,12 +10,12 @@ use Rattle.dh_tree.specs.ViewOffsets.{offsets_of}
 use Rattle.dh_meaning.specs.AccessNumbers.{accesses_of, other_accesses, part_accesses, plan_accesses, term_accesses}
 use Rattle.dh_meaning.specs.CoreOf.{way_of}
 use Rattle.dh_meaning.specs.Ways.{Hidden, hidden_in}
-use Rattle.dh_meaning.specs.OnePhase.{any_makes, form_makes, groups_make, is_within, makes, other_makes, part_makes}
+use Rattle.dh_meaning.specs.OnePhase.{any_makes, form_makes, groups_make, is_between, makes, other_makes, part_makes}
 use Rattle.dh_meaning.specs.Phases.{Located}
 use Rattle.dh_expressions.specs.declared.scenes.Around.{Around}
 use Rattle.dh_expressions.specs.declared.scenes.Scene.{Scene}
 use Rattle.dh_expressions.specs.Evaluated.{known_in}
-use Rattle.dh_formed.specs.Formed.{Site}
+use Rattle.dh_formed.specs.Formed.{BlockSite}
 use Rattle.dh_commands.specs.declared.buildings.Building.{Building}
 use Rattle.dh_commands.specs.declared.choices.Left.{Left}
 use Rattle.dh_commands.specs.MadeCommands.{MadeActionForm, MadeActions, MadeCommand, MadeGroups, MadeOther}
@@ -26,7 +26,7 @@ use Rattle.dh_reached.proofs.OppositeArms.{place_left, place_right, placed_of}
 use Rattle.dh_reached.proofs.PlacesOf.{actions_long, form_long, places_long, there_long}
 use Rattle.dh_reached.proofs.TermsPut.{all_sites_long, sites_long}
 
-pub within_is : (k n count : ℕ) → n ≤ k → k < n + count → is_within k n count ≡ true
+pub within_is : (k n count : ℕ) → n ≤ k → k < n + count → is_between k n count ≡ true
 within_is k n count l u = grind (arith, nat_tests, l, u)
 
 or_first : (a b : Bool) → a ≡ true → (a || b) ≡ true
@@ -38,16 +38,16 @@ or_second true b e = refl
 or_second false b e = e
 
 -- all of a command's own accesses
-own_makes : (f j count : ℕ) (ss : List (Option Site)) (s : Site) → length ss ≡ count → places_from f ss j ≡ Some s → is_within j f count ≡ true
+own_makes : (f j count : ℕ) (ss : List (Option BlockSite)) (s : BlockSite) → length ss ≡ count → places_from f ss j ≡ Some s → is_between j f count ≡ true
 own_makes f j count ss s long e = let t = place_told f j ss s e in let l = t.0 in let u = t.1 in within_is j f count l (omega (arith, u, long))
 
-no_place : (f j : ℕ) (s : Site) (A : Type 0) → places_from f [] j ≡ Some s → A
+no_place : (f j : ℕ) (s : BlockSite) (A : Type 0) → places_from f [] j ≡ Some s → A
 no_place f j s A e = absurd (none (placed_of f [] j s e).at)
   where
     none : one_site (slice_get [] (j - f)) ≡ Some s → ⊥
     none e = cc
 
-idle_place : (n f j : ℕ) (s : Site) (A : Type 0) → places_from f (none_there n) j ≡ Some s → A
+idle_place : (n f j : ℕ) (s : BlockSite) (A : Type 0) → places_from f (none_there n) j ≡ Some s → A
 idle_place n f j s A e = absurd (none n (j - f) (placed_of f (none_there n) j s e).at)
   where
     none : (n i : ℕ) → one_site (slice_get (none_there n) i) ≡ Some s → ⊥
@@ -55,17 +55,17 @@ idle_place n f j s A e = absurd (none n (j - f) (placed_of f (none_there n) j s 
     none (suc n) zero e = cc
     none (suc n) (suc i) e = none n i e
 
-module _ (scene : Scene) (j : ℕ) (s : Site) where
+module _ (scene : Scene) (j : ℕ) (s : BlockSite) where
   -- in the first part, or in the second
-  either_part : (f a : ℕ) (xs ys : List (Option Site)) (m n : Bool) → length xs ≡ a → (places_from f xs j ≡ Some s → m ≡ true) → (places_from (f + a) ys j ≡ Some s → n ≡ true) → places_from f (xs ++ ys) j ≡ Some s → (m || n) ≡ true
+  either_part : (f a : ℕ) (xs ys : List (Option BlockSite)) (m n : Bool) → length xs ≡ a → (places_from f xs j ≡ Some s → m ≡ true) → (places_from (f + a) ys j ≡ Some s → n ≡ true) → places_from f (xs ++ ys) j ≡ Some s → (m || n) ≡ true
   either_part f a xs ys m n long one two e = by (cases_lt j (f + length xs))
     where
       by : (j < f + length xs) ⊎ (f + length xs ≤ j) → (m || n) ≡ true
       by (inl l) = or_first m n (one (place_left f xs ys j s l e))
       by (inr l) = or_second m n (two (subst (λ (k : ℕ). places_from k ys j ≡ Some s) (ap (λ k. f + k) long) (place_right f xs ys j s l e)))
 
-  view_makes : (hs : List Hidden) (form : ViewPlan) (around : Around) (f : ℕ) → places_from f (view_sites scene around hs form) j ≡ Some s → is_within j f (plan_accesses form) ≡ true
-  view_makes [] form around f e = idle_place (plan_accesses form + 0) f j s (is_within j f (plan_accesses form) ≡ true) e
+  view_makes : (hs : List Hidden) (form : ViewPlan) (around : Around) (f : ℕ) → places_from f (view_sites scene around hs form) j ≡ Some s → is_between j f (plan_accesses form) ≡ true
+  view_makes [] form around f e = idle_place (plan_accesses form + 0) f j s (is_between j f (plan_accesses form) ≡ true) e
   view_makes (h ∷ hs) form around f e =
       own_makes f j (plan_accesses form) (all_there (terms_sites scene around (terms (offsets_of form)))) s
       (there_long (terms_sites scene around (terms (offsets_of form))) ∙ all_sites_long scene around (terms (offsets_of form))) e
@@ -79,7 +79,7 @@ module _ (scene : Scene) (j : ℕ) (s : Site) where
         → places_from f (action_sites scene form around old new first next m) j ≡ Some s → form_makes j f form ≡ true
     form_makes_it (lets name declared (Some value)) around old new first next m is f e =
         own_makes f j (term_accesses value) (all_there (term_sites scene around value)) s (there_long (term_sites scene around value) ∙ sites_long scene around value) e
-    form_makes_it (lets name declared None) around old new first next m is f e = no_place f j s (is_within j f 0 ≡ true) e
+    form_makes_it (lets name declared None) around old new first next m is f e = no_place f j s (is_between j f 0 ≡ true) e
     form_makes_it (assigns target value) around old new first next m is f e =
         own_makes f j (term_accesses value) (all_there (term_sites scene around value)) s (there_long (term_sites scene around value) ∙ sites_long scene around value) e
     form_makes_it (stores target value) around old new first next m is f e =
@@ -90,7 +90,7 @@ module _ (scene : Scene) (j : ℕ) (s : Site) where
     form_makes_it (decides test chosen other) around old new first next m is f e =
         either_part f (term_accesses test) (all_there (term_sites scene around test))
         (command_sites scene chosen m.chosen.arm m.chosen.begin m.chosen.inside m.own m.behind m.chosen.command ++ other_sites scene other around m.tests m.after_chosen m.after_other m.behind next m.other_left m.other)
-        (is_within j f (term_accesses test)) (makes j (f + term_accesses test) chosen || other_makes j (f + term_accesses test + accesses_of chosen) other)
+        (is_between j f (term_accesses test)) (makes j (f + term_accesses test) chosen || other_makes j (f + term_accesses test + accesses_of chosen) other)
         (there_long (term_sites scene around test) ∙ sites_long scene around test)
         (λ h. own_makes f j (term_accesses test) (all_there (term_sites scene around test)) s (there_long (term_sites scene around test) ∙ sites_long scene around test) h)
         (λ h. either_part (f + term_accesses test) (accesses_of chosen) (command_sites scene chosen m.chosen.arm m.chosen.begin m.chosen.inside m.own m.behind m.chosen.command)

@@ -10,22 +10,22 @@ use Rattle.dh_plan.specs.Blocks.{StepStart, spot_of_reach}
 use Rattle.dh_plan.specs.PlainPlans.{PlainPlan, operations_in}
 use Rattle.dh_plan.specs.PlanRuns.{start_at}
 use Rattle.dh_plan.specs.SoundPlans.{InOneBank, IsListed, IsOneOf, KeepsBanks, OperationBefore, Reaches, RisesIn, WritesAt, use_in, writes_memory}
-use Rattle.dh_expressions.specs.Drafted.{Step, holds}
+use Rattle.dh_expressions.specs.Drafted.{BlockStep, holds}
 use Rattle.dh_expressions.proofs.ListPlaces.{some_same}
-use Rattle.dh_formed.specs.Formed.{Site}
-use Rattle.dh_blocks.specs.BlockMade.{step_of}
+use Rattle.dh_formed.specs.Formed.{BlockSite}
+use Rattle.dh_blocks.specs.BlockMade.{step_of_block}
 use Rattle.dh_reached.specs.Puts.{IsUse, Put, is_write, used}
 use Rattle.dh_reached.specs.StepBanks.{BlockUses, BlocksKeepBanks, NeverBoth, StandInOrder}
 use Rattle.dh_reached.proofs.PutLists.{all_at, goes_at, put_at}
 
 -- The step.
 
-module _ (plan : PlainPlan) (block : ℕ) (registers : List ℕ) (memories : List (List ℕ)) (sites : ℕ → Option Site) (u : BlockUses plan block (step_of plan block registers memories) sites) where
+module _ (plan : PlainPlan) (block : ℕ) (registers : List ℕ) (memories : List (List ℕ)) (sites : ℕ → Option BlockSite) (u : BlockUses plan block (step_of_block plan block registers memories) sites) where
   abbrev begun : StepStart
   begun = start_at plan registers memories
 
-  abbrev x : Step
-  x = step_of plan block registers memories
+  abbrev x : BlockStep
+  x = step_of_block plan block registers memories
 
   only : (b : ℕ) → IsOneOf b (block ∷ []) → b ≡ block
   only b (inl e) = e
@@ -63,7 +63,7 @@ module _ (plan : PlainPlan) (block : ℕ) (registers : List ℕ) (memories : Lis
   -- of two uses of one access the earlier has the smaller place
   rises_in : (i j : ℕ) (r t : Reach) (y z : Spot) (f : Found i r y) (g : Found j t z) → i < j → r.access ≡ t.access → y.bank ≡ z.bank → (bank m n : ℕ) → IsListed bank m r.banks → IsListed bank n t.banks → m < n
   rises_in i j r t y z f g less same one bank m n first second =
-      rising _ _ _ _ (f.is.placed bank m first) (g.is.placed bank n second ∙ ap (λ (s : Site). s.standing.places g.put.path) (some_same g.is.site f.is.site (sym g.is.there ∙ (ap sites (sym same) ∙ f.is.there))))
+      rising _ _ _ _ (f.is.placed bank m first) (g.is.placed bank n second ∙ ap (λ (s : BlockSite). s.standing.places g.put.path) (some_same g.is.site f.is.site (sym g.is.there ∙ (ap sites (sym same) ∙ f.is.there))))
       ((goes_at x sites u.puts i j f.put g.put u.order f.at g.at less r t f.uses g.uses).places same y z f.leads g.leads one f.is.site f.is.there)
     where
       rising : (a b c d : ℕ) → a ≡ c → b ≡ d → c < d → a < b
@@ -96,7 +96,7 @@ module _ (plan : PlainPlan) (block : ℕ) (registers : List ℕ) (memories : Lis
       let same : p.0 ≡ f.put = some_same p.0 f.put (sym p.1.0 ∙ f.at) in
       subst (λ (v : Put). is_write v) same (subst (λ (o : Operation). writes_memory o.form) (sym p.1.1) w.writes)
 
-  module _ (order : StandInOrder plan.meets) (known : (number : ℕ) (s : Site) → sites number ≡ Some s → In number plan.meets) (apart : NeverBoth plan.meets x sites) where
+  module _ (order : StandInOrder plan.meets) (known : (number : ℕ) (s : BlockSite) → sites number ≡ Some s → In number plan.meets) (apart : NeverBoth plan.meets x sites) where
     ordered : (b i c j : ℕ) (r t : Reach) (y z : Spot) → Reaches plan begun (block ∷ []) b i r y → Reaches plan begun (block ∷ []) c j t z → InOneBank y z → WritesAt plan b i → WritesAt plan c j
         → OperationBefore (block ∷ []) b i c j → Before plan.meets r.access t.access ⊎ ((r.access ≡ t.access) × RisesIn y.bank r.banks t.banks)
     ordered b i c j r t y z h k one first second before =

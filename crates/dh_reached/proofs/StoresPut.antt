@@ -19,7 +19,7 @@ use Rattle.dh_expressions.specs.declared.scenes.Around.{Around}
 use Rattle.dh_expressions.specs.declared.scenes.Lane.{Lane}
 use Rattle.dh_expressions.specs.declared.scenes.Scene.{Scene}
 use Rattle.dh_plan.specs.declared.operations.Reach.{Reach}
-use Rattle.dh_expressions.specs.Drafted.{Begun, Extends, Fits, Step}
+use Rattle.dh_expressions.specs.Drafted.{BlockBegun, Extends, FitsStep, BlockStep}
 use Rattle.dh_expressions.specs.Evaluated.{known_in}
 use Rattle.dh_expressions.specs.MadeTerms.{MadeTerm, MadeTerms}
 use Rattle.dh_expressions.specs.Named.{first_view}
@@ -27,7 +27,7 @@ use Rattle.dh_expressions.specs.Reaching.{place_written}
 use Rattle.dh_expressions.specs.Standings.{standing_at}
 use Rattle.dh_expressions.proofs.Pushing.{begun_later, extends_again, fits_before}
 use Rattle.dh_formed.specs.Counted.{AreNext, HaveGiven, given_at_paths}
-use Rattle.dh_formed.specs.Formed.{Site}
+use Rattle.dh_formed.specs.Formed.{BlockSite}
 use Rattle.dh_formed.proofs.TermsCounted.{next_first, next_second}
 use Rattle.dh_formed.proofs.TermsFormed.{all_numbered, numbered, way_part}
 use Rattle.dh_formed.proofs.ValuesFormed.{held_forms}
@@ -53,7 +53,7 @@ use Rattle.dh_reached.proofs.TermsPut.{Done, SitesAt, all_sites_long, all_ways_l
 abbrev pub IsLast : (first reads i : ℕ) → Type 0
 IsLast first reads i = i ≡ first + reads
 
-module _ (x : Step) (sites : ℕ → Option Site) (scene : Scene) (table : x.start.table ≡ table_of (program_seen scene.program.now)) (IsRead : ℕ → Type 0) (paths : ℕ)
+module _ (x : BlockStep) (sites : ℕ → Option BlockSite) (scene : Scene) (table : x.start.table ≡ table_of (program_seen scene.program.now)) (IsRead : ℕ → Type 0) (paths : ℕ)
     (ways : ℕ → Option (Option Way)) (start : List (Option ℕ)) (Sets : ℕ → Type 0) (around : Around) (stands : StandsSpread scene around) (n : ℕ) (within : n < paths_counted around) where
   abbrev lane : Lane
   lane = lane_of around n
@@ -69,7 +69,7 @@ module _ (x : Step) (sites : ℕ → Option Site) (scene : Scene) (table : x.sta
 
   -- the write behind the reads of a store
   module _ (target t : Term) (memory value : ℕ) (aim : Aim) (old end : Draft) (before behind : Accesses) (new : Building) (next : ℕ) (first reads : ℕ) (own : aim.number ≡ first + reads)
-      (h : DoneHere first reads old end before behind) (m : MadeStoring scene (lane_of around n) target t value (Some (aim, memory)) end behind new next) (f : Fits x new.draft) (b : Begun x end)
+      (h : DoneHere first reads old end before behind) (m : MadeStoring scene (lane_of around n) target t value (Some (aim, memory)) end behind new next) (f : FitsStep x new.draft) (b : BlockBegun x end)
       (site : sites (first + reads) ≡ Some (record { memory = memory; standing = standing_at scene around memory (place_written target) (form_of target) true }))
       (reaches : ReachesAt x sites scene (lane_of around n) stands within Led memory aim (standing_at scene around memory (place_written target) (form_of target) true)) where
     held : Extends end m.0
@@ -109,9 +109,9 @@ module _ (x : Step) (sites : ℕ → Option Site) (scene : Scene) (table : x.sta
   module _ (t : Term) (first : ℕ) (b d : Building) (place : Place) (j : Option Kind) (stays : Stays scene around Sets start b.values.current.items) (kept : Stays scene around Sets b.values.current.items d.values.current.items) where
     abbrev Stores : plain.TermForm → Option (Aim × ℕ) → Type 0
     Stores form aimed =
-        (middle end : Draft) (between behind : Accesses) (own value k : ℕ) → own ≡ first + term_accesses t → DoneHere first (term_accesses t) b.draft middle b.accesses between → Begun x middle
+        (middle end : Draft) (between behind : Accesses) (own value k : ℕ) → own ≡ first + term_accesses t → DoneHere first (term_accesses t) b.draft middle b.accesses between → BlockBegun x middle
         → MadeAim scene (lane_of around n) b.values.current.items form middle end between behind own aimed → MadeStoring scene (lane_of around n) (plain.term place j form) t value aimed end behind d k
-        → first + (term_accesses t + form_accesses form) < 2 ^ 32 → SitesAt sites (first + term_accesses t) (target_sites scene around (plain.term place j form)) → SitesAt ways (first + term_accesses t) (target_ways scene (plain.term place j form)) → FormKeeps x scene around.levels.now Sets form → Fits x d.draft
+        → first + (term_accesses t + form_accesses form) < 2 ^ 32 → SitesAt sites (first + term_accesses t) (target_sites scene around (plain.term place j form)) → SitesAt ways (first + term_accesses t) (target_ways scene (plain.term place j form)) → FormKeeps x scene around.levels.now Sets form → FitsStep x d.draft
         → AreNext scene (lane_of around n) between (first + term_accesses t) (aim_accesses form)
         → LaneDone x sites scene table IsRead paths ways start Sets around n first (term_accesses t + aim_accesses form + 1) (term_accesses t + aim_accesses form) (IsLast first (term_accesses t + aim_accesses form)) b d
 
@@ -191,7 +191,7 @@ module _ (x : Step) (sites : ℕ → Option Site) (scene : Scene) (table : x.sta
     stores_by (plain.converted inner to) aimed is = absurd is
 
     pub stored_lane : (form : plain.TermForm) (k : ℕ) → IsAccessForm form → MadeStored scene (lane_of around n) first (plain.term place j form) t b d k → first + (term_accesses t + form_accesses form) < 2 ^ 32
-        → SitesAt sites first (term_sites scene around t ++ target_sites scene around (plain.term place j form)) → SitesAt ways first (term_ways scene t ++ target_ways scene (plain.term place j form)) → TermKeeps x scene around.levels.now Sets t → FormKeeps x scene around.levels.now Sets form → Fits x d.draft → Begun x b.draft
+        → SitesAt sites first (term_sites scene around t ++ target_sites scene around (plain.term place j form)) → SitesAt ways first (term_ways scene t ++ target_ways scene (plain.term place j form)) → TermKeeps x scene around.levels.now Sets t → FormKeeps x scene around.levels.now Sets form → FitsStep x d.draft → BlockBegun x b.draft
         → AreSited x sites b.accesses → AreNext scene (lane_of around n) b.accesses first (term_accesses t + aim_accesses form)
         → LaneDone x sites scene table IsRead paths ways start Sets around n first (term_accesses t + aim_accesses form + 1) (term_accesses t + aim_accesses form) (IsLast first (term_accesses t + aim_accesses form)) b d
     stored_lane form k is m few at wat value_keeps keeps f s sited next =

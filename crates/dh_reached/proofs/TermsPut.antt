@@ -25,7 +25,7 @@ use Rattle.dh_expressions.specs.declared.elements.Aim.{Aim}
 use Rattle.dh_expressions.specs.declared.scenes.Around.{Around}
 use Rattle.dh_expressions.specs.declared.scenes.Lane.{Lane}
 use Rattle.dh_expressions.specs.declared.scenes.Scene.{Scene}
-use Rattle.dh_expressions.specs.Drafted.{Begun, Fits, Step}
+use Rattle.dh_expressions.specs.Drafted.{BlockBegun, FitsStep, BlockStep}
 use Rattle.dh_expressions.specs.Evaluated.{counter_of, known_in}
 use Rattle.dh_expressions.specs.MadeTerms.{MadeRead, MadeTerm, MadeTerms, MadeWay}
 use Rattle.dh_expressions.specs.MadeValues.{MadeConverted}
@@ -35,7 +35,7 @@ use Rattle.dh_expressions.specs.Shown.{is_kept}
 use Rattle.dh_expressions.specs.Standings.{standing_at}
 use Rattle.dh_expressions.proofs.Pushing.{begun_later, fits_before, in_front}
 use Rattle.dh_formed.specs.Counted.{AreNext, HaveGiven}
-use Rattle.dh_formed.specs.Formed.{Site}
+use Rattle.dh_formed.specs.Formed.{BlockSite}
 use Rattle.dh_formed.proofs.TermsCounted.{given_again, given_none, next_first, next_second}
 use Rattle.dh_formed.proofs.TermsFormed.{all_numbered, numbered, way_part}
 use Rattle.dh_formed.proofs.ValuesCounted.{number_counts, operation_counts, sees_any, variable_counts, way_counts}
@@ -147,7 +147,7 @@ way_none scene lane current way first old new steps m =
 
 -- Expressions.
 
-module _ (x : Step) (sites : ℕ → Option Site) (scene : Scene) (lane : Lane) (stands : StandsSpread scene lane.around) (within : lane.number < length lane.around.guards.now)
+module _ (x : BlockStep) (sites : ℕ → Option BlockSite) (scene : Scene) (lane : Lane) (stands : StandsSpread scene lane.around) (within : lane.number < length lane.around.guards.now)
     (table : x.start.table ≡ table_of (program_seen scene.program.now)) (ways : ℕ → Option (Option Way)) (start : List (Option ℕ)) where
   abbrev pub Led : Put → Reach → Type 0
   Led = IsLed x scene lane.around start sites ways
@@ -187,17 +187,17 @@ module _ (x : Step) (sites : ℕ → Option Site) (scene : Scene) (lane : Lane) 
   module _ (current : List (Option ℕ)) (Sets : ℕ → Type 0) (stays : Stays scene lane.around Sets start current) where
     abbrev TermDone : plain.Term → Type 0
     TermDone t = (old new : Draft) (before after : Accesses) (n next v : ℕ) → MadeTerm scene lane current t old new before after n next v → n + term_accesses t < 2 ^ 32 → SitesAt sites n (term_sites scene lane.around t)
-        → SitesAt ways n (term_ways scene t) → TermKeeps x scene lane.around.levels.now Sets t → Fits x new → Begun x old → AreSited x sites before → AreNext scene lane before n (term_accesses t) → Done n (term_accesses t) old new before after
+        → SitesAt ways n (term_ways scene t) → TermKeeps x scene lane.around.levels.now Sets t → FitsStep x new → BlockBegun x old → AreSited x sites before → AreNext scene lane before n (term_accesses t) → Done n (term_accesses t) old new before after
 
     abbrev TermsDone : plain.Terms → Type 0
     TermsDone ts = (old new : Draft) (before after : Accesses) (n next : ℕ) (vs : List ℕ) → MadeTerms scene lane current ts old new before after n next vs → n + terms_accesses ts < 2 ^ 32 → SitesAt sites n (terms_sites scene lane.around ts)
-        → SitesAt ways n (terms_ways scene ts) → TermsKeep x scene lane.around.levels.now Sets ts → Fits x new → Begun x old → AreSited x sites before → AreNext scene lane before n (terms_accesses ts) → Done n (terms_accesses ts) old new before after
+        → SitesAt ways n (terms_ways scene ts) → TermsKeep x scene lane.around.levels.now Sets ts → FitsStep x new → BlockBegun x old → AreSited x sites before → AreNext scene lane before n (terms_accesses ts) → Done n (terms_accesses ts) old new before after
 
     -- an access behind the parts that name its element
     access_then : (access : plain.Term) (memory : ℕ) (aim : Aim) (old middle new : Draft) (before between after : Accesses) (n count v : ℕ) → aim.number ≡ n + count → Done n count old middle before between
         → MadeRead scene lane access memory aim middle new between after v → sites (n + count) ≡ Some (record { memory = memory; standing = standing_at scene lane.around memory (place_written access) (form_of access) false })
         → ReachesAt x sites scene lane stands within Led memory aim (standing_at scene lane.around memory (place_written access) (form_of access) false)
-        → Fits x new → Begun x middle → AreNext scene lane before n (suc count) → Done n (suc count) old new before after
+        → FitsStep x new → BlockBegun x middle → AreNext scene lane before n (suc count) → Done n (suc count) old new before after
     access_then access memory aim old middle new before between after n count v own h m site reaches f b next =
         done_as n (count + 1) (suc count) old new before after (add-one count) (done_then n count 1 old middle new before between after h (subst (λ (i : ℕ). Done i 1 middle new between after) own read))
       where

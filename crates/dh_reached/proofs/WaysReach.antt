@@ -21,7 +21,7 @@ use Rattle.dh_viewing.specs.ReachedBanks.{bank_at, is_in}
 use Rattle.dh_viewing.proofs.BankDigits.{bank_at_below}
 use Rattle.dh_meaning.specs.CoreOf.{dims_by, dims_named, memory_of, way_of}
 use Rattle.dh_meaning.specs.Effects.{indices_through, spot_by_indices, spot_by_views, spot_if_inside}
-use Rattle.dh_meaning.specs.Ways.{Hidden, Step as ViewStep, Way}
+use Rattle.dh_meaning.specs.Ways.{Hidden, Way, WayStep as ViewStep}
 use Rattle.dh_meets.specs.Charges.{may_reach}
 use Rattle.dh_plan.specs.declared.operations.OperationForm.TheVariants.{Old}
 use Rattle.dh_plan.specs.declared.operations.Reach.{Reach}
@@ -44,7 +44,7 @@ use Rattle.dh_expressions.specs.declared.scenes.Scene.{Scene}
 use Rattle.dh_expressions.specs.declared.scenes.Through.{Through}
 use Rattle.dh_expressions.specs.Copying.{groups_by}
 use Rattle.dh_expressions.specs.Counting.{places_by}
-use Rattle.dh_expressions.specs.Drafted.{Begun, Extends, Fits, Pushes, Step, shown}
+use Rattle.dh_expressions.specs.Drafted.{BlockBegun, Extends, FitsStep, Pushes, BlockStep, word_shown}
 use Rattle.dh_expressions.specs.Evaluated.{AreViews, hidden_register, hidden_shown, steps_told}
 use Rattle.dh_expressions.specs.MadeTerms.{MadeHidden, MadeSteps, MadeTerms, MadeWay}
 use Rattle.dh_expressions.specs.MadeValues.{MadeCurrent, MadeShown}
@@ -52,10 +52,10 @@ use Rattle.dh_expressions.specs.Named.{banks_below, banks_reached, banks_seen, f
 use Rattle.dh_expressions.specs.Numbers.{narrowed}
 use Rattle.dh_expressions.specs.ReachedBanks.{indices_first}
 use Rattle.dh_expressions.specs.Reaching.{reach_told}
-use Rattle.dh_expressions.specs.Shown.{current_shown, register_shown, variable_shown}
-use Rattle.dh_expressions.specs.Standings.{Standing, banks_at, standing_at}
+use Rattle.dh_expressions.specs.Shown.{current_shown, register_as_begun, variable_shown}
+use Rattle.dh_expressions.specs.Standings.{AccessStanding, banks_at, standing_at}
 use Rattle.dh_expressions.proofs.Pushing.{begun_later, computes, extends_again, extends_self, fits_before, pushed_extends}
-use Rattle.dh_formed.specs.Formed.{Site}
+use Rattle.dh_formed.specs.Formed.{BlockSite}
 use Rattle.dh_reached.specs.IndicesKept.{HiddenKept, IndicesKeep, WayKept}
 use Rattle.dh_reached.specs.Puts.{Put}
 use Rattle.dh_reached.specs.ReachedBlocks.{StandsSpread}
@@ -66,16 +66,16 @@ use Rattle.dh_reached.proofs.Stays.{Stays}
 
 -- What is put down for variables shows what they hold.
 
-shown_is : (x : Step) (current : List (Option ℕ)) (register : ℕ) (old new : Draft) (v : ℕ) → MadeShown current register old new v → Fits x new → Begun x old → shown x v ≡ variable_shown x current register
+shown_is : (x : BlockStep) (current : List (Option ℕ)) (register : ℕ) (old new : Draft) (v : ℕ) → MadeShown current register old new v → FitsStep x new → BlockBegun x old → word_shown x v ≡ variable_shown x current register
 shown_is x current register old new v m f b = by (slice_get current register) m
   where
-    pushed : Pushes old new v None (Old register) → shown x v ≡ register_shown x register
+    pushed : Pushes old new v None (Old register) → word_shown x v ≡ register_as_begun x register
     pushed p = (computes old new v (Old register) p (λ s first ws. refl)).is x f b
 
-    by : (o : Option (Option ℕ)) → MadeCurrent o register old new v → shown x v ≡ current_shown x o register
+    by : (o : Option (Option ℕ)) → MadeCurrent o register old new v → word_shown x v ≡ current_shown x o register
     by None m = pushed m
     by (Some None) m = pushed m
-    by (Some (Some value)) m = ap (λ n. shown x n) m.1
+    by (Some (Some value)) m = ap (λ n. word_shown x n) m.1
 
 shown_extends : (current : List (Option ℕ)) (register : ℕ) (old new : Draft) (v : ℕ) → MadeShown current register old new v → Extends old new
 shown_extends current register old new v m = by (slice_get current register) m
@@ -87,17 +87,17 @@ shown_extends current register old new v m = by (slice_get current register) m
 
 -- Steps of a way.
 
-numbers_taken : (x : Step) (n : ℕ) (values : List ℕ) → numbers_at x.first x.words (take n values) ≡ take n (numbers_at x.first x.words values)
+numbers_taken : (x : BlockStep) (n : ℕ) (values : List ℕ) → numbers_at x.first x.words (take n values) ≡ take n (numbers_at x.first x.words values)
 numbers_taken x zero values = refl
 numbers_taken x (suc n) [] = refl
-numbers_taken x (suc n) (v ∷ values) = ap (λ zs. words.value_of (shown x v) ∷ zs) (numbers_taken x n values)
+numbers_taken x (suc n) (v ∷ values) = ap (λ zs. words.value_of (word_shown x v) ∷ zs) (numbers_taken x n values)
 
-numbers_dropped : (x : Step) (n : ℕ) (values : List ℕ) → numbers_at x.first x.words (drop n values) ≡ drop n (numbers_at x.first x.words values)
+numbers_dropped : (x : BlockStep) (n : ℕ) (values : List ℕ) → numbers_at x.first x.words (drop n values) ≡ drop n (numbers_at x.first x.words values)
 numbers_dropped x zero values = refl
 numbers_dropped x (suc n) [] = refl
 numbers_dropped x (suc n) (v ∷ values) = numbers_dropped x n values
 
-steps_pass : (x : Step) (through : List Through) (vs : List ViewMap) (steps : List ViewStep) (first : ℕ) (values : List ℕ) (zs : List ℤ) → AreViews through vs first steps → numbers_at x.first x.words values ≡ zs
+steps_pass : (x : BlockStep) (through : List Through) (vs : List ViewMap) (steps : List ViewStep) (first : ℕ) (values : List ℕ) (zs : List ℤ) → AreViews through vs first steps → numbers_at x.first x.words values ≡ zs
     → AreOfSteps vs steps (passages x.first x.words (steps_told through first steps values)) zs
 steps_pass x through vs [] first values zs there same = tt
 steps_pass x through vs (s ∷ ss) first values zs there same = (
@@ -159,7 +159,7 @@ alone bank place other where_ (inr none) = absurd none
 
 -- Accesses.
 
-module _ (x : Step) (sites : ℕ → Option Site) (scene : Scene) (lane : Lane) (stands : StandsSpread scene lane.around) (within : lane.number < length lane.around.guards.now)
+module _ (x : BlockStep) (sites : ℕ → Option BlockSite) (scene : Scene) (lane : Lane) (stands : StandsSpread scene lane.around) (within : lane.number < length lane.around.guards.now)
     (table : x.start.table ≡ table_of (program_seen scene.program.now)) (ways : ℕ → Option (Option Way)) (start : List (Option ℕ)) where
   abbrev levels : List Level
   levels = lane.around.levels.now
@@ -167,7 +167,7 @@ module _ (x : Step) (sites : ℕ → Option Site) (scene : Scene) (lane : Lane) 
   abbrev Led : Put → Reach → Type 0
   Led = IsLed x scene lane.around start sites ways
 
-  abbrev Reaches : (memory : ℕ) → Aim → Standing → Type 0
+  abbrev Reaches : (memory : ℕ) → Aim → AccessStanding → Type 0
   Reaches memory aim s = ReachesAt x sites scene lane stands within Led memory aim s
 
   -- what is put down for a way
@@ -176,7 +176,7 @@ module _ (x : Step) (sites : ℕ → Option Site) (scene : Scene) (lane : Lane) 
     hidden_extends [] old new values m = subst (λ (d : Draft). Extends old d) (sym m.0) (extends_self old)
     hidden_extends (h ∷ hs) old new values (d, (v, (more, (s, (rest, are))))) = extends_again old d new (shown_extends current (hidden_register scene lane h) old d v s) (hidden_extends hs d new more rest)
 
-    hidden_are : (hs : List Hidden) (old new : Draft) (values : List ℕ) → MadeHidden scene lane current hs old new values → Fits x new → Begun x old
+    hidden_are : (hs : List Hidden) (old new : Draft) (values : List ℕ) → MadeHidden scene lane current hs old new values → FitsStep x new → BlockBegun x old
         → numbers_at x.first x.words values ≡ map (λ (h : Hidden). words.value_of (hidden_shown scene lane current x h)) hs
     hidden_are [] old new values m f b = ap (λ (vs : List ℕ). numbers_at x.first x.words vs) m.1
     hidden_are (h ∷ hs) old new values (d, (v, (more, (s, (rest, are))))) f b =
@@ -198,16 +198,16 @@ module _ (x : Step) (sites : ℕ → Option Site) (scene : Scene) (lane : Lane) 
 
       module _ (r : Ref) (ts : plain.Terms) (aim : Aim) (old named new : Draft) (before after : Accesses) (n : ℕ) (m : MadeTerms scene lane current ts old named before after n aim.number aim.indices) (row : aim.row ≡ None)
           (made : MadeWay scene lane current named new (first_view scene r) (way_of (known_in scene) r) aim.steps) (k : IndicesKeep x scene levels (memory_of (known_in scene) r) (dims_named (known_in scene) x.start.table r) ts)
-          (kept : (w : Way) → way_of (known_in scene) r ≡ Some w → WayKept x scene levels Sets r w) (fn : Fits x named) (bo : Begun x old) (f : Fits x new) (bn : Begun x named) (place : Place) (writes : Bool)
+          (kept : (w : Way) → way_of (known_in scene) r ≡ Some w → WayKept x scene levels Sets r w) (fn : FitsStep x named) (bo : BlockBegun x old) (f : FitsStep x new) (bn : BlockBegun x named) (place : Place) (writes : Bool)
           (at : sites aim.number ≡ Some (record { memory = memory_of (known_in scene) r; standing = standing_at scene lane.around (memory_of (known_in scene) r) place (plain.accessed r ts) writes }))
           (way_at : ways aim.number ≡ Some (way_of (known_in scene) r)) where
         abbrev memory : ℕ
         memory = memory_of (known_in scene) r
 
-        abbrev s : Standing
+        abbrev s : AccessStanding
         s = standing_at scene lane.around memory place (plain.accessed r ts) writes
 
-        abbrev site : Site
+        abbrev site : BlockSite
         site = record { memory = memory; standing = s }
 
         abbrev numbers : List ℤ
@@ -359,7 +359,7 @@ module _ (x : Step) (sites : ℕ → Option Site) (scene : Scene) (lane : Lane) 
       };
     }
       where
-        s : Standing
+        s : AccessStanding
         s = standing_at scene lane.around memory place (plain.in_bank r bank to row) writes
 
         reached : (spot : Spot) → spot_of_reach x.start x.first x.words (reach_told memory aim ((s.bank lane.number, s.places lane.number) ∷ [])) ≡ Some spot → spot.bank ≡ s.bank lane.number

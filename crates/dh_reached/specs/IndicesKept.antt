@@ -18,7 +18,7 @@ use Rattle.dh_tree.specs.ViewOffsets.{offsets_of}
 use Rattle.dh_tree.specs.declared.viewing.ViewSort.TheVariants.{Shift}
 use Rattle.dh_viewing.specs.ReachedBanks.{is_in}
 use Rattle.dh_meaning.specs.CoreOf.{dims_named, entity_number, memory_of, way_of}
-use Rattle.dh_meaning.specs.Ways.{Hidden, Step as ViewStep, Way, hidden_in}
+use Rattle.dh_meaning.specs.Ways.{Hidden, Way, hidden_in, WayStep as ViewStep}
 use Rattle.dh_meets.specs.Charges.{may_reach}
 use Rattle.dh_ways.specs.Leading.{StepsLead, next_dims}
 use Rattle.dh_meaning.specs.Phases.{Located, turn_count}
@@ -28,15 +28,15 @@ use Rattle.dh_code.specs.Slots.{held_at}
 use Rattle.dh_sound.specs.IndexValues.{AllHaveIndexKinds}
 use Rattle.dh_expressions.specs.declared.paths.Level.{Level}
 use Rattle.dh_expressions.specs.declared.scenes.Scene.{Scene}
-use Rattle.dh_expressions.specs.Drafted.{Step}
+use Rattle.dh_expressions.specs.Drafted.{BlockStep}
 use Rattle.dh_expressions.specs.Evaluated.{AreViews, counter_of}
 use Rattle.dh_expressions.specs.Named.{banks_seen, first_view, known_in}
 use Rattle.dh_expressions.specs.ReachedBanks.{level_with}
-use Rattle.dh_commands.specs.Setting.{IsAmong}
+use Rattle.dh_commands.specs.Setting.{IsVariableAmong}
 use Rattle.dh_commands.specs.ShownVariables.{IsSeen, depth_in}
 
 -- the loop of an iterator is in a turn of its own, as its counter tells; where it is unrolled it is one of these levels
-pub record CounterTurns (x : Step) (c : Counter) (held : Held) (levels : List Level) : Type 0 where
+pub record CounterTurns (x : BlockStep) (c : Counter) (held : Held) (levels : List Level) : Type 0 where
   pub width : ℕ
   pub counter : kind_at x.start.kinds held.first ≡ Unsigned width
   pub below : slice_index x.start.registers held.first < turn_count c.low c.high c.factor
@@ -54,7 +54,7 @@ abbrev pub AreSeenFrom : Scene → List Level → (first count : ℕ) → Type 0
 AreSeenFrom scene levels first zero = Unit {0}
 AreSeenFrom scene levels first (suc n) = IsSeen scene levels first × AreSeenFrom scene levels (suc first) n
 
-module _ (x : Step) (scene : Scene) (levels : List Level) where
+module _ (x : BlockStep) (scene : Scene) (levels : List Level) where
   -- a name stands for what it is resolved to, and if that is an iterator it is in a turn
   pub record NameTurns (r : Ref) : Type 0 where
     pub entity : ℕ
@@ -134,7 +134,7 @@ module _ (x : Step) (scene : Scene) (levels : List Level) where
   -- a view whose way has no variable takes no offset; what one keeps is given to variables that are seen
   abbrev pub ViewKeeps : List Hidden → (offsets : List plain.Term) → Type 0
   ViewKeeps [] offsets = offsets ≡ []
-  ViewKeeps (h ∷ hs) offsets = TermsKeep (λ e. IsAmong h.entity (length offsets) e) (terms offsets) × AreSeenFrom scene levels h.entity (length offsets)
+  ViewKeeps (h ∷ hs) offsets = TermsKeep (λ e. IsVariableAmong h.entity (length offsets) e) (terms offsets) × AreSeenFrom scene levels h.entity (length offsets)
 
   abbrev mutual
     -- and of each command

@@ -16,8 +16,8 @@ use Rattle.dh_expressions.specs.Noted.{touched_in}
 use Rattle.dh_commands.specs.declared.buildings.Building.{Building}
 use Rattle.dh_commands.specs.LanesRun.{paths_counted}
 use Rattle.dh_commands.specs.MadeCommands.{MadeTests}
-use Rattle.dh_commands.specs.ShownVariables.{ArePlaced, factors_of}
-use Rattle.dh_blocks.specs.BlockMade.{AreRising, IsBare, IsPut, step_of}
+use Rattle.dh_commands.specs.ShownVariables.{ArePlaced, level_factors}
+use Rattle.dh_blocks.specs.BlockMade.{AreRising, IsBare, IsPut, step_of_block}
 use Rattle.dh_blocks.specs.PathsOfLevels.{AreSpread}
 use Rattle.dh_laid.specs.BlockSites.{MadeEach, block_sites, test_sites}
 use Rattle.dh_laid.specs.LaidNumbers.{StoresReach}
@@ -30,7 +30,7 @@ use Rattle.dh_reached.specs.StepBanks.{BlockUses}
 pub record StandsSpread (scene : Scene) (around : Around) : Type 0 where
   pub stands : StandsIn scene around
   pub spread : AreSpread around.levels.now
-  pub counted : paths_counted around ≡ copies_in (factors_of around.levels.now)
+  pub counted : paths_counted around ≡ copies_in (level_factors around.levels.now)
   pub some : 0 < paths_counted around
   pub few : paths_counted around < 2 ^ 32
   pub placed : ArePlaced scene around
@@ -59,8 +59,8 @@ abbrev pub StraightReaches : Type 0
 StraightReaches =
     (scene : Scene) (around : Around) (plan : PlainPlan) (count block : ℕ) (cs : List Located) (old new : Building) (made : MadeEach scene around cs old new) (more : List Operation) (reads : ℕ → Bool)
     → StraightStands scene around plan count block cs old new made more reads
-    → (registers : List ℕ) (memories : List (List ℕ)) → BlockKeeps (step_of plan block registers memories) scene around.levels.now cs
-    → BlockUses plan block (step_of plan block registers memories) (block_sites scene around cs old new made)
+    → (registers : List ℕ) (memories : List (List ℕ)) → BlockKeeps (step_of_block plan block registers memories) scene around.levels.now cs
+    → BlockUses plan block (step_of_block plan block registers memories) (block_sites scene around cs old new made)
 
 -- A block of a test, whose accesses are numbered from a first one on, at all its paths.
 pub record TestStands (scene : Scene) (around : Around) (plan : PlainPlan) (count block first : ℕ) (t : Term) (old new : Building) (next : ℕ) (tests : List ℕ) (more : List Operation) (reads : ℕ → Bool) : Type 0 where
@@ -77,5 +77,5 @@ abbrev pub TestReaches : Type 0
 TestReaches =
     (scene : Scene) (around : Around) (plan : PlainPlan) (count block first : ℕ) (t : Term) (old new : Building) (next : ℕ) (tests : List ℕ) (more : List Operation) (reads : ℕ → Bool)
     → TestStands scene around plan count block first t old new next tests more reads
-    → (registers : List ℕ) (memories : List (List ℕ)) → (step_of plan block registers memories).start.table ≡ table_of (program_seen scene.program.now) → TermKeeps (step_of plan block registers memories) scene around.levels.now (λ e. ⊥) t
-    → BlockUses plan block (step_of plan block registers memories) (test_sites scene around first t)
+    → (registers : List ℕ) (memories : List (List ℕ)) → (step_of_block plan block registers memories).start.table ≡ table_of (program_seen scene.program.now) → TermKeeps (step_of_block plan block registers memories) scene around.levels.now (λ e. ⊥) t
+    → BlockUses plan block (step_of_block plan block registers memories) (test_sites scene around first t)

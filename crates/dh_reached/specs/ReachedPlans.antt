@@ -8,7 +8,7 @@ use Rattle.dh_tree.specs.Seen.{program_seen}
 use Rattle.dh_tree.specs.Tables.{Fits}
 use Rattle.dh_meaning.specs.AccessNumbers.{accesses_of}
 use Rattle.dh_meaning.specs.Core.{CorePhases}
-use Rattle.dh_meaning.specs.CoreOf.{form_of, test_of}
+use Rattle.dh_meaning.specs.CoreOf.{action_form_of, test_of}
 use Rattle.dh_meaning.specs.Phases.{Located, phases_of}
 use Rattle.dh_plan.specs.declared.operations.Operation.{Operation}
 use Rattle.dh_plan.specs.Correspondence.{FitKinds, Round}
@@ -20,7 +20,7 @@ use Rattle.dh_expressions.specs.declared.scenes.Around.{Around}
 use Rattle.dh_expressions.specs.declared.scenes.Scene.{Scene}
 use Rattle.dh_sound.specs.PhaseFacts.{HasTest}
 use Rattle.dh_commands.specs.declared.buildings.Building.{Building}
-use Rattle.dh_blocks.specs.BlockMade.{step_of}
+use Rattle.dh_blocks.specs.BlockMade.{step_of_block}
 use Rattle.dh_laid.specs.BlockSites.{MadeEach}
 use Rattle.dh_reached.specs.IndicesKept.{CommandsKeep, TermKeeps}
 use Rattle.dh_reached.specs.NeverMeet.{StandsAlong}
@@ -41,7 +41,7 @@ module _ (scene : Scene) (plan : PlainPlan) (count : ℕ) where
     pub stands : StraightStands scene around plan count block (done ++ folds) old new made more reads
     pub along : StandsAlong scene around done folds
     pub keeps : (registers : List ℕ) (memories : List (List ℕ)) → FitKinds plan.registers registers → Fits plan.table memories → InTurns registers rounds
-        → CommandsKeep (step_of plan block registers memories) scene around.levels.now (done ++ folds)
+        → CommandsKeep (step_of_block plan block registers memories) scene around.levels.now (done ++ folds)
 
   -- and of one of a test
   pub record ReachedTest (rounds : List Round) (block : ℕ) : Type 0 where
@@ -56,9 +56,9 @@ module _ (scene : Scene) (plan : PlainPlan) (count : ℕ) where
     pub reads : ℕ → Bool
     pub stands : TestStands scene around plan count block tested.first test old new next tests more reads
     pub has : HasTest (phases_of (program_seen scene.program.now)) tested
-    pub test_is : test_of (form_of tested.command) ≡ Some test
+    pub test_is : test_of (action_form_of tested.command) ≡ Some test
     pub keeps : (registers : List ℕ) (memories : List (List ℕ)) → FitKinds plan.registers registers → Fits plan.table memories → InTurns registers rounds
-        → TermKeeps (step_of plan block registers memories) scene around.levels.now (λ e. ⊥) test
+        → TermKeeps (step_of_block plan block registers memories) scene around.levels.now (λ e. ⊥) test
 
   abbrev pub reached_tie : Tie
   reached_tie = record {

@@ -5,7 +5,7 @@ use Rattle.dh_tree.specs.PlainTrees.{Action, action, ActionForm, lets, lets_memo
 use Rattle.dh_meaning.specs.AccessNumbers.{accesses_of, other_accesses, part_accesses, term_accesses}
 use Rattle.dh_meaning.specs.Phases.{Located}
 use Rattle.dh_expressions.specs.declared.scenes.Scene.{Scene}
-use Rattle.dh_formed.specs.Formed.{Site}
+use Rattle.dh_formed.specs.Formed.{BlockSite}
 use Rattle.dh_laid.specs.Laid.{aim_accesses}
 
 -- none of these numbers, so many from a first one on, is a read
@@ -54,5 +54,5 @@ pub record SharesReads (IsRead : ℕ → Type 0) (scene : Scene) (number : ℕ) 
   pub known : number < length scene.shares.now
   pub earlier : (e : ℕ) → slice_get scene.shares.now number ≡ Some (Some e) → (e < number) × IsRead e
 
-abbrev pub BlockShares : (IsRead : ℕ → Type 0) → Scene → (sites : ℕ → Option Site) → Type 0
-BlockShares IsRead scene sites = (number : ℕ) (s : Site) → sites number ≡ Some s → SharesReads IsRead scene number
+abbrev pub BlockShares : (IsRead : ℕ → Type 0) → Scene → (sites : ℕ → Option BlockSite) → Type 0
+BlockShares IsRead scene sites = (number : ℕ) (s : BlockSite) → sites number ≡ Some s → SharesReads IsRead scene number

@@ -14,7 +14,7 @@ use Rattle.dh_tree.proofs.BankElements.{whole, quotient_below}
 use Rattle.dh_plan.specs.declared.operations.Operation.{Operation}
 use Rattle.dh_rows.specs.declared.spreading.RowAndBank.{RowAndBank}
 use Rattle.dh_rows.specs.Readings.{Readings, Obeys, GrowsPlain}
-use Rattle.dh_rows.specs.RowsShown.{AreWithin, HasWidth, IsRowMade}
+use Rattle.dh_rows.specs.RowsShown.{IndicesAreWithin, IsWideEnough, IsRowMade}
 use Rattle.dh_rows.specs.MadeOperations.{Summed, Divided, Spread, converted, divided, digit_added, bank_spread, division_spread, dim_spread, all_spread, SpreadsEach}
 use Rattle.dh_rows.proofs.Growing.{obeys_plain, plain_grows, plain_self, plain_on, pushed_grows}
 use Rattle.dh_rows.proofs.PutBehind.{divided_behind, digit_put_behind, bank_behind, parts_behind, dim_behind}
@@ -161,12 +161,12 @@ module _ (x : Readings) (width : ℕ) (few : width ≤ 64) (sized : IsWidth widt
           converted_shows x os begun index width (obeys_plain x _ _ behind divided_obeyed)
           ∙ (ap (λ z. word_of (kind.Unsigned width) z) is ∙ number_word width v (omega (arith, inside, small)))
 
-  within_some : (d : Dim) (ds : List Dim) (indices : List ℕ) (numbers : List ℕ) → AreWithin x (d ∷ ds) [] numbers → ⊥
+  within_some : (d : Dim) (ds : List Dim) (indices : List ℕ) (numbers : List ℕ) → IndicesAreWithin x (d ∷ ds) [] numbers → ⊥
   within_some d ds indices [] h = h
   within_some d ds indices (v ∷ vs) h = h
 
   all_counts : (ds : List Dim) (is vs : List ℕ) (os : List Operation) → x.first ≤ length os → (banked : Bool) (row bank : Option ℕ) (r b : ℕ) → AllByRecursion IsDim ds → AllByRecursion (FitsWidth width) ds
-      → AreWithin x ds is vs → (r + 1) * rows_of ds ≤ 2 ^ width → (b + 1) * banks_of ds ≤ 2 ^ width → CountsOr x width row r → (banked ≡ true → CountsOr x width bank b)
+      → IndicesAreWithin x ds is vs → (r + 1) * rows_of ds ≤ 2 ^ width → (b + 1) * banks_of ds ≤ 2 ^ width → CountsOr x width row r → (banked ≡ true → CountsOr x width bank b)
       → Obeys x (all_spread os width ds is banked row bank).operations
       → CountsSpread x width (all_spread os width ds is banked row bank) banked (r * rows_of ds + row_of ds vs) (b * banks_of ds + bank_of ds vs)
   all_counts [] [] [] os begun banked row bank r b dims fits w rows banks r_is b_is h = record {
@@ -179,7 +179,7 @@ module _ (x : Readings) (width : ℕ) (few : width ≤ 64) (sized : IsWidth widt
   all_counts [] [] (v ∷ vs) os begun banked row bank r b dims fits w rows banks r_is b_is h = elim w [ ]
   all_counts [] (i ∷ is) vs os begun banked row bank r b dims fits w rows banks r_is b_is h = none vs w
     where
-      none : (vs : List ℕ) → AreWithin x [] (i ∷ is) vs → CountsSpread x width (all_spread os width [] (i ∷ is) banked row bank) banked (r * rows_of [] + row_of [] vs) (b * banks_of [] + bank_of [] vs)
+      none : (vs : List ℕ) → IndicesAreWithin x [] (i ∷ is) vs → CountsSpread x width (all_spread os width [] (i ∷ is) banked row bank) banked (r * rows_of [] + row_of [] vs) (b * banks_of [] + bank_of [] vs)
       none [] w = elim w [ ]
       none (v ∷ vs) w = elim w [ ]
   all_counts (d ∷ ds) [] vs os begun banked row bank r b dims fits w rows banks r_is b_is h = absurd (within_some d ds [] vs w)
@@ -211,7 +211,7 @@ module _ (x : Readings) (width : ℕ) (few : width ≤ 64) (sized : IsWidth widt
       }
 
 -- All of it, of the indices of an element.
-module _ (width : ℕ) (dims : List Dim) (indices : List ℕ) (banked : Bool) (old : List Operation) (h : HasWidth width dims) where
+module _ (width : ℕ) (dims : List Dim) (indices : List ℕ) (banked : Bool) (old : List Operation) (h : IsWideEnough width dims) where
   abbrev pub whole_spread : Spread
   whole_spread = all_spread old width dims indices banked None None
 
@@ -221,7 +221,7 @@ module _ (width : ℕ) (dims : List Dim) (indices : List ℕ) (banked : Bool) (o
   one_times : (n m : ℕ) → n ≤ m → m < 2 ^ width → (0 + 1) * n ≤ 2 ^ width
   one_times n m l k = omega (arith, l, k)
 
-  shown : (x : Readings) (numbers : List ℕ) → x.first ≤ length old → Obeys x (all_spread old width dims indices banked None None).operations → AreWithin x dims indices numbers
+  shown : (x : Readings) (numbers : List ℕ) → x.first ≤ length old → Obeys x (all_spread old width dims indices banked None None).operations → IndicesAreWithin x dims indices numbers
       → CountsSpread x width (all_spread old width dims indices banked None None) banked (row_of dims numbers) (bank_of dims numbers)
   shown x numbers begun obeys within =
       let c = all_counts x width h.sized.1 h.sized dims indices numbers old begun banked None None 0 0 h.dims_are fit within (one_times (rows_of dims) (elements_of dims) (all_rows_least dims h.dims_are) h.most)

@@ -10,7 +10,7 @@ use Rattle.dh_value.specs.Words.{with_bits, word_of, value_of}
 use Rattle.dh_value.specs.Operations.{binary_of}
 use Rattle.dh_plan.specs.declared.operations.Operation.{Operation}
 use Rattle.dh_plan.specs.declared.operations.OperationForm.TheVariants.{Compute}
-use Rattle.dh_rows.specs.Readings.{Readings, Obeys, Grows, is_cheap}
+use Rattle.dh_rows.specs.Readings.{Readings, Obeys, OperationsGrow, is_cheap}
 use Rattle.dh_rows.specs.MadeOperations.{Summed, made, summed, sum_of, constant_made, computed, converted, computed_with, bits_in, shifted, added, added_with, bit_scaled, scaled_below, scaled, times, digit_behind, digit_added, or_zero}
 use Rattle.dh_rows.proofs.Growing.{grown_length, obeys_before, obeys_plain, plain_grows, pushed_word, pushed_grows}
 use Rattle.dh_rows.proofs.PutBehind.{shifted_behind, added_behind, bit_behind, below_behind, times_behind, behind_behind}
@@ -19,7 +19,7 @@ use Rattle.dh_rows.proofs.DigitNumbers.{high, high_on, high_off, high_most}
 use Rattle.dh_rows.proofs.BitsOfNumbers.{bits_above}
 
 module _ (x : Readings) where
-  pub begun_behind : (a b : List Operation) → Grows a b → x.first ≤ length a → x.first ≤ length b
+  pub begun_behind : (a b : List Operation) → OperationsGrow a b → x.first ≤ length a → x.first ≤ length b
   begun_behind a b g l = let m = grown_length a b g in omega (arith, l, m)
 
   pub constant_shows : (os : List Operation) → x.first ≤ length os → (width number : ℕ) → Obeys x (constant_made os width number).operations

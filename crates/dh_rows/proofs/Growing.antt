@@ -11,18 +11,18 @@ use Rattle.dh_plan.specs.declared.operations.Operation.{Operation}
 use Rattle.dh_plan.specs.declared.operations.OperationForm.{OperationForm}
 use Rattle.dh_plan.specs.Ordered.{form_takes}
 use Rattle.dh_plan.proofs.Appends.{there_in_front}
-use Rattle.dh_rows.specs.Readings.{Readings, Obeys, HasPlain, IsEarlier, IsAdded, Grows, GrowsPlain, IsPlain, Adds, IsValue, IsValueOrNone, is_plain, plain_kind, plain_word, PlainSuits}
+use Rattle.dh_rows.specs.Readings.{Readings, Obeys, HasPlain, IsEarlierValue, IsAdded, OperationsGrow, GrowsPlain, IsPlain, AddsOperations, IsReadingValue, IsValueOrNone, is_plain, plain_kind, plain_word, PlainSuits}
 use Rattle.dh_rows.specs.MadeOperations.{pushed}
 
-pub grows_self : (os : List Operation) → Grows os os
+pub grows_self : (os : List Operation) → OperationsGrow os os
 grows_self os = record { more = []; appended = sym (append-nil os) }
 
-pub grows_on : (a b c : List Operation) → Grows a b → Grows b c → Grows a c
+pub grows_on : (a b c : List Operation) → OperationsGrow a b → OperationsGrow b c → OperationsGrow a c
 grows_on a b c g h = record { more = g.more ++ h.more; appended = h.appended ∙ (ap (λ (os : List Operation). os ++ h.more) g.appended ∙ append_assoc a g.more h.more) }
 
 -- The same of plain operations.
 
-pub plain_grows : (a b : List Operation) → GrowsPlain a b → Grows a b
+pub plain_grows : (a b : List Operation) → GrowsPlain a b → OperationsGrow a b
 plain_grows a b g = record { more = g.more; appended = g.appended }
 
 pub plain_self : (os : List Operation) → GrowsPlain os os
@@ -42,10 +42,10 @@ plain_on a b c g h = record {
 pub plain_pushed : (os : List Operation) (f : OperationForm) → is_plain f ≡ true → GrowsPlain os (pushed os None f).operations
 plain_pushed os f e = record { more = record { guard = None; form = f } ∷ []; appended = refl; plain = (record { guard = refl; form = e }, tt) }
 
-pub grown_length : (a b : List Operation) → Grows a b → length a ≤ length b
+pub grown_length : (a b : List Operation) → OperationsGrow a b → length a ≤ length b
 grown_length a b g = let l : length b ≡ length a + length g.more = ap (λ (os : List Operation). length os) g.appended ∙ length-append a g.more in omega (arith, l)
 
-pub kept_there : (a b : List Operation) → Grows a b → (n : ℕ) (o : Operation) → slice_get a n ≡ Some o → slice_get b n ≡ Some o
+pub kept_there : (a b : List Operation) → OperationsGrow a b → (n : ℕ) (o : Operation) → slice_get a n ≡ Some o → slice_get b n ≡ Some o
 kept_there a b g n o e = subst (λ (os : List Operation). slice_get os n ≡ Some o) (sym g.appended) (there_in_front a g.more n o e)
 
 -- below the end of the first part nothing else stands there
@@ -54,7 +54,7 @@ front_there [] more n o l e = absurd (omega (arith, l))
 front_there (p ∷ a) more zero o l e = e
 front_there (p ∷ a) more (suc n) o l e = front_there a more n o (omega (arith, l)) e
 
-pub was_there : (a b : List Operation) → Grows a b → (n : ℕ) (o : Operation) → n < length a → slice_get b n ≡ Some o → slice_get a n ≡ Some o
+pub was_there : (a b : List Operation) → OperationsGrow a b → (n : ℕ) (o : Operation) → n < length a → slice_get b n ≡ Some o → slice_get a n ≡ Some o
 was_there a b g n o l e = front_there a g.more n o l (subst (λ (os : List Operation). slice_get os n ≡ Some o) g.appended e)
 
 -- the operations before a place, where others come behind
@@ -63,7 +63,7 @@ take_front [] more n l = absurd (omega (arith, l))
 take_front (p ∷ a) more zero l = refl
 take_front (p ∷ a) more (suc n) l = ap (λ (os : List Operation). p ∷ os) (take_front a more n (omega (arith, l)))
 
-taken_front : (a b : List Operation) → Grows a b → (n : ℕ) → n < length a → take n b ≡ take n a
+taken_front : (a b : List Operation) → OperationsGrow a b → (n : ℕ) → n < length a → take n b ≡ take n a
 taken_front a b g n l = ap (λ (os : List Operation). take n os) g.appended ∙ take_front a g.more n l
 
 taken_all : (a more : List Operation) → take (length a) (a ++ more) ≡ a
@@ -75,7 +75,7 @@ at_end [] o = refl
 at_end (p ∷ os) o = at_end os o
 
 module _ (x : Readings) where
-  pub obeys_before : (a b : List Operation) → Grows a b → Obeys x b → Obeys x a
+  pub obeys_before : (a b : List Operation) → OperationsGrow a b → Obeys x b → Obeys x a
   obeys_before a b g h = record {
     words = λ n f l p. h.words n f l (later n f p);
     kinds = λ n f l p. h.kinds n f l (later n f p);
@@ -99,44 +99,44 @@ module _ (x : Readings) where
     pub pushed_kind : Obeys x (pushed os None f).operations → x.kind (length os) ≡ plain_kind x.kind f
     pushed_kind h = h.kinds (length os) f begun pushed_plain
 
-pub pushed_grows : (os : List Operation) (guard : Option ℕ) (f : OperationForm) → Grows os (pushed os guard f).operations
+pub pushed_grows : (os : List Operation) (guard : Option ℕ) (f : OperationForm) → OperationsGrow os (pushed os guard f).operations
 pushed_grows os guard f = record { more = _; appended = refl }
 
 module _ (x : Readings) (clock : ℕ) where
-  pub earlier_later : (own next v : ℕ) → own ≤ next → IsEarlier x clock own v → IsEarlier x clock next v
+  pub earlier_later : (own next v : ℕ) → own ≤ next → IsEarlierValue x clock own v → IsEarlierValue x clock next v
   earlier_later own next v l e = record { begun = e.begun; before = let b = e.before in omega (arith, l, b); there = e.there }
 
-  pub value_later : (a b : List Operation) (k : Kind) (v : ℕ) → Grows a b → IsValue x clock a k v → IsValue x clock b k v
+  pub value_later : (a b : List Operation) (k : Kind) (v : ℕ) → OperationsGrow a b → IsReadingValue x clock a k v → IsReadingValue x clock b k v
   value_later a b k v g h o =
       let s = h (obeys_before x a b g o) in
       record { earlier = earlier_later (length a) (length b) v (grown_length a b g) s.earlier; kind_is = s.kind_is }
 
-  pub maybe_later : (a b : List Operation) (k : Kind) (v : Option ℕ) → Grows a b → IsValueOrNone x clock a k v → IsValueOrNone x clock b k v
+  pub maybe_later : (a b : List Operation) (k : Kind) (v : Option ℕ) → OperationsGrow a b → IsValueOrNone x clock a k v → IsValueOrNone x clock b k v
   maybe_later a b k None g h = tt
   maybe_later a b k (Some v) g h = value_later a b k v g h
 
-  pub adds_self : (os : List Operation) → Adds x clock os os
+  pub adds_self : (os : List Operation) → AddsOperations x clock os os
   adds_self os = record { grows = grows_self os; each = λ n o l e h. let m = slice_get_within os n o e in absurd (omega (arith, l, m)) }
 
-  pub adds_on : (a b c : List Operation) → Adds x clock a b → Adds x clock b c → Adds x clock a c
+  pub adds_on : (a b c : List Operation) → AddsOperations x clock a b → AddsOperations x clock b c → AddsOperations x clock a c
   adds_on a b c g h = record { grows = grows_on a b c g.grows h.grows; each = λ n p l e o. either n o p l e (cases_lt n (length b)) }
     where
       either : (n : ℕ) → Obeys x (take n c) → (p : Operation) → length a ≤ n → slice_get c n ≡ Some p → (n < length b) ⊎ (length b ≤ n) → IsAdded x clock n p
       either n o p l e (inl m) = g.each n p l (was_there b c h.grows n p m e) (subst (λ (os : List Operation). Obeys x os) (taken_front b c h.grows n m) o)
       either n o p l e (inr m) = h.each n p m e o
 
-  all_there : (own : ℕ) (vs : List ℕ) → AllByRecursion (λ v. IsEarlier x clock own v) vs → AllByRecursion (λ v. x.clock v ≤ clock) vs
+  all_there : (own : ℕ) (vs : List ℕ) → AllByRecursion (λ v. IsEarlierValue x clock own v) vs → AllByRecursion (λ v. x.clock v ≤ clock) vs
   all_there own [] h = tt
   all_there own (v ∷ vs) h = (h.0.there, all_there own vs h.1)
 
-  all_later : (own next : ℕ) (vs : List ℕ) → own ≤ next → AllByRecursion (λ v. IsEarlier x clock own v) vs → AllByRecursion (λ v. IsEarlier x clock next v) vs
+  all_later : (own next : ℕ) (vs : List ℕ) → own ≤ next → AllByRecursion (λ v. IsEarlierValue x clock own v) vs → AllByRecursion (λ v. IsEarlierValue x clock next v) vs
   all_later own next [] l h = tt
   all_later own next (v ∷ vs) l h = (earlier_later own next v l h.0, all_later own next vs l h.1)
 
   -- One plain operation more, without a guard, of values that are there and suit it.
   module _ (os : List Operation) (f : OperationForm) (plain : is_plain f ≡ true) (begun : x.first ≤ length os)
-      (takes : Obeys x os → AllByRecursion (λ v. IsEarlier x clock (length os) v) (form_takes f)) (suits : Obeys x os → PlainSuits x.kind f) where
-    pub pushed_adds : Adds x clock os (pushed os None f).operations
+      (takes : Obeys x os → AllByRecursion (λ v. IsEarlierValue x clock (length os) v) (form_takes f)) (suits : Obeys x os → PlainSuits x.kind f) where
+    pub pushed_adds : AddsOperations x clock os (pushed os None f).operations
     pushed_adds = record { grows = pushed_grows os None f; each = λ n o l e h. last n h o l e (slice_get_within _ n o e) }
       where
         ends : length (pushed os None f).operations ≡ length os + 1
@@ -154,7 +154,7 @@ module _ (x : Readings) (clock : ℕ) where
             (subst (λ (p : Operation). IsAdded x clock (length os) p) (same o (subst (λ i. slice_get (pushed os None f).operations i ≡ Some o) (sym own) e))
             (record { guard = refl; plain = plain; takes = takes before; suits = suits before }))
 
-    pub pushed_value : (k : Kind) → (Obeys x os → plain_kind x.kind f ≡ k) → IsValue x clock (pushed os None f).operations k (length os)
+    pub pushed_value : (k : Kind) → (Obeys x os → plain_kind x.kind f ≡ k) → IsReadingValue x clock (pushed os None f).operations k (length os)
     pushed_value k kinds h =
         let o = obeys_before x os _ (pushed_grows os None f) h in
         let ends : length (pushed os None f).operations ≡ length os + 1 = length-append os _ in

@@ -9,7 +9,7 @@ use Rattle.dh_value.specs.declared.operators.Op.TheVariants as op
 use Rattle.dh_value.specs.Words.{IsWidth, IsInteger}
 use Rattle.dh_tree.specs.declared.tables.Dim.{Dim}
 use Rattle.dh_plan.specs.declared.operations.Operation.{Operation}
-use Rattle.dh_rows.specs.Readings.{Readings, Adds, GrowsPlain, IsValue}
+use Rattle.dh_rows.specs.Readings.{Readings, AddsOperations, GrowsPlain, IsReadingValue}
 use Rattle.dh_rows.specs.RowsShown.{IsInput, SpanStands}
 use Rattle.dh_rows.specs.MadeOperations.{Summed, Spanned, constant_made, converted, scaled, bits_in, divided, digit_added, or_zero, moved_sum, moved, dealt, centred, span_centred, no_span, centred_span, spanned}
 use Rattle.dh_rows.proofs.Growing.{grown_length, obeys_before, earlier_later, adds_self, adds_on, plain_self, plain_on, plain_pushed}
@@ -67,7 +67,7 @@ spanned_plain os (kind.Signed width) value bound = centred_span_plain os width v
 
 -- operations that make what tells of an offset
 pub record MakesSpan (x : Readings) (clock : ℕ) (os : List Operation) (m : Spanned) : Type 0 where
-  pub adds : Adds x clock os m.operations
+  pub adds : AddsOperations x clock os m.operations
   pub span : SpanStands x clock m.operations m.span
 
 half_below : (w bound : ℕ) → nat_le (2 ^ (w - 1)) bound ≡ false → bound < 2 ^ w
@@ -83,10 +83,10 @@ module _ (x : Readings) (clock width : ℕ) (sized : IsWidth width) where
   abbrev own : Kind
   own = kind.Unsigned width
 
-  input_on : (a b : List Operation) → Adds x clock a b → (v : ℕ) → IsInput x clock a v → IsInput x clock b v
+  input_on : (a b : List Operation) → AddsOperations x clock a b → (v : ℕ) → IsInput x clock a v → IsInput x clock b v
   input_on a b g v h y = earlier_later x clock (length a) (length b) v (grown_length a b g.grows) (h (obeys_before x a b g.grows y))
 
-  makes_moved_sum : (os : List Operation) → x.first ≤ length os → (index : ℕ) (s : Summed) → MakesAny x clock os s own → IsValue x clock os own index → Makes x clock os (moved_sum index s) own
+  makes_moved_sum : (os : List Operation) → x.first ≤ length os → (index : ℕ) (s : Summed) → MakesAny x clock os s own → IsReadingValue x clock os own index → Makes x clock os (moved_sum index s) own
   makes_moved_sum os begun index s h i =
       let a = makes_added x clock width sized s.operations (begun_on x clock os s.operations h.adds begun) s.sum index h.sum (kept x clock os s.operations own index h.adds i) in
       record { adds = adds_on x clock os s.operations _ h.adds a.adds; value = a.value }
@@ -143,7 +143,7 @@ module _ (x : Readings) (clock width : ℕ) (sized : IsWidth width) where
       (makes_with x clock c.operations at_c op.Add c.value (constant_made c.operations width bound) own own own refl refl refl one.value (makes_constant x clock c.operations at_c width bound sized fits))
 
 module _ (x : Readings) (clock : ℕ) where
-  pub makes_spanned : (k : Kind) (os : List Operation) → x.first ≤ length os → (value bound : ℕ) → IsInteger k → IsValue x clock os k value → MakesSpan x clock os (spanned os k value bound)
+  pub makes_spanned : (k : Kind) (os : List Operation) → x.first ≤ length os → (value bound : ℕ) → IsInteger k → IsReadingValue x clock os k value → MakesSpan x clock os (spanned os k value bound)
   makes_spanned kind.Bool os begun value bound sized g = elim sized [ ]
   makes_spanned (kind.Unsigned w) os begun value bound sized g = record { adds = adds_self x clock os; span = (sized, g) }
   makes_spanned (kind.Signed w) os begun value bound sized g = of (nat_le (2 ^ (w - 1)) bound) refl

@@ -10,7 +10,7 @@ use Rattle.dh_value.specs.Words.{IsWidth, IsInteger}
 use Rattle.dh_tree.specs.declared.tables.Dim.{Dim}
 use Rattle.dh_tree.specs.Shapes.{IsDim}
 use Rattle.dh_plan.specs.declared.operations.Operation.{Operation}
-use Rattle.dh_rows.specs.Readings.{Readings, Adds, IsValue, IsValueOrNone}
+use Rattle.dh_rows.specs.Readings.{Readings, AddsOperations, IsReadingValue, IsValueOrNone}
 use Rattle.dh_rows.specs.RowsShown.{IsInput}
 use Rattle.dh_rows.specs.MadeOperations.{Summed, Divided, Spread, summed, sum_of, constant_made, converted, computed_with, bits_in, power_in, divided_by_power, divided_long, divided_some, divided, digit_added, bank_spread, division_spread, dim_spread, all_spread, bounded, tested}
 use Rattle.dh_rows.proofs.Growing.{grown_length, adds_self, adds_on, obeys_before, earlier_later}
@@ -18,7 +18,7 @@ use Rattle.dh_rows.proofs.PutDown.{MakesAny, MakesDivided, begun_on, kept_maybe,
 use Rattle.dh_rows.proofs.BitsOfNumbers.{part_fits, power_most, power_least}
 
 pub record MakesSpread (x : Readings) (clock : ℕ) (os : List Operation) (m : Spread) (k : Kind) : Type 0 where
-  pub adds : Adds x clock os m.operations
+  pub adds : AddsOperations x clock os m.operations
   pub row : IsValueOrNone x clock m.operations k m.row
   pub bank : IsValueOrNone x clock m.operations k m.bank
 
@@ -37,14 +37,14 @@ above : (a b : ℕ) → nat_le a b ≡ false → b < a
 above a b e = grind (arith, nat_tests)
 
 module _ (x : Readings) (clock : ℕ) where
-  pub inputs_later : (a b : List Operation) → Adds x clock a b → (vs : List ℕ) → AllByRecursion (λ v. IsInput x clock a v) vs → AllByRecursion (λ v. IsInput x clock b v) vs
+  pub inputs_later : (a b : List Operation) → AddsOperations x clock a b → (vs : List ℕ) → AllByRecursion (λ v. IsInput x clock a v) vs → AllByRecursion (λ v. IsInput x clock b v) vs
   inputs_later a b g [] h = tt
   inputs_later a b g (v ∷ vs) h = ((λ y. earlier_later x clock (length a) (length b) v (grown_length a b g.grows) (h.0 (obeys_before x a b g.grows y))), inputs_later a b g vs h.1)
 
 -- Tests.
 
 module _ (x : Readings) (clock : ℕ) where
-  makes_bounded : (os : List Operation) → x.first ≤ length os → (width value bound : ℕ) → IsWidth width → IsValue x clock os (kind.Unsigned width) value → MakesAny x clock os (bounded os width value bound) kind.Bool
+  makes_bounded : (os : List Operation) → x.first ≤ length os → (width value bound : ℕ) → IsWidth width → IsReadingValue x clock os (kind.Unsigned width) value → MakesAny x clock os (bounded os width value bound) kind.Bool
   makes_bounded os begun width value bound sized g = of (nat_le (2 ^ width) bound) refl
     where
       of : (t : Bool) → nat_le (2 ^ width) bound ≡ t → MakesAny x clock os (if t then summed os None else sum_of (computed_with op.Lt value (constant_made os width bound))) kind.Bool
@@ -54,7 +54,7 @@ module _ (x : Readings) (clock : ℕ) where
           (makes_with x clock os begun op.Lt value (constant_made os width bound) (kind.Unsigned width) (kind.Unsigned width) kind.Bool refl refl refl g
           (makes_constant x clock os begun width bound sized (above (2 ^ width) bound e)))
 
-  pub makes_tested : (os : List Operation) → x.first ≤ length os → (k : Kind) (value size : ℕ) → IsInteger k → IsValue x clock os k value → MakesAny x clock os (tested os k value size) kind.Bool
+  pub makes_tested : (os : List Operation) → x.first ≤ length os → (k : Kind) (value size : ℕ) → IsInteger k → IsReadingValue x clock os k value → MakesAny x clock os (tested os k value size) kind.Bool
   makes_tested os begun kind.Bool value size sized g = elim sized [ ]
   makes_tested os begun (kind.Unsigned width) value size sized g = makes_bounded os begun width value size sized g
   makes_tested os begun (kind.Signed width) value size sized g =
@@ -68,7 +68,7 @@ module _ (x : Readings) (clock width : ℕ) (sized : IsWidth width) where
   abbrev own : Kind
   own = kind.Unsigned width
 
-  makes_some : (os : List Operation) → x.first ≤ length os → (value : ℕ) (d : Dim) (banked : Bool) → FitsWidth width d → (d.banks ≡ 1 → ⊥) → IsValue x clock os own value
+  makes_some : (os : List Operation) → x.first ≤ length os → (value : ℕ) (d : Dim) (banked : Bool) → FitsWidth width d → (d.banks ≡ 1 → ⊥) → IsReadingValue x clock os own value
       → MakesDivided x clock os (divided_some os width value d banked) own
   makes_some os begun value d banked h more g = of (d.banks == 2 ^ power_in d.banks) refl
     where
@@ -77,7 +77,7 @@ module _ (x : Readings) (clock width : ℕ) (sized : IsWidth width) where
       of true e = makes_divided_by_power x clock width sized os begun value (power_in d.banks) banked (power_least d.banks (equal d.banks (2 ^ power_in d.banks) e) more) (power_most d.banks) g
       of false e = makes_divided_long x clock width sized os begun value d.banks (bits_in (d.size / d.banks - 1)) (λ by l. part_fits d width by h.dim h.small sized.1 l) g
 
-  pub makes_divided : (os : List Operation) → x.first ≤ length os → (value : ℕ) (d : Dim) (banked : Bool) → FitsWidth width d → IsValue x clock os own value
+  pub makes_divided : (os : List Operation) → x.first ≤ length os → (value : ℕ) (d : Dim) (banked : Bool) → FitsWidth width d → IsReadingValue x clock os own value
       → MakesDivided x clock os (divided os width value d banked) own
   makes_divided os begun value d banked h g = of (d.banks == 1) refl
     where
@@ -92,7 +92,7 @@ module _ (x : Readings) (clock width : ℕ) (sized : IsWidth width) where
       of true e = record { adds = adds_self x clock os; quotient = g; remainder = tt }
       of false e = rows (nat_le (d.size / d.banks) 1) (other d.banks 1 e)
 
-  spread_over : (os m : List Operation) (s : Spread) → Adds x clock os m → MakesSpread x clock m s own → MakesSpread x clock os s own
+  spread_over : (os m : List Operation) (s : Spread) → AddsOperations x clock os m → MakesSpread x clock m s own → MakesSpread x clock os s own
   spread_over os m s g h = record { adds = adds_on x clock os m s.operations g h.adds; row = h.row; bank = h.bank }
 
   makes_bank : (os : List Operation) → x.first ≤ length os → (d : Dim) (banked : Bool) (bank digit : Option ℕ) (row : Summed) → MakesAny x clock os row own → IsValueOrNone x clock os own bank

@@ -71,7 +71,7 @@ pub record Obeys (x : Readings) (os : List Operation) : Type 0 where
 -- What is put down.
 
 -- a value of the block, of an operation before this one, that is there at a clock
-pub record IsEarlier (x : Readings) (clock own v : ℕ) : Type 0 where
+pub record IsEarlierValue (x : Readings) (clock own v : ℕ) : Type 0 where
   pub begun : x.first ≤ v
   pub before : v < own
   pub there : x.clock v ≤ clock
@@ -80,11 +80,11 @@ pub record IsEarlier (x : Readings) (clock own v : ℕ) : Type 0 where
 pub record IsAdded (x : Readings) (clock own : ℕ) (o : Operation) : Type 0 where
   pub guard : o.guard ≡ None
   pub plain : is_plain o.form ≡ true
-  pub takes : AllByRecursion (λ v. IsEarlier x clock own v) (form_takes o.form)
+  pub takes : AllByRecursion (λ v. IsEarlierValue x clock own v) (form_takes o.form)
   pub suits : PlainSuits x.kind o.form
 
 -- operations come behind
-pub record Grows (old new : List Operation) : Type 0 where
+pub record OperationsGrow (old new : List Operation) : Type 0 where
   pub more : List Operation
   pub appended : new ≡ old ++ more
 
@@ -100,20 +100,20 @@ pub record GrowsPlain (old new : List Operation) : Type 0 where
   pub plain : AllByRecursion IsPlain more
 
 -- and all are such: each one where the signals obey those before it, so that order and kinds follow one by one
-pub record Adds (x : Readings) (clock : ℕ) (old new : List Operation) : Type 0 where
-  pub grows : Grows old new
+pub record AddsOperations (x : Readings) (clock : ℕ) (old new : List Operation) : Type 0 where
+  pub grows : OperationsGrow old new
   pub each : (n : ℕ) (o : Operation) → length old ≤ n → slice_get new n ≡ Some o → Obeys x (take n new) → IsAdded x clock n o
 
 -- a value of the block, of this kind, that is there at a clock
 pub record Stands (x : Readings) (clock : ℕ) (os : List Operation) (k : Kind) (v : ℕ) : Type 0 where
-  pub earlier : IsEarlier x clock (length os) v
+  pub earlier : IsEarlierValue x clock (length os) v
   pub kind_is : x.kind v ≡ k
 
 -- once the signals obey
-abbrev pub IsValue : (x : Readings) → (clock : ℕ) → List Operation → Kind → (v : ℕ) → Type 0
-IsValue x clock os k v = Obeys x os → Stands x clock os k v
+abbrev pub IsReadingValue : (x : Readings) → (clock : ℕ) → List Operation → Kind → (v : ℕ) → Type 0
+IsReadingValue x clock os k v = Obeys x os → Stands x clock os k v
 
 -- a value, or none
 abbrev pub IsValueOrNone : (x : Readings) → (clock : ℕ) → List Operation → Kind → Option ℕ → Type 0
 IsValueOrNone x clock os k None = Unit {0}
-IsValueOrNone x clock os k (Some v) = IsValue x clock os k v
+IsValueOrNone x clock os k (Some v) = IsReadingValue x clock os k v

@@ -5,7 +5,7 @@ ghost use Rattle.std.specs.Prelude.{◌≡◌, map, None, IfOk};
 ghost use Rattle.dh_tree.specs.Indices.{index_breaches_of};
 ghost use Rattle.dh_tree.specs.LeastBreach.{least_of};
 ghost use Rattle.dh_tree.specs.Placements as placements;
-ghost use Rattle.dh_tree.specs.Placements.{assigned_breaches, decls_placement_breaches, placement_breaches};
+ghost use Rattle.dh_tree.specs.Placements.{outer_write_breaches, decls_placement_breaches, placement_breaches};
 ghost use Rattle.dh_tree.specs.Seen.{declared_seen, program_seen};
 ghost use Rattle.dh_tree.specs.Told.{MayTellLeast, TellsLeast};
 ghost use Rattle.dh_tree.specs.ViewBreaches.{shapes_breaches_of};
@@ -34,7 +34,7 @@ fn is_no_memory(shape: &Shape) -> bool
 
 /// The breach of an assignment, in a body of several copies inside which this is the first number.
 fn keep_assigned(entities: &[Entity], first: u32, kept: &mut Option<Breach>, target: &Ref)
-    ensures { kept.new ≡ least_of kept.old (assigned_breaches entities.now first target.now) }
+    ensures { kept.new ≡ least_of kept.old (outer_write_breaches entities.now first target.now) }
 {
     let is_broken = names_iterator(entities, target.entity)
         || is_from_outside(first, target.entity);

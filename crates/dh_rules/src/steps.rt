@@ -2,7 +2,7 @@
 
 ghost use Rattle.std.specs.Prelude.{◌≡◌, ◌+◌, ◌-◌, ◌/◌, if◌then◌else◌, max, min};
 ghost use Rattle.dh_tree.specs.PhaseKinds.{choice_kind, turns_kind};
-ghost use Rattle.dh_tree.specs.Seen.{plan_seen};
+ghost use Rattle.dh_tree.specs.Seen.{view_plan};
 ghost use Rattle.dh_tree.specs.ViewOffsets as offsets;
 
 use dh_tree::ViewForm;
@@ -17,7 +17,7 @@ pub(crate) fn choice(chosen: u32, other: u32) -> u32
 
 /// Of a view: one where it moves.
 pub(crate) fn of_view(form: &ViewForm) -> u32
-    ensures { result ≡ (if offsets.moves (plan_seen form.now) then 1 else 0) }
+    ensures { result ≡ (if offsets.moves (view_plan form.now) then 1 else 0) }
 {
     if moves(form) { 1 } else { 0 }
 }

@@ -12,11 +12,11 @@ use Rattle.dh_tree.specs.declared.breaches.Breach.{Breach}
 use Rattle.dh_tree.specs.declared.trees.expressions.Ref.{Ref}
 use Rattle.dh_tree.specs.declared.trees.programs.Sort.TheVariants.{Variable, Iterator, Memory, View}
 use Rattle.dh_tree.specs.Breaches as names
-use Rattle.dh_tree.specs.Breaches.{unknown, twice, term_breaches, value_breaches, form_breaches, other_breaches, actions_breaches, groups_breaches}
+use Rattle.dh_tree.specs.Breaches.{unknown, twice, term_breaches, maybe_value_breaches, form_breaches, other_breaches, actions_breaches, groups_breaches}
 use Rattle.dh_tree.specs.Excesses.{excess_at, form_copies_excess, other_copies_excess, groups_copies_excess, part_copies_excess}
 use Rattle.dh_tree.specs.Forms.{unbuilt, form_holds, unbuilt_form, unbuilt_other, unbuilt_groups, unbuilt_part}
 use Rattle.dh_tree.specs.Indices.{shape_breaches, term_index_breaches, turns_breaches, action_form_index_breaches, other_index_breaches, actions_index_breaches, groups_index_breaches}
-use Rattle.dh_tree.specs.KindBreaches.{term_kind_breaches, assigned_breaches, truth_breaches, condition_breaches, target_breaches, reducer_breaches, parent_breaches, iterator_breaches, low_breaches, high_breaches, action_form_kind_breaches, other_kind_breaches, actions_kind_breaches, groups_kind_breaches}
+use Rattle.dh_tree.specs.KindBreaches.{term_kind_breaches, assigned_breaches, truth_breaches, condition_breaches, target_breaches, reducer_kind_breaches, parent_breaches, iterator_breaches, low_breaches, high_breaches, action_form_kind_breaches, other_kind_breaches, actions_kind_breaches, groups_kind_breaches}
 use Rattle.dh_tree.specs.Kinds.{Fact, of_variable, of_iterator, of_memory, of_function, Facts, fact_of, found, place_of, for_numbers, target_kind, variable_fact, iterator_kind, facts_after_form, facts_after_other, facts_after_actions, facts_after_groups, typed_term, typed_maybe, typed_plan, view_dims, view_fact, typed_action_form, typed_other, typed_actions, typed_groups}
 use Rattle.dh_tree.specs.Memories.{memory_in}
 use Rattle.dh_tree.specs.PlainTrees.{Term, ViewPlan, action, ActionForm, lets, lets_memory, views, assigns, stores, reduces, calls, blocks, decides, repeats, counts, MaybeAction, no_action, one_action, Actions, no_actions, action_then, Groups, no_groups, group_then}
@@ -184,7 +184,7 @@ module _ (known : Known) (rules : Rules) (good : AreGoodWays known rules.views) 
         let right : option_map (resolved_term s.visible) value ≡ value = let eq = h.named in cc in
         let same : declares s name ≡ name = let eq = h.named in cc in
         let number : name.entity ≡ Some (length s.entities) = sym (ap (λ (r : Ref). r.entity) same) in
-        let v = maybe_known known p loops rules good facts s.visible declared value k h.sized.0 typed right (first_none (value_breaches s.visible value) _ h.visible) h.kinds h.indices h.views h.sized.1 in
+        let v = maybe_known known p loops rules good facts s.visible declared value k h.sized.0 typed right (first_none (maybe_value_breaches s.visible value) _ h.visible) h.kinds h.indices h.views h.sized.1 in
         record {
           knows = declared_known known p loops facts s name Variable (variable_fact declared value) l k (let_good known p loops name (length s.entities) declared value number h.sized.0 v h.placed);
           runs = let_runs known p loops name (let_kind declared value) declared value h.sized.0 v h.placed;
@@ -211,7 +211,7 @@ module _ (known : Known) (rules : Rules) (good : AreGoodWays known rules.views) 
         let number : name.entity ≡ Some (length s.entities) = sym (ap (λ (r : Ref). r.entity) same) in
         let below = second_none (unknown s.visible parent) _ h.visible in
         let offsets = offsets_known known p loops rules good facts s.visible k (offsets_of form) (offsets_typed facts form plan_typed) (offsets_named s.visible form plan_named)
-        (offsets_visible s.visible form ∙ first_none (names.plan_breaches s.visible form) _ below) (offsets_kinds facts form ∙ second_none (parent_breaches (fact_of facts parent) parent.place) _ h.kinds) h.views (offsets_sized form h.sized) in
+        (offsets_visible s.visible form ∙ first_none (names.plan_name_breaches s.visible form) _ below) (offsets_kinds facts form ∙ second_none (parent_breaches (fact_of facts parent) parent.place) _ h.kinds) h.views (offsets_sized form h.sized) in
         view_leads loops facts s name parent form h.viewed.0.number l k
         (view_told loops facts s name parent form l (name_known known p loops facts s.visible parent k above (first_none (unknown s.visible parent) _ h.visible))
         (first_none (parent_breaches (fact_of facts parent) parent.place) _ h.kinds) number h.declares_memories h.viewed.0 offsets)
@@ -244,7 +244,7 @@ module _ (known : Known) (rules : Rules) (good : AreGoodWays known rules.views) 
         let same : used s.visible target ≡ target = let eq = h.named in cc in
         let name = name_known known p loops facts s.visible target k same (first_none (unknown s.visible target) _ h.visible) in
         let below = second_none (target_breaches (fact_of facts target) target.place) _ h.kinds in
-        let side = second_none (reducer_breaches (target_kind (fact_of facts target)) (found value) target.place) _ below in
+        let side = second_none (reducer_kind_breaches (target_kind (fact_of facts target)) (found value) target.place) _ below in
         let v = right_known loops facts s _ value k (for_numbers_sized _ (target_sized known p loops facts target name)) typed right
         (second_none (unknown s.visible target) _ h.visible)
         (second_none (assigned_breaches (target_kind (fact_of facts target)) (found value) (place_of value)) _ side)
@@ -252,7 +252,7 @@ module _ (known : Known) (rules : Rules) (good : AreGoodWays known rules.views) 
         record {
           knows = k;
           runs = fold_runs known p loops facts target o value (target_known known p loops facts target name (first_none (target_breaches (fact_of facts target) target.place) _ h.kinds)) v h.numbers
-              (first_none (reducer_breaches (target_kind (fact_of facts target)) (found value) target.place) _ below)
+              (first_none (reducer_kind_breaches (target_kind (fact_of facts target)) (found value) target.place) _ below)
               (first_none (assigned_breaches (target_kind (fact_of facts target)) (found value) (place_of value)) _ side);
         }
     form_leads (calls function arguments) loops facts s place l k h = not_none _ _ h.forms

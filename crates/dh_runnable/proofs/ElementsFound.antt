@@ -11,9 +11,9 @@ use Rattle.dh_tree.specs.declared.tables.Dim.{Dim}
 use Rattle.dh_tree.specs.declared.trees.expressions.Ref.{Ref}
 use Rattle.dh_meaning.specs.Effects.{kind_in, entry_kind}
 use Rattle.dh_tree.specs.Elements.{banks_of, dims_at, entry_dims}
-use Rattle.dh_tree.specs.Indices.{shape_keeps, kept_dims, bank_breaches, physical_breaches}
+use Rattle.dh_tree.specs.Indices.{shape_keeps, kept_dims, physical_bank_breaches, physical_breaches}
 use Rattle.dh_tree.specs.Kinds.{when}
-use Rattle.dh_tree.specs.Memories.{memory_of}
+use Rattle.dh_tree.specs.Memories.{memory_of_name}
 use Rattle.dh_tree.specs.Scopes.{entity_number}
 use Rattle.dh_tree.specs.Memories.{Memory, same_entity, number_in, memory_in, entry_of}
 use Rattle.dh_tree.specs.PlainTrees.{Term}
@@ -27,7 +27,7 @@ not_beyond : (banks bank : ℕ) → nat_le banks bank ≡ false → bank < banks
 not_beyond banks bank e = grind (arith, nat_tests)
 
 -- a bank without a breach lies below the banks
-bank_within : (dims : List Dim) (bank : ℕ) (place : Place) → bank_breaches dims bank place ≡ [] → bank < banks_of dims
+bank_within : (dims : List Dim) (bank : ℕ) (place : Place) → physical_bank_breaches dims bank place ≡ [] → bank < banks_of dims
 bank_within dims bank place e = not_beyond (banks_of dims) bank (when_none _ _ e)
 
 -- Entities.
@@ -82,23 +82,23 @@ number_found (x ∷ ms) entity m e =
 pub record IsElement (ms : List Memory) (r : Ref) (k : Kind) : Type 0 where
   pub memory : Memory
   pub there : memory_in ms r.entity ≡ Some memory
-  pub kind : kind_in (map entry_of ms) (memory_of ms r) ≡ k
-  pub within : memory_of ms r < length (map entry_of ms)
-  pub bank : (bank : ℕ) (place : Place) (row : Term) → physical_breaches (kept_dims (memory_in ms r.entity)) bank place row ≡ [] → bank < banks_of (dims_at (map entry_of ms) (memory_of ms r))
+  pub kind : kind_in (map entry_of ms) (memory_of_name ms r) ≡ k
+  pub within : memory_of_name ms r < length (map entry_of ms)
+  pub bank : (bank : ℕ) (place : Place) (row : Term) → physical_breaches (kept_dims (memory_in ms r.entity)) bank place row ≡ [] → bank < banks_of (dims_at (map entry_of ms) (memory_of_name ms r))
 
 pub element_is : (ms : List Memory) (r : Ref) (m : Memory) → memory_in ms r.entity ≡ Some m → shape_keeps m.shape ≡ true → IsElement ms r m.shape.kind
 element_is ms r m e keeps =
     let at = number_found ms r.entity m e in
-    let same : memory_of ms r ≡ at.number = ap entity_number at.is in
-    let entry : slice_get (map entry_of ms) (memory_of ms r) ≡ Some (entry_of m) = ap (slice_get (map entry_of ms)) same ∙ at.entry in
-    let dims : dims_at (map entry_of ms) (memory_of ms r) ≡ m.shape.dims = ap entry_dims entry in
+    let same : memory_of_name ms r ≡ at.number = ap entity_number at.is in
+    let entry : slice_get (map entry_of ms) (memory_of_name ms r) ≡ Some (entry_of m) = ap (slice_get (map entry_of ms)) same ∙ at.entry in
+    let dims : dims_at (map entry_of ms) (memory_of_name ms r) ≡ m.shape.dims = ap entry_dims entry in
     let kept : kept_dims (memory_in ms r.entity) ≡ Some m.shape.dims = ap kept_dims e ∙ ap (λ (b : Bool). if b then Some m.shape.dims else None) keeps in
     record {
       memory = m;
       there = e;
       kind = ap entry_kind entry;
-      within = slice_get_within (map entry_of ms) (memory_of ms r) (entry_of m) entry;
+      within = slice_get_within (map entry_of ms) (memory_of_name ms r) (entry_of m) entry;
       bank = λ bank place row f.
           subst (λ (ds : List Dim). bank < banks_of ds) (sym dims)
-          (bank_within m.shape.dims bank place (first_none (bank_breaches m.shape.dims bank place) _ (ap (λ ds. physical_breaches ds bank place row) (sym kept) ∙ f)));
+          (bank_within m.shape.dims bank place (first_none (physical_bank_breaches m.shape.dims bank place) _ (ap (λ ds. physical_breaches ds bank place row) (sym kept) ∙ f)));
     }

@@ -14,7 +14,7 @@ use Rattle.dh_tree.specs.Breaches.{unknown}
 use Rattle.dh_tree.specs.Kinds.{Fact, of_variable, of_iterator, of_memory, of_function, Facts, fact_at, fact_of, facts_after, value_kind, target_kind}
 use Rattle.dh_tree.specs.PlainTrees.{Action, action, lets, lets_memory, views, assigns, stores, reduces, calls, blocks, decides, repeats, counts}
 use Rattle.dh_tree.specs.Resolved.{used}
-use Rattle.dh_tree.specs.Scopes.{Binding, binding, entity_of, is_visible, bind, Scope, declare, past, at_end}
+use Rattle.dh_tree.specs.Scopes.{ScopeEntry, binding, entity_of, is_visible, bind, Scope, declare, past, at_end}
 use Rattle.dh_tree.specs.Widths.{IsSized}
 use Rattle.dh_runnable.proofs.TypedParts.{IsMemory}
 use Rattle.dh_runnable.proofs.ViewsKnown.{IsView, inside_more, view_more}
@@ -53,7 +53,7 @@ pub record IsKnownName (known : Known) (p : Placing) (loops : List ℕ) (facts :
   pub good : IsGood known p loops n fact
 
 -- and so of every name that is visible
-abbrev pub Knows : Known → Placing → (loops : List ℕ) → Facts → List Binding → Type 0
+abbrev pub Knows : Known → Placing → (loops : List ℕ) → Facts → List ScopeEntry → Type 0
 Knows known p loops facts bs = (name : List ℕ) (n : ℕ) → entity_of bs name ≡ Some n → IsKnownName known p loops facts n
 
 -- what is known of a name
@@ -80,14 +80,14 @@ good_more known p loops factor n (of_memory k dims) (inl g) = inl g
 good_more known p loops factor n (of_memory k dims) (inr v) = inr (view_more known p loops factor n k dims v)
 good_more known p loops factor n (of_function parameters) h = h
 
-pub knows_more : (known : Known) (p : Placing) (loops : List ℕ) (factor : ℕ) (facts : Facts) (bs : List Binding) → Knows known p loops facts bs → Knows known p (factors_inside loops factor) facts bs
+pub knows_more : (known : Known) (p : Placing) (loops : List ℕ) (factor : ℕ) (facts : Facts) (bs : List ScopeEntry) → Knows known p loops facts bs → Knows known p (factors_inside loops factor) facts bs
 knows_more known p loops factor facts bs k name n e =
     let h = k name n e in record { fact = h.fact; is = h.is; good = good_more known p loops factor n h.fact h.good }
 
 -- Points of the text.
 
 module _ (known : Known) (p : Placing) (loops : List ℕ) where
-  pub name_known : (facts : Facts) (bs : List Binding) (r : Ref) → Knows known p loops facts bs → used bs r ≡ r → unknown bs r ≡ [] → IsNamed known p loops facts r
+  pub name_known : (facts : Facts) (bs : List ScopeEntry) (r : Ref) → Knows known p loops facts bs → used bs r ≡ r → unknown bs r ≡ [] → IsNamed known p loops facts r
   name_known facts bs r k u v =
       let seen = visible_number (entity_of bs r.name) _ v in
       record { number = seen.0; entity = sym (ap (λ (x : Ref). x.entity) u) ∙ seen.1; stands = k r.name seen.0 seen.1 }
@@ -96,11 +96,11 @@ module _ (known : Known) (p : Placing) (loops : List ℕ) where
   fact_is facts r n = ap (fact_at facts) n.entity ∙ n.stands.is
 
   -- names that are visible before are known behind
-  pub still_known : (facts later : Facts) (bs : List Binding) → Extends later facts → Knows known p loops facts bs → Knows known p loops later bs
+  pub still_known : (facts later : Facts) (bs : List ScopeEntry) → Extends later facts → Knows known p loops facts bs → Knows known p loops later bs
   still_known facts later bs x k name n e = let h = k name n e in record { fact = h.fact; is = x n h.fact h.is; good = h.good }
 
   -- a name that is bound to an entity of which something is known
-  pub bind_known : (facts : Facts) (bs : List Binding) (name : List ℕ) (m : ℕ) → Knows known p loops facts bs → IsKnownName known p loops facts m → Knows known p loops facts (bind bs name m)
+  pub bind_known : (facts : Facts) (bs : List ScopeEntry) (name : List ℕ) (m : ℕ) → Knows known p loops facts bs → IsKnownName known p loops facts m → Knows known p loops facts (bind bs name m)
   bind_known facts bs name m k h other n e = either (is_visible bs name) e
     where
       either : (b : Bool) → entity_of (if b then bs else bs ++ binding name m ∷ []) other ≡ Some n → IsKnownName known p loops facts n

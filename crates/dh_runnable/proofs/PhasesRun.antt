@@ -8,11 +8,11 @@ use Rattle.dh_tree.specs.PlainTrees.{Action, action, ActionForm, lets, lets_memo
 use Rattle.dh_tree.specs.ViewOffsets.{moves}
 use Rattle.dh_meaning.specs.AccessNumbers.{term_accesses, accesses_of, part_accesses}
 use Rattle.dh_meaning.specs.Core.{CoreCommands, no_commands}
-use Rattle.dh_meaning.specs.CoreOf.{Known, core_action, core_action_form, core_other, core_groups, core_part, core_commands, core_test, form_of, turning_of, core_phase, core_phases}
+use Rattle.dh_meaning.specs.CoreOf.{Known, core_action, core_action_form, core_other, core_groups, core_part, core_commands, core_test, action_form_of, turning_of, core_phase, core_phases}
 use Rattle.dh_meaning.specs.Phases as source
 use Rattle.dh_meaning.specs.Phases.{Located, of_list, one_straight, joined, are_straight, one_command, folded, turn_count, turn_phases, choice_phases, located, phases, form_phases, other_phases, groups_phases, parts_phases}
 use Rattle.dh_meaning.specs.Sites.{Around, in_arm, in_loop, loop_of}
-use Rattle.dh_runnable.specs.ActionsRun.{table_in, ActionRuns, FormRuns, OtherRuns, GroupsRun, PartRuns}
+use Rattle.dh_runnable.specs.ActionsRun.{table_known, ActionRuns, FormRuns, OtherRuns, GroupsRun, PartRuns}
 use Rattle.dh_code.specs.Declarations.{factors_inside}
 use Rattle.dh_sem.specs.Runnable.{CanTurn, CanRun, CanRunAll}
 use Rattle.dh_code.specs.Slots.{Placing}
@@ -22,10 +22,10 @@ module _ (known : Known) (p : Placing) where
   -- Straight commands.
 
   mutual
-    action_does : (a : Action) (loops : List ℕ) → ActionRuns known p loops a → (n : ℕ) (rest : CoreCommands) → CanDoAll (table_in known) p loops rest → CanDoAll (table_in known) p loops (core_action known n a rest)
+    action_does : (a : Action) (loops : List ℕ) → ActionRuns known p loops a → (n : ℕ) (rest : CoreCommands) → CanDoAll (table_known known) p loops rest → CanDoAll (table_known known) p loops (core_action known n a rest)
     action_does (action id place form) loops h n rest r = form_does form loops h n rest r
 
-    form_does : (f : ActionForm) (loops : List ℕ) → FormRuns known p loops f → (n : ℕ) (rest : CoreCommands) → CanDoAll (table_in known) p loops rest → CanDoAll (table_in known) p loops (core_action_form known n f rest)
+    form_does : (f : ActionForm) (loops : List ℕ) → FormRuns known p loops f → (n : ℕ) (rest : CoreCommands) → CanDoAll (table_known known) p loops rest → CanDoAll (table_known known) p loops (core_action_form known n f rest)
     form_does (lets name declared value) loops h n rest r = (h n, r)
     form_does (assigns target value) loops h n rest r = (h n, r)
     form_does (stores target value) loops h n rest r = (h (n + term_accesses value) n, r)
@@ -41,16 +41,16 @@ module _ (known : Known) (p : Placing) where
     form_does (repeats test body) loops h n rest r = r
     form_does (counts iterator declared low high factor body combine combine_place) loops h n rest r = r
 
-    other_does : (m : MaybeAction) (loops : List ℕ) → OtherRuns known p loops m → (n : ℕ) → CanDoAll (table_in known) p loops (core_other known n m)
+    other_does : (m : MaybeAction) (loops : List ℕ) → OtherRuns known p loops m → (n : ℕ) → CanDoAll (table_known known) p loops (core_other known n m)
     other_does no_action loops h n = tt
     other_does (one_action a) loops h n = action_does a loops h n no_commands tt
 
-    groups_do : (gs : Groups) (loops : List ℕ) → GroupsRun known p loops gs → (n : ℕ) (rest : CoreCommands) → CanDoAll (table_in known) p loops rest → CanDoAll (table_in known) p loops (core_groups known n gs rest)
+    groups_do : (gs : Groups) (loops : List ℕ) → GroupsRun known p loops gs → (n : ℕ) (rest : CoreCommands) → CanDoAll (table_known known) p loops rest → CanDoAll (table_known known) p loops (core_groups known n gs rest)
     groups_do no_groups loops h n rest r = r
     groups_do (group_then part behind) loops h n rest r =
         part_does part loops h.0 n (core_groups known (n + part_accesses part) behind rest) (groups_do behind loops h.1 (n + part_accesses part) rest r)
 
-    part_does : (part : Actions) (loops : List ℕ) → PartRuns known p loops part → (n : ℕ) (rest : CoreCommands) → CanDoAll (table_in known) p loops rest → CanDoAll (table_in known) p loops (core_part known n part rest)
+    part_does : (part : Actions) (loops : List ℕ) → PartRuns known p loops part → (n : ℕ) (rest : CoreCommands) → CanDoAll (table_known known) p loops rest → CanDoAll (table_known known) p loops (core_part known n part rest)
     part_does no_actions loops h n rest r = r
     part_does (action_then a behind) loops h n rest r =
         action_does a loops h.0 n (core_part known (n + accesses_of a) behind rest) (part_does behind loops h.1 (n + accesses_of a) rest r)
@@ -59,17 +59,17 @@ module _ (known : Known) (p : Placing) where
 
   -- a command can be done in front of others that can
   abbrev Does : (loops : List ℕ) → Located → Type 0
-  Does loops c = (rest : CoreCommands) → CanDoAll (table_in known) p loops rest → CanDoAll (table_in known) p loops (core_action known c.first c.command rest)
+  Does loops c = (rest : CoreCommands) → CanDoAll (table_known known) p loops rest → CanDoAll (table_known known) p loops (core_action known c.first c.command rest)
 
   -- the test of a loop or an `if` is a condition
   abbrev Tests : (loops : List ℕ) → Located → Type 0
-  Tests loops c = CanTest (table_in known) p loops (core_test known c)
+  Tests loops c = CanTest (table_known known) p loops (core_test known c)
 
   abbrev mutual
     PhaseRuns : (loops : List ℕ) → source.Phase → Type 0
     PhaseRuns loops (source.straight cs) = AllByRecursion (Does loops) cs
     PhaseRuns loops (source.turns loop count body) =
-        CanTurn p loops (turning_of known count (form_of loop.command)) × PhasesRun (factors_inside loops (turning_of known count (form_of loop.command)).factor) body
+        CanTurn p loops (turning_of known count (action_form_of loop.command)) × PhasesRun (factors_inside loops (turning_of known count (action_form_of loop.command)).factor) body
     PhaseRuns loops (source.repeated loop body) = Tests loops loop × PhasesRun loops body
     PhaseRuns loops (source.decided choice chosen other) = Tests loops choice × (PhasesRun loops chosen × PhasesRun loops other)
 
@@ -120,14 +120,14 @@ module _ (known : Known) (p : Placing) where
   folded_runs loops (q ∷ r ∷ qs) fold h i = (h.0, folded_runs loops (r ∷ qs) fold h.1 i)
 
   -- a `for`
-  turns_run : (loops : List ℕ) (loop : Located) (count : ℕ) (turn : List source.Phase) → CanTurn p loops (turning_of known count (form_of loop.command))
-      → ListRuns (factors_inside loops (turning_of known count (form_of loop.command)).factor) turn → ListRuns loops (turn_phases loop count turn)
+  turns_run : (loops : List ℕ) (loop : Located) (count : ℕ) (turn : List source.Phase) → CanTurn p loops (turning_of known count (action_form_of loop.command))
+      → ListRuns (factors_inside loops (turning_of known count (action_form_of loop.command)).factor) turn → ListRuns loops (turn_phases loop count turn)
   turns_run loops loop count [] t h = tt
   turns_run loops loop count (q ∷ qs) t h = by (count == 0)
     where
       by : (b : Bool) → ListRuns loops (if b then [] else source.turns loop count (of_list (q ∷ qs)) ∷ [])
       by true = tt
-      by false = ((t, list_runs (factors_inside loops (turning_of known count (form_of loop.command)).factor) (q ∷ qs) h), tt)
+      by false = ((t, list_runs (factors_inside loops (turning_of known count (action_form_of loop.command)).factor) (q ∷ qs) h), tt)
 
   -- a view
   view_runs : (loops : List ℕ) (moving : Bool) (view : Located) → Does loops view → ListRuns loops (if moving then one_command view else [])
@@ -182,21 +182,21 @@ module _ (known : Known) (p : Placing) where
 
   -- What is run.
 
-  commands_can : (loops : List ℕ) (cs : List Located) → AllByRecursion (Does loops) cs → CanDoAll (table_in known) p loops (core_commands known cs)
+  commands_can : (loops : List ℕ) (cs : List Located) → AllByRecursion (Does loops) cs → CanDoAll (table_known known) p loops (core_commands known cs)
   commands_can loops [] h = tt
   commands_can loops (c ∷ cs) h = h.0 (core_commands known cs) (commands_can loops cs h.1)
 
   mutual
-    phase_can : (q : source.Phase) (loops : List ℕ) → PhaseRuns loops q → CanRun (table_in known) p loops (core_phase known q)
+    phase_can : (q : source.Phase) (loops : List ℕ) → PhaseRuns loops q → CanRun (table_known known) p loops (core_phase known q)
     phase_can (source.straight cs) loops h = commands_can loops cs h
-    phase_can (source.turns loop count body) loops h = (h.0, phases_can body (factors_inside loops (turning_of known count (form_of loop.command)).factor) h.1)
+    phase_can (source.turns loop count body) loops h = (h.0, phases_can body (factors_inside loops (turning_of known count (action_form_of loop.command)).factor) h.1)
     phase_can (source.repeated loop body) loops h = (h.0, phases_can body loops h.1)
     phase_can (source.decided choice chosen other) loops h = (h.0, (phases_can chosen loops h.1.0, phases_can other loops h.1.1))
 
-    phases_can : (qs : source.Phases) (loops : List ℕ) → PhasesRun loops qs → CanRunAll (table_in known) p loops (core_phases known qs)
+    phases_can : (qs : source.Phases) (loops : List ℕ) → PhasesRun loops qs → CanRunAll (table_known known) p loops (core_phases known qs)
     phases_can source.no_phases loops h = tt
     phases_can (source.phase q qs) loops h = (phase_can q loops h.0, phases_can qs loops h.1)
 
   -- the phases of a command that can be run
-  pub phases_of_command_can : (a : Action) (loops : List ℕ) (r : Around) (n : ℕ) → ActionRuns known p loops a → CanRunAll (table_in known) p loops (core_phases known (of_list (phases r n a)))
+  pub phases_of_command_can : (a : Action) (loops : List ℕ) (r : Around) (n : ℕ) → ActionRuns known p loops a → CanRunAll (table_known known) p loops (core_phases known (of_list (phases r n a)))
   phases_of_command_can a loops r n h = phases_can (of_list (phases r n a)) loops (list_runs loops (phases r n a) (phases_run a loops r n h))

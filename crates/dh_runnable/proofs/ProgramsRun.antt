@@ -21,7 +21,7 @@ use Rattle.dh_tree.specs.Memories.{Memory, outside_memory, locals, memories_of}
 use Rattle.dh_tree.specs.NameCounts.{declared_in, declared_in_functions}
 use Rattle.dh_tree.specs.PlainTrees.{Action, action, Declared, Defined, Program}
 use Rattle.dh_tree.specs.Resolved.{resolved_decls, resolved_action, resolved_form}
-use Rattle.dh_tree.specs.Scopes.{Binding, bind, Scope, entity, after_functions, Item, memory_items, function_items, merged, items_of, after_items, first_scope, body_scope, last_scope}
+use Rattle.dh_tree.specs.Scopes.{ScopeEntry, bind, Scope, entity, after_functions, Item, memory_items, function_items, merged, items_of, after_items, first_scope, body_scope, last_scope}
 use Rattle.dh_tree.specs.TextNumbers.{HasTextNumbers}
 use Rattle.dh_tree.specs.ViewBreaches.{action_view_breaches, kept_views}
 use Rattle.dh_tree.specs.ViewFactors.{factor_breaches_of}
@@ -82,7 +82,7 @@ module _ (known : Known) (p : Placing) (facts : Facts) where
       by true g k = (i.0, g)
       by false g k = (h.0, k)
 
-  after_known : (bs : List Binding) (items : List Item) → Knows known p [] facts bs → ItemsKnown items → Knows known p [] facts (after_items bs items)
+  after_known : (bs : List ScopeEntry) (items : List Item) → Knows known p [] facts bs → ItemsKnown items → Knows known p [] facts (after_items bs items)
   after_known bs [] k h = k
   after_known bs (i ∷ is) k h = after_known (bind bs i.name.name i.entity) is (bind_known known p [] facts bs i.name.name i.entity k h.0) h.1
 

@@ -10,13 +10,13 @@ use Rattle.dh_value.specs.declared.operators.Op.{Op}
 use Rattle.dh_value.specs.declared.operators.Op.TheVariants as op
 use Rattle.dh_value.specs.Words.{IsKind}
 use Rattle.dh_tree.specs.declared.trees.expressions.Ref.{Ref}
-use Rattle.dh_tree.specs.Breaches.{value_breaches}
+use Rattle.dh_tree.specs.Breaches.{maybe_value_breaches}
 use Rattle.dh_tree.specs.Indices.{maybe_index_breaches}
-use Rattle.dh_tree.specs.KindBreaches.{assigned_breaches, maybe_breaches, truth_breaches, target_breaches, reducer_breaches}
+use Rattle.dh_tree.specs.KindBreaches.{assigned_breaches, maybe_breaches, truth_breaches, target_breaches, reducer_kind_breaches}
 use Rattle.dh_tree.specs.Kinds.{Fact, of_variable, of_iterator, of_memory, of_function, Facts, Takes, two_numbers, takes, operands_breaches, applied_kind, mismatch, when, is_truth, fact_of, found, place_of, for_numbers, value_kind, variable_fact, iterator_kind, typed_term, typed_maybe}
 use Rattle.dh_tree.specs.PlainTrees.{Term, term, number, truth_value, named, accessed, in_bank, applied, converted}
 use Rattle.dh_tree.specs.Resolved.{resolved_term}
-use Rattle.dh_tree.specs.Scopes.{Binding, entity_number}
+use Rattle.dh_tree.specs.Scopes.{ScopeEntry, entity_number}
 use Rattle.dh_tree.specs.TextNumbers.{Reduces}
 use Rattle.dh_tree.specs.ViewBreaches.{maybe_view_breaches}
 use Rattle.dh_tree.specs.Widths.{IsSized, MaybeSized}
@@ -25,7 +25,7 @@ use Rattle.dh_tree.proofs.EmptyLists.{second_none, not_none}
 use Rattle.dh_meaning.specs.Bindings.{binding_in, kind_bound, kind_found, kind_or_first, let_kind}
 use Rattle.dh_meaning.specs.Core.{variable}
 use Rattle.dh_meaning.specs.CoreOf.{Known, depth_of, kind_of, operation_of, core_term, first_value, store_to, assigned, folded_into}
-use Rattle.dh_runnable.specs.ActionsRun.{table_in, TestRuns}
+use Rattle.dh_runnable.specs.ActionsRun.{table_known, TestRuns}
 use Rattle.dh_code.specs.Slots.{Placing}
 use Rattle.dh_code.specs.Suited.{CanDo}
 use Rattle.dh_runnable.proofs.DeclarationsFound.{NamePlaced}
@@ -86,8 +86,8 @@ module _ (known : Known) (p : Placing) (loops : List ℕ) where
   MaybeKnown None = Unit {0}
   MaybeKnown (Some t) = IsKnown known p loops t
 
-  pub maybe_known : (rules : Rules) (good : AreGoodWays known rules.views) (facts : Facts) (bs : List Binding) (declared : Option Kind) (value : Option Term) → Knows known p loops facts bs → IsSized declared
-      → typed_maybe facts declared value ≡ value → option_map (resolved_term bs) value ≡ value → value_breaches bs value ≡ [] → maybe_breaches facts declared value ≡ [] → maybe_index_breaches (indexed known rules) value ≡ []
+  pub maybe_known : (rules : Rules) (good : AreGoodWays known rules.views) (facts : Facts) (bs : List ScopeEntry) (declared : Option Kind) (value : Option Term) → Knows known p loops facts bs → IsSized declared
+      → typed_maybe facts declared value ≡ value → option_map (resolved_term bs) value ≡ value → maybe_value_breaches bs value ≡ [] → maybe_breaches facts declared value ≡ [] → maybe_index_breaches (indexed known rules) value ≡ []
       → maybe_view_breaches (judged known rules) value ≡ [] → MaybeSized value → MaybeKnown value
   maybe_known rules good facts bs declared None k d e n v b i w z = tt
   maybe_known rules good facts bs declared (Some t) k d e n v b i w z =
@@ -107,7 +107,7 @@ module _ (known : Known) (p : Placing) (loops : List ℕ) where
       subst (λ (k : Option Kind). IsGood known p loops n (of_variable k)) (sym m.is)
       (record { sized = (m.operand 0).sized; placed = subst (λ (k : Kind). IsPlaced known p loops n k) (kind_found_is t m.kind m.is) (numbered_placed r n (kind_found t) e h) })
 
-  pub let_runs : (r : Ref) (k : Kind) (declared : Option Kind) (value : Option Term) → IsSized declared → MaybeKnown value → NamePlaced known p loops r k → (n : ℕ) → CanDo (table_in known) p loops (assigned known r (first_value known n declared value))
+  pub let_runs : (r : Ref) (k : Kind) (declared : Option Kind) (value : Option Term) → IsSized declared → MaybeKnown value → NamePlaced known p loops r k → (n : ℕ) → CanDo (table_known known) p loops (assigned known r (first_value known n declared value))
   let_runs r k declared None z m h n = (h.inside, (first_sized declared z, tt))
   let_runs r k declared (Some t) z m h n = (h.inside, ((m.operand n).suits, m.inside n))
 
@@ -136,11 +136,11 @@ module _ (known : Known) (p : Placing) (loops : List ℕ) where
       cases (of_memory k dims) g h = not_none _ _ h
       cases (of_function parameters) g h = not_none _ _ h
 
-  pub assign_runs : (facts : Facts) (r : Ref) (value : Term) → IsTarget facts r → IsKnown known p loops value → (n : ℕ) → CanDo (table_in known) p loops (assigned known r (core_term known n value))
+  pub assign_runs : (facts : Facts) (r : Ref) (value : Term) → IsTarget facts r → IsKnown known p loops value → (n : ℕ) → CanDo (table_known known) p loops (assigned known r (core_term known n value))
   assign_runs facts r value t v n = (name_inside known p loops r t.number t.kind t.entity t.stands, ((v.operand n).suits, v.inside n))
 
   -- a store; no text has one to what is no access, which would store nothing
-  pub store_runs : (target value : Term) → IsKnown known p loops target → IsKnown known p loops value → (m n : ℕ) → CanDo (table_in known) p loops (store_to known m target (core_term known n value))
+  pub store_runs : (target value : Term) → IsKnown known p loops target → IsKnown known p loops value → (m n : ℕ) → CanDo (table_known known) p loops (store_to known m target (core_term known n value))
   store_runs (term at k (accessed r indices)) value t v m n = (((t.operand m).suits, t.inside m), ((v.operand n).suits, v.inside n))
   store_runs (term at k (in_bank r bank bank_place row)) value t v m n = (((t.operand m).suits, t.inside m), ((v.operand n).suits, v.inside n))
   store_runs (term at k (number negative x)) value t v m n = ((refl, (tt, tt)), (tt, tt))
@@ -150,29 +150,29 @@ module _ (known : Known) (p : Placing) (loops : List ℕ) where
   store_runs (term at k (converted inner to)) value t v m n = ((refl, (tt, tt)), (tt, tt))
 
   -- a reducer
-  variable_operand : (facts : Facts) (r : Ref) (t : IsTarget facts r) → IsOperand (table_in known) t.kind (variable (kind_of known r) (depth_of known r) (entity_number r.entity))
+  variable_operand : (facts : Facts) (r : Ref) (t : IsTarget facts r) → IsOperand (table_known known) t.kind (variable (kind_of known r) (depth_of known r) (entity_number r.entity))
   variable_operand facts r t =
       let bound : kind_of known r ≡ t.kind = ap (λ (o : Option ℕ). kind_bound (binding_in known.bindings (entity_number o))) t.entity ∙ t.stands.placed.bound in
       record { sized = t.stands.sized; kind = bound; suits = subst IsKind (sym bound) t.stands.sized }
 
   fold_operand : (facts : Facts) (r : Ref) (o : Op) (value : Term) (place other : Place) (t : IsTarget facts r) (v : IsKnown known p loops value) → takes o ≡ two_numbers
       → when (is_truth t.kind) (mismatch place) ≡ [] → assigned_breaches (Some t.kind) (Some v.kind) other ≡ []
-      → (n : ℕ) → IsOperand (table_in known) (applied_kind o t.kind v.kind) (operation_of o (kind_of known r) (kind_found value) (variable (kind_of known r) (depth_of known r) (entity_number r.entity)) (core_term known n value))
+      → (n : ℕ) → IsOperand (table_known known) (applied_kind o t.kind v.kind) (operation_of o (kind_of known r) (kind_found value) (variable (kind_of known r) (depth_of known r) (entity_number r.entity)) (core_term known n value))
   fold_operand facts r o value place other t v e a b n =
       let bound : kind_of known r ≡ t.kind = ap (λ (o : Option ℕ). kind_bound (binding_in known.bindings (entity_number o))) t.entity ∙ t.stands.placed.bound in
       let fits : operands_breaches (takes o) r.place (place_of value) t.kind v.kind ≡ [] =
       ap (λ (x : Takes). operands_breaches x r.place (place_of value) t.kind v.kind) e ∙ reducer_operands r.place (place_of value) place other t.kind v.kind a b in
-      let suits = applied_suits (table_in known) r.place (place_of value) o t.kind v.kind (variable (kind_of known r) (depth_of known r) (entity_number r.entity)) (core_term known n value) fits (variable_operand facts r t) (v.operand n) in
-      subst (λ (j : Kind). IsOperand (table_in known) (applied_kind o t.kind v.kind) (operation_of o j (kind_found value) (variable (kind_of known r) (depth_of known r) (entity_number r.entity)) (core_term known n value))) (sym bound)
-      (subst (λ (j : Kind). IsOperand (table_in known) (applied_kind o t.kind v.kind) (operation_of o t.kind j (variable (kind_of known r) (depth_of known r) (entity_number r.entity)) (core_term known n value))) (sym (kind_found_is value v.kind v.is)) suits)
+      let suits = applied_suits (table_known known) r.place (place_of value) o t.kind v.kind (variable (kind_of known r) (depth_of known r) (entity_number r.entity)) (core_term known n value) fits (variable_operand facts r t) (v.operand n) in
+      subst (λ (j : Kind). IsOperand (table_known known) (applied_kind o t.kind v.kind) (operation_of o j (kind_found value) (variable (kind_of known r) (depth_of known r) (entity_number r.entity)) (core_term known n value))) (sym bound)
+      (subst (λ (j : Kind). IsOperand (table_known known) (applied_kind o t.kind v.kind) (operation_of o t.kind j (variable (kind_of known r) (depth_of known r) (entity_number r.entity)) (core_term known n value))) (sym (kind_found_is value v.kind v.is)) suits)
 
   pub fold_runs : (facts : Facts) (r : Ref) (o : Op) (value : Term) → IsTarget facts r → IsKnown known p loops value → Reduces o
-      → reducer_breaches (value_kind (fact_of facts r)) (found value) r.place ≡ [] → assigned_breaches (value_kind (fact_of facts r)) (found value) (place_of value) ≡ []
-      → (n : ℕ) → CanDo (table_in known) p loops (folded_into known r o (kind_found value) (core_term known n value))
+      → reducer_kind_breaches (value_kind (fact_of facts r)) (found value) r.place ≡ [] → assigned_breaches (value_kind (fact_of facts r)) (found value) (place_of value) ≡ []
+      → (n : ℕ) → CanDo (table_known known) p loops (folded_into known r o (kind_found value) (core_term known n value))
   fold_runs facts r o value t v e a b n =
       let own = name_inside known p loops r t.number t.kind t.entity t.stands in
       let numbers : when (is_truth t.kind) (mismatch r.place) ≡ [] =
-      sym (ap (λ (x : Option Kind). reducer_breaches x (found value) r.place) t.is ∙ ap (λ (x : Option Kind). reducer_breaches (Some t.kind) x r.place) v.is) ∙ a in
+      sym (ap (λ (x : Option Kind). reducer_kind_breaches x (found value) r.place) t.is ∙ ap (λ (x : Option Kind). reducer_kind_breaches (Some t.kind) x r.place) v.is) ∙ a in
       let alike : assigned_breaches (Some t.kind) (Some v.kind) (place_of value) ≡ [] =
       sym (ap (λ (x : Option Kind). assigned_breaches x (found value) (place_of value)) t.is ∙ ap (λ (x : Option Kind). assigned_breaches (Some t.kind) x (place_of value)) v.is) ∙ b in (
         own,

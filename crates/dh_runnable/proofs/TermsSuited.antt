@@ -25,7 +25,7 @@ use Rattle.dh_tree.specs.Resolved.{used, resolved_term, resolved_terms}
 use Rattle.dh_tree.specs.Seen.{terms}
 use Rattle.dh_tree.specs.ViewBreaches.{KnownViews, dims_through, offsets_view_breaches, physical_broken, term_view_breaches, terms_view_breaches}
 use Rattle.dh_tree.specs.Views.{view_in}
-use Rattle.dh_tree.specs.Scopes.{Binding}
+use Rattle.dh_tree.specs.Scopes.{ScopeEntry}
 use Rattle.dh_tree.specs.Widths.{IsSized, AreSized, AreAllSized}
 use Rattle.dh_runnable.proofs.ElementsFound.{IsElement, element_is}
 use Rattle.dh_runnable.proofs.TypedParts.{IsMemory, for_numbers_sized, number_kind_sized, typed_parts}
@@ -35,7 +35,7 @@ use Rattle.dh_meaning.specs.Bindings.{binding_in, depth_bound, kind_or_first, ki
 use Rattle.dh_meaning.specs.Core.{CoreTerm, CoreTerms, Target, by_row, count_terms, read}
 use Rattle.dh_meaning.specs.CoreOf.{Known, entity_number, depth_of, operation_of, core_term, core_form, core_terms, target_to, way_of}
 use Rattle.dh_meaning.specs.Ways.{Way, base_of, way_in, way_unless}
-use Rattle.dh_runnable.specs.ActionsRun.{table_in}
+use Rattle.dh_runnable.specs.ActionsRun.{table_known}
 use Rattle.dh_code.specs.Slots.{Placing}
 use Rattle.dh_code.specs.Suited.{AreSuited, IsInside, IsSuitedTarget, AreInside, AllInside}
 use Rattle.dh_runnable.proofs.NamesKnown.{IsVariable, IsGood, Knows, name_known, fact_is}
@@ -43,7 +43,7 @@ use Rattle.dh_runnable.proofs.Operands.{IsOperand, bool_sized, applied_suits, op
 use Rattle.dh_runnable.proofs.ViewsKnown.{AreGoodWays, IsReached, Rules, memory_reached, view_reached}
 
 -- the memories and loops that the rules on indices speak of
-abbrev pub indexed : Known → Rules → places.Known
+abbrev pub indexed : Known → Rules → places.IndexContext
 indexed known rules = record { memories = known.memories; counters = rules.counters }
 
 -- and those that the rules on views speak of
@@ -51,7 +51,7 @@ abbrev pub judged : Known → Rules → KnownViews
 judged known rules = record { names = indexed known rules; views = rules.views; kept = rules.kept }
 
 -- an expression that breaks no rule
-pub record IsReady (known : Known) (rules : Rules) (facts : Facts) (bs : List Binding) (t : Term) : Type 0 where
+pub record IsReady (known : Known) (rules : Rules) (facts : Facts) (bs : List ScopeEntry) (t : Term) : Type 0 where
   pub named : resolved_term bs t ≡ t
   pub visible : term_breaches bs t ≡ []
   pub kinds : term_kind_breaches facts t ≡ []
@@ -59,7 +59,7 @@ pub record IsReady (known : Known) (rules : Rules) (facts : Facts) (bs : List Bi
   pub views : term_view_breaches (judged known rules) t ≡ []
   pub sized : AreSized t
 
-pub record AreReady (known : Known) (rules : Rules) (facts : Facts) (bs : List Binding) (ts : Terms) : Type 0 where
+pub record AreReady (known : Known) (rules : Rules) (facts : Facts) (bs : List ScopeEntry) (ts : Terms) : Type 0 where
   pub named : resolved_terms bs ts ≡ ts
   pub visible : terms_breaches bs ts ≡ []
   pub kinds : indices_kind_breaches facts ts ≡ []
@@ -71,13 +71,13 @@ pub record AreReady (known : Known) (rules : Rules) (facts : Facts) (bs : List B
 pub record IsKnown (known : Known) (p : Placing) (loops : List ℕ) (t : Term) : Type 0 where
   pub kind : Kind
   pub is : found t ≡ Some kind
-  pub operand : (n : ℕ) → IsOperand (table_in known) kind (core_term known n t)
+  pub operand : (n : ℕ) → IsOperand (table_known known) kind (core_term known n t)
   pub inside : (n : ℕ) → AreInside p loops (core_term known n t)
 
 pub record AreKnown (known : Known) (p : Placing) (loops : List ℕ) (ts : Terms) : Type 0 where
   pub found : all_found ts ≡ true
   pub integer : all_integer ts ≡ true
-  pub suit : (n : ℕ) → AreSuited (table_in known) (core_terms known n ts)
+  pub suit : (n : ℕ) → AreSuited (table_known known) (core_terms known n ts)
   pub inside : (n : ℕ) → AllInside p loops (core_terms known n ts)
 
 -- Wants.
@@ -235,7 +235,7 @@ module _ (known : Known) (p : Placing) (loops : List ℕ) where
 
   -- a typed expression of a form of which a kind is found
   with_kind : (facts : Facts) (want : Option Kind) (place : Place) (k : Option Kind) (form : TermForm) (m : Kind) → typed_term facts want (term place k form) ≡ term place k form → form_found facts want form ≡ Some m
-      → ((n : ℕ) → IsOperand (table_in known) m (core_form known n place m form)) → ((n : ℕ) → AreInside p loops (core_form known n place m form)) → IsKnown known p loops (term place k form)
+      → ((n : ℕ) → IsOperand (table_known known) m (core_form known n place m form)) → ((n : ℕ) → AreInside p loops (core_form known n place m form)) → IsKnown known p loops (term place k form)
   with_kind facts want place k form m e f o i =
       subst (λ (j : Option Kind). IsKnown known p loops (term place j form)) (sym ((typed_parts facts want place k form e).1 ∙ f)) (record { kind = m; is = refl; operand = o; inside = i })
 
@@ -256,7 +256,7 @@ module _ (known : Known) (p : Placing) (loops : List ℕ) where
   pub name_inside : (r : Ref) (n : ℕ) (k : Kind) → r.entity ≡ Some n → IsVariable known p loops n k → IsInside p loops (depth_of known r) (entity_number r.entity)
   name_inside r n k e v = subst (λ (o : Option ℕ). IsInside p loops (depth_bound (binding_in known.bindings (entity_number o))) (entity_number o)) (sym e) v.placed.inside
 
-  variable_operand : (place : Place) (r : Ref) (k : Kind) → IsKind k → (n : ℕ) → IsOperand (table_in known) k (core_form known n place k (named r))
+  variable_operand : (place : Place) (r : Ref) (k : Kind) → IsKind k → (n : ℕ) → IsOperand (table_known known) k (core_form known n place k (named r))
   variable_operand place r k h n = record { sized = h; kind = refl; suits = h }
 
   -- an access, by what is known of its name
@@ -294,15 +294,15 @@ module _ (known : Known) (p : Placing) (loops : List ℕ) where
           (ap (λ z. is_some (view_in rules.views z)) entity ∙ good.seen (Some n) v.way (way_found (memory_in known.memories (Some n)) (way_in known.ways (Some n)) v.way v.is)) direct)
 
   -- an element of what a name stands for
-  element_operand : (place : Place) (r : Ref) (indices : Terms) (k : Option Kind) (f : IsFound known p loops r indices k) → AreKnown known p loops indices → (n : ℕ) → IsOperand (table_in known) f.kind (core_form known n place f.kind (accessed r indices))
+  element_operand : (place : Place) (r : Ref) (indices : Terms) (k : Option Kind) (f : IsFound known p loops r indices k) → AreKnown known p loops indices → (n : ℕ) → IsOperand (table_known known) f.kind (core_form known n place f.kind (accessed r indices))
   element_operand place r indices k f i n = record { sized = f.sized; kind = f.reached.kind; suits = f.reached.suits (core_terms known n indices) (core_counted known n indices ∙ f.counted) (i.suit n) }
 
   element_inside : (place : Place) (r : Ref) (indices : Terms) (k : Option Kind) (j : Kind) (f : IsFound known p loops r indices k) → AreKnown known p loops indices → (n : ℕ) → AreInside p loops (core_form known n place j (accessed r indices))
   element_inside place r indices k j f i n = f.reached.inside (core_terms known n indices) (i.inside n)
 
-  row_operand : (place : Place) (r : Ref) (k : Kind) (bank : ℕ) (bank_place : Place) (row : Term) → IsKind k → IsElement known.memories r k → physical_breaches (kept_dims (memory_in known.memories r.entity)) bank bank_place row ≡ [] → IsKnown known p loops row → (n : ℕ) → IsOperand (table_in known) k (core_form known n place k (in_bank r bank bank_place row))
+  row_operand : (place : Place) (r : Ref) (k : Kind) (bank : ℕ) (bank_place : Place) (row : Term) → IsKind k → IsElement known.memories r k → physical_breaches (kept_dims (memory_in known.memories r.entity)) bank bank_place row ≡ [] → IsKnown known p loops row → (n : ℕ) → IsOperand (table_known known) k (core_form known n place k (in_bank r bank bank_place row))
   row_operand place r k bank bank_place row s h b i n =
-      subst (λ (w : Option Way). IsOperand (table_in known) k (read_by known (n + term_accesses row) place r (by_row bank (core_term known n row)) w)) (sym (memory_way known r h.memory h.there))
+      subst (λ (w : Option Way). IsOperand (table_known known) k (read_by known (n + term_accesses row) place r (by_row bank (core_term known n row)) w)) (sym (memory_way known r h.memory h.there))
       (record { sized = s; kind = h.kind; suits = ((h.within, h.bank bank bank_place row b), (i.operand n).suits) })
 
   -- one index in front of others
@@ -318,15 +318,15 @@ module _ (known : Known) (p : Placing) (loops : List ℕ) where
 
   -- an operation, by its operands
   applied_operand : (o : Op) (left right : Term) (l : IsKnown known p loops left) (r : IsKnown known p loops right) → operands_breaches (takes o) (place_of left) (place_of right) l.kind r.kind ≡ [] → (n : ℕ)
-      → IsOperand (table_in known) (applied_kind o l.kind r.kind) (operation_of o (kind_found left) (kind_found right) (core_term known n left) (core_term known (n + term_accesses left) right))
+      → IsOperand (table_known known) (applied_kind o l.kind r.kind) (operation_of o (kind_found left) (kind_found right) (core_term known n left) (core_term known (n + term_accesses left) right))
   applied_operand o left right l r e n =
-      let suits = applied_suits (table_in known) (place_of left) (place_of right) o l.kind r.kind (core_term known n left) (core_term known (n + term_accesses left) right) e (l.operand n) (r.operand (n + term_accesses left)) in
-      subst (λ (j : Kind). IsOperand (table_in known) (applied_kind o l.kind r.kind) (operation_of o j (kind_found right) (core_term known n left) (core_term known (n + term_accesses left) right))) (sym (kind_found_is left l.kind l.is))
-      (subst (λ (j : Kind). IsOperand (table_in known) (applied_kind o l.kind r.kind) (operation_of o l.kind j (core_term known n left) (core_term known (n + term_accesses left) right))) (sym (kind_found_is right r.kind r.is)) suits)
+      let suits = applied_suits (table_known known) (place_of left) (place_of right) o l.kind r.kind (core_term known n left) (core_term known (n + term_accesses left) right) e (l.operand n) (r.operand (n + term_accesses left)) in
+      subst (λ (j : Kind). IsOperand (table_known known) (applied_kind o l.kind r.kind) (operation_of o j (kind_found right) (core_term known n left) (core_term known (n + term_accesses left) right))) (sym (kind_found_is left l.kind l.is))
+      (subst (λ (j : Kind). IsOperand (table_known known) (applied_kind o l.kind r.kind) (operation_of o l.kind j (core_term known n left) (core_term known (n + term_accesses left) right))) (sym (kind_found_is right r.kind r.is)) suits)
 
   module _ (rules : Rules) (good : AreGoodWays known rules.views) where
     mutual
-      pub term_known : (facts : Facts) (bs : List Binding) → Knows known p loops facts bs → (want : Option Kind) → IsSized want → (t : Term) → typed_term facts want t ≡ t → IsReady known rules facts bs t → IsKnown known p loops t
+      pub term_known : (facts : Facts) (bs : List ScopeEntry) → Knows known p loops facts bs → (want : Option Kind) → IsSized want → (t : Term) → typed_term facts want t ≡ t → IsReady known rules facts bs t → IsKnown known p loops t
       term_known facts bs k want s (term place m (number negative n)) e h =
           with_kind facts want place m (number negative n) (number_kind want) e
           (number_known m (number_kind want) negative n place (typed_parts facts want place m (number negative n) e).1 h.kinds)
@@ -349,8 +349,8 @@ module _ (known : Known) (p : Placing) (loops : List ℕ) where
             named = named;
             visible = second_none (unknown bs r) _ h.visible;
             kinds = second_none (access_breaches (fact_of facts r) place indices) _ h.kinds;
-            indices = second_none (places.access_breaches rules.counters (kept_dims (memory_in known.memories r.entity)) indices) _ h.indices;
-            views = second_none (places.access_breaches rules.counters (dims_through (view_in rules.kept r.entity)) indices) _ h.views;
+            indices = second_none (places.access_index_breaches rules.counters (kept_dims (memory_in known.memories r.entity)) indices) _ h.indices;
+            views = second_none (places.access_index_breaches rules.counters (dims_through (view_in rules.kept r.entity)) indices) _ h.views;
             sized = h.sized;
           }) in
           let none = first_none (access_breaches (fact_of facts r) place indices) _ h.kinds in
@@ -424,7 +424,7 @@ module _ (known : Known) (p : Placing) (loops : List ℕ) where
           let cast = cast_known place (found inner) i.kind to i.is h.sized.0 (first_none (cast_breaches place (found inner) to) _ h.kinds) in
           with_kind facts want place m (converted inner to) to e cast.0 (λ n. record { sized = h.sized.0; kind = refl; suits = (cast.1, (i.operand n).suits) }) i.inside
 
-      pub terms_known : (facts : Facts) (bs : List Binding) → Knows known p loops facts bs → (ts : Terms) → typed_terms facts ts ≡ ts → AreReady known rules facts bs ts → AreKnown known p loops ts
+      pub terms_known : (facts : Facts) (bs : List ScopeEntry) → Knows known p loops facts bs → (ts : Terms) → typed_terms facts ts ≡ ts → AreReady known rules facts bs ts → AreKnown known p loops ts
       terms_known facts bs k no_terms e h = record { found = refl; integer = refl; suit = λ n. tt; inside = λ n. tt }
       terms_known facts bs k (term_then t rest) e h =
           let first_typed : typed_term facts None t ≡ t = cc in
@@ -452,7 +452,7 @@ module _ (known : Known) (p : Placing) (loops : List ℕ) where
           }))
 
     -- offsets of a view
-    pub offsets_known : (facts : Facts) (bs : List Binding) → Knows known p loops facts bs → (ts : List Term) → typed_terms facts (terms ts) ≡ terms ts → resolved_terms bs (terms ts) ≡ terms ts → terms_breaches bs (terms ts) ≡ [] → indices_kind_breaches facts (terms ts) ≡ []
+    pub offsets_known : (facts : Facts) (bs : List ScopeEntry) → Knows known p loops facts bs → (ts : List Term) → typed_terms facts (terms ts) ≡ terms ts → resolved_terms bs (terms ts) ≡ terms ts → terms_breaches bs (terms ts) ≡ [] → indices_kind_breaches facts (terms ts) ≡ []
         → offsets_view_breaches (judged known rules) ts ≡ [] → AreAllSized (terms ts) → AllByRecursion (λ t. IsKnown known p loops t) ts
     offsets_known facts bs k [] e n v b w z = tt
     offsets_known facts bs k (t ∷ ts) e n v b w z =

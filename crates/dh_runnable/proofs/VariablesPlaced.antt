@@ -8,7 +8,7 @@ use Rattle.dh_tree.specs.Memories.{same_entity}
 use Rattle.dh_tree.specs.PlainTrees.{Action, action, ActionForm, lets, lets_memory, views, assigns, stores, reduces, calls, blocks, decides, repeats, counts, MaybeAction, no_action, one_action, Actions, no_actions, action_then, Groups, no_groups, group_then}
 use Rattle.dh_meaning.specs.Bindings.{Binding, depth_inside, bindings, form_bindings, other_bindings, groups_bindings, part_bindings, binding_in, kind_bound, depth_bound}
 use Rattle.dh_meaning.specs.CoreOf.{Known}
-use Rattle.dh_code.specs.Declarations.{Declaration, factors_inside, declarations, form_declarations, other_declarations, groups_declarations, part_declarations, declaration_in, factors_of, kind_declared, all_held}
+use Rattle.dh_code.specs.Declarations.{Declaration, factors_inside, declarations, form_declarations, other_declarations, groups_declarations, part_declarations, declaration_in, declared_factors, kind_declared, all_held}
 use Rattle.dh_code.specs.Ranks.{copies_in}
 use Rattle.dh_code.specs.Slots.{Placing, held_nowhere}
 use Rattle.dh_runnable.proofs.NamesKnown.{IsPlaced}
@@ -82,7 +82,7 @@ mutual
 -- what is found of an entity in both
 pub record IsFoundSame (d : Option Declaration) (b : Option Binding) : Type 0 where
   pub kind : kind_bound b ≡ kind_declared d
-  pub depth : depth_bound b ≡ length (factors_of d)
+  pub depth : depth_bound b ≡ length (declared_factors d)
 
 -- what is found among the first declarations is found among all, and so is its variable
 pub found_among : (ds more : List Declaration) (bs others : List Binding) (n : ℕ) (d : Declaration) → AreSame ds bs → declaration_in ds n ≡ Some d
@@ -104,23 +104,23 @@ found_among (x ∷ ds) more (b ∷ bs) others n d h e =
 
 pub all_long : (ds : List Declaration) (count from entities : ℕ) → length (all_held ds count from entities) ≡ entities
 all_long ds count from zero = refl
-all_long ds count from (suc entities) = ap suc (all_long ds (count + copies_in (factors_of (declaration_in ds from))) (suc from) entities)
+all_long ds count from (suc entities) = ap suc (all_long ds (count + copies_in (declared_factors (declaration_in ds from))) (suc from) entities)
 
-pub depth_held : (ds : List Declaration) (count from entities n : ℕ) → n < entities → (slice_index_or (all_held ds count from entities) n held_nowhere).depth ≡ length (factors_of (declaration_in ds (from + n)))
+pub depth_held : (ds : List Declaration) (count from entities n : ℕ) → n < entities → (slice_index_or (all_held ds count from entities) n held_nowhere).depth ≡ length (declared_factors (declaration_in ds (from + n)))
 depth_held ds count from zero n l = let none : ⊥ = omega (arith, l) in elim none [ ]
-depth_held ds count from (suc entities) zero l = ap (λ (k : ℕ). length (factors_of (declaration_in ds k))) (start from)
+depth_held ds count from (suc entities) zero l = ap (λ (k : ℕ). length (declared_factors (declaration_in ds k))) (start from)
   where
     start : (k : ℕ) → k ≡ k + 0
     start k = omega arith
 depth_held ds count from (suc entities) (suc n) l =
-    depth_held ds (count + copies_in (factors_of (declaration_in ds from))) (suc from) entities n (omega (arith, l)) ∙ ap (λ (k : ℕ). length (factors_of (declaration_in ds k))) (next from n)
+    depth_held ds (count + copies_in (declared_factors (declaration_in ds from))) (suc from) entities n (omega (arith, l)) ∙ ap (λ (k : ℕ). length (declared_factors (declaration_in ds k))) (next from n)
   where
     next : (k i : ℕ) → suc k + i ≡ k + suc i
     next k i = omega arith
 
 -- the slots of so many entities, by these declarations
 abbrev pub placing_in : List Declaration → (entities : ℕ) → Placing
-placing_in ds entities = record { held = all_held ds 0 0 entities; factors = λ n. factors_of (declaration_in ds n) }
+placing_in ds entities = record { held = all_held ds 0 0 entities; factors = λ n. declared_factors (declaration_in ds n) }
 
 pub take_all : (xs : List ℕ) (n : ℕ) → n ≡ length xs → xs ≡ take n xs
 take_all xs n e = subst (λ (k : ℕ). xs ≡ take k xs) (sym e) (whole xs)
@@ -132,14 +132,14 @@ take_all xs n e = subst (λ (k : ℕ). xs ≡ take k xs) (sym e) (whole xs)
 -- a declaration that is found of an entity places it inside the loops round it
 pub declaration_placed : (known : Known) (ds : List Declaration) (entities n : ℕ) (d : Declaration) → IsFoundSame (declaration_in ds n) (binding_in known.bindings n) → declaration_in ds n ≡ Some d → n < entities → IsPlaced known (placing_in ds entities) d.factors n d.kind_is
 declaration_placed known ds entities n d same e l =
-    let deep : depth_bound (binding_in known.bindings n) ≡ length d.factors = same.depth ∙ ap (λ o. length (factors_of o)) e in
+    let deep : depth_bound (binding_in known.bindings n) ≡ length d.factors = same.depth ∙ ap (λ o. length (declared_factors o)) e in
     record {
       bound = same.kind ∙ ap kind_declared e;
       inside = record {
         known = let long = all_long ds 0 0 entities in omega (arith, long, l);
         deep = omega (arith, deep);
-        held = depth_held ds 0 0 entities n l ∙ (ap (λ (k : ℕ). length (factors_of (declaration_in ds k))) (front n) ∙ sym same.depth);
-        round = ap factors_of e ∙ take_all d.factors (depth_bound (binding_in known.bindings n)) deep;
+        held = depth_held ds 0 0 entities n l ∙ (ap (λ (k : ℕ). length (declared_factors (declaration_in ds k))) (front n) ∙ sym same.depth);
+        round = ap declared_factors e ∙ take_all d.factors (depth_bound (binding_in known.bindings n)) deep;
       };
     }
   where

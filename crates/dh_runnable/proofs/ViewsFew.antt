@@ -9,7 +9,7 @@ use Rattle.dh_tree.specs.PlainTrees.{Term, Action, action, ActionForm, lets, let
 use Rattle.dh_tree.specs.ViewOffsets.{offsets_of}
 use Rattle.dh_meaning.specs.Bindings.{depth_inside}
 use Rattle.dh_meaning.specs.CoreOf.{Known}
-use Rattle.dh_meaning.specs.Ways.{Standing, all_entities_of, behind_all, behind_hidden, form_standings, groups_standings, other_standings, part_standings, standings}
+use Rattle.dh_meaning.specs.Ways.{ViewSite, all_entities_of, behind_all, behind_hidden, form_standings, groups_standings, other_standings, part_standings, standings}
 use Rattle.dh_ways.specs.CutStands.{IsFewRound}
 use Rattle.dh_ways.specs.Stands.{Stand, stands}
 use Rattle.dh_code.specs.Declarations.{Factored, all_hidden_declared, factored, factors_inside, form_factored, groups_factored, hidden_declarations, hidden_declared, other_factored, part_factored}
@@ -110,18 +110,18 @@ all_few first (f ∷ fs) h =
 
 -- Entities.
 
-behind_both : (xs ys : List Standing) (x : ℕ) → behind_all x (xs ++ ys) ≡ behind_all (behind_all x xs) ys
+behind_both : (xs ys : List ViewSite) (x : ℕ) → behind_all x (xs ++ ys) ≡ behind_all (behind_all x xs) ys
 behind_both [] ys x = refl
 behind_both (s ∷ xs) ys x = behind_both xs ys (behind_hidden x s)
 
 -- of views that declare so many names, each with six offsets at most
-abbrev AreSome : List Standing → (names : ℕ) → Type 0
+abbrev AreSome : List ViewSite → (names : ℕ) → Type 0
 AreSome ss names = (x : ℕ) → behind_all x ss ≤ x + 6 * names
 
-both_some : (xs ys : List Standing) (a b : ℕ) → AreSome xs a → AreSome ys b → AreSome (xs ++ ys) (a + b)
+both_some : (xs ys : List ViewSite) (a b : ℕ) → AreSome xs a → AreSome ys b → AreSome (xs ++ ys) (a + b)
 both_some xs ys a b h i x = let e = behind_both xs ys x in let f = h x in let g = i (behind_all x xs) in omega (arith, e, f, g)
 
-one_more : (xs : List Standing) (a : ℕ) → AreSome xs a → AreSome xs (1 + a)
+one_more : (xs : List ViewSite) (a : ℕ) → AreSome xs a → AreSome xs (1 + a)
 one_more xs a h x = let f = h x in omega (arith, f)
 
 module _ (known : Known) (p : Placing) where

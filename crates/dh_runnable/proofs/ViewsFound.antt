@@ -12,12 +12,12 @@ use Rattle.dh_tree.specs.Scopes.{body_scope, last_scope}
 use Rattle.dh_tree.specs.ViewOffsets.{offsets_of}
 use Rattle.dh_tree.specs.Views.{map_of}
 use Rattle.dh_meaning.specs.Bindings.{kind_found}
-use Rattle.dh_meaning.specs.Ways.{Led, Standing, Way, all_entities_of, behind_all, behind_hidden, led_after, led_behind, led_of, shape_named, way_at, way_behind, way_in, way_unless, ways_of}
-use Rattle.dh_ways.specs.Stands.{standing_of}
+use Rattle.dh_meaning.specs.Ways.{Led, ViewSite, Way, all_entities_of, behind_all, behind_hidden, led_after, led_behind, led_of, shape_named, way_at, way_behind, way_in, way_unless, ways_of}
+use Rattle.dh_ways.specs.Stands.{view_site_of}
 use Rattle.dh_sound.proofs.ViewsBefore.{AllLedBelow, later_kept, led_both_below, led_more, not_below, one_below, passed_over, there}
 use Rattle.dh_sound.proofs.ViewsBound.{lower}
 use Rattle.dh_sound.proofs.ViewsLed.{RisingTo, all_from, risen}
-use Rattle.dh_code.specs.Declarations.{Declaration, Factored, all_declarations_of, all_hidden_declared, declaration_in, declarations, factored, factors_of, hidden_declared, placing_of}
+use Rattle.dh_code.specs.Declarations.{Declaration, Factored, all_declarations_of, all_hidden_declared, declaration_in, declarations, factored, declared_factors, hidden_declared, placing_of}
 use Rattle.dh_code.specs.Slots.{Placing}
 use Rattle.dh_code.specs.Suited.{IsInside}
 use Rattle.dh_code.proofs.HiddenPlaced.{stand_of, standings_so}
@@ -37,21 +37,21 @@ pub record IsViewed (ms : List Memory) (ways : List Led) (p : Placing) (f : Fact
   pub own : OwnInside p f.factors first (offsets_of f.form)
   -- where its parent has a shape, it has a way behind that of its parent
   pub way : (m : ℕ) → f.parent.entity ≡ Some m → m < number → (shape : Shape) → shape_named (memory_in ms (Some m)) (way_in ways (Some m)) ≡ Some shape
-      → way_in ways (Some number) ≡ Some (way_behind first (standing_of (stand_of f)) (map_of f.form shape) (way_at ms ways (Some m)))
+      → way_in ways (Some number) ≡ Some (way_behind first (view_site_of (stand_of f)) (map_of f.form shape) (way_at ms ways (Some m)))
 
-abbrev standing_all : List Factored → List Standing
-standing_all fs = map (λ f. standing_of (stand_of f)) fs
+abbrev standing_all : List Factored → List ViewSite
+standing_all fs = map (λ f. view_site_of (stand_of f)) fs
 
 -- Ways.
 
 module _ (ms : List Memory) where
-  one_way : (x : ℕ) (s : Standing) (n : ℕ) (shape : Shape) (o : Option Shape) (parent : Option Way) → s.name.entity ≡ Some n → o ≡ Some shape
+  one_way : (x : ℕ) (s : ViewSite) (n : ℕ) (shape : Shape) (o : Option Shape) (parent : Option Way) → s.name.entity ≡ Some n → o ≡ Some shape
       → way_in (led_of x s o parent) (Some n) ≡ Some (way_behind x s (map_of s.form shape) parent)
   one_way x s n shape o parent is e =
       ap (λ z. way_in (led_of x s z parent) (Some n)) e
       ∙ ap (λ (b : Bool). if b then Some (way_behind x s (map_of s.form shape) parent) else None) (ap (λ z. same_entity z (Some n)) is ∙ there n)
 
-  first_way : (x : ℕ) (before : List Led) (s : Standing) (ss : List Standing) (k high : ℕ) → s.name.entity ≡ Some k → AllLedBelow k before → k < high → RisingTo (suc k) high ss
+  first_way : (x : ℕ) (before : List Led) (s : ViewSite) (ss : List ViewSite) (k high : ℕ) → s.name.entity ≡ Some k → AllLedBelow k before → k < high → RisingTo (suc k) high ss
       → (m : ℕ) → s.parent.entity ≡ Some m → m < k → (shape : Shape) → shape_named (memory_in ms (Some m)) (way_in (led_behind ms x before (s ∷ ss)) (Some m)) ≡ Some shape
       → way_in (led_behind ms x before (s ∷ ss)) (Some k) ≡ Some (way_behind x s (map_of s.form shape) (way_at ms (led_behind ms x before (s ∷ ss)) (Some m)))
   first_way x before s ss k high is below within rest m up less shape e =
@@ -68,7 +68,7 @@ module _ (ms : List Memory) where
 
 -- Variables.
 
-least : (x : ℕ) (ss : List Standing) → x ≤ behind_all x ss
+least : (x : ℕ) (ss : List ViewSite) → x ≤ behind_all x ss
 least x [] = omega arith
 least x (s ∷ ss) = let l = least (behind_hidden x s) ss in omega (arith, l)
 
@@ -92,8 +92,8 @@ module _ (q : Program) where
   inside_here e d is l = record {
     known = let long = all_long all 0 0 (all_entities_of q) in omega (arith, long, l);
     deep = omega arith;
-    held = depth_held all 0 0 (all_entities_of q) e l ∙ (ap (λ (k : ℕ). length (factors_of (declaration_in all k))) (front e) ∙ ap (λ o. length (factors_of o)) is);
-    round = ap factors_of is ∙ take_all d.factors (length d.factors) refl;
+    held = depth_held all 0 0 (all_entities_of q) e l ∙ (ap (λ (k : ℕ). length (declared_factors (declaration_in all k))) (front e) ∙ ap (λ o. length (declared_factors o)) is);
+    round = ap declared_factors is ∙ take_all d.factors (length d.factors) refl;
   }
     where
       front : (k : ℕ) → 0 + k ≡ k
@@ -114,7 +114,7 @@ module _ (q : Program) where
   all_viewed x before [] low high below rising final h l = tt
   all_viewed x before (f ∷ fs) low high below (k, (is, (low_is, (high_is, rest)))) final h l =
       let ms = memories_of q in
-      let s : Standing = standing_of (stand_of f) in
+      let s : ViewSite = view_site_of (stand_of f) in
       let next = x + length (offsets_of f.form) in
       let here = led_more low k low_is before below in
       let up = least (x + length (offsets_of f.form)) (standing_all fs) in (
@@ -124,8 +124,8 @@ module _ (q : Program) where
           first = x;
           own = own_there x f.factors (offsets_of f.form) (all_hidden_declared (x + length (offsets_of f.form)) fs) h (omega (arith, up, l));
           way = λ m of less shape e.
-              subst (λ (ls : List Led). way_in ls (Some k) ≡ Some (way_behind x (standing_of (stand_of f)) (map_of f.form shape) (way_at (memories_of q) ls (Some m)))) (sym final)
-              (first_way (memories_of q) x before (standing_of (stand_of f)) (standing_all fs) k high is here high_is rest m of less shape
+              subst (λ (ls : List Led). way_in ls (Some k) ≡ Some (way_behind x (view_site_of (stand_of f)) (map_of f.form shape) (way_at (memories_of q) ls (Some m)))) (sym final)
+              (first_way (memories_of q) x before (view_site_of (stand_of f)) (standing_all fs) k high is here high_is rest m of less shape
               (ap (λ (ls : List Led). shape_named (memory_in (memories_of q) (Some m)) (way_in ls (Some m))) (sym final) ∙ e));
         },
         all_viewed next (before ++ led_after ms x before s) fs (suc k) high
@@ -139,11 +139,11 @@ pub views_viewed : (q : Program) → resolved_action (body_scope q) q.body ≡ q
     → AllByRecursion (λ f. IsViewed (memories_of q) (ways_of q) (placing_of q) f) (factored [] q.body)
 views_viewed q e long =
     all_viewed q (length q.entities) [] (factored [] q.body) (length (body_scope q).entities) (length (last_scope q).entities) tt
-    (subst (λ (ss : List Standing). RisingTo (length (body_scope q).entities) (length (last_scope q).entities) ss) (sym (standings_so q)) (risen q.body (body_scope q) 0 e))
-    (ap (λ (ss : List Standing). led_behind (memories_of q) (length q.entities) [] ss) (sym (standings_so q)))
+    (subst (λ (ss : List ViewSite). RisingTo (length (body_scope q).entities) (length (last_scope q).entities) ss) (sym (standings_so q)) (risen q.body (body_scope q) 0 e))
+    (ap (λ (ss : List ViewSite). led_behind (memories_of q) (length q.entities) [] ss) (sym (standings_so q)))
     (λ y g. skipped (declarations [] q.body) (all_hidden_declared (length q.entities) (factored [] q.body)) (length q.entities) y
     (subst (λ (k : ℕ). AllBelow k (declarations [] q.body)) long (all_below q.body (body_scope q) [] e)) g)
-    (subst (λ (ss : List Standing). behind_all (length q.entities) ss ≤ all_entities_of q) (sym (standings_so q)) (same (all_entities_of q)))
+    (subst (λ (ss : List ViewSite). behind_all (length q.entities) ss ≤ all_entities_of q) (sym (standings_so q)) (same (all_entities_of q)))
   where
     same : (n : ℕ) → n ≤ n
     same n = omega arith

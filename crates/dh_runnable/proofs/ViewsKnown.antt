@@ -21,13 +21,13 @@ use Rattle.dh_tree.specs.Views.{view_in}
 use Rattle.dh_meaning.specs.Core.{CoreTerms, no_terms, term_and, count_terms}
 use Rattle.dh_meaning.specs.CoreOf.{Known, kept_terms, memory_of, target_to, terms_both, way_of}
 use Rattle.dh_meaning.specs.Effects.{entry_kind, kind_in}
-use Rattle.dh_meaning.specs.Ways.{Hidden, Step, Way, base_of, way_at, way_in, way_unless}
+use Rattle.dh_meaning.specs.Ways.{Hidden, WayStep, Way, base_of, way_at, way_in, way_unless}
 use Rattle.dh_ways.specs.Leading.{KeepsOffsets, LeadsTo, offsets_on}
 use Rattle.dh_code.specs.Declarations.{factors_inside}
 use Rattle.dh_code.specs.Passing.{StepsFit}
 use Rattle.dh_code.specs.Slots.{Placing}
 use Rattle.dh_code.specs.Suited.{AllInside, AreSuited, IsInside, IsSuitedTarget, TargetInside}
-use Rattle.dh_runnable.specs.ActionsRun.{table_in}
+use Rattle.dh_runnable.specs.ActionsRun.{table_known}
 use Rattle.dh_runnable.proofs.ElementsFound.{IsElement, number_found}
 
 -- what the rules on indices and views speak of: loops, views, and those of them that keep the rules
@@ -120,7 +120,7 @@ count_kept [] = refl
 count_kept (h ∷ hs) = ap suc (count_kept hs)
 
 -- as many as views take
-taken : (ss : List Step) → offsets_on ss ≡ offsets_on ss
+taken : (ss : List WayStep) → offsets_on ss ≡ offsets_on ss
 taken [] = refl
 taken (s ∷ ss) = ap (λ n. s.offsets + n) (taken ss)
 
@@ -144,8 +144,8 @@ kept_inside p loops (h ∷ hs) a = (a.0.inside, kept_inside p loops hs a.1)
 
 -- an access of what a name stands for, by so many indices, suits where they do, and names variables inside these loops
 pub record IsReached (known : Known) (p : Placing) (loops : List ℕ) (r : Ref) (k : Kind) (dims : ℕ) : Type 0 where
-  pub kind : kind_in (table_in known) (memory_of known r) ≡ k
-  pub suits : (ts : CoreTerms) → count_terms ts ≡ dims → AreSuited (table_in known) ts → IsSuitedTarget (table_in known) (memory_of known r) (target_to (way_of known r) ts)
+  pub kind : kind_in (table_known known) (memory_of known r) ≡ k
+  pub suits : (ts : CoreTerms) → count_terms ts ≡ dims → AreSuited (table_known known) ts → IsSuitedTarget (table_known known) (memory_of known r) (target_to (way_of known r) ts)
   pub inside : (ts : CoreTerms) → AllInside p loops ts → TargetInside p loops (target_to (way_of known r) ts)
 
 module _ (known : Known) (p : Placing) (loops : List ℕ) where
@@ -158,8 +158,8 @@ module _ (known : Known) (p : Placing) (loops : List ℕ) where
   memory_reached r k dims h =
       let way : way_of known r ≡ None = ap (λ o. way_unless o (way_in known.ways r.entity)) h.there in
       record {
-        kind = ap (λ o. kind_in (table_in known) (memory_by o r.entity)) way ∙ h.kind;
-        suits = λ ts c s. subst (λ (o : Option Way). IsSuitedTarget (table_in known) (memory_by o r.entity) (target_to o ts)) (sym way) (h.within, s);
+        kind = ap (λ o. kind_in (table_known known) (memory_by o r.entity)) way ∙ h.kind;
+        suits = λ ts c s. subst (λ (o : Option Way). IsSuitedTarget (table_known known) (memory_by o r.entity) (target_to o ts)) (sym way) (h.within, s);
         inside = λ ts i. subst (λ (o : Option Way). TargetInside p loops (target_to o ts)) (sym way) i;
       }
 
@@ -179,15 +179,15 @@ module _ (known : Known) (p : Placing) (loops : List ℕ) where
       let at = number_found known.memories v.way.memory v.leads.memory v.leads.found in
       let way : way_of known r ≡ Some v.way = ap (λ o. way_at known.memories known.ways o) e ∙ v.is in
       let number : memory_by (Some v.way) r.entity ≡ at.number = ap entity_number at.is in
-      let entry : slice_get (table_in known) (memory_by (Some v.way) r.entity) ≡ Some (entry_of v.leads.memory) = ap (slice_get (table_in known)) number ∙ at.entry in
-      let memory_dims : dims_at (table_in known) (memory_by (Some v.way) r.entity) ≡ v.leads.memory.shape.dims = ap entry_dims entry in
+      let entry : slice_get (table_known known) (memory_by (Some v.way) r.entity) ≡ Some (entry_of v.leads.memory) = ap (slice_get (table_known known)) number ∙ at.entry in
+      let memory_dims : dims_at (table_known known) (memory_by (Some v.way) r.entity) ≡ v.leads.memory.shape.dims = ap entry_dims entry in
       record {
-        kind = ap (λ o. kind_in (table_in known) (memory_by o r.entity)) way ∙ (ap entry_kind entry ∙ sym v.same);
-        suits = λ ts c s. subst (λ (o : Option Way). IsSuitedTarget (table_in known) (memory_by o r.entity) (target_to o ts)) (sym way) (
-          slice_get_within (table_in known) (memory_by (Some v.way) r.entity) (entry_of v.leads.memory) entry,
+        kind = ap (λ o. kind_in (table_known known) (memory_by o r.entity)) way ∙ (ap entry_kind entry ∙ sym v.same);
+        suits = λ ts c s. subst (λ (o : Option Way). IsSuitedTarget (table_known known) (memory_by o r.entity) (target_to o ts)) (sym way) (
+          slice_get_within (table_known known) (memory_by (Some v.way) r.entity) (entry_of v.leads.memory) entry,
           (
             subst (λ (ds : List Dim). StepsFit ds v.way.steps (count_terms ts) (count_terms (terms_both ts (kept_terms v.way.hidden)))) (sym memory_dims) (views_fit n k dims v ts c),
-            suited_both (table_in known) ts (kept_terms v.way.hidden) s (kept_suited (table_in known) p loops v.way.hidden v.kept),
+            suited_both (table_known known) ts (kept_terms v.way.hidden) s (kept_suited (table_known known) p loops v.way.hidden v.kept),
           ),
         );
         inside = λ ts i. subst (λ (o : Option Way). TargetInside p loops (target_to o ts)) (sym way) (inside_both p loops ts (kept_terms v.way.hidden) i (kept_inside p loops v.way.hidden v.kept));

@@ -23,9 +23,9 @@ use Rattle.dh_tree.specs.ViewShapes.{AreSplitOf, IsShapeOf}
 use Rattle.dh_meaning.specs.AccessNumbers.{term_accesses}
 use Rattle.dh_meaning.specs.Core.{CoreCommands}
 use Rattle.dh_meaning.specs.CoreOf.{Known, core_terms, kept_by, known_of, way_of}
-use Rattle.dh_meaning.specs.Ways.{Hidden, Standing, Way, hidden_from, hidden_in, shape_named, way_at, way_behind, way_in, way_unless, ways_of}
+use Rattle.dh_meaning.specs.Ways.{Hidden, ViewSite, Way, hidden_from, hidden_in, shape_named, way_at, way_behind, way_in, way_unless, ways_of}
 use Rattle.dh_ways.specs.Leading.{KeepsOffsets, LeadsTo}
-use Rattle.dh_ways.specs.Stands.{standing_of}
+use Rattle.dh_ways.specs.Stands.{view_site_of}
 use Rattle.dh_ways.proofs.HiddenApart.{from_long}
 use Rattle.dh_ways.proofs.WaysKept.{ways_keep}
 use Rattle.dh_ways.proofs.WaysLead.{ways_are_views, ways_lead}
@@ -34,7 +34,7 @@ use Rattle.dh_code.specs.Declarations.{Factored}
 use Rattle.dh_code.specs.Slots.{Placing}
 use Rattle.dh_code.specs.Suited.{AllInside, AreInsideFrom, AreSuited, CanDoAll}
 use Rattle.dh_code.proofs.HiddenPlaced.{stand_of}
-use Rattle.dh_runnable.specs.ActionsRun.{FormRuns, table_in}
+use Rattle.dh_runnable.specs.ActionsRun.{FormRuns, table_known}
 use Rattle.dh_runnable.proofs.TermsSuited.{IsKnown, kind_found_is}
 use Rattle.dh_runnable.proofs.TypedParts.{IsMemory}
 use Rattle.dh_runnable.proofs.ViewsFound.{IsViewed, OwnInside}
@@ -91,7 +91,7 @@ module _ (known : Known) (p : Placing) (loops : List ℕ) where
   abbrev pub OffsetsKnown : List Term → Type 0
   OffsetsKnown ts = AllByRecursion (λ t. IsKnown known p loops t) ts
 
-  offsets_suit : (ts : List Term) → OffsetsKnown ts → (n : ℕ) → AreSuited (table_in known) (core_terms known n (terms ts))
+  offsets_suit : (ts : List Term) → OffsetsKnown ts → (n : ℕ) → AreSuited (table_known known) (core_terms known n (terms ts))
   offsets_suit [] k n = tt
   offsets_suit (t ∷ ts) k n = ((k.0.operand n).suits, offsets_suit ts k.1 (n + term_accesses t))
 
@@ -113,13 +113,13 @@ module _ (known : Known) (p : Placing) (loops : List ℕ) where
 
   -- a view whose own variables are the first on its way
   view_runs : (name parent : Ref) (form : ViewPlan) (first : ℕ) (rest : List Hidden) (w : Way) → way_of known name ≡ Some w → w.hidden ≡ hidden_from first (length loops) (offsets_of form) ++ rest
-      → OwnInside p loops first (offsets_of form) → OffsetsKnown (offsets_of form) → (n : ℕ) (more : CoreCommands) → CanDoAll (table_in known) p loops more
-      → CanDoAll (table_in known) p loops (kept_by (hidden_in (way_of known name)) (core_terms known n (terms (offsets_of form))) more)
+      → OwnInside p loops first (offsets_of form) → OffsetsKnown (offsets_of form) → (n : ℕ) (more : CoreCommands) → CanDoAll (table_known known) p loops more
+      → CanDoAll (table_known known) p loops (kept_by (hidden_in (way_of known name)) (core_terms known n (terms (offsets_of form))) more)
   view_runs name parent form first rest w way hidden own k n more r =
-      subst (λ (o : Option Way). CanDoAll (table_in known) p loops (kept_by (hidden_in o) (core_terms known n (terms (offsets_of form))) more)) (sym way)
-      (subst (λ (hs : List Hidden). CanDoAll (table_in known) p loops (kept_by hs (core_terms known n (terms (offsets_of form))) more)) (sym hidden) (by (offsets_of form) own k))
+      subst (λ (o : Option Way). CanDoAll (table_known known) p loops (kept_by (hidden_in o) (core_terms known n (terms (offsets_of form))) more)) (sym way)
+      (subst (λ (hs : List Hidden). CanDoAll (table_known known) p loops (kept_by hs (core_terms known n (terms (offsets_of form))) more)) (sym hidden) (by (offsets_of form) own k))
     where
-      by : (ts : List Term) → OwnInside p loops first ts → OffsetsKnown ts → CanDoAll (table_in known) p loops (kept_by (hidden_from first (length loops) ts ++ rest) (core_terms known n (terms ts)) more)
+      by : (ts : List Term) → OwnInside p loops first ts → OffsetsKnown ts → CanDoAll (table_known known) p loops (kept_by (hidden_from first (length loops) ts ++ rest) (core_terms known n (terms ts)) more)
       by [] o k = r
       by (t ∷ ts) o k = ((own_from first (t ∷ ts) o n, (offsets_suit (t ∷ ts) k n, offsets_inside (t ∷ ts) k n)), r)
 
@@ -138,8 +138,8 @@ module _ (known : Known) (p : Placing) (loops : List ℕ) where
     abbrev here : Factored
     here = record { name = name; parent = parent; form = form; factors = loops }
 
-    abbrev standing : Standing
-    standing = standing_of (stand_of here)
+    abbrev standing : ViewSite
+    standing = view_site_of (stand_of here)
 
     pub view_of_memory : (v : IsViewed known.memories known.ways p here) (m : ℕ) (k : Option Kind) (dims : ℕ) → memory_in known.memories (Some v.number) ≡ None → parent.entity ≡ Some m → m < v.number
         → IsMemory known.memories m k dims → OffsetsKnown (offsets_of form) → ViewLeads name parent form v.number k dims

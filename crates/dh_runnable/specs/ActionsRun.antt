@@ -18,28 +18,28 @@ use Rattle.dh_sem.specs.Runnable.{CanTurn}
 use Rattle.dh_code.specs.Slots.{Placing}
 use Rattle.dh_code.specs.Suited.{CanTest, CanDo, CanDoAll}
 
-abbrev pub table_in : Known → List MemEntry
-table_in known = map entry_of known.memories
+abbrev pub table_known : Known → List MemEntry
+table_known known = map entry_of known.memories
 
 -- a condition
 abbrev pub TestRuns : Known → Placing → (loops : List ℕ) → Term → Type 0
-TestRuns known p loops test = (n : ℕ) → CanTest (table_in known) p loops (core_term known n test)
+TestRuns known p loops test = (n : ℕ) → CanTest (table_known known) p loops (core_term known n test)
 
 abbrev mutual
   pub ActionRuns : Known → Placing → (loops : List ℕ) → Action → Type 0
   ActionRuns known p loops (action id place form) = FormRuns known p loops form
 
   pub FormRuns : Known → Placing → (loops : List ℕ) → ActionForm → Type 0
-  FormRuns known p loops (lets name declared value) = (n : ℕ) → CanDo (table_in known) p loops (assigned known name (first_value known n declared value))
+  FormRuns known p loops (lets name declared value) = (n : ℕ) → CanDo (table_known known) p loops (assigned known name (first_value known n declared value))
   FormRuns known p loops (lets_memory name shape shape_places value) = Unit {0}
   -- a view has few offsets, and keeps them in front of other commands
   FormRuns known p loops (views name parent form) =
       (length (offsets_of form) ≤ most_dims)
-      × ((n : ℕ) (rest : CoreCommands) → CanDoAll (table_in known) p loops rest
-      → CanDoAll (table_in known) p loops (kept_by (hidden_in (way_of known name)) (core_terms known n (terms (offsets_of form))) rest))
-  FormRuns known p loops (assigns target value) = (n : ℕ) → CanDo (table_in known) p loops (assigned known target (core_term known n value))
-  FormRuns known p loops (stores target value) = (m n : ℕ) → CanDo (table_in known) p loops (store_to known m target (core_term known n value))
-  FormRuns known p loops (reduces target o value) = (n : ℕ) → CanDo (table_in known) p loops (folded_into known target o (kind_found value) (core_term known n value))
+      × ((n : ℕ) (rest : CoreCommands) → CanDoAll (table_known known) p loops rest
+      → CanDoAll (table_known known) p loops (kept_by (hidden_in (way_of known name)) (core_terms known n (terms (offsets_of form))) rest))
+  FormRuns known p loops (assigns target value) = (n : ℕ) → CanDo (table_known known) p loops (assigned known target (core_term known n value))
+  FormRuns known p loops (stores target value) = (m n : ℕ) → CanDo (table_known known) p loops (store_to known m target (core_term known n value))
+  FormRuns known p loops (reduces target o value) = (n : ℕ) → CanDo (table_known known) p loops (folded_into known target o (kind_found value) (core_term known n value))
   FormRuns known p loops (calls function arguments) = Unit {0}
   FormRuns known p loops (blocks body) = GroupsRun known p loops body
   FormRuns known p loops (decides test chosen other) = TestRuns known p loops test × (ActionRuns known p loops chosen × OtherRuns known p loops other)

@@ -8,7 +8,7 @@ use Rattle.std.proofs.lemmas.List.{get_or_append_left, append_assoc, append-nil,
 use Rattle.std.proofs.lemmas.Option.{slice_get_within, slice_get-get_or}
 use Rattle.dh_plan.specs.declared.operations.Operation.{Operation}
 use Rattle.dh_plan.specs.declared.schedules.Limits.{Limits}
-use Rattle.dh_plan.specs.LegalSchedules.{is_operator, is_product, greatest_of, needed_clock, depth_taken, depth_at, depths_behind, depths_in, products_at, IsWithin, AreLeast}
+use Rattle.dh_plan.specs.LegalSchedules.{is_operator, is_product, greatest_number, needed_clock, depth_taken, depth_at, depths_behind, depths_in, products_at, IsWithin, AreLeast}
 use Rattle.dh_plan.specs.Ordered.{operation_takes, IsBetween, TakesEarlier, IsOrdered}
 use Rattle.dh_plan.proofs.ValuesAlike.{all_map}
 use Rattle.dh_plan.proofs.LeastLegal.{length_one_more, there_in_first, map_same, needed_same}
@@ -72,7 +72,7 @@ pub depth_same : (first own clock : ℕ) (cs ds depths : List ℕ) (o : Operatio
     → depth_at first clock cs depths o ≡ depth_at first clock ds depths o
 depth_same first own clock cs ds depths o same early =
     ap (λ (n : ℕ). if is_operator o.form then suc n else n)
-    (ap greatest_of (map_same (depth_taken first clock cs depths) (depth_taken first clock ds depths) (operation_takes o)
+    (ap greatest_number (map_same (depth_taken first clock cs depths) (depth_taken first clock ds depths) (operation_takes o)
     (all_map (IsBetween first own) (λ (n : ℕ). depth_taken first clock cs depths n ≡ depth_taken first clock ds depths n) (operation_takes o)
     (λ n b. ap (λ (x : ℕ). if x == clock then get_or depths (n - first) 0 else 0) (same (n - first) (omega (arith, b)))) early)))
 

@@ -7,7 +7,7 @@ use Rattle.std.specs.Prelude.{[], ◌∷◌, ◌++◌, ◌==◌, ◌&&◌, if◌
 use Rattle.std.proofs.lemmas.Bool.Decides.{nat_tests}
 use Rattle.dh_plan.specs.declared.operations.Operation.{Operation}
 use Rattle.dh_plan.specs.declared.schedules.Limits.{Limits}
-use Rattle.dh_plan.specs.LegalSchedules.{is_read, is_operator, is_product, there_from, value_clock, greatest_of, needed_clock, depth_taken, depth_at, depths_in, products_at, IsWithin, MayStandAt}
+use Rattle.dh_plan.specs.LegalSchedules.{is_read, is_operator, is_product, there_from, value_clock, greatest_number, needed_clock, depth_taken, depth_at, depths_in, products_at, IsWithin, MayStandAt}
 use Rattle.dh_plan.specs.Ordered.{operation_takes}
 use Rattle.dh_sched.specs.FullClocks.{Fills}
 use Rattle.dh_sched.specs.LeastBlocks.{Unchains, IsLeast, AreScheduled, AreDepths, AreCounts}
@@ -26,14 +26,14 @@ not_equal x y differ = grind (arith, nat_tests)
 
 -- The greatest of numbers.
 
-pub greatest_low : (f : ℕ → ℕ) (bound : ℕ) → ((n : ℕ) → f n ≤ bound) → (ns : List ℕ) → greatest_of (map f ns) ≤ bound
+pub greatest_low : (f : ℕ → ℕ) (bound : ℕ) → ((n : ℕ) → f n ≤ bound) → (ns : List ℕ) → greatest_number (map f ns) ≤ bound
 greatest_low f bound low [] = omega arith
 greatest_low f bound low (n ∷ ns) =
     let x = low n in
     let y = greatest_low f bound low ns in
     omega (arith, x, y)
 
-pub none_deep : (f g : ℕ → ℕ) (later : ℕ) → ((n : ℕ) → g n < later → f n ≡ 0) → (ns : List ℕ) → greatest_of (map g ns) < later → greatest_of (map f ns) ≡ 0
+pub none_deep : (f g : ℕ → ℕ) (later : ℕ) → ((n : ℕ) → g n < later → f n ≡ 0) → (ns : List ℕ) → greatest_number (map g ns) < later → greatest_number (map f ns) ≡ 0
 none_deep f g later none [] h = refl
 none_deep f g later none (n ∷ ns) h =
     let x = none n (omega (arith, h)) in
@@ -86,7 +86,7 @@ one_is_within (suc limit) n h = let so : n ≤ suc limit = omega (arith, h) in s
 pub late_chain : (limit first later : ℕ) (os : List Operation) (cs ds : List ℕ) (o : Operation) → needed_clock first os cs o < later → IsWithin limit (depth_at first later cs ds o)
 late_chain limit first later os cs ds o h =
     one_is_within limit (depth_at first later cs ds o)
-    (one_deep (is_operator o.form) (greatest_of (map (depth_taken first later cs ds) (operation_takes o)))
+    (one_deep (is_operator o.form) (greatest_number (map (depth_taken first later cs ds) (operation_takes o)))
     (none_deep (depth_taken first later cs ds) (value_clock first os cs) later (nothing_taken first later os cs ds) (operation_takes o) h))
 
 -- without a limit any depth will do
@@ -212,11 +212,11 @@ stands limits first os cs o start clock u later room = (
 
 -- What the walk finds.
 
-needed_is : (first : ℕ) (os : List Operation) (cs taken : List ℕ) (o : Operation) (needed : ℕ) → needed ≡ greatest_of (map (value_clock first os cs) taken) → taken ≡ operation_takes o
+needed_is : (first : ℕ) (os : List Operation) (cs taken : List ℕ) (o : Operation) (needed : ℕ) → needed ≡ greatest_number (map (value_clock first os cs) taken) → taken ≡ operation_takes o
     → needed ≡ needed_clock first os cs o
-needed_is first os cs taken o needed is takes = is ∙ ap (λ (ns : List ℕ). greatest_of (map (value_clock first os cs) ns)) takes
+needed_is first os cs taken o needed is takes = is ∙ ap (λ (ns : List ℕ). greatest_number (map (value_clock first os cs) ns)) takes
 
-pub needed_below : (limits : Limits) (first : ℕ) (os : List Operation) (cs taken : List ℕ) (o : Operation) (needed : ℕ) → needed ≡ greatest_of (map (value_clock first os cs) taken)
+pub needed_below : (limits : Limits) (first : ℕ) (os : List Operation) (cs taken : List ℕ) (o : Operation) (needed : ℕ) → needed ≡ greatest_number (map (value_clock first os cs) taken)
     → taken ≡ operation_takes o → AreScheduled limits first os cs → needed ≤ 2 * length os + 1
 needed_below limits first os cs taken o needed is takes scheduled =
     let e = needed_is first os cs taken o needed is takes in
@@ -224,7 +224,7 @@ needed_below limits first os cs taken o needed is takes scheduled =
     omega (arith, e, low)
 
 pub least_found : (limits : Limits) (first : ℕ) (os : List Operation) (cs ds taken : List ℕ) (o : Operation) (needed start clock : ℕ) (counts ways after ways' : List ℕ)
-    → needed ≡ greatest_of (map (value_clock first os cs) taken) → taken ≡ operation_takes o → AreScheduled limits first os cs → AreDepths limits.chain first os cs ds
+    → needed ≡ greatest_number (map (value_clock first os cs) taken) → taken ≡ operation_takes o → AreScheduled limits first os cs → AreDepths limits.chain first os cs ds
     → AreCounts limits.multipliers os cs counts ways → Unchains limits.chain (depth_at first needed cs ds o) needed start
     → Fills limits.multipliers (is_product o.form) start clock counts after ways' → IsLeast limits first os cs o clock
 least_found limits first os cs ds taken o needed start clock counts ways after ways' is takes scheduled depths counted u fills =

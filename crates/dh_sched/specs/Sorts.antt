@@ -8,7 +8,7 @@ use Rattle.dh_value.specs.declared.operators.Op.{Op}
 use Rattle.dh_value.specs.declared.operators.Op.TheVariants as op
 use Rattle.dh_plan.specs.declared.operations.Operation.{Operation}
 use Rattle.dh_plan.specs.declared.schedules.Limits.{Limits}
-use Rattle.dh_plan.specs.LegalSchedules.{needed_clock, there_at, value_clock, greatest_of, is_product, products_at, depths_in, IsWithin, IsLegalBlock}
+use Rattle.dh_plan.specs.LegalSchedules.{needed_clock, there_at, value_clock, greatest_number, is_product, products_at, depths_in, IsWithin, IsLegalBlock}
 
 -- an operator multiplies
 abbrev pub is_times : Op → Bool
@@ -21,7 +21,7 @@ NeedsAreMet first os clocks = (i : ℕ) (o : Operation) → slice_get os i ≡ S
 
 -- the clock from which on all of these values are there
 abbrev pub all_there_at : (first : ℕ) → List Operation → (clocks taken : List ℕ) → ℕ
-all_there_at first os clocks taken = greatest_of (map (value_clock first os clocks) taken)
+all_there_at first os clocks taken = greatest_number (map (value_clock first os clocks) taken)
 
 -- no clock has more multiplications than the limit allows
 abbrev pub KeepsProducts : (limit : ℕ) → List Operation → (clocks : List ℕ) → Type 0

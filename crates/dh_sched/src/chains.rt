@@ -2,7 +2,7 @@
 
 ghost use Rattle.std.specs.Prelude.{◌≡◌, ◌↔◌, ◌+◌, IsTrue, map, slice_index, length, IfOk};
 ghost use Rattle.dh_plan.specs.LegalSchedules as definitions;
-ghost use Rattle.dh_plan.specs.LegalSchedules.{greatest_of};
+ghost use Rattle.dh_plan.specs.LegalSchedules.{greatest_number};
 ghost use Rattle.dh_plan.specs.Ordered.{operation_takes};
 ghost use Rattle.dh_sched.specs.Sorts.{AreShallow, KeepsChains};
 
@@ -37,7 +37,7 @@ fn depth_taken(first: u64, clock: u128, clocks: &[u128], depths: &[u64], number:
 
 // The greatest depth of values that an operation at a clock takes.
 fn deepest_taken(first: u64, clock: u128, clocks: &[u128], depths: &[u64], taken: &[u64]) -> u64
-    ensures { result ≡ greatest_of (map (definitions.depth_taken first clock clocks.now depths.now)
+    ensures { result ≡ greatest_number (map (definitions.depth_taken first clock clocks.now depths.now)
         taken.now) }
 {
     let mut deepest = 0;

@@ -18,7 +18,7 @@ use Rattle.dh_code.specs.Coded.{IsFlat}
 use Rattle.dh_code.specs.Rows.{contents_of}
 use Rattle.dh_code.specs.Scenes.{begun_in}
 use Rattle.dh_code.specs.Slots.{Placing}
-use Rattle.dh_code.specs.States.{AreRanks, AreRows, Decides, DoesAll, Ends, IsReady, Keeps, KeepsBack, Runs, ranks_chosen}
+use Rattle.dh_code.specs.States.{AreRanks, AreRows, Decides, DoesAll, Ends, IsReadyState, Keeps, KeepsBack, Runs, ranks_chosen}
 use Rattle.dh_code.specs.Suited.{CanEvaluate}
 use Rattle.dh_code.proofs.PathLoops.{Grows, each_grows, ends_later}
 use Rattle.dh_code.proofs.PathsInOrder.{are_paths, path_at, paths_are}
@@ -40,13 +40,13 @@ some_same a b e = cc
 -- Tests.
 
 pub record TestsSoFar (s : Scene) (old : State) (lanes : Lanes) (f : Flat) (i : ℕ) (now : State) (first : Bool) : Type 0 where
-  pub ready : IsReady s now
+  pub ready : IsReadyState s now
   pub back : KeepsBack old now
   pub ran : (p : Placing) (factors : List ℕ) (t : CoreTerm) → AreLanes factors lanes → IsFlat p.held s.entries.now s.code.now t f → CanEvaluate s.entries.now p factors t → (e : Effect) → Keeps p s.entries.now e s.step old
       → (so_far : Effect) × (Keeps p s.entries.now so_far s.step now × ((so_far.variables ≡ e.variables)
       × ((at_each (tested_at (begun_in s) t) (drop i (paths_in factors)) so_far ≡ at_each (tested_at (begun_in s) t) (paths_in factors) e) × (0 < i → holds_at (begun_in s) e.variables t (first_path (paths_in factors)) ≡ first))))
 
-pub tests_first : (s : Scene) (old : State) (lanes : Lanes) (f : Flat) → IsReady s old → TestsSoFar s old lanes f 0 old false
+pub tests_first : (s : Scene) (old : State) (lanes : Lanes) (f : Flat) → IsReadyState s old → TestsSoFar s old lanes f 0 old false
 tests_first s old lanes f ready = record {
   ready = ready;
   back = record { long = refl; back = refl };
@@ -70,7 +70,7 @@ module _ (s : Scene) (old : State) (lanes : Lanes) (f : Flat) (i : ℕ) (now : S
       let at = path_at factors 0 (paths_in factors) i (paths_are factors) r.1.1 in
       (record { inside = at.0; are = ap (λ (v : Vec ℕ Global). v.items) item ∙ r.0 }, r.1.0)
 
-  pub tests_turn : (holds first' : Bool) (new : State) → IsReady s new → KeepsBack now new → Decides s now (Ok holds) new row.items f → first' ≡ (if i == 0 then holds else first) → TestsSoFar s old lanes f (suc i) new first'
+  pub tests_turn : (holds first' : Bool) (new : State) → IsReadyState s new → KeepsBack now new → Decides s now (Ok holds) new row.items f → first' ≡ (if i == 0 then holds else first) → TestsSoFar s old lanes f (suc i) new first'
   tests_turn holds first' new ready back d is = record {
     ready = ready;
     back = record { long = back.long ∙ g.back.long; back = back.back ∙ g.back.back };

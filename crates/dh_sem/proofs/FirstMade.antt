@@ -19,7 +19,7 @@ use Rattle.dh_meaning.specs.Sites.{nothing_around}
 use Rattle.dh_code.specs.declared.flattening.Names.{Names}
 use Rattle.dh_code.specs.declared.places.Held.{Held}
 use Rattle.dh_code.specs.Declarations.{Declaration, all_declarations_of, all_held, declarations, declared_of, hidden_declarations, placing_of, slots_counted, slots_of}
-use Rattle.dh_code.specs.Flattening.{IsPlacingOf, known_in}
+use Rattle.dh_code.specs.Flattening.{IsPlacingOf, known_by_names}
 use Rattle.dh_code.specs.Placed.{AreFewHidden, hidden_as, most_entities}
 use Rattle.dh_code.proofs.HiddenPlaced.{entities_so, hidden_placed, kinds_all}
 use Rattle.dh_code.proofs.KindsHeld.{length_held}
@@ -73,18 +73,18 @@ module _ (names : Names) (old new : Made) (body : Command) (first : Option ℕ) 
   abbrev known_by : List Led → Known
   known_by ls = record { memories = memories_of p; bindings = all_bindings_of p; ways = ls }
 
-  known_is : map led_seen names.ways.now ≡ ways_of p → known_in names ≡ known_of p
+  known_is : map led_seen names.ways.now ≡ ways_of p → known_by_names names ≡ known_of p
   known_is led = ap (λ (ls : List Led). known_by ls) led
 
   pub made_first : names.places.now ≡ (placing_of p).held → map led_seen names.ways.now ≡ ways_of p → action_seen body ≡ p.body → IsProgramTable (table_of p) → IsRunnable p → AreFirstLanes old.lanes.items → IsSoundMade (table_of p) old
       → HoldsProgram p new first
   made_first is led seen table runnable lanes sound =
-      let all = holds (placing_of p) (placing_is runnable is) (subst (λ (a : Action). CanRunList (table_of p) (known_in names) (placing_of p) [] (phases nothing_around 0 a)) (sym seen)
+      let all = holds (placing_of p) (placing_is runnable is) (subst (λ (a : Action). CanRunList (table_of p) (known_by_names names) (placing_of p) [] (phases nothing_around 0 a)) (sym seen)
       (subst (λ (k : Known). CanRunAll (table_of p) (placing_of p) [] (core_phases k (source.of_list (source.phases_of p)))) (sym (known_is led)) runnable.phases)) table.entries lanes.lead sound in (
         all.0,
         (
           all.1.0,
           subst (λ (k : Known). ArePhases (table_of p) (placing_of p) (course_made new) [] first (core_phases k (source.of_list (source.phases_of p)))) (known_is led)
-              (subst (λ (a : Action). ArePhases (table_of p) (placing_of p) (course_made new) [] first (core_phases (known_in names) (source.of_list (phases nothing_around 0 a)))) seen all.1.1),
+              (subst (λ (a : Action). ArePhases (table_of p) (placing_of p) (course_made new) [] first (core_phases (known_by_names names) (source.of_list (phases nothing_around 0 a)))) seen all.1.1),
         ),
       )

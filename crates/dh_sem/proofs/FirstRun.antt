@@ -12,7 +12,7 @@ use Rattle.dh_tree.specs.Tables.{Fits, elements_in, most_elements}
 use Rattle.dh_meaning.specs.CoreOf.{core_of}
 use Rattle.dh_meaning.specs.Effects.{Begun, unset}
 use Rattle.dh_meaning.specs.Paths.{outer_paths}
-use Rattle.dh_meaning.specs.Runs.{Next, over, phases_then, next_of}
+use Rattle.dh_meaning.specs.Runs.{RunNext, over, phases_then, next_of}
 use Rattle.dh_code.specs.declared.codes.Code.{Code}
 use Rattle.dh_code.specs.declared.codes.Operation.{Operation}
 use Rattle.dh_code.specs.declared.codes.Step.{Step}
@@ -22,7 +22,7 @@ use Rattle.dh_code.specs.declared.spending.Bank.{Bank}
 use Rattle.dh_code.specs.Banks.{AreFirsts, all_banks}
 use Rattle.dh_code.specs.Spent.{AreUsedBy}
 use Rattle.dh_meaning.specs.Ways.{all_entities_of}
-use Rattle.dh_code.specs.Declarations.{Declaration, all_declarations_of, all_held, declaration_in, factors_of, placing_of, slots_counted, slots_of}
+use Rattle.dh_code.specs.Declarations.{Declaration, all_declarations_of, all_held, declaration_in, declared_factors, placing_of, slots_counted, slots_of}
 use Rattle.dh_code.specs.Ranks.{copies_in}
 use Rattle.dh_code.specs.Scenes.{AreSmall, IsSoundCode, IsEarlier}
 use Rattle.dh_code.specs.Slots.{EndsBefore, Holds, IsPlacing, held_at, slot_of}
@@ -45,7 +45,7 @@ use Rattle.dh_sem.proofs.SmallMemories.{fits_small}
 use Rattle.dh_sem.proofs.Stepped.{coursed_as, run_at, stands_placed}
 
 abbrev copies_at : List Declaration → ℕ → ℕ
-copies_at ds entity = copies_in (factors_of (declaration_in ds entity))
+copies_at ds entity = copies_in (declared_factors (declaration_in ds entity))
 
 grown : (ds : List Declaration) (count from n : ℕ) → count ≤ slots_counted ds count from n
 grown ds count from zero = omega arith
@@ -181,7 +181,7 @@ pub first_stands : (p : Program) (table : List MemEntry) (made : Code) (cc : cod
     → GoesOn cc at' old new frames gs false → outcome ≡ place_outcome at' → StandsAt p memories 0 (run_at table (course_of made cc) outcome 0 memories new.variables.items at' gs)
 first_stands p table made cc first at' old new frames gs memories outcome tabled is are holds goes leads =
     let b : Begun = record { table = (core_of p).table; memories = memories } in
-    let n : Next = next_of b (phases_then outer_paths (core_of p).phases over) unset in
+    let n : RunNext = next_of b (phases_then outer_paths (core_of p).phases over) unset in
     let come : AreToCome (core_of p).table (placing_of p) (course_of made cc) (reverse frames) (phases_then outer_paths (core_of p).phases over) =
     subst (λ (l : List Frame). AreToCome (core_of p).table (placing_of p) (course_of made cc) (reverse l) (phases_then outer_paths (core_of p).phases over)) (sym is) (over, (([], (refl, (refl, are))), (tt, refl))) in
     let a : Arrives (core_of p).table (placing_of p) (course_of made cc) n new at' gs = goes (core_of p).table (placing_of p) made b unset (phases_then outer_paths (core_of p).phases over) come holds tt in

@@ -8,7 +8,7 @@ use Rattle.dh_tree.specs.declared.tables.MemEntry.{MemEntry}
 use Rattle.dh_meaning.specs.Core.{CoreTerm, Turning, CorePhase, turning, looping, choosing, CorePhases}
 use Rattle.dh_meaning.specs.Effects.{Begun, Variables, tests, holds_at}
 use Rattle.dh_meaning.specs.Paths.{paths_in}
-use Rattle.dh_meaning.specs.Runs.{Next, next, ended, at as block_at, Todo, over, phases_then, turn_then, test_then, again_then, pick_then, enter, first_path, inner_paths, next_of, turn_begun}
+use Rattle.dh_meaning.specs.Runs.{RunNext, next, ended, at as block_at, RunTodo, over, phases_then, turn_then, test_then, again_then, pick_then, enter, first_path, inner_paths, next_of, turn_begun}
 use Rattle.dh_code.specs.declared.codes.Code.{Code}
 use Rattle.dh_code.specs.declared.running.State.{State}
 use Rattle.dh_code.specs.Declarations.{factors_inside}
@@ -33,13 +33,13 @@ some_same a b e = cc
 
 -- What a frame is that comes first.
 module _ (table : List MemEntry) (p : Placing) (c : Course) where
-  pub record FirstList (list : Option ℕ) (k behind : Todo) : Type 0 where
+  pub record FirstList (list : Option ℕ) (k behind : RunTodo) : Type 0 where
     pub factors : List ℕ
     pub qs : CorePhases
     pub is : k ≡ phases_then (paths_in factors) qs behind
     pub are : ArePhases table p c factors list qs
 
-  pub first_list : (list : Option ℕ) (k behind : Todo) → IsFirst table p c (Rest list) k behind → FirstList list k behind
+  pub first_list : (list : Option ℕ) (k behind : RunTodo) → IsFirst table p c (Rest list) k behind → FirstList list k behind
   first_list list over behind h = absurd h
   first_list list (phases_then paths qs k) behind (factors, (a, (b, are))) = record { factors = factors; qs = qs; is = ap (λ l. phases_then l qs k) a ∙ ap (λ l. phases_then (paths_in factors) qs l) b; are = are }
   first_list list (turn_then paths loop t body k) behind h = absurd h
@@ -47,7 +47,7 @@ module _ (table : List MemEntry) (p : Placing) (c : Course) where
   first_list list (again_then paths test body k) behind h = absurd h
   first_list list (pick_then paths test chosen other k) behind h = absurd h
 
-  pub record FirstTurn (number turn : ℕ) (k behind : Todo) : Type 0 where
+  pub record FirstTurn (number turn : ℕ) (k behind : RunTodo) : Type 0 where
     pub factors : List ℕ
     pub loop : Turning
     pub body : CorePhases
@@ -55,7 +55,7 @@ module _ (table : List MemEntry) (p : Placing) (c : Course) where
     pub below : turn < loop.count
     pub stands : StandsFor table p c factors number (turning loop body)
 
-  pub first_turn : (number turn : ℕ) (k behind : Todo) → IsFirst table p c (Turn number turn) k behind → FirstTurn number turn k behind
+  pub first_turn : (number turn : ℕ) (k behind : RunTodo) → IsFirst table p c (Turn number turn) k behind → FirstTurn number turn k behind
   first_turn number turn over behind h = absurd h
   first_turn number turn (phases_then paths qs k) behind h = absurd h
   first_turn number turn (turn_then paths loop t body k) behind (factors, (a, (b, (e, (lt, stands))))) = record {
@@ -70,14 +70,14 @@ module _ (table : List MemEntry) (p : Placing) (c : Course) where
   first_turn number turn (again_then paths test body k) behind h = absurd h
   first_turn number turn (pick_then paths test chosen other k) behind h = absurd h
 
-  pub record FirstTest (number : ℕ) (k behind : Todo) : Type 0 where
+  pub record FirstTest (number : ℕ) (k behind : RunTodo) : Type 0 where
     pub factors : List ℕ
     pub test : CoreTerm
     pub body : CorePhases
     pub is : k ≡ test_then (paths_in factors) test body behind
     pub stands : StandsFor table p c factors number (looping test body)
 
-  pub first_test : (number : ℕ) (k behind : Todo) → IsFirst table p c (Test number) k behind → FirstTest number k behind
+  pub first_test : (number : ℕ) (k behind : RunTodo) → IsFirst table p c (Test number) k behind → FirstTest number k behind
   first_test number over behind h = absurd h
   first_test number (phases_then paths qs k) behind h = absurd h
   first_test number (turn_then paths loop t body k) behind h = absurd h
@@ -85,14 +85,14 @@ module _ (table : List MemEntry) (p : Placing) (c : Course) where
   first_test number (again_then paths test body k) behind h = absurd h
   first_test number (pick_then paths test chosen other k) behind h = absurd h
 
-  pub record FirstAgain (number : ℕ) (k behind : Todo) : Type 0 where
+  pub record FirstAgain (number : ℕ) (k behind : RunTodo) : Type 0 where
     pub factors : List ℕ
     pub test : CoreTerm
     pub body : CorePhases
     pub is : k ≡ again_then (paths_in factors) test body behind
     pub stands : StandsFor table p c factors number (looping test body)
 
-  pub first_again : (number : ℕ) (k behind : Todo) → IsFirst table p c (Again number) k behind → FirstAgain number k behind
+  pub first_again : (number : ℕ) (k behind : RunTodo) → IsFirst table p c (Again number) k behind → FirstAgain number k behind
   first_again number over behind h = absurd h
   first_again number (phases_then paths qs k) behind h = absurd h
   first_again number (turn_then paths loop t body k) behind h = absurd h
@@ -100,7 +100,7 @@ module _ (table : List MemEntry) (p : Placing) (c : Course) where
   first_again number (again_then paths test body k) behind (factors, (a, (b, stands))) = record { factors = factors; test = test; body = body; is = ap (λ l. again_then l test body k) a ∙ ap (λ l. again_then (paths_in factors) test body l) b; stands = stands }
   first_again number (pick_then paths test chosen other k) behind h = absurd h
 
-  pub record FirstPick (number : ℕ) (k behind : Todo) : Type 0 where
+  pub record FirstPick (number : ℕ) (k behind : RunTodo) : Type 0 where
     pub factors : List ℕ
     pub test : CoreTerm
     pub chosen : CorePhases
@@ -108,7 +108,7 @@ module _ (table : List MemEntry) (p : Placing) (c : Course) where
     pub is : k ≡ pick_then (paths_in factors) test chosen other behind
     pub stands : StandsFor table p c factors number (choosing test chosen other)
 
-  pub first_pick : (number : ℕ) (k behind : Todo) → IsFirst table p c (Pick number) k behind → FirstPick number k behind
+  pub first_pick : (number : ℕ) (k behind : RunTodo) → IsFirst table p c (Pick number) k behind → FirstPick number k behind
   first_pick number over behind h = absurd h
   first_pick number (phases_then paths qs k) behind h = absurd h
   first_pick number (turn_then paths loop t body k) behind h = absurd h
@@ -160,7 +160,7 @@ ok_both (Ok a) P Q h k = (h, k)
 ok_both (Err e) P Q h k = tt
 
 -- what was settled begins with no test
-pub settled_holds : (b : Begun) (v : Variables) (k : Todo) (holds : Bool) → IsSettled k → HoldsFirst b v k holds
+pub settled_holds : (b : Begun) (v : Variables) (k : RunTodo) (holds : Bool) → IsSettled k → HoldsFirst b v k holds
 settled_holds b v over holds h = tt
 settled_holds b v (phases_then paths qs k) holds h = tt
 settled_holds b v (turn_then paths loop t body k) holds h = tt
@@ -211,7 +211,7 @@ module _ (x : code.Course) where
       let c = course_of made x in
       let f = first_turn table p c number turn k behind first in
       let does = the_turns table p c f.factors number phase.form t f.loop f.body is (form_of table p c f.factors number phase (turning f.loop f.body) get f.stands) in
-      subst (λ (l : Todo). FollowsTo table p c b v (next_of b l v) found new hs) (sym f.is) (by f.factors f.loop f.body f.stands does)
+      subst (λ (l : RunTodo). FollowsTo table p c b v (next_of b l v) found new hs) (sym f.is) (by f.factors f.loop f.body f.stands does)
     where
       by : (factors : List ℕ) (loop : Turning) (body : CorePhases) → StandsFor table p (course_of made x) factors number (turning loop body) → IsPhase table p (course_of made x) factors number (Turns t) (turning loop body)
           → FollowsTo table p (course_of made x) b v (next_of b (turn_then (paths_in factors) loop turn body behind) v) found new hs
@@ -229,7 +229,7 @@ module _ (x : code.Course) where
           let h'' = subst (λ (m : ℕ). Holds p mid.variables.items (turn_begun loop m (paths_in (factors_inside factors loop.factor)) v)) same h' in
           let d' = d table p made (factors_inside factors loop.factor) body k' (next ended v) (turn_begun loop (suc turn) (paths_in (factors_inside factors loop.factor)) v) inner come' tt h'' in
           reached found nowhere (next_of b (turn_then paths loop turn body behind) v)
-          (subst (λ (m : Next). DescendsTo table p (course_of made x) found new hs m)
+          (subst (λ (m : RunNext). DescendsTo table p (course_of made x) found new hs m)
           (sym (ap (λ t. if t then n else next_of b behind v) go ∙ ap (λ l. enter l body k' (next ended v) (turn_begun loop (suc turn) l v)) (inner_is factors loop))) d')
         where
           so_many : (turn later c d : ℕ) → later ≡ turn + 1 → later < c → c ≡ d → suc turn < d
@@ -241,7 +241,7 @@ module _ (x : code.Course) where
           plus : (n : ℕ) → n + 1 ≡ suc n
           plus n = omega arith
 
-          reached : (found : Option ℕ) → NowhereIfNone t.body found mid new gs hs → (n : Next) → DescendsTo table p (course_of made x) found new hs n → FollowsTo table p (course_of made x) b v n found new hs
+          reached : (found : Option ℕ) → NowhereIfNone t.body found mid new gs hs → (n : RunNext) → DescendsTo table p (course_of made x) found new hs n → FollowsTo table p (course_of made x) b v n found new hs
           reached None nowhere n e = absurd (subst IsSome nowhere.list_is some)
           reached (Some m) nowhere n e = e
 
@@ -252,7 +252,7 @@ module _ (x : code.Course) where
   -- The other frames.
 
   -- a list leads into its first block, or to what lies behind
-  into_list : (table : List MemEntry) (p : Placing) (made : Code) (b : Begun) (v : Variables) (factors : List ℕ) (qs : CorePhases) (list found : Option ℕ) (k : Todo) (old new : State) (fs gs : List Frame)
+  into_list : (table : List MemEntry) (p : Placing) (made : Code) (b : Begun) (v : Variables) (factors : List ℕ) (qs : CorePhases) (list found : Option ℕ) (k : RunTodo) (old new : State) (fs gs : List Frame)
       → ArePhases table p (course_of made x) factors list qs → AreToCome table p (course_of made x) (reverse fs) k → IsSettled k → NowhereIfNone list found old new fs gs
       → DescendsTo table p (course_of made x) found new gs (enter (paths_in factors) qs k (next_of b k v) v) → FollowsTo table p (course_of made x) b v (enter (paths_in factors) qs k (next_of b k v) v) found new gs
   into_list table p made b v factors qs list None k old new fs gs are come settled nowhere d = record {
@@ -267,7 +267,7 @@ module _ (x : code.Course) where
   list_follows list found holds old new fs gs nowhere d table p made b v k behind first settled come h hf =
       let c = course_of made x in
       let f = first_list table p c list k behind first in
-      subst (λ (l : Todo). FollowsTo table p c b v (next_of b l v) found new gs) (sym f.is)
+      subst (λ (l : RunTodo). FollowsTo table p c b v (next_of b l v) found new gs) (sym f.is)
       (into_list table p made b v f.factors f.qs list found behind old new fs gs f.are come settled nowhere (d table p made f.factors f.qs behind (next_of b behind v) v f.are come settled h))
 
   pub light_list : (list found : Option ℕ) (frame : Frame) (old new : State) (fs gs : List Frame) → 0 < frame_weight frame → NowhereIfNone list found old new fs gs → Lightens found frame old new fs gs
@@ -282,9 +282,9 @@ module _ (x : code.Course) where
   pick_follows number phase found holds old new fs gs get nowhere d table p made b v k behind first settled come h hf =
       let c = course_of made x in
       let f = first_pick table p c number k behind first in
-      subst (λ (l : Todo). FollowsTo table p c b v (next_of b l v) found new gs) (sym f.is)
+      subst (λ (l : RunTodo). FollowsTo table p c b v (next_of b l v) found new gs) (sym f.is)
       (by f.factors f.test f.chosen f.other (chosen_arm table p c f.factors number phase.form f.test f.chosen f.other (form_of table p c f.factors number phase (choosing f.test f.chosen f.other) get f.stands) holds)
-      (subst (λ (l : Todo). HoldsFirst b v l holds) f.is hf))
+      (subst (λ (l : RunTodo). HoldsFirst b v l holds) f.is hf))
     where
       one : (holds : Bool) (factors : List ℕ) (chosen other : CorePhases) → (if holds then enter (paths_in factors) chosen behind (next_of b behind v) v else enter (paths_in factors) other behind (next_of b behind v) v) ≡ enter (paths_in factors) (if holds then chosen else other) behind (next_of b behind v) v
       one true factors chosen other = refl
@@ -293,7 +293,7 @@ module _ (x : code.Course) where
       by : (factors : List ℕ) (test : CoreTerm) (chosen other : CorePhases) → ArePhases table p (course_of made x) factors (arm_of phase.form holds) (if holds then chosen else other) → holds_at b v test (first_path (paths_in factors)) ≡ holds
           → FollowsTo table p (course_of made x) b v (next_of b (pick_then (paths_in factors) test chosen other behind) v) found new gs
       by factors test chosen other are so =
-          subst (λ (n : Next). FollowsTo table p (course_of made x) b v n found new gs)
+          subst (λ (n : RunNext). FollowsTo table p (course_of made x) b v n found new gs)
           (sym (ap (λ t. if t then enter (paths_in factors) chosen behind (next_of b behind v) v else enter (paths_in factors) other behind (next_of b behind v) v) so ∙ one holds factors chosen other))
           (into_list table p made b v factors (if holds then chosen else other) (arm_of phase.form holds) found behind old new fs gs are come settled nowhere
           (d table p made factors (if holds then chosen else other) behind (next_of b behind v) v are come settled h))
@@ -302,7 +302,7 @@ module _ (x : code.Course) where
   test_stops number old fs table p made b v k behind first settled come h hf =
       let c = course_of made x in
       let f = first_test table p c number k behind first in
-      let so = subst (λ (l : Todo). HoldsFirst b v l false) f.is hf in
+      let so = subst (λ (l : RunTodo). HoldsFirst b v l false) f.is hf in
       record {
         todo = behind;
         are = come;
@@ -316,7 +316,7 @@ module _ (x : code.Course) where
   test_follows number phase found old new fs gs hs get pushed nowhere d table p made b v k behind first settled come h hf =
       let c = course_of made x in
       let f = first_test table p c number k behind first in
-      subst (λ (l : Todo). FollowsTo table p c b v (next_of b l v) found new hs) (sym f.is) (by f.factors f.test f.body f.stands (subst (λ (l : Todo). HoldsFirst b v l true) f.is hf))
+      subst (λ (l : RunTodo). FollowsTo table p c b v (next_of b l v) found new hs) (sym f.is) (by f.factors f.test f.body f.stands (subst (λ (l : RunTodo). HoldsFirst b v l true) f.is hf))
     where
       by : (factors : List ℕ) (test : CoreTerm) (body : CorePhases) → StandsFor table p (course_of made x) factors number (looping test body) → holds_at b v test (first_path (paths_in factors)) ≡ true
           → FollowsTo table p (course_of made x) b v (next_of b (test_then (paths_in factors) test body behind) v) found new hs
@@ -325,7 +325,7 @@ module _ (x : code.Course) where
           let k' = again_then (paths_in factors) test body behind in
           let are = loop_body table p c factors number phase.form test body true (form_of table p c factors number phase (looping test body) get stands) in
           let come' = come_more table p c fs gs (Again number) k' behind pushed (factors, (refl, (refl, stands))) settled come in
-          subst (λ (n : Next). FollowsTo table p c b v n found new hs) (sym (ap (λ t. if t then enter (paths_in factors) body k' (next_of b k' v) v else next_of b behind v) so))
+          subst (λ (n : RunNext). FollowsTo table p c b v n found new hs) (sym (ap (λ t. if t then enter (paths_in factors) body k' (next_of b k' v) v else next_of b behind v) so))
           (into_list table p made b v factors body (arm_of phase.form true) found k' old new gs hs are come' tt nowhere (d table p made factors body k' (next_of b k' v) v are come' tt h))
 
   pub test_light : (number : ℕ) (list found : Option ℕ) (old new : State) (fs gs hs : List Frame) → gs ≡ fs ++ Again number ∷ [] → NowhereIfNone list found old new gs hs → Lightens found (Test number) old new fs hs
@@ -343,7 +343,7 @@ module _ (x : code.Course) where
   again_follows number holds old fs gs pushed table p made b v k behind first settled come h hf =
       let c = course_of made x in
       let f = first_again table p c number k behind first in
-      subst (λ (l : Todo). Arrives table p c (next_of b l v) old (Some number) gs) (sym f.is)
+      subst (λ (l : RunTodo). Arrives table p c (next_of b l v) old (Some number) gs) (sym f.is)
       (record {
         variables = h;
         place = (
@@ -369,14 +369,14 @@ module _ (x : code.Course) where
 
   -- Frames.
 
-  first_come : (table : List MemEntry) (p : Placing) (made : Code) (fs gs : List Frame) (frame : Frame) (k : Todo) → fs ≡ gs ++ frame ∷ [] → AreToCome table p (course_of made x) (reverse fs) k
-      → (behind : Todo) × (IsFirst table p (course_of made x) frame k behind × (IsSettled behind × AreToCome table p (course_of made x) (reverse gs) behind))
+  first_come : (table : List MemEntry) (p : Placing) (made : Code) (fs gs : List Frame) (frame : Frame) (k : RunTodo) → fs ≡ gs ++ frame ∷ [] → AreToCome table p (course_of made x) (reverse fs) k
+      → (behind : RunTodo) × (IsFirst table p (course_of made x) frame k behind × (IsSettled behind × AreToCome table p (course_of made x) (reverse gs) behind))
   first_come table p made fs gs frame k is come = subst (λ (l : List Frame). AreToCome table p (course_of made x) l k) (ap (λ l. reverse l) is ∙ reverse-append gs (frame ∷ [])) come
 
   pub none_goes : (holds : Bool) (old new : State) (fs gs : List Frame) → fs ≡ [] → new ≡ old → GoesOn x None old new fs gs holds
   none_goes holds old new fs gs empty same table p made b v k come h hf =
       let none : k ≡ over = subst (λ (l : List Frame). AreToCome table p (course_of made x) (reverse l) k) empty come in
-      subst (λ (l : Todo). Arrives table p (course_of made x) (next_of b l v) new None gs) (sym none) (record { variables = subst (λ (s : State). Holds p s.variables.items v) (sym same) h; place = tt })
+      subst (λ (l : RunTodo). Arrives table p (course_of made x) (next_of b l v) new None gs) (sym none) (record { variables = subst (λ (s : State). Holds p s.variables.items v) (sym same) h; place = tt })
 
   pub some_goes : (holds : Bool) (number : ℕ) (frame : Frame) (old new : State) (fs gs hs : List Frame) → fs ≡ gs ++ frame ∷ [] → Follows x frame holds (Some number) old new gs hs → GoesOn x (Some number) old new fs hs holds
   some_goes holds number frame old new fs gs hs is follows table p made b v k come h hf =
@@ -387,7 +387,7 @@ module _ (x : code.Course) where
   further_goes holds found frame old mid new fs gs hs ks is same follows goes table p made b v k come h hf =
       let f = first_come table p made fs gs frame k is come in
       let g = follows table p made b v k f.0 f.1.0 f.1.1.0 f.1.1.1 h hf in
-      subst (λ (n : Next). Arrives table p (course_of made x) n new found ks) g.same
+      subst (λ (n : RunNext). Arrives table p (course_of made x) n new found ks) g.same
       (goes table p made b v g.todo g.are (subst (λ (s : State). Holds p s.variables.items v) (sym same) h) (settled_holds b v g.todo holds g.settled))
 
 pub weight_last : (fs : List Frame) (f : Frame) → weight_of (fs ++ f ∷ []) ≡ frame_weight f + weight_of fs
@@ -401,7 +401,7 @@ weight_last (g ∷ fs) f = ap (λ n. frame_weight g + n) (weight_last fs f) ∙ 
 nothing_goes : (x : code.Course) (holds : Bool) (now : State) (fs ks : List Frame) → fs ≡ [] → GoesOn x None now now fs ks holds
 nothing_goes x holds now fs ks none table p made b v k come h hf =
     let is_over : k ≡ over = subst (λ (l : List Frame). AreToCome table p (course_of made x) (reverse l) k) none come in
-    subst (λ (t : Todo). Arrives table p (course_of made x) (next_of b t v) now None ks) (sym is_over) (record { variables = h; place = tt })
+    subst (λ (t : RunTodo). Arrives table p (course_of made x) (next_of b t v) now None ks) (sym is_over) (record { variables = h; place = tt })
 
 -- the frames so far led to no block
 pub record GoneSoFar (x : code.Course) (holds : Bool) (old : State) (before : List Frame) (now : State) (frames : List Frame) : Type 0 where

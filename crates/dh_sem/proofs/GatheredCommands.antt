@@ -25,9 +25,9 @@ use Rattle.dh_meaning.specs.Phases.{Located, located, straight, turns, repeated,
 use Rattle.dh_meaning.specs.Sites.{Around, in_arm, nothing_around}
 use Rattle.dh_code.specs.declared.codes.Flat.{Flat}
 use Rattle.dh_code.specs.declared.flattening.Names.{Names}
-use Rattle.dh_code.specs.Coded.{AreSlotsOf, Extends, IsFlat}
+use Rattle.dh_code.specs.Coded.{AreSlotsOf, ExtendsCode, IsFlat}
 use Rattle.dh_code.specs.Declarations.{factors_inside}
-use Rattle.dh_code.specs.Flattening.{IsPlacingOf, known_in, table_in}
+use Rattle.dh_code.specs.Flattening.{IsPlacingOf, known_by_names, table_in}
 use Rattle.dh_code.specs.Made.{term_made}
 use Rattle.dh_code.specs.Ranks.{copies_in}
 use Rattle.dh_code.specs.Scenes.{IsHeld, IsSoundCode, IsEarlier}
@@ -63,9 +63,9 @@ gathers_alone names paths m forms a l is same =
     ((refl, tt), λ p factors placing can. record { more = made_none m; sound = λ memories there s. (s, tt); means = λ leads. (refl, tt) })
 
 -- a test, which has its code
-module _ (names : Names) (p : Placing) (placing : IsPlacingOf p names) (old new : Made) (test : Expr) (f : Flat) (n : ℕ) (t : CoreTerm) (is : t ≡ core_term (known_in names) n (term_seen test)) (h : HasTest names old new test f) (suits : IsSuited (table_in names) t) where
+module _ (names : Names) (p : Placing) (placing : IsPlacingOf p names) (old new : Made) (test : Expr) (f : Flat) (n : ℕ) (t : CoreTerm) (is : t ≡ core_term (known_by_names names) n (term_seen test)) (h : HasTest names old new test f) (suits : IsSuited (table_in names) t) where
   abbrev written : CoreTerm
-  written = core_term (known_in names) n (term_seen test)
+  written = core_term (known_by_names names) n (term_seen test)
 
   suited : IsSuited (table_in names) written
   suited = subst (λ (x : CoreTerm). IsSuited (table_in names) x) is suits
@@ -94,13 +94,13 @@ earlier_later : (a b : Made) (o : Option ℕ) → MoreMade a b → IsEarlier (le
 earlier_later a b o h e = earlier_still (length a.phases.items) (length b.phases.items) o (longer a.phases.items b.phases.items h.phases h.are) e
 
 -- a `while`
-pub gathers_loop : (names : Names) (paths : ℕ) (old now new : Made) (xs forms : List Kept) (ps : List source.Phase) (test : Expr) (c : Located) (n : ℕ) → core_test (known_in names) c ≡ core_term (known_in names) n (term_seen test)
+pub gathers_loop : (names : Names) (paths : ℕ) (old now new : Made) (xs forms : List Kept) (ps : List source.Phase) (test : Expr) (c : Located) (n : ℕ) → core_test (known_by_names names) c ≡ core_term (known_by_names names) n (term_seen test)
     → GathersAll names paths old now xs ps → Repeats names paths now new test xs forms → GathersAll names paths old new forms (repeated c (of_list ps) ∷ [])
 gathers_loop names paths old now new xs forms ps test c n is h k = subst (λ (l : List Kept). GathersAll names paths old new l (repeated c (of_list ps) ∷ [])) (sym k.are) ((tt, tt), by)
   where
-    by : (p : Placing) (factors : List ℕ) → IsPlacingOf p names → CanRunList (table_in names) (known_in names) p factors (repeated c (of_list ps) ∷ []) → Gathers names p factors paths old new (another (formed.Loop k.f k.first) ∷ []) (repeated c (of_list ps) ∷ [])
+    by : (p : Placing) (factors : List ℕ) → IsPlacingOf p names → CanRunList (table_in names) (known_by_names names) p factors (repeated c (of_list ps) ∷ []) → Gathers names p factors paths old new (another (formed.Loop k.f k.first) ∷ []) (repeated c (of_list ps) ∷ [])
     by p factors placing can =
-        let t = core_test (known_in names) c in
+        let t = core_test (known_by_names names) c in
         let g = h.1 p factors placing can.0.1 in
         let test_is = test_more names p placing now k.coded test k.f n t is k.tests can.0.0.1.0 in
         let held = k.held p factors ps placing h.0 can.0.1 in
@@ -120,7 +120,7 @@ gathers_loop names paths old now new xs forms ps test c n is h k = subst (λ (l 
                 (
                   held.earlier,
                   held.means (leads_still old.lanes.items k.coded.lanes.items paths factors before.lanes leads)
-                      (are_weaker (IsHeldAs (table_in names) (known_in names) p now factors) (IsHeldAs (table_in names) (known_in names) p k.coded factors) (λ f q e. held_as_still (table_in names) p now k.coded test_is (known_in names) factors f q e) xs ps (g.means leads)),
+                      (are_weaker (IsHeldAs (table_in names) (known_by_names names) p now factors) (IsHeldAs (table_in names) (known_by_names names) p k.coded factors) (λ f q e. held_as_still (table_in names) p now k.coded test_is (known_by_names names) factors f q e) xs ps (g.means leads)),
                 ),
               ),
             ),
@@ -129,8 +129,8 @@ gathers_loop names paths old now new xs forms ps test c n is h k = subst (λ (l 
         }
 
 -- an `if`, of which the arms can be run where it is straight
-pub gathers_choice : (names : Names) (paths : ℕ) (old mid now new : Made) (xs ys forms : List Kept) (ps qs : List source.Phase) (command : Command) (test : Expr) (c : Located) (n : ℕ) → core_test (known_in names) c ≡ core_term (known_in names) n (term_seen test) → action_seen command ≡ c.command
-    → ((p : Placing) (factors : List ℕ) → (are_straight ps && are_straight qs) ≡ true → CanRunList (table_in names) (known_in names) p factors (one_command c) → CanRunList (table_in names) (known_in names) p factors ps × CanRunList (table_in names) (known_in names) p factors qs)
+pub gathers_choice : (names : Names) (paths : ℕ) (old mid now new : Made) (xs ys forms : List Kept) (ps qs : List source.Phase) (command : Command) (test : Expr) (c : Located) (n : ℕ) → core_test (known_by_names names) c ≡ core_term (known_by_names names) n (term_seen test) → action_seen command ≡ c.command
+    → ((p : Placing) (factors : List ℕ) → (are_straight ps && are_straight qs) ≡ true → CanRunList (table_in names) (known_by_names names) p factors (one_command c) → CanRunList (table_in names) (known_by_names names) p factors ps × CanRunList (table_in names) (known_by_names names) p factors qs)
     → GathersAll names paths old mid xs ps → GathersAll names paths mid now ys qs → ChoosesBy (at_once xs && at_once ys) names paths now new command test xs ys forms → GathersAll names paths old new forms (choice_phases c ps qs)
 gathers_choice names paths old mid now new xs ys forms ps qs command test c n is same arms h k chooses =
     by (are_straight ps && are_straight qs) refl (subst (λ (b : Bool). ChoosesBy b names paths now new command test xs ys forms) (ap (λ b. b && at_once ys) (at_once_is Anything xs ps h.0) ∙ ap (λ b. are_straight ps && b) (at_once_is Anything ys qs k.0)) chooses)
@@ -156,7 +156,7 @@ gathers_choice names paths old mid now new xs ys forms ps qs command test c n is
     by false e k' = subst (λ (l : List Kept). GathersAll names paths old new l (decided c (of_list ps) (of_list qs) ∷ [])) (sym k'.are) (
       (tt, tt),
       λ p factors placing can.
-          let t = core_test (known_in names) c in
+          let t = core_test (known_by_names names) c in
           let first = h.1 p factors placing can.0.1.0 in
           let second = k.1 p factors placing can.0.1.1 in
           let parts = both_more names paths p factors old mid now xs ys ps qs first second in
@@ -177,16 +177,16 @@ gathers_choice names paths old mid now new xs ys forms ps qs command test c n is
             means = λ leads.
                 let mean = both_mean names paths p factors old mid now xs ys ps qs first second leads in
                 let at_coded = leads_still old.lanes.items k'.coded.lanes.items paths factors before.lanes leads in
-                let one_are = one_held.means at_coded (are_weaker (IsHeldAs (table_in names) (known_in names) p now factors) (IsHeldAs (table_in names) (known_in names) p k'.coded factors) (λ f q e. held_as_still (table_in names) p now k'.coded test_is (known_in names) factors f q e) xs ps mean.0) in
+                let one_are = one_held.means at_coded (are_weaker (IsHeldAs (table_in names) (known_by_names names) p now factors) (IsHeldAs (table_in names) (known_by_names names) p k'.coded factors) (λ f q e. held_as_still (table_in names) p now k'.coded test_is (known_by_names names) factors f q e) xs ps mean.0) in
                 let two_are = two_held.means (leads_still k'.coded.lanes.items k'.between.lanes.items paths factors one_held.more.lanes at_coded)
-                (are_weaker (IsHeldAs (table_in names) (known_in names) p now factors) (IsHeldAs (table_in names) (known_in names) p k'.between factors) (λ f q e. held_as_still (table_in names) p now k'.between to_between (known_in names) factors f q e) ys qs mean.1) in (
+                (are_weaker (IsHeldAs (table_in names) (known_by_names names) p now factors) (IsHeldAs (table_in names) (known_by_names names) p k'.between factors) (λ f q e. held_as_still (table_in names) p now k'.between to_between (known_by_names names) factors f q e) ys qs mean.1) in (
                   (
                     flat_stays p.held (table_in names) k'.coded.code new.code later.code t k'.f (test_flat names p placing now k'.coded test k'.f n t is k'.tests can.0.0.1.0),
                     (
                       can.0.0,
                       (
                         (earlier_later k'.between new k'.one two_held.more one_held.earlier, two_held.earlier),
-                        (phases_stay (table_in names) p k'.between new two_held.more factors k'.one (core_phases (known_in names) (of_list ps)) one_are, two_are),
+                        (phases_stay (table_in names) p k'.between new two_held.more factors k'.one (core_phases (known_by_names names) (of_list ps)) one_are, two_are),
                       ),
                     ),
                   ),
@@ -213,7 +213,7 @@ module _ (names : Names) (paths within : ℕ) (old start now new : Made) (turn f
 
   module _ (some : (count == 0) ≡ false) (code : start.code ≡ old.code) (phases_are : start.phases.items ≡ old.phases.items) (lanes : MoreLanes old.lanes.items start.lanes.items) (inside : paths < length old.lanes.items → LanesInside old.lanes.items start.lanes.items paths factor.value within) where
     started : MoreMade old start
-    started = record { code = subst (λ c. Extends old.code c) (sym code) (extends_none old.code); phases = []; are = phases_are ∙ sym (append-nil old.phases.items); lanes = lanes }
+    started = record { code = subst (λ c. ExtendsCode old.code c) (sym code) (extends_none old.code); phases = []; are = phases_are ∙ sym (append-nil old.phases.items); lanes = lanes }
 
     start_sound : (table : List MemEntry) → IsSoundMade table old → IsSoundMade table start
     start_sound table s = record { code = subst (λ c. IsSoundCode table c) (sym code) s.code; course = course_still old start started phases_are s.course }
@@ -357,7 +357,7 @@ choice_as names paths old mid now new xs ys forms c block other test seen h k ch
     let l = m + accesses_of (action_seen block) in
     let a = action c.id c.place (plain.decides (term_seen test) (action_seen block) other) in
     gathers_choice names paths old mid now new xs ys forms (phases (in_arm r c.id true) m (action_seen block)) (other_phases (in_arm r c.id false) l other) c test (located r n a) n refl (ap (λ f. action c.id c.place f) seen)
-    (λ p factors simple can. arms_can (table_in names) (known_in names) p factors (in_arm r c.id true) (in_arm r c.id false) m l (action_seen block) other simple can.0.0.1)
+    (λ p factors simple can. arms_can (table_in names) (known_by_names names) p factors (in_arm r c.id true) (in_arm r c.id false) m l (action_seen block) other simple can.0.0.1)
     (h (in_arm r c.id true) m) (k (in_arm r c.id false) l) chooses)
 
 -- the arms as the code looks at them

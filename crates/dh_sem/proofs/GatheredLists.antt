@@ -16,7 +16,7 @@ use Rattle.dh_meaning.specs.Phases as source
 use Rattle.dh_meaning.specs.Phases.{Located, one_straight, joined, folded, phases, groups_phases, parts_phases}
 use Rattle.dh_meaning.specs.Sites.{Around}
 use Rattle.dh_code.specs.declared.flattening.Names.{Names}
-use Rattle.dh_code.specs.Flattening.{IsPlacingOf, known_in, table_in}
+use Rattle.dh_code.specs.Flattening.{IsPlacingOf, known_by_names, table_in}
 use Rattle.dh_code.specs.Slots.{Placing}
 use Rattle.dh_sem.specs.declared.gathering.Made.{Made}
 use Rattle.dh_sem.specs.declared.phases.Form.{Form}
@@ -30,11 +30,11 @@ use Rattle.dh_sem.proofs.PhasesKept.{can_be_held_still, held_as_still, leads_sti
 abbrev pub GathersIn : Names → (paths : ℕ) → (old new : Made) → (forms : List Kept) → (all qs : List source.Phase) → Type 0
 GathersIn names paths old new forms all qs =
     AreOf Anything forms qs
-    × ((p : Placing) (factors : List ℕ) → IsPlacingOf p names → CanRunList (table_in names) (known_in names) p factors all → Gathers names p factors paths old new forms qs)
+    × ((p : Placing) (factors : List ℕ) → IsPlacingOf p names → CanRunList (table_in names) (known_by_names names) p factors all → Gathers names p factors paths old new forms qs)
 
 module _ (names : Names) (paths : ℕ) where
   abbrev Held : Placing → List ℕ → Made → Form → source.Phase → Type 0
-  Held p factors m = IsHeldAs (table_in names) (known_in names) p m factors
+  Held p factors m = IsHeldAs (table_in names) (known_by_names names) p m factors
 
   pub gathers_none : (m : Made) (all : List source.Phase) → GathersIn names paths m m [] all []
   gathers_none m all = (tt, λ p factors placing can. record { more = made_none m; sound = λ memories there s. (s, tt); means = λ leads. tt })
@@ -51,17 +51,17 @@ module _ (names : Names) (paths : ℕ) where
 
     pub both_mean : LeadsInto old.lanes.items paths factors → AreOf (Held p factors new) xs ps × AreOf (Held p factors new) ys qs
     both_mean leads = (
-      are_weaker (Held p factors now) (Held p factors new) (λ f q e. held_as_still (table_in names) p now new k.more (known_in names) factors f q e) xs ps (h.means leads),
+      are_weaker (Held p factors now) (Held p factors new) (λ f q e. held_as_still (table_in names) p now new k.more (known_by_names names) factors f q e) xs ps (h.means leads),
       k.means (leads_still old.lanes.items now.lanes.items paths factors h.more.lanes leads),
     )
 
   -- the phases of one command more
   pub gathers_join : (old now new : Made) (done : List Kept) (current : List Action) (ks : List Kept) (all far : List source.Phase) (ls : List Located) (qs : List source.Phase)
-      → ((p : Placing) (factors : List ℕ) → CanRunList (table_in names) (known_in names) p factors all → CanRunList (table_in names) (known_in names) p factors qs)
+      → ((p : Placing) (factors : List ℕ) → CanRunList (table_in names) (known_by_names names) p factors all → CanRunList (table_in names) (known_by_names names) p factors qs)
       → GathersIn names paths old now done all far → commands_at ls ≡ current → GathersAll names paths now new ks qs → GathersIn names paths old new (joined_with done current ks).done all (far_after far ls qs)
   gathers_join old now new done current ks all far ls qs part h opened k = (joined_are Anything done current ks far ls qs h.0 opened k.0, by)
     where
-      by : (p : Placing) (factors : List ℕ) → IsPlacingOf p names → CanRunList (table_in names) (known_in names) p factors all → Gathers names p factors paths old new (joined_with done current ks).done (far_after far ls qs)
+      by : (p : Placing) (factors : List ℕ) → IsPlacingOf p names → CanRunList (table_in names) (known_by_names names) p factors all → Gathers names p factors paths old new (joined_with done current ks).done (far_after far ls qs)
       by p factors placing can =
           let first = h.1 p factors placing can in
           let second = k.1 p factors placing (part p factors can) in
@@ -93,9 +93,9 @@ module _ (names : Names) (paths : ℕ) where
   pub gathers_fold : (old now new : Made) (xs ys : List Kept) (ps qs : List source.Phase) → GathersAll names paths old now xs ps → GathersAll names paths now new ys qs → GathersAll names paths old new (folded_with xs ys) (folded ps qs)
   gathers_fold old now new xs ys ps qs h k = (folded_are Anything xs ys ps qs h.0 k.0, by)
     where
-      by : (p : Placing) (factors : List ℕ) → IsPlacingOf p names → CanRunList (table_in names) (known_in names) p factors (folded ps qs) → Gathers names p factors paths old new (folded_with xs ys) (folded ps qs)
+      by : (p : Placing) (factors : List ℕ) → IsPlacingOf p names → CanRunList (table_in names) (known_by_names names) p factors (folded ps qs) → Gathers names p factors paths old new (folded_with xs ys) (folded ps qs)
       by p factors placing can =
-          let parts = folded_can (table_in names) (known_in names) p factors ps qs can in
+          let parts = folded_can (table_in names) (known_by_names names) p factors ps qs can in
           let first = h.1 p factors placing parts.0 in
           let second = k.1 p factors placing parts.1 in
           record {
@@ -171,11 +171,11 @@ module _ (names : Names) (paths : ℕ) where
       here : whole r n parts ≡ h.far ++ (joined h.ls (qs ∷ rest) ++ tail)
       here = h.is ∙ ap (λ l. h.far ++ (joined h.ls (parts_phases r h.number (actions (map action_seen l))) ++ tail)) (at_item cs j c within is)
 
-      part : (p : Placing) (factors : List ℕ) → CanRunList (table_in names) (known_in names) p factors (whole r n parts) → CanRunList (table_in names) (known_in names) p factors qs
+      part : (p : Placing) (factors : List ℕ) → CanRunList (table_in names) (known_by_names names) p factors (whole r n parts) → CanRunList (table_in names) (known_by_names names) p factors qs
       part p factors can =
-          next_can (table_in names) (known_in names) p factors h.ls qs rest
-          (can_split (table_in names) (known_in names) p factors (joined h.ls (qs ∷ rest)) tail
-          (can_split (table_in names) (known_in names) p factors h.far (joined h.ls (qs ∷ rest) ++ tail) (subst (λ (l : List source.Phase). CanRunList (table_in names) (known_in names) p factors l) here can)).1).0
+          next_can (table_in names) (known_by_names names) p factors h.ls qs rest
+          (can_split (table_in names) (known_by_names names) p factors (joined h.ls (qs ∷ rest)) tail
+          (can_split (table_in names) (known_by_names names) p factors h.far (joined h.ls (qs ∷ rest) ++ tail) (subst (λ (l : List source.Phase). CanRunList (table_in names) (known_by_names names) p factors l) here can)).1).0
 
   pub part_end : (old now : Made) (done done' : List Kept) (current : List Action) (parts : List (Vec Command Global)) (i : ℕ) (cs : List Command) (j : ℕ) (r : Around) (n : ℕ)
       → drop j cs ≡ [] → done' ≡ done ++ ended_at current → CommandsAt old now done current parts i cs j r n → PartsAt old now done' parts (i + 1) r n

@@ -8,7 +8,7 @@ use Rattle.dh_tree.specs.declared.tables.MemEntry.{MemEntry}
 use Rattle.dh_meaning.specs.Core.{Turning, CorePhase, straightly, turning, looping, choosing, CorePhases, no_core_phases, phase_and}
 use Rattle.dh_meaning.specs.Effects.{Variables}
 use Rattle.dh_meaning.specs.Paths.{Path, all_copies, outer_paths, paths_in}
-use Rattle.dh_meaning.specs.Runs.{Next, Todo, phases_then, turn_then, test_then, pick_then, enter, inner_paths, turn_begun}
+use Rattle.dh_meaning.specs.Runs.{RunNext, RunTodo, phases_then, turn_then, test_then, pick_then, enter, inner_paths, turn_begun}
 use Rattle.dh_code.specs.declared.running.State.{State}
 use Rattle.dh_code.specs.Declarations.{factors_inside}
 use Rattle.dh_code.specs.Slots.{Holds, Placing}
@@ -38,7 +38,7 @@ inner_is factors loop = by (nat_lt 1 loop.factor)
     by false = refl
 
 module _ (table : List MemEntry) (p : Placing) (c : Course) where
-  pub come_more : (fs gs : List Frame) (f : Frame) (k behind : Todo) → gs ≡ fs ++ f ∷ [] → IsFirst table p c f k behind → IsSettled behind → AreToCome table p c (reverse fs) behind → AreToCome table p c (reverse gs) k
+  pub come_more : (fs gs : List Frame) (f : Frame) (k behind : RunTodo) → gs ≡ fs ++ f ∷ [] → IsFirst table p c f k behind → IsSettled behind → AreToCome table p c (reverse fs) behind → AreToCome table p c (reverse gs) k
   come_more fs gs f k behind is first settled come = subst (λ (l : List Frame). AreToCome table p c l k) (sym (ap (λ l. reverse l) is ∙ reverse-append fs (f ∷ []))) (behind, (first, (settled, come)))
 
   -- a list that begins at a phase
@@ -74,7 +74,7 @@ module _ (table : List MemEntry) (p : Placing) (c : Course) where
       by (phase_and q qs) h = absurd h
 
   -- into a phase whose block comes first
-  module _ (factors : List ℕ) (number : ℕ) (phase : Phase) (get : slice_get c.phases number ≡ Some phase) (qs : CorePhases) (e : Enters factors number phase qs) (k : Todo) (behind : Next) (v : Variables) (new : State)
+  module _ (factors : List ℕ) (number : ℕ) (phase : Phase) (get : slice_get c.phases number ≡ Some phase) (qs : CorePhases) (e : Enters factors number phase qs) (k : RunTodo) (behind : RunNext) (v : Variables) (new : State)
       (fs gs : List Frame) (pushed : gs ≡ fs ++ Rest phase.next ∷ []) (settled : IsSettled k) (come : AreToCome table p c (reverse fs) k) (h : Holds p new.variables.items v) where
     abbrev paths : List Path
     paths = paths_in factors
@@ -85,8 +85,8 @@ module _ (table : List MemEntry) (p : Placing) (c : Course) where
     rest_comes : AreToCome table p c (reverse gs) (phases_then paths e.rest k)
     rest_comes = come_more fs gs (Rest phase.next) (phases_then paths e.rest k) k pushed (factors, (refl, (refl, e.later))) settled come
 
-    moved : (n : Next) → enter paths (phase_and e.first e.rest) k behind v ≡ n → Arrives table p c n new (Some number) gs → Arrives table p c (enter paths qs k behind v) new (Some number) gs
-    moved n is a = subst (λ (m : Next). Arrives table p c m new (Some number) gs) (sym (ap (λ l. enter paths l k behind v) e.is ∙ is)) a
+    moved : (n : RunNext) → enter paths (phase_and e.first e.rest) k behind v ≡ n → Arrives table p c n new (Some number) gs → Arrives table p c (enter paths qs k behind v) new (Some number) gs
+    moved n is a = subst (λ (m : RunNext). Arrives table p c m new (Some number) gs) (sym (ap (λ l. enter paths l k behind v) e.is ∙ is)) a
 
     pub into_straight : (list : Option ℕ) → phase.form ≡ Straight list → Arrives table p c (enter paths qs k behind v) new (Some number) gs
     into_straight list is = subst (λ (l : CorePhases). Arrives table p c (enter paths l k behind v) new (Some number) gs) (sym e.is) (by e.first e.does (subst (λ (f : Form). IsPhase table p c factors number f e.first) is e.does))
@@ -97,7 +97,7 @@ module _ (table : List MemEntry) (p : Placing) (c : Course) where
         by (looping test body) does h' = absurd h'
         by (choosing test chosen other) does h' = absurd h'
 
-  module _ (factors : List ℕ) (number : ℕ) (phase : Phase) (get : slice_get c.phases number ≡ Some phase) (qs : CorePhases) (e : Enters factors number phase qs) (k : Todo) (behind : Next) (v : Variables) (new : State)
+  module _ (factors : List ℕ) (number : ℕ) (phase : Phase) (get : slice_get c.phases number ≡ Some phase) (qs : CorePhases) (e : Enters factors number phase qs) (k : RunTodo) (behind : RunNext) (v : Variables) (new : State)
       (fs gs is_gs : List Frame) (f : Frame) (pushed : gs ≡ fs ++ Rest phase.next ∷ []) (pushed' : is_gs ≡ gs ++ f ∷ []) (settled : IsSettled k) (come : AreToCome table p c (reverse fs) k) (h : Holds p new.variables.items v) where
     abbrev paths_here : List Path
     paths_here = paths_in factors
@@ -105,7 +105,7 @@ module _ (table : List MemEntry) (p : Placing) (c : Course) where
     stands_there : (q : CorePhase) → IsPhase table p c factors number phase.form q → StandsFor table p c factors number q
     stands_there q does = (phase, (get, (e.lanes, does)))
 
-    abbrev rest_then : Todo
+    abbrev rest_then : RunTodo
     rest_then = phases_then paths_here e.rest k
 
     rest_behind : AreToCome table p c (reverse gs) rest_then
@@ -205,7 +205,7 @@ module _ (x : code.Course) where
           let lanes_are = subst (λ (l : Lanes). AreLanes (factors_inside factors loop.factor) l) same_lanes leads.are in
           let h'' = begun p factors loop v lanes_are turned h in
           let d' = d table p made (factors_inside factors loop.factor) qs' k' (enter paths e.rest k behind v) (turn_begun loop 0 (paths_in (factors_inside factors loop.factor)) v) inner come' tt h'' in
-          subst (λ (m : Next). DescendsTo table p (course_of made x) found new ks m)
+          subst (λ (m : RunNext). DescendsTo table p (course_of made x) found new ks m)
           (sym (ap (λ b. if b then enter paths e.rest k behind v else n) (some_turn loop.count (subst (λ (m : ℕ). 1 ≤ m) turned.count turned.some_turn))
           ∙ ap (λ l. enter l qs' k' (enter paths e.rest k behind v) (turn_begun loop 0 l v)) (inner_is factors loop))) d'
         where

@@ -12,8 +12,8 @@ use Rattle.dh_meaning.specs.CoreOf.{core_commands, core_phase, core_phases}
 use Rattle.dh_meaning.specs.Phases as source
 use Rattle.dh_meaning.specs.Phases.{Located, straight, turns, repeated, decided}
 use Rattle.dh_code.specs.declared.flattening.Names.{Names}
-use Rattle.dh_code.specs.Coded.{AreCoded, Extends}
-use Rattle.dh_code.specs.Flattening.{FlattensCommands, IsInFront, IsPlacingOf, known_in, table_in}
+use Rattle.dh_code.specs.Coded.{AreCoded, ExtendsCode}
+use Rattle.dh_code.specs.Flattening.{FlattensCommands, IsInFront, IsPlacingOf, known_by_names, table_in}
 use Rattle.dh_code.specs.Scenes.{IsSoundCode, IsEarlier}
 use Rattle.dh_code.specs.Slots.{Placing}
 use Rattle.dh_code.proofs.CommandsCoded.{extends_none, get_last}
@@ -48,7 +48,7 @@ course_still a b h same s = record {
     }
 
 -- more code alone
-pub more_code : (a b : Made) → Extends a.code b.code → b.phases.items ≡ a.phases.items → b.lanes.items ≡ a.lanes.items → MoreMade a b
+pub more_code : (a b : Made) → ExtendsCode a.code b.code → b.phases.items ≡ a.phases.items → b.lanes.items ≡ a.lanes.items → MoreMade a b
 more_code a b e phases lanes = record { code = e; phases = []; are = phases ∙ sym (append-nil a.phases.items); lanes = record { more = []; are = lanes ∙ sym (append-nil a.lanes.items) } }
 
 pub fixed_straight : (names : Names) (old new : Made) (commands : List (Bor Command)) (list : Option ℕ) → FlattensCommands names old.code new.code commands list → new.phases.items ≡ old.phases.items → new.lanes.items ≡ old.lanes.items
@@ -59,10 +59,10 @@ fixed_straight names old new commands list flattens phases lanes p factors (deci
 fixed_straight names old new commands list flattens phases lanes p factors (straight ls) placing is can = record {
   more = more;
   sound = λ memories s others. (record { code = h.sound memories tt s.code; course = course_still old new more phases s.course }, record { linked = tt; tested = tt });
-  means = λ e. (subst (λ held. AreCoded held (table_in names) new.code list (core_commands (known_in names) ls)) (sym placing.held) (h.coded tt), can);
+  means = λ e. (subst (λ held. AreCoded held (table_in names) new.code list (core_commands (known_by_names names) ls)) (sym placing.held) (h.coded tt), can);
 }
   where
-    h : IsInFront names old.code new.code list None (core_commands (known_in names) ls) no_commands
+    h : IsInFront names old.code new.code list None (core_commands (known_by_names names) ls) no_commands
     h = flattens p factors ls is placing can
 
     more : MoreMade old new
@@ -83,12 +83,12 @@ pub record HoldsRest (names : Names) (p : Placing) (factors : List ℕ) (paths :
   pub more : MoreMade old now
   pub earlier : IsEarlier (length now.phases.items) next
   pub sound : AllByRecursion IsMemory (table_in names) → paths < length old.lanes.items → IsSoundMade (table_in names) old → AllOthers (CanBeHeld old) all → IsSoundMade (table_in names) now × AllOthers (CanBeHeld now) xs
-  pub means : LeadsInto old.lanes.items paths factors → AreOf (IsHeldAs (table_in names) (known_in names) p old factors) all qs
-      → AreOf (IsHeldAs (table_in names) (known_in names) p now factors) xs front
-      × ArePhases (table_in names) p (course_made now) factors next (core_phases (known_in names) (source.of_list back))
+  pub means : LeadsInto old.lanes.items paths factors → AreOf (IsHeldAs (table_in names) (known_by_names names) p old factors) all qs
+      → AreOf (IsHeldAs (table_in names) (known_by_names names) p now factors) xs front
+      × ArePhases (table_in names) p (course_made now) factors next (core_phases (known_by_names names) (source.of_list back))
 
 pub record HoldsSoFar (names : Names) (paths : ℕ) (old now : Made) (all xs : List Kept) (next : Option ℕ) : Type 0 where
-  pub so : (p : Placing) (factors : List ℕ) (qs : List source.Phase) → IsPlacingOf p names → AreOf Anything all qs → CanRunList (table_in names) (known_in names) p factors qs → HoldsRest names p factors paths old now all xs next qs
+  pub so : (p : Placing) (factors : List ℕ) (qs : List source.Phase) → IsPlacingOf p names → AreOf Anything all qs → CanRunList (table_in names) (known_by_names names) p factors qs → HoldsRest names p factors paths old now all xs next qs
   pub begins : IsSome next ⊎ (xs ≡ all)
 
 pub hold_begin : (names : Names) (paths : ℕ) (m : Made) (all : List Kept) → HoldsSoFar names paths m m all all None
@@ -129,7 +129,7 @@ module _ (names : Names) (paths : ℕ) (old now mid new : Made) (all xs : List K
   held = record { form = form; next = next; paths = paths }
 
   pushed : MoreMade mid new
-  pushed = record { code = subst (λ c. Extends mid.code c) (sym code) (extends_none mid.code); phases = held ∷ []; are = phases; lanes = record { more = []; are = lanes ∙ sym (append-nil mid.lanes.items) } }
+  pushed = record { code = subst (λ c. ExtendsCode mid.code c) (sym code) (extends_none mid.code); phases = held ∷ []; are = phases; lanes = record { more = []; are = lanes ∙ sym (append-nil mid.lanes.items) } }
 
   one_longer : length mid.phases.items < length new.phases.items
   one_longer = by (length mid.phases.items) (length new.phases.items) (ap (λ l. length l) phases ∙ length-append mid.phases.items (held ∷ []))
@@ -164,9 +164,9 @@ module _ (names : Names) (paths : ℕ) (old now mid new : Made) (all xs : List K
       test at phase (inl e) = tested_still mid new pushed phase.form (s.course.tests at phase e)
       test at phase (inr e) = subst (λ (f : Phase). IsTested new.code.operations f.form) e.1 (tested_still mid new pushed form can.tested)
 
-  module _ (p : Placing) (factors : List ℕ) (qs : List source.Phase) (placing : IsPlacingOf p names) (can : CanRunList (table_in names) (known_in names) p factors qs) (h : HoldsRest names p factors paths old now all (xs ++ x ∷ []) next qs) where
+  module _ (p : Placing) (factors : List ℕ) (qs : List source.Phase) (placing : IsPlacingOf p names) (can : CanRunList (table_in names) (known_by_names names) p factors qs) (h : HoldsRest names p factors paths old now all (xs ++ x ∷ []) next qs) where
     abbrev Held : Made → Form → source.Phase → Type 0
-    Held m = IsHeldAs (table_in names) (known_in names) p m factors
+    Held m = IsHeldAs (table_in names) (known_by_names names) p m factors
 
     l : Last Anything xs x h.front
     l = last_of Anything xs x h.front h.kinds
@@ -176,7 +176,7 @@ module _ (names : Names) (paths : ℕ) (old now mid new : Made) (all xs : List K
 
     fix : Fixes names p factors now mid x form l.last
     fix = fixes p factors l.last placing l.one
-        (can_split (table_in names) (known_in names) p factors l.front (l.last ∷ h.back) (subst (λ f. CanRunList (table_in names) (known_in names) p factors f) is_now can)).1.0
+        (can_split (table_in names) (known_by_names names) p factors l.front (l.last ∷ h.back) (subst (λ f. CanRunList (table_in names) (known_by_names names) p factors f) is_now can)).1.0
 
     fixed_more : MoreMade now new
     fixed_more = made_then now mid new fix.more pushed
@@ -204,7 +204,7 @@ module _ (names : Names) (paths : ℕ) (old now mid new : Made) (all xs : List K
           let before = h.means leads are in
           let apart = split_last (Held now) xs x l.front l.last l.are (subst (λ f. AreOf (Held now) (xs ++ x ∷ []) f) l.is before.0) in
           let all_more = made_then old now new h.more fixed_more in (
-            are_weaker (Held now) (Held new) (λ f q e. held_as_still (table_in names) p now new fixed_more (known_in names) factors f q e) xs l.front apart.0,
+            are_weaker (Held now) (Held new) (λ f q e. held_as_still (table_in names) p now new fixed_more (known_by_names names) factors f q e) xs l.front apart.0,
             (
               held,
               (
@@ -214,8 +214,8 @@ module _ (names : Names) (paths : ℕ) (old now mid new : Made) (all xs : List K
                   (
                     still_earlier,
                     (
-                      phase_stays (table_in names) p mid new pushed factors (length mid.phases.items) (length mid.phases.items) form (core_phase (known_in names) l.last) (equal (length mid.phases.items)) (fix.means apart.1),
-                      phases_stay (table_in names) p now new fixed_more factors next (core_phases (known_in names) (source.of_list h.back)) before.1,
+                      phase_stays (table_in names) p mid new pushed factors (length mid.phases.items) (length mid.phases.items) form (core_phase (known_by_names names) l.last) (equal (length mid.phases.items)) (fix.means apart.1),
+                      phases_stay (table_in names) p now new fixed_more factors next (core_phases (known_by_names names) (source.of_list h.back)) before.1,
                     ),
                   ),
                 ),
@@ -235,7 +235,7 @@ hold_end names paths old new all first h p factors qs placing kinds can = record
   more = r.more;
   earlier = r.earlier;
   sound = λ memories there s others. (r.sound memories there s others).0;
-  means = λ leads are. subst (λ (l : List source.Phase). ArePhases (table_in names) p (course_made new) factors first (core_phases (known_in names) (source.of_list l))) (sym (r.is ∙ none r.front r.kinds)) (r.means leads are).1;
+  means = λ leads are. subst (λ (l : List source.Phase). ArePhases (table_in names) p (course_made new) factors first (core_phases (known_by_names names) (source.of_list l))) (sym (r.is ∙ none r.front r.kinds)) (r.means leads are).1;
 }
   where
     r : HoldsRest names p factors paths old new all [] first qs

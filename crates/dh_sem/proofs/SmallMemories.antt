@@ -8,9 +8,9 @@ use Rattle.dh_tree.specs.declared.tables.MemEntry.{MemEntry}
 use Rattle.dh_tree.specs.Tables.{Fits}
 use Rattle.dh_meaning.specs.Effects.{kind_in}
 use Rattle.dh_code.specs.declared.running.Write.{Write}
-use Rattle.dh_code.specs.Rows.{element_in}
+use Rattle.dh_code.specs.Rows.{memory_element}
 use Rattle.dh_code.specs.Scenes.{AreSmall}
-use Rattle.dh_code.specs.States.{IsSmallWrite, written_by}
+use Rattle.dh_code.specs.States.{IsSmallWrite, memories_written}
 
 -- an element of a list in which one was set is as before, or that one
 as_set : {A : Type 0} (xs : List A) (i j : ℕ) (v d : A) → (get_or (slice_set xs i v) j d ≡ get_or xs j d) ⊎ ((i ≡ j) × (get_or (slice_set xs i v) j d ≡ v))
@@ -37,7 +37,7 @@ module _ (table : List MemEntry) (memories : List (List ℕ)) (w : Write) (small
   value_put p (inl e) = subst (λ (n : ℕ). n < 2 ^ width_of (kind_in table w.memory)) (sym e) (small w.memory p)
   value_put p (inr e) = subst (λ (n : ℕ). n < 2 ^ width_of (kind_in table w.memory)) (sym e.1) fits
 
-  element_put : (m p : ℕ) → (slice_index_or put m [] ≡ slice_index_or memories m []) ⊎ ((w.memory ≡ m) × (slice_index_or put m [] ≡ values)) → element_in put m p < 2 ^ width_of (kind_in table m)
+  element_put : (m p : ℕ) → (slice_index_or put m [] ≡ slice_index_or memories m []) ⊎ ((w.memory ≡ m) × (slice_index_or put m [] ≡ values)) → memory_element put m p < 2 ^ width_of (kind_in table m)
   element_put m p (inl e) = subst (λ (l : List ℕ). slice_index l p < 2 ^ width_of (kind_in table m)) (sym e) (small m p)
   element_put m p (inr e) = subst (λ (l : List ℕ). slice_index l p < 2 ^ width_of (kind_in table m)) (sym e.1)
       (subst (λ (k : ℕ). slice_index values p < 2 ^ width_of (kind_in table k)) e.0 (value_put p (as_set (slice_index_or memories w.memory []) w.position p w.bits 0)))
@@ -45,7 +45,7 @@ module _ (table : List MemEntry) (memories : List (List ℕ)) (w : Write) (small
   small_put : AreSmall table put
   small_put m p = element_put m p (as_set memories w.memory m values [])
 
-pub small_written : (table : List MemEntry) (ws : List Write) (memories : List (List ℕ)) → AreSmall table memories → AllByRecursion (IsSmallWrite table) ws → AreSmall table (written_by ws memories)
+pub small_written : (table : List MemEntry) (ws : List Write) (memories : List (List ℕ)) → AreSmall table memories → AllByRecursion (IsSmallWrite table) ws → AreSmall table (memories_written ws memories)
 small_written table [] memories small fits = small
 small_written table (w ∷ ws) memories small fits = small_written table ws _ (small_put table memories w small fits.0) fits.1
 

@@ -11,7 +11,7 @@ use Rattle.dh_meaning.specs.Core.{CorePhase, CoreProgram}
 use Rattle.dh_meaning.specs.CoreOf.{core_of}
 use Rattle.dh_meaning.specs.Effects.{Begun, Block, Effect, Variables, block_run, stop_after, written}
 use Rattle.dh_meaning.specs.Paths.{Path, paths_in}
-use Rattle.dh_meaning.specs.Runs.{Next, Place, ended, at, RunState, Todo, begun_at, next_of, next_state, outcome_at, place_after, place_run, run_state, stands_at, state_after, step_effect, step_from}
+use Rattle.dh_meaning.specs.Runs.{RunNext, RunPlace, ended, at, RunState, RunTodo, begun_at, next_of, next_state, outcome_at, place_after, place_run, run_state, stands_at, state_after, step_effect, step_from}
 use Rattle.dh_code.specs.declared.codes.Code.{Code}
 use Rattle.dh_code.specs.declared.evaluating.Scene.{Scene}
 use Rattle.dh_code.specs.declared.evaluating.Stop.{Stop}
@@ -23,7 +23,7 @@ use Rattle.dh_code.specs.declared.spending.Bank.{Bank}
 use Rattle.dh_code.specs.Scenes.{AreSmall, begun_in, IsEarlier}
 use Rattle.dh_code.specs.Slots.{Holds, Placing}
 use Rattle.dh_code.specs.Spent.{AreUsedBy}
-use Rattle.dh_code.specs.States.{IsReady, written_by}
+use Rattle.dh_code.specs.States.{IsReadyState, memories_written}
 use Rattle.dh_code.proofs.PlainStops.{stop_plain, written_is}
 use Rattle.dh_sem.specs.declared.lanes.Lanes.{Lanes}
 use Rattle.dh_sem.specs.declared.phases.Frame.{Frame}
@@ -31,12 +31,12 @@ use Rattle.dh_sem.specs.declared.phases.Phase.{Phase}
 use Rattle.dh_sem.specs.declared.stepping.Course as code
 use Rattle.dh_sem.specs.Frames.{AreToCome, IsBlockOf, IsPlace, StandsFirst, StandsFor}
 use Rattle.dh_sem.specs.Phased.{Course, IsSoundFrame}
-use Rattle.dh_sem.specs.Runs.{IsSteady, Run, StandsAs, StandsAt, StepsOn, place_outcome}
+use Rattle.dh_sem.specs.Runs.{IsSteady, InterpreterState, StandsAs, StandsAt, StepsOn, place_outcome}
 use Rattle.dh_sem.specs.Steps.{Advanced, Advances, IsBack, block_effect, course_seen, stop_outcome}
 use Rattle.dh_sem.proofs.SmallMemories.{small_written}
 use Rattle.dh_sem.proofs.StepsDone.{unused_by}
 
-abbrev pub run_at : List MemEntry → Course → Outcome → (steps : ℕ) → (memories : List (List ℕ)) → (slots : List ℕ) → (place : Option ℕ) → List Frame → Run
+abbrev pub run_at : List MemEntry → Course → Outcome → (steps : ℕ) → (memories : List (List ℕ)) → (slots : List ℕ) → (place : Option ℕ) → List Frame → InterpreterState
 run_at table course outcome steps memories slots place frames =
     record { table = table; course = course; outcome = outcome; steps = steps; memories = memories; slots = slots; place = place; frames = frames }
 
@@ -50,7 +50,7 @@ IsAtBlock s = s.outcome ≡ Going → s.place ≡ ended → ⊥
 not_over : Ended ≡ Going → ⊥
 not_over e = cc
 
-placed : (x : Place) → x ≡ ended → outcome_at x ≡ Going → ⊥
+placed : (x : RunPlace) → x ≡ ended → outcome_at x ≡ Going → ⊥
 placed x e g = not_over (sym (ap outcome_at e) ∙ g)
 
 stop_keeps : (table : List MemEntry) (s : RunState) (e : Effect) (o : Option Outcome) → s.outcome ≡ Going → IsAtBlock s → IsAtBlock (state_after table s e o)
@@ -75,7 +75,7 @@ still table s (Faulted kind place) is h = ap (λ o. step_from table s o) is
 still table s (Stuck memory bank place) is h = ap (λ o. step_from table s o) is
 
 -- one step more of a program
-stands_next : (p : Program) (memories : List (List ℕ)) (n : ℕ) (old new : Run) → new.table ≡ old.table → StandsAt p memories n old → StandsAs (next_state old.table (run_state (core_of p) memories n)) new → StandsAt p memories (n + 1) new
+stands_next : (p : Program) (memories : List (List ℕ)) (n : ℕ) (old new : InterpreterState) → new.table ≡ old.table → StandsAt p memories n old → StandsAs (next_state old.table (run_state (core_of p) memories n)) new → StandsAt p memories (n + 1) new
 stands_next p memories n old new same h k = record {
   tabled = same ∙ h.tabled;
   stands = subst (λ (m : ℕ). StandsAs (run_state (core_of p) memories m) new) (next n) (subst (λ (t : List MemEntry). StandsAs (next_state t (run_state (core_of p) memories n)) new) h.tabled k);
@@ -85,19 +85,19 @@ stands_next p memories n old new same h k = record {
     next n = omega arith
 
 -- no step is done
-pub stands_still : (r : Run) (o : Outcome) → o ≡ r.outcome → (o ≡ Going → ⊥) → StepsOn r (Ok o) r
+pub stands_still : (r : InterpreterState) (o : Outcome) → o ≡ r.outcome → (o ≡ Going → ⊥) → StepsOn r (Ok o) r
 stands_still r o same over = (
   same,
   λ p memories n h. stands_next p memories n r r refl h
       (subst (λ (s : RunState). StandsAs s r) (sym (still r.table (run_state (core_of p) memories n) o (sym (same ∙ h.stands.outcome)) over)) h.stands),
 )
 
-nowhere : (table : List MemEntry) (p : Placing) (c : Course) (fs : List Frame) (x : Place) → IsPlace table p c None fs x → x ≡ ended
+nowhere : (table : List MemEntry) (p : Placing) (c : Course) (fs : List Frame) (x : RunPlace) → IsPlace table p c None fs x → x ≡ ended
 nowhere table p c fs ended h = refl
 nowhere table p c fs (at paths b k) h = absurd h
 
 -- there is a place where a run goes on
-pub stands_nowhere : (r : Run) (o : Outcome) (place : Option ℕ) → o ≡ r.outcome → place ≡ r.place → o ≡ Going → place ≡ None → StepsOn r (Ok o) r
+pub stands_nowhere : (r : InterpreterState) (o : Outcome) (place : Option ℕ) → o ≡ r.outcome → place ≡ r.place → o ≡ Going → place ≡ None → StepsOn r (Ok o) r
 stands_nowhere r o place same placed going none = (
   same,
   λ p memories n h. absurd (at_block (core_of p) memories n (sym (same ∙ h.stands.outcome) ∙ going)
@@ -105,14 +105,14 @@ stands_nowhere r o place same placed going none = (
       (subst (λ (o : Option ℕ). IsPlace r.table h.stands.placing r.course o (reverse r.frames) (run_state (core_of p) memories n).place) (sym placed ∙ none) h.stands.place))),
 )
 
-outcome_placed : (table : List MemEntry) (p : Placing) (c : Course) (at' : Option ℕ) (fs : List Frame) (x : Place) → IsPlace table p c at' fs x → place_outcome at' ≡ outcome_at x
+outcome_placed : (table : List MemEntry) (p : Placing) (c : Course) (at' : Option ℕ) (fs : List Frame) (x : RunPlace) → IsPlace table p c at' fs x → place_outcome at' ≡ outcome_at x
 outcome_placed table p c None fs ended h = refl
 outcome_placed table p c None fs (at paths b k) h = absurd h
 outcome_placed table p c (Some number) fs ended h = absurd h
 outcome_placed table p c (Some number) fs (at paths b k) h = refl
 
 -- how a run stands at a place
-pub stands_placed : (table : List MemEntry) (c : Course) (steps : ℕ) (memories : List (List ℕ)) (slots : List ℕ) (at' : Option ℕ) (frames : List Frame) (outcome : Outcome) (p : Placing) (n : Next)
+pub stands_placed : (table : List MemEntry) (c : Course) (steps : ℕ) (memories : List (List ℕ)) (slots : List ℕ) (at' : Option ℕ) (frames : List Frame) (outcome : Outcome) (p : Placing) (n : RunNext)
     → outcome ≡ place_outcome at' → Holds p slots n.variables → IsPlace table p c at' (reverse frames) n.place
     → StandsAs (stands_at steps memories n) (record { table = table; course = c; outcome = outcome; steps = steps; memories = memories; slots = slots; place = at'; frames = frames })
 stands_placed table c steps memories slots at' frames outcome p n is holds there = record {
@@ -127,7 +127,7 @@ stands_placed table c steps memories slots at' frames outcome p n is holds there
 -- A run that goes on, at the block of a phase.
 module _ (s : Scene) (cc : code.Course) (old : State) (number : ℕ) (held frames : List Frame) (course : Course) (steps : ℕ) (memories : List (List ℕ)) (outcome : Outcome) (place : Option ℕ)
     (coursed : course_seen s cc ≡ course) (listed : contents_of s.memories.now ≡ memories) (copied : held ≡ frames) (going : outcome ≡ Going) (there : place ≡ Some number) where
-  abbrev before : Run
+  abbrev before : InterpreterState
   before = record { table = s.entries.now; course = course; outcome = outcome; steps = steps; memories = memories; slots = old.variables.items; place = place; frames = frames }
 
   -- what its block does, and where it then stands
@@ -135,7 +135,7 @@ module _ (s : Scene) (cc : code.Course) (old : State) (number : ℕ) (held frame
     pub factors : List ℕ
     pub q : CorePhase
     pub b : Block
-    pub k : Todo
+    pub k : RunTodo
     pub stands : StandsFor s.entries.now p (course_seen s cc) factors number q
     pub block : IsBlockOf q b
     pub come : AreToCome s.entries.now p (course_seen s cc) (reverse held) k
@@ -149,7 +149,7 @@ module _ (s : Scene) (cc : code.Course) (old : State) (number : ℕ) (held frame
   block_at : (t : RunState) (h : StandsAs t before) → Block_at t h.placing
   block_at t h = by t.place refl (subst (λ (o : Option ℕ). IsPlace s.entries.now h.placing course o (reverse frames) t.place) there h.place)
     where
-      by : (x : Place) → t.place ≡ x → IsPlace s.entries.now h.placing course (Some number) (reverse frames) x → Block_at t h.placing
+      by : (x : RunPlace) → t.place ≡ x → IsPlace s.entries.now h.placing course (Some number) (reverse frames) x → Block_at t h.placing
       by ended is there = absurd there
       by (at paths b k) is (factors, (q, (ps, (stands, (block, (first, come)))))) = record {
         factors = factors;
@@ -169,27 +169,27 @@ module _ (s : Scene) (cc : code.Course) (old : State) (number : ℕ) (held frame
 
   -- the step is done
   module _ (at' : Option ℕ) (new : State) (gs left : List Frame) (memories' : List (List ℕ)) (outcome' : Outcome) (advances : Advances s cc old (Ok at') new number held gs)
-      (made : memories' ≡ written_by new.writes.items memories) (leads : outcome' ≡ place_outcome at') (moved : left ≡ gs) where
-    abbrev done : Run
+      (made : memories' ≡ memories_written new.writes.items memories) (leads : outcome' ≡ place_outcome at') (moved : left ≡ gs) where
+    abbrev done : InterpreterState
     done = record { table = s.entries.now; course = course; outcome = outcome'; steps = steps + 1; memories = memories'; slots = new.variables.items; place = at'; frames = left }
 
     pub done_stands : (t : RunState) → StandsAs t before → StandsAs (next_state s.entries.now t) done
     done_stands t h =
         let a = block_at t h in
         let e : Effect = block_effect s a.factors a.b t.variables in
-        let n : Next = next_of (begun_in s) a.k e.variables in
+        let n : RunNext = next_of (begun_in s) a.k e.variables in
         let so : Advanced h.placing s (course_seen s cc) e n new at' gs = advances h.placing t.variables a.factors a.q a.b a.k h.variables a.stands a.block a.come a.first in
         let clear : stop_after s.entries.now [] (step_effect s.entries.now t).events ≡ None = ap (λ (x : Effect). stop_after s.entries.now [] x.events) a.effect ∙ (sym (stop_plain s.entries.now [] e.events) ∙ so.clear) in
         let next_is : next_state s.entries.now t ≡ stands_at (suc t.steps) (written e.events t.memories) n =
         ap (λ o. step_from s.entries.now t o) (sym h.outcome ∙ going)
         ∙ (ap (λ o. state_after s.entries.now t (step_effect s.entries.now t) o) clear
         ∙ (ap (λ (x : Effect). state_after s.entries.now t x None) a.effect
-        ∙ ap (λ (x : Next). stands_at (suc t.steps) (written e.events t.memories) x) (a.after e.variables))) in
+        ∙ ap (λ (x : RunNext). stands_at (suc t.steps) (written e.events t.memories) x) (a.after e.variables))) in
         let holds : StandsAs (stands_at (steps + 1) memories' n) done =
         stands_placed s.entries.now course (steps + 1) memories' new.variables.items at' left outcome' h.placing n leads so.arrives.variables
         (subst (λ (fs : List Frame). IsPlace s.entries.now h.placing course at' (reverse fs) n.place) (sym moved) (subst (λ (c : Course). IsPlace s.entries.now h.placing c at' (reverse gs) n.place) coursed so.arrives.place)) in
         let counted : steps + 1 ≡ suc t.steps = add-one steps ∙ ap suc h.steps in
-        let same : memories' ≡ written e.events t.memories = made ∙ (ap (λ ws. written_by ws memories) so.writes ∙ (written_is e.events memories ∙ ap (λ l. written e.events l) h.memories)) in
+        let same : memories' ≡ written e.events t.memories = made ∙ (ap (λ ws. memories_written ws memories) so.writes ∙ (written_is e.events memories ∙ ap (λ l. written e.events l) h.memories)) in
         subst (λ (x : RunState). StandsAs x done) (sym next_is)
         (subst (λ (m : ℕ). StandsAs (stands_at m (written e.events t.memories) n) done) counted
         (subst (λ (l : List (List ℕ)). StandsAs (stands_at (steps + 1) l n) done) same holds))
@@ -199,7 +199,7 @@ module _ (s : Scene) (cc : code.Course) (old : State) (number : ℕ) (held frame
 
   -- the step stops
   module _ (o : Outcome) (new : State) (gs : List Frame) (advances : Advances s cc old (Err (stop.At o)) new number held gs) (back : new.variables.items ≡ old.variables.items) where
-    abbrev stopped : Run
+    abbrev stopped : InterpreterState
     stopped = record { table = s.entries.now; course = course; outcome = o; steps = steps; memories = memories; slots = new.variables.items; place = place; frames = frames }
 
     pub stop_stands : (t : RunState) → StandsAs t before → StandsAs (next_state s.entries.now t) stopped
@@ -228,19 +228,19 @@ pub coursed_as : (made : Code) (phases kept : List Phase) (lanes held : List Lan
 coursed_as made phases kept lanes held e f = ap (λ l. course_at made l lanes) e ∙ ap (λ l. course_at made kept l) f
 
 -- The step, as the interpreter sees it.
-module _ {s : Scene} {new : State} (ready : IsReady s new) (cc : code.Course) (old : State) (number : ℕ) (held frames gs : List Frame) (course : Course) (steps : ℕ) (memories : List (List ℕ)) (outcome : Outcome) (place : Option ℕ)
-    (coursed : course_seen s cc ≡ course) (listed : contents_of s.memories.now ≡ memories) (copied : held ≡ frames) (going : outcome ≡ Going) (there : place ≡ Some number) (now : Run)
+module _ {s : Scene} {new : State} (ready : IsReadyState s new) (cc : code.Course) (old : State) (number : ℕ) (held frames gs : List Frame) (course : Course) (steps : ℕ) (memories : List (List ℕ)) (outcome : Outcome) (place : Option ℕ)
+    (coursed : course_seen s cc ≡ course) (listed : contents_of s.memories.now ≡ memories) (copied : held ≡ frames) (going : outcome ≡ Going) (there : place ≡ Some number) (now : InterpreterState)
     (viewed : run_at s.entries.now course outcome steps memories old.variables.items place frames ≡ now) where
-  pub done_seen : (at' : Option ℕ) (left : List Frame) (memories' : List (List ℕ)) (outcome' : Outcome) → Advances s cc old (Ok at') new number held gs → memories' ≡ written_by new.writes.items memories → outcome' ≡ place_outcome at' → left ≡ gs
+  pub done_seen : (at' : Option ℕ) (left : List Frame) (memories' : List (List ℕ)) (outcome' : Outcome) → Advances s cc old (Ok at') new number held gs → memories' ≡ memories_written new.writes.items memories → outcome' ≡ place_outcome at' → left ≡ gs
       → StepsOn now (Ok outcome') (run_at s.entries.now course outcome' (steps + 1) memories' new.variables.items at' left)
   done_seen at' left memories' outcome' advances made leads moved =
-      subst (λ (r : Run). StepsOn r (Ok outcome') (run_at s.entries.now course outcome' (steps + 1) memories' new.variables.items at' left)) viewed
+      subst (λ (r : InterpreterState). StepsOn r (Ok outcome') (run_at s.entries.now course outcome' (steps + 1) memories' new.variables.items at' left)) viewed
       (done_steps s cc old number held frames course steps memories outcome place coursed listed copied going there at' new gs left memories' outcome' advances made leads moved)
 
   pub stop_seen : (x : Stop) (o : Outcome) → x ≡ stop.At o → Advances s cc old (Err x) new number held gs → IsBack old new
       → StepsOn now (Ok o) (run_at s.entries.now course o steps memories new.variables.items place frames)
   stop_seen x o is advances back =
-      subst (λ (r : Run). StepsOn r (Ok o) (run_at s.entries.now course o steps memories new.variables.items place frames)) viewed
+      subst (λ (r : InterpreterState). StepsOn r (Ok o) (run_at s.entries.now course o steps memories new.variables.items place frames)) viewed
       (stop_steps s cc old number held frames course steps memories outcome place coursed listed copied going there o new gs (subst (λ (x : Stop). Advances s cc old (Err x) new number held gs) is advances) back.variables)
 
 pub stop_is : (x : Stop) (o : Outcome) → stop_outcome x ≡ Some o → x ≡ stop.At o
@@ -254,12 +254,12 @@ stop_is stop.NoMemory o e = absurd (never e)
     never e = absurd cc
 
 -- A run that can go on can still do so.
-module _ {s : Scene} {new : State} (ready : IsReady s new) (course : Course) (coded : s.code.now ≡ course.code) (o o' : Outcome) (steps : ℕ) (memories : List (List ℕ)) (slots : List ℕ) (place : Option ℕ) (frames : List Frame)
+module _ {s : Scene} {new : State} (ready : IsReadyState s new) (course : Course) (coded : s.code.now ≡ course.code) (o o' : Outcome) (steps : ℕ) (memories : List (List ℕ)) (slots : List ℕ) (place : Option ℕ) (frames : List Frame)
     (given : List ℕ) (banks : List Bank) (firsts : List ℕ) (steady : IsSteady (run_at s.entries.now course o steps memories slots place frames) given banks firsts) where
   room_now : length course.code.operations ≤ length new.given.items
   room_now = subst (λ (c : Code). length c.operations ≤ length new.given.items) coded ready.room
 
-  pub steady_next : (phases : List Phase) (at' : Option ℕ) (gs left : List Frame) (memories' : List (List ℕ)) → phases ≡ course.phases → memories' ≡ written_by new.writes.items memories → left ≡ gs
+  pub steady_next : (phases : List Phase) (at' : Option ℕ) (gs left : List Frame) (memories' : List (List ℕ)) → phases ≡ course.phases → memories' ≡ memories_written new.writes.items memories → left ≡ gs
       → AllByRecursion (IsSoundFrame (length phases)) gs → IsEarlier (length phases) at' → s.step ≡ steps + 1 → IsSteady (run_at s.entries.now course o' (steps + 1) memories' new.variables.items at' left) new.given.items new.banks.items firsts
   steady_next phases at' gs left memories' same made moved sound earlier counted = record {
     entries = steady.entries;

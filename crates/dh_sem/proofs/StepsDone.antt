@@ -9,7 +9,7 @@ use Rattle.dh_tree.specs.Elements.{ports_at}
 use Rattle.dh_meaning.specs.Core.{CoreTerm, CorePhase, straightly, turning, looping, choosing}
 use Rattle.dh_meaning.specs.Effects.{Begun, Block, Effect, Variables, at_each, block_run, holds_at, spent, tested_at}
 use Rattle.dh_meaning.specs.Paths.{Path, paths_in}
-use Rattle.dh_meaning.specs.Runs.{Todo, over, phases_then, turn_then, test_then, again_then, pick_then, first_path, next_of}
+use Rattle.dh_meaning.specs.Runs.{RunTodo, over, phases_then, turn_then, test_then, again_then, pick_then, first_path, next_of}
 use Rattle.dh_code.specs.declared.evaluating.Scene.{Scene}
 use Rattle.dh_code.specs.declared.evaluating.Stop.{Stop}
 use Rattle.dh_code.specs.declared.evaluating.Stop.TheVariants as stop
@@ -20,7 +20,7 @@ use Rattle.dh_code.specs.Banks.{first_bank}
 use Rattle.dh_code.specs.Scenes.{begun_in}
 use Rattle.dh_code.specs.Slots.{Holds, Placing}
 use Rattle.dh_code.specs.Spent.{AreUsedBy, HaveSpent, has_row}
-use Rattle.dh_code.specs.States.{Ends, IsReady, IsSmallWrite, Keeps, KeepsBack}
+use Rattle.dh_code.specs.States.{Ends, IsReadyState, IsSmallWrite, Keeps, KeepsBack}
 use Rattle.dh_code.proofs.Ranges.{items_same}
 use Rattle.dh_sem.specs.declared.phases.Frame.{Frame}
 use Rattle.dh_sem.specs.declared.stepping.Course as code
@@ -32,7 +32,7 @@ tests_stay : (b : Begun) (t : CoreTerm) (paths : List Path) (e : Effect) → (at
 tests_stay b t [] e = refl
 tests_stay b t (p ∷ ps) e = tests_stay b t ps (tested_at b t p e)
 
-test_first : (b : Begun) (v : Variables) (test : CoreTerm) (paths : List Path) (k : Todo) (holds : Bool) → IsTestFirst test paths k → holds_at b v test (first_path paths) ≡ holds → HoldsFirst b v k holds
+test_first : (b : Begun) (v : Variables) (test : CoreTerm) (paths : List Path) (k : RunTodo) (holds : Bool) → IsTestFirst test paths k → holds_at b v test (first_path paths) ≡ holds → HoldsFirst b v k holds
 test_first b v test paths over holds first h = absurd first
 test_first b v test paths (phases_then paths' qs k) holds first h = absurd first
 test_first b v test paths (turn_then paths' loop t body k) holds first h = absurd first
@@ -41,7 +41,7 @@ test_first b v test paths (again_then paths' test' body k) holds first h = absur
 test_first b v test paths (pick_then paths' test' chosen other k) holds first h = ap (λ t. holds_at b v t (first_path paths')) first.1 ∙ (ap (λ l. holds_at b v test (first_path l)) first.0 ∙ h)
 
 -- the test of a phase, where its block was done
-pub holds_first : (b : Begun) (q : CorePhase) (block : Block) (paths : List Path) (k : Todo) (e : Effect) (holds : Bool) → IsBlockOf q block → StandsFirst q paths k → HoldsSo b paths e.variables q holds → HoldsFirst b (block_run b paths block e).variables k holds
+pub holds_first : (b : Begun) (q : CorePhase) (block : Block) (paths : List Path) (k : RunTodo) (e : Effect) (holds : Bool) → IsBlockOf q block → StandsFirst q paths k → HoldsSo b paths e.variables q holds → HoldsFirst b (block_run b paths block e).variables k holds
 holds_first b (straightly cs) block paths k e holds is first so = settled_holds b (block_run b paths block e).variables k holds first
 holds_first b (turning loop body) block paths k e holds is first so = absurd is
 holds_first b (looping test body) block paths k e holds is first so =
@@ -53,7 +53,7 @@ holds_first b (choosing test chosen other) block paths k e holds is first so =
 
 -- States.
 
-pub ready_on : (s : Scene) (a b : State) → IsReady s a → OnlyVariables a b → IsReady s b
+pub ready_on : (s : Scene) (a b : State) → IsReadyState s a → OnlyVariables a b → IsReadyState s b
 ready_on s a b r o = record {
   long = ap (λ l. length l) (items_same _ _ o.banks) ∙ r.long;
   room = subst (λ (l : List ℕ). length s.code.now.operations ≤ length l) (sym (items_same _ _ o.given)) r.room;

@@ -4,7 +4,7 @@ use Rattle.dh_tree.specs.declared.tables.MemEntry.{MemEntry}
 use Rattle.dh_meaning.specs.Paths.{Path, paths_in}
 use Rattle.dh_meaning.specs.Core.{CoreTerm, CorePhase, straightly, turning, looping, choosing}
 use Rattle.dh_meaning.specs.Effects.{Block, commands, tests}
-use Rattle.dh_meaning.specs.Runs.{Todo, over, phases_then, turn_then, test_then, again_then, pick_then, Place, ended, at}
+use Rattle.dh_meaning.specs.Runs.{RunTodo, over, phases_then, turn_then, test_then, again_then, pick_then, RunPlace, ended, at}
 use Rattle.dh_code.specs.Slots.{Placing}
 use Rattle.dh_sem.specs.declared.phases.Frame.{Frame}
 use Rattle.dh_sem.specs.declared.phases.Frame.TheVariants.{List as Rest, Turn, Test, Again, Pick}
@@ -18,7 +18,7 @@ StandsFor table p c factors number q =
     (phase : Phase) × ((slice_get c.phases number ≡ Some phase) × (LeadsInto c.lanes phase.paths factors × IsPhase table p c factors number phase.form q))
 
 -- a frame is what comes first, at the paths inside loops of some factors
-abbrev pub IsFirst : List MemEntry → Placing → Course → Frame → (k behind : Todo) → Type 0
+abbrev pub IsFirst : List MemEntry → Placing → Course → Frame → (k behind : RunTodo) → Type 0
 IsFirst table p c (Rest list) (phases_then paths qs k) behind = (factors : List ℕ) × ((paths ≡ paths_in factors) × ((k ≡ behind) × ArePhases table p c factors list qs))
 IsFirst table p c (Turn number turn) (turn_then paths loop t body k) behind =
     (factors : List ℕ) × ((paths ≡ paths_in factors) × ((k ≡ behind) × ((turn ≡ t) × ((t < loop.count) × StandsFor table p c factors number (turning loop body)))))
@@ -29,7 +29,7 @@ IsFirst table p c (Pick number) (pick_then paths test chosen other k) behind =
 IsFirst table p c f k behind = ⊥
 
 -- what begins with no test that was just done
-abbrev pub IsSettled : Todo → Type 0
+abbrev pub IsSettled : RunTodo → Type 0
 IsSettled over = Unit {0}
 IsSettled (phases_then paths qs k) = Unit {0}
 IsSettled (turn_then paths loop t body k) = Unit {0}
@@ -38,9 +38,9 @@ IsSettled (again_then paths test body k) = Unit {0}
 IsSettled (pick_then paths test chosen other k) = ⊥
 
 -- frames, the first one in front here, are what is still to come
-abbrev pub AreToCome : List MemEntry → Placing → Course → List Frame → Todo → Type 0
+abbrev pub AreToCome : List MemEntry → Placing → Course → List Frame → RunTodo → Type 0
 AreToCome table p c [] k = k ≡ over
-AreToCome table p c (f ∷ fs) k = (behind : Todo) × (IsFirst table p c f k behind × (IsSettled behind × AreToCome table p c fs behind))
+AreToCome table p c (f ∷ fs) k = (behind : RunTodo) × (IsFirst table p c f k behind × (IsSettled behind × AreToCome table p c fs behind))
 
 -- the block of a phase: its commands, or its test
 abbrev pub IsBlockOf : CorePhase → Block → Type 0
@@ -50,7 +50,7 @@ IsBlockOf (looping test body) b = b ≡ tests test
 IsBlockOf (choosing test chosen other) b = b ≡ tests test
 
 -- a test that was just done comes first
-abbrev pub IsTestFirst : CoreTerm → (paths : List Path) → Todo → Type 0
+abbrev pub IsTestFirst : CoreTerm → (paths : List Path) → RunTodo → Type 0
 IsTestFirst test paths over = ⊥
 IsTestFirst test paths (phases_then paths' qs k) = ⊥
 IsTestFirst test paths (turn_then paths' loop t body k) = ⊥
@@ -59,14 +59,14 @@ IsTestFirst test paths (again_then paths' test' body k) = ⊥
 IsTestFirst test paths (pick_then paths' test' chosen other k) = (paths' ≡ paths) × (test' ≡ test)
 
 -- what comes first behind the block of a phase
-abbrev pub StandsFirst : CorePhase → (paths : List Path) → Todo → Type 0
+abbrev pub StandsFirst : CorePhase → (paths : List Path) → RunTodo → Type 0
 StandsFirst (straightly cs) paths k = IsSettled k
 StandsFirst (turning loop body) paths k = ⊥
 StandsFirst (looping test body) paths k = IsTestFirst test paths k
 StandsFirst (choosing test chosen other) paths k = IsTestFirst test paths k
 
 -- where a run stands: at the block of a phase, or at its end
-abbrev pub IsPlace : List MemEntry → Placing → Course → Option ℕ → (frames : List Frame) → Place → Type 0
+abbrev pub IsPlace : List MemEntry → Placing → Course → Option ℕ → (frames : List Frame) → RunPlace → Type 0
 IsPlace table p c None frames ended = Unit {0}
 IsPlace table p c None frames (at paths b k) = ⊥
 IsPlace table p c (Some number) frames ended = ⊥

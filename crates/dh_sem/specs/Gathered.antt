@@ -10,7 +10,7 @@ use Rattle.dh_tree.specs.declared.trees.expressions.Expr.{Expr}
 use Rattle.dh_tree.specs.declared.trees.expressions.Ref.{Ref}
 use Rattle.dh_tree.specs.Memories.{table_of}
 use Rattle.dh_tree.specs.PlainTrees.{Action, Program}
-use Rattle.dh_tree.specs.Seen.{action_seen, groups, part_seen, plan_seen}
+use Rattle.dh_tree.specs.Seen.{action_seen, groups, part_seen, view_plan}
 use Rattle.dh_tree.specs.Shapes.{IsMemory}
 use Rattle.dh_tree.specs.ViewOffsets.{moves}
 use Rattle.dh_meaning.specs.CoreOf.{Known, core_of, core_phase, core_phases, entity_number}
@@ -19,9 +19,9 @@ use Rattle.dh_meaning.specs.Phases.{groups_phases, phases, Located, straight, tu
 use Rattle.dh_meaning.specs.Sites.{Around, nothing_around}
 use Rattle.dh_code.specs.declared.codes.Flat.{Flat}
 use Rattle.dh_code.specs.declared.flattening.Names.{Names}
-use Rattle.dh_code.specs.Coded.{AreSlotsOf, Extends}
+use Rattle.dh_code.specs.Coded.{AreSlotsOf, ExtendsCode}
 use Rattle.dh_code.specs.Declarations.{placing_of}
-use Rattle.dh_code.specs.Flattening.{HoldsFlat, IsPlacingOf, known_in, table_in}
+use Rattle.dh_code.specs.Flattening.{HoldsFlat, IsPlacingOf, known_by_names, table_in}
 use Rattle.dh_code.specs.Scenes.{IsSoundCode, IsEarlier}
 use Rattle.dh_code.specs.Slots.{Placing}
 use Rattle.dh_sem.specs.declared.gathering.Loose.{Loose}
@@ -93,7 +93,7 @@ at_once (p ∷ q ∷ rest) = false
 
 -- the phase of a view of this form, where it moves
 abbrev pub KeepsView : ViewForm → Command → (forms : Vec Loose Global) → Type 0
-KeepsView form c forms = all_kept forms.items ≡ view_kept (moves (plan_seen form)) (action_seen c)
+KeepsView form c forms = all_kept forms.items ≡ view_kept (moves (view_plan form)) (action_seen c)
 
 -- the open phase is put behind those that are done, where it has a command, and has none then
 abbrev pub EndsPhase : (done : Vec Loose Global) → (current : Vec (Bor Command) Global) → (done_after : Vec Loose Global) → (current_after : Vec (Bor Command) Global) → Type 0
@@ -143,7 +143,7 @@ course_made m = record { code = m.code; phases = m.phases.items; lanes = m.lanes
 
 -- more behind what was made
 pub record MoreMade (old new : Made) : Type 0 where
-  pub code : Extends old.code new.code
+  pub code : ExtendsCode old.code new.code
   pub phases : List Phase
   pub are : new.phases.items ≡ old.phases.items ++ phases
   pub lanes : MoreLanes old.lanes.items new.lanes.items
@@ -169,12 +169,12 @@ pub record CanBeHeld (m : Made) (form : Form) : Type 0 where
 pub record Gathers (names : Names) (p : Placing) (factors : List ℕ) (paths : ℕ) (old new : Made) (forms : List Kept) (qs : List source.Phase) : Type 0 where
   pub more : MoreMade old new
   pub sound : AllByRecursion IsMemory (table_in names) → paths < length old.lanes.items → IsSoundMade (table_in names) old → IsSoundMade (table_in names) new × AllOthers (CanBeHeld new) forms
-  pub means : LeadsInto old.lanes.items paths factors → AreOf (IsHeldAs (table_in names) (known_in names) p new factors) forms qs
+  pub means : LeadsInto old.lanes.items paths factors → AreOf (IsHeldAs (table_in names) (known_by_names names) p new factors) forms qs
 
 abbrev pub GathersAll : Names → (paths : ℕ) → (old new : Made) → (forms : List Kept) → List source.Phase → Type 0
 GathersAll names paths old new forms qs =
     AreOf Anything forms qs
-    × ((p : Placing) (factors : List ℕ) → IsPlacingOf p names → CanRunList (table_in names) (known_in names) p factors qs → Gathers names p factors paths old new forms qs)
+    × ((p : Placing) (factors : List ℕ) → IsPlacingOf p names → CanRunList (table_in names) (known_by_names names) p factors qs → Gathers names p factors paths old new forms qs)
 
 -- the phases of a command, wherever it stands
 abbrev pub GathersOf : Names → (paths : ℕ) → (old new : Made) → (forms : List Kept) → ((r : Around) → (n : ℕ) → List source.Phase) → Type 0
@@ -188,23 +188,23 @@ IsAlone c = (names : Names) (paths : ℕ) (m : Made) → GathersOf names paths m
 pub record Fixes (names : Names) (p : Placing) (factors : List ℕ) (old new : Made) (kept : Kept) (form : Form) (q : source.Phase) : Type 0 where
   pub more : MoreMade old new
   pub sound : AllByRecursion IsMemory (table_in names) → IsSoundMade (table_in names) old → AllOthers (CanBeHeld old) (kept ∷ []) → IsSoundMade (table_in names) new × CanBeHeld new form
-  pub means : IsOf (IsHeldAs (table_in names) (known_in names) p old factors) kept q → IsHeldAs (table_in names) (known_in names) p new factors form q
+  pub means : IsOf (IsHeldAs (table_in names) (known_by_names names) p old factors) kept q → IsHeldAs (table_in names) (known_by_names names) p new factors form q
 
 abbrev pub FixesForm : Names → (old new : Made) → Kept → Form → Type 0
 FixesForm names old new kept form =
-    (p : Placing) (factors : List ℕ) (q : source.Phase) → IsPlacingOf p names → IsOf Anything kept q → CanRun (table_in names) p factors (core_phase (known_in names) q) → Fixes names p factors old new kept form q
+    (p : Placing) (factors : List ℕ) (q : source.Phase) → IsPlacingOf p names → IsOf Anything kept q → CanRun (table_in names) p factors (core_phase (known_by_names names) q) → Fixes names p factors old new kept form q
 
 -- a list of phases is held
 pub record HoldsPhases (names : Names) (p : Placing) (factors : List ℕ) (old new : Made) (forms : List Kept) (qs : List source.Phase) (first : Option ℕ) (paths : ℕ) : Type 0 where
   pub more : MoreMade old new
   pub earlier : IsEarlier (length new.phases.items) first
   pub sound : AllByRecursion IsMemory (table_in names) → paths < length old.lanes.items → IsSoundMade (table_in names) old → AllOthers (CanBeHeld old) forms → IsSoundMade (table_in names) new
-  pub means : LeadsInto old.lanes.items paths factors → AreOf (IsHeldAs (table_in names) (known_in names) p old factors) forms qs
-      → ArePhases (table_in names) p (course_made new) factors first (core_phases (known_in names) (source.of_list qs))
+  pub means : LeadsInto old.lanes.items paths factors → AreOf (IsHeldAs (table_in names) (known_by_names names) p old factors) forms qs
+      → ArePhases (table_in names) p (course_made new) factors first (core_phases (known_by_names names) (source.of_list qs))
 
 abbrev pub HoldsList : Names → (paths : ℕ) → (old new : Made) → (forms : List Kept) → (first : Option ℕ) → Type 0
 HoldsList names paths old new forms first =
-    (p : Placing) (factors : List ℕ) (qs : List source.Phase) → IsPlacingOf p names → AreOf Anything forms qs → CanRunList (table_in names) (known_in names) p factors qs → HoldsPhases names p factors old new forms qs first paths
+    (p : Placing) (factors : List ℕ) (qs : List source.Phase) → IsPlacingOf p names → AreOf Anything forms qs → CanRunList (table_in names) (known_by_names names) p factors qs → HoldsPhases names p factors old new forms qs first paths
 
 -- a list that has a phase begins at one
 abbrev pub BeginsIf : List Kept → (first : Option ℕ) → Type 0
@@ -268,9 +268,9 @@ GathersGroups names paths old new forms parts = GathersOf names paths old new fo
 -- the phases of a program's body, outside all loops
 abbrev pub HoldsAll : Names → (old new : Made) → Command → (first : Option ℕ) → Type 0
 HoldsAll names old new body first =
-    (p : Placing) → IsPlacingOf p names → CanRunList (table_in names) (known_in names) p [] (phases nothing_around 0 (action_seen body)) → AllByRecursion IsMemory (table_in names) → LeadsInto old.lanes.items 0 [] → IsSoundMade (table_in names) old
+    (p : Placing) → IsPlacingOf p names → CanRunList (table_in names) (known_by_names names) p [] (phases nothing_around 0 (action_seen body)) → AllByRecursion IsMemory (table_in names) → LeadsInto old.lanes.items 0 [] → IsSoundMade (table_in names) old
     → IsSoundMade (table_in names) new
-    × (IsEarlier (length new.phases.items) first × ArePhases (table_in names) p (course_made new) [] first (core_phases (known_in names) (source.of_list (phases nothing_around 0 (action_seen body)))))
+    × (IsEarlier (length new.phases.items) first × ArePhases (table_in names) p (course_made new) [] first (core_phases (known_by_names names) (source.of_list (phases nothing_around 0 (action_seen body)))))
 
 -- what is made of a program before its first step stands as its phases do
 abbrev pub HoldsProgram : Program → Made → (first : Option ℕ) → Type 0

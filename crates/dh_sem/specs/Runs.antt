@@ -21,7 +21,7 @@ use Rattle.dh_sem.specs.Phased.{Course, IsSoundCourse, IsSoundFrame}
 
 -- a program in a run: the outcome, the steps done, the memories, the slots of the variables, the phase of the next
 -- block, and the frames of what is still to come behind it
-pub record Run : Type 0 where
+pub record InterpreterState : Type 0 where
   pub table : List MemEntry
   pub course : Course
   pub outcome : Outcome
@@ -33,7 +33,7 @@ pub record Run : Type 0 where
 
 -- The run stands so in the checked semantics: outcome, steps and memories are the same, and so is the place where it
 -- goes on; each slot holds the value of its variable's copy.
-pub record StandsAs (s : RunState) (r : Run) : Type 0 where
+pub record StandsAs (s : RunState) (r : InterpreterState) : Type 0 where
   pub outcome : r.outcome ≡ s.outcome
   pub steps : r.steps ≡ s.steps
   pub memories : r.memories ≡ s.memories
@@ -47,18 +47,18 @@ place_outcome None = Ended
 place_outcome (Some number) = Going
 
 -- the run stands as that of a program from these memories after n logical steps
-pub record StandsAt (p : Program) (memories : List (List ℕ)) (n : ℕ) (r : Run) : Type 0 where
+pub record StandsAt (p : Program) (memories : List (List ℕ)) (n : ℕ) (r : InterpreterState) : Type 0 where
   pub tabled : r.table ≡ (core_of p).table
   pub stands : StandsAs (run_state (core_of p) memories n) r
 
 -- a step leads to where the run stands after one step more, and tells the outcome there; memory is refused
 -- to a run alone that goes on, and then it is as before
-abbrev pub StepsOn : Run → Result Outcome NoMemory → Run → Type 0
+abbrev pub StepsOn : InterpreterState → Result Outcome NoMemory → InterpreterState → Type 0
 StepsOn old (Ok o) new = (o ≡ new.outcome) × ((p : Program) (memories : List (List ℕ)) (n : ℕ) → StandsAt p memories n old → StandsAt p memories (n + 1) new)
 StepsOn old (Err e) new = (new ≡ old) × (old.outcome ≡ Going)
 
 -- a run that can go on, with what its operations gave, its banks and their numbers
-pub record IsSteady (r : Run) (given : List ℕ) (banks : List Bank) (firsts : List ℕ) : Type 0 where
+pub record IsSteady (r : InterpreterState) (given : List ℕ) (banks : List Bank) (firsts : List ℕ) : Type 0 where
   pub entries : AllByRecursion IsMemory r.table
   pub few : elements_in r.table ≤ most_elements
   pub numbered : AreFirsts r.table firsts

@@ -19,7 +19,7 @@ use Rattle.dh_sem.specs.Gathered.{HoldsProgram, IsSoundMade, course_made}
 use Rattle.dh_sem.specs.Lanes.{AreFirstLanes}
 use Rattle.dh_sem.specs.Phased.{IsSoundFrame}
 use Rattle.dh_code.specs.Scenes.{IsEarlier}
-use Rattle.dh_sem.specs.Runs.{Run, IsSteady, StandsAt, place_outcome}
+use Rattle.dh_sem.specs.Runs.{InterpreterState, IsSteady, StandsAt, place_outcome}
 use Rattle.dh_sem.specs.Steps.{GoesOn, OnlyVariables}
 
 -- the slots of a program's variables
@@ -51,7 +51,7 @@ pub record StandsFirst (course : code.Course) (first place : Option ℕ) (old ne
   pub goes : GoesOn course place old new (Rest first ∷ []) frames false
 
 -- a run before its first step, over these memories
-abbrev pub run_begun : List MemEntry → Begun → Outcome → (memories : List (List ℕ)) → Run
+abbrev pub run_begun : List MemEntry → Begun → Outcome → (memories : List (List ℕ)) → InterpreterState
 run_begun table b outcome memories =
     record { table = table; course = course_made b.made; outcome = outcome; steps = 0; memories = memories; slots = b.state.variables.items; place = b.place; frames = b.frames.items }
 

@@ -5,7 +5,7 @@ use Rattle.dh_tree.specs.declared.tables.MemEntry.{MemEntry}
 use Rattle.dh_meaning.specs.Paths.{Path, paths_in}
 use Rattle.dh_meaning.specs.Core.{CoreTerm, Turning, CorePhase, straightly, turning, looping, choosing, CorePhases}
 use Rattle.dh_meaning.specs.Effects.{Begun, Block, Effect, Variables, at_each, block_run, holds_at, stop_after, tested_at}
-use Rattle.dh_meaning.specs.Runs.{Next, Todo, over, phases_then, turn_then, test_then, again_then, pick_then, enter, first_path, next_of, turn_begun}
+use Rattle.dh_meaning.specs.Runs.{RunNext, RunTodo, over, phases_then, turn_then, test_then, again_then, pick_then, enter, first_path, next_of, turn_begun}
 use Rattle.dh_code.specs.declared.codes.Code.{Code}
 use Rattle.dh_code.specs.declared.codes.Flat.{Flat}
 use Rattle.dh_code.specs.declared.evaluating.Scene.{Scene}
@@ -61,7 +61,7 @@ BeginsTurn old new lanes t turn =
 -- From one block to the next.
 
 -- the state and the frames are what a place is
-pub record Arrives (table : List MemEntry) (p : Placing) (c : Course) (n : Next) (new : State) (at : Option ℕ) (frames : List Frame) : Type 0 where
+pub record Arrives (table : List MemEntry) (p : Placing) (c : Course) (n : RunNext) (new : State) (at : Option ℕ) (frames : List Frame) : Type 0 where
   pub variables : Holds p new.variables.items n.variables
   pub place : IsPlace table p c at (reverse frames) n.place
 
@@ -71,14 +71,14 @@ pub record IsNowhere (list : Option ℕ) (old new : State) (old_frames new_frame
   pub state : new ≡ old
   pub frames : new_frames ≡ old_frames
 
-abbrev pub DescendsTo : List MemEntry → Placing → Course → (at : Option ℕ) → (new : State) → (new_frames : List Frame) → Next → Type 0
+abbrev pub DescendsTo : List MemEntry → Placing → Course → (at : Option ℕ) → (new : State) → (new_frames : List Frame) → RunNext → Type 0
 DescendsTo table p c None new new_frames n = Unit {0}
 DescendsTo table p c (Some number) new new_frames n = Arrives table p c n new (Some number) new_frames
 
 -- into a list of phases, to its first block
 abbrev pub Descends : code.Course → (list at : Option ℕ) → (old new : State) → (old_frames new_frames : List Frame) → Type 0
 Descends c list at old new old_frames new_frames =
-    (table : List MemEntry) (p : Placing) (made : Code) (factors : List ℕ) (qs : CorePhases) (k : Todo) (behind : Next) (v : Variables)
+    (table : List MemEntry) (p : Placing) (made : Code) (factors : List ℕ) (qs : CorePhases) (k : RunTodo) (behind : RunNext) (v : Variables)
     → ArePhases table p (course_of made c) factors list qs → AreToCome table p (course_of made c) (reverse old_frames) k → IsSettled k → Holds p old.variables.items v
     → DescendsTo table p (course_of made c) at new new_frames (enter (paths_in factors) qs k behind v)
 
@@ -87,7 +87,7 @@ NowhereIfNone list None old new old_frames new_frames = IsNowhere list old new o
 NowhereIfNone list (Some number) old new old_frames new_frames = Unit {0}
 
 -- whether the test that stands first among what is to come holds
-abbrev pub HoldsFirst : Begun → Variables → Todo → Bool → Type 0
+abbrev pub HoldsFirst : Begun → Variables → RunTodo → Bool → Type 0
 HoldsFirst b v over holds = Unit {0}
 HoldsFirst b v (phases_then paths qs k) holds = Unit {0}
 HoldsFirst b v (turn_then paths loop turn body k) holds = Unit {0}
@@ -108,13 +108,13 @@ weight_of [] = 0
 weight_of (f ∷ fs) = frame_weight f + weight_of fs
 
 -- frames that go on as others do
-pub record GoAlike (table : List MemEntry) (p : Placing) (c : Course) (b : Begun) (v : Variables) (n : Next) (frames : List Frame) : Type 0 where
-  pub todo : Todo
+pub record GoAlike (table : List MemEntry) (p : Placing) (c : Course) (b : Begun) (v : Variables) (n : RunNext) (frames : List Frame) : Type 0 where
+  pub todo : RunTodo
   pub are : AreToCome table p c (reverse frames) todo
   pub settled : IsSettled todo
   pub same : next_of b todo v ≡ n
 
-abbrev pub FollowsTo : List MemEntry → Placing → Course → Begun → Variables → Next → (at : Option ℕ) → (new : State) → (new_frames : List Frame) → Type 0
+abbrev pub FollowsTo : List MemEntry → Placing → Course → Begun → Variables → RunNext → (at : Option ℕ) → (new : State) → (new_frames : List Frame) → Type 0
 FollowsTo table p c b v n None new new_frames = GoAlike table p c b v n new_frames
 FollowsTo table p c b v n (Some number) new new_frames = Arrives table p c n new (Some number) new_frames
 
@@ -126,14 +126,14 @@ Lightens (Some number) frame old new old_frames new_frames = Unit {0}
 -- from a frame to the next block behind it
 abbrev pub Follows : code.Course → (frame : Frame) → (holds : Bool) → (at : Option ℕ) → (old new : State) → (old_frames new_frames : List Frame) → Type 0
 Follows c frame holds at old new old_frames new_frames =
-    (table : List MemEntry) (p : Placing) (made : Code) (b : Begun) (v : Variables) (k behind : Todo)
+    (table : List MemEntry) (p : Placing) (made : Code) (b : Begun) (v : Variables) (k behind : RunTodo)
     → IsFirst table p (course_of made c) frame k behind → IsSettled behind → AreToCome table p (course_of made c) (reverse old_frames) behind → Holds p old.variables.items v → HoldsFirst b v k holds
     → FollowsTo table p (course_of made c) b v (next_of b k v) at new new_frames
 
 -- from frames to the next block behind them; `holds` is whether the test that was done holds
 abbrev pub GoesOn : code.Course → (at : Option ℕ) → (old new : State) → (old_frames new_frames : List Frame) → (holds : Bool) → Type 0
 GoesOn c at old new old_frames new_frames holds =
-    (table : List MemEntry) (p : Placing) (made : Code) (b : Begun) (v : Variables) (k : Todo)
+    (table : List MemEntry) (p : Placing) (made : Code) (b : Begun) (v : Variables) (k : RunTodo)
     → AreToCome table p (course_of made c) (reverse old_frames) k → Holds p old.variables.items v → HoldsFirst b v k holds
     → Arrives table p (course_of made c) (next_of b k v) new at new_frames
 
@@ -170,7 +170,7 @@ pub record IsRested (s : Scene) (state : State) : Type 0 where
   pub begins : 1 ≤ s.step
 
 -- a whole step from a state in which nothing is kept: it ends at the first stop, and then all is taken back
-pub record Advanced (p : Placing) (s : Scene) (c : Course) (e : Effect) (n : Next) (new : State) (at : Option ℕ) (frames : List Frame) : Type 0 where
+pub record Advanced (p : Placing) (s : Scene) (c : Course) (e : Effect) (n : RunNext) (new : State) (at : Option ℕ) (frames : List Frame) : Type 0 where
   pub arrives : Arrives s.entries.now p c n new at frames
   pub clear : stop_after s.entries.now [] (all_plain e.events) ≡ None
   pub writes : new.writes.items ≡ writes_in e.events
@@ -184,7 +184,7 @@ abbrev pub BackIfStopped : {A : Type 0} → Result A Stop → (old new : State) 
 BackIfStopped (Ok a) old new = Unit {0}
 BackIfStopped (Err x) old new = IsBack old new
 
-abbrev pub EndsSo : Placing → Scene → Course → Effect → Next → Result (Option ℕ) Stop → (new : State) → List Frame → Type 0
+abbrev pub EndsSo : Placing → Scene → Course → Effect → RunNext → Result (Option ℕ) Stop → (new : State) → List Frame → Type 0
 EndsSo p s c e n (Ok at) new frames = Advanced p s c e n new at frames
 EndsSo p s c e n (Err (stop.At outcome)) new frames = stop_after s.entries.now [] (all_plain e.events) ≡ Some outcome
 EndsSo p s c e n (Err stop.NoMemory) new frames = Unit {0}
@@ -206,12 +206,12 @@ block_effect s factors b v = block_run (begun_in s) (paths_in factors) b (record
 -- the block of a phase is done in a state that keeps an effect, and then the run goes on
 abbrev pub RunsNext : Scene → code.Course → State → Result (Option ℕ) Stop → State → (number : ℕ) → (old_frames new_frames : List Frame) → Type 0
 RunsNext s c old result new number old_frames new_frames =
-    (p : Placing) (v : Variables) (factors : List ℕ) (q : CorePhase) (b : Block) (k : Todo) → Keeps p s.entries.now (record { variables = v; events = [] }) s.step old
+    (p : Placing) (v : Variables) (factors : List ℕ) (q : CorePhase) (b : Block) (k : RunTodo) → Keeps p s.entries.now (record { variables = v; events = [] }) s.step old
     → StandsFor s.entries.now p (course_seen s c) factors number q → IsBlockOf q b → AreToCome s.entries.now p (course_seen s c) (reverse old_frames) k → StandsFirst q (paths_in factors) k
     → EndsSo p s (course_seen s c) (block_effect s factors b v) (next_of (begun_in s) k (block_effect s factors b v).variables) result new new_frames
 
 abbrev pub Advances : Scene → code.Course → State → Result (Option ℕ) Stop → State → (number : ℕ) → (old_frames new_frames : List Frame) → Type 0
 Advances s c old result new number old_frames new_frames =
-    (p : Placing) (v : Variables) (factors : List ℕ) (q : CorePhase) (b : Block) (k : Todo) → Holds p old.variables.items v
+    (p : Placing) (v : Variables) (factors : List ℕ) (q : CorePhase) (b : Block) (k : RunTodo) → Holds p old.variables.items v
     → StandsFor s.entries.now p (course_seen s c) factors number q → IsBlockOf q b → AreToCome s.entries.now p (course_seen s c) (reverse old_frames) k → StandsFirst q (paths_in factors) k
     → EndsSo p s (course_seen s c) (block_effect s factors b v) (next_of (begun_in s) k (block_effect s factors b v).variables) result new new_frames

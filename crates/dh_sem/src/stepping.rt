@@ -3,7 +3,7 @@
 ghost use Rattle.std.specs.Prelude.{◌≡◌, ◌+◌, ◌*◌, ◌%◌, ◌-◌, ◌^◌, ◌<◌, ◌≤◌, ◌==◌, Bool, if◌then◌else◌, IfOk, Some, length, slice_get};
 ghost use Rattle.std.specs.List.{AllByRecursion};
 ghost use Rattle.dh_code.specs.Scenes.{IsHeld, IsScene, IsEarlier};
-ghost use Rattle.dh_code.specs.States.{IsReady, KeepsBack, written_by};
+ghost use Rattle.dh_code.specs.States.{IsReadyState, KeepsBack, memories_written};
 ghost use Rattle.dh_sem.specs.declared.phases.Frame.TheVariants.{Turn};
 ghost use Rattle.dh_sem.specs.Phased.{AreLinked, IsSoundCourse, IsSoundFrame, arm_of, turns_in};
 ghost use Rattle.dh_sem.specs.Steps.{Advances, BackIfStopped, BeginsTurn, Descends, Follows, GoesOn, IsRested, Lightens, NowhereIfNone, OnlyVariables, RunsBlock, RunsNext, SetsCopy, TestsAll, course_seen, which};
@@ -30,9 +30,9 @@ pub struct Course<'a> {
 /// Evaluates a test at all paths. Gives whether it holds at the first one.
 fn test(scene: &Scene<'_>, state: &mut State, lanes: &Lanes, test: &Flat) -> Result<bool, Stop>
     requires scene { IsScene scene.now }
-    requires ready { IsReady scene.now state.old }
+    requires ready { IsReadyState scene.now state.old }
     requires held { IsHeld scene.now.code.now.operations test.now }
-    ensures ready { IsReady scene.now state.new }
+    ensures ready { IsReadyState scene.now state.new }
     ensures back { KeepsBack state.old state.new }
     ensures tests { TestsAll scene.now state.old result state.new lanes.now test.now }
 {
@@ -60,10 +60,10 @@ fn run_block(
     at: usize,
 ) -> Result<bool, Stop>
     requires scene { IsScene scene.now }
-    requires ready { IsReady scene.now state.old }
+    requires ready { IsReadyState scene.now state.old }
     requires course { IsSoundCourse (course_seen scene.now course.now) }
     requires there { at < length course.now.phases.now }
-    ensures ready { IsReady scene.now state.new }
+    ensures ready { IsReadyState scene.now state.new }
     ensures back { KeepsBack state.old state.new }
     ensures runs { RunsBlock scene.now course.now state.old result state.new at }
 {
@@ -359,12 +359,12 @@ fn run_next(
     next: &mut Option<usize>,
 ) -> Result<(), Stop>
     requires scene { IsScene scene.now }
-    requires ready { IsReady scene.now state.old }
+    requires ready { IsReadyState scene.now state.old }
     requires course { IsSoundCourse (course_seen scene.now course.now) }
     requires frames { AllByRecursion (IsSoundFrame (length course.now.phases.now))
         frames.old.items }
     requires there { at < length course.now.phases.now }
-    ensures ready { IsReady scene.now state.new }
+    ensures ready { IsReadyState scene.now state.new }
     ensures back { KeepsBack state.old state.new }
     ensures frames { IfOk result
         (λ _. AllByRecursion (IsSoundFrame (length course.now.phases.now)) frames.new.items) }
@@ -393,7 +393,7 @@ pub fn advance(
     requires frames { AllByRecursion (IsSoundFrame (length course.now.phases.now))
         frames.old.items }
     requires there { at < length course.now.phases.now }
-    ensures ready { IsReady scene.now state.new }
+    ensures ready { IsReadyState scene.now state.new }
     ensures back { BackIfStopped result state.old state.new }
     ensures frames { IfOk result
         (λ _. AllByRecursion (IsSoundFrame (length course.now.phases.now)) frames.new.items) }
@@ -415,7 +415,7 @@ pub fn advance(
 
 /// Makes writes to memories, in order.
 pub fn make_writes(alloc: Global, memories: &mut Memories, writes: &[Write])
-    ensures { memories.new ≡ written_by writes.now memories.old }
+    ensures { memories.new ≡ memories_written writes.now memories.old }
 {
     if writes.is_empty() {
         return;

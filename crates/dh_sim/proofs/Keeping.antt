@@ -17,13 +17,13 @@ use Rattle.dh_net.specs.declared.nets.Driver.{Driver}
 use Rattle.dh_net.specs.declared.nets.Net.{Net}
 use Rattle.dh_net.specs.Valid.{HasWidth, IsValid}
 use Rattle.dh_net.specs.BankPorts.{port_count, port_of, memory_ports, ports_from, ports_of}
-use Rattle.dh_net.specs.Clock.{State, IsValuation, Settles, has_clashes, is_active, served, memory_at, place_of, row_value, with_row, held_by, written_by, held_after, memories_after, start_of}
+use Rattle.dh_net.specs.Clock.{State, IsValuation, Settles, has_clashes, is_active, served, memory_at, position_of_row, row_value, with_row, held_by, written_by, held_after, memories_after, start_of}
 use Rattle.dh_net.specs.Laws.{FitsNet, WiresFit}
 use Rattle.dh_net.specs.declared.ports.Port.{Port}
 use Rattle.dh_sim.specs.Layouts.{ArraysFit}
 use Rattle.dh_net.proofs.Valuations.{cell_of, wires_fit, one_valuation}
 use Rattle.dh_sim.specs.declared.arrays.Shown.{Shown}
-use Rattle.dh_sim.specs.Points.{Point, IsSound, state_of}
+use Rattle.dh_sim.specs.Points.{Point, IsSoundPoint, state_of}
 use Rattle.dh_sim.specs.Shows.{ShowsAs}
 
 -- a wire that has a width is below 2 to that power
@@ -71,8 +71,8 @@ MemoriesBelow ps ms = AllByRecursion (λ p. IsBelow p.width (memory_at ms p.memo
 
 row_fits : (table : List MemEntry) (p : Port) (ms : List (List ℕ)) (row : ℕ) → IsBelow p.width (memory_at ms p.memory) → row_value table p ms row < 2 ^ p.width
 row_fits table p ms row below =
-    pick (λ x. x < 2 ^ p.width) (nat_lt row p.rows) (get_or (memory_at ms p.memory) (place_of table p row) 0) 0
-    (below_there (2 ^ p.width) (pow_pos p.width) (memory_at ms p.memory) below (place_of table p row)) (pow_pos p.width)
+    pick (λ x. x < 2 ^ p.width) (nat_lt row p.rows) (get_or (memory_at ms p.memory) (position_of_row table p row) 0) 0
+    (below_there (2 ^ p.width) (pow_pos p.width) (memory_at ms p.memory) below (position_of_row table p row)) (pow_pos p.width)
 
 datum_fits : (table : List MemEntry) (ws : List ℕ) (p : Port) (o : Option Driver) (ms : List (List ℕ)) (had : ℕ) → IsBelow p.width (memory_at ms p.memory) → had < 2 ^ p.width
     → held_by table ws p o ms had < 2 ^ p.width
@@ -125,8 +125,8 @@ TellsWidth table p = (e : MemEntry) → slice_get table p.memory ≡ Some e → 
 
 row_set : (table : List MemEntry) (p : Port) (ms : List (List ℕ)) (row v : ℕ) → TellsWidth table p → v < 2 ^ p.width → Fits table ms → Fits table (with_row table p ms row v)
 row_set table p ms row v told small fits =
-    pick (λ x. Fits table x) (nat_lt row p.rows) (set ms p.memory (slice_set (memory_at ms p.memory) (place_of table p row) v)) ms
-    (memory_set table ms p.memory (place_of table p row) v (λ e at. subst (λ (w : ℕ). v < 2 ^ w) (told e at) small) fits) fits
+    pick (λ x. Fits table x) (nat_lt row p.rows) (set ms p.memory (slice_set (memory_at ms p.memory) (position_of_row table p row) v)) ms
+    (memory_set table ms p.memory (position_of_row table p row) v (λ e at. subst (λ (w : ℕ). v < 2 ^ w) (told e at) small) fits) fits
 
 written_fits : (cells : List Cell) (ws : List ℕ) → WiresFit cells ws → (table : List MemEntry) (p : Port) (d : Driver) (ms : List (List ℕ)) (write : Bool)
     → (write ≡ true → HasWidth cells d.data_ p.width) → TellsWidth table p → Fits table ms
@@ -216,11 +216,11 @@ mapped_at : (f : Register → ℕ) (rs : List Register) (i : ℕ) (r : Register)
 mapped_at f rs i r there = get_or-map f rs i r 0 (slice_get_within rs i r there) ∙ ap f (get_or_from_slice_get rs i r r there)
 
 -- the wires of a sound state fit
-pub sound_fits : (net : Net) (s : State) (ws : List ℕ) → IsSound net s ws → WiresFit net.cells ws
+pub sound_fits : (net : Net) (s : State) (ws : List ℕ) → IsSoundPoint net s ws → WiresFit net.cells ws
 sound_fits net s ws ok = wires_fit net ok.valid s ws ok.settled ok.small
 
 -- a clock keeps all but the wires: the registers, the held data and the memories
-pub clock_fits : (net : Net) (s t : State) (ws : List ℕ) → IsSound net s ws
+pub clock_fits : (net : Net) (s t : State) (ws : List ℕ) → IsSoundPoint net s ws
     → t.registers ≡ map (λ r. get_or ws r.next 0) net.registers → t.held ≡ held_after net.table ws net.drivers (ports_of net.table) s.memories s.held → FitsNet net t
 clock_fits net s t ws ok registers held =
     let fit = sound_fits net s ws ok in
@@ -231,12 +231,12 @@ clock_fits net s t ws ok registers held =
           (data_fit net.table ws (ports_of net.table) net.drivers s.memories s.held ok.valid.ports ok.held (all_below net.table s.memories ok.memories (ports_of net.table) (all_tell net.table)) ok.small.held);
     }
 
-pub held_stays : (net : Net) (s : State) (ws hs : List ℕ) → IsSound net s ws → hs ≡ held_after net.table ws net.drivers (ports_of net.table) s.memories s.held → length hs ≡ length net.drivers
+pub held_stays : (net : Net) (s : State) (ws hs : List ℕ) → IsSoundPoint net s ws → hs ≡ held_after net.table ws net.drivers (ports_of net.table) s.memories s.held → length hs ≡ length net.drivers
 held_stays net s ws hs ok held = ap length held ∙ held_long net.table ws (ports_of net.table) net.drivers s.memories s.held ok.valid.ports ok.held
 
-pub stays_sound : (net : Net) (s t : State) (ws vs : List ℕ) → IsSound net s ws
+pub stays_sound : (net : Net) (s t : State) (ws vs : List ℕ) → IsSoundPoint net s ws
     → t.registers ≡ map (λ r. get_or ws r.next 0) net.registers → t.held ≡ held_after net.table ws net.drivers (ports_of net.table) s.memories s.held
-    → t.memories ≡ memories_after net.table ws net.drivers (ports_of net.table) s.memories → Settles net t vs → IsSound net t vs
+    → t.memories ≡ memories_after net.table ws net.drivers (ports_of net.table) s.memories → Settles net t vs → IsSoundPoint net t vs
 stays_sound net s t ws vs ok registers held memories settled =
     let fit = sound_fits net s ws ok in
     record {
@@ -265,7 +265,7 @@ starts_fit net valid rs hs registers held =
     }
 
 -- the state before the first clock
-pub starts_sound : (net : Net) → IsValid net → (m : List (List ℕ)) → Fits net.table m → (ws : List ℕ) → Settles net (start_of net m) ws → IsSound net (start_of net m) ws
+pub starts_sound : (net : Net) → IsValid net → (m : List (List ℕ)) → Fits net.table m → (ws : List ℕ) → Settles net (start_of net m) ws → IsSoundPoint net (start_of net m) ws
 starts_sound net valid m fits ws settled =
     let arrays = starts_fit net valid (map (λ r. r.initial) net.registers) (replicate (length net.drivers) 0) refl refl in
     record {
@@ -280,19 +280,19 @@ starts_sound net valid m fits ws settled =
 -- the arrays that a simulator is made of
 pub made_sound : (net : Net) → IsValid net → (m : List (List ℕ)) → Fits net.table m → (rs hs ws : List ℕ) (bs : List (Vec ℕ Global))
     → rs ≡ map (λ r. r.initial) net.registers → hs ≡ replicate (length net.drivers) 0 → map (λ b. b.items) bs ≡ m → IsValuation net.table net.cells rs hs ws
-    → IsSound net (state_of rs hs bs) ws
+    → IsSoundPoint net (state_of rs hs bs) ws
 made_sound net valid m fits rs hs ws bs registers held memories wires =
     let state : List ℕ → List ℕ → List (List ℕ) → State = λ r h b. record { registers = r; held = h; memories = b } in
     let same : start_of net m ≡ state_of rs hs bs =
     ap (λ x. state x (replicate (length net.drivers) 0) m) (sym registers) ∙ (ap (λ x. state rs x m) (sym held) ∙ ap (λ x. state rs hs x) (sym memories)) in
-    subst (λ (s : State). IsSound net s ws) same (starts_sound net valid m fits ws (subst (λ (s : State). Settles net s ws) (sym same) wires))
+    subst (λ (s : State). IsSoundPoint net s ws) same (starts_sound net valid m fits ws (subst (λ (s : State). Settles net s ws) (sym same) wires))
 
 -- the fault output is a number of 32 bits
-pub fault_small : (net : Net) (s : State) (ws xs : List ℕ) → IsSound net s ws → xs ≡ ws → get_or xs net.fault 0 < 2 ^ 32
+pub fault_small : (net : Net) (s : State) (ws xs : List ℕ) → IsSoundPoint net s ws → xs ≡ ws → get_or xs net.fault 0 < 2 ^ 32
 fault_small net s ws xs ok same = subst (λ (x : List ℕ). get_or x net.fault 0 < 2 ^ 32) (sym same) (wide_fits net.cells ws (sound_fits net s ws ok) net.fault 32 ok.valid.fault)
 
 -- what is shown by the wires at hand is shown by any valuation, since there is one
-pub shows_all : (net : Net) (s : State) (ws xs : List ℕ) (shown : Shown) (clash : Bool) (p : Point) → IsSound net s ws → xs ≡ ws → ShowsAs shown net xs clash
+pub shows_all : (net : Net) (s : State) (ws xs : List ℕ) (shown : Shown) (clash : Bool) (p : Point) → IsSoundPoint net s ws → xs ≡ ws → ShowsAs shown net xs clash
     → p ≡ record { net = net; state = s; clash = clash } → (vs : List ℕ) → Settles p.net p.state vs → ShowsAs shown p.net vs p.clash
 shows_all net s ws xs shown clash p ok same shows is vs settled =
     let here : Point = record { net = net; state = s; clash = clash } in
@@ -301,7 +301,7 @@ shows_all net s ws xs shown clash p ok same shows is vs settled =
     subst (λ (q : Point). ShowsAs shown q.net vs q.clash) (sym is) (subst (λ (x : List ℕ). ShowsAs shown net x clash) one shows)
 
 -- and so are its clashes
-pub clashes_all : (net : Net) (s : State) (ws xs : List ℕ) (clash : Bool) (p : Point) → IsSound net s ws → xs ≡ ws → clash ≡ has_clashes xs net.drivers
+pub clashes_all : (net : Net) (s : State) (ws xs : List ℕ) (clash : Bool) (p : Point) → IsSoundPoint net s ws → xs ≡ ws → clash ≡ has_clashes xs net.drivers
     → (b : Bool) → p ≡ record { net = net; state = s; clash = b } → (vs : List ℕ) → Settles p.net p.state vs → clash ≡ has_clashes vs p.net.drivers
 clashes_all net s ws xs clash p ok same clashes b is vs settled =
     let settled_here : Settles net s vs = subst (λ (q : Point). Settles q.net q.state vs) is settled in
@@ -309,7 +309,7 @@ clashes_all net s ws xs clash p ok same clashes b is vs settled =
     subst (λ (q : Point). clash ≡ has_clashes vs q.net.drivers) (sym is) (subst (λ (x : List ℕ). clash ≡ has_clashes x net.drivers) one clashes)
 
 -- the same where the ports are at hand in a list of their own
-module _ (net : Net) (rs hs ws : List ℕ) (bs : List (Vec ℕ Global)) (ports : List Port) (ok : IsSound net (state_of rs hs bs) ws) (ports_are : ports ≡ ports_of net.table)
+module _ (net : Net) (rs hs ws : List ℕ) (bs : List (Vec ℕ Global)) (ports : List Port) (ok : IsSoundPoint net (state_of rs hs bs) ws) (ports_are : ports ≡ ports_of net.table)
     (registers held : List ℕ) (loaded : registers ≡ map (λ r. get_or ws r.next 0) net.registers)
     (read : held ≡ held_after net.table ws net.drivers ports (map (λ b. b.items) bs) hs) where
   read_here : held ≡ held_after net.table ws net.drivers (ports_of net.table) (map (λ b. b.items) bs) hs
@@ -319,7 +319,7 @@ module _ (net : Net) (rs hs ws : List ℕ) (bs : List (Vec ℕ Global)) (ports :
   arrays_stay = clock_fits net (state_of rs hs bs) (record { registers = registers; held = held; memories = [] }) ws ok loaded read_here
 
   pub sound_stays : (after : List (Vec ℕ Global)) (vs : List ℕ) → map (λ b. b.items) after ≡ memories_after net.table ws net.drivers ports (map (λ b. b.items) bs)
-      → IsValuation net.table net.cells registers held vs → IsSound net (state_of registers held after) vs
+      → IsValuation net.table net.cells registers held vs → IsSoundPoint net (state_of registers held after) vs
   sound_stays after vs written settled =
       let here = written ∙ ap (λ ps. memories_after net.table ws net.drivers ps (map (λ b. b.items) bs)) ports_are in
       stays_sound net (state_of rs hs bs) (state_of registers held after) ws vs ok loaded read_here here settled

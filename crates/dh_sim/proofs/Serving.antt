@@ -11,7 +11,7 @@ use Rattle.dh_tree.proofs.BankElements.{row_below}
 use Rattle.dh_tree.specs.Elements.{banks_of}
 use Rattle.dh_tree.specs.declared.tables.MemEntry.{MemEntry}
 use Rattle.dh_net.specs.BankPorts.{port_count, port_of, memory_ports, ports_from, ports_of}
-use Rattle.dh_net.specs.Clock.{served, memory_at, place_of, with_row, held_by, written_by, held_after, memories_after}
+use Rattle.dh_net.specs.Clock.{served, memory_at, position_of_row, with_row, held_by, written_by, held_after, memories_after}
 use Rattle.dh_extents.specs.Extents.{IsSmallMemory}
 use Rattle.dh_net.specs.declared.nets.Driver.{Driver}
 use Rattle.dh_net.specs.Valid.{IsValid}
@@ -133,11 +133,11 @@ module _ (net : Net) (valid : IsValid net) (table : List MemEntry) (ports : List
         ap (λ l. memories_after net.table ws (drop (i + 1) net.drivers) (drop (i + 1) ports) l) told ∙ (memories_on net.table ws ms net.drivers ports i d in_drivers in_ports ∙ so)
 
 -- a row that is written among vectors
-pub row_written : (table : List MemEntry) (p : Port) (ms : List (Vec ℕ Global)) (row v place : ℕ) (d new : Vec ℕ Global) → row < p.rows → place ≡ place_of table p row
+pub row_written : (table : List MemEntry) (p : Port) (ms : List (Vec ℕ Global)) (row v place : ℕ) (d new : Vec ℕ Global) → row < p.rows → place ≡ position_of_row table p row
     → p.memory < length ms → new.items ≡ slice_set (get_or ms p.memory d).items place v → lists_of (set ms p.memory new) ≡ with_row table p (lists_of ms) row v
 row_written table p ms row v place d new small is_place inside is_new =
     let yes : nat_lt row p.rows ≡ true = grind (arith, nat_tests) in
     let here : (get_or ms p.memory d).items ≡ memory_at (lists_of ms) p.memory = sym (get_or-map (λ b. b.items) ms p.memory d [] inside) in
     map-set (λ b. b.items) ms p.memory new
     ∙ (ap (λ x. set (lists_of ms) p.memory x) (is_new ∙ (ap (λ l. slice_set l place v) here ∙ ap (λ n. slice_set (memory_at (lists_of ms) p.memory) n v) is_place))
-    ∙ sym (ap (λ t. if t then set (lists_of ms) p.memory (slice_set (memory_at (lists_of ms) p.memory) (place_of table p row) v) else lists_of ms) yes))
+    ∙ sym (ap (λ t. if t then set (lists_of ms) p.memory (slice_set (memory_at (lists_of ms) p.memory) (position_of_row table p row) v) else lists_of ms) yes))

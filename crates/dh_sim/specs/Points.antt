@@ -41,7 +41,7 @@ abbrev pub Clashes : Point → Bool → Type 0
 Clashes p clash = (wires : List ℕ) → Settles p.net p.state wires → clash ≡ has_clashes wires p.net.drivers
 
 -- the net is valid, the state is one that it can have, and the wires are those of the state
-pub record IsSound (net : Net) (s : State) (wires : List ℕ) : Type 0 where
+pub record IsSoundPoint (net : Net) (s : State) (wires : List ℕ) : Type 0 where
   pub valid : IsValid net
   pub registers : length s.registers ≡ length net.registers
   pub held : length s.held ≡ length net.drivers
@@ -51,4 +51,4 @@ pub record IsSound (net : Net) (s : State) (wires : List ℕ) : Type 0 where
 
 -- so it is of a simulator of this net, whose layout is that of the net
 abbrev pub IsSoundSim : Net → Layout → (registers held : List ℕ) → (memories : List (Vec ℕ Global)) → (wires : List ℕ) → Type 0
-IsSoundSim net layout registers held memories wires = IsLayout net.table layout × IsSound net (state_of registers held memories) wires
+IsSoundSim net layout registers held memories wires = IsLayout net.table layout × IsSoundPoint net (state_of registers held memories) wires

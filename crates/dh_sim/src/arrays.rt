@@ -4,7 +4,7 @@ ghost use Rattle.std.specs.Prelude.{◌≡◌, ◌<◌, ◌^◌, length, map, re
 ghost use Rattle.dh_net.specs.Valid.{IsValid};
 ghost use Rattle.dh_net.specs.Clock.{IsValuation, Clocks, has_clashes};
 ghost use Rattle.dh_sim.specs.Layouts.{IsLayout, ArraysFit};
-ghost use Rattle.dh_sim.specs.Points.{IsSound, lists_of, state_of};
+ghost use Rattle.dh_sim.specs.Points.{IsSoundPoint, lists_of, state_of};
 ghost use Rattle.dh_sim.specs.Shows.{ShowsAs};
 
 use crate::cells::settle;
@@ -105,10 +105,10 @@ pub fn clock_arrays(
     wires: &mut [u64],
 ) -> bool
     requires layout { IsLayout net.now.table layout.now }
-    requires sound { IsSound net.now (state_of registers.old held.old memories.old) wires.old }
+    requires sound { IsSoundPoint net.now (state_of registers.old held.old memories.old) wires.old }
     ensures clocked { Clocks net.now (state_of registers.old held.old memories.old)
         (state_of registers.new held.new memories.new) }
-    ensures sound { IsSound net.now (state_of registers.new held.new memories.new) wires.new }
+    ensures sound { IsSoundPoint net.now (state_of registers.new held.new memories.new) wires.new }
     ensures clash { result ≡ has_clashes wires.old net.now.drivers }
 {
     let ports = layout.ports.as_slice();

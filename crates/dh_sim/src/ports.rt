@@ -3,7 +3,7 @@
 
 ghost use Rattle.std.specs.Prelude.{◌≡◌, ◌<◌, length, map, slice_index, slice_set};
 ghost use Rattle.dh_net.specs.BankPorts.{ports_of};
-ghost use Rattle.dh_net.specs.Clock.{has_clash, has_clashes, served, memory_at, place_of, row_value, with_row, held_by, written_by};
+ghost use Rattle.dh_net.specs.Clock.{has_clash, has_clashes, served, memory_at, position_of_row, row_value, with_row, held_by, written_by};
 ghost use Rattle.dh_net.specs.Valid.{IsValid};
 ghost use Rattle.dh_sim.specs.Points.{lists_of, ReadsPorts, WritesPorts};
 ghost use Rattle.dh_sim.specs.Rooms.{AreDriversInRooms, IsServedInRooms, IsPlaced};
@@ -82,7 +82,7 @@ fn set_element(list: &mut Vec<u64>, place: u64, value: u64)
 fn place_of_row(table: &[MemEntry], port: Port, row: u64) -> u64
     requires placed { IsPlaced table.now port }
     requires row { row < port.rows }
-    ensures { result ≡ place_of table.now port row }
+    ensures { result ≡ position_of_row table.now port row }
 {
     place_in_bank(
         table[port.memory as usize].shape.dims.as_slice(),

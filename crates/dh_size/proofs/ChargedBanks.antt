@@ -21,7 +21,7 @@ use Rattle.dh_carried.proofs.ChargedBanks.{charged_reaches, reaching_charges}
 use Rattle.dh_tree.specs.Seen.{program_seen}
 use Rattle.dh_meaning.specs.Paths.{Path, copies_in, same_path}
 use Rattle.dh_meets.specs.Charges as charges
-use Rattle.dh_meets.specs.Charges.{bank_named, bank_reached, banks_in, charge, charge_by, charge_of, charge_through, factors_of, key_of, keys_reaching, may_reach, paths_of, reaches, reaches_by, reaches_in, memory_banks}
+use Rattle.dh_meets.specs.Charges.{bank_named, bank_reached, banks_in, charge, charge_by, charge_of, charge_through, loop_factors, key_of, keys_reaching, may_reach, paths_of, reaches, reaches_by, reaches_in, memory_banks}
 use Rattle.dh_meets.specs.Sharing.{shared}
 use Rattle.dh_meets.specs.SourceEvents.{Element, with_indices, in_row, SourceAccess, accesses_in, trace}
 use Rattle.dh_plan.specs.PlanSizes.{access_size, banks_charged, entity_banks_charged}
@@ -29,7 +29,7 @@ use Rattle.dh_ports.specs.Claims.{access_of}
 use Rattle.dh_ports.specs.Wholes.{of_access, touched_by, Touched}
 use Rattle.dh_ports.proofs.ClaimedBanks.{kept_some, path_there, some_kept, there_path, LeadsAt}
 use Rattle.dh_ports.proofs.ClaimFacts.{found, number_unled}
-use Rattle.dh_ports.specs.Banks.{bank_at_path, path_at}
+use Rattle.dh_ports.specs.Banks.{bank_at_path, path_of_number}
 use Rattle.dh_size.specs.Sizes.{banks_led, banks_met, banks_reached, banks_through, banks_within, count_below, is_reached, is_reached_through, marked, size_by}
 use Rattle.dh_size.specs.Marks.{AreMarked}
 use Rattle.dh_size.proofs.MarkTurns.{all_reached, marks_counted, paths_counted}
@@ -354,7 +354,7 @@ same_access loops (term place kind form) writes a e f =
 
 -- Banks of a memory that is there.
 
-pub marks_done : (tree : Tree) (a : SourceAccess) (dims : List Dim) (marks shown : List Bool) (copies result : ℕ) → copies ≡ copies_in (factors_of a.site.loops) → AreMarked tree dims a (banks_of dims) copies marks → shown ≡ marks → result ≡ marked shown
+pub marks_done : (tree : Tree) (a : SourceAccess) (dims : List Dim) (marks shown : List Bool) (copies result : ℕ) → copies ≡ copies_in (loop_factors a.site.loops) → AreMarked tree dims a (banks_of dims) copies marks → shown ≡ marks → result ≡ marked shown
     → result ≡ banks_within (program_seen tree) dims a
 marks_done tree a dims marks shown copies result copied so shown_is counted =
     counted
@@ -371,20 +371,20 @@ one_counted bank (suc n) = ap (λ k. (if bank == n then 1 else 0) + k) (one_coun
     more : (bank n : ℕ) → (if bank == n then 1 else 0) + (if nat_lt bank n then 1 else 0) ≡ (if nat_lt bank (suc n) then 1 else 0)
     more bank n = grind (arith, nat_tests)
 
-one_within : (tree : Tree) (a : SourceAccess) (dims : List Dim) (copies bank : ℕ) → copies ≡ copies_in (factors_of a.site.loops) → copies ≡ 1 → bank ≡ bank_at_path tree dims a (path_at (factors_of a.site.loops) 0)
+one_within : (tree : Tree) (a : SourceAccess) (dims : List Dim) (copies bank : ℕ) → copies ≡ copies_in (loop_factors a.site.loops) → copies ≡ 1 → bank ≡ bank_at_path tree dims a (path_of_number (loop_factors a.site.loops) 0)
     → (if nat_lt bank (banks_of dims) then 1 else 0) ≡ banks_within (program_seen tree) dims a
 one_within tree a dims copies bank copied one is =
     sym (one_counted bank (banks_of dims))
     ∙ count_same (λ b. bank == b) (is_reached (program_seen tree) dims a) (banks_of dims) (λ b. ap (λ n. n == b) is ∙ all_reached tree dims a 1 b (sym one ∙ copied))
 
-pub one_there : (tree : Tree) (a : SourceAccess) (dims : List Dim) (copies bank banks : ℕ) → copies ≡ copies_in (factors_of a.site.loops) → copies ≡ 1 → bank ≡ bank_at_path tree dims a (path_at (factors_of a.site.loops) 0) → banks ≡ banks_of dims → bank < banks
+pub one_there : (tree : Tree) (a : SourceAccess) (dims : List Dim) (copies bank banks : ℕ) → copies ≡ copies_in (loop_factors a.site.loops) → copies ≡ 1 → bank ≡ bank_at_path tree dims a (path_of_number (loop_factors a.site.loops) 0) → banks ≡ banks_of dims → bank < banks
     → 1 ≡ banks_within (program_seen tree) dims a
 one_there tree a dims copies bank banks copied one is counted less = ap (λ b. if b then 1 else 0) (sym (below bank (banks_of dims) (subst (λ (n : ℕ). bank < n) counted less))) ∙ one_within tree a dims copies bank copied one is
   where
     below : (b n : ℕ) → b < n → nat_lt b n ≡ true
     below b n e = grind (arith, nat_tests)
 
-pub one_missing : (tree : Tree) (a : SourceAccess) (dims : List Dim) (copies bank banks : ℕ) → copies ≡ copies_in (factors_of a.site.loops) → copies ≡ 1 → bank ≡ bank_at_path tree dims a (path_at (factors_of a.site.loops) 0) → banks ≡ banks_of dims → banks ≤ bank
+pub one_missing : (tree : Tree) (a : SourceAccess) (dims : List Dim) (copies bank banks : ℕ) → copies ≡ copies_in (loop_factors a.site.loops) → copies ≡ 1 → bank ≡ bank_at_path tree dims a (path_of_number (loop_factors a.site.loops) 0) → banks ≡ banks_of dims → banks ≤ bank
     → 0 ≡ banks_within (program_seen tree) dims a
 one_missing tree a dims copies bank banks copied one is counted past = ap (λ b. if b then 1 else 0) (sym (beyond bank (banks_of dims) (subst (λ (n : ℕ). n ≤ bank) counted past))) ∙ one_within tree a dims copies bank copied one is
   where
@@ -409,13 +409,13 @@ within_few p a dims result few so = at_most result (banks_within p dims a) (bank
     at_most : (r n b : ℕ) → r ≡ n → n ≤ b → b ≤ 64 → r ≤ 64
     at_most r n b e f g = omega (arith, e, f, g)
 
-pub shared_size : (p : Program) (a : SourceAccess) (copies : ℕ) (shares : Bool) → copies ≡ copies_in (factors_of a.site.loops) → shares ≡ true → copies ≡ size_by p shares a
+pub shared_size : (p : Program) (a : SourceAccess) (copies : ℕ) (shares : Bool) → copies ≡ copies_in (loop_factors a.site.loops) → shares ≡ true → copies ≡ size_by p shares a
 shared_size p a copies shares e f = e ∙ (sym (paths_counted a) ∙ (once (length (paths_of a)) ∙ sym (ap (λ b. length (paths_of a) * suc (if b then 0 else banks_met p a)) f)))
   where
     once : (n : ℕ) → n ≡ n * suc 0
     once n = omega arith
 
-pub own_size : (p : Program) (a : SourceAccess) (copies banks : ℕ) (shares : Bool) → copies ≡ copies_in (factors_of a.site.loops) → shares ≡ false → banks ≡ banks_met p a → copies * (banks + 1) ≡ size_by p shares a
+pub own_size : (p : Program) (a : SourceAccess) (copies banks : ℕ) (shares : Bool) → copies ≡ copies_in (loop_factors a.site.loops) → shares ≡ false → banks ≡ banks_met p a → copies * (banks + 1) ≡ size_by p shares a
 own_size p a copies banks shares e f g =
     ap (λ n. n * (banks + 1)) (e ∙ sym (paths_counted a))
     ∙ (ap (λ n. length (paths_of a) * n) (add-one banks ∙ ap suc g) ∙ sym (ap (λ b. length (paths_of a) * suc (if b then 0 else banks_met p a)) f))

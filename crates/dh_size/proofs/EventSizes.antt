@@ -7,7 +7,7 @@ use Rattle.std.specs.Option.{is_some}
 use Rattle.dh_tree.specs.declared.trees.counters.Counter.{Counter}
 use Rattle.dh_tree.specs.PlainTrees.{Term, Program}
 use Rattle.dh_tree.specs.Numbers.{IsNumbered}
-use Rattle.dh_meets.specs.Charges.{factors_of}
+use Rattle.dh_meets.specs.Charges.{loop_factors}
 use Rattle.dh_meaning.specs.Paths.{copies_in}
 use Rattle.dh_meaning.specs.Ways.{Way, way_to}
 use Rattle.dh_meets.specs.FewCopies.{HasFewCopies}
@@ -16,8 +16,8 @@ use Rattle.dh_meets.specs.Sharing.{shared}
 use Rattle.dh_meets.specs.SourceEvents.{SourceAccess, accesses_in, trace}
 use Rattle.dh_events.specs.declared.events.Event.{Event}
 use Rattle.dh_events.specs.declared.events.Site.{Site}
-use Rattle.dh_events.specs.Accesses.{loops_in}
-use Rattle.dh_events.specs.Incidents.{Incident, touches, assigned, arm_begins, arm_ends, begins, next, ends}
+use Rattle.dh_events.specs.Accesses.{loops_listed}
+use Rattle.dh_events.specs.Incidents.{PortEvent, touches, assigned, arm_begins, arm_ends, begins, next, ends}
 use Rattle.dh_events.specs.Noted.{all_seen, event_seen}
 use Rattle.dh_events.specs.Rounds.{rounds_in, rounds_of}
 use Rattle.dh_events.proofs.Turns.{at_place}
@@ -51,7 +51,7 @@ some_none x xs e = cc
 -- By incidents.
 
 -- the sizes of accesses, told by incidents that touch them, are those of the accesses
-pub sizes_told : (p : Program) (shares : List (Option ℕ)) → ((k : ℕ) → told shares k ≡ shared p k) → ((k : ℕ) (a : SourceAccess) → slice_get (accesses_in (trace p)) k ≡ Some a → (w : Way) → way_to p a.entity ≡ Some w → LeadsAt p w a) → (xs : List Incident) (those : List SourceAccess) (n : ℕ) → touched xs ≡ map of_access those
+pub sizes_told : (p : Program) (shares : List (Option ℕ)) → ((k : ℕ) → told shares k ≡ shared p k) → ((k : ℕ) (a : SourceAccess) → slice_get (accesses_in (trace p)) k ≡ Some a → (w : Way) → way_to p a.entity ≡ Some w → LeadsAt p w a) → (xs : List PortEvent) (those : List SourceAccess) (n : ℕ) → touched xs ≡ map of_access those
     → ((k : ℕ) (s : Site) (a : SourceAccess) → slice_get (sites_in xs) k ≡ Some s → slice_get those k ≡ Some a → loops_known p s.round ≡ a.site.loops)
     → ((k : ℕ) (a : SourceAccess) → slice_get those k ≡ Some a → slice_get (accesses_in (trace p)) (n + k) ≡ Some a)
     → sizes_from p (loops_known p) shares n xs ≡ accesses_size p n those
@@ -79,9 +79,9 @@ sizes_told p shares so u (begins ∷ xs) those n e l h = sizes_told p shares so 
 sizes_told p shares so u (next ∷ xs) those n e l h = sizes_told p shares so u xs those n e l h
 sizes_told p shares so u (ends ∷ xs) those n e l h = sizes_told p shares so u xs those n e l h
 
-pub few_told : (p : Program) (xs : List Incident) (those : List SourceAccess) → touched xs ≡ map of_access those
+pub few_told : (p : Program) (xs : List PortEvent) (those : List SourceAccess) → touched xs ≡ map of_access those
     → ((k : ℕ) (s : Site) (a : SourceAccess) → slice_get (sites_in xs) k ≡ Some s → slice_get those k ≡ Some a → loops_known p s.round ≡ a.site.loops)
-    → ((k : ℕ) (a : SourceAccess) → slice_get those k ≡ Some a → copies_in (factors_of a.site.loops) ≤ most_copies) → AreFew (loops_known p) xs
+    → ((k : ℕ) (a : SourceAccess) → slice_get those k ≡ Some a → copies_in (loop_factors a.site.loops) ≤ most_copies) → AreFew (loops_known p) xs
 few_told p [] those e l h = tt
 few_told p (touches t w s ∷ xs) [] e l h = absurd (some_none (touched_by t w) (touched xs) e)
 few_told p (touches t w s ∷ xs) (a ∷ those) e l h = (
@@ -96,10 +96,10 @@ few_told p (next ∷ xs) those e l h = few_told p xs those e l h
 few_told p (ends ∷ xs) those e l h = few_told p xs those e l h
 
 -- the loops that are noted
-pub noted_loops : (p : Program) (rounds : List (Vec Counter Global)) → rounds_of rounds ≡ rounds_in [] p.body no_rounds → ◌≡◌ {A = Option ℕ → List Counter} (loops_in rounds) (loops_known p)
+pub noted_loops : (p : Program) (rounds : List (Vec Counter Global)) → rounds_of rounds ≡ rounds_in [] p.body no_rounds → ◌≡◌ {A = Option ℕ → List Counter} (loops_listed rounds) (loops_known p)
 noted_loops p rounds e = fun_ext each
   where
-    each : (o : Option ℕ) → loops_in rounds o ≡ loops_known p o
+    each : (o : Option ℕ) → loops_listed rounds o ≡ loops_known p o
     each None = refl
     each (Some id) = ap (λ (f : ℕ → List Counter). f id) e
 
@@ -108,10 +108,10 @@ module _ (p : Program) (first : ℕ) (numbers : IsNumbered first p.body) (rounds
   whole : IsWhole p (all_seen events)
   whole = whole_is p (all_seen events) (tells_loops first p numbers) seen
 
-  pub events_few : HasFewCopies p → AreFew (loops_in rounds) (all_seen events)
+  pub events_few : HasFewCopies p → AreFew (loops_listed rounds) (all_seen events)
   events_few few = subst (λ (f : Option ℕ → List Counter). AreFew f (all_seen events)) (sym (noted_loops p rounds noted)) (few_told p (all_seen events) (accesses_in (trace p)) whole.touched_all whole.loops few)
 
-  pub events_sized : (shares : List (Option ℕ)) → ((k : ℕ) (a : SourceAccess) → slice_get (accesses_in (trace p)) k ≡ Some a → (w : Way) → way_to p a.entity ≡ Some w → LeadsAt p w a) → TellsShares p shares → sizes_from p (loops_in rounds) shares 0 (all_seen events) ≡ accesses_size p 0 (accesses_in (trace p))
+  pub events_sized : (shares : List (Option ℕ)) → ((k : ℕ) (a : SourceAccess) → slice_get (accesses_in (trace p)) k ≡ Some a → (w : Way) → way_to p a.entity ≡ Some w → LeadsAt p w a) → TellsShares p shares → sizes_from p (loops_listed rounds) shares 0 (all_seen events) ≡ accesses_size p 0 (accesses_in (trace p))
   events_sized shares u so =
       ap (λ (f : Option ℕ → List Counter). sizes_from p f shares 0 (all_seen events)) (noted_loops p rounds noted)
       ∙ sizes_told p shares so.all u (all_seen events) (accesses_in (trace p)) 0 whole.touched_all whole.loops (λ k a e. ap (λ n. slice_get (accesses_in (trace p)) n) (from_none k) ∙ e)
@@ -152,17 +152,17 @@ module _ (p : Program) (loops : Option ℕ → List Counter) (shares : List (Opt
   here : drop i all ≡ get_or all i d ∷ drop (i + 1) all
   here = at_place all i d inside
 
-  seen_here : (x : Incident) → event_seen (get_or all i d) ≡ x → all_seen (drop i all) ≡ x ∷ all_seen (drop (i + 1) all)
+  seen_here : (x : PortEvent) → event_seen (get_or all i d) ≡ x → all_seen (drop i all) ≡ x ∷ all_seen (drop (i + 1) all)
   seen_here x e = ap all_seen here ∙ ap (λ y. y ∷ all_seen (drop (i + 1) all)) e
 
   pub few_here : (t : Term) (w : Bool) (s : Site) → event_seen (get_or all i d) ≡ touches t w s → copies_round (loops s.round) ≤ most_copies
-  few_here t w s e = (subst (λ (xs : List Incident). AreFew loops xs) (seen_here (touches t w s) e) l.few).0
+  few_here t w s e = (subst (λ (xs : List PortEvent). AreFew loops xs) (seen_here (touches t w s) e) l.few).0
 
   pub touch_turn : (t : Term) (w : Bool) (s : Site) (size sum1 number1 : ℕ) → event_seen (get_or all i d) ≡ touches t w s → size ≡ size_by p (is_some (told shares number)) (access_of (loops s.round) false t) → sum1 ≡ min (sum + size) (2 ^ 64 - 1) → number1 ≡ number + 1
       → SizesLeft p loops shares (drop (i + 1) all) all sum1 number1
   touch_turn t w s size sum1 number1 e sized added next_is = record {
     fits = subst (λ (n : ℕ). n ≤ 2 ^ 64 - 1) (sym added) (summed_small sum size);
-    few = (subst (λ (xs : List Incident). AreFew loops xs) (seen_here (touches t w s) e) l.few).1;
+    few = (subst (λ (xs : List PortEvent). AreFew loops xs) (seen_here (touches t w s) e) l.few).1;
     summed_so =
         ap (λ n. summed sum1 (sizes_from p loops shares n (all_seen (drop (i + 1) all)))) (next_is ∙ add-one number)
         ∙ (ap (λ n. summed n (sizes_from p loops shares (suc number) (all_seen (drop (i + 1) all)))) added
@@ -172,13 +172,13 @@ module _ (p : Program) (loops : Option ℕ → List Counter) (shares : List (Opt
   }
 
   -- an event that is no access
-  pub other_turn : (x : Incident) (sum1 number1 : ℕ) → event_seen (get_or all i d) ≡ x → (AreFew loops (x ∷ all_seen (drop (i + 1) all)) → AreFew loops (all_seen (drop (i + 1) all)))
+  pub other_turn : (x : PortEvent) (sum1 number1 : ℕ) → event_seen (get_or all i d) ≡ x → (AreFew loops (x ∷ all_seen (drop (i + 1) all)) → AreFew loops (all_seen (drop (i + 1) all)))
       → sizes_from p loops shares number (all_seen (drop (i + 1) all)) ≡ sizes_from p loops shares number (x ∷ all_seen (drop (i + 1) all)) → sum1 ≡ sum → number1 ≡ number → SizesLeft p loops shares (drop (i + 1) all) all sum1 number1
   other_turn x sum1 number1 e few same sum_is number_is =
       subst (λ (n : ℕ). SizesLeft p loops shares (drop (i + 1) all) all n number1) (sym sum_is)
       (subst (λ (n : ℕ). SizesLeft p loops shares (drop (i + 1) all) all sum n) (sym number_is) (record {
         fits = l.fits;
-        few = few (subst (λ (xs : List Incident). AreFew loops xs) (seen_here x e) l.few);
+        few = few (subst (λ (xs : List PortEvent). AreFew loops xs) (seen_here x e) l.few);
         summed_so = ap (summed sum) same ∙ (ap (λ xs. summed sum (sizes_from p loops shares number xs)) (sym (seen_here x e)) ∙ l.summed_so);
       }))
 

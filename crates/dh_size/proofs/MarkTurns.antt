@@ -6,9 +6,9 @@ use Rattle.dh_tree.specs.declared.tables.Dim.{Dim}
 use Rattle.dh_tree.specs.declared.trees.programs.Tree.{Tree}
 use Rattle.dh_tree.specs.Seen.{program_seen}
 use Rattle.dh_meaning.specs.Paths.{copies_in, paths_in}
-use Rattle.dh_meets.specs.Charges.{factors_of, paths_of}
+use Rattle.dh_meets.specs.Charges.{loop_factors, paths_of}
 use Rattle.dh_meets.specs.SourceEvents.{SourceAccess}
-use Rattle.dh_ports.specs.Banks.{bank_at_path, path_at}
+use Rattle.dh_ports.specs.Banks.{bank_at_path, path_of_number}
 use Rattle.dh_ports.proofs.PathNumbers.{each_below, no_paths, paths_are}
 use Rattle.dh_size.specs.Marks.{reached_below, AreMarked}
 use Rattle.dh_size.specs.Sizes.{count_below, is_reached, marked}
@@ -34,7 +34,7 @@ module _ (tree : Tree) (dims : List Dim) (a : SourceAccess) (banks : ℕ) where
       none_at (suc n) zero = refl
       none_at (suc n) (suc b) = none_at n b
 
-  module _ (number : ℕ) (marks : List Bool) (so : AreMarked tree dims a banks number marks) (bank : ℕ) (is : bank ≡ bank_at_path tree dims a (path_at (factors_of a.site.loops) number)) where
+  module _ (number : ℕ) (marks : List Bool) (so : AreMarked tree dims a banks number marks) (bank : ℕ) (is : bank ≡ bank_at_path tree dims a (path_of_number (loop_factors a.site.loops) number)) where
     more : (b : ℕ) → reached_below tree dims a (suc number) b ≡ (reached_below tree dims a number b || (bank == b))
     more b = ap (λ n. reached_below tree dims a number b || (n == b)) (sym is)
 
@@ -107,16 +107,16 @@ module _ (tree : Tree) (dims : List Dim) (a : SourceAccess) (banks : ℕ) where
 -- All paths.
 
 -- the paths below the number of all copies are all paths
-pub all_paths : (fs : List ℕ) → each_below (path_at fs) (copies_in fs) ≡ paths_in fs
+pub all_paths : (fs : List ℕ) → each_below (path_of_number fs) (copies_in fs) ≡ paths_in fs
 all_paths fs = by (none_or (copies_in fs))
   where
     none_or : (m : ℕ) → (1 ≤ m) ⊎ (m ≡ 0)
     none_or zero = inr refl
     none_or (suc m) = inl (omega arith)
 
-    by : (1 ≤ copies_in fs) ⊎ (copies_in fs ≡ 0) → each_below (path_at fs) (copies_in fs) ≡ paths_in fs
+    by : (1 ≤ copies_in fs) ⊎ (copies_in fs ≡ 0) → each_below (path_of_number fs) (copies_in fs) ≡ paths_in fs
     by (inl f) = sym (paths_are fs f)
-    by (inr f) = ap (each_below (path_at fs)) f ∙ sym (no_paths fs f)
+    by (inr f) = ap (each_below (path_of_number fs)) f ∙ sym (no_paths fs f)
 
 long_append : {A : Type 0} (xs : List A) (x : A) → length (xs ++ x ∷ []) ≡ suc (length xs)
 long_append [] x = refl
@@ -127,8 +127,8 @@ each_long f zero = refl
 each_long f (suc n) = long_append (each_below f n) (f n) ∙ ap suc (each_long f n)
 
 -- there are as many as copies
-pub paths_counted : (a : SourceAccess) → length (paths_of a) ≡ copies_in (factors_of a.site.loops)
-paths_counted a = ap length (sym (all_paths (factors_of a.site.loops))) ∙ each_long (path_at (factors_of a.site.loops)) (copies_in (factors_of a.site.loops))
+pub paths_counted : (a : SourceAccess) → length (paths_of a) ≡ copies_in (loop_factors a.site.loops)
+paths_counted a = ap length (sym (all_paths (loop_factors a.site.loops))) ∙ each_long (path_of_number (loop_factors a.site.loops)) (copies_in (loop_factors a.site.loops))
 
 any_append : {A : Type 0} (t : A → Bool) (xs : List A) (x : A) → list_any t (xs ++ x ∷ []) ≡ (list_any t xs || t x)
 any_append t [] x = or_none (t x)
@@ -143,17 +143,17 @@ any_append t (y ∷ xs) x = ap (λ b. t y || b) (any_append t xs x) ∙ grouped 
     grouped false b c = refl
 
 module _ (tree : Tree) (dims : List Dim) (a : SourceAccess) where
-  below_any : (number bank : ℕ) → reached_below tree dims a number bank ≡ list_any (λ path. bank_at_path tree dims a path == bank) (each_below (path_at (factors_of a.site.loops)) number)
+  below_any : (number bank : ℕ) → reached_below tree dims a number bank ≡ list_any (λ path. bank_at_path tree dims a path == bank) (each_below (path_of_number (loop_factors a.site.loops)) number)
   below_any zero bank = refl
   below_any (suc number) bank =
-      ap (λ b. b || (bank_at_path tree dims a (path_at (factors_of a.site.loops) number) == bank)) (below_any number bank)
-      ∙ sym (any_append (λ path. bank_at_path tree dims a path == bank) (each_below (path_at (factors_of a.site.loops)) number) (path_at (factors_of a.site.loops) number))
+      ap (λ b. b || (bank_at_path tree dims a (path_of_number (loop_factors a.site.loops) number) == bank)) (below_any number bank)
+      ∙ sym (any_append (λ path. bank_at_path tree dims a path == bank) (each_below (path_of_number (loop_factors a.site.loops)) number) (path_of_number (loop_factors a.site.loops) number))
 
   -- all paths below the number of copies reach what some path reaches
-  pub all_reached : (number bank : ℕ) → number ≡ copies_in (factors_of a.site.loops) → reached_below tree dims a number bank ≡ is_reached (program_seen tree) dims a bank
+  pub all_reached : (number bank : ℕ) → number ≡ copies_in (loop_factors a.site.loops) → reached_below tree dims a number bank ≡ is_reached (program_seen tree) dims a bank
   all_reached number bank e =
       below_any number bank
-      ∙ ap (list_any (λ path. bank_at_path tree dims a path == bank)) (ap (each_below (path_at (factors_of a.site.loops))) e ∙ all_paths (factors_of a.site.loops))
+      ∙ ap (list_any (λ path. bank_at_path tree dims a path == bank)) (ap (each_below (path_of_number (loop_factors a.site.loops))) e ∙ all_paths (loop_factors a.site.loops))
 
 -- How many.
 

@@ -7,8 +7,8 @@ use Rattle.std.proofs.Math.Nat.{min-eq_left, mul_comm}
 use Rattle.std.proofs.lemmas.Nat.{div-mul-add}
 use Rattle.dh_tree.specs.declared.trees.counters.Counter.{Counter}
 use Rattle.dh_tree.specs.Memories.{same_entity}
-use Rattle.dh_meets.specs.Charges.{factors_of, level_of_loop}
-use Rattle.dh_ports.specs.Banks.{copy_of, path_at}
+use Rattle.dh_meets.specs.Charges.{loop_factors, level_of_loop}
+use Rattle.dh_ports.specs.Banks.{copy_of, path_of_number}
 use Rattle.dh_ports.specs.Copies.{copies_round}
 use Rattle.dh_ports.proofs.PathNumbers.{one_more}
 use Rattle.dh_size.proofs.SummedParts.{cut_times}
@@ -70,7 +70,7 @@ copies_done loops rest copies none few l =
 pub record CopyLeft (loops rest : List Counter) (number iterator stride : ℕ) : Type 0 where
   pub counted : stride ≡ copies_round rest
   pub some : 1 ≤ stride
-  pub same : copy_of rest (path_at (factors_of rest) number) (Some iterator) ≡ copy_of loops (path_at (factors_of loops) number) (Some iterator)
+  pub same : copy_of rest (path_of_number (loop_factors rest) number) (Some iterator) ≡ copy_of loops (path_of_number (loop_factors loops) number) (Some iterator)
 
 pub copy_first : (loops : List Counter) (number iterator stride : ℕ) → stride ≡ copies_round loops → 1 ≤ stride → CopyLeft loops loops number iterator stride
 copy_first loops number iterator stride e f = record { counted = e; some = f; same = refl }
@@ -80,7 +80,7 @@ module _ (loops : List Counter) (i : ℕ) (c : Counter) (number iterator stride 
   counted = l.counted ∙ ap copies_round here
 
   both : (1 ≤ c.factor) × (1 ≤ copies_round (drop (i + 1) loops))
-  both = one_more c.factor (factors_of (drop (i + 1) loops)) (subst (λ (n : ℕ). 1 ≤ n) counted l.some)
+  both = one_more c.factor (loop_factors (drop (i + 1) loops)) (subst (λ (n : ℕ). 1 ≤ n) counted l.some)
 
   pub factor_some : 1 ≤ c.factor
   factor_some = both.0
@@ -94,21 +94,21 @@ module _ (loops : List Counter) (i : ℕ) (c : Counter) (number iterator stride 
   pub stride_some : (next : ℕ) → next ≡ stride / c.factor → 1 ≤ next
   stride_some next e = subst (λ (n : ℕ). 1 ≤ n) (sym (stride_is next e)) both.1
 
-  copy_here : copy_of (drop i loops) (path_at (factors_of (drop i loops)) number) (Some iterator) ≡ slice_index_or ((number / copies_round (drop (i + 1) loops)) % c.factor ∷ path_at (factors_of (drop (i + 1) loops)) number) (if same_entity c.entity (Some iterator) then 0 else suc (level_of_loop (drop (i + 1) loops) (Some iterator))) 0
-  copy_here = ap (λ x. copy_of x (path_at (factors_of x) number) (Some iterator)) here
+  copy_here : copy_of (drop i loops) (path_of_number (loop_factors (drop i loops)) number) (Some iterator) ≡ slice_index_or ((number / copies_round (drop (i + 1) loops)) % c.factor ∷ path_of_number (loop_factors (drop (i + 1) loops)) number) (if same_entity c.entity (Some iterator) then 0 else suc (level_of_loop (drop (i + 1) loops) (Some iterator))) 0
+  copy_here = ap (λ x. copy_of x (path_of_number (loop_factors x) number) (Some iterator)) here
 
-  pub copy_found : (next result : ℕ) → next ≡ stride / c.factor → same_entity c.entity (Some iterator) ≡ true → result ≡ (number / next) % c.factor → result ≡ copy_of loops (path_at (factors_of loops) number) (Some iterator)
+  pub copy_found : (next result : ℕ) → next ≡ stride / c.factor → same_entity c.entity (Some iterator) ≡ true → result ≡ (number / next) % c.factor → result ≡ copy_of loops (path_of_number (loop_factors loops) number) (Some iterator)
   copy_found next result e found so =
       so
       ∙ (ap (λ n. (number / n) % c.factor) (stride_is next e)
-      ∙ (sym (copy_here ∙ ap (λ (b : Bool). slice_index_or ((number / copies_round (drop (i + 1) loops)) % c.factor ∷ path_at (factors_of (drop (i + 1) loops)) number) (if b then 0 else suc (level_of_loop (drop (i + 1) loops) (Some iterator))) 0) found) ∙ l.same))
+      ∙ (sym (copy_here ∙ ap (λ (b : Bool). slice_index_or ((number / copies_round (drop (i + 1) loops)) % c.factor ∷ path_of_number (loop_factors (drop (i + 1) loops)) number) (if b then 0 else suc (level_of_loop (drop (i + 1) loops) (Some iterator))) 0) found) ∙ l.same))
 
   pub copy_next : (next : ℕ) → next ≡ stride / c.factor → same_entity c.entity (Some iterator) ≡ false → CopyLeft loops (drop (i + 1) loops) number iterator next
   copy_next next e other = record {
     counted = stride_is next e;
     some = stride_some next e;
-    same = sym (copy_here ∙ ap (λ (b : Bool). slice_index_or ((number / copies_round (drop (i + 1) loops)) % c.factor ∷ path_at (factors_of (drop (i + 1) loops)) number) (if b then 0 else suc (level_of_loop (drop (i + 1) loops) (Some iterator))) 0) other) ∙ l.same;
+    same = sym (copy_here ∙ ap (λ (b : Bool). slice_index_or ((number / copies_round (drop (i + 1) loops)) % c.factor ∷ path_of_number (loop_factors (drop (i + 1) loops)) number) (if b then 0 else suc (level_of_loop (drop (i + 1) loops) (Some iterator))) 0) other) ∙ l.same;
   }
 
-pub copy_none : (loops behind : List Counter) (number iterator stride : ℕ) → behind ≡ [] → CopyLeft loops behind number iterator stride → 0 ≡ copy_of loops (path_at (factors_of loops) number) (Some iterator)
-copy_none loops behind number iterator stride none l = sym (ap (λ x. copy_of x (path_at (factors_of x) number) (Some iterator)) none) ∙ l.same
+pub copy_none : (loops behind : List Counter) (number iterator stride : ℕ) → behind ≡ [] → CopyLeft loops behind number iterator stride → 0 ≡ copy_of loops (path_of_number (loop_factors loops) number) (Some iterator)
+copy_none loops behind number iterator stride none l = sym (ap (λ x. copy_of x (path_of_number (loop_factors x) number) (Some iterator)) none) ∙ l.same

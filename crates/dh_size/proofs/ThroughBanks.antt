@@ -17,11 +17,11 @@ use Rattle.dh_meaning.specs.Paths.{copies_in}
 use Rattle.dh_meaning.specs.Ways.{Way}
 use Rattle.dh_ways.specs.Leading.{LeadsTo}
 use Rattle.dh_carried.proofs.ChargedBanks.{charged_back, charged_forth}
-use Rattle.dh_meets.specs.Charges.{any_below, bank_named, factors_of, may_reach, paths_of}
+use Rattle.dh_meets.specs.Charges.{any_below, bank_named, loop_factors, may_reach, paths_of}
 use Rattle.dh_meets.specs.SourceEvents.{SourceAccess}
 use Rattle.dh_events.proofs.Turns.{at_place}
 use Rattle.dh_ports.specs.declared.carrying.Carrier.{Carrier}
-use Rattle.dh_ports.specs.Banks.{bank_at_path, each_below, path_at}
+use Rattle.dh_ports.specs.Banks.{bank_at_path, each_below, path_of_number}
 use Rattle.dh_ports.specs.Carriers.{carried_to, is_carried, one_at, IsCarrier}
 use Rattle.dh_ports.proofs.ClaimTurns.{index_found}
 use Rattle.dh_ports.proofs.ThroughClaims.{one_carried, other_way}
@@ -265,17 +265,17 @@ module _ (tree : Tree) (w : Way) (leads : LeadsTo (memories_of (program_seen tre
         within r c n e f g = omega (arith, e, f, g)
 
   -- of one copy
-  pub one_told : (a : SourceAccess) (dims : List Dim) (copies bank : ℕ) → dims ≡ w.is.shape.dims → copies ≡ copies_in (factors_of a.site.loops) → copies ≡ 1 → bank ≡ bank_at_path tree dims a (path_at (factors_of a.site.loops) 0)
+  pub one_told : (a : SourceAccess) (dims : List Dim) (copies bank : ℕ) → dims ≡ w.is.shape.dims → copies ≡ copies_in (loop_factors a.site.loops) → copies ≡ 1 → bank ≡ bank_at_path tree dims a (path_of_number (loop_factors a.site.loops) 0)
       → (behind : ℕ) → behind < length k.sources.items → is_carried k bank behind ≡ is_reached_through (program_seen tree) w a behind
   one_told a dims copies bank same copied one is behind inside =
       carried_reach bank behind inside
-      ∙ (ap (λ n. nat_lt n (banks_of w.is.shape.dims) && may_reach w.steps n behind) (is ∙ ap (λ ds. bank_at_path tree ds a (path_at (factors_of a.site.loops) 0)) same)
-      ∙ (sym (or_none (nat_lt (bank_named (program_seen tree) w a (path_at (factors_of a.site.loops) 0)) (banks_of w.is.shape.dims) && may_reach w.steps (bank_named (program_seen tree) w a (path_at (factors_of a.site.loops) 0)) behind))
+      ∙ (ap (λ n. nat_lt n (banks_of w.is.shape.dims) && may_reach w.steps n behind) (is ∙ ap (λ ds. bank_at_path tree ds a (path_of_number (loop_factors a.site.loops) 0)) same)
+      ∙ (sym (or_none (nat_lt (bank_named (program_seen tree) w a (path_of_number (loop_factors a.site.loops) 0)) (banks_of w.is.shape.dims) && may_reach w.steps (bank_named (program_seen tree) w a (path_of_number (loop_factors a.site.loops) 0)) behind))
       ∙ ap (list_any (λ path. nat_lt (bank_named (program_seen tree) w a path) (banks_of w.is.shape.dims) && may_reach w.steps (bank_named (program_seen tree) w a path) behind))
-      (ap (each_below (path_at (factors_of a.site.loops))) (sym one ∙ copied) ∙ all_paths (factors_of a.site.loops))))
+      (ap (each_below (path_of_number (loop_factors a.site.loops))) (sym one ∙ copied) ∙ all_paths (loop_factors a.site.loops))))
 
   -- of marks
-  pub marks_told : (a : SourceAccess) (dims : List Dim) (copies : ℕ) (marks shown : List Bool) → dims ≡ w.is.shape.dims → copies ≡ copies_in (factors_of a.site.loops) → AreMarked tree dims a (banks_of dims) copies marks → shown ≡ marks
+  pub marks_told : (a : SourceAccess) (dims : List Dim) (copies : ℕ) (marks shown : List Bool) → dims ≡ w.is.shape.dims → copies ≡ copies_in (loop_factors a.site.loops) → AreMarked tree dims a (banks_of dims) copies marks → shown ≡ marks
       → (behind : ℕ) → behind < length k.sources.items → marked_behind k shown behind ≡ is_reached_through (program_seen tree) w a behind
   marks_told a dims copies marks shown same copied so shown_is behind inside =
       ap (λ ms. marked_behind k ms behind) shown_is

@@ -5,16 +5,16 @@ use Rattle.dh_tree.specs.declared.trees.counters.Counter.{Counter}
 use Rattle.dh_tree.specs.declared.trees.expressions.Expr.{Expr}
 use Rattle.dh_tree.specs.declared.trees.programs.Tree.{Tree}
 use Rattle.dh_tree.specs.Elements.{banks_of}
-use Rattle.dh_meets.specs.Charges.{factors_of}
+use Rattle.dh_meets.specs.Charges.{loop_factors}
 use Rattle.dh_meets.specs.SourceEvents.{SourceAccess}
-use Rattle.dh_ports.specs.Banks.{bank_at_path, path_at}
+use Rattle.dh_ports.specs.Banks.{bank_at_path, path_of_number}
 use Rattle.dh_ports.specs.Claims.{source_of}
 use Rattle.dh_ports.specs.declared.carrying.Carrier.{Carrier}
 
 -- some path below a number reaches a bank
 abbrev pub reached_below : Tree → List Dim → SourceAccess → (number bank : ℕ) → Bool
 reached_below tree dims a zero bank = false
-reached_below tree dims a (suc number) bank = reached_below tree dims a number bank || (bank_at_path tree dims a (path_at (factors_of a.site.loops) number) == bank)
+reached_below tree dims a (suc number) bank = reached_below tree dims a number bank || (bank_at_path tree dims a (path_of_number (loop_factors a.site.loops) number) == bank)
 
 -- marks of so many banks, of which those are set that paths below a number reach
 pub record AreMarked (tree : Tree) (dims : List Dim) (a : SourceAccess) (banks number : ℕ) (marks : List Bool) : Type 0 where

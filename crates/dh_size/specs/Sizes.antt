@@ -19,8 +19,8 @@ use Rattle.dh_meets.specs.SourceEvents.{SourceAccess}
 use Rattle.dh_ways.specs.Kept as kept
 use Rattle.dh_ways.specs.Seen.{way_seen}
 use Rattle.dh_events.specs.declared.events.Event.{Event}
-use Rattle.dh_events.specs.Accesses.{loops_in}
-use Rattle.dh_events.specs.Incidents.{Incident, touches, assigned, arm_begins, arm_ends, begins, next, ends}
+use Rattle.dh_events.specs.Accesses.{loops_listed}
+use Rattle.dh_events.specs.Incidents.{PortEvent, touches, assigned, arm_begins, arm_ends, begins, next, ends}
 use Rattle.dh_events.specs.Noted.{all_seen}
 use Rattle.dh_ports.specs.Claims.{access_of, source_of}
 use Rattle.dh_ports.specs.Copies.{copies_round}
@@ -75,7 +75,7 @@ abbrev pub size_by : Program → (shares : Bool) → SourceAccess → ℕ
 size_by p shares a = length (paths_of a) * suc (if shares then 0 else banks_met p a)
 
 -- the sizes of the accesses among incidents, numbered from one on, by the loops that are known and by a list of shares
-abbrev pub sizes_from : Program → (loops : Option ℕ → List Counter) → (shares : List (Option ℕ)) → (number : ℕ) → List Incident → ℕ
+abbrev pub sizes_from : Program → (loops : Option ℕ → List Counter) → (shares : List (Option ℕ)) → (number : ℕ) → List PortEvent → ℕ
 sizes_from p loops shares number [] = 0
 sizes_from p loops shares number (touches access writes site ∷ xs) = size_by p (is_some (told shares number)) (access_of (loops site.round) false access) + sizes_from p loops shares (suc number) xs
 sizes_from p loops shares number (assigned entity ∷ xs) = sizes_from p loops shares number xs
@@ -86,7 +86,7 @@ sizes_from p loops shares number (next ∷ xs) = sizes_from p loops shares numbe
 sizes_from p loops shares number (ends ∷ xs) = sizes_from p loops shares number xs
 
 -- each of them stands in few copies
-abbrev pub AreFew : (loops : Option ℕ → List Counter) → List Incident → Type 0
+abbrev pub AreFew : (loops : Option ℕ → List Counter) → List PortEvent → Type 0
 AreFew loops [] = Unit {0}
 AreFew loops (touches access writes site ∷ xs) = (copies_round (loops site.round) ≤ most_copies) × AreFew loops xs
 AreFew loops (assigned entity ∷ xs) = AreFew loops xs
@@ -103,7 +103,7 @@ AreFew loops (ends ∷ xs) = AreFew loops xs
 abbrev pub own_banks : Tree → List Counter → List Dim → Expr → ℕ
 own_banks tree loops dims e = banks_within (program_seen tree) dims (source_of loops false e)
 
-abbrev pub led_banks : Tree → List Counter → kept.Way → Expr → ℕ
+abbrev pub led_banks : Tree → List Counter → kept.KeptWay → Expr → ℕ
 led_banks tree loops w e = banks_through (program_seen tree) (way_seen w) (memory_in (memories_of (program_seen tree)) w.memory) (source_of loops false e)
 
 abbrev pub met_banks : Tree → List Counter → Expr → ℕ
@@ -115,4 +115,4 @@ size_of_access tree loops e shares = size_by (program_seen tree) shares (source_
 
 -- the sizes of the accesses among events, by the loops that are known and by a list of shares
 abbrev pub event_sizes : Tree → (rounds : List (Vec Counter Global)) → (shares : List (Option ℕ)) → List Event → ℕ
-event_sizes tree rounds shares events = sizes_from (program_seen tree) (loops_in rounds) shares 0 (all_seen events)
+event_sizes tree rounds shares events = sizes_from (program_seen tree) (loops_listed rounds) shares 0 (all_seen events)

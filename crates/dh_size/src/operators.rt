@@ -3,7 +3,7 @@
 
 ghost use Rattle.std.specs.Prelude.{◌≡◌, option_map};
 ghost use Rattle.dh_plan.specs.PlanSizes.{maybe_operators, term_operators, terms_operators};
-ghost use Rattle.dh_tree.specs.Seen.{all_terms_seen, plan_seen, term_seen, terms};
+ghost use Rattle.dh_tree.specs.Seen.{all_terms_seen, view_plan, term_seen, terms};
 ghost use Rattle.dh_tree.specs.ViewOffsets.{offsets_of};
 ghost use Rattle.dh_size.specs.Summed.{suffix_operators, summed};
 
@@ -64,7 +64,7 @@ fn with_suffixes(sum: u64, by: &[(u64, Expr)]) -> u64
 
 /// Those of the offsets of a view.
 pub fn with_offsets(sum: u64, form: &ViewForm) -> u64
-    ensures { result ≡ summed sum (terms_operators (terms (offsets_of (plan_seen form.now)))) }
+    ensures { result ≡ summed sum (terms_operators (terms (offsets_of (view_plan form.now)))) }
 {
     match form {
         ViewForm::Shrink { .. } => sum,

@@ -4,9 +4,9 @@ ghost use Rattle.std.specs.Prelude.{◌≡◌, ◌≤◌, ◌+◌, ◌%◌, ◌<
 ghost use Rattle.std.specs.List.{AllByRecursion};
 ghost use Rattle.dh_tree.specs.Elements.{banks_of};
 ghost use Rattle.dh_tree.specs.Shapes.{most_banks, IsDim};
-ghost use Rattle.dh_meets.specs.Charges.{factors_of};
+ghost use Rattle.dh_meets.specs.Charges.{loop_factors};
 ghost use Rattle.dh_base.specs.Limits.{most_copies};
-ghost use Rattle.dh_ports.specs.Banks.{copy_of, path_at};
+ghost use Rattle.dh_ports.specs.Banks.{copy_of, path_of_number};
 ghost use Rattle.dh_ports.specs.Copies.{copies_round};
 ghost use Rattle.dh_size.specs.NumberedPaths.{index_numbered, indexed_bank};
 
@@ -29,7 +29,7 @@ pub fn copies_in(loops: &[Counter]) -> u64
 fn copy_at(loops: &[Counter], copies: u64, number: u64, iterator: u32) -> u64
     requires copies { copies ≡ copies_round loops.now }
     requires some { 1 ≤ copies }
-    ensures { result ≡ copy_of loops.now (path_at (factors_of loops.now) number) (Some iterator) }
+    ensures { result ≡ copy_of loops.now (path_of_number (loop_factors loops.now) number) (Some iterator) }
 {
     let mut stride = copies;
     for counter in loops {

@@ -6,7 +6,7 @@ ghost use Rattle.dh_tree.specs.Memories.{table_of};
 ghost use Rattle.dh_tree.specs.Ready.{IsReady};
 ghost use Rattle.dh_tree.specs.Seen.{program_seen};
 ghost use Rattle.dh_tree.specs.Shapes.{IsProgramTable};
-ghost use Rattle.dh_events.specs.Accesses.{loops_in};
+ghost use Rattle.dh_events.specs.Accesses.{loops_listed};
 ghost use Rattle.dh_events.specs.Noted.{all_seen};
 ghost use Rattle.dh_lengths.specs.SharedReads.{told};
 ghost use Rattle.dh_plan.specs.PlanSizes.{size_reported};
@@ -51,7 +51,7 @@ fn access_sizes(
 ) -> Result<u64, NoMemory>
     requires table { IsProgramTable (table_of (program_seen typed.now)) }
     requires views { AreViews (program_seen typed.now) views }
-    requires few { AreFew (loops_in rounds.now) (all_seen events.now) }
+    requires few { AreFew (loops_listed rounds.now) (all_seen events.now) }
     ensures { IfOk result (λ size. size ≡ summed 0 (event_sizes typed.now rounds.now shares.now
         events.now)) }
 {

@@ -9,7 +9,7 @@ use Rattle.dh_base.specs.declared.rules.Rule.TheVariants.{ConstantRange, UnrollD
 use Rattle.dh_tree.specs.declared.breaches.Breach.{Breach}
 use Rattle.dh_tree.specs.Counters.{counters, form_counters, other_counters, groups_counters, part_counters, counters_of}
 use Rattle.dh_tree.specs.Elements.{Spot}
-use Rattle.dh_tree.specs.Indices.{Known, known_of, divides, turns_breaches, term_index_breaches, action_index_breaches, action_form_index_breaches, other_index_breaches, actions_index_breaches, groups_index_breaches, decls_shape_breaches, index_breaches_of}
+use Rattle.dh_tree.specs.Indices.{IndexContext, index_context_of, divides, turns_breaches, term_index_breaches, action_index_breaches, action_form_index_breaches, other_index_breaches, actions_index_breaches, groups_index_breaches, decls_shape_breaches, index_breaches_of}
 use Rattle.dh_tree.specs.Kinds.{when}
 use Rattle.dh_tree.specs.LeastBreach.{breach}
 use Rattle.dh_tree.specs.Memories.{Memory, memories_of, memory_in}
@@ -53,7 +53,7 @@ factor_copy low high factor e =
     let d = divides_none (divides factor.value (high.value - low.value)) (breach UnrollDivides factor.place) (second_none (when (nat_lt high.value low.value) (breach ConstantRange high.place ∷ [])) _ e) in
     not_zero factor.value (both_true (not (factor.value == 0)) ((high.value - low.value) % factor.value == 0) d).0
 
-module _ (known : Known) where
+module _ (known : IndexContext) where
   mutual
     copies : (a : Action) → action_index_breaches known a ≡ [] → AllByRecursion HasCopy (counters a)
     copies (action id place form) e = form_copies form e
@@ -93,7 +93,7 @@ module _ (known : Known) where
 
 -- every loop of a program has a copy
 pub loops_have_copies : (p : Program) → index_breaches_of p ≡ [] → AllByRecursion HasCopy (counters_of p)
-loops_have_copies p e = copies (known_of p) p.body (second_none (decls_shape_breaches p.decls) _ e)
+loops_have_copies p e = copies (index_context_of p) p.body (second_none (decls_shape_breaches p.decls) _ e)
 
 -- what the rules tell of an access, of a memory or through views
 pub record Kept (p : Program) (a : SourceAccess) (memory : Memory) (o : Option Way) : Type 0 where

@@ -10,7 +10,7 @@ use Rattle.dh_tree.specs.PlainTrees.{shrinks, splits, suffixes, shifts, Term, te
 use Rattle.dh_meaning.specs.AccessNumbers.{term_accesses, accesses_of, part_accesses}
 use Rattle.dh_meaning.specs.Bindings.{depth_inside, binding_in, depth_bound}
 use Rattle.dh_meaning.specs.Core.{CoreTerm, CoreCommand, store, assign, choose, CoreCommands, no_commands, command_and}
-use Rattle.dh_meaning.specs.CoreOf.{Known, store_to, core_action, core_action_form, core_other, core_part, core_groups, core_term, core_commands, form_of, turning_of}
+use Rattle.dh_meaning.specs.CoreOf.{Known, store_to, core_action, core_action_form, core_other, core_part, core_groups, core_term, core_commands, action_form_of, turning_of}
 use Rattle.dh_meaning.specs.Levels.{assigns_to, any_assigns}
 use Rattle.dh_meaning.specs.Phases.{Located, located, Phase, straight, turns, repeated, decided, Phases, no_phases, phase, of_list, one_straight, joined, are_straight, one_command, folded, turn_count, turn_phases, choice_phases, phases, form_phases, other_phases, groups_phases, parts_phases}
 use Rattle.dh_meaning.specs.Sites.{Around, in_arm, in_loop, loop_of}
@@ -42,7 +42,7 @@ module _ (known : Known) where
 
   -- the depth inside a loop
   abbrev inner : (depth : ℕ) → Located → ℕ
-  inner d loop = depth_inside d (turning_of known 0 (form_of loop.command)).factor
+  inner d loop = depth_inside d (turning_of known 0 (action_form_of loop.command)).factor
 
   -- phases of commands, of which those inside a `for` may have reducers behind them
   abbrev mutual

@@ -22,7 +22,7 @@ use Rattle.dh_tree.specs.declared.tables.MemEntry.{MemEntry}
 use Rattle.dh_tree.specs.declared.trees.counters.Counter.{Counter}
 use Rattle.dh_tree.specs.Counters.{counters_of, counter_in}
 use Rattle.dh_tree.specs.Elements.{Spot, spot_of, spot_in_bank, entry_dims, dims_at, banks_of, bank_of}
-use Rattle.dh_tree.specs.Indices.{IndexKind, constant, iterator, dynamic, all_fit, counted, sum_kind, form_of, index_kind, index_breaches, indices_breaches}
+use Rattle.dh_tree.specs.Indices.{IndexKind, constant, iterator, dynamic, all_fit, counted, sum_kind, form_of, index_kind, one_index_breaches, indices_breaches}
 use Rattle.dh_tree.specs.Kinds.{when}
 use Rattle.dh_tree.specs.LeastBreach.{breach}
 use Rattle.dh_tree.specs.Memories.{Memory, memories_of, memory_in, number_in, table_of, entry_of, same_entity}
@@ -124,7 +124,7 @@ AtLeastOne (iterator c offset) = HasCopy c
 AtLeastOne dynamic = Unit {0}
 
 -- the residue of an index that breaks no rule is that of the rules
-pub index_bank : (loops : List Counter) (path : Path) (d : Dim) (place : Place) (k : IndexKind) (z : ℤ) → IsDim d → AtLeastOne k → index_breaches d place k ≡ [] → IsIndexValue IsUnrolled loops path k z → unsigned_abs z % d.banks ≡ index_in loops path k % d.banks
+pub index_bank : (loops : List Counter) (path : Path) (d : Dim) (place : Place) (k : IndexKind) (z : ℤ) → IsDim d → AtLeastOne k → one_index_breaches d place k ≡ [] → IsIndexValue IsUnrolled loops path k z → unsigned_abs z % d.banks ≡ index_in loops path k % d.banks
 index_bank loops path d place (constant w) z h a e v = ap (λ x. unsigned_abs x % d.banks) v
 index_bank loops path d place dynamic z h a e v = mod_one _ _ d.banks (one_bank d.banks h.banks (not_so (nat_lt 1 d.banks) (breach DynamicBank place) e))
 index_bank loops path d place (iterator c offset) z h a e v = by (nat_lt 1 d.banks) refl (not_so _ (breach BankUnroll place) e)
@@ -231,8 +231,8 @@ module _ (b : Begun) (v : Variables) (path : Path) (known : Known) (cs loops : L
   bank_of_indices n (d ∷ ds) no_terms h k t e = refl
   bank_of_indices n (d ∷ ds) (term_then (term place kind form) ts) h k t e =
       let z : ℤ = words.value_of (value_of b v path (core_term known n (term place kind form))) in
-      let first = index_bank loops path d place (index_kind cs kind form) z h.0 (index_copy cs kind form copies) (first_none (index_breaches d place (index_kind cs kind form)) _ e) (index_value IsUnrolled b v path known cs loops n (term place kind form) k.0 t.0) in
-      let rest = bank_of_indices (n + term_accesses (term place kind form)) ds ts h.1 k.1 t.1 (second_none (index_breaches d place (index_kind cs kind form)) _ e) in
+      let first = index_bank loops path d place (index_kind cs kind form) z h.0 (index_copy cs kind form copies) (first_none (one_index_breaches d place (index_kind cs kind form)) _ e) (index_value IsUnrolled b v path known cs loops n (term place kind form) k.0 t.0) in
+      let rest = bank_of_indices (n + term_accesses (term place kind form)) ds ts h.1 k.1 t.1 (second_none (one_index_breaches d place (index_kind cs kind form)) _ e) in
       ap (λ x. x * banks_of ds + bank_of ds (map unsigned_abs (values_of b v path (core_terms known (n + term_accesses (term place kind form)) ts)))) first
       ∙ ap (λ x. (index_in loops path (index_kind cs kind form) % d.banks) * banks_of ds + x) rest
 

@@ -17,7 +17,7 @@ use Rattle.dh_meaning.specs.Core.{Reach}
 use Rattle.dh_meaning.specs.CoreOf.{dims_by, entity_number, known_of, core_terms, target_to}
 use Rattle.dh_meaning.specs.Effects.{Begun, Variables, indices_through, is_inside, spot_by_indices, spot_by_views, spot_if_inside, spot_reached, values_of}
 use Rattle.dh_meaning.specs.Paths.{Path}
-use Rattle.dh_meaning.specs.Ways.{Step, Way, base_of, way_to}
+use Rattle.dh_meaning.specs.Ways.{WayStep, Way, base_of, way_to}
 use Rattle.dh_meets.specs.Charges.{bank_named, bank_reached, may_reach, reaches_by}
 use Rattle.dh_meets.specs.SourceEvents.{Element, with_indices, in_row, SourceAccess}
 use Rattle.dh_ways.specs.Leading.{LeadsTo, next_dims}
@@ -37,14 +37,14 @@ inside_so table memory zs s e = by (is_inside (dims_at table memory) zs) refl e
     by false f g = absurd cc
 
 -- an element that is reached through views
-pub record Seen (steps : List Step) (table : List MemEntry) (memory : ℕ) (indices offsets : List ℤ) (s : Spot) : Type 0 where
+pub record Seen (steps : List WayStep) (table : List MemEntry) (memory : ℕ) (indices offsets : List ℤ) (s : Spot) : Type 0 where
   pub last : List ℤ
   pub through : indices_through steps indices offsets ≡ Some last
   pub inside : is_inside (dims_at table memory) last ≡ true
   pub own_memory : s.memory ≡ memory
   pub bank : s.bank ≡ bank_at (dims_at table memory) last
 
-pub seen_through : (steps : List Step) (table : List MemEntry) (memory : ℕ) (indices offsets : List ℤ) (s : Spot) → spot_by_views table memory steps indices offsets ≡ Some s → Seen steps table memory indices offsets s
+pub seen_through : (steps : List WayStep) (table : List MemEntry) (memory : ℕ) (indices offsets : List ℤ) (s : Spot) → spot_by_views table memory steps indices offsets ≡ Some s → Seen steps table memory indices offsets s
 seen_through steps table memory indices offsets s e = by (indices_through steps indices offsets) refl e
   where
     by : (o : Option (List ℤ)) → indices_through steps indices offsets ≡ o → spot_if_inside table memory o ≡ Some s → Seen steps table memory indices offsets s

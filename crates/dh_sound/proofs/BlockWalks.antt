@@ -5,9 +5,9 @@ use Rattle.std.proofs.lemmas.List.{append_assoc}
 use Rattle.dh_tree.specs.PlainTrees.{Program, Term, Action, action, ActionForm, lets, lets_memory, views, assigns, stores, reduces, calls, blocks, decides, repeats, counts}
 use Rattle.dh_meaning.specs.AccessNumbers.{term_accesses, accesses_of}
 use Rattle.dh_meaning.specs.Core.{CoreTerm, truth_literal, no_commands}
-use Rattle.dh_meaning.specs.CoreOf.{Known, known_of, core_term, core_commands, test_of, form_of, core_test_of, core_test}
+use Rattle.dh_meaning.specs.CoreOf.{Known, known_of, core_term, core_commands, test_of, action_form_of, core_test_of, core_test}
 use Rattle.dh_meaning.specs.Effects.{Begun, Variables, Event, term_events}
-use Rattle.dh_meaning.specs.OnePhase.{in_one_phase, is_within, makes, any_makes, form_tests, tests_make, test_makes}
+use Rattle.dh_meaning.specs.OnePhase.{in_one_phase, is_between, makes, any_makes, form_tests, tests_make, test_makes}
 use Rattle.dh_meaning.specs.Paths.{Path}
 use Rattle.dh_meaning.specs.Phases.{Located}
 use Rattle.dh_meaning.specs.Sites.{Around, in_arm}
@@ -117,19 +117,19 @@ module _ (p : Program) (b : Begun) (path : Path) (in_block : ℕ → Bool)
     pub steps : Steps p b path in_block share v0 touched r before front v v es (term_events b v path test)
 
   test_walk : (r : Around) (before gap rest : List SourceEvent) (v : Variables) (es : List Event) (n first id : ℕ) (t : Term) → IsNamedTerm t → first ≡ count (before ++ gap)
-      → Agree n (count (gap ++ (source.term_events (site_of r id) t ++ rest))) (λ k. is_within k first (term_accesses t))
+      → Agree n (count (gap ++ (source.term_events (site_of r id) t ++ rest))) (λ k. is_between k first (term_accesses t))
       → Along p b path in_block share v0 touched r before (gap ++ (source.term_events (site_of r id) t ++ rest)) v es n
       → Tested r before v es (core_term known first t)
   test_walk r before gap rest v es n first id t names first_is a s =
       let te = source.term_events (site_of r id) t in
       let own = term_counted (site_of r id) t in
       let split = count_joined gap (te ++ rest) ∙ ap (λ l. count gap + l) (count_joined te rest) in
-      let here = subst (λ (l : ℕ). Agree n l (λ k. is_within k first (term_accesses t))) split a in
+      let here = subst (λ (l : ℕ). Agree n l (λ k. is_between k first (term_accesses t))) split a in
       let starts : n + count gap ≡ first = let x = count_joined before gap in let z = s.number in omega (arith, x, first_is, z) in
-      let within : (k : ℕ) → is_within k first (term_accesses t) ≡ true → Within k (n + count gap) (count te + count rest) =
+      let within : (k : ℕ) → is_between k first (term_accesses t) ≡ true → Within k (n + count gap) (count te + count rest) =
       (λ k e. let w = within_is k first (term_accesses t) e in let l = w.0 in let u = w.1 in (omega (arith, l, starts), omega (arith, u, starts, own))) in
       let gone = walk_passed p b path in_block share v0 touched r before gap v es n
-      (idle_passed p b path in_block share v0 touched r n gap (gap_agrees n (count gap) (count te + count rest) (λ k. is_within k first (term_accesses t)) here within))
+      (idle_passed p b path in_block share v0 touched r n gap (gap_agrees n (count gap) (count te + count rest) (λ k. is_between k first (term_accesses t)) here within))
       (along_first p b path in_block share v0 touched r before gap (te ++ rest) v es n s) in
       let along = along_first p b path in_block share v0 touched r (before ++ gap) te rest v (es ++ []) first (along_then p b path in_block share v0 touched r before gap (te ++ rest) v v es [] n first s (sym starts) gone) in
       let all_inside = λ (k : ℕ) (l : first ≤ k) (u : k < first + count te). here k (omega (arith, l, starts), omega (arith, u, starts)) ∙ is_within_so k first (term_accesses t) (l, omega (arith, u, own)) in
@@ -143,13 +143,13 @@ module _ (p : Program) (b : Begun) (path : Path) (in_block : ℕ → Bool)
   no_test r before part v es n s = record { front = []; steps = walk_none p b known path in_block share v0 touched r before v es s.near s.knows }
 
   longer_test : (r : Around) (before gap behind rest : List SourceEvent) (v : Variables) (es : List Event) (n first id : ℕ) (t : Term) → IsNamedTerm t → first ≡ count (before ++ gap)
-      → Agree n (count (gap ++ ((source.term_events (site_of r id) t ++ behind) ++ rest))) (λ k. is_within k first (term_accesses t))
+      → Agree n (count (gap ++ ((source.term_events (site_of r id) t ++ behind) ++ rest))) (λ k. is_between k first (term_accesses t))
       → Along p b path in_block share v0 touched r before (gap ++ ((source.term_events (site_of r id) t ++ behind) ++ rest)) v es n
       → Tested r before v es (core_term known first t)
   longer_test r before gap behind rest v es n first id t names first_is a s =
       let e = ap (λ l. gap ++ l) (append_assoc (source.term_events (site_of r id) t) behind rest) in
       test_walk r before gap (behind ++ rest) v es n first id t names first_is
-      (subst (λ (l : List SourceEvent). Agree n (count l) (λ k. is_within k first (term_accesses t))) e a)
+      (subst (λ (l : List SourceEvent). Agree n (count l) (λ k. is_between k first (term_accesses t))) e a)
       (subst (λ (l : List SourceEvent). Along p b path in_block share v0 touched r before l v es n) e s)
 
   test_of_form : (r : Around) (before gap rest : List SourceEvent) (v : Variables) (es : List Event) (n first id : ℕ) (f : ActionForm) → IsNamedForm f → first ≡ count (before ++ gap)
@@ -172,7 +172,7 @@ module _ (p : Program) (b : Begun) (path : Path) (in_block : ℕ → Bool)
   test_of_action : (r : Around) (before gap rest : List SourceEvent) (v : Variables) (es : List Event) (n first : ℕ) (x : Action) → IsNamedAction x → first ≡ count (before ++ gap)
       → Agree n (count (gap ++ (events r x ++ rest))) (λ k. tests_make k first x)
       → Along p b path in_block share v0 touched r before (gap ++ (events r x ++ rest)) v es n
-      → Tested r before v es (core_test_of known first (test_of (form_of x)))
+      → Tested r before v es (core_test_of known first (test_of (action_form_of x)))
   test_of_action r before gap rest v es n first (action id place f) names first_is a s = test_of_form r before gap rest v es n first id f names first_is a s
 
   -- the test of a command that follows

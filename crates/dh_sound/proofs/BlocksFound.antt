@@ -6,17 +6,17 @@ use Rattle.std.proofs.Common.{◌≡◌, ◌⊎◌, inl, inr, ℕ, true, List, [
 use Rattle.dh_tree.specs.PlainTrees.{Program}
 use Rattle.dh_tree.specs.Ready.{IsReady}
 use Rattle.dh_meaning.specs.Core.{Turning}
-use Rattle.dh_meaning.specs.CoreOf.{Known, known_of, form_of, turning_of, core_commands, core_test, core_phase, core_phases, core_of}
+use Rattle.dh_meaning.specs.CoreOf.{Known, known_of, action_form_of, turning_of, core_commands, core_test, core_phase, core_phases, core_of}
 use Rattle.dh_meaning.specs.Effects.{Block, commands, tests}
 use Rattle.dh_meaning.specs.OnePhase.{any_makes}
 use Rattle.dh_meaning.specs.Paths.{paths_in}
 use Rattle.dh_meaning.specs.Phases.{Located, Phase, straight, turns, repeated, decided, Phases, no_phases, phase, of_list, phases_of}
 use Rattle.dh_meaning.specs.Sites.{nothing_around}
-use Rattle.dh_meets.specs.Charges.{factors_of}
+use Rattle.dh_meets.specs.Charges.{loop_factors}
 use Rattle.dh_meets.specs.SourceEvents.{trace}
 use Rattle.dh_sound.specs.AssignsInside.{AllInside, AssignsInside}
 use Rattle.dh_sound.specs.Blocks.{factors, StandsIn, StandsInPhase}
-use Rattle.dh_sound.specs.LoopsMatch.{unrolled, EachMatches}
+use Rattle.dh_sound.specs.LoopsMatch.{unrolled_loops, EachMatches}
 use Rattle.dh_sound.specs.NamesInScope.{IsScoped}
 use Rattle.dh_sound.specs.Trails.{StandsBehind}
 use Rattle.dh_sound.specs.ViewTrails.{FollowsViews, StandsViews}
@@ -35,10 +35,10 @@ module _ (known : Known) where
   -- What is found of a block in loops: the straight commands or the command with the test that it is made of, and what
   -- holds of them in these loops.
   abbrev HoldsOfCommands : (loops : List Turning) → List Located → Type 0
-  HoldsOfCommands loops cs = EachInside known (unrolled loops) cs × (EachScoped known loops cs × IsSplit known (length (factors loops)) cs)
+  HoldsOfCommands loops cs = EachInside known (unrolled_loops loops) cs × (EachScoped known loops cs × IsSplit known (length (factors loops)) cs)
 
   abbrev HoldsOfTest : (loops : List Turning) → Located → Type 0
-  HoldsOfTest loops c = EachMatches known (unrolled loops) c.around.loops × IsScoped known loops c.command
+  HoldsOfTest loops c = EachMatches known (unrolled_loops loops) c.around.loops × IsScoped known loops c.command
 
   abbrev FoundStraight : (List Located → Type 0) → (loops : List Turning) → Block → Type 0
   FoundStraight S loops b = (cs : List Located) × ((b ≡ commands (core_commands known cs)) × (S cs × HoldsOfCommands loops cs))
@@ -54,25 +54,25 @@ module _ (known : Known) where
   found_more S S2 T T2 loops b s t (inl (cs, (is, (has, holds)))) = inl (cs, (is, (s cs has, holds)))
   found_more S S2 T T2 loops b s t (inr (c, (is, (has, holds)))) = inr (c, (is, (t c has, holds)))
 
-  found_test : (T : Located → Type 0) (S : List Located → Type 0) (round loops : List Turning) (b : Block) (c : Located) → T c → EachMatches known (unrolled round) c.around.loops → IsScoped known round c.command
+  found_test : (T : Located → Type 0) (S : List Located → Type 0) (round loops : List Turning) (b : Block) (c : Located) → T c → EachMatches known (unrolled_loops round) c.around.loops → IsScoped known round c.command
       → (loops ≡ round) × (b ≡ tests (core_test known c)) → Found S T loops b
   found_test T S round loops b c t e n s = inr (c, (s.1, (t, subst (λ (l : List Turning). HoldsOfTest l c) (sym s.0) (e, n))))
 
   -- what holds of phases in these loops
   abbrev HoldsOf : (round : List Turning) → Phase → Type 0
-  HoldsOf round p = IsInside known (unrolled round) p × (PhaseScoped known round p × PhaseSplit known (length (factors round)) p)
+  HoldsOf round p = IsInside known (unrolled_loops round) p × (PhaseScoped known round p × PhaseSplit known (length (factors round)) p)
 
   abbrev HoldsOfAll : (round : List Turning) → Phases → Type 0
-  HoldsOfAll round ps = AreInside known (unrolled round) ps × (PhasesScoped known round ps × AreSplit known (length (factors round)) ps)
+  HoldsOfAll round ps = AreInside known (unrolled_loops round) ps × (PhasesScoped known round ps × AreSplit known (length (factors round)) ps)
 
   mutual
     find_in : (p : Phase) (round loops : List Turning) (b : Block) → HoldsOf round p → StandsInPhase round (core_phase known p) loops b → Found (HasStraightIn p) (HasTestIn p) loops b
     find_in (straight cs) round loops b h s = inl (cs, (s.1, (refl, subst (λ (l : List Turning). HoldsOfCommands l cs) (sym s.0) h)))
     find_in (turns loop count body) round loops b h s =
-        let own : Turning = turning_of known count (form_of loop.command) in
+        let own : Turning = turning_of known count (action_form_of loop.command) in
         find body (round ++ own ∷ []) loops b (
           subst (λ (ts : List Turning). AreInside known ts body) (sym (unrolled_both round (own ∷ []))) h.0,
-          (h.1.0, subst (λ (d : ℕ). AreSplit known d body) (sym (inside_count known round count (form_of loop.command))) h.1.1),
+          (h.1.0, subst (λ (d : ℕ). AreSplit known d body) (sym (inside_count known round count (action_form_of loop.command))) h.1.1),
         ) s
     find_in (repeated loop body) round loops b h (inl s) = found_test (HasTestIn (repeated loop body)) (HasStraightIn (repeated loop body)) round loops b loop (inl refl) h.0.0 h.1.0.0 s
     find_in (repeated loop body) round loops b h (inr s) =
@@ -96,7 +96,7 @@ module _ (known : Known) where
         found_more (HaveStraight ps) (HaveStraight (phase p ps)) (HaveTest ps) (HaveTest (phase p ps)) loops b (λ cs g. inr g) (λ c g. inr g)
         (find ps round loops b (h.0.1, (h.1.0.1, h.1.1.1)) s)
 
-  find_listed : (ps : List Phase) (round loops : List Turning) (b : Block) → ListInside known (unrolled round) ps → ListScoped known round ps → ListSplit known (length (factors round)) ps
+  find_listed : (ps : List Phase) (round loops : List Turning) (b : Block) → ListInside known (unrolled_loops round) ps → ListScoped known round ps → ListSplit known (length (factors round)) ps
       → StandsIn round (core_phases known (of_list ps)) loops b → Found (HasStraight ps) (HasTest ps) loops b
   find_listed [] round loops b i n d s = elim s [ ]
   find_listed (p ∷ ps) round loops b i n d (inl s) =
@@ -132,9 +132,9 @@ block_found p r inside loops block s =
 
     by : Found (known_of p) (HasStraight (phases_of p)) (HasTest (phases_of p)) loops block → StraightFound p loops block ⊎ TestFound p loops block
     by (inl (cs, (is, (has, (matched, (names, split)))))) =
-        let w = loops_by (known_of p) (λ round es c. StandsViews p round es c) (λ round es c x. x.stands.around) [] (trace p) (unrolled loops) cs
+        let w = loops_by (known_of p) (λ round es c. StandsViews p round es c) (λ round es c x. x.stands.around) [] (trace p) (unrolled_loops loops) cs
         (straight_by (λ round es c. StandsViews p round es c) [] (trace p) nothing_around (phases_of p) cs tops has) matched in
-        let same : factors loops ≡ factors_of w.0.loops = match_factors (known_of p) loops w.0.loops w.1.1 in
+        let same : factors loops ≡ loop_factors w.0.loops = match_factors (known_of p) loops w.0.loops w.1.1 in
         let views : FollowsViews p w.0 [] (trace p) split.done =
         less_by (λ round es c. StandsViews p round es c) w.0 [] (trace p) split.done split.folds (subst (λ (x : List Located). FollowsViews p w.0 [] (trace p) x) split.is w.1.0) in
         inl (record {
@@ -158,7 +158,7 @@ block_found p r inside loops block s =
         })
     by (inr (c, (is, (has, (matched, names))))) =
         let f = own_around [] (trace p) c (tested_along [] (trace p) nothing_around (phases_of p) c plain has) in
-        let same : factors loops ≡ factors_of c.around.loops = match_factors (known_of p) loops c.around.loops matched in
+        let same : factors loops ≡ loop_factors c.around.loops = match_factors (known_of p) loops c.around.loops matched in
         inr (record {
           matches = record { of = record { tested = c; is = is; has = has; follows = f; inside = same; paths = ap paths_in same }; loops_match = matched };
           names = λ k a m g. test_named p r loops k a g c has names m;

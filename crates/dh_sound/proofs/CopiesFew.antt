@@ -9,12 +9,12 @@ use Rattle.dh_tree.specs.declared.breaches.Breach.{Breach}
 use Rattle.dh_tree.specs.declared.trees.counters.Counter.{Counter}
 use Rattle.dh_tree.specs.Elements.{banks_of}
 use Rattle.dh_tree.specs.Excesses.{most_counted, excess_at, or_else, first_above, copies_excess, form_copies_excess, other_copies_excess, groups_copies_excess, part_copies_excess, first_excess}
-use Rattle.dh_tree.specs.Indices.{Known, known_of, divides, term_index_breaches, turns_breaches, action_index_breaches, action_form_index_breaches, other_index_breaches, actions_index_breaches, groups_index_breaches, decls_shape_breaches, index_breaches_of}
+use Rattle.dh_tree.specs.Indices.{IndexContext, index_context_of, divides, term_index_breaches, turns_breaches, action_index_breaches, action_form_index_breaches, other_index_breaches, actions_index_breaches, groups_index_breaches, decls_shape_breaches, index_breaches_of}
 use Rattle.dh_tree.specs.Kinds.{when}
 use Rattle.dh_tree.specs.Memories.{Memory, memories_of}
 use Rattle.dh_tree.specs.PlainTrees.{Term, term, number, truth_value, named, accessed, in_bank, applied, converted, Terms, no_terms, term_then, Placed, Unrolled, Action, action, ActionForm, lets, lets_memory, views, assigns, stores, reduces, calls, blocks, decides, repeats, counts, MaybeAction, no_action, one_action, Actions, no_actions, action_then, Groups, no_groups, group_then, Program}
 use Rattle.dh_meaning.specs.Sites.{Around, nothing_around, in_arm, in_loop, loop_of}
-use Rattle.dh_meets.specs.Charges.{factors_of}
+use Rattle.dh_meets.specs.Charges.{loop_factors}
 use Rattle.dh_meets.specs.SourceEvents.{Site, SourceAccess, SourceEvent, accesses, assigned, term_events, terms_events, maybe_events, write_events, site_of, events, command_events, other_events, groups_events, part_events, accesses_in, trace}
 use Rattle.dh_sound.proofs.BanksReached.{first_none, second_none}
 use Rattle.dh_sound.proofs.ValuesOfIndices.{both_true}
@@ -40,13 +40,13 @@ within count e = by (nat_lt 256 count) refl e
     by false f h = grind (arith, nat_tests)
 
 -- the factors inside one loop more
-copies_more : (cs : List Counter) (c : Counter) → copies_in (factors_of (cs ++ c ∷ [])) ≡ copies_in (factors_of cs) * c.factor
+copies_more : (cs : List Counter) (c : Counter) → copies_in (loop_factors (cs ++ c ∷ [])) ≡ copies_in (loop_factors cs) * c.factor
 copies_more [] c = grind arith
 copies_more (x ∷ cs) c = ap (λ n. x.factor * n) (copies_more cs c) ∙ grind arith
 
 -- an access stands in few copies
 abbrev IsFew : SourceAccess → Type 0
-IsFew a = copies_in (factors_of a.site.loops) ≤ most_copies
+IsFew a = copies_in (loop_factors a.site.loops) ≤ most_copies
 
 abbrev AreFew : List SourceEvent → Type 0
 AreFew [] = Unit {0}
@@ -60,11 +60,11 @@ both_few (assigned entity ∷ xs) ys h i = both_few xs ys h i
 
 -- so many copies are round a command
 record Round (r : Around) (copies : ℕ) : Type 0 where
-  is : copies_in (factors_of r.loops) ≡ copies
+  is : copies_in (loop_factors r.loops) ≡ copies
   few : copies ≤ most_copies
 
 abbrev SiteFew : Site → Type 0
-SiteFew site = copies_in (factors_of site.loops) ≤ most_copies
+SiteFew site = copies_in (loop_factors site.loops) ≤ most_copies
 
 site_few : (r : Around) (id copies : ℕ) → Round r copies → SiteFew (site_of r id)
 site_few r id copies h = subst (λ n. n ≤ most_copies) (sym h.is) h.few
@@ -124,7 +124,7 @@ some_factor low high factor e =
     at_least_one zero h = absurd cc
     at_least_one (suc n) h = omega arith
 
-module _ (known : Known) where
+module _ (known : IndexContext) where
   mutual
     events_few : (r : Around) (copies : ℕ) → Round r copies → (a : Action) → action_index_breaches known a ≡ [] → copies_excess copies a ≡ None → AreFew (events r a)
     events_few r copies h (action id place form) e l = form_few r copies h (site_of r id) (site_few r id copies h) form e l
@@ -187,4 +187,4 @@ few_copies p e l k a g =
     let ports = rest_of (first_above limit.Ports (λ (m : Memory). m.shape.ports) (memories_of p)) _ banks in
     let copies = first_of (copies_excess 1 p.body) _ ports in
     few_at (trace p) k a
-    (events_few (known_of p) nothing_around 1 (record { is = refl; few = omega arith }) p.body (second_none (decls_shape_breaches p.decls) _ e) copies) g
+    (events_few (index_context_of p) nothing_around 1 (record { is = refl; few = omega arith }) p.body (second_none (decls_shape_breaches p.decls) _ e) copies) g

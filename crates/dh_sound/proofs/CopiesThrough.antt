@@ -12,7 +12,7 @@ use Rattle.dh_tree.specs.ViewElements.{inside_of, is_inside, named_by, view_thro
 use Rattle.dh_viewing.specs.Carried.{AllLead, Among, Copy, Goes, IsPassed, Passed, bank_in}
 use Rattle.dh_viewing.specs.ReachedBanks.{bank_at, covering}
 use Rattle.dh_meaning.specs.Effects.{indices_through}
-use Rattle.dh_meaning.specs.Ways.{Step}
+use Rattle.dh_meaning.specs.Ways.{WayStep}
 use Rattle.dh_ways.specs.Leading.{StepsLead, next_dims}
 use Rattle.dh_carried.proofs.LeadingElements.{leads_so}
 
@@ -47,7 +47,7 @@ followed None follow last h = absurd (none last h)
 followed (Some inner) follow last h = record { inner = inner; is = refl; rest = h }
 
 -- where the last is inside the memory, each is inside what it names
-inside_first : (ss : List Step) (dims : List Dim) (indices offsets last : List ℤ) → indices_through ss indices offsets ≡ Some last → is_inside dims last ≡ true → is_inside (next_dims ss dims) indices ≡ true
+inside_first : (ss : List WayStep) (dims : List Dim) (indices offsets last : List ℤ) → indices_through ss indices offsets ≡ Some last → is_inside dims last ≡ true → is_inside (next_dims ss dims) indices ≡ true
 inside_first [] dims indices offsets last h there = subst (λ (l : List ℤ). is_inside dims l ≡ true) (sym (same indices last h)) there
   where
     same : (one other : List ℤ) → Some one ≡ Some other → one ≡ other
@@ -57,7 +57,7 @@ inside_first (s ∷ ss) dims indices offsets last h there =
     (stepped s.is (take s.offsets offsets) indices f.inner f.is).inside
 
 -- and behind one step the others go on
-pub behind_step : (s : Step) (ss : List Step) (indices offsets last : List ℤ) → indices_through (s ∷ ss) indices offsets ≡ Some last
+pub behind_step : (s : WayStep) (ss : List WayStep) (indices offsets last : List ℤ) → indices_through (s ∷ ss) indices offsets ≡ Some last
     → indices_through ss (named_by s.is (take s.offsets offsets) indices) (drop s.offsets offsets) ≡ Some last
 behind_step s ss indices offsets last h =
     let f = followed (view_through s.is (take s.offsets offsets) indices) (λ inner. indices_through ss inner (drop s.offsets offsets)) last h in
@@ -68,7 +68,7 @@ at_front [] y ys = refl
 at_front (x ∷ front) y ys = at_front front y ys
 
 -- the offsets of shifts are the same
-abbrev pub SameAtShifts : List Step → (offsets others : List ℤ) → Type 0
+abbrev pub SameAtShifts : List WayStep → (offsets others : List ℤ) → Type 0
 SameAtShifts [] offsets others = Unit {0}
 SameAtShifts (s ∷ ss) offsets others =
     (s.is.sort ≡ Shift → take s.offsets offsets ≡ take s.offsets others) × SameAtShifts ss (drop s.offsets offsets) (drop s.offsets others)
@@ -99,12 +99,12 @@ module _ (v : ViewMap) (level : ℕ) (cs : List Copy) (at : (c : Copy) → Among
 
 module _ (dims : List Dim) where
   -- the banks of what is named, and behind each view
-  abbrev pub banks_along : List Step → (indices offsets : List ℤ) → List ℕ
+  abbrev pub banks_along : List WayStep → (indices offsets : List ℤ) → List ℕ
   banks_along [] indices offsets = bank_at dims indices ∷ []
   banks_along (s ∷ ss) indices offsets = bank_at s.is.shape.dims indices ∷ banks_along ss (named_by s.is (take s.offsets offsets) indices) (drop s.offsets offsets)
 
   -- a copy goes on with these indices and offsets from a level of the way on
-  pub record Passes (ss : List Step) (level : ℕ) (c : Copy) : Type 0 where
+  pub record Passes (ss : List WayStep) (level : ℕ) (c : Copy) : Type 0 where
     pub indices : List ℤ
     pub offsets : List ℤ
     pub last : List ℤ
@@ -114,17 +114,17 @@ module _ (dims : List Dim) where
     pub long : length front ≡ level
     pub banks : c.banks ≡ front ++ banks_along ss indices offsets
 
-  first_bank : (ss : List Step) (indices offsets : List ℤ) → (rest : List ℕ) × (banks_along ss indices offsets ≡ bank_at (next_dims ss dims) indices ∷ rest)
+  first_bank : (ss : List WayStep) (indices offsets : List ℤ) → (rest : List ℕ) × (banks_along ss indices offsets ≡ bank_at (next_dims ss dims) indices ∷ rest)
   first_bank [] indices offsets = ([], refl)
   first_bank (s ∷ ss) indices offsets = (banks_along ss (named_by s.is (take s.offsets offsets) indices) (drop s.offsets offsets), refl)
 
-  pub bank_here : (ss : List Step) (level : ℕ) (c : Copy) (q : Passes ss level c) → bank_in level c ≡ bank_at (next_dims ss dims) q.indices
+  pub bank_here : (ss : List WayStep) (level : ℕ) (c : Copy) (q : Passes ss level c) → bank_in level c ≡ bank_at (next_dims ss dims) q.indices
   bank_here ss level c q =
       let f = first_bank ss q.indices q.offsets in
       ap (λ (l : List ℕ). slice_index l level) (q.banks ∙ ap (λ (l : List ℕ). q.front ++ l) f.1)
       ∙ (ap (λ n. slice_index (q.front ++ bank_at (next_dims ss dims) q.indices ∷ f.0) n) (sym q.long) ∙ at_front q.front (bank_at (next_dims ss dims) q.indices) f.0)
 
-  module _ (s : Step) (ss : List Step) (level : ℕ) (c : Copy) where
+  module _ (s : WayStep) (ss : List WayStep) (level : ℕ) (c : Copy) where
     abbrev next_of : Passes (s ∷ ss) level c → Passes ss (suc level) c
     next_of q =
         let inner = named_by s.is (take s.offsets q.offsets) q.indices in
@@ -156,7 +156,7 @@ module _ (dims : List Dim) where
           to = bank_here ss (suc level) c n ∙ ap (λ (ds : List Dim). bank_at ds inner) (sym leads.1.0);
         }
 
-  pub all_lead : (ss : List Step) (level : ℕ) (cs : List Copy) → StepsLead ss dims → (pass : (c : Copy) → Among c cs → Passes ss level c)
+  pub all_lead : (ss : List WayStep) (level : ℕ) (cs : List Copy) → StepsLead ss dims → (pass : (c : Copy) → Among c cs → Passes ss level c)
       → ((c d : Copy) (h : Among c cs) (g : Among d cs) → SameAtShifts ss (pass c h).offsets (pass d g).offsets) → AllLead (map (λ s. s.is) ss) cs level
   all_lead [] level cs leads pass common = tt
   all_lead (s ∷ ss) level cs leads pass common = (

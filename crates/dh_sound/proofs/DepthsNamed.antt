@@ -19,7 +19,7 @@ use Rattle.dh_tree.specs.Kinds.{iterator_kind}
 use Rattle.dh_meaning.specs.Sites.{Around, nothing_around, in_arm, in_loop, loop_of}
 use Rattle.dh_meaning.specs.Phases.{Phase, straight, turns, repeated, decided, Phases, no_phases, phase, of_list, turn_count, located, phases, form_phases, other_phases, groups_phases, parts_phases, phases_of}
 use Rattle.dh_meaning.specs.Core.{Turning}
-use Rattle.dh_meaning.specs.CoreOf.{Known, known_of, entity_number, form_of, turning_of, core_phase, core_phases, core_of}
+use Rattle.dh_meaning.specs.CoreOf.{Known, known_of, entity_number, action_form_of, turning_of, core_phase, core_phases, core_of}
 use Rattle.dh_meaning.specs.Effects.{Block}
 use Rattle.dh_sound.specs.Blocks.{factors, StandsIn, StandsInPhase}
 use Rattle.dh_sound.specs.IteratorsAt.{HaveDepths, KeepsDepths}
@@ -361,10 +361,10 @@ module _ (known : Known) where
         → StandsInPhase round (core_phase known p) loops b → HaveDepths [] loops
     phase_has (straight cs) round h g loops b s = subst (λ (ls : List Turning). HaveDepths [] ls) (sym s.0) g
     phase_has (turns loop count body) round h g loops b s =
-        phases_have body (round ++ turning_of known count (form_of loop.command) ∷ [])
-        (subst (λ (d : ℕ). PhasesHold (has_depths known) d body) (sym (inside_count round count (form_of loop.command))) h.1)
-        (one_more [] round (turning_of known count (form_of loop.command)) g
-        (depth_same count (form_of loop.command) ∙ (h.0 ∙ sym (inside_count round count (form_of loop.command)))))
+        phases_have body (round ++ turning_of known count (action_form_of loop.command) ∷ [])
+        (subst (λ (d : ℕ). PhasesHold (has_depths known) d body) (sym (inside_count round count (action_form_of loop.command))) h.1)
+        (one_more [] round (turning_of known count (action_form_of loop.command)) g
+        (depth_same count (action_form_of loop.command) ∙ (h.0 ∙ sym (inside_count round count (action_form_of loop.command)))))
         loops b s
     phase_has (repeated loop body) round h g loops b (inl s) = subst (λ (ls : List Turning). HaveDepths [] ls) (sym s.0) g
     phase_has (repeated loop body) round h g loops b (inr s) = phases_have body round h g loops b s

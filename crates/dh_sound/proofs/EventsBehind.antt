@@ -7,7 +7,7 @@ use Rattle.dh_tree.specs.Seen.{terms}
 use Rattle.dh_tree.specs.ViewOffsets.{offsets_of}
 use Rattle.dh_meaning.specs.Bindings.{depth_inside}
 use Rattle.dh_meaning.specs.Sites.{Around, in_arm, in_loop, loop_of}
-use Rattle.dh_meaning.specs.Ways.{Hidden, Standing, behind_all, behind_hidden, form_standings, groups_standings, hidden_in, other_standings, part_standings, standings, way_to}
+use Rattle.dh_meaning.specs.Ways.{Hidden, ViewSite, behind_all, behind_hidden, form_standings, groups_standings, hidden_in, other_standings, part_standings, standings, way_to}
 use Rattle.dh_meets.specs.SourceEvents.{Element, with_indices, in_row, Site, SourceEvent, command_events, events, groups_events, maybe_events, other_events, part_events, site_of, term_events, terms_events, write_events}
 use Rattle.dh_sound.specs.BehindViews.{AccessBehind, ActionBehind, ElementBehind, FormBehind, GroupsBehind, MaybeBehind, OtherBehind, PartBehind, TermBehind, TermsBehind}
 use Rattle.dh_sound.specs.Trails.{EachAccess}
@@ -15,14 +15,14 @@ use Rattle.dh_sound.specs.ViewTrails.{IsBehind}
 use Rattle.dh_sound.proofs.Sites.{each_both, each_so}
 
 -- variables of views are behind those before
-pub behind_more : (x : ℕ) (ss : List Standing) → x ≤ behind_all x ss
+pub behind_more : (x : ℕ) (ss : List ViewSite) → x ≤ behind_all x ss
 behind_more x [] = omega arith
 behind_more x (s ∷ ss) = after x (length (offsets_of s.form)) (behind_all (behind_hidden x s) ss) (behind_more (behind_hidden x s) ss)
   where
     after : (x n y : ℕ) → x + n ≤ y → x ≤ y
     after x n y l = omega (arith, l)
 
-pub behind_both : (x : ℕ) (ss qs : List Standing) → behind_all x (ss ++ qs) ≡ behind_all (behind_all x ss) qs
+pub behind_both : (x : ℕ) (ss qs : List ViewSite) → behind_all x (ss ++ qs) ≡ behind_all (behind_all x ss) qs
 behind_both x [] qs = refl
 behind_both x (s ∷ ss) qs = behind_both (behind_hidden x s) ss qs
 
@@ -85,7 +85,7 @@ module _ (p : Program) where
     maybe_seen (Some t) h = term_seen t h
 
   -- of two parts, one behind the other
-  both_seen : (x : ℕ) (ss qs : List Standing) (es fs : List SourceEvent) → Behind (behind_all x ss) es → Behind (behind_all (behind_all x ss) qs) fs → Behind (behind_all x (ss ++ qs)) (es ++ fs)
+  both_seen : (x : ℕ) (ss qs : List ViewSite) (es fs : List SourceEvent) → Behind (behind_all x ss) es → Behind (behind_all (behind_all x ss) qs) fs → Behind (behind_all x (ss ++ qs)) (es ++ fs)
   both_seen x ss qs es fs h g =
       subst (λ (y : ℕ). Behind y (es ++ fs)) (sym (behind_both x ss qs))
       (each_both _ es fs (seen_up (behind_all x ss) (behind_all (behind_all x ss) qs) (behind_more (behind_all x ss) qs) es h) g)

@@ -18,7 +18,7 @@ use Rattle.dh_meaning.specs.Core.{CoreTerm, variable, CoreCommands, no_commands,
 use Rattle.dh_meaning.specs.CoreOf.{Known, entity_number, depth_of, kind_of, extended, extended_both, operation_of, core_term, folded_into, core_action, core_action_form, core_part, core_groups, core_commands}
 use Rattle.dh_meaning.specs.Effects.{Begun, Variables, Effect, term_events, at_each, assigned_at, command_run, commands_run}
 use Rattle.dh_meaning.specs.Levels.{assigns_to, any_assigns}
-use Rattle.dh_meaning.specs.OnePhase.{is_within, makes, any_makes}
+use Rattle.dh_meaning.specs.OnePhase.{is_between, makes, any_makes}
 use Rattle.dh_meaning.specs.Paths.{Path}
 use Rattle.dh_meaning.specs.Phases.{Located}
 use Rattle.dh_meaning.specs.Sites.{Around}
@@ -203,7 +203,7 @@ module _ (b : Begun) where
 
 -- Accesses.
 
-none_within : (k n : ℕ) → is_within k n 0 ≡ false
+none_within : (k n : ℕ) → is_between k n 0 ≡ false
 none_within k n = grind (arith, nat_tests)
 
 variable_none : (k n : ℕ) (f : ActionForm) (id : ℕ) (place : Place) → IsFoldForm f → makes k n (action id place f) ≡ false

@@ -11,7 +11,7 @@ use Rattle.dh_tree.specs.declared.breaches.Breach.{Breach}
 use Rattle.dh_tree.specs.declared.tables.Dim.{Dim}
 use Rattle.dh_tree.specs.declared.trees.counters.Counter.{Counter}
 use Rattle.dh_tree.specs.Elements.{banks_of}
-use Rattle.dh_tree.specs.Indices.{Known, known_of, divides, dim_keeps, dims_keep, shape_keeps, shape_breaches, kept_dims, access_breaches, bank_breaches, physical_breaches, term_index_breaches, terms_index_breaches, maybe_index_breaches, turns_breaches, action_index_breaches, action_form_index_breaches, other_index_breaches, actions_index_breaches, groups_index_breaches, decls_shape_breaches, index_breaches_of}
+use Rattle.dh_tree.specs.Indices.{IndexContext, index_context_of, divides, dim_keeps, dims_keep, shape_keeps, shape_breaches, kept_dims, access_index_breaches, physical_bank_breaches, physical_breaches, term_index_breaches, terms_index_breaches, maybe_index_breaches, turns_breaches, action_index_breaches, action_form_index_breaches, other_index_breaches, actions_index_breaches, groups_index_breaches, decls_shape_breaches, index_breaches_of}
 use Rattle.dh_tree.specs.Kinds.{when}
 use Rattle.dh_tree.specs.Memories.{Memory, outside_memory, locals, form_locals, other_locals, groups_locals, part_locals, memories_of, memory_in, same_entity}
 use Rattle.dh_tree.specs.PlainTrees.{Term, term, number, truth_value, named, accessed, in_bank, applied, converted, Terms, no_terms, term_then, Action, action, ActionForm, lets, lets_memory, views, assigns, stores, reduces, calls, blocks, decides, repeats, counts, MaybeAction, no_action, one_action, Actions, no_actions, action_then, Groups, no_groups, group_then, Declared, Program}
@@ -57,7 +57,7 @@ decls_keep [] e = tt
 decls_keep (d ∷ ds) e =
     (shape_without d.shape d.shape_places (first_none (shape_breaches d.shape d.shape_places) _ e), decls_keep ds (second_none (shape_breaches d.shape d.shape_places) _ e))
 
-module _ (known : Known) where
+module _ (known : IndexContext) where
   mutual
     locals_keep : (a : Action) → action_index_breaches known a ≡ [] → AllByRecursion Keeps (locals a)
     locals_keep (action id place form) e = form_locals_keep form e
@@ -106,7 +106,7 @@ pub memory_keeps : (p : Program) (entity : Option ℕ) (m : Memory) → index_br
 memory_keeps p entity m e f =
     found_keeps (memories_of p) entity m
     (both_all Keeps (map outside_memory p.decls) (locals p.body) (decls_keep p.decls (first_none (decls_shape_breaches p.decls) _ e))
-    (locals_keep (known_of p) p.body (second_none (decls_shape_breaches p.decls) _ e))) f
+    (locals_keep (index_context_of p) p.body (second_none (decls_shape_breaches p.decls) _ e))) f
 
 -- and so its dimensions are
 pub memory_dims : (p : Program) (entity : Option ℕ) (m : Memory) → index_breaches_of p ≡ [] → memory_in (memories_of p) entity ≡ Some m → AllByRecursion IsDim m.shape.dims
@@ -120,19 +120,19 @@ BankLies dims (with_indices indices) = Unit {0}
 BankLies dims (in_row bank row) = bank < banks_of dims
 
 -- an element keeps the rules in the dimensions of the memory that it is of
-abbrev ElementKeeps : Known → (entity : Option ℕ) → Element → Type 0
+abbrev ElementKeeps : IndexContext → (entity : Option ℕ) → Element → Type 0
 ElementKeeps known entity element =
     (m : Memory) → memory_in known.memories entity ≡ Some m → shape_keeps m.shape ≡ true → (element_breaches known.counters m.shape.dims element ≡ []) × BankLies m.shape.dims element
 
-abbrev EventsKeep : Known → List SourceEvent → Type 0
+abbrev EventsKeep : IndexContext → List SourceEvent → Type 0
 EventsKeep known [] = Unit {0}
 EventsKeep known (accesses a ∷ es) = ElementKeeps known a.entity a.element × EventsKeep known es
 EventsKeep known (assigned entity ∷ es) = EventsKeep known es
 
-indices_keep : (known : Known) (entity : Option ℕ) (indices : Terms) → access_breaches known.counters (kept_dims (memory_in known.memories entity)) indices ≡ [] → ElementKeeps known entity (with_indices indices)
+indices_keep : (known : IndexContext) (entity : Option ℕ) (indices : Terms) → access_index_breaches known.counters (kept_dims (memory_in known.memories entity)) indices ≡ [] → ElementKeeps known entity (with_indices indices)
 indices_keep known entity indices e m f k =
     let kept : kept_dims (memory_in known.memories entity) ≡ Some m.shape.dims = ap kept_dims f ∙ ap (λ (b : Bool). if b then Some m.shape.dims else None) k in
-    (sym (ap (λ ds. access_breaches known.counters ds indices) kept) ∙ e, tt)
+    (sym (ap (λ ds. access_index_breaches known.counters ds indices) kept) ∙ e, tt)
 
 when_none : (b : Bool) (x : Breach) → when b (x ∷ []) ≡ [] → b ≡ false
 when_none true x e = absurd cc
@@ -141,13 +141,13 @@ when_none false x e = refl
 not_beyond : (banks bank : ℕ) → nat_le banks bank ≡ false → bank < banks
 not_beyond banks bank e = grind (arith, nat_tests)
 
-row_keeps : (known : Known) (entity : Option ℕ) (bank : ℕ) (place : Place) (row : Term) → physical_breaches (kept_dims (memory_in known.memories entity)) bank place row ≡ []
+row_keeps : (known : IndexContext) (entity : Option ℕ) (bank : ℕ) (place : Place) (row : Term) → physical_breaches (kept_dims (memory_in known.memories entity)) bank place row ≡ []
     → ElementKeeps known entity (in_row bank row)
 row_keeps known entity bank place row e m f k =
     let kept : kept_dims (memory_in known.memories entity) ≡ Some m.shape.dims = ap kept_dims f ∙ ap (λ (b : Bool). if b then Some m.shape.dims else None) k in
-    (refl, not_beyond (banks_of m.shape.dims) bank (when_none _ _ (first_none (bank_breaches m.shape.dims bank place) _ (sym (ap (λ ds. physical_breaches ds bank place row) kept) ∙ e))))
+    (refl, not_beyond (banks_of m.shape.dims) bank (when_none _ _ (first_none (physical_bank_breaches m.shape.dims bank place) _ (sym (ap (λ ds. physical_breaches ds bank place row) kept) ∙ e))))
 
-module _ (known : Known) where
+module _ (known : IndexContext) where
   both_keep : (xs ys : List SourceEvent) → EventsKeep known xs → EventsKeep known ys → EventsKeep known (xs ++ ys)
   both_keep [] ys h i = i
   both_keep (accesses a ∷ xs) ys h i = (h.0, both_keep xs ys h.1 i)
@@ -160,8 +160,8 @@ module _ (known : Known) where
     term_keeps site (term place k (named r)) e = tt
     term_keeps site (term place k (accessed r indices)) e =
         both_keep (terms_events site indices) (one_access place r.entity (with_indices indices) false site)
-        (terms_keep site indices (second_none (access_breaches known.counters (kept_dims (memory_in known.memories r.entity)) indices) _ e))
-        (indices_keep known r.entity indices (first_none (access_breaches known.counters (kept_dims (memory_in known.memories r.entity)) indices) _ e), tt)
+        (terms_keep site indices (second_none (access_index_breaches known.counters (kept_dims (memory_in known.memories r.entity)) indices) _ e))
+        (indices_keep known r.entity indices (first_none (access_index_breaches known.counters (kept_dims (memory_in known.memories r.entity)) indices) _ e), tt)
     term_keeps site (term place k (in_bank r bank bank_place row)) e =
         both_keep (term_events site row) (one_access place r.entity (in_row bank row) false site)
         (term_keeps site row (second_none (physical_breaches (kept_dims (memory_in known.memories r.entity)) bank bank_place row) _ e))
@@ -181,8 +181,8 @@ module _ (known : Known) where
   write_keeps site (term place k (named r)) e = tt
   write_keeps site (term place k (accessed r indices)) e =
       both_keep (terms_events site indices) (one_access place r.entity (with_indices indices) true site)
-      (terms_keep site indices (second_none (access_breaches known.counters (kept_dims (memory_in known.memories r.entity)) indices) _ e))
-      (indices_keep known r.entity indices (first_none (access_breaches known.counters (kept_dims (memory_in known.memories r.entity)) indices) _ e), tt)
+      (terms_keep site indices (second_none (access_index_breaches known.counters (kept_dims (memory_in known.memories r.entity)) indices) _ e))
+      (indices_keep known r.entity indices (first_none (access_index_breaches known.counters (kept_dims (memory_in known.memories r.entity)) indices) _ e), tt)
   write_keeps site (term place k (in_bank r bank bank_place row)) e =
       both_keep (term_events site row) (one_access place r.entity (in_row bank row) true site)
       (term_keeps site row (second_none (physical_breaches (kept_dims (memory_in known.memories r.entity)) bank bank_place row) _ e))
@@ -196,7 +196,7 @@ module _ (known : Known) where
 
 -- Commands; the rules on views tell of their offsets.
 module _ (kv : KnownViews) where
-  abbrev known : Known
+  abbrev known : IndexContext
   known = kv.names
 
   offsets_keep : (ts : List Term) → offsets_view_breaches kv ts ≡ [] → terms_index_breaches known (terms ts) ≡ []
@@ -252,7 +252,7 @@ module _ (kv : KnownViews) where
         (part_keeps r part (first_none (actions_index_breaches known part) _ e) (first_none (part_view_breaches kv part) _ w))
         (groups_keep r rest (second_none (actions_index_breaches known part) _ e) (second_none (part_view_breaches kv part) _ w))
 
-keeps_at : (known : Known) (es : List SourceEvent) (k : ℕ) (a : SourceAccess) → EventsKeep known es → slice_get (accesses_in es) k ≡ Some a → ElementKeeps known a.entity a.element
+keeps_at : (known : IndexContext) (es : List SourceEvent) (k : ℕ) (a : SourceAccess) → EventsKeep known es → slice_get (accesses_in es) k ≡ Some a → ElementKeeps known a.entity a.element
 keeps_at known [] k a h e = absurd cc
 keeps_at known (accesses x ∷ es) zero a h e = let same : x ≡ a = cc in subst (λ (y : SourceAccess). ElementKeeps known y.entity y.element) same h.0
 keeps_at known (accesses x ∷ es) (suc k) a h e = keeps_at known es k a h.1 e
@@ -264,10 +264,10 @@ pub record KeepsIn (cs : List Counter) (m : Memory) (element : Element) : Type 0
   pub none : element_breaches cs m.shape.dims element ≡ []
   pub bank : BankLies m.shape.dims element
 
-pub access_keeps : (p : Program) → index_breaches_of p ≡ [] → view_breaches_of p ≡ [] → (k : ℕ) (a : SourceAccess) → slice_get (accesses_in (trace p)) k ≡ Some a → (m : Memory) → memory_in (memories_of p) a.entity ≡ Some m → KeepsIn (known_of p).counters m a.element
+pub access_keeps : (p : Program) → index_breaches_of p ≡ [] → view_breaches_of p ≡ [] → (k : ℕ) (a : SourceAccess) → slice_get (accesses_in (trace p)) k ≡ Some a → (m : Memory) → memory_in (memories_of p) a.entity ≡ Some m → KeepsIn (index_context_of p).counters m a.element
 access_keeps p e w k a g m h =
     let shape = memory_keeps p a.entity m e h in
-    let kept = keeps_at (known_of p) (trace p) k a (events_keep (known_views p) nothing_around p.body (second_none (decls_shape_breaches p.decls) _ e) (second_none (factor_breaches_of p) _ w)) g m h shape in
+    let kept = keeps_at (index_context_of p) (trace p) k a (events_keep (known_views p) nothing_around p.body (second_none (decls_shape_breaches p.decls) _ e) (second_none (factor_breaches_of p) _ w)) g m h shape in
     record {
       dims = dims_are m.shape.dims (both_true (not (m.shape.ports == 0)) (dims_keep m.shape.dims) shape).1;
       none = kept.0;

@@ -6,7 +6,7 @@ use Rattle.std.specs.Prelude.{slice_get}
 use Rattle.std.specs.Option.{is_some}
 use Rattle.dh_base.specs.declared.rules.Rule.TheVariants.{ViewFactor}
 use Rattle.dh_tree.specs.declared.viewing.Viewed.{Viewed}
-use Rattle.dh_tree.specs.Indices.{access_breaches, index_breaches_of, known_of, term_index_breaches}
+use Rattle.dh_tree.specs.Indices.{access_index_breaches, index_breaches_of, index_context_of, term_index_breaches}
 use Rattle.dh_tree.specs.LeastBreach.{breach}
 use Rattle.dh_tree.specs.PlainTrees.{Term, term, number, truth_value, named, accessed, in_bank, applied, converted, Terms, no_terms, term_then, Action, action, ActionForm, lets, lets_memory, views, assigns, stores, reduces, calls, blocks, decides, repeats, counts, MaybeAction, no_action, one_action, Actions, no_actions, action_then, Groups, no_groups, group_then, Program}
 use Rattle.dh_tree.specs.Seen.{terms}
@@ -26,7 +26,7 @@ use Rattle.dh_sound.proofs.ViewedWays.{views_kept, way_view}
 
 -- an element keeps the rules in the dimensions of the view that is named, where one is
 abbrev pub ThroughKeeps : KnownViews → (entity : Option ℕ) → Element → Type 0
-ThroughKeeps kv entity (with_indices indices) = access_breaches kv.names.counters (dims_through (view_in kv.kept entity)) indices ≡ []
+ThroughKeeps kv entity (with_indices indices) = access_index_breaches kv.names.counters (dims_through (view_in kv.kept entity)) indices ≡ []
 ThroughKeeps kv entity (in_row bank row) = is_some (view_in kv.views entity) ≡ false
 
 module _ (kv : KnownViews) where
@@ -39,7 +39,7 @@ module _ (kv : KnownViews) where
     term_through site (term place k (truth_value value)) e = tt
     term_through site (term place k (named r)) e = tt
     term_through site (term place k (accessed r indices)) e =
-        let own = access_breaches kv.names.counters (dims_through (view_in kv.kept r.entity)) indices in
+        let own = access_index_breaches kv.names.counters (dims_through (view_in kv.kept r.entity)) indices in
         each_both _ (terms_events site indices) _ (terms_through site indices (second_none own _ e)) (first_none own _ e, tt)
     term_through site (term place k (in_bank r bank bank_place row)) e =
         let own = physical_broken (view_in kv.views r.entity) r in
@@ -58,7 +58,7 @@ module _ (kv : KnownViews) where
   write_through site (term place k (truth_value value)) e = tt
   write_through site (term place k (named r)) e = tt
   write_through site (term place k (accessed r indices)) e =
-      let own = access_breaches kv.names.counters (dims_through (view_in kv.kept r.entity)) indices in
+      let own = access_index_breaches kv.names.counters (dims_through (view_in kv.kept r.entity)) indices in
       each_both _ (terms_events site indices) _ (terms_through site indices (second_none own _ e)) (first_none own _ e, tt)
   write_through site (term place k (in_bank r bank bank_place row)) e =
       let own = physical_broken (view_in kv.views r.entity) r in
@@ -126,11 +126,11 @@ each_there P (assigned entity ∷ es) k a h e = each_there P es k a h e
 
 -- an access through a way keeps the rules in the dimensions of the view that is named
 pub record KeepsThrough (p : Program) (w : Way) (element : Element) : Type 0 where
-  pub none : element_breaches (known_of p).counters w.is.shape.dims element ≡ []
+  pub none : element_breaches (index_context_of p).counters w.is.shape.dims element ≡ []
   pub indices : IsByIndices element
 
 through_of : (p : Program) (entity : Option ℕ) (w : Way) (element : Element) → view_in (kept_views p) entity ≡ Some w.is → view_in (viewed_in p) entity ≡ Some w.is → ThroughKeeps (known_views p) entity element → KeepsThrough p w element
-through_of p entity w (with_indices indices) kept seen h = record { none = sym (ap (λ o. access_breaches (known_of p).counters (dims_through o) indices) kept) ∙ h; indices = tt }
+through_of p entity w (with_indices indices) kept seen h = record { none = sym (ap (λ o. access_index_breaches (index_context_of p).counters (dims_through o) indices) kept) ∙ h; indices = tt }
 through_of p entity w (in_row bank row) kept seen h = absurd (wrong (sym (ap is_some seen) ∙ h))
   where
     wrong : true ≡ false → ⊥

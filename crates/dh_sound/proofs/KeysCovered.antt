@@ -16,12 +16,12 @@ use Rattle.dh_viewing.specs.ReachedBanks.{bank_at}
 use Rattle.dh_meaning.specs.Bindings.{binding_in, depth_bound}
 use Rattle.dh_meaning.specs.Effects.{Begun, Variables, indices_through}
 use Rattle.dh_meaning.specs.Paths.{Path, same_path, IsPathAmong}
-use Rattle.dh_meaning.specs.Ways.{Hidden, Step, Way, all_bindings_of, way_to}
+use Rattle.dh_meaning.specs.Ways.{Hidden, WayStep, Way, all_bindings_of, way_to}
 use Rattle.dh_meets.specs.Charges.{bank_named, charge_through, key_of, paths_of}
 use Rattle.dh_meets.specs.SourceEvents.{SourceAccess}
 use Rattle.dh_ways.specs.Leading.{LeadsTo, next_dims}
 use Rattle.dh_ways.specs.SpotsThrough.{offsets_at}
-use Rattle.dh_carried.specs.MadeCopies.{AreCopiesOf, IsCopyOf, MadeCopy, copies_of, in_group, is_of_group, views_on}
+use Rattle.dh_carried.specs.MadeCopies.{AreCopiesOf, IsCopyOf, MadeCopy, copies_of_made, in_group, is_of_group, views_on}
 use Rattle.dh_carried.proofs.CarriedKeys.{fewer_keys}
 use Rattle.dh_carried.proofs.GroupedKeys.{filtered_has, groups_cover, has_filtered, mapped_has}
 use Rattle.dh_sound.specs.SameKeys.{IsNearTo}
@@ -76,7 +76,7 @@ module _ (p : Program) (b : Begun) (bound : ViewsBound p) (a : SourceAccess) (w 
   passes c = record { indices = c.indices; offsets = offsets_at b c.variables c.path (Some w); last = c.last; through = c.through; inside = c.ends; front = []; long = refl; banks = refl }
 
   -- the bank behind all views
-  last_bank : (ss : List Step) (indices offsets last : List ℤ) → indices_through ss indices offsets ≡ Some last → slice_index (banks_along dims ss indices offsets) (length ss) ≡ bank_at dims last
+  last_bank : (ss : List WayStep) (indices offsets last : List ℤ) → indices_through ss indices offsets ≡ Some last → slice_index (banks_along dims ss indices offsets) (length ss) ≡ bank_at dims last
   last_bank [] indices offsets last h = ap (λ (l : List ℤ). bank_at dims l) (same indices last h)
     where
       same : (xs ys : List ℤ) → Some xs ≡ Some ys → xs ≡ ys
@@ -199,21 +199,21 @@ module _ (p : Program) (b : Begun) (bound : ViewsBound p) (a : SourceAccess) (w 
     copies = record { each = each_copy taken; lead = group_leads }
 
     -- each key is that of a copy in the bank
-    key_there : (k : List ℕ) → Has k keys → Has k (map (λ (c : Copy). c.key) (filter (λ (c : Copy). bank_in (length (views_on w)) c == bank) (copies_of made)))
+    key_there : (k : List ℕ) → Has k keys → Has k (map (λ (c : Copy). c.key) (filter (λ (c : Copy). bank_in (length (views_on w)) c == bank) (copies_of_made made)))
     key_there k h =
         let (c, (among, e)) = all_picked distinct pick_one k (has_unique same_path same_list whole_list k keys h) in
-        let there : Has (copy_of c) (copies_of made) = has_mapped (λ (m : MadeCopy). m.copy) (made_of c) made (has_mapped made_of c taken among) in
+        let there : Has (copy_of c) (copies_of_made made) = has_mapped (λ (m : MadeCopy). m.copy) (made_of c) made (has_mapped made_of c taken among) in
         let level : bank_in (length (views_on w)) (copy_of c) ≡ bank = ap (λ n. bank_in n (copy_of c)) (views_long w.steps) ∙ (last_bank w.steps c.indices (offsets_at b c.variables c.path (Some w)) c.last c.through ∙ c.reached) in
-        subst (λ (l : List ℕ). Has l (map (λ (o : Copy). o.key) (filter (λ (o : Copy). bank_in (length (views_on w)) o == bank) (copies_of made)))) e
-        (has_mapped (λ (o : Copy). o.key) (copy_of c) (filter (λ (o : Copy). bank_in (length (views_on w)) o == bank) (copies_of made))
-        (has_filtered (λ (o : Copy). bank_in (length (views_on w)) o == bank) (copy_of c) (copies_of made) there (eq-eqb (bank_in (length (views_on w)) (copy_of c)) bank level)))
+        subst (λ (l : List ℕ). Has l (map (λ (o : Copy). o.key) (filter (λ (o : Copy). bank_in (length (views_on w)) o == bank) (copies_of_made made)))) e
+        (has_mapped (λ (o : Copy). o.key) (copy_of c) (filter (λ (o : Copy). bank_in (length (views_on w)) o == bank) (copies_of_made made))
+        (has_filtered (λ (o : Copy). bank_in (length (views_on w)) o == bank) (copy_of c) (copies_of_made made) there (eq-eqb (bank_in (length (views_on w)) (copy_of c)) bank level)))
       where
-        views_long : (ss : List Step) → length (map (λ (s : Step). s.is) ss) ≡ length ss
+        views_long : (ss : List WayStep) → length (map (λ (s : WayStep). s.is) ss) ≡ length ss
         views_long [] = refl
         views_long (s ∷ ss) = ap suc (views_long ss)
 
     pub keys_covered : distinct_count same_path keys ≤ charge_through p w a bank
     keys_covered =
-        let f = fewer_keys keys (map (λ (c : Copy). c.key) (filter (λ (c : Copy). bank_in (length (views_on w)) c == bank) (copies_of made))) key_there in
+        let f = fewer_keys keys (map (λ (c : Copy). c.key) (filter (λ (c : Copy). bank_in (length (views_on w)) c == bank) (copies_of_made made))) key_there in
         let g = groups_cover p w a made copies bank in
         omega (arith, f, g)

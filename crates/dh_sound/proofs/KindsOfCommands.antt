@@ -11,12 +11,12 @@ use Rattle.dh_tree.specs.declared.trees.counters.Counter.{Counter}
 use Rattle.dh_tree.specs.declared.trees.expressions.Ref.{Ref}
 use Rattle.dh_tree.specs.declared.trees.programs.Sort.{Sort}
 use Rattle.dh_tree.specs.declared.trees.programs.Sort.TheVariants as sort
-use Rattle.dh_tree.specs.Breaches.{unknown, twice, term_breaches, value_breaches, breaches, form_breaches, other_breaches, actions_breaches, groups_breaches}
-use Rattle.dh_tree.specs.KindBreaches.{term_kind_breaches, assigned_breaches, maybe_breaches, truth_breaches, condition_breaches, target_breaches, reducer_breaches, parent_breaches, iterator_breaches, low_breaches, high_breaches, action_kind_breaches, action_form_kind_breaches, other_kind_breaches, actions_kind_breaches, groups_kind_breaches}
+use Rattle.dh_tree.specs.Breaches.{unknown, twice, term_breaches, maybe_value_breaches, breaches, form_breaches, other_breaches, actions_breaches, groups_breaches}
+use Rattle.dh_tree.specs.KindBreaches.{term_kind_breaches, assigned_breaches, maybe_breaches, truth_breaches, condition_breaches, target_breaches, reducer_kind_breaches, parent_breaches, iterator_breaches, low_breaches, high_breaches, action_kind_breaches, action_form_kind_breaches, other_kind_breaches, actions_kind_breaches, groups_kind_breaches}
 use Rattle.dh_tree.specs.Kinds.{Fact, of_variable, of_iterator, of_memory, of_function, Facts, fact_of, found, place_of, for_numbers, target_kind, value_kind, bank_breaches, variable_fact, view_fact, iterator_kind, facts_after, facts_after_form, facts_after_other, facts_after_actions, facts_after_groups, typed_term, typed_maybe, typed_action, typed_action_form, typed_other, typed_actions, typed_groups}
 use Rattle.dh_tree.specs.PlainTrees.{Term, ViewPlan, Action, action, ActionForm, lets, lets_memory, views, assigns, stores, reduces, calls, blocks, decides, repeats, counts, MaybeAction, no_action, one_action, Actions, no_actions, action_then, Groups, no_groups, group_then}
 use Rattle.dh_tree.specs.Resolved.{used, resolved_term, resolved_action, resolved_form, resolved_other, resolved_actions, resolved_groups}
-use Rattle.dh_tree.specs.Scopes.{Binding, binding, entity_of, is_visible, bind, Scope, declare, leave, past, at_end, form_at_end, other_at_end, actions_at_end, groups_at_end}
+use Rattle.dh_tree.specs.Scopes.{ScopeEntry, binding, entity_of, is_visible, bind, Scope, declare, leave, past, at_end, form_at_end, other_at_end, actions_at_end, groups_at_end}
 use Rattle.dh_tree.specs.Widths.{IsSized, MaybeSized, ActionSized, FormSized, OtherSized, ActionsSized, GroupsSized}
 use Rattle.dh_meaning.specs.Sites.{Around, in_arm, in_loop, loop_of}
 use Rattle.dh_meets.specs.SourceEvents.{Site, SourceEvent, assigned, term_events, maybe_events, write_events, events, command_events, other_events, groups_events, part_events}
@@ -35,7 +35,7 @@ use Rattle.dh_sound.proofs.KindsOfTerms.{terms_kinds}
 -- What is known of names.
 
 -- names that are visible before are known behind
-pub still_known : (facts later : Facts) (bs : List Binding) → Extends later facts → Knows facts bs → Knows later bs
+pub still_known : (facts later : Facts) (bs : List ScopeEntry) → Extends later facts → Knows facts bs → Knows later bs
 still_known facts later bs x k name n e = let h = k name n e in record { fact = h.fact; is = x n h.fact h.is; good = h.good }
 
 last_found : (b : Bool) (m n : ℕ) → (if b then Some m else None) ≡ Some n → m ≡ n
@@ -46,13 +46,13 @@ later_found : (b : Bool) (k m n : ℕ) (old new : Option ℕ) → (if b then Som
 later_found true k m n old new e h = inl e
 later_found false k m n old new e h = h e
 
-pub added_found : (bs : List Binding) (name other : List ℕ) (m n : ℕ) → entity_of (bs ++ binding name m ∷ []) other ≡ Some n → (entity_of bs other ≡ Some n) ⊎ (m ≡ n)
+pub added_found : (bs : List ScopeEntry) (name other : List ℕ) (m n : ℕ) → entity_of (bs ++ binding name m ∷ []) other ≡ Some n → (entity_of bs other ≡ Some n) ⊎ (m ≡ n)
 added_found [] name other m n e = inr (last_found (bytes_eq other name) m n e)
 added_found (b ∷ bs) name other m n e =
     later_found (bytes_eq other b.name) b.entity m n (entity_of bs other) (entity_of (bs ++ binding name m ∷ []) other) e (added_found bs name other m n)
 
 -- a name that is bound to an entity of which something is known
-pub bind_known : (facts : Facts) (bs : List Binding) (name : List ℕ) (m : ℕ) → Knows facts bs → IsKnownName facts m → Knows facts (bind bs name m)
+pub bind_known : (facts : Facts) (bs : List ScopeEntry) (name : List ℕ) (m : ℕ) → Knows facts bs → IsKnownName facts m → Knows facts (bind bs name m)
 bind_known facts bs name m k h other n e = either (is_visible bs name) e
   where
     either : (b : Bool) → entity_of (if b then bs else bs ++ binding name m ∷ []) other ≡ Some n → IsKnownName facts n
@@ -161,7 +161,7 @@ module _ (all : Facts) (cs : List Counter) (iterators : AreKnownIterators all cs
     good : IsGood (variable_fact declared value)
     events : EventsHave cs (maybe_events site value)
 
-  let_known : (site : Site) (facts : Facts) (s : Scope) (declared : Option Kind) (value : Option Term) → Extends all facts → Knows facts s.visible → IsSized declared → typed_maybe facts declared value ≡ value → option_map (resolved_term s.visible) value ≡ value → value_breaches s.visible value ≡ [] → maybe_breaches facts declared value ≡ [] → MaybeSized value → IsLet site declared value
+  let_known : (site : Site) (facts : Facts) (s : Scope) (declared : Option Kind) (value : Option Term) → Extends all facts → Knows facts s.visible → IsSized declared → typed_maybe facts declared value ≡ value → option_map (resolved_term s.visible) value ≡ value → maybe_value_breaches s.visible value ≡ [] → maybe_breaches facts declared value ≡ [] → MaybeSized value → IsLet site declared value
   let_known site facts s None None x k d e n v b z = record { good = bool_sized; events = tt }
   let_known site facts s (Some j) None x k d e n v b z = record { good = d; events = tt }
   let_known site facts s declared (Some t) x k d e n v b z =
@@ -185,7 +185,7 @@ module _ (all : Facts) (cs : List Counter) (iterators : AreKnownIterators all cs
     form_leads facts s r site (lets name declared value) l k x h =
         let typed : typed_maybe facts declared value ≡ value = let eq = h.typed in cc in
         let same : option_map (resolved_term s.visible) value ≡ value = let eq = h.named in cc in
-        let v = let_known site facts s declared value (λ n f e. x n f (appended facts (variable_fact declared value ∷ []) n f e)) k h.sized.0 typed same (first_none (value_breaches s.visible value) _ h.visible) h.kinds h.sized.1 in
+        let v = let_known site facts s declared value (λ n f e. x n f (appended facts (variable_fact declared value ∷ []) n f e)) k h.sized.0 typed same (first_none (maybe_value_breaches s.visible value) _ h.visible) h.kinds h.sized.1 in
         record {
           knows = declared_known facts s name sort.Variable (variable_fact declared value) l k v.good;
           events = both_have cs (maybe_events site value) (assigned name.entity ∷ []) v.events tt;
@@ -199,7 +199,7 @@ module _ (all : Facts) (cs : List Counter) (iterators : AreKnownIterators all cs
         let plan : resolved_plan s.visible form ≡ form = let eq = h.named in cc in
         let inner = terms_kinds all cs iterators site facts s.visible (λ n f e. x n f (appended facts (view_fact (fact_of facts parent) form ∷ []) n f e)) k (terms (offsets_of form)) (offsets_typed facts form typed) (record {
           named = offsets_named s.visible form plan;
-          visible = offsets_visible s.visible form ∙ first_none (names.plan_breaches s.visible form) _ (second_none (unknown s.visible parent) _ h.visible);
+          visible = offsets_visible s.visible form ∙ first_none (names.plan_name_breaches s.visible form) _ (second_none (unknown s.visible parent) _ h.visible);
           kinds = offsets_kinds facts form ∙ second_none (parent_breaches (fact_of facts parent) parent.place) _ h.kinds;
           sized = offsets_sized form h.sized;
         }) in
@@ -248,7 +248,7 @@ module _ (all : Facts) (cs : List Counter) (iterators : AreKnownIterators all cs
         let v = term_kinds all cs iterators site facts s.visible x k (for_numbers (target_kind (fact_of facts target))) (for_numbers_sized _ (target_sized facts target named)) value typed (record {
           named = same;
           visible = second_none (unknown s.visible target) _ h.visible;
-          kinds = second_none (assigned_breaches (target_kind (fact_of facts target)) (found value) (place_of value)) _ (second_none (reducer_breaches (target_kind (fact_of facts target)) (found value) target.place) _ below);
+          kinds = second_none (assigned_breaches (target_kind (fact_of facts target)) (found value) (place_of value)) _ (second_none (reducer_kind_breaches (target_kind (fact_of facts target)) (found value) target.place) _ below);
           sized = h.sized;
         }) in
         record { knows = k; events = both_have cs (term_events site value) (assigned target.entity ∷ []) v.events tt }

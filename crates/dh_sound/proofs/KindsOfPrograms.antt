@@ -15,7 +15,7 @@ use Rattle.dh_tree.specs.Kinds.{of_memory, Facts, parameter_fact, formal_facts, 
 use Rattle.dh_tree.specs.LeastBreach.{is_before}
 use Rattle.dh_tree.specs.PlainTrees.{Declared, Formal, Defined, Program}
 use Rattle.dh_tree.specs.Resolved.{resolved_action}
-use Rattle.dh_tree.specs.Scopes.{Binding, bind, Scope, entity, declare, formal_sort, after_formals, body_start, after_function, after_functions, Item, memory_items, function_items, merged, items_of, after_items, first_scope, body_scope}
+use Rattle.dh_tree.specs.Scopes.{ScopeEntry, bind, Scope, entity, declare, formal_sort, after_formals, body_start, after_function, after_functions, Item, memory_items, function_items, merged, items_of, after_items, first_scope, body_scope}
 use Rattle.dh_meaning.specs.Sites.{nothing_around}
 use Rattle.dh_meets.specs.SourceEvents.{SourceAccess, SourceEvent, accesses, assigned, accesses_in, trace}
 use Rattle.dh_sound.specs.IndexValues.{HasElementKinds, IsTypedProgram}
@@ -80,7 +80,7 @@ merged_known facts (m ∷ ms) (f ∷ fs) h i = by (is_before f.name.place m.name
     by true g k = (i.0, g)
     by false g k = (h.0, k)
 
-after_known : (facts : Facts) (bs : List Binding) (items : List Item) → Knows facts bs → ItemsKnown facts items → Knows facts (after_items bs items)
+after_known : (facts : Facts) (bs : List ScopeEntry) (items : List Item) → Knows facts bs → ItemsKnown facts items → Knows facts (after_items bs items)
 after_known facts bs [] k h = k
 after_known facts bs (i ∷ is) k h = after_known facts (bind bs i.name.name i.entity) is (bind_known facts bs i.name.name i.entity k h.0) h.1
 

@@ -22,10 +22,10 @@ use Rattle.dh_tree.specs.Kinds.{Fact, of_variable, of_iterator, of_memory, of_fu
 use Rattle.dh_tree.specs.WiderKinds.{wider}
 use Rattle.dh_tree.specs.PlainTrees.{Term, term, TermForm, number, truth_value, named, accessed, in_bank, applied, converted, Terms, no_terms, term_then}
 use Rattle.dh_tree.specs.Resolved.{used, resolved_term, resolved_terms}
-use Rattle.dh_tree.specs.Scopes.{Binding, entity_of}
+use Rattle.dh_tree.specs.Scopes.{ScopeEntry, entity_of}
 use Rattle.dh_tree.specs.Widths.{IsSized, AreSized, AreAllSized}
 use Rattle.dh_meets.specs.SourceEvents.{with_indices, in_row, Site, SourceEvent, accesses, assigned, one_access, term_events, terms_events, write_events}
-use Rattle.dh_sound.specs.IndexValues.{FitsKind, HasIntegerKind, AreOperands, is_sum, PartsFit, AllHaveIndexKinds, HasElementKinds}
+use Rattle.dh_sound.specs.IndexValues.{FitsKind, HasIntegerKind, AreSumOperands, is_sum, PartsFit, AllHaveIndexKinds, HasElementKinds}
 use Rattle.dh_sound.proofs.BanksReached.{first_none, second_none}
 use Rattle.dh_sound.proofs.FactsGrow.{Extends}
 use Rattle.dh_sound.proofs.IteratorsKnown.{IsKnownIterator, AreKnownIterators, found_iterator}
@@ -51,17 +51,17 @@ pub record IsKnownName (facts : Facts) (n : ℕ) : Type 0 where
   pub good : IsGood fact
 
 -- and so of every name that is visible
-abbrev pub Knows : Facts → List Binding → Type 0
+abbrev pub Knows : Facts → List ScopeEntry → Type 0
 Knows facts bs = (name : List ℕ) (n : ℕ) → entity_of bs name ≡ Some n → IsKnownName facts n
 
 -- an expression that breaks no rule
-pub record IsReady (facts : Facts) (bs : List Binding) (t : Term) : Type 0 where
+pub record IsReady (facts : Facts) (bs : List ScopeEntry) (t : Term) : Type 0 where
   pub named : resolved_term bs t ≡ t
   pub visible : term_breaches bs t ≡ []
   pub kinds : term_kind_breaches facts t ≡ []
   pub sized : AreSized t
 
-pub record AreReady (facts : Facts) (bs : List Binding) (ts : Terms) : Type 0 where
+pub record AreReady (facts : Facts) (bs : List ScopeEntry) (ts : Terms) : Type 0 where
   pub named : resolved_terms bs ts ≡ ts
   pub visible : terms_breaches bs ts ≡ []
   pub kinds : indices_kind_breaches facts ts ≡ []
@@ -77,7 +77,7 @@ visible_number : (o : Option ℕ) (b : Breach) → (if is_some o then [] else b 
 visible_number None b e = no_breach _ _ e
 visible_number (Some n) b e = (n, refl)
 
-pub name_known : (facts : Facts) (bs : List Binding) (r : Ref) → Knows facts bs → used bs r ≡ r → unknown bs r ≡ [] → IsNamed facts r
+pub name_known : (facts : Facts) (bs : List ScopeEntry) (r : Ref) → Knows facts bs → used bs r ≡ r → unknown bs r ≡ [] → IsNamed facts r
 name_known facts bs r k u v =
     let seen = visible_number (entity_of bs r.name) _ v in
     record { number = seen.0; entity = sym (ap (λ (x : Ref). x.entity) u) ∙ seen.1; known = k r.name seen.0 seen.1 }
@@ -377,13 +377,13 @@ module _ (all : Facts) (cs : List Counter) (iterators : AreKnownIterators all cs
   with_kind facts want place k form m e f s g p h = record { kind = m; is = (typed_parts facts want place k form e).1 ∙ f; sized = s; fits = g; parts = p; events = h }
 
   -- the operands of a sum
-  parts_of : (o : Op) (left right : Term) (l : HasKind cs site left) (r : HasKind cs site right) → operands_breaches (takes o) (place_of left) (place_of right) l.kind r.kind ≡ [] → is_sum o ≡ true → AreOperands cs (applied_kind o l.kind r.kind) left right
+  parts_of : (o : Op) (left right : Term) (l : HasKind cs site left) (r : HasKind cs site right) → operands_breaches (takes o) (place_of left) (place_of right) l.kind r.kind ≡ [] → is_sum o ≡ true → AreSumOperands cs (applied_kind o l.kind r.kind) left right
   parts_of o left right l r e s =
       let h = sum_operands o (place_of left) (place_of right) l.kind r.kind s e in
       record { first = integer_of cs site left l h.1.0; second = integer_of cs site right r h.1.1; wider_is = h.0 }
 
   mutual
-    pub term_kinds : (facts : Facts) (bs : List Binding) → Extends all facts → Knows facts bs → (want : Option Kind) → IsSized want → (t : Term) → typed_term facts want t ≡ t → IsReady facts bs t → HasKind cs site t
+    pub term_kinds : (facts : Facts) (bs : List ScopeEntry) → Extends all facts → Knows facts bs → (want : Option Kind) → IsSized want → (t : Term) → typed_term facts want t ≡ t → IsReady facts bs t → HasKind cs site t
     term_kinds facts bs x k want s (term place m (number negative n)) e h =
         let number_is = number_known m (number_kind want) negative n place (typed_parts facts want place m (number negative n) e).1 h.kinds in
         with_kind facts want place m (number negative n) (number_kind want) e number_is.0 (number_kind_sized want s) number_is.1 tt tt
@@ -465,7 +465,7 @@ module _ (all : Facts) (cs : List Counter) (iterators : AreKnownIterators all cs
         }) in
         with_kind facts want place m (converted inner to) to e (cast_known place (found inner) i.kind to i.is (first_none (cast_breaches place (found inner) to) _ h.kinds)) h.sized.0 tt tt i.events
 
-    pub terms_kinds : (facts : Facts) (bs : List Binding) → Extends all facts → Knows facts bs → (ts : Terms) → typed_terms facts ts ≡ ts → AreReady facts bs ts → HaveKinds cs site ts
+    pub terms_kinds : (facts : Facts) (bs : List ScopeEntry) → Extends all facts → Knows facts bs → (ts : Terms) → typed_terms facts ts ≡ ts → AreReady facts bs ts → HaveKinds cs site ts
     terms_kinds facts bs x k no_terms e h = record { found = refl; integer = refl; kinds = tt; events = tt }
     terms_kinds facts bs x k (term_then t rest) e h =
         let first_typed : typed_term facts None t ≡ t = cc in

@@ -15,20 +15,20 @@ use Rattle.dh_meaning.specs.AccessNumbers.{term_accesses, accesses_of, part_acce
 use Rattle.dh_meaning.specs.Phases.{Located, Phase, straight, turns, repeated, decided, Phases, no_phases, phase, of_list, one_straight, joined, are_straight, one_command, folded, turn_count, turn_phases, choice_phases, phases, form_phases, other_phases, groups_phases, parts_phases}
 use Rattle.dh_meaning.specs.Sites.{Around, in_arm, in_loop, loop_of}
 use Rattle.dh_meaning.specs.Core.{Turning}
-use Rattle.dh_meaning.specs.CoreOf.{Known, known_of, entity_number, form_of, turning_of}
+use Rattle.dh_meaning.specs.CoreOf.{Known, known_of, entity_number, action_form_of, turning_of}
 use Rattle.dh_meaning.specs.Effects.{Block}
-use Rattle.dh_meets.specs.Charges.{factors_of}
+use Rattle.dh_meets.specs.Charges.{loop_factors}
 use Rattle.dh_meets.specs.SourceEvents.{SourceEvent}
 use Rattle.dh_sound.specs.Blocks.{factors}
-use Rattle.dh_sound.specs.LoopsMatch.{unrolled, LoopMatches, EachMatches, LoopsMatch}
-use Rattle.dh_sound.specs.Straight.{Stands, IsNamedAction, IsNamedForm, IsNamedOther, AreNamedGroups, AreNamedActions}
+use Rattle.dh_sound.specs.LoopsMatch.{unrolled_loops, LoopMatches, EachMatches, LoopsMatch}
+use Rattle.dh_sound.specs.Straight.{StandsForSome, IsNamedAction, IsNamedForm, IsNamedOther, AreNamedGroups, AreNamedActions}
 use Rattle.dh_sound.proofs.BlocksOfPhases.{Along, AlongBy}
 use Rattle.dh_sound.specs.BlocksOfPhases.{OfStraight, OfTest}
 use Rattle.dh_sound.specs.Trails.{Follows, FollowsBy, StandsBehind}
 
 -- Unrolled loops.
 
-pub unrolled_both : (a b : List Turning) → unrolled (a ++ b) ≡ unrolled a ++ unrolled b
+pub unrolled_both : (a b : List Turning) → unrolled_loops (a ++ b) ≡ unrolled_loops a ++ unrolled_loops b
 unrolled_both [] b = refl
 unrolled_both (l ∷ ls) b = by (nat_lt 1 l.factor) _ _ _ (unrolled_both ls b)
   where
@@ -40,7 +40,7 @@ abbrev turning_factors : List Turning → List ℕ
 turning_factors [] = []
 turning_factors (l ∷ ls) = l.factor ∷ turning_factors ls
 
-unrolled_factors : (loops : List Turning) → factors loops ≡ turning_factors (unrolled loops)
+unrolled_factors : (loops : List Turning) → factors loops ≡ turning_factors (unrolled_loops loops)
 unrolled_factors [] = refl
 unrolled_factors (l ∷ ls) = by (nat_lt 1 l.factor) _ _ (unrolled_factors ls)
   where
@@ -54,19 +54,19 @@ both_match known [] ms (c ∷ cs) ds h g = elim h [ ]
 both_match known (l ∷ ls) ms [] ds h g = elim h [ ]
 both_match known (l ∷ ls) ms (c ∷ cs) ds h g = (h.0, both_match known ls ms cs ds h.1 g)
 
-matched_factors : (known : Known) (ls : List Turning) (cs : List Counter) → EachMatches known ls cs → turning_factors ls ≡ factors_of cs
+matched_factors : (known : Known) (ls : List Turning) (cs : List Counter) → EachMatches known ls cs → turning_factors ls ≡ loop_factors cs
 matched_factors known [] [] h = refl
 matched_factors known [] (c ∷ cs) h = elim h [ ]
 matched_factors known (l ∷ ls) [] h = elim h [ ]
 matched_factors known (l ∷ ls) (c ∷ cs) h = ap (λ n. n ∷ turning_factors ls) h.0.factor ∙ ap (λ x. c.factor ∷ x) (matched_factors known ls cs h.1)
 
 -- loops that match have the same factors
-pub match_factors : (known : Known) (loops : List Turning) (cs : List Counter) → LoopsMatch known loops cs → factors loops ≡ factors_of cs
-match_factors known loops cs h = unrolled_factors loops ∙ matched_factors known (unrolled loops) cs h
+pub match_factors : (known : Known) (loops : List Turning) (cs : List Counter) → LoopsMatch known loops cs → factors loops ≡ loop_factors cs
+match_factors known loops cs h = unrolled_factors loops ∙ matched_factors known (unrolled_loops loops) cs h
 
 -- a loop comes to those round it where it is unrolled
 loop_matches : (known : Known) (r : Around) (c : Counter) (ts : List Turning) (own : Turning) → LoopMatches known own c → EachMatches known ts r.loops
-    → EachMatches known (ts ++ unrolled (own ∷ [])) (in_loop r c).loops
+    → EachMatches known (ts ++ unrolled_loops (own ∷ [])) (in_loop r c).loops
 loop_matches known r c ts own m h =
     subst (λ (n : ℕ). EachMatches known (ts ++ (if nat_lt 1 n then own ∷ [] else [])) (in_loop r c).loops) (sym m.factor) (by (nat_lt 1 c.factor))
   where
@@ -89,7 +89,7 @@ each_both known ts (c ∷ cs) ds h g = (h.0, each_both known ts cs ds h.1 g)
 
 module _ (known : Known) where
   -- a `for` that is run is that of the source
-  own_matches : (iterator : Ref) (declared : Option Kind) (low high : Placed) (factor : Unrolled) (body : Action) (combine : MaybeAction) (at : Place) → Stands iterator
+  own_matches : (iterator : Ref) (declared : Option Kind) (low high : Placed) (factor : Unrolled) (body : Action) (combine : MaybeAction) (at : Place) → StandsForSome iterator
       → LoopMatches known (turning_of known (turn_count low.value high.value factor.value) (counts iterator declared low high factor body combine at)) (loop_of iterator low high factor)
   own_matches iterator declared low high factor body combine at (e, is) = record {
     iterator = is ∙ ap Some (sym (ap entity_number is));
@@ -104,7 +104,7 @@ module _ (known : Known) where
   abbrev mutual
     pub IsInside : (ts : List Turning) → Phase → Type 0
     IsInside ts (straight cs) = EachInside known ts cs
-    IsInside ts (turns loop count body) = AreInside (ts ++ unrolled (turning_of known count (form_of loop.command) ∷ [])) body
+    IsInside ts (turns loop count body) = AreInside (ts ++ unrolled_loops (turning_of known count (action_form_of loop.command) ∷ [])) body
     IsInside ts (repeated loop body) = EachMatches known ts loop.around.loops × AreInside ts body
     IsInside ts (decided choice chosen other) = EachMatches known ts choice.around.loops × (AreInside ts chosen × AreInside ts other)
 
@@ -154,14 +154,14 @@ module _ (known : Known) where
   folded_inside ts (decided choice chosen other ∷ []) fold h g = (h.0, g)
   folded_inside ts (p ∷ q ∷ ps) fold h g = (h.0, folded_inside ts (q ∷ ps) fold h.1 g)
 
-  turn_inside : (ts : List Turning) (loop : Located) (count : ℕ) (turn : List Phase) → ListInside (ts ++ unrolled (turning_of known count (form_of loop.command) ∷ [])) turn
+  turn_inside : (ts : List Turning) (loop : Located) (count : ℕ) (turn : List Phase) → ListInside (ts ++ unrolled_loops (turning_of known count (action_form_of loop.command) ∷ [])) turn
       → ListInside ts (turn_phases loop count turn)
   turn_inside ts loop count [] h = tt
   turn_inside ts loop count (p ∷ ps) h = by (count == 0)
     where
       by : (z : Bool) → ListInside ts (if z then [] else turns loop count (of_list (p ∷ ps)) ∷ [])
       by true = tt
-      by false = (listed (ts ++ unrolled (turning_of known count (form_of loop.command) ∷ [])) (p ∷ ps) h, tt)
+      by false = (listed (ts ++ unrolled_loops (turning_of known count (action_form_of loop.command) ∷ [])) (p ∷ ps) h, tt)
 
   choice_inside : (ts : List Turning) (choice : Located) (chosen other : List Phase) → EachMatches known ts choice.around.loops → ListInside ts chosen → ListInside ts other
       → ListInside ts (choice_phases choice chosen other)
@@ -188,7 +188,7 @@ module _ (known : Known) where
     form_inside r ts n id place (counts iterator declared low high factor body combine combine_place) names e =
         let c = loop_of iterator low high factor in
         let own : Turning = turning_of known (turn_count low.value high.value factor.value) (counts iterator declared low high factor body combine combine_place) in
-        let inner : List Turning = ts ++ unrolled (own ∷ []) in
+        let inner : List Turning = ts ++ unrolled_loops (own ∷ []) in
         let more : EachMatches known inner (in_loop r c).loops = loop_matches known r c ts own (own_matches iterator declared low high factor body combine combine_place names.0) e in
         turn_inside ts _ _ _
         (folded_inside inner _ _ (action_inside (in_loop r c) inner n body names.1.0 more) (other_inside (in_loop r c) inner (n + accesses_of body) combine names.1.1 more))

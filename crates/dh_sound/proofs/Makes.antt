@@ -4,7 +4,7 @@ use Rattle.std.proofs.Common.{◌≡◌, ◌⊎◌, inl, inr, ℕ, ◌+◌, ◌<
 use Rattle.std.proofs.lemmas.Bool.Decides.{nat_tests}
 use Rattle.dh_tree.specs.PlainTrees.{Term, term, number, truth_value, named, accessed, in_bank, applied, converted, Action, action, ActionForm, lets, lets_memory, views, assigns, stores, reduces, calls, blocks, decides, repeats, counts, MaybeAction, no_action, one_action, Actions, no_actions, action_then, Groups, no_groups, group_then}
 use Rattle.dh_meaning.specs.AccessNumbers.{term_accesses, maybe_accesses, own_accesses, accesses_of, inner_accesses, other_accesses, groups_accesses, part_accesses}
-use Rattle.dh_meaning.specs.OnePhase.{is_within, makes, form_makes, other_makes, groups_make, part_makes}
+use Rattle.dh_meaning.specs.OnePhase.{is_between, makes, form_makes, other_makes, groups_make, part_makes}
 use Rattle.dh_meaning.specs.Sites.{Around, in_arm, in_loop, loop_of}
 use Rattle.dh_meets.specs.SourceEvents.{Site, assigned, site_of, term_events, terms_events, maybe_events, write_events, events, command_events, other_events, groups_events, part_events, one_access, with_indices, in_row}
 use Rattle.dh_sound.specs.Straight.{IsTarget, IsNamedAction, IsNamedForm, IsNamedOther, AreNamedGroups, AreNamedActions}
@@ -22,7 +22,7 @@ either false y e = inr e
 abbrev pub Within : (k n count : ℕ) → Type 0
 Within k n c = (n ≤ k) × (k < n + c)
 
-pub within_is : (k n c : ℕ) → is_within k n c ≡ true → Within k n c
+pub within_is : (k n c : ℕ) → is_between k n c ≡ true → Within k n c
 within_is k n c e = by (nat_le n k) (nat_lt k (n + c)) refl refl e
   where
     by : (x y : Bool) → nat_le n k ≡ x → nat_lt k (n + c) ≡ y → (x && y) ≡ true → Within k n c
@@ -30,7 +30,7 @@ within_is k n c e = by (nat_le n k) (nat_lt k (n + c)) refl refl e
     by true false f g e = cc
     by false y f g e = cc
 
-pub is_within_so : (k n c : ℕ) → Within k n c → is_within k n c ≡ true
+pub is_within_so : (k n c : ℕ) → Within k n c → is_between k n c ≡ true
 is_within_so k n c w = let l = w.0 in let u = w.1 in ap (λ x. x && nat_lt k (n + c)) (le_so n k l) ∙ lt_so k (n + c) u
   where
     le_so : (a b : ℕ) → a ≤ b → nat_le a b ≡ true
@@ -39,10 +39,10 @@ is_within_so k n c w = let l = w.0 in let u = w.1 in ap (λ x. x && nat_lt k (n 
     lt_so : (a b : ℕ) → a < b → nat_lt a b ≡ true
     lt_so a b l = grind (arith, nat_tests)
 
-pub not_within : (k n c : ℕ) → (Within k n c → ⊥) → is_within k n c ≡ false
-not_within k n c out = by (is_within k n c) refl
+pub not_within : (k n c : ℕ) → (Within k n c → ⊥) → is_between k n c ≡ false
+not_within k n c out = by (is_between k n c) refl
   where
-    by : (x : Bool) → is_within k n c ≡ x → is_within k n c ≡ false
+    by : (x : Bool) → is_between k n c ≡ x → is_between k n c ≡ false
     by true e = elim (out (within_is k n c e)) [ ]
     by false e = e
 
@@ -50,8 +50,8 @@ pub two_within : (k n a c : ℕ) (x y : Bool) → (x || y) ≡ true → (x ≡ t
 two_within k n a c true y e f g = let w = f refl in let u = w.1 in (w.0, omega (arith, u))
 two_within k n a c false y e f g = let w = g e in let l = w.0 in let u = w.1 in (omega (arith, l), omega (arith, u))
 
-arms_within : (k n t c o : ℕ) (x y : Bool) → (is_within k n t || (x || y)) ≡ true → (x ≡ true → Within k (n + t) c) → (y ≡ true → Within k (n + t + c) o) → Within k n (t + (c + o))
-arms_within k n t c o x y e f g = two_within k n t (c + o) (is_within k n t) (x || y) e (within_is k n t) (λ h. two_within k (n + t) c o x y h f g)
+arms_within : (k n t c o : ℕ) (x y : Bool) → (is_between k n t || (x || y)) ≡ true → (x ≡ true → Within k (n + t) c) → (y ≡ true → Within k (n + t + c) o) → Within k n (t + (c + o))
+arms_within k n t c o x y e f g = two_within k n t (c + o) (is_between k n t) (x || y) e (within_is k n t) (λ h. two_within k (n + t) c o x y h f g)
 
 mutual
   pub makes_within : (k n : ℕ) (a : Action) → makes k n a ≡ true → Within k n (accesses_of a)

@@ -7,18 +7,18 @@ use Rattle.dh_tree.specs.declared.breaches.Breach.{Breach}
 use Rattle.dh_tree.specs.declared.trees.expressions.Ref.{Ref}
 use Rattle.dh_base.specs.declared.rules.Rule.TheVariants.{UnknownName}
 use Rattle.dh_tree.specs.declared.trees.programs.Sort.TheVariants.{Iterator}
-use Rattle.dh_tree.specs.Breaches.{unknown, twice, plan_breaches, term_breaches, term_form_breaches, terms_breaches, value_breaches, breaches, form_breaches, other_breaches, actions_breaches, groups_breaches, functions_breaches, items_breaches}
+use Rattle.dh_tree.specs.Breaches.{unknown, twice, plan_name_breaches, term_breaches, term_form_breaches, terms_breaches, maybe_value_breaches, breaches, form_breaches, other_breaches, actions_breaches, groups_breaches, functions_breaches, items_breaches}
 use Rattle.dh_tree.specs.LeastBreach.{breach}
 use Rattle.dh_tree.specs.PlainTrees.{Term, term, TermForm, number, truth_value, named, accessed, in_bank, applied, converted, Terms, no_terms, term_then, Action, action, ActionForm, lets, lets_memory, views, assigns, stores, reduces, calls, blocks, decides, repeats, counts, MaybeAction, no_action, one_action, Actions, no_actions, action_then, Groups, no_groups, group_then, Program}
 use Rattle.dh_tree.specs.Ready.{IsReady}
 use Rattle.dh_tree.specs.Seen.{terms}
 use Rattle.dh_tree.specs.ViewOffsets.{offsets_of}
 use Rattle.dh_tree.specs.Resolved.{resolved_plan, resolved_term, resolved_term_form, resolved_terms, resolved_action, resolved_form, resolved_other, resolved_actions, resolved_groups}
-use Rattle.dh_tree.specs.Scopes.{Binding, entity_of, Scope, declare, leave, past, at_end, actions_at_end, first_scope, body_scope, items_of}
+use Rattle.dh_tree.specs.Scopes.{ScopeEntry, entity_of, Scope, declare, leave, past, at_end, actions_at_end, first_scope, body_scope, items_of}
 use Rattle.dh_tree.proofs.EmptyLists.{first_none, second_none}
 use Rattle.dh_sound.proofs.Offsets.{offsets_named, offsets_visible}
 use Rattle.dh_tree.specs.Targets.{IsAccess, HasTargets, FormHasTargets, OtherHasTargets, GroupsHaveTargets, PartHasTargets}
-use Rattle.dh_sound.specs.Straight.{Stands, IsNamedTerm, IsNamedTermForm, AreNamedTerms, MaybeNamed, IsTarget, IsNamedAction, IsNamedForm, IsNamedOther, AreNamedGroups, AreNamedActions}
+use Rattle.dh_sound.specs.Straight.{StandsForSome, IsNamedTerm, IsNamedTermForm, AreNamedTerms, MaybeNamed, IsTarget, IsNamedAction, IsNamedForm, IsNamedOther, AreNamedGroups, AreNamedActions}
 
 -- what is visible has a number
 numbered_where : (o : Option ℕ) (b : Breach) → (if is_some o then [] else b ∷ []) ≡ [] → (e : ℕ) × (o ≡ Some e)
@@ -26,14 +26,14 @@ numbered_where None b h = cc
 numbered_where (Some n) b h = (n, refl)
 
 -- a name that is used stands for something where it is visible
-pub used_stands : (bs : List Binding) (r : Ref) → entity_of bs r.name ≡ r.entity → unknown bs r ≡ [] → Stands r
+pub used_stands : (bs : List ScopeEntry) (r : Ref) → entity_of bs r.name ≡ r.entity → unknown bs r ≡ [] → StandsForSome r
 used_stands bs r e h = let w = numbered_where (entity_of bs r.name) (breach UnknownName r.place) h in (w.0, sym e ∙ w.1)
 
 -- a name that is declared has the next number
-declared_stands : (s : Scope) (r : Ref) → Some (length s.entities) ≡ r.entity → Stands r
+declared_stands : (s : Scope) (r : Ref) → Some (length s.entities) ≡ r.entity → StandsForSome r
 declared_stands s r e = (length s.entities, sym e)
 
-module _ (bs : List Binding) where
+module _ (bs : List ScopeEntry) where
   mutual
     named_term : (t : Term) → resolved_term bs t ≡ t → term_breaches bs t ≡ [] → IsNamedTerm t
     named_term (term place k f) e h = let same : resolved_term_form bs f ≡ f = cc in named_form f same h
@@ -57,7 +57,7 @@ module _ (bs : List Binding) where
         let second : resolved_terms bs ts ≡ ts = cc in
         (named_term t first (first_none (term_breaches bs t) _ h), named_terms ts second (second_none (term_breaches bs t) _ h))
 
-  named_value : (v : Option Term) → option_map (resolved_term bs) v ≡ v → value_breaches bs v ≡ [] → MaybeNamed v
+  named_value : (v : Option Term) → option_map (resolved_term bs) v ≡ v → maybe_value_breaches bs v ≡ [] → MaybeNamed v
   named_value None e h = tt
   named_value (Some t) e h = let same : resolved_term bs t ≡ t = cc in named_term t same h
 
@@ -82,11 +82,11 @@ mutual
   named_command (lets name declared value) s e h t =
       let own : Some (length s.entities) ≡ name.entity = cc in
       let right : option_map (resolved_term s.visible) value ≡ value = cc in
-      (declared_stands s name own, named_value s.visible value right (first_none (value_breaches s.visible value) _ h))
+      (declared_stands s name own, named_value s.visible value right (first_none (maybe_value_breaches s.visible value) _ h))
   named_command (lets_memory name shape shape_places value) s e h t = tt
   named_command (views name parent form) s e h t =
       let plan : resolved_plan s.visible form ≡ form = cc in
-      named_terms s.visible (terms (offsets_of form)) (offsets_named s.visible form plan) (offsets_visible s.visible form ∙ first_none (plan_breaches s.visible form) _ (second_none (unknown s.visible parent) _ h))
+      named_terms s.visible (terms (offsets_of form)) (offsets_named s.visible form plan) (offsets_visible s.visible form ∙ first_none (plan_name_breaches s.visible form) _ (second_none (unknown s.visible parent) _ h))
   named_command (assigns target value) s e h t =
       let left : entity_of s.visible target.name ≡ target.entity = cc in
       let right : resolved_term s.visible value ≡ value = cc in

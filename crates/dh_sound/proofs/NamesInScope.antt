@@ -16,7 +16,7 @@ use Rattle.dh_tree.specs.declared.trees.programs.Sort.TheVariants as sort
 use Rattle.dh_meaning.specs.AccessNumbers.{term_accesses, accesses_of, part_accesses}
 use Rattle.dh_meaning.specs.Bindings.{bindings_of, binding_in}
 use Rattle.dh_meaning.specs.Core.{Turning}
-use Rattle.dh_meaning.specs.CoreOf.{Known, known_of, form_of, turning_of}
+use Rattle.dh_meaning.specs.CoreOf.{Known, known_of, action_form_of, turning_of}
 use Rattle.dh_meaning.specs.OnePhase.{makes, any_makes, test_makes}
 use Rattle.dh_meaning.specs.Phases.{Located, located, Phase, straight, turns, repeated, decided, Phases, no_phases, phase, of_list, one_straight, joined, are_straight, one_command, folded, turn_count, turn_phases, choice_phases, phases, form_phases, other_phases, groups_phases, parts_phases, phases_of, idle_phases_of}
 use Rattle.dh_meaning.specs.Sites.{Around, in_arm, in_loop, loop_of}
@@ -34,7 +34,7 @@ use Rattle.dh_sound.proofs.NamesScoped.{AllPast, AreVisible, plain_in, bind_in, 
 use Rattle.dh_sound.proofs.Sited.{makes_within}
 use Rattle.dh_sound.proofs.Slices.{straight_stands, test_stands, straight_either, test_either}
 use Rattle.dh_carried.proofs.Pigeons.{Has}
-use Rattle.dh_meaning.specs.Ways.{Hidden, Led, Standing, all_bindings_of, behind_hidden, hidden_binding, hidden_bindings, hidden_of, led_binding, standings, view_bindings, ways_of}
+use Rattle.dh_meaning.specs.Ways.{Hidden, Led, ViewSite, all_bindings_of, behind_hidden, hidden_binding, hidden_bindings, hidden_of, led_binding, standings, view_bindings, ways_of}
 
 -- Phases.
 
@@ -52,7 +52,7 @@ module _ (known : Known) where
   abbrev mutual
     pub PhaseScoped : (loops : List Turning) → Phase → Type 0
     PhaseScoped loops (straight cs) = EachScoped loops cs
-    PhaseScoped loops (turns loop count body) = PhasesScoped (loops ++ turning_of known count (form_of loop.command) ∷ []) body
+    PhaseScoped loops (turns loop count body) = PhasesScoped (loops ++ turning_of known count (action_form_of loop.command) ∷ []) body
     PhaseScoped loops (repeated loop body) = IsScoped known loops loop.command × PhasesScoped loops body
     PhaseScoped loops (decided choice chosen other) = IsScoped known loops choice.command × (PhasesScoped loops chosen × PhasesScoped loops other)
 
@@ -102,14 +102,14 @@ module _ (known : Known) where
   folded_scoped loops (decided choice chosen other ∷ []) fold h g = (h.0, g)
   folded_scoped loops (p ∷ q ∷ ps) fold h g = (h.0, folded_scoped loops (q ∷ ps) fold h.1 g)
 
-  turn_scoped : (loops : List Turning) (loop : Located) (count : ℕ) (turn : List Phase) → ListScoped (loops ++ turning_of known count (form_of loop.command) ∷ []) turn
+  turn_scoped : (loops : List Turning) (loop : Located) (count : ℕ) (turn : List Phase) → ListScoped (loops ++ turning_of known count (action_form_of loop.command) ∷ []) turn
       → ListScoped loops (turn_phases loop count turn)
   turn_scoped loops loop count [] h = tt
   turn_scoped loops loop count (p ∷ ps) h = by (count == 0)
     where
       by : (z : Bool) → ListScoped loops (if z then [] else turns loop count (of_list (p ∷ ps)) ∷ [])
       by true = tt
-      by false = (listed_scoped (loops ++ turning_of known count (form_of loop.command) ∷ []) (p ∷ ps) h, tt)
+      by false = (listed_scoped (loops ++ turning_of known count (action_form_of loop.command) ∷ []) (p ∷ ps) h, tt)
 
   choice_scoped : (loops : List Turning) (choice : Located) (chosen other : List Phase) → IsScoped known loops choice.command → ListScoped loops chosen → ListScoped loops other
       → ListScoped loops (choice_phases choice chosen other)
@@ -214,7 +214,7 @@ items_below p =
     merged_below (size (body_scope p)) (memory_items 0 p.decls) (function_items (length p.decls) p.functions)
     (memories_below (size (body_scope p)) 0 p.decls (omega (arith, l))) (functions_below (size (body_scope p)) (length p.decls) p.functions l)
 
-items_visible : (known : Known) (k : ℕ) (bs : List scopes.Binding) (items : List Item) → ((n : ℕ) → n < k → IsNoIterator (binding_in known.bindings n)) → ItemsBelow k items → AreVisible known [] bs
+items_visible : (known : Known) (k : ℕ) (bs : List scopes.ScopeEntry) (items : List Item) → ((n : ℕ) → n < k → IsNoIterator (binding_in known.bindings n)) → ItemsBelow k items → AreVisible known [] bs
     → AreVisible known [] (after_items bs items)
 items_visible known k bs [] out h v = v
 items_visible known k bs (i ∷ is) out h v =
@@ -230,7 +230,7 @@ hidden_past : (k : ℕ) (hs : List Hidden) → AllPast k (map hidden_binding hs)
 hidden_past k [] = tt
 hidden_past k (h ∷ hs) = (inr refl, hidden_past k hs)
 
-all_past : (k first : ℕ) (ss : List Standing) → AllPast k (hidden_bindings first ss)
+all_past : (k first : ℕ) (ss : List ViewSite) → AllPast k (hidden_bindings first ss)
 all_past k first [] = tt
 all_past k first (s ∷ ss) = past_both k (map hidden_binding (hidden_of first s)) (hidden_bindings (behind_hidden first s) ss) (hidden_past k (hidden_of first s)) (all_past k (behind_hidden first s) ss)
 

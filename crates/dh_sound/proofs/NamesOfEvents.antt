@@ -8,7 +8,7 @@ use Rattle.dh_tree.specs.PlainTrees.{Term, term, TermForm, number, truth_value, 
 use Rattle.dh_meaning.specs.AccessNumbers.{term_accesses, accesses_of, part_accesses}
 use Rattle.dh_meaning.specs.Core.{Turning}
 use Rattle.dh_meaning.specs.CoreOf.{Known}
-use Rattle.dh_meaning.specs.OnePhase.{is_within, makes, form_makes, other_makes, groups_make, part_makes, tests_make}
+use Rattle.dh_meaning.specs.OnePhase.{is_between, makes, form_makes, other_makes, groups_make, part_makes, tests_make}
 use Rattle.dh_meaning.specs.Sites.{Around, in_arm}
 use Rattle.dh_meets.specs.SourceEvents.{Site, SourceAccess, SourceEvent, accesses, assigned, site_of, term_events, form_events, terms_events, maybe_events, write_events, events, command_events, other_events, groups_events, part_events}
 use Rattle.dh_sound.specs.NamesInScope.{InScope, MaybeInScope, IsScoped, FormScoped, OtherScoped, GroupsScoped, PartScoped}
@@ -99,10 +99,10 @@ module _ (k : ℕ) (a : SourceAccess) (known : Known) (loops : List Turning) whe
     command_names r n id (calls function arguments) e m h = elim h [ ]
     command_names r n id (blocks body) e m h = groups_names r n body e m h
     command_names r n id (decides test arm other) e m h =
-        by (either (is_within k n (term_accesses test)) _ m) (made_names (in_arm r id true) (n + term_accesses test) arm e.1.0)
+        by (either (is_between k n (term_accesses test)) _ m) (made_names (in_arm r id true) (n + term_accesses test) arm e.1.0)
         (other_names (in_arm r id false) (n + term_accesses test + accesses_of arm) other e.1.1)
       where
-        by : (is_within k n (term_accesses test) ≡ true) ⊎ ((makes k (n + term_accesses test) arm || other_makes k (n + term_accesses test + accesses_of arm) other) ≡ true)
+        by : (is_between k n (term_accesses test) ≡ true) ⊎ ((makes k (n + term_accesses test) arm || other_makes k (n + term_accesses test + accesses_of arm) other) ≡ true)
             → (makes k (n + term_accesses test) arm ≡ true → At (n + term_accesses test) k (events (in_arm r id true) arm) a → Named)
             → (other_makes k (n + term_accesses test + accesses_of arm) other ≡ true → At (n + term_accesses test + accesses_of arm) k (other_events (in_arm r id false) other) a → Named)
             → Named

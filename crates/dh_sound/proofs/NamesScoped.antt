@@ -24,8 +24,8 @@ use Rattle.dh_meaning.specs.Core.{Turning}
 use Rattle.dh_meaning.specs.CoreOf.{Known, entity_number, depth_of, turning_of}
 use Rattle.dh_meaning.specs.Phases.{turn_count}
 use Rattle.dh_sound.specs.NamesInScope.{InScope, is_variable, is_iterator, MaybeInScope, IsScoped, FormScoped, OtherScoped, GroupsScoped, PartScoped}
-use Rattle.dh_sound.specs.SameKeys.{EachName, EachNameForm, EachNameOf, IsNoIterator, IsIteratorOf}
-use Rattle.dh_sound.specs.Straight.{Stands, IsNamedTerm, IsNamedTermForm, AreNamedTerms, MaybeNamed, IsTarget, IsNamedAction, IsNamedForm, IsNamedOther, AreNamedGroups, AreNamedActions}
+use Rattle.dh_sound.specs.SameKeys.{EachName, EachNameForm, EachNameOf, IsNoIterator, IsIteratorName}
+use Rattle.dh_sound.specs.Straight.{StandsForSome, IsNamedTerm, IsNamedTermForm, AreNamedTerms, MaybeNamed, IsTarget, IsNamedAction, IsNamedForm, IsNamedOther, AreNamedGroups, AreNamedActions}
 use Rattle.dh_sound.proofs.DepthsNamed.{size, AllBelow, all_more, two_below, next_below, all_below, part_below, is_absent, first_found, split_first, split_second}
 use Rattle.dh_sound.proofs.FactsGrow.{appended, added_last}
 use Rattle.dh_sound.proofs.IteratorsNamed.{on_long, declared_on, past_on, goes_on, other_on, part_on, groups_on}
@@ -162,7 +162,7 @@ none_past n (b ∷ after) f = by (same_entity b.entity (Some n)) refl (none_past
 -- a name that stands for the iterator of a `for` whose binding is found
 iterator_of : (known : Known) (count : ℕ) (iterator : Ref) (declared : Option Kind) (low high : Placed) (factor : Unrolled) (body : Action) (combine : MaybeAction) (at : Place) (r : Ref) (e : ℕ) (c : Binding)
     → r.entity ≡ iterator.entity → iterator.entity ≡ Some e → binding_in known.bindings e ≡ Some c → c.iterates ≡ Some factor.value → (1 < factor.value → 1 ≤ depth_of known iterator)
-    → IsIteratorOf known r (turning_of known count (counts iterator declared low high factor body combine at))
+    → IsIteratorName known r (turning_of known count (counts iterator declared low high factor body combine at))
 iterator_of known count iterator declared low high factor body combine at r e c same is bound iterates deep = record {
   entity = same ∙ (is ∙ ap Some (sym number));
   binding = c;
@@ -205,7 +205,7 @@ module _ (known : Known) where
   EntityIn loops n = (r : Ref) → r.entity ≡ Some n → InScope known loops r
 
   -- what is visible is in scope
-  abbrev pub AreVisible : (loops : List Turning) → List scopes.Binding → Type 0
+  abbrev pub AreVisible : (loops : List Turning) → List scopes.ScopeEntry → Type 0
   AreVisible loops bs = (name : List ℕ) (n : ℕ) → entity_of bs name ≡ Some n → EntityIn loops n
 
   pub plain_in : (loops : List Turning) (n : ℕ) (o : Option Binding) → binding_in known.bindings n ≡ o → IsNoIterator o → EntityIn loops n
@@ -215,7 +215,7 @@ module _ (known : Known) where
   more_in loops l r (is_variable e is none) = is_variable e is none
   more_in loops l r (is_iterator i loop g it) = is_iterator i loop (appended loops (l ∷ []) i loop g) it
 
-  pub bind_in : (loops : List Turning) (bs : List scopes.Binding) (name : List ℕ) (m : ℕ) → AreVisible loops bs → EntityIn loops m → AreVisible loops (bind bs name m)
+  pub bind_in : (loops : List Turning) (bs : List scopes.ScopeEntry) (name : List ℕ) (m : ℕ) → AreVisible loops bs → EntityIn loops m → AreVisible loops (bind bs name m)
   bind_in loops bs name m k h other n e = either (is_visible bs name) e
     where
       either : (b : Bool) → entity_of (if b then bs else bs ++ binding name m ∷ []) other ≡ Some n → EntityIn loops n
@@ -236,8 +236,8 @@ module _ (known : Known) where
   past_visible loops s (action id place (counts iterator declared low high factor body combine combine_place)) h i = i
 
   -- Expressions.
-  module _ (loops : List Turning) (bs : List scopes.Binding) (h : AreVisible loops bs) where
-    name_in : (r : Ref) → entity_of bs r.name ≡ r.entity → Stands r → InScope known loops r
+  module _ (loops : List Turning) (bs : List scopes.ScopeEntry) (h : AreVisible loops bs) where
+    name_in : (r : Ref) → entity_of bs r.name ≡ r.entity → StandsForSome r → InScope known loops r
     name_in r e s = h r.name s.0 (e ∙ s.1) r s.1
 
     mutual

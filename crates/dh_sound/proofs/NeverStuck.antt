@@ -14,7 +14,7 @@ use Rattle.dh_tree.specs.declared.tables.MemEntry.{MemEntry}
 use Rattle.dh_tree.specs.Elements.{ports_at}
 use Rattle.dh_meaning.specs.Paths.{Path}
 use Rattle.dh_meaning.specs.Core.{CoreProgram}
-use Rattle.dh_meaning.specs.Effects.{Variables, block_run, Event, reads, writes, faults, is_at, rows_read, writes_made, spent, is_beyond, stop_after}
+use Rattle.dh_meaning.specs.Effects.{Variables, block_run, Event, reads, writes, faults, is_at, rows_read, writes_made, spent, spends_beyond, stop_after}
 use Rattle.dh_meaning.specs.Runs as run
 use Rattle.dh_meaning.specs.Runs.{RunState, step_effect, state_after, step_from, run_state}
 use Rattle.dh_sound.specs.Standing.{KeepsIterators, IsStanding, StepsKeepPorts, BlocksKeepPorts}
@@ -72,7 +72,7 @@ pub not_stuck : (table : List MemEntry) (rest before : List Event)
     → (memory bank : ℕ) (place : Place) → stop_after table before rest ≡ Some (Stuck memory bank place) → ⊥
 not_stuck table [] before keeps memory bank place e = cc
 not_stuck table (reads number at path s ∷ es) before keeps memory bank place e =
-    by (is_beyond table (before ++ reads number at path s ∷ []) s)
+    by (spends_beyond table (before ++ reads number at path s ∷ []) s)
     (not_beyond (ports_at table s.memory) _ _ (spent_grows s.memory s.bank (before ++ reads number at path s ∷ []) es) (further s.memory s.bank))
     (not_stuck table es (before ++ reads number at path s ∷ []) further memory bank place) e
   where
@@ -84,7 +84,7 @@ not_stuck table (reads number at path s ∷ es) before keeps memory bank place e
     by true n more h = cc
     by false n more h = more h
 not_stuck table (writes number at path s value ∷ es) before keeps memory bank place e =
-    by (is_beyond table (before ++ writes number at path s value ∷ []) s)
+    by (spends_beyond table (before ++ writes number at path s value ∷ []) s)
     (not_beyond (ports_at table s.memory) _ _ (spent_grows s.memory s.bank (before ++ writes number at path s value ∷ []) es) (further s.memory s.bank))
     (not_stuck table es (before ++ writes number at path s value ∷ []) further memory bank place) e
   where
@@ -103,7 +103,7 @@ some_same : (a b : Outcome) → a ≡ b → Some a ≡ Some b
 some_same a b e = ap (λ o. Some o) e
 
 -- a place alone makes no run stuck
-place_going : (p : run.Place) (memory bank : ℕ) (place : Place) → run.outcome_at p ≡ Stuck memory bank place → ⊥
+place_going : (p : run.RunPlace) (memory bank : ℕ) (place : Place) → run.outcome_at p ≡ Stuck memory bank place → ⊥
 place_going run.ended memory bank place e = cc
 place_going (run.at paths block k) memory bank place e = cc
 
@@ -147,7 +147,7 @@ pub steps_keep_ports : (c : CoreProgram) → KeepsIterators c → BlocksKeepPort
 steps_keep_ports c is keep memories n going memory bank =
     by (run_state c memories n).place (run_state c memories n).variables (run_state c memories n).memories (run_stands c is memories n)
   where
-    by : (place : run.Place) (variables : Variables) (contents : List (List ℕ)) → IsStanding c place variables
+    by : (place : run.RunPlace) (variables : Variables) (contents : List (List ℕ)) → IsStanding c place variables
         → spent (run.place_run (record { table = c.table; memories = contents }) place (record { variables = variables; events = [] })).events memory bank
         ≤ ports_at c.table memory
     by run.ended variables contents s = no_more (ports_at c.table memory)

@@ -9,7 +9,7 @@ use Rattle.dh_tree.specs.KindBreaches.{indices_kind_breaches, offset_breaches, s
 use Rattle.dh_tree.specs.Kinds.{Facts, found, index_breaches, place_of, typed_offset, typed_plan, typed_term, typed_terms}
 use Rattle.dh_tree.specs.PlainTrees.{Term, term_then, Suffixed, ViewPlan, shrinks, splits, suffixes, shifts}
 use Rattle.dh_tree.specs.Resolved.{resolved_offset, resolved_plan, resolved_term, resolved_terms}
-use Rattle.dh_tree.specs.Scopes.{Binding}
+use Rattle.dh_tree.specs.Scopes.{ScopeEntry}
 use Rattle.dh_tree.specs.Seen.{terms}
 use Rattle.dh_tree.specs.ViewOffsets.{offsets_of}
 use Rattle.dh_tree.specs.Widths.{AreSized, AreAllSized, PlanSized}
@@ -18,7 +18,7 @@ abbrev offsets : List Suffixed → List Term
 offsets by = map (λ s. s.offset) by
 
 -- Names.
-module _ (bs : List Binding) where
+module _ (bs : List ScopeEntry) where
   shifts_resolved : (ts : List Term) → resolved_terms bs (terms ts) ≡ terms (map (resolved_term bs) ts)
   shifts_resolved [] = refl
   shifts_resolved (t ∷ ts) = ap (λ x. term_then (resolved_term bs t) x) (shifts_resolved ts)
@@ -41,7 +41,7 @@ module _ (bs : List Binding) where
   suffixes_visible [] = refl
   suffixes_visible (s ∷ ss) = ap (λ l. term_breaches bs s.offset ++ l) (suffixes_visible ss)
 
-  pub offsets_visible : (form : ViewPlan) → terms_breaches bs (terms (offsets_of form)) ≡ names.plan_breaches bs form
+  pub offsets_visible : (form : ViewPlan) → terms_breaches bs (terms (offsets_of form)) ≡ names.plan_name_breaches bs form
   offsets_visible (shrinks by by_place) = refl
   offsets_visible (splits by by_place) = refl
   offsets_visible (suffixes by by_place) = suffixes_visible by
@@ -75,7 +75,7 @@ module _ (facts : Facts) where
       ap (λ l. index_breaches (found s.offset) (place_of s.offset) ++ (term_kind_breaches facts s.offset ++ l)) (suffixes_kinds ss)
       ∙ sym (append_assoc (index_breaches (found s.offset) (place_of s.offset)) (term_kind_breaches facts s.offset) (suffixes_breaches facts ss))
 
-  pub offsets_kinds : (form : ViewPlan) → indices_kind_breaches facts (terms (offsets_of form)) ≡ kinds.plan_breaches facts form
+  pub offsets_kinds : (form : ViewPlan) → indices_kind_breaches facts (terms (offsets_of form)) ≡ kinds.plan_kind_breaches facts form
   offsets_kinds (shrinks by by_place) = refl
   offsets_kinds (splits by by_place) = refl
   offsets_kinds (suffixes by by_place) = suffixes_kinds by

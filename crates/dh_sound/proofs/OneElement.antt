@@ -11,7 +11,7 @@ use Rattle.dh_meaning.specs.Effects.{Begun, Variables}
 use Rattle.dh_meaning.specs.Paths.{Path, same_path, IsPathAmong}
 use Rattle.dh_meets.specs.Charges.{entity_depends, term_depends, terms_depend, element_depends, depends, key_of}
 use Rattle.dh_meets.specs.SourceEvents.{Element, with_indices, in_row, SourceAccess}
-use Rattle.dh_sound.specs.SameKeys.{CopiesAgree, NameAgrees, IsSettled, EachName, EachNameOf, EachNameIn, IsNearTo, NameFacts, is_plain, is_turned, is_full, IsIteratorOf}
+use Rattle.dh_sound.specs.SameKeys.{CopiesAgree, NameAgrees, IsSettledName, EachName, EachNameOf, EachNameIn, IsNearTo, NameFacts, is_plain, is_turned, is_full, IsIteratorName}
 use Rattle.dh_sound.specs.Blocks.{paths_inside}
 use Rattle.dh_sound.specs.IteratorsAt.{TurnAt}
 use Rattle.dh_sound.proofs.Counting.{same_list, whole_list}
@@ -55,7 +55,7 @@ module _ (A : Type 0) where
 
 module _ (b : Begun) (known : Known) (v0 v w : Variables) (touched : ℕ → Bool) (p q : Path) (near : IsNearTo v0 touched v) (close : IsNearTo v0 touched w) (n : length p ≡ length q) where
   -- a name is settled, or the paths are one
-  pub name_settled : (r : Ref) → NameAgrees known p q r → NameFacts known v0 touched p q r → (p ≡ q) ⊎ IsSettled known v w p q r
+  pub name_settled : (r : Ref) → NameAgrees known p q r → NameFacts known v0 touched p q r → (p ≡ q) ⊎ IsSettledName known v w p q r
   name_settled r a (is_plain e is left none) = inr (plain_settled known v0 v w touched p q r e near close n is left none)
   name_settled r a (is_turned loop turn i left here there) = inr (iterator_settled known v0 v w touched p q r loop turn near close n i left here there)
   name_settled r a (is_full e is none full) = inl (full_depth_same known p q r e is none full n a)
@@ -78,7 +78,7 @@ module _ (b : Begun) (known : Known) (v0 v w : Variables) (touched : ℕ → Boo
       by : (t : Bool) → same_path p q ≡ t → (p ≡ q) ⊎ (source_spot b known v p a.entity a.element ≡ source_spot b known w q a.entity a.element)
       by true s = inl (same_list p q s)
       by false s =
-          elim (each_or_in (p ≡ q) known p q (NameFacts known v0 touched p q) (IsSettled known v w p q) name_settled a.element agree facts) [
+          elim (each_or_in (p ≡ q) known p q (NameFacts known v0 touched p q) (IsSettledName known v w p q) name_settled a.element agree facts) [
             | inl same ↦ inl same
             | inr settled ↦ inr (same_keys b known v w p q (still (differ s)) a reads n e settled)
           ]
@@ -90,6 +90,6 @@ pub same_length : (loops : List Turning) (p q : Path) → IsPathAmong p (paths_i
 same_length loops p q h k = inside_long loops p h ∙ sym (inside_long loops q k)
 
 -- the iterator of a loop that is in a turn at these paths
-pub turned_name : (known : Known) (v0 : Variables) (touched : ℕ → Bool) (paths : List Path) (p q : Path) (r : Ref) (loop : Turning) → IsIteratorOf known r loop → touched loop.iterator ≡ false
+pub turned_name : (known : Known) (v0 : Variables) (touched : ℕ → Bool) (paths : List Path) (p q : Path) (r : Ref) (loop : Turning) → IsIteratorName known r loop → touched loop.iterator ≡ false
     → TurnAt loop v0 paths → IsPathAmong p paths → IsPathAmong q paths → NameFacts known v0 touched p q r
 turned_name known v0 touched paths p q r loop i left t h k = is_turned loop t.turn i left (t.each p h) (t.each q k)

@@ -11,9 +11,9 @@ use Rattle.dh_tree.specs.declared.trees.counters.Counter.{Counter}
 use Rattle.dh_meaning.specs.AccessNumbers.{term_accesses, accesses_of, other_accesses, part_accesses, groups_accesses}
 use Rattle.dh_meaning.specs.Sites.{Arm, Around, nothing_around, in_arm, in_loop, loop_of}
 use Rattle.dh_meaning.specs.Phases.{Located, Phase, straight, turns, repeated, decided, of_list, one_straight, joined, are_straight, one_command, folded, turn_phases, choice_phases, located, phases, form_phases, other_phases, groups_phases, parts_phases, phases_of}
-use Rattle.dh_meaning.specs.OnePhase.{is_within, makes, other_makes, any_makes}
+use Rattle.dh_meaning.specs.OnePhase.{is_between, makes, other_makes, any_makes}
 use Rattle.dh_meets.specs.SourceEvents.{SourceAccess, SourceEvent, accesses_in, term_events, site_of, events, other_events, groups_events, part_events, trace}
-use Rattle.dh_meets.specs.MayMeet.{row_of, arms_meet, meets, command_meets, other_meets, groups_meet, part_meets, meets_in}
+use Rattle.dh_meets.specs.MayMeet.{row_of_accesses, arms_meet, meets, command_meets, other_meets, groups_meet, part_meets, meets_in}
 use Rattle.dh_sound.specs.PhaseFacts.{HasStraightIn, HaveStraight, HasStraight, HasArm, arm_of, InOppositeArms}
 use Rattle.dh_sound.proofs.EventCounts.{count_in, count_joined, term_counted, events_counted, other_counted, groups_counted, part_counted}
 use Rattle.dh_sound.proofs.Slices.{straight_either}
@@ -45,7 +45,7 @@ apart_second (one l r) j k (inr (inl h)) = inl (apart_second l j k h)
 apart_second (one l r) j k (inr (inr h)) = inr (apart_second r j k h)
 
 -- any two accesses of one expression may meet
-pub row_apart : (n count j k : ℕ) → Apart (row_of n count) j k → ⊥
+pub row_apart : (n count j k : ℕ) → Apart (row_of_accesses n count) j k → ⊥
 row_apart n zero j k h = h
 row_apart n (suc count) j k (inl h) = h
 row_apart n (suc count) j k (inr h) = row_apart (suc n) count j k h
@@ -345,7 +345,7 @@ module _ (j k : ℕ) where
           more rest.behind rest.first_none rest.second_none rest.both c a b (at_right j a n (n + x) es fs after wj.0 f) (at_right k b n (n + x) es fs after wk.0 g)
 
   -- the test of an `if` or a `while`, which has no Straight phase
-  test_part : (n c : ℕ) (es : List SourceEvent) → count_in es ≡ c → Part [] (row_of n c) n c es
+  test_part : (n c : ℕ) (es : List SourceEvent) → count_in es ≡ c → Part [] (row_of_accesses n c) n c es
   test_part n c es e = record { made_within = λ i. omega arith; stands = λ i h. row_within i n c h; long = e; told = λ h apart a b f g. elim h.has [ ] }
 
   decided_has : (choice : Located) (ps qs : List Phase) → HasBoth (decided choice (of_list ps) (of_list qs) ∷ []) → HasBoth (ps ++ qs)
@@ -402,9 +402,9 @@ module _ (j k : ℕ) where
 
     -- an access of an arm is made by the arm
     made_chosen : (i : ℕ) → Within i (n + count) (accesses_of arm) → makes i n choice.command ≡ true → makes i (n + count) arm ≡ true
-    made_chosen i w m = by (either (is_within i n count) _ m)
+    made_chosen i w m = by (either (is_between i n count) _ m)
       where
-        by : (is_within i n count ≡ true) ⊎ ((makes i (n + count) arm || other_makes i (n + count + accesses_of arm) other) ≡ true) → makes i (n + count) arm ≡ true
+        by : (is_between i n count ≡ true) ⊎ ((makes i (n + count) arm || other_makes i (n + count + accesses_of arm) other) ≡ true) → makes i (n + count) arm ≡ true
         by (inl e) = apart_numbers i n count (accesses_of arm) (makes i (n + count) arm ≡ true) (within_span i n count e) w
         by (inr e) =
             elim (either (makes i (n + count) arm) _ e) [
@@ -413,9 +413,9 @@ module _ (j k : ℕ) where
             ]
 
     made_side : (i : ℕ) → Within i (n + count + accesses_of arm) (other_accesses other) → makes i n choice.command ≡ true → other_makes i (n + count + accesses_of arm) other ≡ true
-    made_side i w m = by (either (is_within i n count) _ m)
+    made_side i w m = by (either (is_between i n count) _ m)
       where
-        by : (is_within i n count ≡ true) ⊎ ((makes i (n + count) arm || other_makes i (n + count + accesses_of arm) other) ≡ true) → other_makes i (n + count + accesses_of arm) other ≡ true
+        by : (is_between i n count ≡ true) ⊎ ((makes i (n + count) arm || other_makes i (n + count + accesses_of arm) other) ≡ true) → other_makes i (n + count + accesses_of arm) other ≡ true
         by (inl e) =
             let v = (within_span i n count e).1 in
             let l = w.0 in
@@ -452,10 +452,10 @@ module _ (j k : ℕ) where
       decided_tell : HasBoth (decided choice (of_list chosen_phases) (of_list side_phases) ∷ []) → Apart (meets u n choice.command) j k
           → (a b : SourceAccess) → At n j (events r choice.command) a → At n k (events r choice.command) b → InOppositeArms a b
       decided_tell h =
-          both_tell [] (chosen_phases ++ side_phases) (row_of n count) (arms_meet u chosen_meets side_meets) (all (row_of n count) (arms_meet u chosen_meets side_meets)) n count (accesses_of arm + other_accesses other)
+          both_tell [] (chosen_phases ++ side_phases) (row_of_accesses n count) (arms_meet u chosen_meets side_meets) (all (row_of_accesses n count) (arms_meet u chosen_meets side_meets)) n count (accesses_of arm + other_accesses other)
           (term_events (site_of r id) test) (chosen_events ++ other_side) (test_part n count (term_events (site_of r id) test) (term_counted (site_of r id) test))
           (both_parts chosen_phases side_phases chosen_meets side_meets (arms_meet u chosen_meets side_meets) (n + count) (accesses_of arm) (other_accesses other) chosen_events other_side p q
-          (arms_split u chosen_meets side_meets) (λ i. arms_in i u chosen_meets side_meets)) (all_splits (row_of n count) (arms_meet u chosen_meets side_meets)) (decided_has choice chosen_phases side_phases h)
+          (arms_split u chosen_meets side_meets) (λ i. arms_in i u chosen_meets side_meets)) (all_splits (row_of_accesses n count) (arms_meet u chosen_meets side_meets)) (decided_has choice chosen_phases side_phases h)
 
       straight_tell : (are_straight chosen_phases ≡ true) × (are_straight side_phases ≡ true) → HasBoth (one_command choice) → Apart (meets u n choice.command) j k
           → (a b : SourceAccess) → At n j (events r choice.command) a → At n k (events r choice.command) b → InOppositeArms a b
@@ -512,7 +512,7 @@ module _ (j k : ℕ) where
           arms false e (inr (inl c)) = both_chosen c
           arms false e (inr (inr c)) = both_side c
 
-          by : Apart (row_of n count) j k ⊎ Apart (arms_meet u chosen_meets side_meets) j k → InOppositeArms a b
+          by : Apart (row_of_accesses n count) j k ⊎ Apart (arms_meet u chosen_meets side_meets) j k → InOppositeArms a b
           by (inl c) = elim (row_apart n count j k c) [ ]
           by (inr c) = arms u refl c
 
@@ -575,11 +575,11 @@ module _ (j k : ℕ) where
         (command_part (in_arm r id true) u (n + term_accesses test) arm (tells (in_arm r id true) u (n + term_accesses test) arm single))
         (other_part (in_arm r id false) u (n + term_accesses test + accesses_of arm) other (other_tells (in_arm r id false) u (n + term_accesses test + accesses_of arm) other single)) h apart
     form_tells r u n id place (repeats test body) single h apart =
-        both_tell [] (phases r (n + term_accesses test) body) (row_of n (term_accesses test)) (meets u (n + term_accesses test) body) (one (row_of n (term_accesses test)) (meets u (n + term_accesses test) body))
+        both_tell [] (phases r (n + term_accesses test) body) (row_of_accesses n (term_accesses test)) (meets u (n + term_accesses test) body) (one (row_of_accesses n (term_accesses test)) (meets u (n + term_accesses test) body))
         n (term_accesses test) (accesses_of body) (term_events (site_of r id) test) (events r body)
         (test_part n (term_accesses test) (term_events (site_of r id) test) (term_counted (site_of r id) test))
         (command_part r u (n + term_accesses test) body (tells r u (n + term_accesses test) body single))
-        (one_splits (row_of n (term_accesses test)) (meets u (n + term_accesses test) body)) (repeated_has _ (phases r (n + term_accesses test) body) h) apart
+        (one_splits (row_of_accesses n (term_accesses test)) (meets u (n + term_accesses test) body)) (repeated_has _ (phases r (n + term_accesses test) body) h) apart
     form_tells r u n id place (counts iterator declared low high factor body combine combine_place) single h apart =
         folded_tell (phases (in_loop r (loop_of iterator low high factor)) n body) (other_phases (in_loop r (loop_of iterator low high factor)) (n + accesses_of body) combine)
         (meets (u || nat_lt 1 factor.value) n body) (other_meets (u || nat_lt 1 factor.value) (n + accesses_of body) combine) nothing

@@ -4,7 +4,7 @@
 use Rattle.std.proofs.Common.{ℕ, ◌==◌, ◌&&◌, Bool, true, false, if◌then◌else◌, List, [], ◌∷◌, ◌++◌}
 use Rattle.dh_tree.specs.PlainTrees.{Action, ActionForm}
 use Rattle.dh_meaning.specs.Phases.{Located, Phase, straight, turns, repeated, decided, Phases, no_phases, phase, of_list, one_straight, joined, are_straight, one_command, folded, turn_phases, choice_phases}
-use Rattle.dh_meaning.specs.CoreOf.{form_of}
+use Rattle.dh_meaning.specs.CoreOf.{action_form_of}
 
 -- facts of commands and loops
 pub record Facts : Type 1 where
@@ -23,7 +23,7 @@ AllHold f r (c ∷ cs) = f.does r c.command × AllHold f r cs
 abbrev mutual
   pub PhaseHolds : (f : Facts) (r : f.round) → Phase → Type 0
   PhaseHolds f r (straight cs) = AllHold f r cs
-  PhaseHolds f r (turns loop count body) = f.turns_so r (form_of loop.command) × PhasesHold f (f.inside r (form_of loop.command)) body
+  PhaseHolds f r (turns loop count body) = f.turns_so r (action_form_of loop.command) × PhasesHold f (f.inside r (action_form_of loop.command)) body
   PhaseHolds f r (repeated loop body) = PhasesHold f r body
   PhaseHolds f r (decided choice chosen other) = PhasesHold f r chosen × PhasesHold f r other
 
@@ -78,8 +78,8 @@ module _ (f : Facts) (r : f.round) where
   folded_hold (decided choice chosen other ∷ []) fold h g = (h.0, g)
   folded_hold (p ∷ q ∷ ps) fold h g = (h.0, folded_hold (q ∷ ps) fold h.1 g)
 
-  pub turn_hold : (loop : Located) (count : ℕ) (turn : List Phase) → f.turns_so r (form_of loop.command)
-      → ListHolds f (f.inside r (form_of loop.command)) turn → ListHolds f r (turn_phases loop count turn)
+  pub turn_hold : (loop : Located) (count : ℕ) (turn : List Phase) → f.turns_so r (action_form_of loop.command)
+      → ListHolds f (f.inside r (action_form_of loop.command)) turn → ListHolds f r (turn_phases loop count turn)
   turn_hold loop count [] fresh h = tt
   turn_hold loop count (p ∷ ps) fresh h = by (count == 0)
     where
@@ -87,7 +87,7 @@ module _ (f : Facts) (r : f.round) where
       by true = tt
       by false = ((fresh, of_list_hold_in (p ∷ ps) h), tt)
         where
-          of_list_hold_in : (qs : List Phase) → ListHolds f (f.inside r (form_of loop.command)) qs → PhasesHold f (f.inside r (form_of loop.command)) (of_list qs)
+          of_list_hold_in : (qs : List Phase) → ListHolds f (f.inside r (action_form_of loop.command)) qs → PhasesHold f (f.inside r (action_form_of loop.command)) (of_list qs)
           of_list_hold_in [] g = tt
           of_list_hold_in (q ∷ qs) g = (g.0, of_list_hold_in qs g.1)
 

@@ -13,7 +13,7 @@ use Rattle.dh_meaning.specs.AccessNumbers.{term_accesses, accesses_of, part_acce
 use Rattle.dh_meaning.specs.Sites.{Around, nothing_around, in_arm, in_loop, loop_of}
 use Rattle.dh_meaning.specs.Phases.{Located, Phase, straight, turns, repeated, decided, Phases, no_phases, phase, of_list, turn_count, located, phases, form_phases, other_phases, groups_phases, parts_phases, phases_of}
 use Rattle.dh_meaning.specs.Core.{CoreTerm, CoreCommands, no_commands, Turning}
-use Rattle.dh_meaning.specs.CoreOf.{Known, known_of, entity_number, store_to, core_action, core_action_form, core_other, core_part, core_groups, core_term, core_commands, form_of, turning_of, core_phase, core_phases, core_of}
+use Rattle.dh_meaning.specs.CoreOf.{Known, known_of, entity_number, store_to, core_action, core_action_form, core_other, core_part, core_groups, core_term, core_commands, action_form_of, turning_of, core_phase, core_phases, core_of}
 use Rattle.dh_meaning.specs.Effects.{commands, tests}
 use Rattle.dh_meaning.specs.Levels.{assigns_to, any_assigns}
 use Rattle.dh_sound.specs.Blocks.{StandsIn, StandsInPhase}
@@ -215,13 +215,13 @@ module _ (ground : ℕ) where
     iterator_is count (blocks body) = refl
 
     inside_is : (round : List Turning) (loop : Located) (count : ℕ)
-        → iterators (round ++ turning_of known count (form_of loop.command) ∷ []) ≡ iterators round ++ iterator_of (form_of loop.command) ∷ []
+        → iterators (round ++ turning_of known count (action_form_of loop.command) ∷ []) ≡ iterators round ++ iterator_of (action_form_of loop.command) ∷ []
     inside_is round loop count =
-        map-append (λ l. l.iterator) round (turning_of known count (form_of loop.command) ∷ [])
-        ∙ ap (λ i. iterators round ++ i ∷ []) (iterator_is count (form_of loop.command))
+        map-append (λ l. l.iterator) round (turning_of known count (action_form_of loop.command) ∷ [])
+        ∙ ap (λ i. iterators round ++ i ∷ []) (iterator_is count (action_form_of loop.command))
 
-    inside_leaves : (round : List Turning) (loop : Located) (count : ℕ) (body : Phases) → PhasesLeave (iterators round ++ iterator_of (form_of loop.command) ∷ []) body
-        → PhasesLeave (iterators (round ++ turning_of known count (form_of loop.command) ∷ [])) body
+    inside_leaves : (round : List Turning) (loop : Located) (count : ℕ) (body : Phases) → PhasesLeave (iterators round ++ iterator_of (action_form_of loop.command) ∷ []) body
+        → PhasesLeave (iterators (round ++ turning_of known count (action_form_of loop.command) ∷ [])) body
     inside_leaves round loop count body h = subst (λ (is : List ℕ). PhasesLeave is body) (sym (inside_is round loop count)) h
 
     same_commands : (cs ds : CoreCommands) → commands cs ≡ commands ds → cs ≡ ds
@@ -241,7 +241,7 @@ module _ (ground : ℕ) where
           → StandsInPhase round (core_phase known p) loops (commands ds) → Spares ds loops
       phase_spares (straight cs) round h loops ds s = straight_spares cs round loops ds h s.0 s.1
       phase_spares (turns loop count body) round h loops ds s =
-          phases_spare body (round ++ turning_of known count (form_of loop.command) ∷ []) (inside_leaves round loop count body h.1) loops ds s
+          phases_spare body (round ++ turning_of known count (action_form_of loop.command) ∷ []) (inside_leaves round loop count body h.1) loops ds s
       phase_spares (repeated loop body) round h loops ds (inl s) = no_test ds _ loops s.1
       phase_spares (repeated loop body) round h loops ds (inr s) = phases_spare body round h loops ds s
       phase_spares (decided choice chosen other) round h loops ds (inl s) = no_test ds _ loops s.1
@@ -258,8 +258,8 @@ module _ (ground : ℕ) where
       phase_apart : (p : Phase) (round : List Turning) → PhaseLeaves (iterators round) p → IsApart round (core_phase known p)
       phase_apart (straight cs) round h = tt
       phase_apart (turns loop count body) round h = (
-        subst (λ (i : ℕ). IsFresh i round) (sym (iterator_is count (form_of loop.command))) (fresh_from (iterator_of (form_of loop.command)) round h.0),
-        phases_apart body (round ++ turning_of known count (form_of loop.command) ∷ []) (inside_leaves round loop count body h.1),
+        subst (λ (i : ℕ). IsFresh i round) (sym (iterator_is count (action_form_of loop.command))) (fresh_from (iterator_of (action_form_of loop.command)) round h.0),
+        phases_apart body (round ++ turning_of known count (action_form_of loop.command) ∷ []) (inside_leaves round loop count body h.1),
       )
       phase_apart (repeated loop body) round h = phases_apart body round h
       phase_apart (decided choice chosen other) round h = (phases_apart chosen round h.0, phases_apart other round h.1)

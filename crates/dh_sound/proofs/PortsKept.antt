@@ -9,13 +9,13 @@ use Rattle.dh_tree.specs.Meets.{Apart}
 use Rattle.dh_tree.specs.Numbers.{IsNumbered}
 use Rattle.dh_tree.specs.PlainTrees.{Program, Term}
 use Rattle.dh_meaning.specs.Core.{Turning, CoreCommands}
-use Rattle.dh_meaning.specs.CoreOf.{Known, known_of, core_of, core_commands, core_test, core_test_of, test_of, form_of}
+use Rattle.dh_meaning.specs.CoreOf.{Known, known_of, core_of, core_commands, core_test, core_test_of, test_of, action_form_of}
 use Rattle.dh_meaning.specs.Effects.{Begun, Variables, Event, Block, tests, block_run, spent, term_events, commands_run}
 use Rattle.dh_meaning.specs.Levels.{any_assigns}
 use Rattle.dh_meaning.specs.OnePhase.{in_one_phase, any_makes, test_makes}
 use Rattle.dh_meaning.specs.Paths.{Path, paths_in, outer_paths}
 use Rattle.dh_meaning.specs.Sites.{Around}
-use Rattle.dh_meets.specs.Charges.{factors_of}
+use Rattle.dh_meets.specs.Charges.{loop_factors}
 use Rattle.dh_meets.specs.MayMeet.{meets_in}
 use Rattle.dh_meets.specs.Ports.{KeepsPorts}
 use Rattle.dh_meets.specs.SourceEvents.{trace}
@@ -116,7 +116,7 @@ module _ (p : Program) (typed : IsTypedProgram p) (rules : KeepsIndexRules p) (d
             let iy = good_inside p b (known_of p) (path_of y) (λ k. any_makes k o.done) (phase_shares p b (path_of y) o.done o.folds o.quiet o.has v) v (λ e. any_assigns e phase_commands) o.round (all_made_by b (path_of y) phase_commands v) y gy in
             let opposite = apart_opposite p (o.done ++ o.folds) (number_of x) (number_of y) o.has (makes_more (number_of x) o.done o.folds ix) (makes_more (number_of y) o.done o.folds iy) apart gx.of gy.of lx ly in
             let none : o.round.loops ≡ [] = sym gx.loops ∙ opposite.single in
-            let outer : paths_inside loops ≡ outer_paths = o.paths ∙ ap (λ ls. paths_in (factors_of ls)) none in
+            let outer : paths_inside loops ≡ outer_paths = o.paths ∙ ap (λ ls. paths_in (loop_factors ls)) none in
             let one : path_of x ≡ path_of y = only_path (path_of x) (subst (λ (ps : List Path). Has (path_of x) ps) outer px) ∙ sym (only_path (path_of y) (subst (λ (ps : List Path). Has (path_of y) ps) outer py)) in
             one_arm p b (known_of p) (path_of x) v o.round [] (trace p) [] o.done first numbered (sym (append-nil (trace p))) o.follows x y mx
             (subst (λ (q : Path). Has y (all_made_by b q phase_commands v)) (sym one) my) gx.of gy.of lx ly opposite.command opposite.opposite
@@ -161,7 +161,7 @@ module _ (p : Program) (typed : IsTypedProgram p) (rules : KeepsIndexRules p) (d
 
     own_ascends : (path : Path) → Has path (paths_inside loops) → (low : ℕ) × ((high : ℕ) × Ascends low (all_made_by b path test_commands v) high)
     own_ascends path h =
-        let (high, is) = tests_ascend path o.tested.first (test_of (form_of o.tested.command)) in
+        let (high, is) = tests_ascend path o.tested.first (test_of (action_form_of o.tested.command)) in
         (o.tested.first, (high, subst (λ (es : List Event). Ascends o.tested.first es high) (sym (test_made b path (core_test (known_of p) o.tested) v)) is))
       where
         tests_ascend : (q : Path) (n : ℕ) (t : Option Term) → (high : ℕ) × Ascends n (term_events b v q (core_test_of (known_of p) n t)) high

@@ -22,9 +22,9 @@ use Rattle.dh_meaning.specs.Effects.{Begun, Variables, Event, reads, writes, is_
 use Rattle.dh_meaning.specs.OnePhase.{in_one_phase}
 use Rattle.dh_meaning.specs.Paths.{Path, same_path, paths_in}
 use Rattle.dh_meaning.specs.Sites.{Around}
-use Rattle.dh_meets.specs.Charges.{banks_in, charge, charge_by, charge_of, charge_through, key_of, keys_reaching, memory_banks, reaches, paths_of, factors_of}
+use Rattle.dh_meets.specs.Charges.{banks_in, charge, charge_by, charge_of, charge_through, key_of, keys_reaching, memory_banks, reaches, paths_of, loop_factors}
 use Rattle.dh_meets.specs.MayMeet.{meets_in}
-use Rattle.dh_meets.specs.Ports.{KeepsPorts, memory_ports}
+use Rattle.dh_meets.specs.Ports.{KeepsPorts, ports_or_zero}
 use Rattle.dh_meets.specs.SourceEvents.{Element, with_indices, in_row, SourceAccess}
 use Rattle.dh_sound.specs.Blocks.{factors, paths_inside}
 use Rattle.dh_sound.specs.BlocksCovered.{AreCovered}
@@ -152,7 +152,7 @@ module _ (p : Program) (typed : IsTypedProgram p) (rules : KeepsIndexRules p) (d
     (good : (path : Path) → Has path (paths_inside loops) → (ev : Event) → Has ev (all_made_by b path cs v) → IsGood p b (known_of p) path in_block (share path) v touched r (all_made_by b path cs v) ev)
     (ascends : (path : Path) → Has path (paths_inside loops) → (low : ℕ) × ((high : ℕ) × Ascends low (all_made_by b path cs v) high))
     (indices : IndicesTold p in_block touched (paths_inside loops) v)
-    (paths : paths_inside loops ≡ paths_in (factors_of r.loops))
+    (paths : paths_inside loops ≡ paths_in (loop_factors r.loops))
     (together : (x y : Event) → Has x (block_events b (length (factors loops)) (paths_inside loops) (inside_copies b loops) cs deep v) → Has y (block_events b (length (factors loops)) (paths_inside loops) (inside_copies b loops) cs deep v)
     → Apart (meets_in p) (number_of x) (number_of y) → ⊥) where
   abbrev depth : ℕ
@@ -224,7 +224,7 @@ module _ (p : Program) (typed : IsTypedProgram p) (rules : KeepsIndexRules p) (d
     own_entity k a path s u l e = one_entity (memories_of p) l.of.entity entity memory (at_number k a path s u l ∙ ap Some (at_both s e).0) numbers
 
     of_loops : (a : SourceAccess) (path : Path) → a.site.loops ≡ r.loops → Has path (paths_inside loops) → Has path (paths_of a)
-    of_loops a path round at = subst (λ (ls : List Counter). Has path (paths_in (factors_of ls))) (sym round) (subst (λ (qs : List Path). Has path qs) paths at)
+    of_loops a path round at = subst (λ (ls : List Counter). Has path (paths_in (loop_factors ls))) (sym round) (subst (λ (qs : List Path). Has path qs) paths at)
 
     -- the key of an access is one with which it reaches the bank
     key_reaches : (k : ℕ) (a : SourceAccess) (path : Path) (s : Spot) (u : Variables) → a.site.loops ≡ r.loops → Has path (paths_inside loops) → Leads k a path s u → is_at s memory bank ≡ true
@@ -458,7 +458,7 @@ module _ (p : Program) (typed : IsTypedProgram p) (rules : KeepsIndexRules p) (d
         let l = c.covers in
         let k = keeps c.chosen c.together entity bank in
         let d = declared_ports (memories_of p) (Some entity) m memory e n in
-        let q = ap memory_ports e in
+        let q = ap ports_or_zero e in
         omega (arith, l, k, d, q)
 
     kept_by_event : (memory bank : ℕ) (m : Made) → (ev : Event) × (Has ev made_events × IsMadeThere (key_at p) memory bank m ev) → spent made_events memory bank ≤ ports_at (table_of p) memory

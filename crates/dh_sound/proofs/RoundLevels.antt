@@ -16,7 +16,7 @@ use Rattle.dh_tree.specs.Kinds.{Fact, of_variable, of_iterator, of_memory, of_fu
 use Rattle.dh_tree.specs.Memories.{same_entity}
 use Rattle.dh_tree.specs.PlainTrees.{Term, term, TermForm, number, truth_value, named, accessed, in_bank, applied, converted, Terms, no_terms, term_then}
 use Rattle.dh_tree.specs.Resolved.{used, resolved_term, resolved_terms}
-use Rattle.dh_tree.specs.Scopes.{Binding, binding, entity_of, is_visible, bind, Scope, entity, declare}
+use Rattle.dh_tree.specs.Scopes.{ScopeEntry, binding, entity_of, is_visible, bind, Scope, entity, declare}
 use Rattle.dh_meaning.specs.Sites.{Around, in_loop}
 use Rattle.dh_meets.specs.Charges.{level_of_loop}
 use Rattle.dh_meets.specs.SourceEvents.{with_indices, in_row, Site, SourceEvent, accesses, assigned, one_access, term_events, terms_events, maybe_events, write_events}
@@ -84,10 +84,10 @@ sees_later cs j k here l h n i = h n (omega (arith, l, i))
 -- Names.
 
 -- each name that is visible stands for the iterator of one of these loops, or of none that is unrolled
-abbrev pub NamesRound : (cs loops : List Counter) → List Binding → Type 0
+abbrev pub NamesRound : (cs loops : List Counter) → List ScopeEntry → Type 0
 NamesRound cs loops bs = (name : List ℕ) (n : ℕ) → entity_of bs name ≡ Some n → EntityRound cs loops (Some n)
 
-pub bind_round : (cs loops : List Counter) (bs : List Binding) (name : List ℕ) (m : ℕ) → NamesRound cs loops bs → EntityRound cs loops (Some m) → NamesRound cs loops (bind bs name m)
+pub bind_round : (cs loops : List Counter) (bs : List ScopeEntry) (name : List ℕ) (m : ℕ) → NamesRound cs loops bs → EntityRound cs loops (Some m) → NamesRound cs loops (bind bs name m)
 bind_round cs loops bs name m k h other n e = either (is_visible bs name) e
   where
     either : (b : Bool) → entity_of (if b then bs else bs ++ binding name m ∷ []) other ≡ Some n → EntityRound cs loops (Some n)
@@ -157,7 +157,7 @@ both_round cs [] ys h i = i
 both_round cs (accesses a ∷ xs) ys h i = (h.0, both_round cs xs ys h.1 i)
 both_round cs (assigned entity ∷ xs) ys h i = both_round cs xs ys h i
 
-module _ (cs : List Counter) (site : Site) (bs : List Binding) (h : NamesRound cs site.loops bs) where
+module _ (cs : List Counter) (site : Site) (bs : List ScopeEntry) (h : NamesRound cs site.loops bs) where
   name_round : (r : Ref) → used bs r ≡ r → EntityRound cs site.loops r.entity
   name_round r e = by r.entity (sym (ap (λ (x : Ref). x.entity) e))
     where

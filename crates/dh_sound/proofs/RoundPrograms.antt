@@ -9,7 +9,7 @@ use Rattle.dh_tree.specs.Counters.{counters_of, counter_in}
 use Rattle.dh_tree.specs.Kinds.{Fact, of_memory, Facts, declared_facts, function_fact, first_facts, body_facts, facts_after}
 use Rattle.dh_tree.specs.LeastBreach.{is_before}
 use Rattle.dh_tree.specs.PlainTrees.{Declared, Defined, Program}
-use Rattle.dh_tree.specs.Scopes.{Binding, bind, Item, memory_items, function_items, merged, items_of, after_items, body_scope}
+use Rattle.dh_tree.specs.Scopes.{ScopeEntry, bind, Item, memory_items, function_items, merged, items_of, after_items, body_scope}
 use Rattle.dh_meaning.specs.Sites.{nothing_around}
 use Rattle.dh_meets.specs.SourceEvents.{SourceAccess, SourceEvent, accesses, assigned, accesses_in, trace}
 use Rattle.dh_sound.specs.IndexValues.{IsTypedProgram}
@@ -38,7 +38,7 @@ merged_other facts (m ∷ ms) (f ∷ fs) h i = by (is_before f.name.place m.name
     by true g k = (i.0, g)
     by false g k = (h.0, k)
 
-after_round : (all facts : Facts) (cs loops : List Counter) (bs : List Binding) (items : List Item) → AreKnownIterators all cs → Extends all facts → NamesRound cs loops bs → ItemsOther facts items → NamesRound cs loops (after_items bs items)
+after_round : (all facts : Facts) (cs loops : List Counter) (bs : List ScopeEntry) (items : List Item) → AreKnownIterators all cs → Extends all facts → NamesRound cs loops bs → ItemsOther facts items → NamesRound cs loops (after_items bs items)
 after_round all facts cs loops bs [] h x n o = n
 after_round all facts cs loops bs (i ∷ is) h x n o =
     after_round all facts cs loops (bind bs i.name.name i.entity) is h x (bind_round cs loops bs i.name.name i.entity n (other_round all cs loops i.entity o.0.fact h (x i.entity o.0.fact o.0.is) o.0.other)) o.1

@@ -15,7 +15,7 @@ use Rattle.dh_meaning.specs.Effects.{Begun, Variables, value_of, values_of, spot
 use Rattle.dh_meaning.specs.Paths.{Path}
 use Rattle.dh_meets.specs.Charges.{entity_depends, term_depends, terms_depend, element_depends, depends, picked, key_of}
 use Rattle.dh_meets.specs.SourceEvents.{Element, with_indices, in_row, SourceAccess}
-use Rattle.dh_sound.specs.SameKeys.{CopiesAgree, IsSettled, EachName, EachNameOf, EachNameIn}
+use Rattle.dh_sound.specs.SameKeys.{CopiesAgree, IsSettledName, EachName, EachNameOf, EachNameIn}
 use Rattle.dh_sound.proofs.SourceValues.{operation_same, accessed_is, memory_at, read_value, source_spot, spot_named}
 use Rattle.dh_meaning.specs.Ways.{way_at}
 use Rattle.dh_ways.specs.SpotsThrough.{spot_to, offsets_at}
@@ -74,7 +74,7 @@ module _ (b : Begun) (known : Known) (v w : Variables) (p q : Path)
       ∙ ap (λ os. spot_to b.table (memory_at b known entity) (way_at known.memories known.ways entity) ys os) (still entity a)
 
   mutual
-    pub settled_value : (n : ℕ) (t : Term) → EachName (IsSettled known v w p q) t → CopiesAgree (λ l. term_depends known.bindings l t) p q
+    pub settled_value : (n : ℕ) (t : Term) → EachName (IsSettledName known v w p q) t → CopiesAgree (λ l. term_depends known.bindings l t) p q
         → value_of b v p (core_term known n t) ≡ value_of b w q (core_term known n t)
     settled_value n (term place k (number negative x)) s a = refl
     settled_value n (term place k (truth_value x)) s a = refl
@@ -93,7 +93,7 @@ module _ (b : Begun) (known : Known) (v w : Variables) (p q : Path)
         (settled_value (n + term_accesses l) r s.1 (agree_right (λ i. term_depends known.bindings i l) (λ i. term_depends known.bindings i r) p q a))
     settled_value n (term place k (converted t to)) s a = ap (λ x. word_of to (words.value_of x)) (settled_value n t s a)
 
-    pub settled_values : (n : ℕ) (ts : Terms) → EachNameOf (IsSettled known v w p q) ts → CopiesAgree (λ l. terms_depend known.bindings l ts) p q
+    pub settled_values : (n : ℕ) (ts : Terms) → EachNameOf (IsSettledName known v w p q) ts → CopiesAgree (λ l. terms_depend known.bindings l ts) p q
         → values_of b v p (core_terms known n ts) ≡ values_of b w q (core_terms known n ts)
     settled_values n no_terms s a = refl
     settled_values n (term_then t ts) s a =
@@ -103,13 +103,13 @@ module _ (b : Begun) (known : Known) (v w : Variables) (p q : Path)
         (settled_values (n + term_accesses t) ts s.1 (agree_right (λ i. term_depends known.bindings i t) (λ i. terms_depend known.bindings i ts) p q a))
 
   -- an access whose indices are settled leads to one element at paths that agree where it depends
-  pub settled_spot : (of : Option ℕ) (e : Element) → CopiesAgree (λ l. entity_depends known.bindings l of) p q → EachNameIn (IsSettled known v w p q) e → CopiesAgree (λ l. element_depends known.bindings l e) p q
+  pub settled_spot : (of : Option ℕ) (e : Element) → CopiesAgree (λ l. entity_depends known.bindings l of) p q → EachNameIn (IsSettledName known v w p q) e → CopiesAgree (λ l. element_depends known.bindings l e) p q
       → source_spot b known v p of e ≡ source_spot b known w q of e
   settled_spot of (with_indices ts) o s a = named_same of _ _ o (settled_values 0 ts s a)
   settled_spot of (in_row bank t) o s a = ap (λ x. spot_by_row b.table (memory_at b known of) bank (words.value_of x)) (settled_value 0 t s a)
 
   -- reads of one access with one key lead to one element
-  pub same_keys : (a : SourceAccess) → a.writes ≡ false → length p ≡ length q → key_of known.bindings a p ≡ key_of known.bindings a q → EachNameIn (IsSettled known v w p q) a.element
+  pub same_keys : (a : SourceAccess) → a.writes ≡ false → length p ≡ length q → key_of known.bindings a p ≡ key_of known.bindings a q → EachNameIn (IsSettledName known v w p q) a.element
       → source_spot b known v p a.entity a.element ≡ source_spot b known w q a.entity a.element
   same_keys a reads n e s =
       settled_spot a.entity a.element

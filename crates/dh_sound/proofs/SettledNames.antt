@@ -19,7 +19,7 @@ use Rattle.dh_meets.specs.Charges.{iterator_depends, variable_depends, binding_d
 use Rattle.dh_sound.specs.Blocks.{factors, paths_inside}
 use Rattle.dh_sound.specs.IteratorsAt.{IteratorAt}
 use Rattle.dh_sound.proofs.PathParts.{Fits, path_fits}
-use Rattle.dh_sound.specs.SameKeys.{CopiesAgree, NameAgrees, IsSettled, IsNearTo, IsNoIterator, IsIteratorOf}
+use Rattle.dh_sound.specs.SameKeys.{CopiesAgree, NameAgrees, IsSettledName, IsNearTo, IsNoIterator, IsIteratorName}
 
 -- Paths.
 
@@ -70,7 +70,7 @@ plain_part known p q r e is h n a =
 
 -- a variable that is no iterator and that the block does not touch
 pub plain_settled : (known : Known) (v0 v w : Variables) (touched : ℕ → Bool) (p q : Path) (r : Ref) (e : ℕ) → IsNearTo v0 touched v → IsNearTo v0 touched w → length p ≡ length q
-    → r.entity ≡ Some e → touched e ≡ false → IsNoIterator (binding_in known.bindings e) → IsSettled known v w p q r
+    → r.entity ≡ Some e → touched e ≡ false → IsNoIterator (binding_in known.bindings e) → IsSettledName known v w p q r
 plain_settled known v0 v w touched p q r e near close n is left h a =
     near (entity_number r.entity) _ untouched
     ∙ (ap (λ x. v0 (entity_number r.entity) x) (plain_part known p q r e is h n a) ∙ sym (close (entity_number r.entity) _ untouched))
@@ -103,7 +103,7 @@ same_last factor depth p q deep n a = by (nat_lt 1 factor) refl
 
 -- the iterator of a loop that is in a turn and that the block does not touch
 pub iterator_settled : (known : Known) (v0 v w : Variables) (touched : ℕ → Bool) (p q : Path) (r : Ref) (loop : Turning) (turn : ℕ) → IsNearTo v0 touched v → IsNearTo v0 touched w → length p ≡ length q
-    → IsIteratorOf known r loop → touched loop.iterator ≡ false → IteratorAt loop turn v0 p → IteratorAt loop turn v0 q → IsSettled known v w p q r
+    → IsIteratorName known r loop → touched loop.iterator ≡ false → IteratorAt loop turn v0 p → IteratorAt loop turn v0 q → IsSettledName known v w p q r
 iterator_settled known v0 v w touched p q r loop turn near close n i left here there a =
     found v p near here
     ∙ (ap (λ c. pos (loop.low + turn * loop.factor + c)) (same_last loop.factor loop.depth p q i.deep n agree) ∙ sym (found w q close there))

@@ -16,20 +16,20 @@ use Rattle.dh_tree.specs.PlainTrees.{Term, ViewPlan, shrinks, splits, suffixes, 
 use Rattle.dh_tree.specs.Ready.{IsReady}
 use Rattle.dh_tree.specs.ViewElements.{offsets_needed}
 use Rattle.dh_tree.specs.ViewFactors.{brackets_broken, brackets_fit, factor_breaches_of, viewing_breaches, viewings_breaches}
-use Rattle.dh_tree.specs.ViewOffsets.{is_shift, offsets_of}
+use Rattle.dh_tree.specs.ViewOffsets.{is_shift_view, offsets_of}
 use Rattle.dh_tree.specs.Views.{map_of, shape_in, sort_of, viewed_of}
 use Rattle.dh_tree.proofs.EmptyLists.{first_none, second_none}
 use Rattle.dh_meaning.specs.CoreOf.{kept_terms}
 use Rattle.dh_meaning.specs.Effects.{Begun, Variables, values_of}
 use Rattle.dh_meaning.specs.Paths.{Path}
-use Rattle.dh_meaning.specs.Ways.{Hidden, Led, Standing, Step, Way, behind_hidden, depth_where, hidden_from, hidden_of, led_after, led_behind, led_of, shape_named, standings, way_at, way_behind, way_in, way_to, way_unless, ways_of}
+use Rattle.dh_meaning.specs.Ways.{Hidden, Led, ViewSite, WayStep, Way, behind_hidden, depth_where, hidden_from, hidden_of, led_after, led_behind, led_of, shape_named, standings, way_at, way_behind, way_in, way_to, way_unless, ways_of}
 use Rattle.dh_ways.specs.Leading.{viewed_of_led}
 use Rattle.dh_sound.proofs.CopiesThrough.{SameAtShifts}
 use Rattle.dh_sound.proofs.IteratorsNamed.{none_when}
 use Rattle.dh_sound.proofs.ViewedWays.{first_standings, forget, found_holds, led_to, next_seen, shape_same}
 
 -- of the offsets that the steps take in turn, those of shifts are kept no deeper than this
-abbrev pub ShiftsWithin : List Step → List Hidden → (deepest : ℕ) → Type 0
+abbrev pub ShiftsWithin : List WayStep → List Hidden → (deepest : ℕ) → Type 0
 ShiftsWithin [] hs n = Unit {0}
 ShiftsWithin (s ∷ ss) hs n = (s.is.sort ≡ Shift → AllByRecursion (λ (h : Hidden). h.depth ≤ n) (take s.offsets hs)) × ShiftsWithin ss (drop s.offsets hs) n
 
@@ -60,7 +60,7 @@ deeper : (m n : ℕ) → m ≤ n → (hs : List Hidden) → AllByRecursion (λ (
 deeper m n l [] a = tt
 deeper m n l (h ∷ hs) a = (let k = a.0 in omega (arith, k, l), deeper m n l hs a.1)
 
-within_more : (m n : ℕ) → m ≤ n → (ss : List Step) (hs : List Hidden) → ShiftsWithin ss hs m → ShiftsWithin ss hs n
+within_more : (m n : ℕ) → m ≤ n → (ss : List WayStep) (hs : List Hidden) → ShiftsWithin ss hs m → ShiftsWithin ss hs n
 within_more m n l [] hs a = tt
 within_more m n l (s ∷ ss) hs a = ((λ k. deeper m n l (take s.offsets hs) (a.0 k)), within_more m n l ss (drop s.offsets hs) a.1)
 
@@ -85,7 +85,7 @@ brackets (splits by by_place) shape e = refl
 brackets (suffixes by by_place) shape e = length-map by _ ∙ eqb-true (length by) (length shape.dims) e
 brackets (shifts by) shape e = eqb-true (length by) (length shape.dims) e
 
-counted : (s : Standing) (shape : Shape) → viewing_breaches (forget s) (Some shape) ≡ [] → length (hidden_from 0 s.depth (offsets_of s.form)) ≡ offsets_needed (sort_of s.form) shape.dims
+counted : (s : ViewSite) (shape : Shape) → viewing_breaches (forget s) (Some shape) ≡ [] → length (hidden_from 0 s.depth (offsets_of s.form)) ≡ offsets_needed (sort_of s.form) shape.dims
 counted s shape e =
     long_from 0 s.depth (offsets_of s.form)
     ∙ brackets s.form shape
@@ -95,7 +95,7 @@ counted s shape e =
 -- Ways.
 
 -- a view's own offsets, where it is a shift
-own_shift : (form : ViewPlan) (depth : ℕ) → sort_of form ≡ Shift → depth ≤ depth_where (is_shift form) depth
+own_shift : (form : ViewPlan) (depth : ℕ) → sort_of form ≡ Shift → depth ≤ depth_where (is_shift_view form) depth
 own_shift (shrinks by by_place) depth e = absurd cc
 own_shift (splits by by_place) depth e = absurd cc
 own_shift (suffixes by by_place) depth e = absurd cc
@@ -110,23 +110,23 @@ right_most a b = grind arith
 through : (a b c : ℕ) → a ≤ b → b ≤ c → a ≤ c
 through a b c l m = omega (arith, l, m)
 
-behind_holds : (first : ℕ) (s : Standing) (shape : Shape) (o : Option Way) → viewing_breaches (forget s) (Some shape) ≡ [] → ((w : Way) → o ≡ Some w → HoldsShifts w) → HoldsShifts (way_behind first s (map_of s.form shape) o)
+behind_holds : (first : ℕ) (s : ViewSite) (shape : Shape) (o : Option Way) → viewing_breaches (forget s) (Some shape) ≡ [] → ((w : Way) → o ≡ Some w → HoldsShifts w) → HoldsShifts (way_behind first s (map_of s.form shape) o)
 behind_holds first s shape None e h = (
-  (λ k. all_taken (λ (x : Hidden). x.depth ≤ depth_where (is_shift s.form) s.depth) (offsets_needed (sort_of s.form) shape.dims) (hidden_of first s)
-      (deeper s.depth (depth_where (is_shift s.form) s.depth) (own_shift s.form s.depth k) (hidden_of first s) (own_depth first s.depth (offsets_of s.form)))),
+  (λ k. all_taken (λ (x : Hidden). x.depth ≤ depth_where (is_shift_view s.form) s.depth) (offsets_needed (sort_of s.form) shape.dims) (hidden_of first s)
+      (deeper s.depth (depth_where (is_shift_view s.form) s.depth) (own_shift s.form s.depth k) (hidden_of first s) (own_depth first s.depth (offsets_of s.form)))),
   tt,
 )
 behind_holds first s shape (Some w) e h =
-    let n = max (depth_where (is_shift s.form) s.depth) w.shifts in
+    let n = max (depth_where (is_shift_view s.form) s.depth) w.shifts in
     let needed = offsets_needed (sort_of s.form) shape.dims in
     let long : length (hidden_of first s) ≡ needed = long_from first s.depth (offsets_of s.form) ∙ (sym (long_from 0 s.depth (offsets_of s.form)) ∙ counted s shape e) in
     let front : take needed (hidden_of first s ++ w.hidden) ≡ hidden_of first s = ap (λ k. take k (hidden_of first s ++ w.hidden)) (sym long) ∙ taken (hidden_of first s) w.hidden in
     let back : drop needed (hidden_of first s ++ w.hidden) ≡ w.hidden = ap (λ k. drop k (hidden_of first s ++ w.hidden)) (sym long) ∙ dropped (hidden_of first s) w.hidden in (
       (λ k. subst (λ (hs : List Hidden). AllByRecursion (λ (x : Hidden). x.depth ≤ n) hs) (sym front)
-          (deeper s.depth n (through s.depth (depth_where (is_shift s.form) s.depth) n (own_shift s.form s.depth k) (left_most (depth_where (is_shift s.form) s.depth) w.shifts)) (hidden_of first s)
+          (deeper s.depth n (through s.depth (depth_where (is_shift_view s.form) s.depth) n (own_shift s.form s.depth k) (left_most (depth_where (is_shift_view s.form) s.depth) w.shifts)) (hidden_of first s)
           (own_depth first s.depth (offsets_of s.form)))),
       subst (λ (hs : List Hidden). ShiftsWithin w.steps hs n) (sym back)
-          (within_more w.shifts n (right_most (depth_where (is_shift s.form) s.depth) w.shifts) w.steps w.hidden (h w refl)),
+          (within_more w.shifts n (right_most (depth_where (is_shift_view s.form) s.depth) w.shifts) w.steps w.hidden (h w refl)),
     )
 
 abbrev AllHold : List Led → Type 0
@@ -140,11 +140,11 @@ unless_some : (m : Option Memory) (o : Option Way) (w : Way) → way_unless m o 
 unless_some (Some m) o w e = cc
 unless_some None o w e = e
 
-one_holds : (first : ℕ) (s : Standing) (shape : Option Shape) (o : Option Way) → viewing_breaches (forget s) shape ≡ [] → ((w : Way) → o ≡ Some w → HoldsShifts w) → AllHold (led_of first s shape o)
+one_holds : (first : ℕ) (s : ViewSite) (shape : Option Shape) (o : Option Way) → viewing_breaches (forget s) shape ≡ [] → ((w : Way) → o ≡ Some w → HoldsShifts w) → AllHold (led_of first s shape o)
 one_holds first s None o e h = tt
 one_holds first s (Some shape) o e h = (behind_holds first s shape o e h, tt)
 
-all_hold : (ms : List Memory) (first : ℕ) (ls : List Led) (ss : List Standing) → AllHold ls → viewings_breaches ms (map viewed_of_led ls) (map forget ss) ≡ [] → AllHold (led_behind ms first ls ss)
+all_hold : (ms : List Memory) (first : ℕ) (ls : List Led) (ss : List ViewSite) → AllHold ls → viewings_breaches ms (map viewed_of_led ls) (map forget ss) ≡ [] → AllHold (led_behind ms first ls ss)
 all_hold ms first ls [] all e = all
 all_hold ms first ls (s ∷ ss) all e =
     let o = shape_in ms (map viewed_of_led ls) s.parent.entity in
@@ -191,7 +191,7 @@ module _ (b : Begun) (v w : Variables) (x y : Path) where
   each_same deepest Kept same (h ∷ hs) k a = (same h k.0 a.0, each_same deepest Kept same hs k.1 a.1)
 
   -- where what is kept so deep is the same, the offsets at shifts are
-  pub shifts_same : (deepest : ℕ) (Kept : Hidden → Type 0) → ((h : Hidden) → Kept h → h.depth ≤ deepest → IsSame h) → (ss : List Step) (hs : List Hidden) → ShiftsWithin ss hs deepest → AllByRecursion Kept hs
+  pub shifts_same : (deepest : ℕ) (Kept : Hidden → Type 0) → ((h : Hidden) → Kept h → h.depth ≤ deepest → IsSame h) → (ss : List WayStep) (hs : List Hidden) → ShiftsWithin ss hs deepest → AllByRecursion Kept hs
       → SameAtShifts ss (values_of b v x (kept_terms hs)) (values_of b w y (kept_terms hs))
   shifts_same deepest Kept same [] hs a k = tt
   shifts_same deepest Kept same (s ∷ ss) hs a k = (

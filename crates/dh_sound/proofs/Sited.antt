@@ -8,7 +8,7 @@ use Rattle.dh_tree.specs.declared.trees.counters.Counter.{Counter}
 use Rattle.dh_meaning.specs.AccessNumbers.{term_accesses, accesses_of, other_accesses, part_accesses, groups_accesses}
 use Rattle.dh_meaning.specs.Sites.{Arm, Around, nothing_around, in_arm, in_loop, loop_of}
 use Rattle.dh_meaning.specs.Phases.{phases, groups_phases, parts_phases}
-use Rattle.dh_meaning.specs.OnePhase.{is_within, makes, form_makes, other_makes, groups_make, part_makes}
+use Rattle.dh_meaning.specs.OnePhase.{is_between, makes, form_makes, other_makes, groups_make, part_makes}
 use Rattle.dh_meets.specs.SourceEvents.{Site, SourceAccess, SourceEvent, accesses, assigned, accesses_in, term_events, form_events, terms_events, maybe_events, write_events, site_of, events, command_events, other_events, groups_events, part_events}
 use Rattle.dh_sound.specs.PhaseFacts.{HasArm}
 use Rattle.dh_sound.proofs.EventCounts.{count_in, term_counted, events_counted, part_counted}
@@ -178,7 +178,7 @@ module _ (k : ℕ) (a : SourceAccess) where
 span_true : (k n c : ℕ) → 1 ≤ span k n c → Within k n c
 span_true k n c h = grind (arith, nat_tests)
 
-pub within_span : (k n c : ℕ) → is_within k n c ≡ true → Within k n c
+pub within_span : (k n c : ℕ) → is_between k n c ≡ true → Within k n c
 within_span k n c e = grind (arith, nat_tests)
 
 pub within_times : (k n c x y : ℕ) → x + y ≤ span k n c → 1 ≤ x → Within k n c
@@ -230,9 +230,9 @@ module _ (k : ℕ) (a : SourceAccess) where
     form_loops r n id (calls function arguments) m h = elim h [ ]
     form_loops r n id (blocks body) m h = groups_loops r n body m h
     form_loops r n id (decides test arm other) m h =
-        by (either (is_within k n (term_accesses test)) _ m) (made_loops (in_arm r id true) (n + term_accesses test) arm) (other_loops (in_arm r id false) (n + term_accesses test + accesses_of arm) other)
+        by (either (is_between k n (term_accesses test)) _ m) (made_loops (in_arm r id true) (n + term_accesses test) arm) (other_loops (in_arm r id false) (n + term_accesses test + accesses_of arm) other)
       where
-        by : (is_within k n (term_accesses test) ≡ true) ⊎ ((makes k (n + term_accesses test) arm || other_makes k (n + term_accesses test + accesses_of arm) other) ≡ true)
+        by : (is_between k n (term_accesses test) ≡ true) ⊎ ((makes k (n + term_accesses test) arm || other_makes k (n + term_accesses test + accesses_of arm) other) ≡ true)
             → (makes k (n + term_accesses test) arm ≡ true → At (n + term_accesses test) k (events (in_arm r id true) arm) a → a.site.loops ≡ r.loops)
             → (other_makes k (n + term_accesses test + accesses_of arm) other ≡ true → At (n + term_accesses test + accesses_of arm) k (other_events (in_arm r id false) other) a → a.site.loops ≡ r.loops)
             → a.site.loops ≡ r.loops

@@ -14,7 +14,7 @@ use Rattle.dh_tree.specs.Ready.{IsReady}
 use Rattle.dh_tree.specs.Resolved.{resolved_action, resolved_form, resolved_other, resolved_actions, resolved_groups}
 use Rattle.dh_tree.specs.Scopes.{Scope, entity, declare, leave, past, at_end, form_at_end, other_at_end, actions_at_end, groups_at_end, body_scope, last_scope}
 use Rattle.dh_meaning.specs.Bindings.{Binding, bindings, bindings_of, depth_inside, form_bindings, groups_bindings, other_bindings, part_bindings}
-use Rattle.dh_meaning.specs.Ways.{Standing, form_standings, groups_standings, other_standings, part_standings, standings}
+use Rattle.dh_meaning.specs.Ways.{ViewSite, form_standings, groups_standings, other_standings, part_standings, standings}
 use Rattle.dh_sound.proofs.DepthsNamed.{size}
 use Rattle.dh_sound.proofs.IteratorsNamed.{GoesOn, at_next, goes_on, groups_on, other_on, part_on, past_on, same_on, then_on}
 
@@ -54,13 +54,13 @@ stands_as test es (Some n) = sort_at test (slice_get es n)
 abbrev pub AllBound : List Entity → List Binding → Type 0
 AllBound es bs = AllByRecursion (λ (b : Binding). stands_as is_bound es b.entity ≡ true) bs
 
-abbrev pub AllViewed : List Entity → List Standing → Type 0
-AllViewed es ss = AllByRecursion (λ (s : Standing). stands_as is_viewed es s.name.entity ≡ true) ss
+abbrev pub AllViewed : List Entity → List ViewSite → Type 0
+AllViewed es ss = AllByRecursion (λ (s : ViewSite). stands_as is_viewed es s.name.entity ≡ true) ss
 
 abbrev pub AllStored : List Entity → List Memory → Type 0
 AllStored es ms = AllByRecursion (λ (m : Memory). stands_as is_stored es m.name.entity ≡ true) ms
 
-pub record AreSorted (es : List Entity) (bs : List Binding) (ss : List Standing) (ms : List Memory) : Type 0 where
+pub record AreSorted (es : List Entity) (bs : List Binding) (ss : List ViewSite) (ms : List Memory) : Type 0 where
   pub bound : AllBound es bs
   pub viewed : AllViewed es ss
   pub stored : AllStored es ms
@@ -73,10 +73,10 @@ module _ (es : List Entity) where
   nothing : AreSorted es [] [] []
   nothing = record { bound = tt; viewed = tt; stored = tt }
 
-  both : (bs cs : List Binding) (ss qs : List Standing) (ms ns : List Memory) → AreSorted es bs ss ms → AreSorted es cs qs ns → AreSorted es (bs ++ cs) (ss ++ qs) (ms ++ ns)
+  both : (bs cs : List Binding) (ss qs : List ViewSite) (ms ns : List Memory) → AreSorted es bs ss ms → AreSorted es cs qs ns → AreSorted es (bs ++ cs) (ss ++ qs) (ms ++ ns)
   both bs cs ss qs ms ns one two = record {
     bound = both_all (λ (b : Binding). stands_as is_bound es b.entity ≡ true) bs cs one.bound two.bound;
-    viewed = both_all (λ (s : Standing). stands_as is_viewed es s.name.entity ≡ true) ss qs one.viewed two.viewed;
+    viewed = both_all (λ (s : ViewSite). stands_as is_viewed es s.name.entity ≡ true) ss qs one.viewed two.viewed;
     stored = both_all (λ (m : Memory). stands_as is_stored es m.name.entity ≡ true) ms ns one.stored two.stored;
   }
 

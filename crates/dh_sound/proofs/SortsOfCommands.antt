@@ -7,7 +7,7 @@ use Rattle.std.proofs.Common.{◌≡◌, ℕ, ◌≤◌, nat_lt, true, false, Li
 use Rattle.std.specs.Option.{option_map}
 use Rattle.dh_value.specs.declared.kinds.Kind.{Kind}
 use Rattle.dh_tree.specs.declared.trees.programs.Sort.TheVariants as sort
-use Rattle.dh_tree.specs.Breaches.{unknown, twice, term_breaches, value_breaches, breaches, form_breaches, other_breaches, actions_breaches, groups_breaches}
+use Rattle.dh_tree.specs.Breaches.{unknown, twice, term_breaches, maybe_value_breaches, breaches, form_breaches, other_breaches, actions_breaches, groups_breaches}
 use Rattle.dh_tree.specs.KindBreaches.{term_kind_breaches, assigned_breaches, parent_breaches, truth_breaches, condition_breaches, target_breaches, iterator_breaches, low_breaches, high_breaches, action_kind_breaches, action_form_kind_breaches, other_kind_breaches, actions_kind_breaches, groups_kind_breaches}
 use Rattle.dh_tree.specs.Kinds.{of_iterator, of_memory, Facts, fact_of, found, place_of, target_kind, variable_fact, view_dims, view_fact, iterator_kind, facts_after, facts_after_form, facts_after_other, facts_after_actions, facts_after_groups}
 use Rattle.dh_tree.specs.Memories.{Memory, memories_of, locals, form_locals, other_locals, part_locals, groups_locals}
@@ -35,7 +35,7 @@ use Rattle.dh_carried.proofs.Pigeons.{Has, has_left, has_right}
 use Rattle.dh_sound.proofs.Sites.{each_both}
 use Rattle.dh_sound.proofs.SortsOfNames.{memory_found, IsDeepFrom, memory_is, variable_is, iterator_is, AreSorted, later_sorted, all_later, inner_sorted, bind_sorted, next_fact, declared_sorted, past_sorted, let_is, target_inside, term_told, write_told, maybe_told, fact_there, parent_of, terms_told, view_is}
 use Rattle.std.proofs.lemmas.Option.{slice_get_within}
-use Rattle.dh_meaning.specs.Ways.{Standing, Way, all_bindings_of, form_standings, groups_standings, hidden_in, other_standings, part_standings, standings, way_to}
+use Rattle.dh_meaning.specs.Ways.{ViewSite, Way, all_bindings_of, form_standings, groups_standings, hidden_in, other_standings, part_standings, standings, way_to}
 use Rattle.dh_ways.specs.Leading.{LeadsTo}
 use Rattle.dh_sound.proofs.Offsets.{offsets_kinds, offsets_named, offsets_visible}
 use Rattle.dh_sound.proofs.ViewedWays.{kept_ways_lead}
@@ -113,14 +113,14 @@ module _ (p : Program) (ready : IsReady p) where
   mutual
     pub told : (a : Action) (facts : Facts) (s : Scope) (r : Around) (first d : ℕ) → InStep s facts → AreSorted p facts first d s.visible
         → resolved_action s a ≡ a → breaches s a ≡ [] → action_kind_breaches facts a ≡ [] → FoldsInJoins a → outer_breaches first a ≡ [] → Deep (all_bindings_of p) d a → ((m : Memory) → Has m (locals a) → Has m (memories_of p))
-        → ((y : Standing) → Has y (standings d a) → Has y (standings 0 p.body)) → CommandTold p (facts_after facts a) first d (at_end s a) (events r a) (AssignsInside (known_of p) d a)
+        → ((y : ViewSite) → Has y (standings d a) → Has y (standings 0 p.body)) → CommandTold p (facts_after facts a) first d (at_end s a) (events r a) (AssignsInside (known_of p) d a)
     told (action id place form) facts s r first d l k e v b x o q w z =
         let same : resolved_form s form ≡ form = cc in
         form_told form facts s r id first d l k same v b x o q w z
 
     form_told : (f : ActionForm) (facts : Facts) (s : Scope) (r : Around) (id first d : ℕ) → InStep s facts → AreSorted p facts first d s.visible
         → resolved_form s f ≡ f → form_breaches s f ≡ [] → action_form_kind_breaches facts f ≡ [] → FormFoldsInJoins f → outer_form_breaches first f ≡ [] → FormDeep (all_bindings_of p) d f → ((m : Memory) → Has m (form_locals f) → Has m (memories_of p))
-        → ((y : Standing) → Has y (form_standings d f) → Has y (standings 0 p.body)) → CommandTold p (facts_after_form facts f) first d (form_at_end s f) (command_events r (site_of r id) f) (FormAssignsInside (known_of p) d f)
+        → ((y : ViewSite) → Has y (form_standings d f) → Has y (standings 0 p.body)) → CommandTold p (facts_after_form facts f) first d (form_at_end s f) (command_events r (site_of r id) f) (FormAssignsInside (known_of p) d f)
     form_told (lets name declared value) facts s r id first d l k e v b x o q w z =
         let own : Some (size s) ≡ name.entity = cc in
         let right : option_map (resolved_term s.visible) value ≡ value = cc in
@@ -128,7 +128,7 @@ module _ (p : Program) (ready : IsReady p) where
         record {
           names = declared_sorted p facts s name sort.Variable (variable_fact declared value) first d k
               (variable_is fact.0 (next_fact facts s (variable_fact declared value) l ∙ ap Some fact.1) (let_deep name.entity (size s) first d own q));
-          events = each_both _ (maybe_events (site_of r id) value) _ (maybe_told p leads facts first d s.visible k (site_of r id) declared value right (first_none (value_breaches s.visible value) _ v) b) tt;
+          events = each_both _ (maybe_events (site_of r id) value) _ (maybe_told p leads facts first d s.visible k (site_of r id) declared value right (first_none (maybe_value_breaches s.visible value) _ v) b) tt;
           inside = no_less _ d q;
         }
     form_told (lets_memory name shape shape_places value) facts s r id first d l k e v b x o q w z =
@@ -148,7 +148,7 @@ module _ (p : Program) (ready : IsReady p) where
         let stands = used_stands s.visible parent above (first_none (unknown s.visible parent) _ v) in
         let of = parent_of p leads facts first d parent stands.0 parent.place stands.1 (k parent.name stands.0 (above ∙ stands.1)) (first_none (parent_breaches (fact_of facts parent) parent.place) _ b) in
         let fact : view_fact (fact_of facts parent) form ≡ of_memory of.kind (view_dims form of.dims) = ap (λ o. view_fact o form) (sym (fact_there p leads facts first d parent stands.0 (of_memory of.kind of.dims) stands.1 of.at)) in
-        let one : Standing = record { name = name; parent = parent; form = form; depth = d } in
+        let one : ViewSite = record { name = name; parent = parent; form = form; depth = d } in
         let step : size s ≡ length facts = l in
         let below = slice_get_within facts stands.0 (of_memory of.kind of.dims) of.at in
         let led = is_led p ready one (z one (inl refl)) (size s) stands.0 (sym own) stands.1 (omega (arith, below, step)) of.named in
@@ -156,7 +156,7 @@ module _ (p : Program) (ready : IsReady p) where
         record {
           names = declared_sorted p facts s name sort.View (view_fact (fact_of facts parent) form) first d k
               (view_is of.kind (view_dims form of.dims) (next_fact facts s (view_fact (fact_of facts parent) form) l ∙ ap Some fact) (led.way, led.found));
-          events = terms_told p leads facts first d s.visible k (site_of r id) (terms (offsets_of form)) (offsets_named s.visible form plan) (offsets_visible s.visible form ∙ first_none (names.plan_breaches s.visible form) _ seen)
+          events = terms_told p leads facts first d s.visible k (site_of r id) (terms (offsets_of form)) (offsets_named s.visible form plan) (offsets_visible s.visible form ∙ first_none (names.plan_name_breaches s.visible form) _ seen)
               (offsets_kinds facts form ∙ second_none (parent_breaches (fact_of facts parent) parent.place) _ b);
           inside = subst (λ (o : Option Way). KeepsInside (known_of p) d (hidden_in o) (length (offsets_of form))) (sym way)
               (keeps_inside p d led.first (offsets_of form) led.rest led.way.hidden led.hidden ((views_bound p ready).kept name.entity led.way way));
@@ -243,14 +243,14 @@ module _ (p : Program) (ready : IsReady p) where
 
     other_told : (m : MaybeAction) (facts : Facts) (s : Scope) (r : Around) (first d : ℕ) → InStep s facts → AreSorted p facts first d s.visible
         → resolved_other s m ≡ m → other_breaches s m ≡ [] → other_kind_breaches facts m ≡ [] → OtherFoldsInJoins m → outer_other_breaches first m ≡ [] → OtherDeep (all_bindings_of p) d m → ((x : Memory) → Has x (other_locals m) → Has x (memories_of p))
-        → ((y : Standing) → Has y (other_standings d m) → Has y (standings 0 p.body)) → CommandTold p (facts_after_other facts m) first d (other_at_end s m) (other_events r m) (OtherAssignsInside (known_of p) d m)
+        → ((y : ViewSite) → Has y (other_standings d m) → Has y (standings 0 p.body)) → CommandTold p (facts_after_other facts m) first d (other_at_end s m) (other_events r m) (OtherAssignsInside (known_of p) d m)
     other_told no_action facts s r first d l k e v b x o q w z = record { names = k; events = tt; inside = tt }
     other_told (one_action a) facts s r first d l k e v b x o q w z = let same : resolved_action s a ≡ a = cc in told a facts s r first d l k same v b x o q w z
 
     part_told : (part : Actions) (facts : Facts) (s : Scope) (r : Around) (first d : ℕ) → InStep s facts → AreSorted p facts first d s.visible
         → resolved_actions s part ≡ part → actions_breaches s part ≡ [] → actions_kind_breaches facts part ≡ [] → PartFoldsInJoins part → outer_part_breaches first part ≡ [] → PartDeep (all_bindings_of p) d part
         → ((m : Memory) → Has m (part_locals part) → Has m (memories_of p))
-        → ((y : Standing) → Has y (part_standings d part) → Has y (standings 0 p.body)) → CommandTold p (facts_after_actions facts part) first d (actions_at_end s part) (part_events r part) (PartAssignsInside (known_of p) d part)
+        → ((y : ViewSite) → Has y (part_standings d part) → Has y (standings 0 p.body)) → CommandTold p (facts_after_actions facts part) first d (actions_at_end s part) (part_events r part) (PartAssignsInside (known_of p) d part)
     part_told no_actions facts s r first d l k e v b x o q w z = record { names = k; events = tt; inside = tt }
     part_told (action_then a rest) facts s r first d l k e v b x o q w z =
         let after : Scope = past s a (at_end s a) in
@@ -267,7 +267,7 @@ module _ (p : Program) (ready : IsReady p) where
     groups_told : (gs : Groups) (facts : Facts) (s : Scope) (r : Around) (first d : ℕ) → InStep s facts → AreSorted p facts first d s.visible
         → resolved_groups s gs ≡ gs → groups_breaches s gs ≡ [] → groups_kind_breaches facts gs ≡ [] → GroupsFoldInJoins gs → outer_groups_breaches first gs ≡ [] → GroupsDeep (all_bindings_of p) d gs
         → ((m : Memory) → Has m (groups_locals gs) → Has m (memories_of p))
-        → ((y : Standing) → Has y (groups_standings d gs) → Has y (standings 0 p.body)) → CommandTold p (facts_after_groups facts gs) first d (groups_at_end s gs) (groups_events r gs) (GroupsAssignInside (known_of p) d gs)
+        → ((y : ViewSite) → Has y (groups_standings d gs) → Has y (standings 0 p.body)) → CommandTold p (facts_after_groups facts gs) first d (groups_at_end s gs) (groups_events r gs) (GroupsAssignInside (known_of p) d gs)
     groups_told no_groups facts s r first d l k e v b x o q w z = record { names = k; events = tt; inside = tt }
     groups_told (group_then part rest) facts s r first d l k e v b x o q w z =
         let first_same : resolved_actions s part ≡ part = cc in

@@ -14,14 +14,14 @@ use Rattle.dh_value.specs.declared.kinds.Kind.{Kind}
 use Rattle.dh_value.specs.declared.kinds.Kind.TheVariants as kind
 use Rattle.dh_tree.specs.declared.trees.expressions.Ref.{Ref}
 use Rattle.dh_tree.specs.declared.trees.programs.Sort.{Sort}
-use Rattle.dh_tree.specs.Breaches.{unknown, term_breaches, terms_breaches, value_breaches}
+use Rattle.dh_tree.specs.Breaches.{unknown, term_breaches, terms_breaches, maybe_value_breaches}
 use Rattle.dh_tree.specs.KindBreaches.{term_kind_breaches, indices_kind_breaches, assigned_breaches, maybe_breaches, target_breaches}
 use Rattle.dh_tree.specs.Kinds.{Fact, of_variable, of_iterator, of_memory, of_function, Facts, fact_at, fact_of, found, place_of, when, index_breaches, access_breaches, bank_breaches, applied_breaches, cast_breaches, variable_fact}
 use Rattle.dh_tree.specs.LeastBreach.{breach}
 use Rattle.dh_tree.specs.Memories.{Memory, same_entity, memory_in, memories_of}
 use Rattle.dh_tree.specs.PlainTrees.{Term, term, number, truth_value, named, accessed, in_bank, applied, converted, Terms, no_terms, term_then, Action, action, lets, lets_memory, views, assigns, stores, reduces, calls, blocks, decides, repeats, counts, Program}
 use Rattle.dh_tree.specs.Resolved.{resolved_term, resolved_terms}
-use Rattle.dh_tree.specs.Scopes.{Binding, binding, entity_of, is_visible, bind, Scope, declare, past, at_end}
+use Rattle.dh_tree.specs.Scopes.{ScopeEntry, binding, entity_of, is_visible, bind, Scope, declare, past, at_end}
 use Rattle.dh_tree.proofs.EmptyLists.{first_none, second_none, not_none}
 use Rattle.dh_meaning.specs.Bindings.{binding_in, depth_bound}
 use Rattle.dh_meaning.specs.CoreOf.{known_of, entity_number, depth_of}
@@ -97,7 +97,7 @@ pub data IsSorted (p : Program) (facts : Facts) (first depth n : ℕ) : Type 0 w
   function_is : (ks : List Kind) → slice_get facts n ≡ Some (of_function ks) → IsSorted p facts first depth n
 
 -- and so each name that is visible
-abbrev pub AreSorted : Program → Facts → (first depth : ℕ) → List Binding → Type 0
+abbrev pub AreSorted : Program → Facts → (first depth : ℕ) → List ScopeEntry → Type 0
 AreSorted p facts first depth bs = (name : List ℕ) (n : ℕ) → entity_of bs name ≡ Some n → IsSorted p facts first depth n
 
 -- when more is known
@@ -108,7 +108,7 @@ later_sorted p facts later first depth n x (variable_is k at deep) = variable_is
 later_sorted p facts later first depth n x (iterator_is k at deep) = iterator_is k (x n _ at) deep
 later_sorted p facts later first depth n x (function_is ks at) = function_is ks (x n _ at)
 
-pub all_later : (p : Program) (facts later : Facts) (first depth : ℕ) (bs : List Binding) → Extends later facts → AreSorted p facts first depth bs → AreSorted p later first depth bs
+pub all_later : (p : Program) (facts later : Facts) (first depth : ℕ) (bs : List ScopeEntry) → Extends later facts → AreSorted p facts first depth bs → AreSorted p later first depth bs
 all_later p facts later first depth bs x h name n e = later_sorted p facts later first depth n x (h name n e)
 
 -- inside a loop, all that was numbered before stands outside
@@ -125,7 +125,7 @@ inner_sorted true p facts first depth n m e (iterator_is k at deep) = iterator_i
 inner_sorted true p facts first depth n m e (function_is ks at) = function_is ks at
 
 -- a name that is bound
-pub bind_sorted : (p : Program) (facts : Facts) (first depth : ℕ) (bs : List Binding) (name : List ℕ) (m : ℕ) → AreSorted p facts first depth bs → IsSorted p facts first depth m
+pub bind_sorted : (p : Program) (facts : Facts) (first depth : ℕ) (bs : List ScopeEntry) (name : List ℕ) (m : ℕ) → AreSorted p facts first depth bs → IsSorted p facts first depth m
     → AreSorted p facts first depth (bind bs name m)
 bind_sorted p facts first depth bs name m k h other n e = either (is_visible bs name) e
   where
@@ -230,7 +230,7 @@ module _ (p : Program) (leads : (entity : Option ℕ) (w : Way) → way_to p ent
   target_inside r n is (function_is ks at) e o = not_none _ _ (ap (λ x. target_breaches x r.place) (fact_there r n (of_function ks) is at) ∙ e)
 
   -- the accesses of an expression
-  module _ (bs : List Binding) (h : AreSorted p facts first depth bs) (site : Site) where
+  module _ (bs : List ScopeEntry) (h : AreSorted p facts first depth bs) (site : Site) where
     visible_sorted : (r : Ref) → entity_of bs r.name ≡ r.entity → unknown bs r ≡ [] → (n : ℕ) × ((r.entity ≡ Some n) × IsSorted p facts first depth n)
     visible_sorted r same seen = let w = used_stands bs r same seen in (w.0, (w.1, h r.name w.0 (same ∙ w.1)))
 
@@ -301,6 +301,6 @@ module _ (p : Program) (leads : (entity : Option ℕ) (w : Way) → way_to p ent
     write_told (term place k (applied o l r)) e v b = term_told (term place k (applied o l r)) e v b
     write_told (term place k (converted t to)) e v b = term_told (term place k (converted t to)) e v b
 
-    pub maybe_told : (target : Option Kind) (o : Option Term) → option_map (resolved_term bs) o ≡ o → value_breaches bs o ≡ [] → maybe_breaches facts target o ≡ [] → EachAccess (IsOfMemory p) (maybe_events site o)
+    pub maybe_told : (target : Option Kind) (o : Option Term) → option_map (resolved_term bs) o ≡ o → maybe_value_breaches bs o ≡ [] → maybe_breaches facts target o ≡ [] → EachAccess (IsOfMemory p) (maybe_events site o)
     maybe_told target None e v b = tt
     maybe_told target (Some t) e v b = let same : resolved_term bs t ≡ t = cc in term_told t same v (second_none (assigned_breaches target (found t) (place_of t)) _ b)

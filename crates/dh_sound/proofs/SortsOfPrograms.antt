@@ -13,7 +13,7 @@ use Rattle.dh_tree.specs.Memories.{outside_memory, memories_of, locals}
 use Rattle.dh_tree.specs.PlainTrees.{Declared, Defined, Program}
 use Rattle.dh_tree.specs.Ready.{IsReady}
 use Rattle.dh_tree.specs.Resolved.{resolved_decls}
-use Rattle.dh_tree.specs.Scopes.{Binding, bind, Item, memory_items, function_items, merged, items_of, after_items, first_scope, body_scope, at_end}
+use Rattle.dh_tree.specs.Scopes.{ScopeEntry, bind, Item, memory_items, function_items, merged, items_of, after_items, first_scope, body_scope, at_end}
 use Rattle.dh_tree.proofs.EmptyLists.{second_none}
 use Rattle.dh_meaning.specs.CoreOf.{known_of}
 use Rattle.dh_meaning.specs.Sites.{nothing_around}
@@ -46,7 +46,7 @@ merged_sorted p facts (m ∷ ms) (f ∷ fs) h i = by (is_before f.name.place m.n
     by true g k = (i.0, g)
     by false g k = (h.0, k)
 
-after_sorted : (p : Program) (facts : Facts) (bs : List Binding) (items : List Item) → AreSorted p facts 0 0 bs → ItemsSorted p facts items → AreSorted p facts 0 0 (after_items bs items)
+after_sorted : (p : Program) (facts : Facts) (bs : List ScopeEntry) (items : List Item) → AreSorted p facts 0 0 bs → ItemsSorted p facts items → AreSorted p facts 0 0 (after_items bs items)
 after_sorted p facts bs [] k h = k
 after_sorted p facts bs (i ∷ is) k h = after_sorted p facts (bind bs i.name.name i.entity) is (bind_sorted p facts 0 0 bs i.name.name i.entity k h.0) h.1
 

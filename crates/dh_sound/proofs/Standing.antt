@@ -11,7 +11,7 @@ use Rattle.dh_tree.specs.declared.tables.MemEntry.{MemEntry}
 use Rattle.dh_meaning.specs.Paths.{Path, outer_paths}
 use Rattle.dh_meaning.specs.Core.{CoreTerm, Turning, CorePhase, straightly, turning, looping, choosing, CorePhases, no_core_phases, phase_and, CoreProgram}
 use Rattle.dh_meaning.specs.Effects.{Begun, Variables, unset, Effect, Block, commands, tests, block_run, stop_after}
-use Rattle.dh_meaning.specs.Runs.{inner_paths, turn_begun, begins, Todo, over, phases_then, turn_then, test_then, again_then, pick_then, Place, ended, at, Next, next, enter, enter_phase, goes_on, next_of, place_run, place_after, RunState, step_effect, begun_at, state_after, step_from, next_state, run_state}
+use Rattle.dh_meaning.specs.Runs.{inner_paths, turn_begun, begins, RunTodo, over, phases_then, turn_then, test_then, again_then, pick_then, RunPlace, ended, at, RunNext, next, enter, enter_phase, goes_on, next_of, place_run, place_after, RunState, step_effect, begun_at, state_after, step_from, next_state, run_state}
 use Rattle.dh_sound.specs.Blocks.{StandsIn, StandsInPhase, paths_inside, AreInTurn}
 use Rattle.dh_sound.specs.Standing.{IsFresh, AreApart, IsApart, KeepsIterators, IsStanding}
 use Rattle.dh_sound.proofs.Entered.{inner_inside, turn_more, outer_turns, test_keeps, commands_keep, turns_kept, Kept}
@@ -41,7 +41,7 @@ record IsLast (c : CoreProgram) (loops round : List Turning) (paths : List Path)
   inside : Within c (round ++ loop ∷ []) (inner_paths paths loop) body
 
 -- what comes behind a block that stands in these loops
-abbrev Behind : CoreProgram → List Turning → Todo → Type 0
+abbrev Behind : CoreProgram → List Turning → RunTodo → Type 0
 Behind c loops over = Unit {0}
 Behind c loops (phases_then paths ps k) = Within c loops paths ps × Behind c loops k
 Behind c loops (turn_then paths loop turn body k) = (round : List Turning) × (IsLast c loops round paths loop body × Behind c round k)
@@ -50,21 +50,21 @@ Behind c loops (again_then paths test body k) = IsTest c loops paths test × (Wi
 Behind c loops (pick_then paths test chosen other k) = Within c loops paths chosen × (Within c loops paths other × Behind c loops k)
 
 -- a run stands at a block, with what comes behind it
-record StandsBefore (c : CoreProgram) (paths : List Path) (b : Block) (k : Todo) (variables : Variables) : Type 0 where
+record StandsBefore (c : CoreProgram) (paths : List Path) (b : Block) (k : RunTodo) (variables : Variables) : Type 0 where
   loops : List Turning
   block : StandsIn [] c.phases loops b
   copies : paths ≡ paths_inside loops
   turns : AreInTurn [] loops variables
   behind : Behind c loops k
 
-abbrev StandsAt : CoreProgram → Place → Variables → Type 0
+abbrev StandsAt : CoreProgram → RunPlace → Variables → Type 0
 StandsAt c ended variables = Unit {0}
 StandsAt c (at paths b k) variables = StandsBefore c paths b k variables
 
-abbrev Stands : CoreProgram → Next → Type 0
+abbrev Stands : CoreProgram → RunNext → Type 0
 Stands c n = StandsAt c n.place n.variables
 
-either_way : (c : CoreProgram) (b : Bool) (m n : Next) → (b ≡ true → Stands c m) → (b ≡ false → Stands c n) → Stands c (if b then m else n)
+either_way : (c : CoreProgram) (b : Bool) (m n : RunNext) → (b ≡ true → Stands c m) → (b ≡ false → Stands c n) → Stands c (if b then m else n)
 either_way c true m n yes_m else_n = yes_m refl
 either_way c false m n yes_m else_n = else_n refl
 
@@ -89,7 +89,7 @@ body_within c loops paths loop body w =
 
 module _ (c : CoreProgram) where
   mutual
-    entered : (ps : CorePhases) (loops : List Turning) (paths : List Path) (k : Todo) (behind : Next) (variables : Variables)
+    entered : (ps : CorePhases) (loops : List Turning) (paths : List Path) (k : RunTodo) (behind : RunNext) (variables : Variables)
         → Within c loops paths ps → Behind c loops k → Stands c behind → AreInTurn [] loops variables → Stands c (enter paths ps k behind variables)
     entered no_core_phases loops paths k behind variables w kb s t = s
     entered (phase_and p ps) loops paths k behind variables w kb s t =
@@ -97,7 +97,7 @@ module _ (c : CoreProgram) where
         entered_phase p loops paths (phases_then paths ps k) (enter paths ps k behind variables) variables
         (first_within c loops paths p ps w) (r, kb) (entered ps loops paths k behind variables r kb s t) t
 
-    entered_phase : (p : CorePhase) (loops : List Turning) (paths : List Path) (k : Todo) (behind : Next) (variables : Variables)
+    entered_phase : (p : CorePhase) (loops : List Turning) (paths : List Path) (k : RunTodo) (behind : RunNext) (variables : Variables)
         → IsWithin c loops paths p → Behind c loops k → Stands c behind → AreInTurn [] loops variables → Stands c (enter_phase paths p k behind variables)
     entered_phase (straightly cs) loops paths k behind variables w kb s t =
         record { loops = loops; block = w.part loops (commands cs) (refl, refl); copies = w.copies; turns = t; behind = kb }
@@ -132,7 +132,7 @@ module _ (c : CoreProgram) where
         }
 
   -- at the test of a `while` again
-  at_test : (loops : List Turning) (paths : List Path) (test : CoreTerm) (body : CorePhases) (k : Todo) (variables : Variables)
+  at_test : (loops : List Turning) (paths : List Path) (test : CoreTerm) (body : CorePhases) (k : RunTodo) (variables : Variables)
       → IsTest c loops paths test → Within c loops paths body → Behind c loops k → AreInTurn [] loops variables
       → Stands c (next (at paths (tests test) (test_then paths test body k)) variables)
   at_test loops paths test body k variables i w kb t =
@@ -143,7 +143,7 @@ module _ (c : CoreProgram) where
   round_turns loops round loop variables e t = outer_turns [] round (loop ∷ []) variables (subst (λ (ls : List Turning). AreInTurn [] ls variables) e t)
 
   -- behind a block that is done
-  went_on : (b : Begun) (k : Todo) (loops : List Turning) (variables : Variables) → Behind c loops k → AreInTurn [] loops variables → Stands c (next_of b k variables)
+  went_on : (b : Begun) (k : RunTodo) (loops : List Turning) (variables : Variables) → Behind c loops k → AreInTurn [] loops variables → Stands c (next_of b k variables)
   went_on b over loops variables kb t = tt
   went_on b (phases_then paths ps k) loops variables kb t =
       entered ps loops paths k (next_of b k variables) variables kb.0 kb.1 (went_on b k loops variables kb.1 t) t
@@ -180,7 +180,7 @@ module _ (c : CoreProgram) where
     block_keeps b (tests test) loops h paths e = test_keeps b test loops paths e
 
     -- a step that is done leads to where a run stands so
-    placed : (b : Begun) (place : Place) (variables : Variables) → StandsAt c place variables
+    placed : (b : Begun) (place : RunPlace) (variables : Variables) → StandsAt c place variables
         → Stands c (place_after b place (place_run b place (record { variables = variables; events = [] })).variables)
     placed b ended variables s = tt
     placed b (at paths block k) variables s =
@@ -213,7 +213,7 @@ module _ (c : CoreProgram) where
     every_place memories (suc n) = next_place c.table (run_state c memories n) (every_place memories n)
 
 -- what is told of where a run stands
-told : (c : CoreProgram) (place : Place) (variables : Variables) → StandsAt c place variables → IsStanding c place variables
+told : (c : CoreProgram) (place : RunPlace) (variables : Variables) → StandsAt c place variables → IsStanding c place variables
 told c ended variables s = tt
 told c (at paths b k) variables s = record { loops = s.loops; block = s.block; copies = s.copies; turns = s.turns }
 

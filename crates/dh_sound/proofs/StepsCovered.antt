@@ -35,7 +35,7 @@ steps_covered p ready memories n going entity memory bank known =
     by (run_state (core_of p) memories n).place (run_state (core_of p) memories n).variables (run_state (core_of p) memories n).memories
     (run_stands (core_of p) (ready_keeps p ready) memories n)
   where
-    by : (place : run.Place) (variables : Variables) (contents : List (List ℕ)) → IsStanding (core_of p) place variables
+    by : (place : run.RunPlace) (variables : Variables) (contents : List (List ℕ)) → IsStanding (core_of p) place variables
         → AreCovered p (run.place_run (record { table = table_of p; memories = contents }) place (record { variables = variables; events = [] })).events entity memory bank
     by run.ended variables contents s = none_covered p entity memory bank
     by (run.at paths b k) variables contents s =

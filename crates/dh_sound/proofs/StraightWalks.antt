@@ -16,7 +16,7 @@ use Rattle.dh_meaning.specs.CoreOf.{Known, known_of, entity_number, depth_of, as
 use Rattle.dh_meaning.specs.CoreOf as meaning
 use Rattle.dh_meaning.specs.Effects.{Begun, Variables, set_from, values_of, set_variable, Event, write_made, value_of, term_events, kept_bits, spot_by_row, holds_at}
 use Rattle.dh_meaning.specs.Levels.{assigns_to, any_assigns}
-use Rattle.dh_meaning.specs.OnePhase.{in_one_phase, is_within, makes, form_makes, other_makes, groups_make, part_makes}
+use Rattle.dh_meaning.specs.OnePhase.{in_one_phase, is_between, makes, form_makes, other_makes, groups_make, part_makes}
 use Rattle.dh_meaning.specs.Paths.{Path, same_path}
 use Rattle.dh_meaning.specs.Sites.{Arm, Around, in_arm}
 use Rattle.dh_meets.specs.SourceEvents.{Element, with_indices, in_row, Site, SourceAccess, SourceEvent, accesses, accesses_in, trace, site_of, one_access, maybe_events, write_events, events, command_events, other_events, groups_events, part_events}
@@ -282,7 +282,7 @@ module _ (p : Program) (b : Begun) (path : Path) (in_block : ℕ → Bool)
   pub then_agrees : (n c d : ℕ) (f g : ℕ → Bool) → Agrees n (c + d) (λ k. f k || g k) → ((k : ℕ) → f k ≡ true → Within k n c) → Agrees (n + c) d g
   then_agrees n c d f g a within k w = a k (let l = w.0 in let u = w.1 in (omega (arith, l), omega (arith, u))) ∙ false_or (f k) (g k) (not_true (f k) (λ t. let x = within k t in let l = w.0 in let u = x.1 in omega (arith, l, u)))
 
-  pub own_inside : (n c d : ℕ) → Agrees n d (λ k. is_within k n c) → c ≤ d → (k : ℕ) → n ≤ k → k < n + c → in_block k ≡ true
+  pub own_inside : (n c d : ℕ) → Agrees n d (λ k. is_between k n c) → c ≤ d → (k : ℕ) → n ≤ k → k < n + c → in_block k ≡ true
   own_inside n c d a le k l u = a k (l, omega (arith, le, u)) ∙ is_within_so k n c (l, u)
 
   good_outside : (r : Around) (m : ℕ) (first : Bool) (es : List Event) (ev : Event) → IsGood p b known path in_block share v0 touched (in_arm r m first) es ev → IsGood p b known path in_block share v0 touched r es ev
@@ -393,7 +393,7 @@ module _ (p : Program) (b : Begun) (path : Path) (in_block : ℕ → Bool)
   idle_done r before part v es n c rest e a t s =
       done_nothing r before part v es rest (walk_passed r before part v es n (idle_passed r n part (λ k l u. a k (l, omega (arith, u, e)))) s) t
 
-  value_start : (r : Around) (m : ℕ) (before : List SourceEvent) (v : Variables) (es : List Event) (n : ℕ) (t : Term) (two : List SourceEvent) (c : ℕ) → Agrees n c (λ k. is_within k n (term_accesses t)) → term_accesses t ≤ c
+  value_start : (r : Around) (m : ℕ) (before : List SourceEvent) (v : Variables) (es : List Event) (n : ℕ) (t : Term) (two : List SourceEvent) (c : ℕ) → Agrees n c (λ k. is_between k n (term_accesses t)) → term_accesses t ≤ c
       → Along r before (source.term_events (site_of r m) t ++ two) v es n → Begins r before (source.term_events (site_of r m) t) v es n
   value_start r m before v es n t two c a l s =
       starts_so r before (source.term_events (site_of r m) t) v es n (λ k x y. own_inside n (term_accesses t) c a l k x (let d = term_counted (site_of r m) t in omega (arith, y, d))) (along_first r before (source.term_events (site_of r m) t) two v es n s)
@@ -540,9 +540,9 @@ module _ (p : Program) (b : Begun) (path : Path) (in_block : ℕ → Bool)
       let oe = other_events (in_arm r m false) other in
       let n1 = n + term_accesses test in
       let n2 = n + term_accesses test + accesses_of chosen in
-      let tests_agree = first_agrees n (term_accesses test) (accesses_of chosen + other_accesses other) (λ k. is_within k n (term_accesses test)) (λ k. makes k n1 chosen || other_makes k n2 other) a
+      let tests_agree = first_agrees n (term_accesses test) (accesses_of chosen + other_accesses other) (λ k. is_between k n (term_accesses test)) (λ k. makes k n1 chosen || other_makes k n2 other) a
       (λ k e. two_within k n1 (accesses_of chosen) (other_accesses other) _ _ e (makes_within k n1 chosen) (other_within k n2 other)) in
-      let arms_agree = then_agrees n (term_accesses test) (accesses_of chosen + other_accesses other) (λ k. is_within k n (term_accesses test)) (λ k. makes k n1 chosen || other_makes k n2 other) a (λ k e. within_is k n (term_accesses test) e) in
+      let arms_agree = then_agrees n (term_accesses test) (accesses_of chosen + other_accesses other) (λ k. is_between k n (term_accesses test)) (λ k. makes k n1 chosen || other_makes k n2 other) a (λ k e. within_is k n (term_accesses test) e) in
       let chosen_agrees = first_agrees n1 (accesses_of chosen) (other_accesses other) (λ k. makes k n1 chosen) (λ k. other_makes k n2 other) arms_agree (λ k e. other_within k n2 other e) in
       let other_agrees = then_agrees n1 (accesses_of chosen) (other_accesses other) (λ k. makes k n1 chosen) (λ k. other_makes k n2 other) arms_agree (λ k e. makes_within k n1 chosen e) in
       let tw = walk_term p b known path in_block share v0 touched r m before v es n test nv.0 (value_start r m before v es n test (ce ++ oe) (term_accesses test) tests_agree (omega arith) s) in

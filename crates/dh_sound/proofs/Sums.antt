@@ -6,7 +6,7 @@ use Rattle.std.proofs.lemmas.Bool.{cases_lt}
 use Rattle.dh_tree.specs.Meets.{Meets, In, total}
 use Rattle.dh_tree.specs.PlainTrees.{Action, action, ActionForm, lets, lets_memory, views, assigns, stores, reduces, calls, blocks, decides, repeats, counts, MaybeAction, no_action, one_action, Actions, no_actions, action_then, Groups, no_groups, group_then, Program}
 use Rattle.dh_meaning.specs.AccessNumbers.{term_accesses, own_accesses, accesses_of, inner_accesses, other_accesses, part_accesses, groups_accesses}
-use Rattle.dh_meets.specs.MayMeet.{row_of, arms_meet, meets, command_meets, other_meets, groups_meet, part_meets, meets_in}
+use Rattle.dh_meets.specs.MayMeet.{row_of_accesses, arms_meet, meets, command_meets, other_meets, groups_meet, part_meets, meets_in}
 use Rattle.dh_sound.proofs.Counting.{sum_below}
 
 module _ (charge : ℕ → ℕ) (chosen : ℕ → Bool) where
@@ -39,7 +39,7 @@ module _ (charge : ℕ → ℕ) (chosen : ℕ → Bool) where
       let e : charged (0 + n) ≡ charged n = ap charged z in
       omega (arith, i, e)
 
-  row_total : (n count : ℕ) → total charge chosen (row_of n count) ≡ sum_from n count
+  row_total : (n count : ℕ) → total charge chosen (row_of_accesses n count) ≡ sum_from n count
   row_total n zero = refl
   row_total n (suc count) =
       let i = row_total (suc n) count in
@@ -128,12 +128,12 @@ within_plain_end k n a (l, h) = (l, omega (arith, h))
 within_plain : (k n a : ℕ) → Within k n (0 + a) → Within k n a
 within_plain k n a (l, h) = (l, omega (arith, h))
 
-pub row_within : (k n count : ℕ) → In k (row_of n count) → Within k n count
+pub row_within : (k n count : ℕ) → In k (row_of_accesses n count) → Within k n count
 row_within k n zero h = elim h [ ]
 row_within k n (suc count) (inl e) = (omega (arith, e), omega (arith, e))
 row_within k n (suc count) (inr h) = let (l, s) = row_within k (suc n) count h in (omega (arith, l), omega (arith, s))
 
-row_in : (k n count : ℕ) → Within k n count → In k (row_of n count)
+row_in : (k n count : ℕ) → Within k n count → In k (row_of_accesses n count)
 row_in k n zero w = within_none k n w
 row_in k n (suc count) (l, s) = elim (cases_lt n k) [ inl more ↦ inr (row_in k (suc n) count (omega (arith, more), omega (arith, s))) | inr same ↦ inl (omega (arith, l, same)) ]
 

@@ -9,7 +9,7 @@ use Rattle.dh_meaning.specs.AccessNumbers.{term_accesses, accesses_of, other_acc
 use Rattle.dh_meaning.specs.Sites.{Around, nothing_around, in_arm, in_loop, loop_of}
 use Rattle.dh_meaning.specs.Phases.{Located, Phase, straight, turns, repeated, decided, of_list, one_straight, joined, are_straight, one_command, folded, turn_count, turn_phases, choice_phases, located, phases, form_phases, other_phases, groups_phases, parts_phases, phases_of}
 use Rattle.dh_meaning.specs.OnePhase.{test_makes}
-use Rattle.dh_meets.specs.MayMeet.{row_of, arms_meet, meets, command_meets, other_meets, groups_meet, part_meets, meets_in}
+use Rattle.dh_meets.specs.MayMeet.{row_of_accesses, arms_meet, meets, command_meets, other_meets, groups_meet, part_meets, meets_in}
 use Rattle.dh_sound.specs.PhaseFacts.{HasTestIn, HaveTest, HasTest}
 use Rattle.dh_sound.proofs.Sums.{Within, arms_in, row_within, meets_within, other_within, groups_within, part_within}
 use Rattle.dh_sound.proofs.Times as time
@@ -171,12 +171,12 @@ module _ (j k : ℕ) where
         stand i h = side i (inside i h)
 
   -- a command with a test, whose accesses are numbered first, and what stands in it
-  tested_meet : (loop : Located) (ps : List Phase) (r t : Meets) (n x y : ℕ) → ((i : ℕ) → test_makes i loop ≡ true → Within i n x) → TestPart ps r (n + x) y → Splits (row_of n x) r t
+  tested_meet : (loop : Located) (ps : List Phase) (r t : Meets) (n x y : ℕ) → ((i : ℕ) → test_makes i loop ≡ true → Within i n x) → TestPart ps r (n + x) y → Splits (row_of_accesses n x) r t
       → (c : Located) → (loop ≡ c) ⊎ HasTest ps c → test_makes j c ≡ true → test_makes k c ≡ true → Apart t j k → ⊥
   tested_meet loop ps r t n x y own q split c (inl e) a b apart =
-      first_meet (row_of n x) r n x y (own j (ap (test_makes j) e ∙ a)) (own k (ap (test_makes k) e ∙ b)) q.stands (row_apart n x j k) (split apart)
+      first_meet (row_of_accesses n x) r n x y (own j (ap (test_makes j) e ∙ a)) (own k (ap (test_makes k) e ∙ b)) q.stands (row_apart n x j k) (split apart)
   tested_meet loop ps r t n x y own q split c (inr d) a b apart =
-      second_meet (row_of n x) r n x y (test_within j (n + x) y ps c (q.made_within j) d a) (test_within k (n + x) y ps c (q.made_within k) d b) (λ i h. row_within i n x h) (q.meet c d a b) (split apart)
+      second_meet (row_of_accesses n x) r n x y (test_within j (n + x) y ps c (q.made_within j) d a) (test_within k (n + x) y ps c (q.made_within k) d b) (λ i h. row_within i n x h) (q.meet c d a b) (split apart)
 
   command_part : (r : Around) (u : Bool) (n : ℕ) (a : Action) → Meet (phases r n a) (meets u n a) → TestPart (phases r n a) (meets u n a) n (accesses_of a)
   command_part r u n a t = record { made_within = λ i. let w = times_within i r n a in omega (arith, w); stands = λ i h. meets_within i u n a h; meet = t }
@@ -224,7 +224,7 @@ module _ (j k : ℕ) where
         tested_meet (located r n (action id place (decides test arm other)))
         (phases (in_arm r id true) (n + term_accesses test) arm ++ other_phases (in_arm r id false) (n + term_accesses test + accesses_of arm) other)
         (arms_meet u (meets u (n + term_accesses test) arm) (other_meets u (n + term_accesses test + accesses_of arm) other))
-        (all (row_of n (term_accesses test)) (arms_meet u (meets u (n + term_accesses test) arm) (other_meets u (n + term_accesses test + accesses_of arm) other)))
+        (all (row_of_accesses n (term_accesses test)) (arms_meet u (meets u (n + term_accesses test) arm) (other_meets u (n + term_accesses test + accesses_of arm) other)))
         n (term_accesses test) (accesses_of arm + other_accesses other) (λ i m. within_span i n (term_accesses test) m)
         (both_parts (phases (in_arm r id true) (n + term_accesses test) arm) (other_phases (in_arm r id false) (n + term_accesses test + accesses_of arm) other)
         (meets u (n + term_accesses test) arm) (other_meets u (n + term_accesses test + accesses_of arm) other)
@@ -238,7 +238,7 @@ module _ (j k : ℕ) where
         (other_phases (in_arm r id false) (n + term_accesses test + accesses_of arm) other) c h) a b apart
     form_meet r u n id place (repeats test body) c h a b apart =
         tested_meet (located r n (action id place (repeats test body))) (phases r (n + term_accesses test) body) (meets u (n + term_accesses test) body)
-        (one (row_of n (term_accesses test)) (meets u (n + term_accesses test) body)) n (term_accesses test) (accesses_of body) (λ i m. within_span i n (term_accesses test) m)
+        (one (row_of_accesses n (term_accesses test)) (meets u (n + term_accesses test) body)) n (term_accesses test) (accesses_of body) (λ i m. within_span i n (term_accesses test) m)
         (command_part r u (n + term_accesses test) body (tests_meet r u (n + term_accesses test) body)) (λ d. d) c
         (repeated_tests (located r n (action id place (repeats test body))) (phases r (n + term_accesses test) body) c h) a b apart
     form_meet r u n id place (counts iterator declared low high factor body combine combine_place) c h a b apart =

@@ -8,7 +8,7 @@ use Rattle.dh_tree.specs.PlainTrees.{shrinks, splits, suffixes, shifts, Action, 
 use Rattle.dh_meaning.specs.AccessNumbers.{term_accesses, own_accesses, accesses_of, inner_accesses, other_accesses, part_accesses, groups_accesses}
 use Rattle.dh_meaning.specs.Sites.{Around, nothing_around, in_arm, in_loop, loop_of}
 use Rattle.dh_meaning.specs.Phases.{Located, Phase, straight, turns, repeated, decided, Phases, no_phases, phase, of_list, one_straight, joined, are_straight, one_command, folded, turn_count, turn_phases, choice_phases, located, phases, form_phases, other_phases, groups_phases, parts_phases, phases_of, unless_turns, idle_phases, idle_form_phases, idle_other_phases, idle_groups_phases, idle_part_phases, idle_phases_of}
-use Rattle.dh_meaning.specs.OnePhase.{is_within, makes, form_makes, other_makes, groups_make, part_makes, test_makes}
+use Rattle.dh_meaning.specs.OnePhase.{is_between, makes, form_makes, other_makes, groups_make, part_makes, test_makes}
 
 abbrev pub bit : Bool → ℕ
 bit b = if b then 1 else 0
@@ -39,7 +39,7 @@ times_parts k (ps ∷ parts) = times k ps + times_parts k parts
 
 -- 1 where the number is one of so many from n on
 abbrev pub span : (k n count : ℕ) → ℕ
-span k n count = bit (is_within k n count)
+span k n count = bit (is_between k n count)
 
 pub span_joined : (k n a b : ℕ) → span k n (a + b) ≡ span k n a + span k (n + a) b
 span_joined k n a b = grind (arith, nat_tests)

@@ -26,7 +26,7 @@ use Rattle.dh_meets.specs.SourceEvents.{Element, with_indices, in_row, SourceAcc
 use Rattle.dh_sound.specs.Blocks.{factors, paths_inside, StandsIn, AreInTurn}
 use Rattle.dh_sound.specs.IndexValues.{copy_at, IsInTurn, name_value, IsUnrolled, NameInTurn, OperandInTurn, FormInTurn, AllInTurn, ElementInTurn}
 use Rattle.dh_sound.specs.IteratorsAt.{HaveDepths, TurnsAt}
-use Rattle.dh_sound.specs.LoopsMatch.{unrolled, LoopMatches, EachMatches, LoopsMatch, AreSpared, LoopInTurn}
+use Rattle.dh_sound.specs.LoopsMatch.{unrolled_loops, LoopMatches, EachMatches, LoopsMatch, AreSpared, LoopInTurn}
 use Rattle.dh_sound.specs.LoopsRound.{EntityRound, OperandRound, FormRound, AllRound, ElementRound}
 use Rattle.dh_sound.specs.SameKeys.{IsNearTo}
 use Rattle.dh_sound.specs.Standing.{Spares}
@@ -56,7 +56,7 @@ none_more n = omega arith
 module _ (known : Known) (v0 : Variables) (touched : ℕ → Bool) (path : Path) (paths : List Path) (here : IsPathAmong path paths) where
   -- the loop at a level among those round a block, of which so many unrolled ones stand in front
   loop_at : (round loops : List Turning) (cs : List Counter) (n k : ℕ) (c : Counter) → n ≡ length (factors round) → TurnsAt loops v0 paths → HaveDepths round loops → AreSpared touched loops
-      → EachMatches known (unrolled loops) cs → slice_get cs k ≡ Some c → LoopInTurn known v0 touched path (n + k) c
+      → EachMatches known (unrolled_loops loops) cs → slice_get cs k ≡ Some c → LoopInTurn known v0 touched path (n + k) c
   loop_at round [] [] n k c e t d s m f = absurd cc
   loop_at round [] (x ∷ cs) n k c e t d s m f = elim m [ ]
   loop_at round (loop ∷ loops) cs n k c e t d s m f =
@@ -64,8 +64,8 @@ module _ (known : Known) (v0 : Variables) (touched : ℕ → Bool) (path : Path)
       (λ ds j i x g. loop_at (round ++ loop ∷ []) loops ds i j c x t.1 d.1 s.1 g)
     where
       by : (b : Bool) (cs : List Counter) (k : ℕ) → length (factors (round ++ loop ∷ [])) ≡ n + length (if b then loop.factor ∷ [] else [])
-          → EachMatches known (if b then loop ∷ unrolled loops else unrolled loops) cs → slice_get cs k ≡ Some c
-          → ((ds : List Counter) (j i : ℕ) → i ≡ length (factors (round ++ loop ∷ [])) → EachMatches known (unrolled loops) ds → slice_get ds j ≡ Some c → LoopInTurn known v0 touched path (i + j) c)
+          → EachMatches known (if b then loop ∷ unrolled_loops loops else unrolled_loops loops) cs → slice_get cs k ≡ Some c
+          → ((ds : List Counter) (j i : ℕ) → i ≡ length (factors (round ++ loop ∷ [])) → EachMatches known (unrolled_loops loops) ds → slice_get ds j ≡ Some c → LoopInTurn known v0 touched path (i + j) c)
           → LoopInTurn known v0 touched path (n + k) c
       by true [] k l m f rest = elim m [ ]
       by true (x ∷ cs) zero l m f rest =

@@ -29,7 +29,7 @@ use Rattle.dh_meaning.specs.Core.{CoreTerm, binary}
 use Rattle.dh_meaning.specs.CoreOf.{Known, extended, extended_both, core_term}
 use Rattle.dh_meaning.specs.Effects.{Begun, Variables, bits_of, value_of}
 use Rattle.dh_meaning.specs.Paths.{Path}
-use Rattle.dh_sound.specs.IndexValues.{is_sum, HasIntegerKind, AreOperands, HasIndexKinds, IsInTurn, copy_at, name_value, NameInTurn, OperandInTurn, FormInTurn, IsIndexValue}
+use Rattle.dh_sound.specs.IndexValues.{is_sum, HasIntegerKind, AreSumOperands, HasIndexKinds, IsInTurn, copy_at, name_value, NameInTurn, OperandInTurn, FormInTurn, IsIndexValue}
 
 -- Tests.
 
@@ -219,7 +219,7 @@ module _ (Asked : Counter → Type 0) (b : Begun) (v : Variables) (path : Path) 
 
   module _ (n : ℕ) (at to : Place) (k l : Option Kind) (r : Ref) (negative : Bool) (m : ℕ) (w : Kind) (i : IsInteger w) (t : NameInTurn Asked known cs loops path v r) (o : Option Kind) (is : o ≡ Some w) where
     -- an iterator and a number
-    iterator_number : (h : AreOperands cs w (term at k (named r)) (term to l (number negative m)))
+    iterator_number : (h : AreSumOperands cs w (term at k (named r)) (term to l (number negative m)))
         → IsIndexValue Asked loops path (counted o (counter_in cs r.entity) (signed_number negative m)) (words.value_of (value_of b v path (extended_both op.Add (kind_found (term at k (named r))) (kind_found (term to l (number negative m))) (core_term known n (term at k (named r))) (core_term known n (term to l (number negative m))))))
     iterator_number h = counted_value o w r (signed_number negative m) _ is t sum
       where
@@ -232,7 +232,7 @@ module _ (Asked : Counter → Type 0) (b : Begun) (v : Variables) (path : Path) 
             (named_value n at k r h.first.kind h.first.is h.first.integer p) (number_value n to l negative m h.second) p (is_a_value h.second.kind _ h.second.fits) g)
 
     -- a number and an iterator
-    number_iterator : (h : AreOperands cs w (term to l (number negative m)) (term at k (named r)))
+    number_iterator : (h : AreSumOperands cs w (term to l (number negative m)) (term at k (named r)))
         → IsIndexValue Asked loops path (counted o (counter_in cs r.entity) (signed_number negative m)) (words.value_of (value_of b v path (extended_both op.Add (kind_found (term to l (number negative m))) (kind_found (term at k (named r))) (core_term known n (term to l (number negative m))) (core_term known n (term at k (named r))))))
     number_iterator h = counted_value o w r (signed_number negative m) _ is t sum
       where
@@ -250,7 +250,7 @@ module _ (Asked : Counter → Type 0) (b : Begun) (v : Variables) (path : Path) 
             ∙ same
 
     -- an iterator less a number
-    iterator_less : (h : AreOperands cs w (term at k (named r)) (term to l (number negative m)))
+    iterator_less : (h : AreSumOperands cs w (term at k (named r)) (term to l (number negative m)))
         → IsIndexValue Asked loops path (counted o (counter_in cs r.entity) (neg_ℤ (signed_number negative m))) (words.value_of (value_of b v path (extended_both op.Sub (kind_found (term at k (named r))) (kind_found (term to l (number negative m))) (core_term known n (term at k (named r))) (core_term known n (term to l (number negative m))))))
     iterator_less h = counted_value o w r (neg_ℤ (signed_number negative m)) _ is t sum
       where
@@ -272,7 +272,7 @@ module _ (Asked : Counter → Type 0) (b : Begun) (v : Variables) (path : Path) 
   IsSumValue n o p left right = IsIndexValue Asked loops path (sum_kind cs o p (form_of left) (form_of right)) (term_value n (term (place_of left) o (applied p left right)))
 
   module _ (n : ℕ) (o : Option Kind) (w : Kind) (is : o ≡ Some w) (i : IsInteger w) where
-    added : (left right : Term) → AreOperands cs w left right → OperandInTurn Asked known cs loops path v (form_of left) → OperandInTurn Asked known cs loops path v (form_of right) → IsSumValue n o op.Add left right
+    added : (left right : Term) → AreSumOperands cs w left right → OperandInTurn Asked known cs loops path v (form_of left) → OperandInTurn Asked known cs loops path v (form_of right) → IsSumValue n o op.Add left right
     added (term at k (number negative m)) (term to l (number z y)) h t u = tt
     added (term at k (number negative m)) (term to l (truth_value z)) h t u = tt
     added (term at k (number negative m)) (term to l (named r)) h t u = number_iterator n to at l k r negative m w i u o is h
@@ -293,7 +293,7 @@ module _ (Asked : Counter → Type 0) (b : Begun) (v : Variables) (path : Path) 
     added (term at k (applied p x y)) right h t u = tt
     added (term at k (converted x y)) right h t u = tt
 
-    taken : (left right : Term) → AreOperands cs w left right → OperandInTurn Asked known cs loops path v (form_of left) → IsSumValue n o op.Sub left right
+    taken : (left right : Term) → AreSumOperands cs w left right → OperandInTurn Asked known cs loops path v (form_of left) → IsSumValue n o op.Sub left right
     taken (term at k (named r)) (term to l (number negative m)) h t = iterator_less n at to k l r negative m w i t o is h
     taken (term at k (named r)) (term to l (truth_value z)) h t = tt
     taken (term at k (named r)) (term to l (named q)) h t = tt
@@ -308,7 +308,7 @@ module _ (Asked : Counter → Type 0) (b : Begun) (v : Variables) (path : Path) 
     taken (term at k (applied p x y)) right h t = tt
     taken (term at k (converted x y)) right h t = tt
 
-    operation_value : (p : Op) (left right : Term) → (is_sum p ≡ true → AreOperands cs w left right) → OperandInTurn Asked known cs loops path v (form_of left) → OperandInTurn Asked known cs loops path v (form_of right) → IsSumValue n o p left right
+    operation_value : (p : Op) (left right : Term) → (is_sum p ≡ true → AreSumOperands cs w left right) → OperandInTurn Asked known cs loops path v (form_of left) → OperandInTurn Asked known cs loops path v (form_of right) → IsSumValue n o p left right
     operation_value op.Add left right h t u = added left right (h refl) t u
     operation_value op.Sub left right h t u = taken left right (h refl) t
     operation_value op.Mul left right h t u = tt

@@ -16,7 +16,7 @@ use Rattle.dh_tree.specs.Views.{Viewing, form_viewings, groups_viewings, other_v
 use Rattle.dh_tree.proofs.EmptyLists.{first_none, second_none}
 use Rattle.dh_tree.proofs.ProgramTables.{program_table}
 use Rattle.dh_meaning.specs.Bindings.{depth_inside}
-use Rattle.dh_meaning.specs.Ways.{Led, Standing, Way, form_standings, groups_standings, led_after, led_of, other_standings, part_standings, shape_named, standings, way_at, way_in, way_to, way_unless, ways_of}
+use Rattle.dh_meaning.specs.Ways.{Led, ViewSite, Way, form_standings, groups_standings, led_after, led_of, other_standings, part_standings, shape_named, standings, way_at, way_in, way_to, way_unless, ways_of}
 use Rattle.dh_ways.specs.Leading.{LeadsTo, viewed_of_led}
 use Rattle.dh_ways.proofs.WaysLead.{ways_are_views, ways_lead}
 use Rattle.dh_sound.proofs.IndicesKeep.{memory_keeps}
@@ -34,10 +34,10 @@ looked (l ∷ ls) e = by (same_entity l.entity e) (looked ls e)
 
 -- Views where they stand are those of the program, in one order.
 
-abbrev pub forget : Standing → Viewing
+abbrev pub forget : ViewSite → Viewing
 forget s = record { name = s.name; parent = s.parent; form = s.form }
 
-both_are : (xs ys : List Standing) (us vs : List Viewing) → map forget xs ≡ us → map forget ys ≡ vs → map forget (xs ++ ys) ≡ us ++ vs
+both_are : (xs ys : List ViewSite) (us vs : List Viewing) → map forget xs ≡ us → map forget ys ≡ vs → map forget (xs ++ ys) ≡ us ++ vs
 both_are xs ys us vs e f = map-append forget xs ys ∙ (ap (λ l. l ++ map forget ys) e ∙ ap (λ l. us ++ l) f)
 
 mutual
@@ -84,12 +84,12 @@ named_same None None = refl
 pub shape_same : (ms : List Memory) (ls : List Led) (e : Option ℕ) → shape_named (memory_in ms e) (way_in ls e) ≡ shape_in ms (map viewed_of_led ls) e
 shape_same ms ls e = named_same (memory_in ms e) (way_in ls e) ∙ ap (λ o. shape_of (memory_in ms e) o) (sym (looked ls e))
 
-one_seen : (first : ℕ) (s : Standing) (o : Option Shape) (w : Option Way) → map viewed_of_led (led_of first s o w) ≡ viewed_of (forget s) o
+one_seen : (first : ℕ) (s : ViewSite) (o : Option Shape) (w : Option Way) → map viewed_of_led (led_of first s o w) ≡ viewed_of (forget s) o
 one_seen first s None w = refl
 one_seen first s (Some shape) None = refl
 one_seen first s (Some shape) (Some w) = refl
 
-pub next_seen : (ms : List Memory) (first : ℕ) (ls : List Led) (s : Standing)
+pub next_seen : (ms : List Memory) (first : ℕ) (ls : List Led) (s : ViewSite)
     → map viewed_of_led (ls ++ led_after ms first ls s) ≡ map viewed_of_led ls ++ viewed_of (forget s) (shape_in ms (map viewed_of_led ls) s.parent.entity)
 next_seen ms first ls s =
     map-append viewed_of_led ls (led_after ms first ls s)

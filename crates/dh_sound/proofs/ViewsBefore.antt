@@ -11,18 +11,18 @@ use Rattle.dh_tree.specs.declared.trees.expressions.Ref.{Ref}
 use Rattle.dh_tree.specs.declared.trees.programs.Sort.{Sort}
 use Rattle.dh_tree.specs.declared.trees.programs.Sort.TheVariants as sort
 use Rattle.dh_tree.specs.declared.trees.programs.Sort.TheVariants.{Iterator}
-use Rattle.dh_tree.specs.Breaches.{unknown, twice, plan_breaches, term_breaches, term_form_breaches, terms_breaches, value_breaches, breaches, form_breaches, other_breaches, actions_breaches, groups_breaches, functions_breaches, items_breaches}
+use Rattle.dh_tree.specs.Breaches.{unknown, twice, plan_name_breaches, term_breaches, term_form_breaches, terms_breaches, maybe_value_breaches, breaches, form_breaches, other_breaches, actions_breaches, groups_breaches, functions_breaches, items_breaches}
 use Rattle.dh_tree.specs.Memories.{Memory, same_entity, memory_in, memories_of}
 use Rattle.dh_tree.specs.PlainTrees.{Term, term, TermForm, number, truth_value, named, accessed, in_bank, applied, converted, Terms, no_terms, term_then, Action, action, ActionForm, lets, lets_memory, views, assigns, stores, reduces, calls, blocks, decides, repeats, counts, MaybeAction, no_action, one_action, Actions, no_actions, action_then, Groups, no_groups, group_then, Program}
 use Rattle.dh_tree.specs.Ready.{IsReady}
 use Rattle.dh_tree.specs.Resolved.{resolved_term, resolved_term_form, resolved_terms, resolved_plan, resolved_action, resolved_form, resolved_other, resolved_actions, resolved_groups}
-use Rattle.dh_tree.specs.Scopes.{Binding, binding, entity_of, is_visible, bind, Scope, entity, declare, leave, past, at_end, form_at_end, other_at_end, actions_at_end, groups_at_end, Item, after_items, items_of, body_scope, first_scope, last_scope}
+use Rattle.dh_tree.specs.Scopes.{ScopeEntry, binding, entity_of, is_visible, bind, Scope, entity, declare, leave, past, at_end, form_at_end, other_at_end, actions_at_end, groups_at_end, Item, after_items, items_of, body_scope, first_scope, last_scope}
 use Rattle.dh_tree.specs.Seen.{terms}
 use Rattle.dh_tree.specs.ViewOffsets.{offsets_of}
 use Rattle.dh_tree.specs.Views.{map_of}
 use Rattle.dh_tree.proofs.EmptyLists.{first_none, second_none}
 use Rattle.dh_meaning.specs.Bindings.{depth_inside}
-use Rattle.dh_meaning.specs.Ways.{Hidden, Led, Standing, Way, behind_all, behind_hidden, form_standings, groups_standings, hidden_from, hidden_in, led_after, led_behind, led_of, other_standings, part_standings, shape_named, standings, way_at, way_behind, way_in, way_to, way_unless, ways_of}
+use Rattle.dh_meaning.specs.Ways.{Hidden, Led, ViewSite, Way, behind_all, behind_hidden, form_standings, groups_standings, hidden_from, hidden_in, led_after, led_behind, led_of, other_standings, part_standings, shape_named, standings, way_at, way_behind, way_in, way_to, way_unless, ways_of}
 use Rattle.dh_ways.proofs.HiddenApart.{AllWithin, all_within}
 use Rattle.dh_sound.specs.BehindViews.{WayBelow, IsOwn, TermBehind, TermFormBehind, TermsBehind, MaybeBehind, KeepsFrom, ActionBehind, FormBehind, OtherBehind, GroupsBehind, PartBehind, StandsBehindViews}
 use Rattle.dh_sound.proofs.DepthsNamed.{size}
@@ -34,19 +34,19 @@ use Rattle.dh_sound.proofs.Offsets.{offsets_named, offsets_visible}
 
 -- Views where they stand, by their numbers.
 
-abbrev pub AllStand : (low high : ℕ) → List Standing → Type 0
+abbrev pub AllStand : (low high : ℕ) → List ViewSite → Type 0
 AllStand low high [] = Unit {0}
 AllStand low high (s ∷ ss) = ((n : ℕ) × ((s.name.entity ≡ Some n) × ((low ≤ n) × (n < high)))) × AllStand low high ss
 
-wider : (low high less more : ℕ) → less ≤ low → high ≤ more → (ss : List Standing) → AllStand low high ss → AllStand less more ss
+wider : (low high less more : ℕ) → less ≤ low → high ≤ more → (ss : List ViewSite) → AllStand low high ss → AllStand less more ss
 wider low high less more l m [] a = tt
 wider low high less more l m (s ∷ ss) a = let x = a.0.1.1.0 in let y = a.0.1.1.1 in ((a.0.0, (a.0.1.0, (omega (arith, l, x), omega (arith, m, y)))), wider low high less more l m ss a.1)
 
-both_stand : (low high : ℕ) (ss more : List Standing) → AllStand low high ss → AllStand low high more → AllStand low high (ss ++ more)
+both_stand : (low high : ℕ) (ss more : List ViewSite) → AllStand low high ss → AllStand low high more → AllStand low high (ss ++ more)
 both_stand low high [] more a b = b
 both_stand low high (s ∷ ss) more a b = (a.0, both_stand low high ss more a.1 b)
 
-two_stand : (low mid high : ℕ) (ss more : List Standing) → low ≤ mid → mid ≤ high → AllStand low mid ss → AllStand mid high more → AllStand low high (ss ++ more)
+two_stand : (low mid high : ℕ) (ss more : List ViewSite) → low ≤ mid → mid ≤ high → AllStand low mid ss → AllStand mid high more → AllStand low high (ss ++ more)
 two_stand low mid high ss more l m a b = both_stand low high ss more (wider low mid low high (omega arith) m ss a) (wider mid high low high l (omega arith) more b)
 
 declared_long : (s : Scope) (r : Ref) (k : Sort) → size (declare s r k) ≡ size s + 1
@@ -123,7 +123,7 @@ pub led_both_below : (k : ℕ) (ls more : List Led) → AllLedBelow k ls → All
 led_both_below k [] more a b = b
 led_both_below k (l ∷ ls) more a b = (a.0, led_both_below k ls more a.1 b)
 
-led_both : (ms : List Memory) (x : ℕ) (before : List Led) (ss more : List Standing) → led_behind ms x before (ss ++ more) ≡ led_behind ms (behind_all x ss) (led_behind ms x before ss) more
+led_both : (ms : List Memory) (x : ℕ) (before : List Led) (ss more : List ViewSite) → led_behind ms x before (ss ++ more) ≡ led_behind ms (behind_all x ss) (led_behind ms x before ss) more
 led_both ms x before [] more = refl
 led_both ms x before (s ∷ ss) more = led_both ms (behind_hidden x s) (before ++ led_after ms x before s) ss more
 
@@ -159,28 +159,28 @@ passed_over (l ∷ ls) more n e = by (same_entity l.entity (Some n)) e (passed_o
     by false f rest = rest f
 
 -- that of a view of another number
-one_absent : (x m n : ℕ) (s : Standing) (shape : Option Shape) (o : Option Way) → s.name.entity ≡ Some m → (m < n) ⊎ (n < m) → way_in (led_of x s shape o) (Some n) ≡ None
+one_absent : (x m n : ℕ) (s : ViewSite) (shape : Option Shape) (o : Option Way) → s.name.entity ≡ Some m → (m < n) ⊎ (n < m) → way_in (led_of x s shape o) (Some n) ≡ None
 one_absent x m n s None o is d = refl
 one_absent x m n s (Some shape) o is d = ap (λ b. if b then Some (way_behind x s (map_of s.form shape) o) else None) (absent m n s.name.entity is d)
 
 -- views behind have higher numbers
-abbrev pub AllFrom : ℕ → List Standing → Type 0
+abbrev pub AllFrom : ℕ → List ViewSite → Type 0
 AllFrom k [] = Unit {0}
 AllFrom k (s ∷ ss) = ((n : ℕ) × ((s.name.entity ≡ Some n) × (k ≤ n))) × AllFrom k ss
 
-from_stand : (low high : ℕ) (ss : List Standing) → AllStand low high ss → AllFrom low ss
+from_stand : (low high : ℕ) (ss : List ViewSite) → AllStand low high ss → AllFrom low ss
 from_stand low high [] a = tt
 from_stand low high (s ∷ ss) a = ((a.0.0, (a.0.1.0, a.0.1.1.0)), from_stand low high ss a.1)
 
-from_less : (j k : ℕ) → j ≤ k → (ss : List Standing) → AllFrom k ss → AllFrom j ss
+from_less : (j k : ℕ) → j ≤ k → (ss : List ViewSite) → AllFrom k ss → AllFrom j ss
 from_less j k l [] a = tt
 from_less j k l (s ∷ ss) a = let y = a.0.1.1 in ((a.0.0, (a.0.1.0, omega (arith, l, y))), from_less j k l ss a.1)
 
-from_both : (k : ℕ) (ss more : List Standing) → AllFrom k ss → AllFrom k more → AllFrom k (ss ++ more)
+from_both : (k : ℕ) (ss more : List ViewSite) → AllFrom k ss → AllFrom k more → AllFrom k (ss ++ more)
 from_both k [] more a b = b
 from_both k (s ∷ ss) more a b = (a.0, from_both k ss more a.1 b)
 
-pub later_kept : (ms : List Memory) (x : ℕ) (before : List Led) (ss : List Standing) (k n : ℕ) → AllFrom k ss → n < k → way_in (led_behind ms x before ss) (Some n) ≡ way_in before (Some n)
+pub later_kept : (ms : List Memory) (x : ℕ) (before : List Led) (ss : List ViewSite) (k n : ℕ) → AllFrom k ss → n < k → way_in (led_behind ms x before ss) (Some n) ≡ way_in before (Some n)
 later_kept ms x before [] k n a l = refl
 later_kept ms x before (s ∷ ss) k n a l =
     let low = a.0.1.1 in
@@ -188,11 +188,11 @@ later_kept ms x before (s ∷ ss) k n a l =
     ∙ found_first before (led_after ms x before s) n
     (one_absent x a.0.0 n s (shape_named (memory_in ms s.parent.entity) (way_in before s.parent.entity)) (way_at ms before s.parent.entity) a.0.1.0 (inr (omega (arith, low, l))))
 
-pub one_below : (x n k : ℕ) (s : Standing) (shape : Option Shape) (o : Option Way) → s.name.entity ≡ Some n → n < k → AllLedBelow k (led_of x s shape o)
+pub one_below : (x n k : ℕ) (s : ViewSite) (shape : Option Shape) (o : Option Way) → s.name.entity ≡ Some n → n < k → AllLedBelow k (led_of x s shape o)
 one_below x n k s None o is l = tt
 one_below x n k s (Some shape) o is l = ((n, (is, l)), tt)
 
-pub led_below : (ms : List Memory) (x : ℕ) (before : List Led) (ss : List Standing) (low k : ℕ) → AllLedBelow k before → AllStand low k ss → AllLedBelow k (led_behind ms x before ss)
+pub led_below : (ms : List Memory) (x : ℕ) (before : List Led) (ss : List ViewSite) (low k : ℕ) → AllLedBelow k before → AllStand low k ss → AllLedBelow k (led_behind ms x before ss)
 led_below ms x before [] low k a b = a
 led_below ms x before (s ∷ ss) low k a b =
     led_below ms (behind_hidden x s) (before ++ led_after ms x before s) ss low k
@@ -219,13 +219,13 @@ module _ (low : ℕ) where
 
 -- What is visible.
 
-abbrev VisibleBelow : ℕ → List Binding → Type 0
+abbrev VisibleBelow : ℕ → List ScopeEntry → Type 0
 VisibleBelow k bs = (name : List ℕ) (n : ℕ) → entity_of bs name ≡ Some n → n < k
 
-visible_more : (j k : ℕ) (bs : List Binding) → j ≤ k → VisibleBelow j bs → VisibleBelow k bs
+visible_more : (j k : ℕ) (bs : List ScopeEntry) → j ≤ k → VisibleBelow j bs → VisibleBelow k bs
 visible_more j k bs l v name n e = let b = v name n e in omega (arith, l, b)
 
-bind_below : (k : ℕ) (bs : List Binding) (name : List ℕ) (m : ℕ) → VisibleBelow k bs → m < k → VisibleBelow k (bind bs name m)
+bind_below : (k : ℕ) (bs : List ScopeEntry) (name : List ℕ) (m : ℕ) → VisibleBelow k bs → m < k → VisibleBelow k (bind bs name m)
 bind_below k bs name m v l other n e = either (is_visible bs name) e
   where
     either : (b : Bool) → entity_of (if b then bs else bs ++ binding name m ∷ []) other ≡ Some n → n < k
@@ -250,12 +250,12 @@ past_below s (action id place (decides test chosen other)) k h i = i
 past_below s (action id place (repeats test body)) k h i = i
 past_below s (action id place (counts iterator declared low high factor body combine combine_place)) k h i = i
 
-items_visible : (k : ℕ) (bs : List Binding) (items : List Item) → ItemsBelow k items → VisibleBelow k bs → VisibleBelow k (after_items bs items)
+items_visible : (k : ℕ) (bs : List ScopeEntry) (items : List Item) → ItemsBelow k items → VisibleBelow k bs → VisibleBelow k (after_items bs items)
 items_visible k bs [] h v = v
 items_visible k bs (i ∷ is) h v = items_visible k (bind bs i.name.name i.entity) is h.1 (bind_below k bs i.name.name i.entity v h.0)
 
 -- Expressions.
-module _ (p : Program) (x : ℕ) (bs : List Binding) (h : (name : List ℕ) (n : ℕ) → entity_of bs name ≡ Some n → (n < length p.entities) × WayBelow p x (Some n)) where
+module _ (p : Program) (x : ℕ) (bs : List ScopeEntry) (h : (name : List ℕ) (n : ℕ) → entity_of bs name ≡ Some n → (n < length p.entities) × WayBelow p x (Some n)) where
   own_name : (r : Ref) → entity_of bs r.name ≡ r.entity → unknown bs r ≡ [] → IsOwn p r
   own_name r e u = let w = used_stands bs r e u in (w.0, (w.1, (h r.name w.0 (e ∙ w.1)).0))
 
@@ -291,14 +291,14 @@ module _ (p : Program) (x : ℕ) (bs : List Binding) (h : (name : List ℕ) (n :
         let second : resolved_terms bs ts ≡ ts = cc in
         (term_behind t first (first_none (term_breaches bs t) _ b), terms_behind ts second (second_none (term_breaches bs t) _ b))
 
-  value_behind : (v : Option Term) → option_map (resolved_term bs) v ≡ v → value_breaches bs v ≡ [] → MaybeBehind p x v
+  value_behind : (v : Option Term) → option_map (resolved_term bs) v ≡ v → maybe_value_breaches bs v ≡ [] → MaybeBehind p x v
   value_behind None e b = tt
   value_behind (Some t) e b = let same : resolved_term bs t ≡ t = cc in term_behind t same b
 
 -- Commands.
 
 -- a view's way begins with its own offsets
-way_keeps : (p : Program) (x d : ℕ) (s : Standing) (v : ViewMap) (o : Option Way) → AllByRecursion (λ (h : Hidden). h.entity < x) (hidden_in o) → s.depth ≡ d → KeepsFrom p d x s.form (way_behind x s v o)
+way_keeps : (p : Program) (x d : ℕ) (s : ViewSite) (v : ViewMap) (o : Option Way) → AllByRecursion (λ (h : Hidden). h.entity < x) (hidden_in o) → s.depth ≡ d → KeepsFrom p d x s.form (way_behind x s v o)
 way_keeps p x d s v None a e = record { rest = []; is = ap (λ n. hidden_from x n (offsets_of s.form)) e ∙ sym (append-nil (hidden_from x d (offsets_of s.form))); below = tt }
 way_keeps p x d s v (Some w) a e = record { rest = w.hidden; is = ap (λ n. hidden_from x n (offsets_of s.form) ++ w.hidden) e; below = a }
 
@@ -322,7 +322,7 @@ module _ (p : Program) where
 
   -- the ways of the program are those so far, and those of views of a command from this point on up to a number of
   -- entities, and of views behind it
-  pub record At (s : Scope) (high x : ℕ) (before : List Led) (ss rest : List Standing) : Type 0 where
+  pub record At (s : Scope) (high x : ℕ) (before : List Led) (ss rest : List ViewSite) : Type 0 where
     pub all : ways_of p ≡ led_behind ms x before (ss ++ rest)
     pub least : ground ≤ x
     pub named : AllLedBelow (size s) before
@@ -333,7 +333,7 @@ module _ (p : Program) where
     pub long : size s ≤ high
     pub small : high ≤ ground
 
-  names_at : (s : Scope) (high x : ℕ) (before : List Led) (ss rest : List Standing) → At s high x before ss rest → (name : List ℕ) (n : ℕ) → entity_of s.visible name ≡ Some n → (n < ground) × WayBelow p x (Some n)
+  names_at : (s : Scope) (high x : ℕ) (before : List Led) (ss rest : List ViewSite) → At s high x before ss rest → (name : List ℕ) (n : ℕ) → entity_of s.visible name ≡ Some n → (n < ground) × WayBelow p x (Some n)
   names_at s high x before ss rest c name n e =
       let l = c.visible name n e in
       let m = c.long in
@@ -346,7 +346,7 @@ module _ (p : Program) where
       )
 
   -- another point in front of the same views
-  at_point : (s t : Scope) (high x : ℕ) (before : List Led) (ss rest : List Standing) → At s high x before ss rest → size s ≤ size t → AllStand (size t) high ss → VisibleBelow (size t) t.visible → size t ≤ high → At t high x before ss rest
+  at_point : (s t : Scope) (high x : ℕ) (before : List Led) (ss rest : List ViewSite) → At s high x before ss rest → size s ≤ size t → AllStand (size t) high ss → VisibleBelow (size t) t.visible → size t ≤ high → At t high x before ss rest
   at_point s t high x before ss rest c l own visible long = record {
     all = c.all;
     least = c.least;
@@ -359,7 +359,7 @@ module _ (p : Program) where
     small = c.small;
   }
 
-  at_first : (s : Scope) (mid high x : ℕ) (before : List Led) (ss ts rest : List Standing) → At s high x before (ss ++ ts) rest → size s ≤ mid → mid ≤ high → AllStand (size s) mid ss → AllStand mid high ts
+  at_first : (s : Scope) (mid high x : ℕ) (before : List Led) (ss ts rest : List ViewSite) → At s high x before (ss ++ ts) rest → size s ≤ mid → mid ≤ high → AllStand (size s) mid ss → AllStand mid high ts
       → At s mid x before ss (ts ++ rest)
   at_first s mid high x before ss ts rest c l m own more = record {
     all = c.all ∙ ap (λ qs. led_behind ms x before qs) (append_assoc ss ts rest);
@@ -373,11 +373,11 @@ module _ (p : Program) where
     small = (let k = c.small in omega (arith, m, k));
   }
 
-  further : (y : ℕ) (qs : List Standing) → ground ≤ y → ground ≤ behind_all y qs
+  further : (y : ℕ) (qs : List ViewSite) → ground ≤ y → ground ≤ behind_all y qs
   further y [] g = g
   further y (q ∷ qs) g = further (behind_hidden y q) qs (omega (arith, g))
 
-  at_second : (s t : Scope) (high x : ℕ) (before : List Led) (ss ts rest : List Standing) → At s high x before (ss ++ ts) rest → size s ≤ size t → size t ≤ high → AllStand (size s) (size t) ss → AllStand (size t) high ts
+  at_second : (s t : Scope) (high x : ℕ) (before : List Led) (ss ts rest : List ViewSite) → At s high x before (ss ++ ts) rest → size s ≤ size t → size t ≤ high → AllStand (size s) (size t) ss → AllStand (size t) high ts
       → VisibleBelow (size t) t.visible → At t high (behind_all x ss) (led_behind ms x before ss) ts rest
   at_second s t high x before ss ts rest c l m own more visible = record {
     all = c.all ∙ (ap (λ qs. led_behind ms x before qs) (append_assoc ss ts rest) ∙ led_both ms x before ss (ts ++ rest));
@@ -392,7 +392,7 @@ module _ (p : Program) where
   }
 
   -- a view, where it is declared
-  view_kept : (s : Standing) (d n high x : ℕ) (before : List Led) (rest : List Standing) → s.name.entity ≡ Some n → s.depth ≡ d → ways_of p ≡ led_behind ms x before (s ∷ rest) → AllLedBelow n before → AllWithin ground x before
+  view_kept : (s : ViewSite) (d n high x : ℕ) (before : List Led) (rest : List ViewSite) → s.name.entity ≡ Some n → s.depth ≡ d → ways_of p ≡ led_behind ms x before (s ∷ rest) → AllLedBelow n before → AllWithin ground x before
       → AllFrom high rest → n < high → (w : Way) → way_to p s.name.entity ≡ Some w → KeepsFrom p d x s.form w
   view_kept s d n high x before rest is depth all lower within later l w e =
       by (shape_named (memory_in ms s.parent.entity) (way_in before s.parent.entity))
@@ -413,18 +413,18 @@ module _ (p : Program) where
           subst (λ (y : Way). KeepsFrom p d x s.form y) (some_same way w own) (way_keeps p x d s (map_of s.form shape) (way_at ms before s.parent.entity) parent_below depth)
 
   mutual
-    pub behind : (a : Action) (s : Scope) (d x : ℕ) (before : List Led) (rest : List Standing) → resolved_action s a ≡ a → breaches s a ≡ [] → At s (size (at_end s a)) x before (standings d a) rest
+    pub behind : (a : Action) (s : Scope) (d x : ℕ) (before : List Led) (rest : List ViewSite) → resolved_action s a ≡ a → breaches s a ≡ [] → At s (size (at_end s a)) x before (standings d a) rest
         → ActionBehind p d x a × VisibleBelow (size (at_end s a)) (at_end s a).visible
     behind (action id place form) s d x before rest e b c = let same : resolved_form s form ≡ form = cc in command_behind form s d x before rest same b c
 
-    command_behind : (f : ActionForm) (s : Scope) (d x : ℕ) (before : List Led) (rest : List Standing) → resolved_form s f ≡ f → form_breaches s f ≡ [] → At s (size (form_at_end s f)) x before (form_standings d f) rest
+    command_behind : (f : ActionForm) (s : Scope) (d x : ℕ) (before : List Led) (rest : List ViewSite) → resolved_form s f ≡ f → form_breaches s f ≡ [] → At s (size (form_at_end s f)) x before (form_standings d f) rest
         → FormBehind p d x f × VisibleBelow (size (form_at_end s f)) (form_at_end s f).visible
     command_behind (lets name declared value) s d x before rest e b c =
         let own : Some (size s) ≡ name.entity = cc in
         let right : option_map (resolved_term s.visible) value ≡ value = cc in
         let long = declared_long s name sort.Variable in
         let small = c.small in (
-          ((size s, (sym own, omega (arith, long, small))), value_behind p x s.visible (names_at s (size (declare s name sort.Variable)) x before [] rest c) value right (first_none (value_breaches s.visible value) _ b)),
+          ((size s, (sym own, omega (arith, long, small))), value_behind p x s.visible (names_at s (size (declare s name sort.Variable)) x before [] rest c) value right (first_none (maybe_value_breaches s.visible value) _ b)),
           declare_below s name sort.Variable c.visible,
         )
     command_behind (lets_memory name shape shape_places value) s d x before rest e b c = (tt, declare_below s name sort.Memory c.visible)
@@ -432,11 +432,11 @@ module _ (p : Program) where
         let own : Some (size s) ≡ name.entity = cc in
         let plan : resolved_plan s.visible form ≡ form = cc in
         let long = declared_long s name sort.View in
-        let one : Standing = record { name = name; parent = parent; form = form; depth = d } in (
+        let one : ViewSite = record { name = name; parent = parent; form = form; depth = d } in (
           (
             view_kept one d (size s) (size (declare s name sort.View)) x before rest (sym own) refl c.all c.named c.within c.later (omega (arith, long)),
             terms_behind p x s.visible (names_at s (size (declare s name sort.View)) x before (one ∷ []) rest c) (terms (offsets_of form)) (offsets_named s.visible form plan)
-                (offsets_visible s.visible form ∙ first_none (plan_breaches s.visible form) _ (second_none (unknown s.visible parent) _ b)),
+                (offsets_visible s.visible form ∙ first_none (plan_name_breaches s.visible form) _ (second_none (unknown s.visible parent) _ b)),
           ),
           declare_below s name sort.View c.visible,
         )
@@ -509,12 +509,12 @@ module _ (p : Program) where
           visible_more (size s) end s.visible c.long c.visible,
         )
 
-    other_behind : (o : MaybeAction) (s : Scope) (d x : ℕ) (before : List Led) (rest : List Standing) → resolved_other s o ≡ o → other_breaches s o ≡ [] → At s (size (other_at_end s o)) x before (other_standings d o) rest
+    other_behind : (o : MaybeAction) (s : Scope) (d x : ℕ) (before : List Led) (rest : List ViewSite) → resolved_other s o ≡ o → other_breaches s o ≡ [] → At s (size (other_at_end s o)) x before (other_standings d o) rest
         → OtherBehind p d x o × VisibleBelow (size (other_at_end s o)) (other_at_end s o).visible
     other_behind no_action s d x before rest e b c = (tt, c.visible)
     other_behind (one_action a) s d x before rest e b c = let same : resolved_action s a ≡ a = cc in behind a s d x before rest same b c
 
-    part_behind : (part : Actions) (s : Scope) (d x : ℕ) (before : List Led) (rest : List Standing) → resolved_actions s part ≡ part → actions_breaches s part ≡ [] → At s (size (actions_at_end s part)) x before (part_standings d part) rest
+    part_behind : (part : Actions) (s : Scope) (d x : ℕ) (before : List Led) (rest : List ViewSite) → resolved_actions s part ≡ part → actions_breaches s part ≡ [] → At s (size (actions_at_end s part)) x before (part_standings d part) rest
         → PartBehind p d x part × VisibleBelow (size (actions_at_end s part)) (actions_at_end s part).visible
     part_behind no_actions s d x before rest e b c = (tt, c.visible)
     part_behind (action_then a more) s d x before rest e b c =
@@ -534,7 +534,7 @@ module _ (p : Program) where
         (past_below s a (size after) (visible_more (size s) (size after) s.visible (omega (arith, l, same)) c.visible) (visible_more (size (at_end s a)) (size after) (at_end s a).visible (omega (arith, same)) y.1))) in
         ((y.0, z.0), z.1)
 
-    groups_behind : (gs : Groups) (s : Scope) (d x : ℕ) (before : List Led) (rest : List Standing) → resolved_groups s gs ≡ gs → groups_breaches s gs ≡ [] → At s (size (groups_at_end s gs)) x before (groups_standings d gs) rest
+    groups_behind : (gs : Groups) (s : Scope) (d x : ℕ) (before : List Led) (rest : List ViewSite) → resolved_groups s gs ≡ gs → groups_breaches s gs ≡ [] → At s (size (groups_at_end s gs)) x before (groups_standings d gs) rest
         → GroupsBehind p d x gs × VisibleBelow (size (groups_at_end s gs)) (groups_at_end s gs).visible
     groups_behind no_groups s d x before rest e b c = (tt, c.visible)
     groups_behind (group_then g more) s d x before rest e b c =

@@ -17,7 +17,7 @@ use Rattle.dh_tree.specs.PlainTrees.{Program}
 use Rattle.dh_tree.specs.Ready.{IsReady}
 use Rattle.dh_tree.specs.Views.{map_of}
 use Rattle.dh_meaning.specs.Bindings.{Binding, binding_in, bindings_of, depth_bound}
-use Rattle.dh_meaning.specs.Ways.{Hidden, Led, Standing, Way, all_bindings_of, behind_hidden, hidden_binding, hidden_bindings, hidden_in, hidden_of, led_after, led_behind, led_binding, led_of, shape_named, standings, view_bindings, way_at, way_behind, way_in, way_to, way_unless, ways_of}
+use Rattle.dh_meaning.specs.Ways.{Hidden, Led, ViewSite, Way, all_bindings_of, behind_hidden, hidden_binding, hidden_bindings, hidden_in, hidden_of, led_after, led_behind, led_binding, led_of, shape_named, standings, view_bindings, way_at, way_behind, way_in, way_to, way_unless, ways_of}
 use Rattle.dh_ways.specs.HiddenVariables.{all_hidden, hidden_variables, numbers_from}
 use Rattle.dh_ways.proofs.HiddenApart.{are_numbered}
 use Rattle.dh_sound.specs.ViewsBound.{IsBoundTo, ViewsBound}
@@ -80,11 +80,11 @@ module _ (es : List Entity) where
   led_both [] more a b = b
   led_both (l ∷ ls) more a b = (a.0, led_both ls more a.1 b)
 
-  one_led : (first : ℕ) (s : Standing) (shape : Option Shape) (o : Option Way) → stands_as is_viewed es s.name.entity ≡ true → LedViewed (led_of first s shape o)
+  one_led : (first : ℕ) (s : ViewSite) (shape : Option Shape) (o : Option Way) → stands_as is_viewed es s.name.entity ≡ true → LedViewed (led_of first s shape o)
   one_led first s None o h = tt
   one_led first s (Some shape) o h = (h, tt)
 
-  led_viewed : (ms : List Memory) (first : ℕ) (before : List Led) (ss : List Standing) → LedViewed before → AllViewed es ss → LedViewed (led_behind ms first before ss)
+  led_viewed : (ms : List Memory) (first : ℕ) (before : List Led) (ss : List ViewSite) → LedViewed before → AllViewed es ss → LedViewed (led_behind ms first before ss)
   led_viewed ms first before [] a b = a
   led_viewed ms first before (s ∷ ss) a b =
       led_viewed ms (behind_hidden first s) (before ++ led_after ms first before s) ss
@@ -131,7 +131,7 @@ led_found (l ∷ ls) more n w is = by (same_entity l.entity (Some n)) refl is (l
         record { binding = r.binding; found = ap (λ t. if t then Some (led_binding l) else binding_in (map led_binding ls ++ more) n) e ∙ r.found; depth = r.depth; plain = r.plain }
 
 -- those of offsets, in their order
-mapped_all : (first : ℕ) (ss : List Standing) → hidden_bindings first ss ≡ map hidden_binding (all_hidden first ss)
+mapped_all : (first : ℕ) (ss : List ViewSite) → hidden_bindings first ss ≡ map hidden_binding (all_hidden first ss)
 mapped_all first [] = refl
 mapped_all first (s ∷ ss) =
     ap (λ (l : List Binding). map hidden_binding (hidden_of first s) ++ l) (mapped_all (behind_hidden first s) ss)
@@ -202,15 +202,15 @@ module _ (P : Hidden → Type 0) where
   led_hold_both [] more a b = b
   led_hold_both (l ∷ ls) more a b = (a.0, led_hold_both ls more a.1 b)
 
-  behind_hold : (first : ℕ) (s : Standing) (v : ViewMap) (o : Option Way) → AllHold (hidden_of first s) → AllHold (hidden_in o) → AllHold (way_behind first s v o).hidden
+  behind_hold : (first : ℕ) (s : ViewSite) (v : ViewMap) (o : Option Way) → AllHold (hidden_of first s) → AllHold (hidden_in o) → AllHold (way_behind first s v o).hidden
   behind_hold first s v None a b = a
   behind_hold first s v (Some w) a b = both_hold (hidden_of first s) w.hidden a b
 
-  one_hold : (first : ℕ) (s : Standing) (shape : Option Shape) (o : Option Way) → AllHold (hidden_of first s) → AllHold (hidden_in o) → LedHold (led_of first s shape o)
+  one_hold : (first : ℕ) (s : ViewSite) (shape : Option Shape) (o : Option Way) → AllHold (hidden_of first s) → AllHold (hidden_in o) → LedHold (led_of first s shape o)
   one_hold first s None o a b = tt
   one_hold first s (Some shape) o a b = (behind_hold first s (map_of s.form shape) o a b, tt)
 
-  ways_hold : (ms : List Memory) (first : ℕ) (before : List Led) (ss : List Standing) → LedHold before → AllHold (all_hidden first ss) → LedHold (led_behind ms first before ss)
+  ways_hold : (ms : List Memory) (first : ℕ) (before : List Led) (ss : List ViewSite) → LedHold before → AllHold (all_hidden first ss) → LedHold (led_behind ms first before ss)
   ways_hold ms first before [] a b = a
   ways_hold ms first before (s ∷ ss) a b =
       ways_hold ms (behind_hidden first s) (before ++ led_after ms first before s) ss

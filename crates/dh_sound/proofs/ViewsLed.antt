@@ -20,7 +20,7 @@ use Rattle.dh_tree.specs.Scopes.{Scope, entity, declare, leave, past, at_end, fo
 use Rattle.dh_tree.specs.Views.{map_of}
 use Rattle.dh_meaning.specs.Bindings.{binding_in, depth_bound, depth_inside}
 use Rattle.dh_meaning.specs.CoreOf.{known_of}
-use Rattle.dh_meaning.specs.Ways.{Hidden, Led, Standing, Way, all_bindings_of, behind_hidden, form_standings, groups_standings, hidden_from, hidden_of, led_after, led_behind, led_of, other_standings, part_standings, shape_named, standings, way_at, way_behind, way_in, way_to, way_unless, ways_of}
+use Rattle.dh_meaning.specs.Ways.{Hidden, Led, ViewSite, Way, all_bindings_of, behind_hidden, form_standings, groups_standings, hidden_from, hidden_of, led_after, led_behind, led_of, other_standings, part_standings, shape_named, standings, way_at, way_behind, way_in, way_to, way_unless, ways_of}
 use Rattle.dh_sound.specs.AssignsInside.{KeepsInside}
 use Rattle.dh_sound.proofs.DepthsNamed.{size}
 use Rattle.dh_sound.proofs.IteratorsNamed.{declared_on, goes_on, groups_on, on_long, other_on, part_on, past_on}
@@ -33,19 +33,19 @@ use Rattle.dh_sound.proofs.ViewsBound.{another, lower}
 
 -- Views where they stand, by rising numbers.
 
-abbrev pub RisingTo : (low high : ℕ) → List Standing → Type 0
+abbrev pub RisingTo : (low high : ℕ) → List ViewSite → Type 0
 RisingTo low high [] = Unit {0}
 RisingTo low high (s ∷ ss) = (n : ℕ) × ((s.name.entity ≡ Some n) × ((low ≤ n) × ((n < high) × RisingTo (suc n) high ss)))
 
-from_lower : (low less high : ℕ) (ss : List Standing) → less ≤ low → RisingTo low high ss → RisingTo less high ss
+from_lower : (low less high : ℕ) (ss : List ViewSite) → less ≤ low → RisingTo low high ss → RisingTo less high ss
 from_lower low less high [] l a = tt
 from_lower low less high (s ∷ ss) l (n, (is, (low_is, (high_is, more)))) = (n, (is, (omega (arith, l, low_is), (high_is, more))))
 
-to_higher : (low high more : ℕ) (ss : List Standing) → high ≤ more → RisingTo low high ss → RisingTo low more ss
+to_higher : (low high more : ℕ) (ss : List ViewSite) → high ≤ more → RisingTo low high ss → RisingTo low more ss
 to_higher low high more [] l a = tt
 to_higher low high more (s ∷ ss) l (n, (is, (low_is, (high_is, rest)))) = (n, (is, (low_is, (omega (arith, l, high_is), to_higher (suc n) high more ss l rest))))
 
-both_rise : (low mid high : ℕ) (ss more : List Standing) → low ≤ mid → mid ≤ high → RisingTo low mid ss → RisingTo mid high more → RisingTo low high (ss ++ more)
+both_rise : (low mid high : ℕ) (ss more : List ViewSite) → low ≤ mid → mid ≤ high → RisingTo low mid ss → RisingTo mid high more → RisingTo low high (ss ++ more)
 both_rise low mid high [] more l m a b = from_lower mid low high more l b
 both_rise low mid high (s ∷ ss) more l m (n, (is, (low_is, (high_is, rest)))) b = (n, (is, (low_is, (omega (arith, m, high_is), both_rise (suc n) mid high ss more high_is m rest b))))
 
@@ -109,7 +109,7 @@ mutual
       both_rise (size s) (size after) (size (groups_at_end after rest)) (part_standings d g) (groups_standings d rest) (on_long _ _ (part_on g s)) (on_long _ _ (groups_on rest after)) (part_risen g s d first)
       (groups_risen rest after d second)
 
-pub all_from : (low high : ℕ) (ss : List Standing) → RisingTo low high ss → AllFrom low ss
+pub all_from : (low high : ℕ) (ss : List ViewSite) → RisingTo low high ss → AllFrom low ss
 all_from low high [] a = tt
 all_from low high (s ∷ ss) (n, (is, (low_is, (high_is, rest)))) = ((n, (is, low_is)), all_from low high ss (from_lower (suc n) low high ss (omega (arith, low_is)) rest))
 
@@ -126,19 +126,19 @@ named_shape None None (inl (x, e)) = absurd cc
 named_shape None None (inr (y, e)) = absurd cc
 
 -- a view's way, with its own offsets first
-pub record LedAt (ls : List Led) (s : Standing) (n : ℕ) : Type 0 where
+pub record LedAt (ls : List Led) (s : ViewSite) (n : ℕ) : Type 0 where
   pub way : Way
   pub found : way_in ls (Some n) ≡ Some way
   pub first : ℕ
   pub rest : List Hidden
   pub hidden : way.hidden ≡ hidden_of first s ++ rest
 
-own_first : (first : ℕ) (s : Standing) (v : ViewMap) (o : Option Way) → (rest : List Hidden) × ((way_behind first s v o).hidden ≡ hidden_of first s ++ rest)
+own_first : (first : ℕ) (s : ViewSite) (v : ViewMap) (o : Option Way) → (rest : List Hidden) × ((way_behind first s v o).hidden ≡ hidden_of first s ++ rest)
 own_first first s v None = ([], sym (append-nil (hidden_of first s)))
 own_first first s v (Some w) = (w.hidden, refl)
 
 module _ (ms : List Memory) where
-  one_led : (x : ℕ) (s : Standing) (n : ℕ) (shape : Option Shape) (o : Option Way) (found : Shape) → s.name.entity ≡ Some n → shape ≡ Some found → LedAt (led_of x s shape o) s n
+  one_led : (x : ℕ) (s : ViewSite) (n : ℕ) (shape : Option Shape) (o : Option Way) (found : Shape) → s.name.entity ≡ Some n → shape ≡ Some found → LedAt (led_of x s shape o) s n
   one_led x s n shape o found is e =
       let own = own_first x s (map_of s.form found) o in
       subst (λ (z : Option Shape). LedAt (led_of x s z o) s n) (sym e) (record {
@@ -149,20 +149,20 @@ module _ (ms : List Memory) where
         hidden = own.1;
       })
 
-  led_at : (x : ℕ) (before : List Led) (ss : List Standing) (low high : ℕ) → AllLedBelow low before → RisingTo low high ss → (s : Standing) → Has s ss → (n m : ℕ) → s.name.entity ≡ Some n → s.parent.entity ≡ Some m → m < n
+  led_at : (x : ℕ) (before : List Led) (ss : List ViewSite) (low high : ℕ) → AllLedBelow low before → RisingTo low high ss → (s : ViewSite) → Has s ss → (n m : ℕ) → s.name.entity ≡ Some n → s.parent.entity ≡ Some m → m < n
       → IsNamed (memory_in ms (Some m)) (way_in (led_behind ms x before ss) (Some m)) → LedAt (led_behind ms x before ss) s n
   led_at x before [] low high below rising s h n m is up less named = elim h [ ]
   led_at x before (z ∷ ss) low high below (k, (own, (low_is, (high_is, rest)))) s (inl e) n m is up less named =
-      subst (λ (y : Standing). LedAt (led_behind ms x before (z ∷ ss)) y n) (sym e) (record { way = here.way; found = found; first = here.first; rest = here.rest; hidden = here.hidden })
+      subst (λ (y : ViewSite). LedAt (led_behind ms x before (z ∷ ss)) y n) (sym e) (record { way = here.way; found = found; first = here.first; rest = here.rest; hidden = here.hidden })
     where
       same : n ≡ k
-      same = number n k (sym is ∙ (ap (λ (y : Standing). y.name.entity) e ∙ own))
+      same = number n k (sym is ∙ (ap (λ (y : ViewSite). y.name.entity) e ∙ own))
         where
           number : (a b : ℕ) → Some a ≡ Some b → a ≡ b
           number a b f = cc
 
       parent : z.parent.entity ≡ Some m
-      parent = ap (λ (y : Standing). y.parent.entity) (sym e) ∙ up
+      parent = ap (λ (y : ViewSite). y.parent.entity) (sym e) ∙ up
 
       earlier : way_in (led_behind ms x before (z ∷ ss)) (Some m) ≡ way_in before (Some m)
       earlier = later_kept ms x before (z ∷ ss) k m (all_from k high (z ∷ ss) (k, (own, (omega arith, (high_is, rest))))) (let l = less in omega (arith, l, same))
@@ -225,15 +225,15 @@ stored_there : (o : Option Entity) → sort_at is_viewed o ≡ true → sort_at 
 stored_there None e = refl
 stored_there (Some x) e = stored_apart x.sort e
 
-one_of : (P : Standing → Type 0) (ss : List Standing) (s : Standing) → AllByRecursion P ss → Has s ss → P s
+one_of : (P : ViewSite → Type 0) (ss : List ViewSite) (s : ViewSite) → AllByRecursion P ss → Has s ss → P s
 one_of P [] s a h = elim h [ ]
-one_of P (z ∷ ss) s a (inl e) = subst (λ (y : Standing). P y) (sym e) a.0
+one_of P (z ∷ ss) s a (inl e) = subst (λ (y : ViewSite). P y) (sym e) a.0
 one_of P (z ∷ ss) s a (inr h) = one_of P ss s a.1 h
 
 -- from the first number on
-least_of : (low high : ℕ) (ss : List Standing) → RisingTo low high ss → (s : Standing) (n : ℕ) → Has s ss → s.name.entity ≡ Some n → low ≤ n
+least_of : (low high : ℕ) (ss : List ViewSite) → RisingTo low high ss → (s : ViewSite) (n : ℕ) → Has s ss → s.name.entity ≡ Some n → low ≤ n
 least_of low high [] a s n h is = elim h [ ]
-least_of low high (z ∷ ss) (k, (own, (low_is, (high_is, rest)))) s n (inl e) is = subst (λ (x : ℕ). low ≤ x) (number k n (sym own ∙ (ap (λ (y : Standing). y.name.entity) (sym e) ∙ is))) low_is
+least_of low high (z ∷ ss) (k, (own, (low_is, (high_is, rest)))) s n (inl e) is = subst (λ (x : ℕ). low ≤ x) (number k n (sym own ∙ (ap (λ (y : ViewSite). y.name.entity) (sym e) ∙ is))) low_is
   where
     number : (a b : ℕ) → Some a ≡ Some b → a ≡ b
     number a b f = cc
@@ -246,17 +246,17 @@ module _ (p : Program) (r : IsReady p) where
   all_rise : RisingTo (size (body_scope p)) (size (at_end (body_scope p) p.body)) (standings 0 p.body)
   all_rise = risen p.body (body_scope p) 0 same_body
 
-  no_memory : (s : Standing) (n : ℕ) → Has s (standings 0 p.body) → s.name.entity ≡ Some n → memory_in (memories_of p) (Some n) ≡ None
+  no_memory : (s : ViewSite) (n : ℕ) → Has s (standings 0 p.body) → s.name.entity ≡ Some n → memory_in (memories_of p) (Some n) ≡ None
   no_memory s n h is =
       let viewed : sort_at is_viewed (slice_get p.entities n) ≡ true =
-      subst (λ (o : Option ℕ). stands_as is_viewed p.entities o ≡ true) is (one_of (λ (x : Standing). stands_as is_viewed p.entities x.name.entity ≡ true) (standings 0 p.body) s (body_sorted p r).viewed h) in
+      subst (λ (o : Option ℕ). stands_as is_viewed p.entities o ≡ true) is (one_of (λ (x : ViewSite). stands_as is_viewed p.entities x.name.entity ≡ true) (standings 0 p.body) s (body_sorted p r).viewed h) in
       let least = least_of (size (body_scope p)) (size (at_end (body_scope p) p.body)) (standings 0 p.body) all_rise s n h is in
       let long = body_long p in
       none_both (map outside_memory p.decls) (locals p.body) (Some n) (decl_none 0 p.decls n (ap (λ (x : Program). x.decls) r.entities) (omega (arith, least, long)))
       (none_stored p.entities n (locals p.body) (body_sorted p r).stored (stored_there (slice_get p.entities n) viewed))
 
   -- a view of the program whose parent is named has a way
-  pub record IsLed (s : Standing) (n : ℕ) : Type 0 where
+  pub record IsLed (s : ViewSite) (n : ℕ) : Type 0 where
     pub way : Way
     pub found : way_to p (Some n) ≡ Some way
     pub first : ℕ
@@ -267,7 +267,7 @@ module _ (p : Program) (r : IsReady p) where
   way_named m (inl x) = inl x
   way_named m (inr (y, e)) = inr (y, led_to p (Some m) y e)
 
-  pub is_led : (s : Standing) → Has s (standings 0 p.body) → (n m : ℕ) → s.name.entity ≡ Some n → s.parent.entity ≡ Some m → m < n → IsNamed (memory_in (memories_of p) (Some m)) (way_to p (Some m)) → IsLed s n
+  pub is_led : (s : ViewSite) → Has s (standings 0 p.body) → (n m : ℕ) → s.name.entity ≡ Some n → s.parent.entity ≡ Some m → m < n → IsNamed (memory_in (memories_of p) (Some m)) (way_to p (Some m)) → IsLed s n
   is_led s h n m is up less named =
       let at = led_at (memories_of p) (length p.entities) [] (standings 0 p.body) (size (body_scope p)) (size (at_end (body_scope p) p.body)) tt all_rise s h n m is up less (way_named m named) in
       record { way = at.way; found = ap (λ o. way_unless o (way_in (ways_of p) (Some n))) (no_memory s n h is) ∙ at.found; first = at.first; rest = at.rest; hidden = at.hidden }

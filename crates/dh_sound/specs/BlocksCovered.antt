@@ -10,7 +10,7 @@ use Rattle.dh_meaning.specs.CoreOf.{core_of}
 use Rattle.dh_meaning.specs.Effects.{Variables, Event, Block, block_run, spent}
 use Rattle.dh_meets.specs.Charges.{charge}
 use Rattle.dh_meets.specs.MayMeet.{meets_in}
-use Rattle.dh_meets.specs.Ports.{ports_of}
+use Rattle.dh_meets.specs.Ports.{ports_of_entity}
 use Rattle.dh_sound.specs.Blocks.{StandsIn, paths_inside, AreInTurn}
 
 -- what a bank spends with these events is no more than some set of accesses charges of which any two may meet
@@ -36,4 +36,4 @@ BlocksCovered p = OfEachBlock (AreCovered p) p
 
 -- each block spends at most the ports
 abbrev pub BlocksKept : Program → Type 0
-BlocksKept p = OfEachBlock (λ es entity memory bank. spent es memory bank ≤ ports_of p entity) p
+BlocksKept p = OfEachBlock (λ es entity memory bank. spent es memory bank ≤ ports_of_entity p entity) p

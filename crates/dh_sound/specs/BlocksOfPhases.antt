@@ -9,7 +9,7 @@ use Rattle.dh_meaning.specs.OnePhase.{any_makes, test_makes}
 use Rattle.dh_meaning.specs.Paths.{paths_in}
 use Rattle.dh_meaning.specs.Phases.{Located, phases_of}
 use Rattle.dh_meaning.specs.Sites.{Around}
-use Rattle.dh_meets.specs.Charges.{factors_of}
+use Rattle.dh_meets.specs.Charges.{loop_factors}
 use Rattle.dh_meets.specs.SourceEvents.{trace}
 use Rattle.dh_sound.specs.AssignsInside.{AllInside}
 use Rattle.dh_sound.specs.Blocks.{factors, paths_inside, StandsIn, AreInTurn}
@@ -30,8 +30,8 @@ pub record OfStraight (p : Program) (loops : List Turning) (block : Block) : Typ
   pub has : HasStraight (phases_of p) (done ++ folds)
   pub round : Around
   pub follows : Follows round [] (trace p) done
-  pub inside : factors loops ≡ factors_of round.loops
-  pub paths : paths_inside loops ≡ paths_in (factors_of round.loops)
+  pub inside : factors loops ≡ loop_factors round.loops
+  pub paths : paths_inside loops ≡ paths_in (loop_factors round.loops)
 
 -- A block is that of the test of a command, which stands along the trace in its loops.
 pub record OfTest (p : Program) (loops : List Turning) (block : Block) : Type 0 where
@@ -39,8 +39,8 @@ pub record OfTest (p : Program) (loops : List Turning) (block : Block) : Type 0 
   pub is : block ≡ tests (core_test (known_of p) tested)
   pub has : HasTest (phases_of p) tested
   pub follows : Follows tested.around [] (trace p) (tested ∷ [])
-  pub inside : factors loops ≡ factors_of tested.around.loops
-  pub paths : paths_inside loops ≡ paths_in (factors_of tested.around.loops)
+  pub inside : factors loops ≡ loop_factors tested.around.loops
+  pub paths : paths_inside loops ≡ paths_in (loop_factors tested.around.loops)
 
 -- What is told of a block of straight commands: what it assigns has a value for each copy and is declared inside, they
 -- stand behind their views, and while its loops are in turns, what stands in the indices of its accesses.

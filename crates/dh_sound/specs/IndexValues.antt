@@ -52,7 +52,7 @@ pub record HasIntegerKind (cs : List Counter) (t : Term) : Type 0 where
   pub fits : FitsKind cs kind (form_of t)
 
 -- the operands of a sum of a kind: each has a kind, and that of the sum is the wider of both
-pub record AreOperands (cs : List Counter) (k : Kind) (left right : Term) : Type 0 where
+pub record AreSumOperands (cs : List Counter) (k : Kind) (left right : Term) : Type 0 where
   pub first : HasIntegerKind cs left
   pub second : HasIntegerKind cs right
   pub wider_is : wider first.kind second.kind ≡ k
@@ -82,7 +82,7 @@ PartsFit cs k (truth_value value) = Unit {0}
 PartsFit cs k (named r) = Unit {0}
 PartsFit cs k (accessed r indices) = Unit {0}
 PartsFit cs k (in_bank r bank bank_place row) = Unit {0}
-PartsFit cs k (applied o left right) = is_sum o ≡ true → AreOperands cs k left right
+PartsFit cs k (applied o left right) = is_sum o ≡ true → AreSumOperands cs k left right
 PartsFit cs k (converted inner to) = Unit {0}
 
 -- the kinds of an index of a typed program that breaks no rule on kinds

@@ -12,9 +12,9 @@ use Rattle.dh_meaning.specs.Paths.{Path}
 use Rattle.dh_sound.specs.IteratorsAt.{IteratorAt}
 
 -- the unrolled among these loops
-abbrev pub unrolled : List Turning → List Turning
-unrolled [] = []
-unrolled (l ∷ ls) = if nat_lt 1 l.factor then l ∷ unrolled ls else unrolled ls
+abbrev pub unrolled_loops : List Turning → List Turning
+unrolled_loops [] = []
+unrolled_loops (l ∷ ls) = if nat_lt 1 l.factor then l ∷ unrolled_loops ls else unrolled_loops ls
 
 -- A loop as it is run is this loop of the source, whose iterator has a number.
 pub record LoopMatches (known : Known) (loop : Turning) (c : Counter) : Type 0 where
@@ -33,7 +33,7 @@ EachMatches known (l ∷ ls) (c ∷ cs) = LoopMatches known l c × EachMatches k
 
 -- the unrolled loops match these of the source
 abbrev pub LoopsMatch : Known → (loops : List Turning) → List Counter → Type 0
-LoopsMatch known loops counters = EachMatches known (unrolled loops) counters
+LoopsMatch known loops counters = EachMatches known (unrolled_loops loops) counters
 
 -- a block touches the iterator of none of these loops
 abbrev pub AreSpared : (touched : ℕ → Bool) → List Turning → Type 0

@@ -7,14 +7,14 @@ use Rattle.dh_meaning.specs.Bindings.{binding_in}
 use Rattle.dh_meaning.specs.Core.{Turning}
 use Rattle.dh_meaning.specs.CoreOf.{Known, turning_of}
 use Rattle.dh_meaning.specs.Phases.{turn_count}
-use Rattle.dh_sound.specs.SameKeys.{EachName, EachNameOf, IsNoIterator, IsIteratorOf}
+use Rattle.dh_sound.specs.SameKeys.{EachName, EachNameOf, IsNoIterator, IsIteratorName}
 use Rattle.dh_tree.specs.Seen.{terms}
 use Rattle.dh_tree.specs.ViewOffsets.{offsets_of}
 
 -- A name stands for a variable that is no iterator, or for the iterator of one of these loops.
 pub data InScope (known : Known) (loops : List Turning) (r : Ref) : Type 0 where
   is_variable : (e : ℕ) → r.entity ≡ Some e → IsNoIterator (binding_in known.bindings e) → InScope known loops r
-  is_iterator : (i : ℕ) → (loop : Turning) → slice_get loops i ≡ Some loop → IsIteratorOf known r loop → InScope known loops r
+  is_iterator : (i : ℕ) → (loop : Turning) → slice_get loops i ≡ Some loop → IsIteratorName known r loop → InScope known loops r
 
 abbrev pub EachInScope : Known → (loops : List Turning) → Term → Type 0
 EachInScope known loops t = EachName (InScope known loops) t

@@ -27,8 +27,8 @@ abbrev pub IsFoundSame : Known → (v w : Variables) → (p q : Path) → Ref �
 IsFoundSame known v w p q r = v (entity_number r.entity) (take (depth_of known r) p) ≡ w (entity_number r.entity) (take (depth_of known r) q)
 
 -- a name is settled at two paths: where they agree at the levels on which it depends it has one value
-abbrev pub IsSettled : Known → (v w : Variables) → (p q : Path) → Ref → Type 0
-IsSettled known v w p q r = NameAgrees known p q r → IsFoundSame known v w p q r
+abbrev pub IsSettledName : Known → (v w : Variables) → (p q : Path) → Ref → Type 0
+IsSettledName known v w p q r = NameAgrees known p q r → IsFoundSame known v w p q r
 
 -- each variable in an expression, those in the indices of its reads among them, is so
 abbrev mutual
@@ -63,7 +63,7 @@ IsNoIterator None = Unit {0}
 IsNoIterator (Some b) = b.iterates ≡ None
 
 -- The name of the iterator of a loop: it is declared with the depth and the factor of the loop.
-pub record IsIteratorOf (known : Known) (r : Ref) (loop : Turning) : Type 0 where
+pub record IsIteratorName (known : Known) (r : Ref) (loop : Turning) : Type 0 where
   pub entity : r.entity ≡ Some loop.iterator
   pub binding : Binding
   pub bound : binding_in known.bindings loop.iterator ≡ Some binding
@@ -77,6 +77,6 @@ pub data NameFacts (known : Known) (v0 : Variables) (touched : ℕ → Bool) (p 
   -- it is no iterator, and the block does not touch it
   is_plain : (e : ℕ) → r.entity ≡ Some e → touched e ≡ false → IsNoIterator (binding_in known.bindings e) → NameFacts known v0 touched p q r
   -- it is the iterator of a loop that is in a turn, and the block does not touch it
-  is_turned : (loop : Turning) → (turn : ℕ) → IsIteratorOf known r loop → touched loop.iterator ≡ false → IteratorAt loop turn v0 p → IteratorAt loop turn v0 q → NameFacts known v0 touched p q r
+  is_turned : (loop : Turning) → (turn : ℕ) → IsIteratorName known r loop → touched loop.iterator ≡ false → IteratorAt loop turn v0 p → IteratorAt loop turn v0 q → NameFacts known v0 touched p q r
   -- it is no iterator, and is declared inside all the loops; the block may touch it
   is_full : (e : ℕ) → r.entity ≡ Some e → IsNoIterator (binding_in known.bindings e) → length p ≤ depth_of known r → NameFacts known v0 touched p q r

@@ -7,7 +7,7 @@ use Rattle.dh_meaning.specs.Paths.{Path}
 use Rattle.dh_meaning.specs.Core.{CoreCommands, Turning, CorePhase, straightly, turning, looping, choosing, CorePhases, no_core_phases, phase_and, CoreProgram}
 use Rattle.dh_meaning.specs.Effects.{Variables, Block, commands, block_run, spent}
 use Rattle.dh_meaning.specs.Levels.{any_assigns}
-use Rattle.dh_meaning.specs.Runs.{Place, ended, at, run_state, step_effect}
+use Rattle.dh_meaning.specs.Runs.{RunPlace, ended, at, run_state, step_effect}
 use Rattle.dh_sound.specs.Blocks.{StandsIn, paths_inside, AreInTurn}
 
 -- commands assign to the iterator of none of these loops
@@ -49,7 +49,7 @@ pub record StandsInTurn (c : CoreProgram) (paths : List Path) (b : Block) (varia
   pub turns : AreInTurn [] loops variables
 
 -- a run that stands at this place stands so, or is at its end
-abbrev pub IsStanding : CoreProgram → Place → Variables → Type 0
+abbrev pub IsStanding : CoreProgram → RunPlace → Variables → Type 0
 IsStanding c ended variables = Unit {0}
 IsStanding c (at paths b k) variables = StandsInTurn c paths b variables
 

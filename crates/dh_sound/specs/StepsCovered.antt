@@ -7,7 +7,7 @@ use Rattle.dh_tree.specs.PlainTrees.{Program}
 use Rattle.dh_meaning.specs.CoreOf.{core_of}
 use Rattle.dh_meaning.specs.Effects.{Event, spent}
 use Rattle.dh_meaning.specs.Runs.{run_state, step_effect}
-use Rattle.dh_meets.specs.Ports.{ports_of}
+use Rattle.dh_meets.specs.Ports.{ports_of_entity}
 use Rattle.dh_sound.specs.BlocksCovered.{AreCovered}
 
 -- the events of the step that a run does after n steps
@@ -26,4 +26,4 @@ StepsCovered p = OfEachStep (AreCovered p) p
 
 -- each step spends at most the ports
 abbrev pub StepsKept : Program → Type 0
-StepsKept p = OfEachStep (λ es entity memory bank. spent es memory bank ≤ ports_of p entity) p
+StepsKept p = OfEachStep (λ es entity memory bank. spent es memory bank ≤ ports_of_entity p entity) p

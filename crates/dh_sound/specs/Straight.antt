@@ -10,8 +10,8 @@ use Rattle.dh_meaning.specs.CoreOf.{Known, way_of}
 use Rattle.dh_meaning.specs.Ways.{Hidden, hidden_in}
 
 -- a name stands for something
-abbrev pub Stands : Ref → Type 0
-Stands r = (e : ℕ) × (r.entity ≡ Some e)
+abbrev pub StandsForSome : Ref → Type 0
+StandsForSome r = (e : ℕ) × (r.entity ≡ Some e)
 
 abbrev mutual
   pub IsNamedTerm : Term → Type 0
@@ -20,7 +20,7 @@ abbrev mutual
   pub IsNamedTermForm : TermForm → Type 0
   IsNamedTermForm (number negative x) = Unit {0}
   IsNamedTermForm (truth_value x) = Unit {0}
-  IsNamedTermForm (named r) = Stands r
+  IsNamedTermForm (named r) = StandsForSome r
   IsNamedTermForm (accessed r ts) = AreNamedTerms ts
   IsNamedTermForm (in_bank r bank at t) = IsNamedTerm t
   IsNamedTermForm (applied o l r) = IsNamedTerm l × IsNamedTerm r
@@ -49,17 +49,17 @@ abbrev mutual
   IsNamedAction (action id place f) = IsNamedForm f
 
   pub IsNamedForm : ActionForm → Type 0
-  IsNamedForm (lets name declared value) = Stands name × MaybeNamed value
+  IsNamedForm (lets name declared value) = StandsForSome name × MaybeNamed value
   IsNamedForm (lets_memory name shape shape_places value) = Unit {0}
   IsNamedForm (views name parent form) = AreNamedTerms (terms (offsets_of form))
-  IsNamedForm (assigns target value) = Stands target × IsNamedTerm value
+  IsNamedForm (assigns target value) = StandsForSome target × IsNamedTerm value
   IsNamedForm (stores target value) = IsTarget target × IsNamedTerm value
-  IsNamedForm (reduces target op value) = Stands target × IsNamedTerm value
+  IsNamedForm (reduces target op value) = StandsForSome target × IsNamedTerm value
   IsNamedForm (calls function arguments) = Unit {0}
   IsNamedForm (blocks body) = AreNamedGroups body
   IsNamedForm (decides test chosen other) = IsNamedTerm test × (IsNamedAction chosen × IsNamedOther other)
   IsNamedForm (repeats test body) = IsNamedTerm test × IsNamedAction body
-  IsNamedForm (counts iterator declared low high factor body combine combine_place) = Stands iterator × (IsNamedAction body × IsNamedOther combine)
+  IsNamedForm (counts iterator declared low high factor body combine combine_place) = StandsForSome iterator × (IsNamedAction body × IsNamedOther combine)
 
   pub IsNamedOther : MaybeAction → Type 0
   IsNamedOther no_action = Unit {0}
@@ -84,17 +84,17 @@ abbrev mutual
   IsKeptAction known (action id place f) = IsKeptForm known f
 
   pub IsKeptForm : Known → ActionForm → Type 0
-  IsKeptForm known (lets name declared value) = Stands name × MaybeNamed value
+  IsKeptForm known (lets name declared value) = StandsForSome name × MaybeNamed value
   IsKeptForm known (lets_memory name shape shape_places value) = Unit {0}
   IsKeptForm known (views name parent form) = AreNamedTerms (terms (offsets_of form)) × KeepsAny (hidden_in (way_of known name)) (offsets_of form)
-  IsKeptForm known (assigns target value) = Stands target × IsNamedTerm value
+  IsKeptForm known (assigns target value) = StandsForSome target × IsNamedTerm value
   IsKeptForm known (stores target value) = IsTarget target × IsNamedTerm value
-  IsKeptForm known (reduces target op value) = Stands target × IsNamedTerm value
+  IsKeptForm known (reduces target op value) = StandsForSome target × IsNamedTerm value
   IsKeptForm known (calls function arguments) = Unit {0}
   IsKeptForm known (blocks body) = AreKeptGroups known body
   IsKeptForm known (decides test chosen other) = IsNamedTerm test × (IsKeptAction known chosen × IsKeptOther known other)
   IsKeptForm known (repeats test body) = IsNamedTerm test × IsKeptAction known body
-  IsKeptForm known (counts iterator declared low high factor body combine combine_place) = Stands iterator × (IsKeptAction known body × IsKeptOther known combine)
+  IsKeptForm known (counts iterator declared low high factor body combine combine_place) = StandsForSome iterator × (IsKeptAction known body × IsKeptOther known combine)
 
   pub IsKeptOther : Known → MaybeAction → Type 0
   IsKeptOther known no_action = Unit {0}

@@ -14,7 +14,7 @@ use Rattle.dh_expressions.specs.declared.scenes.Around.{Around}
 use Rattle.dh_expressions.specs.declared.scenes.Scene.{Scene}
 use Rattle.dh_expressions.specs.Copying.{AreNone}
 use Rattle.dh_expressions.specs.Noted.{given_in, given_to, touched_in}
-use Rattle.dh_formed.specs.Formed.{Block, IsGuard, IsNoted, Site}
+use Rattle.dh_formed.specs.Formed.{FormedBlock, IsGuard, AreNotedReads, BlockSite}
 use Rattle.dh_commands.specs.declared.assignments.Change.{Change}
 use Rattle.dh_commands.specs.declared.assignments.Values.{Values}
 use Rattle.dh_commands.specs.declared.buildings.Building.{Building}
@@ -36,7 +36,7 @@ none_at (suc n) zero guard e = let f : None ≡ guard = cc in sym f
 none_at (suc n) (suc path) guard e = none_at n path guard e
 
 -- no guard stands round a block
-pub round_begins : (x : Block) (d : Draft) (scene : Scene) (around : Around) (n : ℕ) → around.guards.now ≡ replicate n None → StandsIn scene around → StandsRound x d scene around
+pub round_begins : (x : FormedBlock) (d : Draft) (scene : Scene) (around : Around) (n : ℕ) → around.guards.now ≡ replicate n None → StandsIn scene around → StandsRound x d scene around
 round_begins x d scene around n free h = record {
   guards = λ path guard e. subst (λ (g : Option ℕ). IsGuard x d g) (sym (none_at n path guard (ap (λ (gs : List (Option ℕ)). slice_get gs path) (sym free) ∙ e))) tt;
   scopes = h.scopes;
@@ -56,7 +56,7 @@ held_of [] register value e = absurd cc
 held_of (o ∷ os) zero value e = ap (λ (p : Option ℕ). Some p) e
 held_of (o ∷ os) (suc register) value e = held_of os register value e
 
-pub held_begins : (x : Block) (d : Draft) (v : Values) → IsClear v → length v.current.items ≤ length x.plan.registers → StandsHeld x d v
+pub held_begins : (x : FormedBlock) (d : Draft) (v : Values) → IsClear v → length v.current.items ≤ length x.plan.registers → StandsHeld x d v
 held_begins x d v clear within = record {
   held = record {
     current = λ register value e. absurd (never register value (given_of v.current.items register value e));
@@ -72,10 +72,10 @@ held_begins x d v clear within = record {
 -- Accesses.
 
 -- the sites of a block are of accesses without operations
-abbrev pub AreBareSites : Accesses → (sites : ℕ → Option Site) → Type 0
-AreBareSites a sites = (number : ℕ) (s : Site) → sites number ≡ Some s → (number < length a.touched.items) × (touched_in a number ≡ None)
+abbrev pub AreBareSites : Accesses → (sites : ℕ → Option BlockSite) → Type 0
+AreBareSites a sites = (number : ℕ) (s : BlockSite) → sites number ≡ Some s → (number < length a.touched.items) × (touched_in a number ≡ None)
 
-pub noted_begins : (x : Block) (d : Draft) (a : Accesses) → AreBareSites a x.sites → AreNone a.counts.items → IsNoted x d a
+pub noted_begins : (x : FormedBlock) (d : Draft) (a : Accesses) → AreBareSites a x.sites → AreNone a.counts.items → AreNotedReads x d a
 noted_begins x d a bare none = record {
   given = λ number path value s at e. absurd (never number path value (bare number s at).1 e);
   laid = λ number t s at e. absurd (untouched number t (bare number s at).1 e);
@@ -90,7 +90,7 @@ noted_begins x d a bare none = record {
     untouched number t f e = cc
 
 -- where a site stands in a list, by its number
-place_there : (first : ℕ) (ss : List (Option Site)) (number : ℕ) (s : Site) → places_from first ss number ≡ Some s → (first ≤ number) × (number - first < length ss)
+place_there : (first : ℕ) (ss : List (Option BlockSite)) (number : ℕ) (s : BlockSite) → places_from first ss number ≡ Some s → (first ≤ number) × (number - first < length ss)
 place_there first ss number s e = by (nat_lt number first) refl e
   where
     by : (b : Truth) → nat_lt number first ≡ b → (if b then None else one_site (slice_get ss (number - first))) ≡ Some s → (first ≤ number) × (number - first < length ss)
@@ -100,7 +100,7 @@ place_there first ss number s e = by (nat_lt number first) refl e
         low : (n m : ℕ) → nat_lt n m ≡ false → m ≤ n
         low n m f = grind (arith, nat_tests)
 
-        inside : (o : Option (Option Site)) → slice_get ss (number - first) ≡ o → one_site o ≡ Some s → number - first < length ss
+        inside : (o : Option (Option BlockSite)) → slice_get ss (number - first) ≡ o → one_site o ≡ Some s → number - first < length ss
         inside None f g = absurd cc
         inside (Some t) f g = slice_get_within ss (number - first) t f
 
@@ -121,7 +121,7 @@ bare_sites scene around (c ∷ cs) old new (mid, (next, (m, rest))) a reach bare
     long : length (command_sites scene c.command around old mid c.first next m) ≡ accesses_of c.command
     long = command_sites_long scene c.command around old mid c.first next m reach.0
 
-    by : (o : Option Site) → places_from c.first (command_sites scene c.command around old mid c.first next m) number ≡ o → site_or o (block_sites scene around cs mid new rest number) ≡ Some s
+    by : (o : Option BlockSite) → places_from c.first (command_sites scene c.command around old mid c.first next m) number ≡ o → site_or o (block_sites scene around cs mid new rest number) ≡ Some s
         → (block_sites scene around cs mid new rest number ≡ Some s → (number < length a.touched.items) × (touched_in a number ≡ None)) → (number < length a.touched.items) × (touched_in a number ≡ None)
     by None f g later = later g
     by (Some t) f g later =

@@ -21,7 +21,7 @@ use Rattle.dh_laid.specs.BlockSites.{MadeEach}
 use Rattle.dh_laid.specs.LaidQuiet.{StandsIn}
 use Rattle.dh_laid.proofs.CommandsQuiet.{commands_are_quiet, terms_are_quiet}
 use Rattle.dh_gathering.specs.declared.blocks.Made.{Made}
-use Rattle.dh_gathering.specs.MadeBlocks.{AddsFlag, StandsAt}
+use Rattle.dh_gathering.specs.MadeBlocks.{AddsFlag, BlockStandsAt}
 use Rattle.dh_gathering.proofs.BlocksPlanned.{first_is, operations_are}
 use Rattle.dh_phased.specs.DonePhases.{HasMade}
 
@@ -61,7 +61,7 @@ no_longer (x ∷ xs) [] h = let e = h 0 x refl in absurd (none e)
     none e = cc
 no_longer (x ∷ xs) (y ∷ ys) h = let l = no_longer xs ys (λ n f e. h (suc n) f e) in omega (arith, l)
 
-pub made_cut : (plan : PlainPlan) (count : ℕ) (final : Made) → HasMade plan count final → (block : ℕ) (before after : Building) → StandsAt final block before after → OnlyAdds before.draft after.draft → IsCut plan block before.draft after.draft
+pub made_cut : (plan : PlainPlan) (count : ℕ) (final : Made) → HasMade plan count final → (block : ℕ) (before after : Building) → BlockStandsAt final block before after → OnlyAdds before.draft after.draft → IsCut plan block before.draft after.draft
 made_cut plan count final made block before after stands adds = record {
   first = first_is final plan.blocks made.blocks block before after stands;
   operations =

@@ -20,7 +20,7 @@ use Rattle.dh_expressions.specs.declared.scenes.Scene.{Scene}
 use Rattle.dh_expressions.specs.Drafted.{Extends}
 use Rattle.dh_expressions.specs.Shown.{is_read_term}
 use Rattle.dh_expressions.proofs.Pushing.{extends_again}
-use Rattle.dh_formed.specs.Formed.{Agrees, Block, Forms, FormsValue, HasKind, IsFormedAt, Site, Started, kind_of}
+use Rattle.dh_formed.specs.Formed.{Agrees, FormedBlock, Forms, FormsValue, HasKind, IsFormedAt, BlockSite, Started, kind_in_block}
 use Rattle.dh_formed.specs.WholeBlocks.{block_of}
 use Rattle.dh_formed.proofs.BlocksWhole.{blocks_agree, blocks_are_formed}
 use Rattle.dh_formed.proofs.CommandsFormed.{sets_form}
@@ -63,7 +63,7 @@ behind_at P (p ∷ os) sets zero o far e h = absurd (none (length os) far)
 behind_at P (p ∷ os) sets (suc n) o far e h = behind_at P os sets n o (omega (arith, far)) e h
 
 -- a register is set behind what was put down to a value of its kind
-set_formed : (x : Block) (d : Draft) (n register value : ℕ) (o : Operation) → o ≡ setting (register, value) → length d.operations.items ≤ n → register < length x.plan.registers → HasKind x d (kind_at x.plan.registers register) value → IsFormedAt x n o
+set_formed : (x : FormedBlock) (d : Draft) (n register value : ℕ) (o : Operation) → o ≡ setting (register, value) → length d.operations.items ≤ n → register < length x.plan.registers → HasKind x d (kind_at x.plan.registers register) value → IsFormedAt x n o
 set_formed x d n register value o is far there h =
     subst (λ (p : Operation). IsFormedAt x n p) (sym is)
     (record { takes = ((h.from, below value (length d.operations.items) n h.below far), tt); suits = record { guard = tt; form = (there, h.kind_is) } })
@@ -71,7 +71,7 @@ set_formed x d n register value o is far there h =
     below : (a b c : ℕ) → a < b → b ≤ c → a < c
     below a b c l m = omega (arith, l, m)
 
-sets_formed : (x : Block) (old new : Building) (s : SetsGiven old new) → length old.values.current.items ≤ length x.plan.registers
+sets_formed : (x : FormedBlock) (old new : Building) (s : SetsGiven old new) → length old.values.current.items ≤ length x.plan.registers
     → ((register value : ℕ) → slice_get old.values.current.items register ≡ Some (Some value) → HasKind x old.draft (kind_at x.plan.registers register) value) → Forms x old.draft new.draft
 sets_formed x old new s within held = record { each = each }
   where
@@ -91,7 +91,7 @@ sets_formed x old new s within held = record { each = each }
 pub registers_within : (plan : PlainPlan) (final : Made) (n : ℕ) → HasRegisters plan final → n ≡ registers_given final → n ≤ length plan.registers
 registers_within plan final n h e = let l = h.given in let r = ap (λ (ks : List Kind). length ks) h.registers in omega (arith, l, r, e)
 
-pub all_reach : (x : Block) (scene : Scene) (rounds : List Round) (around : _) (cs : List Located) → AllByRecursion (FitsBlock x scene around rounds) cs → AllByRecursion (λ (c : Located). StoresReach c.command) cs
+pub all_reach : (x : FormedBlock) (scene : Scene) (rounds : List Round) (around : _) (cs : List Located) → AllByRecursion (FitsBlock x scene around rounds) cs → AllByRecursion (λ (c : Located). StoresReach c.command) cs
 all_reach x scene rounds around [] h = tt
 all_reach x scene rounds around (c ∷ cs) h =
     (sound_reaches scene around.levels.now (table_of (program_seen scene.program.now)) (λ r k. IsNamedHere scene around.levels.now x.plan.registers rounds (h.0).touched r k) _ c.command (h.0).sound, all_reach x scene rounds around cs h.1)
@@ -128,11 +128,11 @@ made_straights_are_formed scene plan count final rounds ls block m cut has stand
 -- Tests.
 
 -- a truth twice
-two_truths : (y : Block) (v : ℕ) → kind_of y v ≡ kind.Bool → AreTruths (kind_of y v) (kind_of y v)
+two_truths : (y : FormedBlock) (v : ℕ) → kind_in_block y v ≡ kind.Bool → AreTruths (kind_in_block y v) (kind_in_block y v)
 two_truths y v e = subst (λ (k : Kind). AreTruths k k) (sym e) tt
 
 -- the operations of a flag take the test, which is a truth
-flag_formed : (read : Truth) (x : Block) (old new : Draft) (value flag : ℕ) → AddsFlag read old new value flag → Agrees x new → Started x old → flag < length x.plan.registers → kind_at x.plan.registers flag ≡ kind.Bool → HasKind x old kind.Bool value
+flag_formed : (read : Truth) (x : FormedBlock) (old new : Draft) (value flag : ℕ) → AddsFlag read old new value flag → Agrees x new → Started x old → flag < length x.plan.registers → kind_at x.plan.registers flag ≡ kind.Bool → HasKind x old kind.Bool value
     → Extends old new × Forms x old new
 flag_formed true x old new value flag (mid, (made, (number, (computes, sets)))) a s there is h =
     let set = sets_form mid new number flag made sets in
@@ -154,7 +154,7 @@ slice_bool (j ∷ kinds) zero k e = (omega arith, cc)
 slice_bool (j ∷ kinds) (suc n) k e = let w = slice_bool kinds n k e in (let l = w.0 in omega (arith, l), w.1)
 
 -- sites of a test
-pub test_has : (sites : ℕ → Option Site) (first : ℕ) (ss : List Site) → ((number : ℕ) → sites number ≡ sites_from first ss number) → HasSites sites first ss
+pub test_has : (sites : ℕ → Option BlockSite) (first : ℕ) (ss : List BlockSite) → ((number : ℕ) → sites number ≡ sites_from first ss number) → HasSites sites first ss
 test_has sites first ss same i s e = same (first + i) ∙ sites_own first ss i s e
 
 pub made_tests_are_formed : MadeTestsAreFormed

@@ -22,7 +22,7 @@ use Rattle.dh_expressions.specs.declared.scenes.Scene.{Scene}
 use Rattle.dh_expressions.specs.Evaluated.{counter_of, known_in}
 use Rattle.dh_expressions.specs.Noted.{touched_in}
 use Rattle.dh_expressions.specs.Shown.{is_read_term}
-use Rattle.dh_formed.specs.Formed.{Block}
+use Rattle.dh_formed.specs.Formed.{FormedBlock}
 use Rattle.dh_formed.specs.WholeBlocks.{block_of}
 use Rattle.dh_commands.specs.LanesRun.{paths_counted}
 use Rattle.dh_commands.specs.ShownVariables.{ArePlaced, IsSeen, depth_in, register_in}
@@ -69,11 +69,11 @@ bare_each a (c ∷ cs) h number m = by (makes number c.first c.command) refl m (
 
 -- Suits.
 
-all_fit : (x : Block) (scene : Scene) (around : Around) (rounds : List Round) (cs : List Located) → AllByRecursion (FitsAlone x scene around rounds) cs → AllByRecursion (FitsBlock x scene around rounds) cs
+all_fit : (x : FormedBlock) (scene : Scene) (around : Around) (rounds : List Round) (cs : List Located) → AllByRecursion (FitsAlone x scene around rounds) cs → AllByRecursion (FitsBlock x scene around rounds) cs
 all_fit x scene around rounds [] h = tt
 all_fit x scene around rounds (c ∷ cs) h = (h.0.fits, all_fit x scene around rounds cs h.1)
 
-module _ (x : Block) (scene : Scene) (around : Around) (rounds : List Round) where
+module _ (x : FormedBlock) (scene : Scene) (around : Around) (rounds : List Round) where
   abbrev Names : (ℕ → Truth) → Ref → Kind → Type 0
   Names touched = NamedHere x scene around rounds touched
 
@@ -195,7 +195,7 @@ made_straights_are_long scene plan count final rounds ls block shared m s =
       shares = s.shares;
     })
   where
-    x : Block
+    x : FormedBlock
     x = block_of plan block (block_sites scene m.around ls m.before m.between m.made)
 
     fits : AllByRecursion (FitsBlock (block_of plan block (block_sites scene m.around ls m.before m.between m.made)) scene m.around rounds) ls
@@ -236,5 +236,5 @@ made_tests_are_long scene plan count final rounds n t flag block shared m s =
       shares = s.shares;
     })
   where
-    x : Block
+    x : FormedBlock
     x = block_of plan block (test_sites scene m.around n t)

@@ -4,7 +4,7 @@ use Rattle.dh_tree.specs.PlainTrees.{Program}
 use Rattle.dh_tree.specs.Ready.{IsReady}
 use Rattle.dh_tree.specs.Seen.{program_seen}
 use Rattle.dh_meaning.specs.Core.{Turning}
-use Rattle.dh_meaning.specs.CoreOf.{Known, core_commands, core_of, core_test, form_of, known_of, test_of}
+use Rattle.dh_meaning.specs.CoreOf.{Known, core_commands, core_of, core_test, action_form_of, known_of, test_of}
 use Rattle.dh_meaning.specs.Effects.{Block, commands, tests}
 use Rattle.dh_meaning.specs.Phases.{Located, phases_of}
 use Rattle.dh_plan.specs.Correspondence.{Round}
@@ -16,7 +16,7 @@ use Rattle.dh_expressions.specs.Evaluated.{known_in}
 use Rattle.dh_blocks.specs.TestMade.{IsTestTraced}
 use Rattle.dh_blocks.proofs.PhasesTraced.{straight_traced, test_traced}
 use Rattle.dh_gathering.specs.PhasesInLoops.{StraightOf, TestOf}
-use Rattle.dh_typed_blocks.specs.PlainPrograms.{AreFew, AssignsPlain}
+use Rattle.dh_typed_blocks.specs.PlainPrograms.{AreFewMemories, AssignsPlain}
 use Rattle.dh_typed_blocks.specs.SoundBlocks.{loops_of}
 use Rattle.dh_typed_blocks.proofs.BlocksFit.{Simple, Joins, phases_fit, phases_inside, straight_fits, tested_fits}
 use Rattle.dh_typed_blocks.proofs.BlocksHolding.{StraightHolds, TestHolds}
@@ -28,7 +28,7 @@ use Rattle.dh_told.specs.PlacedSound.{PlacedStraightsAreSound, PlacedTestsAreSou
 use Rattle.dh_told.proofs.PhasesHeld.{straight_of_held, straight_run, straight_there, test_of_held, test_run, test_there}
 
 -- What fits, with what is known of names: of the program, and so in the scene of it.
-module _ (scene : Scene) (ready : IsReady (program_seen scene.program.now)) (few : AreFew (known_of (program_seen scene.program.now))) (assigned : AssignsInside (known_of (program_seen scene.program.now)) 0 (program_seen scene.program.now).body)
+module _ (scene : Scene) (ready : IsReady (program_seen scene.program.now)) (few : AreFewMemories (known_of (program_seen scene.program.now))) (assigned : AssignsInside (known_of (program_seen scene.program.now)) 0 (program_seen scene.program.now).body)
     (plain : AssignsPlain (known_of (program_seen scene.program.now)) (program_seen scene.program.now).body) (rounds : List Round) where
   abbrev StraightFits : List Located → Known → Type 0
   StraightFits located known =
@@ -89,7 +89,7 @@ placed_tests_are_sound scene around plan rounds tested t ready place placed is =
     (test_run (known_of (program_seen scene.program.now)) (phases_of (program_seen scene.program.now)) [] (loops_of rounds) tested here) in
     let s = test_sound scene around plan rounds ready place (tests (core_test (known_in scene) tested)) stands f.0 in
     let own : s.0.of.tested ≡ tested = ap (λ (o : OfTest (program_seen scene.program.now) (loops_of rounds) (tests (core_test (known_in scene) tested))). o.tested) s.1 ∙ f.1 in
-    let same : test_of (form_of s.0.of.tested.command) ≡ Some t = ap (λ (c : Located). test_of (form_of c.command)) own ∙ is in
+    let same : test_of (action_form_of s.0.of.tested.command) ≡ Some t = ap (λ (c : Located). test_of (action_form_of c.command)) own ∙ is in
     record {
       of = s.0.of;
       is = own;

@@ -8,7 +8,7 @@ use Rattle.dh_tree.specs.PlainTrees.{Action, action, lets, lets_memory, views, a
 use Rattle.dh_tree.specs.Seen.{program_seen}
 use Rattle.dh_meaning.specs.AccessNumbers.{accesses_of, groups_accesses, other_accesses, part_accesses, term_accesses}
 use Rattle.dh_meaning.specs.Core.{CoreCommands}
-use Rattle.dh_meaning.specs.OnePhase.{any_makes, groups_make, is_within, makes, other_makes, part_makes}
+use Rattle.dh_meaning.specs.OnePhase.{any_makes, groups_make, is_between, makes, other_makes, part_makes}
 use Rattle.dh_meaning.specs.Phases.{Located}
 use Rattle.dh_meets.specs.Sharing.{shared}
 use Rattle.dh_meets.specs.SourceEvents.{SourceAccess, trace}
@@ -90,12 +90,12 @@ module _ (IsRead : ℕ → Type 0) where
       command_reads chosen (first + term_accesses test)
           (λ e low high r. front_of (makes e (first + term_accesses test) chosen) (other_makes e (first + term_accesses test + accesses_of chosen) other) e (first + term_accesses test) (accesses_of chosen)
           (λ i. (other_within e (first + term_accesses test + accesses_of chosen) other i).0) high
-          (rest_of (is_within e first (term_accesses test)) (makes e (first + term_accesses test) chosen || other_makes e (first + term_accesses test + accesses_of chosen) other) e (first + term_accesses test) (λ i. (within_is e first (term_accesses test) i).1) low
+          (rest_of (is_between e first (term_accesses test)) (makes e (first + term_accesses test) chosen || other_makes e (first + term_accesses test + accesses_of chosen) other) e (first + term_accesses test) (λ i. (within_is e first (term_accesses test) i).1) low
           (h e (omega (arith, low)) (omega (arith, high)) r))) w.0,
       other_reads other (first + term_accesses test + accesses_of chosen)
           (λ e low high r. rest_of (makes e (first + term_accesses test) chosen) (other_makes e (first + term_accesses test + accesses_of chosen) other) e (first + term_accesses test + accesses_of chosen)
           (λ i. (makes_within e (first + term_accesses test) chosen i).1) low
-          (rest_of (is_within e first (term_accesses test)) (makes e (first + term_accesses test) chosen || other_makes e (first + term_accesses test + accesses_of chosen) other) e (first + term_accesses test) (λ i. (within_is e first (term_accesses test) i).1)
+          (rest_of (is_between e first (term_accesses test)) (makes e (first + term_accesses test) chosen || other_makes e (first + term_accesses test + accesses_of chosen) other) e (first + term_accesses test) (λ i. (within_is e first (term_accesses test) i).1)
           (omega (arith, low)) (h e (omega (arith, low)) (omega (arith, high)) r))) w.1,
     )
     command_reads (action id place (blocks body)) first h w = groups_read body first (λ e low high r. h e low (omega (arith, high)) r) w

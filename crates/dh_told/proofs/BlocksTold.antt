@@ -30,12 +30,12 @@ use Rattle.dh_expressions.specs.declared.scenes.Around.{Around}
 use Rattle.dh_expressions.specs.declared.scenes.Scene.{Scene}
 use Rattle.dh_expressions.specs.Evaluated.{known_in}
 use Rattle.dh_expressions.specs.Shown.{is_read_term}
-use Rattle.dh_formed.specs.Formed.{Site}
+use Rattle.dh_formed.specs.Formed.{BlockSite}
 use Rattle.dh_formed.specs.WholeBlocks.{IsCut, block_of}
 use Rattle.dh_commands.specs.LanesRun.{paths_counted}
 use Rattle.dh_commands.specs.ShownVariables.{IsSeen}
 use Rattle.dh_blocks.specs.BlockMade.{AreSoundBy, AreSoundHere, IsTop}
-use Rattle.dh_blocks.specs.BlockTraced.{TellsShares}
+use Rattle.dh_blocks.specs.BlockTraced.{SceneTellsShares}
 use Rattle.dh_blocks.specs.NamedVariables.{IsNamedHere}
 use Rattle.dh_blocks.specs.SlotsOfScene.{HoldsVariables, placing_in}
 use Rattle.dh_blocks.specs.SoundCommands.{SoundAction}
@@ -103,7 +103,7 @@ module _ (scene : Scene) (count : ℕ) (plan : PlainPlan) (final : Made) (h : Is
   pub table : IsProgramTable (table_of (program_seen scene.program.now))
   table = program_table (program_seen scene.program.now) most_tokens h.ready.of_text h.ready.names h.ready.built h.ready.indices h.ready.limits h.ready.placements
 
-  pub shares_told : TellsShares scene
+  pub shares_told : SceneTellsShares scene
   shares_told k j e = sym (h.shares.all k) ∙ ap (λ o. share_told o) e
 
   -- where a block stands
@@ -114,7 +114,7 @@ module _ (scene : Scene) (count : ℕ) (plan : PlainPlan) (final : Made) (h : Is
     pub place : (b : Block) → runs.StandsIn [] (core_of (program_seen scene.program.now)).phases (loops_of rounds) b → IsPlaceTold scene around plan rounds
     place b here = record { tells = tells; top = top; told = rounds_known scene count plan h.order h.kinds rounds b h.ready counting here; table = h.table }
 
-    pub stands_so : (block : ℕ) (sites : ℕ → Option Site) → KeepsShares (block_of plan block sites) scene → StandsSo (block_of plan block sites) scene count around
+    pub stands_so : (block : ℕ) (sites : ℕ → Option BlockSite) → KeepsShares (block_of plan block sites) scene → StandsSo (block_of plan block sites) scene count around
     stands_so block sites shares = record {
       holds = holds;
       table = table;
@@ -129,7 +129,7 @@ module _ (scene : Scene) (count : ℕ) (plan : PlainPlan) (final : Made) (h : Is
     }
 
     -- commands that are sound and typed fit the block, whose sites are these
-    pub sound_here : (sites : ℕ → Option Site) (block : ℕ) (touched : ℕ → Bool) (c : Located) → SoundAction scene around.levels.now plan.table (IsNamedHere scene around.levels.now plan.registers rounds touched) (IsSeen scene around.levels.now) c.command
+    pub sound_here : (sites : ℕ → Option BlockSite) (block : ℕ) (touched : ℕ → Bool) (c : Located) → SoundAction scene around.levels.now plan.table (IsNamedHere scene around.levels.now plan.registers rounds touched) (IsSeen scene around.levels.now) c.command
         → ActionTyped (known_in scene) (table_of (program_seen scene.program.now)) c.command → FitsBlock (block_of plan block sites) scene around rounds c
     sound_here sites block touched c s t = record {
       touched = touched;
@@ -137,12 +137,12 @@ module _ (scene : Scene) (count : ℕ) (plan : PlainPlan) (final : Made) (h : Is
       typed = t;
     }
 
-    fit_by : (sites : ℕ → Option Site) (block : ℕ) (touched : ℕ → Bool) (cs : List Located) → AreSoundBy touched scene around plan rounds cs → AllByRecursion (λ (c : Located). ActionTyped (known_in scene) (table_of (program_seen scene.program.now)) c.command) cs
+    fit_by : (sites : ℕ → Option BlockSite) (block : ℕ) (touched : ℕ → Bool) (cs : List Located) → AreSoundBy touched scene around plan rounds cs → AllByRecursion (λ (c : Located). ActionTyped (known_in scene) (table_of (program_seen scene.program.now)) c.command) cs
         → AllByRecursion (FitsBlock (block_of plan block sites) scene around rounds) cs
     fit_by sites block touched [] s t = tt
     fit_by sites block touched (c ∷ cs) s t = (sound_here sites block touched c s.0 t.0, fit_by sites block touched cs s.1 t.1)
 
-    all_fit : (sites : ℕ → Option Site) (block : ℕ) (done folds located : List Located) → located ≡ done ++ folds → AreSoundHere scene around plan rounds done folds
+    all_fit : (sites : ℕ → Option BlockSite) (block : ℕ) (done folds located : List Located) → located ≡ done ++ folds → AreSoundHere scene around plan rounds done folds
         → AllByRecursion (λ (c : Located). ActionTyped (known_in scene) (table_of (program_seen scene.program.now)) c.command) (done ++ folds) → AllByRecursion (FitsBlock (block_of plan block sites) scene around rounds) located
     all_fit sites block done folds located are s t =
         subst (λ (cs : List Located). AllByRecursion (FitsBlock (block_of plan block sites) scene around rounds) cs) (sym are)

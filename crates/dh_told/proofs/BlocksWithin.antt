@@ -16,7 +16,7 @@ use Rattle.dh_plan.proofs.ValuesAlike.{memories_look_back}
 use Rattle.dh_expressions.proofs.ListPlaces.{place_within}
 use Rattle.dh_gathering.specs.Cutting.{AreBlocksOf}
 use Rattle.dh_gathering.specs.Growing.{place_among}
-use Rattle.dh_used.specs.SourceAims.{StandsAmong}
+use Rattle.dh_used.specs.SourceAims.{ConstantStands}
 
 -- Parts of lists.
 
@@ -90,7 +90,7 @@ module _ (plan : PlainPlan) (os : List Operation) (starts : List ℕ) (cut : Are
       at_most : (b n : ℕ) → b < n → b ≤ n
       at_most b n l = omega (arith, l)
 
-  pub constant_there : (i : ℕ) (o : Operation) → slice_get (operations_in plan block) i ≡ Some o → (value : ℕ) (word : Word) → IsBetween (first_in plan block) (first_in plan block + i) value → StandsAmong os value word
+  pub constant_there : (i : ℕ) (o : Operation) → slice_get (operations_in plan block) i ≡ Some o → (value : ℕ) (word : Word) → IsBetween (first_in plan block) (first_in plan block + i) value → ConstantStands os value word
       → HasConstant plan block value word
   constant_there i o at value word between stands = (value - first_in plan block, (own, by (slice_get (operations_in plan block) (value - first_in plan block)) refl))
     where

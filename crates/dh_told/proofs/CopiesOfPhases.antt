@@ -12,7 +12,7 @@ use Rattle.dh_tree.specs.Memories.{Memory, memories_of}
 use Rattle.dh_tree.specs.PlainTrees.{shrinks, splits, suffixes, shifts, Action, action, ActionForm, lets, lets_memory, views, assigns, stores, reduces, calls, blocks, decides, repeats, counts, MaybeAction, no_action, one_action, Actions, no_actions, action_then, Groups, no_groups, group_then, Program}
 use Rattle.dh_meaning.specs.AccessNumbers.{accesses_of, part_accesses, term_accesses}
 use Rattle.dh_meaning.specs.Core.{Turning}
-use Rattle.dh_meaning.specs.CoreOf.{Known, form_of, turning_of}
+use Rattle.dh_meaning.specs.CoreOf.{Known, action_form_of, turning_of}
 use Rattle.dh_meaning.specs.Paths.{copies_in}
 use Rattle.dh_meaning.specs.Phases.{Located, located, Phase, straight, turns, repeated, decided, Phases, no_phases, phase, of_list, one_straight, joined, are_straight, one_command, folded, turn_count, turn_phases, choice_phases, phases, phases_of, form_phases, other_phases, groups_phases, parts_phases}
 use Rattle.dh_meaning.specs.Sites.{Around, in_arm, in_loop, loop_of, nothing_around}
@@ -81,7 +81,7 @@ module _ (known : Known) where
     -- a phase in these loops stands in few copies, and so do those inside it
     PhaseFew : List Turning → Phase → Type 0
     PhaseFew round (straight cs) = FewRound round
-    PhaseFew round (turns loop count body) = PhasesFew (round ++ turning_of known count (form_of loop.command) ∷ []) body
+    PhaseFew round (turns loop count body) = PhasesFew (round ++ turning_of known count (action_form_of loop.command) ∷ []) body
     PhaseFew round (repeated loop body) = FewRound round × PhasesFew round body
     PhaseFew round (decided choice chosen other) = FewRound round × (PhasesFew round chosen × PhasesFew round other)
 
@@ -127,7 +127,7 @@ module _ (known : Known) where
   folded_few round (decided choice chosen other ∷ []) qs few h k = (h.0, k)
   folded_few round (p ∷ q ∷ ps) qs few h k = (h.0, folded_few round (q ∷ ps) qs few h.1 k)
 
-  turn_few : (round : List Turning) (loop : Located) (count : ℕ) (qs : List Phase) → ((count ≡ 0 → ⊥) → ListFew (round ++ turning_of known count (form_of loop.command) ∷ []) qs) → ListFew round (turn_phases loop count qs)
+  turn_few : (round : List Turning) (loop : Located) (count : ℕ) (qs : List Phase) → ((count ≡ 0 → ⊥) → ListFew (round ++ turning_of known count (action_form_of loop.command) ∷ []) qs) → ListFew round (turn_phases loop count qs)
   turn_few round loop count [] h = tt
   turn_few round loop count (q ∷ qs) h = by (count == 0) refl
     where
@@ -136,7 +136,7 @@ module _ (known : Known) where
 
       by : (b : Bool) → (count == 0) ≡ b → ListFew round (if b then [] else turns loop count (of_list (q ∷ qs)) ∷ [])
       by true e = tt
-      by false e = (listed (round ++ turning_of known count (form_of loop.command) ∷ []) (q ∷ qs) (h (some e)), tt)
+      by false e = (listed (round ++ turning_of known count (action_form_of loop.command) ∷ []) (q ∷ qs) (h (some e)), tt)
 
   choice_few : (round : List Turning) (c : Located) (ps qs : List Phase) → FewRound round → ListFew round ps → ListFew round qs → ListFew round (choice_phases c ps qs)
   choice_few round c ps qs few h k = by (are_straight ps && are_straight qs)
@@ -204,7 +204,7 @@ module _ (known : Known) where
     mutual
       straight_in : (p : Phase) (round : List Turning) → PhaseFew round p → StraightInLoops known round p loops cs → FewRound loops
       straight_in (straight ds) round h s = subst (λ (l : List Turning). FewRound l) (sym s.0) h
-      straight_in (turns loop count body) round h s = straights_in body (round ++ turning_of known count (form_of loop.command) ∷ []) h s
+      straight_in (turns loop count body) round h s = straights_in body (round ++ turning_of known count (action_form_of loop.command) ∷ []) h s
       straight_in (repeated loop body) round h s = straights_in body round h.1 s
       straight_in (decided choice chosen other) round h (inl s) = straights_in chosen round h.1.0 s
       straight_in (decided choice chosen other) round h (inr s) = straights_in other round h.1.1 s
@@ -223,7 +223,7 @@ module _ (known : Known) where
     mutual
       test_in : (p : Phase) (round : List Turning) → PhaseFew round p → TestInLoops known round p loops c → FewRound loops
       test_in (straight ds) round h s = absurd s
-      test_in (turns loop count body) round h s = tests_in body (round ++ turning_of known count (form_of loop.command) ∷ []) h s
+      test_in (turns loop count body) round h s = tests_in body (round ++ turning_of known count (action_form_of loop.command) ∷ []) h s
       test_in (repeated loop body) round h (inl s) = subst (λ (l : List Turning). FewRound l) (sym s.0) h.0
       test_in (repeated loop body) round h (inr s) = tests_in body round h.1 s
       test_in (decided choice chosen other) round h (inl s) = subst (λ (l : List Turning). FewRound l) (sym s.0) h.0

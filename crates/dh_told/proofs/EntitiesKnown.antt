@@ -14,9 +14,9 @@ use Rattle.dh_tree.specs.Seen.{program_seen}
 use Rattle.dh_tree.specs.ViewOffsets.{offsets_of}
 use Rattle.dh_meaning.specs.Bindings.{Binding, binding_in, bindings_of, depth_inside, kind_bound}
 use Rattle.dh_meaning.specs.CoreOf.{entity_number}
-use Rattle.dh_meaning.specs.Ways.{Led, Standing, all_bindings_of, all_entities_of, behind_all, behind_hidden, hidden_binding, hidden_bindings, hidden_from, hidden_of, led_binding, standings, view_bindings, ways_of}
+use Rattle.dh_meaning.specs.Ways.{Led, ViewSite, all_bindings_of, all_entities_of, behind_all, behind_hidden, hidden_binding, hidden_bindings, hidden_from, hidden_of, led_binding, standings, view_bindings, ways_of}
 use Rattle.dh_code.specs.declared.places.Held.{Held}
-use Rattle.dh_code.specs.Declarations.{Declaration, all_declarations_of, all_held, declaration_in, factors_of, placing_of}
+use Rattle.dh_code.specs.Declarations.{Declaration, all_declarations_of, all_held, declaration_in, declared_factors, placing_of}
 use Rattle.dh_code.specs.Ranks.{copies_in}
 use Rattle.dh_code.specs.Slots.{held_at, held_nowhere}
 use Rattle.dh_code.specs.Placed.{IsNamedBelow}
@@ -37,7 +37,7 @@ held_past ds count from (suc n) zero l = absurd (none n l)
   where
     none : (n : ℕ) → suc n ≤ 0 → ⊥
     none n l = omega (arith, l)
-held_past ds count from (suc n) (suc e) l = held_past ds (count + copies_in (factors_of (declaration_in ds from))) (suc from) n e (less n e l)
+held_past ds count from (suc n) (suc e) l = held_past ds (count + copies_in (declared_factors (declaration_in ds from))) (suc from) n e (less n e l)
   where
     less : (a b : ℕ) → suc a ≤ suc b → a ≤ b
     less a b e = omega (arith, e)
@@ -60,7 +60,7 @@ led_below n m (l ∷ ls) le h = (by l.entity h.0, led_below n m ls le h.1)
     by None k = tt
     by (Some e) k = omega (arith, le, k)
 
-hidden_below : (first m : ℕ) (ss : List Standing) → behind_all first ss ≤ m → AllBelow m (hidden_bindings first ss)
+hidden_below : (first m : ℕ) (ss : List ViewSite) → behind_all first ss ≤ m → AllBelow m (hidden_bindings first ss)
 hidden_below first m [] le = tt
 hidden_below first m (s ∷ ss) le =
     below_both m (map hidden_binding (hidden_of first s)) (hidden_bindings (behind_hidden first s) ss)
@@ -69,7 +69,7 @@ hidden_below first m (s ∷ ss) le =
     least : (a b : ℕ) → a ≤ b → b ≤ m → a ≤ m
     least a b l k = omega (arith, l, k)
 
-    grows : (n : ℕ) (rest : List Standing) → n ≤ behind_all n rest
+    grows : (n : ℕ) (rest : List ViewSite) → n ≤ behind_all n rest
     grows n [] = omega arith
     grows n (r ∷ rest) = let later = grows (behind_hidden n r) rest in more n (length (offsets_of r.form)) (behind_all (behind_hidden n r) rest) later
       where

@@ -37,10 +37,10 @@ use Rattle.dh_sound.proofs.PortsKept.{typed_program}
 use Rattle.dh_sound.proofs.SortsOfPrograms.{accesses_declared}
 use Rattle.dh_expressions.specs.declared.paths.Level.{Level}
 use Rattle.dh_expressions.specs.declared.scenes.Scene.{Scene}
-use Rattle.dh_expressions.specs.Drafted.{Step}
+use Rattle.dh_expressions.specs.Drafted.{BlockStep}
 use Rattle.dh_expressions.specs.Evaluated.{known_in}
 use Rattle.dh_expressions.specs.ViewsTold.{TellsViews}
-use Rattle.dh_commands.specs.Setting.{IsAmong}
+use Rattle.dh_commands.specs.Setting.{IsVariableAmong}
 use Rattle.dh_commands.specs.ShownVariables.{IsSeen}
 use Rattle.dh_blocks.specs.BlockTraced.{TellsWays}
 use Rattle.dh_blocks.specs.SoundCommands.{CanKeep, CanKeepFrom, SoundAction, SoundGroups, SoundOther, SoundPart}
@@ -122,7 +122,7 @@ module _ (scene : Scene) (ready : IsReady (program_seen scene.program.now)) (pro
 
 -- Expressions.
 
-module _ (x : Step) (scene : Scene) (levels : List Level) (table : List MemEntry) (Name : Ref → Kind → Type 0) (names : (r : Ref) (k : Kind) → Name r k → NameTurns x scene levels r)
+module _ (x : BlockStep) (scene : Scene) (levels : List Level) (table : List MemEntry) (Name : Ref → Kind → Type 0) (names : (r : Ref) (k : Kind) → Name r k → NameTurns x scene levels r)
     (seen : (h : Hidden) → Name (kept_name h) h.kind → IsNoIterator (binding_in (known_in scene).bindings h.entity) → IsSeen scene levels h.entity) (table_is : x.start.table ≡ table_of (program_seen scene.program.now))
     (ready : IsReady (program_seen scene.program.now)) (program_table : IsProgramTable (table_of (program_seen scene.program.now))) (ways : TellsWays scene) (viewed : TellsViews scene x.start.views) where
   operand_turns : (t : plain.Term) → IsSound (known_in scene) table Name t → OperandTurns x scene levels (form_of t)
@@ -223,7 +223,7 @@ module _ (x : Step) (scene : Scene) (levels : List Level) (table : List MemEntry
       one g gs f fs q = cc
 
   -- what is kept from a variable on is not below it
-  not_among : (first n count e : ℕ) → first ≡ n → e < n → IsAmong first count e → ⊥
+  not_among : (first n count e : ℕ) → first ≡ n → e < n → IsVariableAmong first count e → ⊥
   not_among first n count e same l among = let low = among.0 in omega (arith, same, l, low)
 
   view_keeps : (hs : List Hidden) (site : Site) (d n : ℕ) (form : ViewPlan) (rest : List Hidden) → hs ≡ hidden_from n d (offsets_of form) ++ rest → CanKeep scene levels table Name hs (offsets_of form) → TermsBehind (program_seen scene.program.now) n (terms (offsets_of form))
@@ -235,8 +235,8 @@ module _ (x : Step) (scene : Scene) (levels : List Level) (table : List MemEntry
       by [] (o ∷ os) is s behind ok = elim s [ ]
       by (h ∷ gs) [] is s behind ok = (tt, tt)
       by (h ∷ gs) (o ∷ os) is s behind ok = (
-        terms_keep (λ e. IsAmong h.entity (length (o ∷ os)) e) site (terms (o ∷ os)) s.0
-            (behind_free_of scene (λ e. IsAmong h.entity (length (o ∷ os)) e) ways n (λ e l among. not_among h.entity n (length (o ∷ os)) e (first_kept d n h gs rest o os is) l among) (terms (o ∷ os)) behind) ok,
+        terms_keep (λ e. IsVariableAmong h.entity (length (o ∷ os)) e) site (terms (o ∷ os)) s.0
+            (behind_free_of scene (λ e. IsVariableAmong h.entity (length (o ∷ os)) e) ways n (λ e l among. not_among h.entity n (length (o ∷ os)) e (first_kept d n h gs rest o os is) l among) (terms (o ∷ os)) behind) ok,
         seen_from h.depth h.entity (o ∷ os) s.1,
       )
 

@@ -13,7 +13,7 @@ use Rattle.dh_value.specs.Words.{IsKind, value_of, with_bits}
 use Rattle.dh_value.proofs.Values.{integer_width}
 use Rattle.dh_tree.specs.declared.tables.Dim.{Dim}
 use Rattle.dh_tree.specs.declared.trees.counters.Counter.{Counter}
-use Rattle.dh_tree.specs.Indices.{index_breaches, index_kind, indices_breaches, is_beyond}
+use Rattle.dh_tree.specs.Indices.{one_index_breaches, index_kind, indices_breaches, is_beyond}
 use Rattle.dh_tree.specs.Kinds.{signed_number}
 use Rattle.dh_tree.specs.LeastBreach.{breach}
 use Rattle.dh_tree.specs.PlainTrees as plain
@@ -65,7 +65,7 @@ module _ (plan : PlainPlan) (os : List Operation) (starts : List ℕ) (cut : Are
 
   module _ (i : ℕ) (o : Operation) (at : slice_get (operations_in plan block) i ≡ Some o) where
     one_within : (d : Dim) (place : Place) (kind : Option Kind) (form : plain.TermForm) (value : ℕ) → IsLiteralForm form → HoldsForm os (kind_or_first kind) form value → HasIndexKinds cs (plain.term place kind form)
-        → index_breaches d place (index_kind cs kind form) ≡ [] → IsBetween (first_in plan block) (first_in plan block + i) value → IsWithin d value
+        → one_index_breaches d place (index_kind cs kind form) ≡ [] → IsBetween (first_in plan block) (first_in plan block + i) value → IsWithin d value
     one_within d place kind (plain.number negative n) value literal holds kinds none between =
         record {
           constant = record { place = c.0; own = c.1.0; word = holds.0; there = c.1.1 };
@@ -119,8 +119,8 @@ module _ (plan : PlainPlan) (os : List Operation) (starts : List ℕ) (cut : Are
     literals_within (plain.term_then (plain.term place kind form) ts) (d ∷ ds) values literal holds kinds none long between =
         subst (λ (vs : List ℕ). AreWithin (d ∷ ds) vs) (sym are)
         (more_within d ds value rest
-        (one_within d place kind form value literal.0 holds.1.1.1.0 kinds.0 (first_none (index_breaches d place (index_kind cs kind form)) (indices_breaches cs ds ts) none) own.0)
-        (literals_within ts ds rest literal.1 holds.1.1.1.1 kinds.1 (second_none (index_breaches d place (index_kind cs kind form)) (indices_breaches cs ds ts) none)
+        (one_within d place kind form value literal.0 holds.1.1.1.0 kinds.0 (first_none (one_index_breaches d place (index_kind cs kind form)) (indices_breaches cs ds ts) none) own.0)
+        (literals_within ts ds rest literal.1 holds.1.1.1.1 kinds.1 (second_none (one_index_breaches d place (index_kind cs kind form)) (indices_breaches cs ds ts) none)
         (fewer (length rest) (length ds) (sym (ap (λ (vs : List ℕ). length vs) are) ∙ long)) own.1))
       where
         value : ℕ

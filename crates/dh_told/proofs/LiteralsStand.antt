@@ -23,7 +23,7 @@ use Rattle.dh_tree.proofs.EmptyLists.{first_none}
 use Rattle.dh_meaning.specs.AccessNumbers.{accesses_of}
 use Rattle.dh_meaning.specs.CoreOf.{Known, entity_number, way_of}
 use Rattle.dh_meaning.specs.Sites.{nothing_around}
-use Rattle.dh_meaning.specs.Ways.{Step, Way, base_of, way_to, ways_of}
+use Rattle.dh_meaning.specs.Ways.{WayStep, Way, base_of, way_to, ways_of}
 use Rattle.dh_meets.specs.SourceEvents.{Element, SourceAccess, accesses_in, in_row, trace, with_indices}
 use Rattle.dh_plan.specs.declared.operations.Operation.{Operation}
 use Rattle.dh_plan.specs.declared.operations.OperationForm.{OperationForm}
@@ -105,7 +105,7 @@ some_same : (a b : SourceAccess) → Some a ≡ Some b → a ≡ b
 some_same a b e = cc
 
 -- The dimensions that are named, through the steps of a plan.
-steps_named : (plan : PlainPlan) (number : ℕ) (kinds : List Kind) (through : List Through) (memory : ℕ) (steps : List Step) (first : ℕ) (values : List ℕ) (dims : List Dim) → AreViews through plan.views first steps
+steps_named : (plan : PlainPlan) (number : ℕ) (kinds : List Kind) (through : List Through) (memory : ℕ) (steps : List WayStep) (first : ℕ) (values : List ℕ) (dims : List Dim) → AreViews through plan.views first steps
     → AreSteps plan number kinds memory (steps_told through first steps values) dims → dims ≡ next_dims steps (dims_at plan.table memory)
 steps_named plan number kinds through memory [] first values dims there h = h
 steps_named plan number kinds through memory (s ∷ ss) first values dims there h =

@@ -5,7 +5,7 @@ use Rattle.std.specs.Prelude.{Bool, true, false, [], ◌∷◌, ◌++◌, slice_
 use Rattle.dh_tree.specs.PlainTrees.{Action, Term, action, assigns, blocks, calls, counts, decides, lets, lets_memory, reduces, repeats, stores, views}
 use Rattle.dh_tree.specs.Seen.{program_seen}
 use Rattle.dh_meaning.specs.Core.{CoreCommands, CoreTerm}
-use Rattle.dh_meaning.specs.CoreOf.{core_commands, core_of, core_test, form_of, test_of}
+use Rattle.dh_meaning.specs.CoreOf.{core_commands, core_of, core_test, action_form_of, test_of}
 use Rattle.dh_meaning.specs.Effects.{commands, tests}
 use Rattle.dh_meaning.specs.OnePhase.{any_makes, test_makes}
 use Rattle.dh_meaning.specs.Phases.{Located, phases_of}
@@ -22,7 +22,7 @@ use Rattle.dh_expressions.specs.Evaluated.{known_in}
 use Rattle.dh_expressions.specs.Shown.{is_read_term}
 use Rattle.dh_expressions.proofs.ListPlaces.{some_same}
 use Rattle.dh_commands.specs.ShownVariables.{IsSeen}
-use Rattle.dh_blocks.specs.BlockMade.{AreSoundBy, sets_made, step_of}
+use Rattle.dh_blocks.specs.BlockMade.{AreSoundBy, sets_made, step_of_block}
 use Rattle.dh_blocks.specs.NamedVariables.{IsNamedHere}
 use Rattle.dh_blocks.specs.SlotsOfScene.{placing_in}
 use Rattle.dh_blocks.specs.TestMade.{flag_made}
@@ -62,7 +62,7 @@ record TestOk (scene : Scene) (t : Term) : Type 0 where
   site : Site
   ok : EachAccess (AccessOk scene) (term_events site t)
 
-test_ok : (scene : Scene) (a : Action) (r : source.Around) (t : Term) → test_of (form_of a) ≡ Some t → EachAccess (AccessOk scene) (events r a) → TestOk scene t
+test_ok : (scene : Scene) (a : Action) (r : source.Around) (t : Term) → test_of (action_form_of a) ≡ Some t → EachAccess (AccessOk scene) (events r a) → TestOk scene t
 test_ok scene (action id place (decides test chosen other)) r t is ok =
     subst (λ (q : Term). TestOk scene q) (some_same test t is)
     (record { site = site_of r id; ok = each_front (AccessOk scene) (term_events (site_of r id) test) (events (in_arm r id true) chosen ++ other_events (in_arm r id false) other) ok })
@@ -89,10 +89,10 @@ module _ (scene : Scene) (count : ℕ) (plan : PlainPlan) (final : Made) (h : Is
         (straight_run (known_in scene) (phases_of (program_seen scene.program.now)) [] (loops_of rounds) s.located s.placed))
 
     module _ (registers : List ℕ) (memories : List (List ℕ)) (turns : InTurns registers rounds) where
-      each_keeps : (touched : ℕ → Bool) (ls : List Located) → AreSoundBy touched scene s.made.around plan rounds ls → AllStand scene ls → AllByRecursion (IsBehindViews (program_seen scene.program.now)) ls → CommandsKeep (step_of plan block registers memories) scene s.made.around.levels.now ls
+      each_keeps : (touched : ℕ → Bool) (ls : List Located) → AreSoundBy touched scene s.made.around plan rounds ls → AllStand scene ls → AllByRecursion (IsBehindViews (program_seen scene.program.now)) ls → CommandsKeep (step_of_block plan block registers memories) scene s.made.around.levels.now ls
       each_keeps touched [] sound stands behind = tt
       each_keeps touched (c ∷ ls) sound stands behind = (
-        command_keeps (step_of plan block registers memories) scene s.made.around.levels.now plan.table (λ r k. IsNamedHere scene s.made.around.levels.now plan.registers rounds touched r k)
+        command_keeps (step_of_block plan block registers memories) scene s.made.around.levels.now plan.table (λ r k. IsNamedHere scene s.made.around.levels.now plan.registers rounds touched r k)
             (names_turn scene plan block registers memories rounds s.made.around.levels.now s.made.round.paths told_here.tells told_here.told s.made.round.levels.within (loops_have_copies (program_seen scene.program.now) h.ready.indices) turns touched)
             (seen_so scene s.made.around.levels.now plan.registers rounds touched) h.table h.ready (table scene count plan final h) (sym (known_here scene h.ways)) h.views
             (IsSeen scene s.made.around.levels.now) (λ e seen. seen) c.command c.around behind.0.0 behind.0.1.0 behind.0.1.1.1 sound.0 (command_ok scene h.ready (table scene count plan final h) (sym (known_here scene h.ways)) c stands.0),
@@ -124,7 +124,7 @@ module _ (scene : Scene) (count : ℕ) (plan : PlainPlan) (final : Made) (h : Is
           stands = pair.1;
           along = straight_along scene count plan final h rounds cs block s counting;
           keeps = λ registers memories fit held turns.
-              both_all (λ (c : Located). CommandKeeps (step_of plan block registers memories) scene s.made.around.levels.now c.command) k.of.done k.of.folds
+              both_all (λ (c : Located). CommandKeeps (step_of_block plan block registers memories) scene s.made.around.levels.now c.command) k.of.done k.of.folds
               (each_keeps registers memories turns _ k.of.done k.sound.first (first_all (λ (c : Located). StandsAmong 0 (trace (program_seen scene.program.now)) c) k.of.done k.of.folds all) (first_all (IsBehindViews (program_seen scene.program.now)) k.of.done k.of.folds k.behind))
               (each_keeps registers memories turns _ k.of.folds k.sound.then_folds (then_all (λ (c : Located). StandsAmong 0 (trace (program_seen scene.program.now)) c) k.of.done k.of.folds all) (then_all (IsBehindViews (program_seen scene.program.now)) k.of.done k.of.folds k.behind));
         }
@@ -138,10 +138,10 @@ module _ (scene : Scene) (count : ℕ) (plan : PlainPlan) (final : Made) (h : Is
         (run_here scene h.ways (loops_of rounds) (tests (core_test (known_in scene) s.tested))
         (test_run (known_in scene) (phases_of (program_seen scene.program.now)) [] (loops_of rounds) s.tested s.placed))
 
-    test_keeps : (registers : List ℕ) (memories : List (List ℕ)) → InTurns registers rounds → TermKeeps (step_of plan block registers memories) scene s.made.around.levels.now (λ e. ⊥) s.term
+    test_keeps : (registers : List ℕ) (memories : List (List ℕ)) → InTurns registers rounds → TermKeeps (step_of_block plan block registers memories) scene s.made.around.levels.now (λ e. ⊥) s.term
     test_keeps registers memories turns =
         let ok = test_ok scene s.tested.command s.tested.around s.term s.term_is (command_ok scene h.ready (table scene count plan final h) (sym (known_here scene h.ways)) s.tested (test_stand scene count plan final h rounds test flag block s counting)) in
-        term_keeps (step_of plan block registers memories) scene s.made.around.levels.now plan.table (λ r k. IsNamedHere scene s.made.around.levels.now plan.registers rounds (λ entity. false) r k)
+        term_keeps (step_of_block plan block registers memories) scene s.made.around.levels.now plan.table (λ r k. IsNamedHere scene s.made.around.levels.now plan.registers rounds (λ entity. false) r k)
         (names_turn scene plan block registers memories rounds s.made.around.levels.now s.made.round.paths test_told.tells test_told.told s.made.round.levels.within (loops_have_copies (program_seen scene.program.now) h.ready.indices) turns (λ entity. false))
         (seen_so scene s.made.around.levels.now plan.registers rounds (λ entity. false)) h.table h.ready (table scene count plan final h) (sym (known_here scene h.ways)) h.views
         (λ e. ⊥) ok.site s.term (test_sound scene count plan final h rounds test flag block s counting).sound.sound (all_free scene (λ e. ⊥) (none_free scene) s.term) ok.ok

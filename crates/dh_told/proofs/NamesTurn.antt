@@ -21,7 +21,7 @@ use Rattle.dh_expressions.specs.declared.scenes.Scene.{Scene}
 use Rattle.dh_expressions.specs.Evaluated.{counter_of}
 use Rattle.dh_expressions.specs.ReachedBanks.{level_with}
 use Rattle.dh_expressions.proofs.ListPlaces.{some_same}
-use Rattle.dh_blocks.specs.BlockMade.{step_of}
+use Rattle.dh_blocks.specs.BlockMade.{step_of_block}
 use Rattle.dh_blocks.specs.NamedVariables.{IsNamedHere, IsOfRound}
 use Rattle.dh_gathering.specs.MadeBlocks.{AreWithin}
 use Rattle.dh_typed_blocks.specs.ScenesTold.{AreRoundsTold, TellsScene}
@@ -45,8 +45,8 @@ counter_has P (x ∷ cs) entity c h at = by (same_entity x.entity entity) at (λ
 module _ (scene : Scene) (plan : PlainPlan) (block : ℕ) (registers : List ℕ) (memories : List (List ℕ)) (rounds : List Round) (levels : List Level) (paths : ℕ)
     (tells : TellsScene scene) (told : AreRoundsTold scene plan.registers rounds) (within : AreWithin [] 1 rounds levels paths) (copies : AllByRecursion HasCopy (counters_of (program_seen scene.program.now))) (turns : InTurns registers rounds) where
   of_round : (touched : ℕ → Bool) (r : Ref) (k : Kind) → IsOfRound scene plan.registers rounds touched r k → (c : Counter) → counter_of scene (entity_number r.entity) ≡ Some c
-      → CounterTurns (step_of plan block registers memories) c (held_at scene.held.now (entity_number r.entity)) levels
-  of_round touched r k h c counted = subst (λ (d : Counter). CounterTurns (step_of plan block registers memories) d (held_at scene.held.now (entity_number r.entity)) levels) (some_same h.counter c (sym h.counted ∙ counted)) own
+      → CounterTurns (step_of_block plan block registers memories) c (held_at scene.held.now (entity_number r.entity)) levels
+  of_round touched r k h c counted = subst (λ (d : Counter). CounterTurns (step_of_block plan block registers memories) d (held_at scene.held.now (entity_number r.entity)) levels) (some_same h.counter c (sym h.counted ∙ counted)) own
     where
       factor_is : (b : Bool) → nat_lt 1 h.counter.factor ≡ b → nat_lt 1 h.round.loop.factor ≡ b
       factor_is b e = ap (λ (n : ℕ). nat_lt 1 n) h.factor ∙ e
@@ -54,7 +54,7 @@ module _ (scene : Scene) (plan : PlainPlan) (block : ℕ) (registers : List ℕ)
       iterator_is : h.counter.entity ≡ Some h.round.loop.iterator
       iterator_is = counter_entity (counters_of (program_seen scene.program.now)) (Some (entity_number r.entity)) h.counter h.counted ∙ ap (λ (o : Option ℕ). Some (entity_number o)) h.is.entity
 
-      own : CounterTurns (step_of plan block registers memories) h.counter (held_at scene.held.now (entity_number r.entity)) levels
+      own : CounterTurns (step_of_block plan block registers memories) h.counter (held_at scene.held.now (entity_number r.entity)) levels
       own = record {
         width = h.width;
         counter = ap (λ (n : ℕ). kind_at plan.registers n) h.register_is ∙ h.kind_is;
@@ -70,7 +70,7 @@ module _ (scene : Scene) (plan : PlainPlan) (block : ℕ) (registers : List ℕ)
             (l.0, (ap (λ (o : Option ℕ). slice_get levels (level_with levels o)) iterator_is ∙ l.1.0, l.1.1 ∙ h.factor));
       }
 
-  pub names_turn : (touched : ℕ → Bool) (r : Ref) (k : Kind) → IsNamedHere scene levels plan.registers rounds touched r k → NameTurns (step_of plan block registers memories) scene levels r
+  pub names_turn : (touched : ℕ → Bool) (r : Ref) (k : Kind) → IsNamedHere scene levels plan.registers rounds touched r k → NameTurns (step_of_block plan block registers memories) scene levels r
   names_turn touched r k (inl h) = record {
     entity = entity_number r.entity;
     resolved = h.is;

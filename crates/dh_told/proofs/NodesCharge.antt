@@ -20,7 +20,7 @@ use Rattle.dh_value.specs.declared.operators.Op.TheVariants.{Both}
 use Rattle.dh_plan.specs.Correspondence.{Round}
 use Rattle.dh_plan.specs.PlainPlans.{PlainPlan, operations_in}
 use Rattle.dh_plan.specs.SoundPlans.{IsOneOf, blocks_of, use_in}
-use Rattle.dh_sound.specs.LoopsMatch.{EachMatches, unrolled}
+use Rattle.dh_sound.specs.LoopsMatch.{EachMatches, unrolled_loops}
 use Rattle.dh_sound.specs.PhaseFacts.{HasStraight, HasTest, StandsAmong}
 use Rattle.dh_sound.specs.ToldEvents.{access_at}
 use Rattle.dh_sound.proofs.LocatedSites.{straight_loops, test_stands_there}
@@ -34,7 +34,7 @@ use Rattle.dh_expressions.specs.declared.scenes.Around.{Around}
 use Rattle.dh_expressions.specs.declared.scenes.Scene.{Scene}
 use Rattle.dh_expressions.specs.Evaluated.{known_in}
 use Rattle.dh_expressions.specs.Shown.{is_read_term}
-use Rattle.dh_formed.specs.Formed.{Site}
+use Rattle.dh_formed.specs.Formed.{BlockSite}
 use Rattle.dh_laid.specs.BlockSites.{block_sites, test_sites}
 use Rattle.dh_laid.specs.LaidNumbers.{StoresReach}
 use Rattle.dh_laid.specs.LaidQuiet.{StandsIn}
@@ -111,7 +111,7 @@ module _ (scene : Scene) (final : Made) (plan : PlainPlan) (is : IsMadeOf scene 
     abbrev ls : List Located
     ls = b.located
 
-    abbrev sites : ℕ → Option Site
+    abbrev sites : ℕ → Option BlockSite
     sites = block_sites scene b.made.around b.located b.made.before b.made.between b.made.made
 
     abbrev made_here : ℕ → Truth
@@ -141,15 +141,15 @@ module _ (scene : Scene) (final : Made) (plan : PlainPlan) (is : IsMadeOf scene 
     below : (k : ℕ) → any_makes k ls ≡ true → k < length (accesses_in (trace p))
     below k e = any_below (trace p) ls k stand e
 
-    matched : EachInside (known_in scene) (unrolled (loops_round rounds)) ls
+    matched : EachInside (known_in scene) (unrolled_loops (loops_round rounds)) ls
     matched = straight_inside (known_in scene) [] (phases_of p) (loops_round rounds) ls (body_inside scene final plan is) b.placed
 
     loops : (number : ℕ) (a : SourceAccess) → any_makes number ls ≡ true → access_at p number ≡ Some a → AreLevelsOf b.made.around.levels.now a.site.loops
     loops number a made at =
         let c = maker number ls made in
         levels_of (known_in scene) rounds b.made.around.levels.now b.made.round.paths a.site.loops b.made.round.levels.within
-        (subst (λ (l : List Counter). EachMatches (known_in scene) (unrolled (loops_round rounds)) l) (sym (straight_loops number a p at ls c.0 found c.1.0 c.1.1))
-        (inside_of (known_in scene) (unrolled (loops_round rounds)) ls c.0 matched c.1.0))
+        (subst (λ (l : List Counter). EachMatches (known_in scene) (unrolled_loops (loops_round rounds)) l) (sym (straight_loops number a p at ls c.0 found c.1.0 c.1.1))
+        (inside_of (known_in scene) (unrolled_loops (loops_round rounds)) ls c.0 matched c.1.0))
 
     untouched : HaveNoOperations sites b.made.before.accesses
     untouched = record {
@@ -169,7 +169,7 @@ module _ (scene : Scene) (final : Made) (plan : PlainPlan) (is : IsMadeOf scene 
         (record { more = settings b.made.sets.sets; adds = b.made.sets.operations; unused = sets_unused b.made.sets.sets })
 
   module _ (rounds : List Round) (test : CoreTerm) (flag block : ℕ) (b : IsTestBlock scene final rounds test flag block) where
-    abbrev own_sites : ℕ → Option Site
+    abbrev own_sites : ℕ → Option BlockSite
     own_sites = test_sites scene b.made.around b.tested.first b.term
 
     abbrev tested_here : ℕ → Truth
@@ -193,7 +193,7 @@ module _ (scene : Scene) (final : Made) (plan : PlainPlan) (is : IsMadeOf scene 
     test_loops : (number : ℕ) (a : SourceAccess) → test_makes number b.tested ≡ true → access_at p number ≡ Some a → AreLevelsOf b.made.around.levels.now a.site.loops
     test_loops number a made at =
         levels_of (known_in scene) rounds b.made.around.levels.now b.made.round.paths a.site.loops b.made.round.levels.within
-        (subst (λ (l : List Counter). EachMatches (known_in scene) (unrolled (loops_round rounds)) l) (sym (ap (λ (s : source.Site). s.loops) (test_stands_there number a p at b.tested test_found made)))
+        (subst (λ (l : List Counter). EachMatches (known_in scene) (unrolled_loops (loops_round rounds)) l) (sym (ap (λ (s : source.Site). s.loops) (test_stands_there number a p at b.tested test_found made)))
         (test_inside (known_in scene) [] (phases_of p) (loops_round rounds) b.tested (body_inside scene final plan is) b.placed))
 
     test_untouched : HaveNoOperations own_sites b.made.before.accesses

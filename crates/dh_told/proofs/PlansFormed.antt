@@ -40,7 +40,7 @@ use Rattle.dh_expressions.proofs.ListPlaces.{place_within}
 use Rattle.dh_blocks.specs.SlotsOfScene.{placing_in, slots_in}
 use Rattle.dh_gathering.specs.declared.blocks.Made.{Made}
 use Rattle.dh_gathering.specs.LoopCounters.{AreCounting, HasCounter, IsCounting, LoopsCount, LoopsCountIn, loops_of}
-use Rattle.dh_gathering.specs.MadeBlocks.{IsFlagOf, IsStraightBlock, IsTestBlock, counter_in, made_tie}
+use Rattle.dh_gathering.specs.MadeBlocks.{IsFlagOf, IsStraightBlock, IsTestBlock, counter_register, made_tie}
 use Rattle.dh_gathering.specs.Registers.{IsRegisterKind, first_among}
 use Rattle.dh_gathering.proofs.CountersWide.{counters_are, countings_are}
 use Rattle.dh_gathering.proofs.KindsOfRegisters.{first_at, first_before}
@@ -63,13 +63,13 @@ use Rattle.dh_told.proofs.VariablesKept.{holds_own, kind_there}
 -- The counter of a loop.
 
 module _ (scene : Scene) (count : ℕ) (registers : List Kind) (order : AreHeldInOrder scene count) (kinds : HaveTheirKinds scene count registers) where
-  counter_low : (loop : Turning) → IsCounting scene (placing_in scene) loop → counter_in scene loop < first_among scene.held.now count (suc loop.iterator)
+  counter_low : (loop : Turning) → IsCounting scene (placing_in scene) loop → counter_register scene loop < first_among scene.held.now count (suc loop.iterator)
   counter_low loop c = first_before (all_declarations_of (program_seen scene.program.now)) (all_entities_of (program_seen scene.program.now)) scene.held.now count loop.iterator order.held order.count_is c.there c.copies
 
   has_counter : (loop : Turning) → IsCounting scene (placing_in scene) loop → HasCounter scene registers loop
   has_counter loop c =
       let first = first_at scene.held.now count loop.iterator c.there in
-      let k = kinds loop.iterator (counter_in scene loop) c.there (low (counter_in scene loop) (first_among scene.held.now count loop.iterator) first) (counter_low loop c) in
+      let k = kinds loop.iterator (counter_register scene loop) c.there (low (counter_register scene loop) (first_among scene.held.now count loop.iterator) first) (counter_low loop c) in
       let is = subst (λ (o : Option Counter). IsRegisterKind o (held_at scene.held.now loop.iterator).kind k.0) c.counted k.1.1 in
       record {
         width = is.0;
@@ -168,7 +168,7 @@ module _ (scene : Scene) (count : ℕ) (plan : PlainPlan) (final : Made) (h : Is
       by register (inl r) = inl (r.entity, (r.path, r.slot))
       by register (inr e) = inr (behind register e)
 
-  loop_is : (rounds : List Round) (loop : Turning) (counter turns : ℕ) → IsCounting scene (placing_in scene) loop → counter ≡ counter_in scene loop → IsLoopRegister (slots_in scene) rounds loop counter
+  loop_is : (rounds : List Round) (loop : Turning) (counter turns : ℕ) → IsCounting scene (placing_in scene) loop → counter ≡ counter_register scene loop → IsLoopRegister (slots_in scene) rounds loop counter
       → IsToldLoop (record { counter = counter; turns = turns })
   loop_is rounds loop counter turns c is l = record {
     apart = l.counter_apart;

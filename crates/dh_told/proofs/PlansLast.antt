@@ -14,7 +14,7 @@ use Rattle.dh_plan.specs.Correspondence.{Round}
 use Rattle.dh_plan.specs.PlainPlans.{PlainPlan}
 use Rattle.dh_expressions.specs.declared.scenes.Scene.{Scene}
 use Rattle.dh_expressions.specs.Evaluated.{known_in}
-use Rattle.dh_formed.specs.Formed.{Site}
+use Rattle.dh_formed.specs.Formed.{BlockSite}
 use Rattle.dh_formed.specs.WholeBlocks.{block_of}
 use Rattle.dh_commands.specs.ShownVariables.{IsSeen}
 use Rattle.dh_blocks.specs.BlockMade.{AreSoundBy}
@@ -41,7 +41,7 @@ module _ (scene : Scene) (count : ℕ) (plan : PlainPlan) (final : Made) (h : Is
     abbrev IsTypedHere : Located → Type 0
     IsTypedHere c = ActionTyped (known_in scene) (table_of (program_seen scene.program.now)) c.command
 
-    abbrev sites : (number : ℕ) → Option Site
+    abbrev sites : (number : ℕ) → Option BlockSite
     sites number = block_sites scene s.made.around s.located s.made.before s.made.between s.made.made number
 
     abbrev Fits : Located → Type 0

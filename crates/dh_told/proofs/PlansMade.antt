@@ -34,7 +34,7 @@ use Rattle.dh_gathering.specs.Gathered.{HasNodes}
 use Rattle.dh_gathering.specs.MadeBlocks.{made_tie}
 use Rattle.dh_gathering.specs.NamedOnce.{listed}
 use Rattle.dh_gathering.specs.ProgramMade.{IsPhased}
-use Rattle.dh_gathering.specs.Registers.{HasKind}
+use Rattle.dh_gathering.specs.Registers.{HasRegisterKind}
 use Rattle.dh_typed_blocks.proofs.KnownHere.{known_here}
 use Rattle.dh_typed_blocks.proofs.MemoriesFew.{ready_few}
 use Rattle.dh_charged.specs.MetAccesses.{PlanMeets}
@@ -87,7 +87,7 @@ module _ (scene : Scene) (count : ℕ) (phased : Phased) (plan : PlainPlan) (ask
 
   pub held : HoldsVariables scene plan count
   held = scenes_hold scene plan count asked.ready in_order put.views made.scopes put.table
-      (λ entity register there from below. subst (λ (ks : List Kind). HasKind p scene.held.now ks entity register) (sym put.registers) (of.kinds entity register there from below))
+      (λ entity register there from below. subst (λ (ks : List Kind). HasRegisterKind p scene.held.now ks entity register) (sym put.registers) (of.kinds entity register there from below))
 
   pub nodes : AreNodesOf (made_tie scene of.final) [] (core_of p).phases plan.body
   nodes = subst (λ (ns : Nodes). AreNodesOf (made_tie scene of.final) [] (core_of p).phases ns) (sym put.body)
@@ -136,7 +136,7 @@ module _ (scene : Scene) (count : ℕ) (phased : Phased) (plan : PlainPlan) (ask
   }
 
   kinds : HaveTheirKinds scene count plan.registers
-  kinds = λ entity register there from below. subst (λ (ks : List Kind). HasKind p scene.held.now ks entity register) (sym put.registers) (of.kinds entity register there from below)
+  kinds = λ entity register there from below. subst (λ (ks : List Kind). HasRegisterKind p scene.held.now ks entity register) (sym put.registers) (of.kinds entity register there from below)
 
   -- the blocks, as what is told of the program makes them
   of_ready : IsOfReady scene count plan of.final

@@ -11,7 +11,7 @@ use Rattle.dh_lengths.specs.SharedReads.{TellsShares, share_told}
 use Rattle.dh_sound.proofs.EventCounts.{events_counted}
 use Rattle.dh_expressions.specs.declared.scenes.Around.{Around}
 use Rattle.dh_expressions.specs.declared.scenes.Scene.{Scene}
-use Rattle.dh_formed.specs.Formed.{Site}
+use Rattle.dh_formed.specs.Formed.{BlockSite}
 use Rattle.dh_used.specs.SourceSites.{AreSited}
 use Rattle.dh_used.proofs.SharedReads.{IsShared, shared_before, shared_there}
 use Rattle.dh_reached.specs.ReachedBlocks.{ReadBy}
@@ -27,7 +27,7 @@ pub first_true : (a b : Bool) → (a && b) ≡ true → a ≡ true
 first_true true b e = refl
 first_true false b e = e
 
-module _ (scene : Scene) (tells : TellsShares (program_seen scene.program.now) scene.shares.now) (around : Around) (makes : ℕ → Bool) (sites : ℕ → Option Site) (sited : AreSited scene around makes sites) where
+module _ (scene : Scene) (tells : TellsShares (program_seen scene.program.now) scene.shares.now) (around : Around) (makes : ℕ → Bool) (sites : ℕ → Option BlockSite) (sited : AreSited scene around makes sites) where
   pub shares_read : ((k : ℕ) → makes k ≡ true → k < length (accesses_in (trace (program_seen scene.program.now)))) → ((j k : ℕ) → in_one_phase (program_seen scene.program.now) j k ≡ true → makes k ≡ true → makes j ≡ true)
       → BlockShares (ReadBy (reads_in scene makes)) scene sites
   shares_read below one_phase number s at = record {

@@ -11,10 +11,10 @@ use Rattle.dh_tree.specs.Counters.{counter_in, counters_of}
 use Rattle.dh_tree.specs.Seen.{program_seen}
 use Rattle.dh_code.specs.declared.places.Held.{Held}
 use Rattle.dh_meaning.specs.Ways.{all_entities_of}
-use Rattle.dh_code.specs.Declarations.{Declaration, all_declarations_of, all_held, declaration_in, factors_of}
+use Rattle.dh_code.specs.Declarations.{Declaration, all_declarations_of, all_held, declaration_in, declared_factors}
 use Rattle.dh_code.specs.Ranks.{copies_in}
 use Rattle.dh_code.specs.Slots.{held_at}
-use Rattle.dh_gathering.specs.Registers.{AreSuccessive, HasKind, IsRegisterKind, first_among}
+use Rattle.dh_gathering.specs.Registers.{AreSuccessive, HasRegisterKind, IsRegisterKind, first_among}
 use Rattle.dh_told.specs.SizedRegisters.{RegistersAreSized}
 use Rattle.dh_told.proofs.VariablesSized.{variables_are_sized}
 
@@ -47,7 +47,7 @@ all_behind (h ∷ held) n = all_behind held n
 
 held_long : (ds : List Declaration) (count from n : ℕ) → length (all_held ds count from n) ≡ n
 held_long ds count from zero = refl
-held_long ds count from (suc n) = ap suc (held_long ds (count + copies_in (factors_of (declaration_in ds from))) (suc from) n)
+held_long ds count from (suc n) = ap suc (held_long ds (count + copies_in (declared_factors (declaration_in ds from))) (suc from) n)
 
 -- by the places of a list
 all_at : (P : Kind → Type 0) (xs : List Kind) → ((i : ℕ) (k : Kind) → slice_get xs i ≡ Some k → P k) → AllByRecursion P xs
@@ -73,7 +73,7 @@ registers_are_sized scene count body phased ready order ways successive made = a
 
     variable : (i : ℕ) (k : Kind) → slice_get phased.registers i ≡ Some k → (e : ℕ) → IsOwnedBy scene.held.now count i e → IsKind k
     variable i k at e own =
-        let has : HasKind (program_seen scene.program.now) scene.held.now phased.registers e i = made.kinds e i own.there own.from own.to in
+        let has : HasRegisterKind (program_seen scene.program.now) scene.held.now phased.registers e i = made.kinds e i own.there own.from own.to in
         subst IsKind (ap (kind_or k) (sym has.1.0 ∙ at)) (by_counter e has.0 own.there (counter_in (counters_of (program_seen scene.program.now)) (Some e)) refl has.1.1)
 
     by : (i : ℕ) (k : Kind) → slice_get phased.registers i ≡ Some k → (i < count) ⊎ (count ≤ i) → IsKind k

@@ -28,7 +28,7 @@ use Rattle.dh_blocks.specs.SlotsOfScene.{placing_in}
 use Rattle.dh_typed_blocks.specs.ScenesTold.{AreRoundsTold}
 use Rattle.dh_typed_blocks.specs.SoundBlocks.{loops_of}
 use Rattle.dh_gathering.specs.LoopCounters.{AreCounting, IsCounting}
-use Rattle.dh_gathering.specs.MadeBlocks.{counter_in}
+use Rattle.dh_gathering.specs.MadeBlocks.{counter_register}
 use Rattle.dh_gathering.specs.Registers.{IsRegisterKind}
 use Rattle.dh_gathering.proofs.KindsOfRegisters.{first_at, first_before}
 use Rattle.dh_told.specs.ScenesKnown.{AreHeldInOrder, HaveTheirKinds}
@@ -73,9 +73,9 @@ depth_at p [] index r all e = absurd cc
 depth_at p (x ∷ rounds) zero r all e = subst (λ (y : Round). HasDepth p y.loop) (ap (λ (o : Option Round). some_or x o) e) all.0
 depth_at p (x ∷ rounds) (suc index) r all e = depth_at p rounds index r all.1 e
 
-counting_at : (scene : Scene) (p : Placing) (rounds : List Round) (index : ℕ) (r : Round) → AreCounting scene p rounds → slice_get rounds index ≡ Some r → IsCounting scene p r.loop × (r.counter ≡ counter_in scene r.loop)
+counting_at : (scene : Scene) (p : Placing) (rounds : List Round) (index : ℕ) (r : Round) → AreCounting scene p rounds → slice_get rounds index ≡ Some r → IsCounting scene p r.loop × (r.counter ≡ counter_register scene r.loop)
 counting_at scene p [] index r all e = absurd cc
-counting_at scene p (x ∷ rounds) zero r all e = subst (λ (y : Round). IsCounting scene p y.loop × (y.counter ≡ counter_in scene y.loop)) (ap (λ (o : Option Round). some_or x o) e) all.0
+counting_at scene p (x ∷ rounds) zero r all e = subst (λ (y : Round). IsCounting scene p y.loop × (y.counter ≡ counter_register scene y.loop)) (ap (λ (o : Option Round). some_or x o) e) all.0
 counting_at scene p (x ∷ rounds) (suc index) r all e = counting_at scene p rounds index r all.1 e
 
 inside_at : (round : List Turning) (rounds : List Round) (index : ℕ) (r : Round) → HaveDepths round (loops_of rounds) → slice_get rounds index ≡ Some r → r.loop.depth ≡ length (factors (round ++ map (λ (q : Round). q.loop) (take (suc index) rounds)))
@@ -86,13 +86,13 @@ inside_at round (x ∷ rounds) (suc index) r h e =
 
 module _ (scene : Scene) (count : ℕ) (plan : PlainPlan) (order : AreHeldInOrder scene count) (kinds : HaveTheirKinds scene count plan.registers) where
   -- the counter of a loop is a register of its kind
-  counter_kind : (loop : Turning) (c : IsCounting scene (placing_in scene) loop) → (w : ℕ) × (kind_at plan.registers (counter_in scene loop) ≡ Unsigned w)
+  counter_kind : (loop : Turning) (c : IsCounting scene (placing_in scene) loop) → (w : ℕ) × (kind_at plan.registers (counter_register scene loop) ≡ Unsigned w)
   counter_kind loop c =
       let first = first_at scene.held.now count loop.iterator c.there in
-      let k = kinds loop.iterator (counter_in scene loop) c.there (low first)
+      let k = kinds loop.iterator (counter_register scene loop) c.there (low first)
       (first_before (all_declarations_of (program_seen scene.program.now)) (all_entities_of (program_seen scene.program.now)) scene.held.now count loop.iterator order.held order.count_is c.there c.copies) in
       let is = subst (λ (o : Option Counter). IsRegisterKind o (held_at scene.held.now loop.iterator).kind k.0) c.counted k.1.1 in
-      (is.0, kind_there plan.registers (counter_in scene loop) k.0 k.1.0 ∙ is.1.0)
+      (is.0, kind_there plan.registers (counter_register scene loop) k.0 k.1.0 ∙ is.1.0)
     where
       low : {a b : ℕ} → a ≡ b → b ≤ a
       low e = omega (arith, e)

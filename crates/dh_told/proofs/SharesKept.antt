@@ -18,7 +18,7 @@ use Rattle.dh_expressions.specs.declared.scenes.Around.{Around}
 use Rattle.dh_expressions.specs.declared.scenes.Scene.{Scene}
 use Rattle.dh_expressions.specs.Evaluated.{known_in}
 use Rattle.dh_expressions.proofs.ListPlaces.{there}
-use Rattle.dh_formed.specs.Formed.{Site}
+use Rattle.dh_formed.specs.Formed.{BlockSite}
 use Rattle.dh_formed.specs.WholeBlocks.{block_of}
 use Rattle.dh_typed_laid.specs.SuitingBlocks.{KeepsShares}
 use Rattle.dh_used.specs.SourceSites.{AreSited, IsSiteOf}
@@ -49,27 +49,27 @@ one_memory true bw false alike one arms h = cc
 one_memory false true false alike one arms h = cc
 one_memory false false false alike one arms h = cc
 
-module _ (scene : Scene) (tells : TellsShares (program_seen scene.program.now) scene.shares.now) (plan : PlainPlan) (block : ℕ) (around : Around) (makes : ℕ → Bool) (sites : ℕ → Option Site) (sited : AreSited scene around makes sites) where
+module _ (scene : Scene) (tells : TellsShares (program_seen scene.program.now) scene.shares.now) (plan : PlainPlan) (block : ℕ) (around : Around) (makes : ℕ → Bool) (sites : ℕ → Option BlockSite) (sited : AreSited scene around makes sites) where
   shared_is : (k j : ℕ) → slice_get scene.shares.now k ≡ Some (Some j) → shared (program_seen scene.program.now) k ≡ Some j
   shared_is k j e = sym (tells.all k) ∙ ap share_told e
 
-  is_made : (k : ℕ) (s : Site) → sites k ≡ Some s → makes k ≡ true
+  is_made : (k : ℕ) (s : BlockSite) → sites k ≡ Some s → makes k ≡ true
   is_made k s at = sym (sited.made k) ∙ ap is_some at
 
-  has : (j : ℕ) → makes j ≡ true → (t : Site) × (sites j ≡ Some t)
+  has : (j : ℕ) → makes j ≡ true → (t : BlockSite) × (sites j ≡ Some t)
   has j h = by (sites j) refl (sited.made j ∙ h)
     where
       never : false ≡ true → ⊥
       never q = cc
 
-      by : (o : Option Site) → sites j ≡ o → is_some (sites j) ≡ true → (t : Site) × (sites j ≡ Some t)
-      by None e h = let q : is_some {T = Site} None ≡ true = sym (ap is_some e) ∙ h in absurd (never q)
+      by : (o : Option BlockSite) → sites j ≡ o → is_some (sites j) ≡ true → (t : BlockSite) × (sites j ≡ Some t)
+      by None e h = let q : is_some {T = BlockSite} None ≡ true = sym (ap is_some e) ∙ h in absurd (never q)
       by (Some t) e h = (t, e)
 
-  memory_same : (s t : Site) (a b : SourceAccess) → IsSiteOf scene around.levels.now (length around.guards.now) s a → IsSiteOf scene around.levels.now (length around.guards.now) t b → a.entity ≡ b.entity → s.memory ≡ t.memory
+  memory_same : (s t : BlockSite) (a b : SourceAccess) → IsSiteOf scene around.levels.now (length around.guards.now) s a → IsSiteOf scene around.levels.now (length around.guards.now) t b → a.entity ≡ b.entity → s.memory ≡ t.memory
   memory_same s t a b h k e =
-      ap (λ (x : Site). x.memory) h.is
-      ∙ (ap (λ (o : Option ℕ). entity_number (number_in (known_in scene).memories (base_of (way_at (known_in scene).memories (known_in scene).ways o) o))) (h.entity_is ∙ (e ∙ sym k.entity_is)) ∙ sym (ap (λ (x : Site). x.memory) k.is))
+      ap (λ (x : BlockSite). x.memory) h.is
+      ∙ (ap (λ (o : Option ℕ). entity_number (number_in (known_in scene).memories (base_of (way_at (known_in scene).memories (known_in scene).ways o) o))) (h.entity_is ∙ (e ∙ sym k.entity_is)) ∙ sym (ap (λ (x : BlockSite). x.memory) k.is))
 
   -- the read of a number that another shares, and that it is of the same memory
   shared_same : (k j : ℕ) (b : SourceAccess) → slice_get (accesses_in (trace (program_seen scene.program.now))) k ≡ Some b → shared (program_seen scene.program.now) k ≡ Some j

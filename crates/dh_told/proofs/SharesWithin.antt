@@ -12,7 +12,7 @@ use Rattle.dh_tree.specs.Seen.{program_seen, terms}
 use Rattle.dh_tree.specs.ViewOffsets.{offsets_of}
 use Rattle.dh_meaning.specs.AccessNumbers.{accesses_of, part_accesses, plan_accesses, term_accesses, terms_accesses}
 use Rattle.dh_meaning.specs.CoreOf as core
-use Rattle.dh_meaning.specs.OnePhase.{any_makes, form_tests, groups_make, is_within, makes, other_makes, part_makes, test_makes, tests_make}
+use Rattle.dh_meaning.specs.OnePhase.{any_makes, form_tests, groups_make, is_between, makes, other_makes, part_makes, test_makes, tests_make}
 use Rattle.dh_meaning.specs.Phases.{Located, idle_phases_of, phases_of}
 use Rattle.dh_meaning.specs.Sites.{nothing_around}
 use Rattle.dh_meaning.specs.Ways.{Hidden, hidden_in}
@@ -45,13 +45,13 @@ or_split : (a b : Bool) → (a || b) ≡ true → (a ≡ true) ⊎ (b ≡ true)
 or_split true b h = inl refl
 or_split false b h = inr h
 
-within : (k n count : ℕ) → is_within k n count ≡ true → IsIn n count k
+within : (k n count : ℕ) → is_between k n count ≡ true → IsIn n count k
 within k n count h = by (and_split _ _ h)
   where
     by : (nat_le n k ≡ true) × (nat_lt k (n + count) ≡ true) → IsIn n count k
     by (low, high) = (grind (arith, nat_tests, low), grind (arith, nat_tests, high))
 
-within_is : (k n count : ℕ) → IsIn n count k → is_within k n count ≡ true
+within_is : (k n count : ℕ) → IsIn n count k → is_between k n count ≡ true
 within_is k n count (low, high) = ap (λ (t : Bool). t && nat_lt k (n + count)) (first k n low) ∙ second k (n + count) high
   where
     first : (k n : ℕ) → n ≤ k → nat_le n k ≡ true
@@ -82,9 +82,9 @@ more first t x k (low, high) = (low, omega (arith, high))
 
 -- The accesses of a test.
 
-form_of_test : (form : ActionForm) (t : Term) (n k : ℕ) → core.test_of form ≡ Some t → form_tests k n form ≡ is_within k n (term_accesses t)
-form_of_test (decides test chosen other) t n k e = let same : test ≡ t = cc in ap (λ (u : Term). is_within k n (term_accesses u)) same
-form_of_test (repeats test body) t n k e = let same : test ≡ t = cc in ap (λ (u : Term). is_within k n (term_accesses u)) same
+form_of_test : (form : ActionForm) (t : Term) (n k : ℕ) → core.test_of form ≡ Some t → form_tests k n form ≡ is_between k n (term_accesses t)
+form_of_test (decides test chosen other) t n k e = let same : test ≡ t = cc in ap (λ (u : Term). is_between k n (term_accesses u)) same
+form_of_test (repeats test body) t n k e = let same : test ≡ t = cc in ap (λ (u : Term). is_between k n (term_accesses u)) same
 form_of_test (lets name declared value) t n k e = absurd cc
 form_of_test (lets_memory name shape shape_places value) t n k e = absurd cc
 form_of_test (views name parent form) t n k e = absurd cc
@@ -95,13 +95,13 @@ form_of_test (calls function arguments) t n k e = absurd cc
 form_of_test (blocks body) t n k e = absurd cc
 form_of_test (counts iterator declared low high factor body combine combine_place) t n k e = absurd cc
 
-test_is : (a : Action) (t : Term) (n k : ℕ) → core.test_of (core.form_of a) ≡ Some t → tests_make k n a ≡ is_within k n (term_accesses t)
+test_is : (a : Action) (t : Term) (n k : ℕ) → core.test_of (core.action_form_of a) ≡ Some t → tests_make k n a ≡ is_between k n (term_accesses t)
 test_is (action id place form) t n k e = form_of_test form t n k e
 
-test_made : (tested : Located) (t : Term) → core.test_of (core.form_of tested.command) ≡ Some t → (k : ℕ) → IsIn tested.first (term_accesses t) k → test_makes k tested ≡ true
+test_made : (tested : Located) (t : Term) → core.test_of (core.action_form_of tested.command) ≡ Some t → (k : ℕ) → IsIn tested.first (term_accesses t) k → test_makes k tested ≡ true
 test_made tested t is k i = test_is tested.command t tested.first k is ∙ within_is k tested.first (term_accesses t) i
 
-test_in : (tested : Located) (t : Term) → core.test_of (core.form_of tested.command) ≡ Some t → (k : ℕ) → test_makes k tested ≡ true → IsIn tested.first (term_accesses t) k
+test_in : (tested : Located) (t : Term) → core.test_of (core.action_form_of tested.command) ≡ Some t → (k : ℕ) → test_makes k tested ≡ true → IsIn tested.first (term_accesses t) k
 test_in tested t is k m = within k tested.first (term_accesses t) (sym (test_is tested.command t tested.first k is) ∙ m)
 
 -- What is made is read, where it is no write.
@@ -129,8 +129,8 @@ module _ (known : core.Known) (P : ℕ → Type 0) (k : ℕ) (free : P k → ⊥
   stored first t (plain.term place kind (plain.converted inner to)) is p i = absurd is
 
   -- a view's offsets are read, where a variable keeps one on its way; where none does there are none
-  view_made : (hs : List Hidden) (form : ViewPlan) (first : ℕ) → KeepsAny hs (offsets_of form) → is_within k first (plan_accesses form) ≡ true → IsReadOfView hs first form k
-  view_made [] form first is m = none_within first k (within k first 0 (subst (λ (ts : List Term). is_within k first (terms_accesses (terms ts)) ≡ true) is m))
+  view_made : (hs : List Hidden) (form : ViewPlan) (first : ℕ) → KeepsAny hs (offsets_of form) → is_between k first (plan_accesses form) ≡ true → IsReadOfView hs first form k
+  view_made [] form first is m = none_within first k (within k first 0 (subst (λ (ts : List Term). is_between k first (terms_accesses (terms ts)) ≡ true) is m))
   view_made (h ∷ hs) form first is m = within k first (plan_accesses form) m
 
   mutual
@@ -141,7 +141,7 @@ module _ (known : core.Known) (P : ℕ → Type 0) (k : ℕ) (free : P k → ⊥
     read_made (action id place (stores target value)) first is w m = stored first (term_accesses value) target (target_reaches target is.0) w (within k first (term_accesses value + term_accesses target) m)
     read_made (action id place (reduces target op value)) first is w m = within k first (term_accesses value) m
     read_made (action id place (decides test chosen other)) first is w m =
-        three (or_split (is_within k first (term_accesses test)) (makes k (first + term_accesses test) chosen || other_makes k (first + term_accesses test + accesses_of chosen) other) m)
+        three (or_split (is_between k first (term_accesses test)) (makes k (first + term_accesses test) chosen || other_makes k (first + term_accesses test + accesses_of chosen) other) m)
         (λ i. within k first (term_accesses test) i) (λ i. or_split (makes k (first + term_accesses test) chosen) (other_makes k (first + term_accesses test + accesses_of chosen) other) i)
         (λ i. read_made chosen (first + term_accesses test) is.1.0 w.0 i) (λ i. read_other other (first + term_accesses test + accesses_of chosen) is.1.1 w.1 i)
     read_made (action id place (blocks body)) first is w m = read_groups body first is w m
@@ -195,7 +195,7 @@ module _ (scene : Scene) (tells : TellsShares (program_seen scene.program.now) s
         );
   }
 
-  pub test_within : (tested : Located) (t : Term) → core.test_of (core.form_of tested.command) ≡ Some t → StandsAmong 0 (trace (program_seen scene.program.now)) tested
+  pub test_within : (tested : Located) (t : Term) → core.test_of (core.action_form_of tested.command) ≡ Some t → StandsAmong 0 (trace (program_seen scene.program.now)) tested
       → HasTest (phases_of (program_seen scene.program.now) ++ idle_phases_of (program_seen scene.program.now)) tested
       → ShareWithin scene (shared (program_seen scene.program.now)) (IsIn tested.first (term_accesses t)) (IsIn tested.first (term_accesses t))
   test_within tested t is stand found = record {

@@ -27,11 +27,11 @@ use Rattle.dh_expressions.specs.Levels.{leader_number}
 use Rattle.dh_expressions.specs.Named.{banks_below, banks_reached, banks_seen, banks_told, known_in, shifts_on, way_named}
 use Rattle.dh_expressions.specs.Numbers.{narrowed}
 use Rattle.dh_expressions.specs.ReachedBanks.{bank_by}
-use Rattle.dh_expressions.specs.Standings.{Standing, standing_at}
+use Rattle.dh_expressions.specs.Standings.{AccessStanding, standing_at}
 use Rattle.dh_expressions.specs.ViewsTold.{TellsViews}
-use Rattle.dh_formed.specs.Formed.{Site}
+use Rattle.dh_formed.specs.Formed.{BlockSite}
 use Rattle.dh_commands.specs.LanesRun.{paths_counted}
-use Rattle.dh_commands.specs.ShownVariables.{factors_of}
+use Rattle.dh_commands.specs.ShownVariables.{level_factors}
 use Rattle.dh_laid.specs.LaidNumbers.{IsAccessForm}
 use Rattle.dh_blocks.specs.BlockTraced.{TellsWays}
 use Rattle.dh_charged.specs.ChargedUses.{AreLevelsOf, AreSitesAt, IsBankOf, IsReachedFrom, IsSiteAt, TellsAccess}
@@ -62,7 +62,7 @@ listed_reached set place (suc n) P h = by (is_in set n) refl (listed_reached set
     by true e all = more (banks_below set place n) all (h n e)
     by false e all = all
 
-module _ (scene : Scene) (around : Around) (counted : paths_counted around ≡ copies_in (factors_of around.levels.now)) (views : List ViewMap) (told : TellsViews scene views) (ways : TellsWays scene) (rows : RowsAreDirect (program_seen scene.program.now)) where
+module _ (scene : Scene) (around : Around) (counted : paths_counted around ≡ copies_in (level_factors around.levels.now)) (views : List ViewMap) (told : TellsViews scene views) (ways : TellsWays scene) (rows : RowsAreDirect (program_seen scene.program.now)) where
   abbrev p : Program
   p = program_seen scene.program.now
 
@@ -99,45 +99,45 @@ module _ (scene : Scene) (around : Around) (counted : paths_counted around ≡ c
   form_reaches (plain.converted inner to) named place access low = absurd access
 
   -- a site of the source
-  site_tells : (number : ℕ) (s : Site) (a : SourceAccess) → access_at p number ≡ Some a → IsSiteOf scene levels (paths_counted around) s a → AreLevelsOf levels a.site.loops → TellsAccess scene levels s a
+  site_tells : (number : ℕ) (s : BlockSite) (a : SourceAccess) → access_at p number ≡ Some a → IsSiteOf scene levels (paths_counted around) s a → AreLevelsOf levels a.site.loops → TellsAccess scene levels s a
   site_tells number s a at is loops = record {
     form = is.form;
     memory_is = memory ∙ (ap (λ (known : Known). memory_of known is.ref) ways ∙ ap (λ (e : Option ℕ). entity_number (number_in (memories_of p) (base_of (way_to p e) e))) is.entity_is);
     element_is = is.element_is;
     leader_is = λ path.
-        ap (λ (t : Site). t.standing.leader path) is.is
+        ap (λ (t : BlockSite). t.standing.leader path) is.is
         ∙ (ap (λ (ls : List Level). leader_number ls (λ level. depends_by a.writes level (entity_in is.form) (element_in is.form)) path) is.levels_are
         ∙ (ap (λ (x : Option ℕ). leader_number levels (λ level. depends_by a.writes level x (element_in is.form)) path) is.named_is
         ∙ ap (λ (e : Element). leader_number levels (λ level. depends_by a.writes level a.entity e) path) is.element_is));
     bank_is = λ path.
-        ap (λ (t : Site). t.standing.bank path) is.is
+        ap (λ (t : BlockSite). t.standing.bank path) is.is
         ∙ (ap (λ (m : ℕ). narrowed (bank_by p (way_named (known_in scene) is.form) is.around.levels.now m is.form path)) (sym memory)
         ∙ (ap (λ (ls : List Level). narrowed (bank_by p (way_named (known_in scene) is.form) ls s.memory is.form path)) is.levels_are
         ∙ ap (λ (o : Option Way). narrowed (bank_by p o levels s.memory is.form path)) way));
     places_is = λ path.
-        ap (λ (t : Site). t.standing.places path) is.is
-        ∙ (ap (λ (l : ℕ → ℕ). places_by l own.bank (λ q. groups_by is.around.levels.now (shifts_on (way_named (known_in scene) is.form)) q) path) (sym (ap (λ (t : Site). t.standing.leader) is.is))
-        ∙ (ap (λ (b : ℕ → ℕ). places_by s.standing.leader b (λ q. groups_by is.around.levels.now (shifts_on (way_named (known_in scene) is.form)) q) path) (sym (ap (λ (t : Site). t.standing.bank) is.is))
+        ap (λ (t : BlockSite). t.standing.places path) is.is
+        ∙ (ap (λ (l : ℕ → ℕ). places_by l own.bank (λ q. groups_by is.around.levels.now (shifts_on (way_named (known_in scene) is.form)) q) path) (sym (ap (λ (t : BlockSite). t.standing.leader) is.is))
+        ∙ (ap (λ (b : ℕ → ℕ). places_by s.standing.leader b (λ q. groups_by is.around.levels.now (shifts_on (way_named (known_in scene) is.form)) q) path) (sym (ap (λ (t : BlockSite). t.standing.bank) is.is))
         ∙ (ap (λ (ls : List Level). places_by s.standing.leader s.standing.bank (λ q. groups_by ls (shifts_on (way_named (known_in scene) is.form)) q) path) is.levels_are
         ∙ ap (λ (o : Option Way). places_by s.standing.leader s.standing.bank (λ q. groups_by levels (shifts_on o) q) path) way)));
     reaches = λ named place low.
-        subst (λ (t : Site). AllByRecursion (IsReachedFrom (way_to p a.entity) named place) (t.standing.reaches named place)) (sym is.is)
+        subst (λ (t : BlockSite). AllByRecursion (IsReachedFrom (way_to p a.entity) named place) (t.standing.reaches named place)) (sym is.is)
         (subst (λ (o : Option Way). IsBankOf o named → AllByRecursion (IsReachedFrom o named place) (banks_told scene is.form named place)) way (form_reaches is.form named place is.access) low);
-    long = ap (λ (t : Site). length t.standing.guards) is.is ∙ (is.long ∙ counted);
+    long = ap (λ (t : BlockSite). length t.standing.guards) is.is ∙ (is.long ∙ counted);
     loops = loops;
   }
     where
-      own : Standing
+      own : AccessStanding
       own = standing_at scene is.around (memory_of (known_in scene) is.ref) a.place is.form a.writes
 
       memory : s.memory ≡ memory_of (known_in scene) is.ref
-      memory = ap (λ (t : Site). t.memory) is.is
+      memory = ap (λ (t : BlockSite). t.memory) is.is
 
       way : way_named (known_in scene) is.form ≡ way_to p a.entity
       way = way_is number a at is.form is.access is.named_is is.element_is
 
   -- all of a block
-  pub sites_at : (makes : ℕ → Bool) (sites : ℕ → Option Site) → AreSited scene around makes sites → ((k : ℕ) → makes k ≡ true → k < length (accesses_in (trace p)))
+  pub sites_at : (makes : ℕ → Bool) (sites : ℕ → Option BlockSite) → AreSited scene around makes sites → ((k : ℕ) → makes k ≡ true → k < length (accesses_in (trace p)))
       → ((number : ℕ) (a : SourceAccess) → makes number ≡ true → access_at p number ≡ Some a → AreLevelsOf levels a.site.loops) → HaveMemories p → AreSitesAt scene levels sites
   sites_at makes sites sited below loops memories number s at = of (element_there (accesses_in (trace p)) number (below number made))
     where

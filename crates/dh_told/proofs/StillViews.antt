@@ -17,7 +17,7 @@ use Rattle.dh_viewing.proofs.ReachTold.{shared_of}
 use Rattle.dh_viewing.proofs.SplitElements.{dealt_below, share_is}
 use Rattle.dh_viewing.proofs.ViewBanks.{same_inside}
 use Rattle.dh_meaning.specs.Effects.{indices_through}
-use Rattle.dh_meaning.specs.Ways.{Step, step_of}
+use Rattle.dh_meaning.specs.Ways.{WayStep, step_of}
 use Rattle.dh_plan.specs.Blocks.{numbers_at, passages, word_at}
 use Rattle.dh_plan.specs.LiteralAccesses.{StandsStill}
 use Rattle.dh_plan.specs.Ordered.{offsets_taken}
@@ -73,16 +73,16 @@ needs_none Shift dims s = absurd s
 
 -- All on the way.
 
-abbrev pub AreStill : List Step → Type 0
-AreStill steps = AllByRecursion (λ (s : Step). StandsStill s.is.sort) steps
+abbrev pub AreStill : List WayStep → Type 0
+AreStill steps = AllByRecursion (λ (s : WayStep). StandsStill s.is.sort) steps
 
 -- where indices lead
-pub record LeadsInside (steps : List Step) (dims : List Dim) (indices offsets : List ℤ) : Type 0 where
+pub record LeadsInside (steps : List WayStep) (dims : List Dim) (indices offsets : List ℤ) : Type 0 where
   pub last : List ℤ
   pub through : indices_through steps indices offsets ≡ Some last
   pub inside : is_inside dims last ≡ true
 
-pub still_leads : (steps : List Step) (dims : List Dim) (indices offsets : List ℤ) → StepsLead steps dims → AreStill steps → is_inside (next_dims steps dims) indices ≡ true → LeadsInside steps dims indices offsets
+pub still_leads : (steps : List WayStep) (dims : List Dim) (indices offsets : List ℤ) → StepsLead steps dims → AreStill steps → is_inside (next_dims steps dims) indices ≡ true → LeadsInside steps dims indices offsets
 still_leads [] dims indices offsets leads still e = record { last = indices; through = refl; inside = e }
 still_leads (s ∷ ss) dims indices offsets leads still e =
     let inner = named_by s.is (take s.offsets offsets) indices in
@@ -98,15 +98,15 @@ still_leads (s ∷ ss) dims indices offsets leads still e =
 
 -- Their offsets.
 
-abbrev first_offsets : List Step → ℕ
+abbrev first_offsets : List WayStep → ℕ
 first_offsets [] = 0
 first_offsets (s ∷ ss) = s.offsets
 
-abbrev behind_first : List Step → List Step
+abbrev behind_first : List WayStep → List WayStep
 behind_first [] = []
 behind_first (s ∷ ss) = ss
 
-pub still_takes : (through : List Through) (steps : List Step) (first : ℕ) (values : List ℕ) → map step_of (map (λ (s : Step). s.is) steps) ≡ steps → AreStill steps → offsets_taken (steps_told through first steps values) ≡ []
+pub still_takes : (through : List Through) (steps : List WayStep) (first : ℕ) (values : List ℕ) → map step_of (map (λ (s : WayStep). s.is) steps) ≡ steps → AreStill steps → offsets_taken (steps_told through first steps values) ≡ []
 still_takes through [] first values each still = refl
 still_takes through (s ∷ ss) first values each still =
     ap (λ (n : ℕ). take n values ++ offsets_taken (steps_told through (number_of_parent through first) ss (drop s.offsets values))) none
@@ -127,7 +127,7 @@ numbers_dropped number ws zero values = refl
 numbers_dropped number ws (suc n) [] = refl
 numbers_dropped number ws (suc n) (v ∷ values) = numbers_dropped number ws n values
 
-pub steps_pass : (number : ℕ) (ws : List Word) (through : List Through) (vs : List ViewMap) (steps : List Step) (first : ℕ) (values : List ℕ) → AreViews through vs first steps
+pub steps_pass : (number : ℕ) (ws : List Word) (through : List Through) (vs : List ViewMap) (steps : List WayStep) (first : ℕ) (values : List ℕ) → AreViews through vs first steps
     → AreOfSteps vs steps (passages number ws (steps_told through first steps values)) (numbers_at number ws values)
 steps_pass number ws through vs [] first values there = tt
 steps_pass number ws through vs (s ∷ ss) first values there = (

@@ -13,7 +13,7 @@ use Rattle.dh_code.specs.declared.places.Held.{Held}
 use Rattle.dh_meaning.specs.Ways.{all_entities_of}
 use Rattle.dh_ways.specs.HiddenVariables.{hidden_variables}
 use Rattle.dh_ways.proofs.HiddenApart.{are_counted}
-use Rattle.dh_code.specs.Declarations.{Declaration, all_declarations_of, all_held, declaration_in, declarations, factors_of, hidden_declarations, placing_of, slots_counted, slots_of}
+use Rattle.dh_code.specs.Declarations.{Declaration, all_declarations_of, all_held, declaration_in, declarations, declared_factors, hidden_declarations, placing_of, slots_counted, slots_of}
 use Rattle.dh_code.specs.Placed.{AreFew}
 use Rattle.dh_code.specs.Ranks.{IsPath, copies_in, rank_of}
 use Rattle.dh_code.specs.Slots.{IsPlacing, held_at, slot_of}
@@ -38,19 +38,19 @@ begins_at ds count from (suc n) = refl
 
 -- the registers of an entity end where those of the next begin
 next_begins : (ds : List Declaration) (count from n e : ℕ) → e < n
-    → first_among (all_held ds count from n) (slots_counted ds count from n) (suc e) ≡ (held_at (all_held ds count from n) e).first + copies_in (factors_of (declaration_in ds (from + e)))
+    → first_among (all_held ds count from n) (slots_counted ds count from n) (suc e) ≡ (held_at (all_held ds count from n) e).first + copies_in (declared_factors (declaration_in ds (from + e)))
 next_begins ds count from zero e l = absurd (none e l)
   where
     none : (n : ℕ) → n < 0 → ⊥
     none n e = omega (arith, e)
 next_begins ds count from (suc n) zero l =
-    begins_at ds (count + copies_in (factors_of (declaration_in ds from))) (suc from) n ∙ ap (λ k. count + copies_in (factors_of (declaration_in ds k))) (none from)
+    begins_at ds (count + copies_in (declared_factors (declaration_in ds from))) (suc from) n ∙ ap (λ k. count + copies_in (declared_factors (declaration_in ds k))) (none from)
   where
     none : (n : ℕ) → n ≡ n + 0
     none n = omega arith
 next_begins ds count from (suc n) (suc e) l =
-    next_begins ds (count + copies_in (factors_of (declaration_in ds from))) (suc from) n e (less e n l)
-    ∙ ap (λ k. (held_at (all_held ds (count + copies_in (factors_of (declaration_in ds from))) (suc from) n) e).first + copies_in (factors_of (declaration_in ds k))) (moved from e)
+    next_begins ds (count + copies_in (declared_factors (declaration_in ds from))) (suc from) n e (less e n l)
+    ∙ ap (λ k. (held_at (all_held ds (count + copies_in (declared_factors (declaration_in ds from))) (suc from) n) e).first + copies_in (declared_factors (declaration_in ds k))) (moved from e)
   where
     less : (a b : ℕ) → suc a < suc b → a < b
     less a b e = omega (arith, e)
@@ -70,17 +70,17 @@ of_entity ds count from zero register low high = absurd (none count register low
   where
     none : (a b : ℕ) → a ≤ b → b < a → ⊥
     none a b l m = omega (arith, l, m)
-of_entity ds count from (suc n) register low high = by (cases_lt register (count + copies_in (factors_of (declaration_in ds from)))) (λ l. of_entity ds (count + copies_in (factors_of (declaration_in ds from))) (suc from) n register l high)
+of_entity ds count from (suc n) register low high = by (cases_lt register (count + copies_in (declared_factors (declaration_in ds from)))) (λ l. of_entity ds (count + copies_in (declared_factors (declaration_in ds from))) (suc from) n register l high)
   where
-    by : (register < count + copies_in (factors_of (declaration_in ds from))) ⊎ (count + copies_in (factors_of (declaration_in ds from)) ≤ register)
-        → (count + copies_in (factors_of (declaration_in ds from)) ≤ register
-        → IsOfEntity (all_held ds (count + copies_in (factors_of (declaration_in ds from))) (suc from) n) (slots_counted ds (count + copies_in (factors_of (declaration_in ds from))) (suc from) n) n register)
+    by : (register < count + copies_in (declared_factors (declaration_in ds from))) ⊎ (count + copies_in (declared_factors (declaration_in ds from)) ≤ register)
+        → (count + copies_in (declared_factors (declaration_in ds from)) ≤ register
+        → IsOfEntity (all_held ds (count + copies_in (declared_factors (declaration_in ds from))) (suc from) n) (slots_counted ds (count + copies_in (declared_factors (declaration_in ds from))) (suc from) n) n register)
         → IsOfEntity (all_held ds count from (suc n)) (slots_counted ds count from (suc n)) (suc n) register
     by (inl l) later = record {
       entity = 0;
       there = omega arith;
       from = low;
-      to = subst (λ (k : ℕ). register < k) (sym (begins_at ds (count + copies_in (factors_of (declaration_in ds from))) (suc from) n)) l;
+      to = subst (λ (k : ℕ). register < k) (sym (begins_at ds (count + copies_in (declared_factors (declaration_in ds from))) (suc from) n)) l;
     }
     by (inr l) later =
         let w = later l in
@@ -89,11 +89,11 @@ of_entity ds count from (suc n) register low high = by (cases_lt register (count
 
 -- Few copies.
 
-few_in : (ds : List Declaration) (e : ℕ) → AreFew ds → copies_in (factors_of (declaration_in ds e)) ≤ 256
+few_in : (ds : List Declaration) (e : ℕ) → AreFew ds → copies_in (declared_factors (declaration_in ds e)) ≤ 256
 few_in [] e h = omega arith
 few_in (d ∷ ds) e h = by (same_entity d.entity (Some e)) (few_in ds e h.1)
   where
-    by : (t : Bool) → copies_in (factors_of (declaration_in ds e)) ≤ 256 → copies_in (factors_of (if t then Some d else declaration_in ds e)) ≤ 256
+    by : (t : Bool) → copies_in (declared_factors (declaration_in ds e)) ≤ 256 → copies_in (declared_factors (if t then Some d else declaration_in ds e)) ≤ 256
     by true later = h.0
     by false later = later
 
@@ -101,8 +101,8 @@ few_counted : (ds : List Declaration) (count from n : ℕ) → AreFew ds → slo
 few_counted ds count from zero h = omega arith
 few_counted ds count from (suc n) h =
     let own = few_in ds from h in
-    let later = few_counted ds (count + copies_in (factors_of (declaration_in ds from))) (suc from) n h in
-    sum (copies_in (factors_of (declaration_in ds from))) (slots_counted ds (count + copies_in (factors_of (declaration_in ds from))) (suc from) n) own later
+    let later = few_counted ds (count + copies_in (declared_factors (declaration_in ds from))) (suc from) n h in
+    sum (copies_in (declared_factors (declaration_in ds from))) (slots_counted ds (count + copies_in (declared_factors (declaration_in ds from))) (suc from) n) own later
   where
     sum : (copies all : ℕ) → copies ≤ 256 → all ≤ count + copies + n * 256 → all ≤ count + suc n * 256
     sum copies all own later = omega (arith, own, later)
@@ -171,8 +171,8 @@ module _ (scene : Scene) (count : ℕ) (order : AreHeldInOrder scene count) wher
   slot_high : (e : ℕ) (path : Path) (r : ℕ) → e < length scene.held.now → IsPath ((placing_in scene).factors e) path → r ≡ slot_of (placing_in scene) e path → r < first_among scene.held.now count (suc e)
   slot_high e path r there is_path is =
       subst (λ (n : ℕ). r < n) (sym (first_is (suc e) ∙ next_begins ds 0 0 many e (subst (λ (n : ℕ). e < n) long there)))
-      (subst (λ (held : List Held). r < (held_at held e).first + copies_in (factors_of (declaration_in ds (0 + e)))) order.held
-      (subst (λ (k : ℕ). r < (held_at scene.held.now e).first + copies_in (factors_of (declaration_in ds k))) (front e)
+      (subst (λ (held : List Held). r < (held_at held e).first + copies_in (declared_factors (declaration_in ds (0 + e)))) order.held
+      (subst (λ (k : ℕ). r < (held_at scene.held.now e).first + copies_in (declared_factors (declaration_in ds k))) (front e)
       (high (held_at scene.held.now e).first (rank_of ((placing_in scene).factors e) path) r (copies_in ((placing_in scene).factors e)) is (rank_small ((placing_in scene).factors e) path is_path))))
     where
       front : (k : ℕ) → k ≡ 0 + k

@@ -17,9 +17,9 @@ use Rattle.dh_meaning.specs.Core.{Turning}
 use Rattle.dh_meaning.specs.CoreOf.{Known, entity_number, known_of, turning_of}
 use Rattle.dh_meaning.specs.Phases.{turn_count}
 use Rattle.dh_code.specs.declared.places.Held.{Held}
-use Rattle.dh_meaning.specs.Ways.{Standing, all_entities_of, ways_of}
+use Rattle.dh_meaning.specs.Ways.{ViewSite, all_entities_of, ways_of}
 use Rattle.dh_ways.specs.Seen.{led_seen}
-use Rattle.dh_code.specs.Declarations.{Declaration, all_declarations_of, all_held, declaration_in, declarations, factored, factors_inside, factors_of, form_declarations, hidden_declarations, groups_declarations, kind_declared, other_declarations, part_declarations, placing_of}
+use Rattle.dh_code.specs.Declarations.{Declaration, all_declarations_of, all_held, declaration_in, declarations, factored, factors_inside, declared_factors, form_declarations, hidden_declarations, groups_declarations, kind_declared, other_declarations, part_declarations, placing_of}
 use Rattle.dh_code.specs.Ranks.{copies_in}
 use Rattle.dh_code.specs.Slots.{Placing, held_at}
 use Rattle.dh_code.proofs.HiddenPlaced.{standings_so}
@@ -212,7 +212,7 @@ held_kind ds count from (suc n) zero l = ap (λ (m : ℕ). kind_declared (declar
     same : (m : ℕ) → m ≡ m + 0
     same m = omega arith
 held_kind ds count from (suc n) (suc e) l =
-    held_kind ds (count + copies_in (factors_of (declaration_in ds from))) (suc from) n e (less l) ∙ ap (λ (m : ℕ). kind_declared (declaration_in ds m)) (next from e)
+    held_kind ds (count + copies_in (declared_factors (declaration_in ds from))) (suc from) n e (less l) ∙ ap (λ (m : ℕ). kind_declared (declaration_in ds m)) (next from e)
   where
     less : suc e < suc n → e < n
     less g = omega (arith, g)
@@ -239,7 +239,7 @@ variables_are_sized scene count ready order ways e within none = by (declaration
     whole : AllByRecursion (λ (d : Declaration). IsInteger d.kind_is) (hidden_declarations q)
     whole =
         factored_whole (length q.entities) (factored [] q.body)
-        (subst (λ (ss : List Standing). AllWhole ss) (sym (standings_so q)) (whole_standings (known_of q) (placing_of q) q.body 0 [] fits))
+        (subst (λ (ss : List ViewSite). AllWhole ss) (sym (standings_so q)) (whole_standings (known_of q) (placing_of q) q.body 0 [] fits))
 
     front : (m : ℕ) → 0 + m ≡ m
     front m = omega arith

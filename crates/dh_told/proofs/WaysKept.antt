@@ -13,7 +13,7 @@ use Rattle.dh_tree.specs.Seen.{program_seen}
 use Rattle.dh_tree.specs.Shapes.{IsMemory, IsProgramTable}
 use Rattle.dh_meaning.specs.Bindings.{Binding, binding_in}
 use Rattle.dh_meaning.specs.CoreOf.{Known, memory_of, way_of}
-use Rattle.dh_meaning.specs.Ways.{Hidden, Step as ViewStep, Way, hidden_in, way_to}
+use Rattle.dh_meaning.specs.Ways.{Hidden, Way, hidden_in, way_to, WayStep as ViewStep}
 use Rattle.dh_plan.specs.Correspondence.{Round}
 use Rattle.dh_ways.specs.Leading.{StepsLead, next_dims}
 use Rattle.dh_sound.specs.BehindViews.{TermBehind, TermsBehind, WayBelow}
@@ -22,7 +22,7 @@ use Rattle.dh_sound.proofs.OwnVariables.{hidden_behind}
 use Rattle.dh_sound.proofs.ShiftsOnWays.{ShiftsWithin, ways_shift}
 use Rattle.dh_expressions.specs.declared.paths.Level.{Level}
 use Rattle.dh_expressions.specs.declared.scenes.Scene.{Scene}
-use Rattle.dh_expressions.specs.Drafted.{Step}
+use Rattle.dh_expressions.specs.Drafted.{BlockStep}
 use Rattle.dh_expressions.specs.Evaluated.{known_in}
 use Rattle.dh_expressions.specs.ViewsTold.{TellsViews}
 use Rattle.dh_commands.specs.ShownVariables.{IsSeen}
@@ -146,7 +146,7 @@ shifts_kept : (ss : List ViewStep) (hs : List Hidden) (deepest : ℕ) → Shifts
 shifts_kept [] hs deepest h = tt
 shifts_kept (s ∷ ss) hs deepest h = (h.0, shifts_kept ss (drop s.offsets hs) deepest h.1)
 
-module _ (x : Step) (scene : Scene) (levels : List Level) (table : List MemEntry) (Name : Ref → Kind → Type 0) (seen : (h : Hidden) → Name (kept_name h) h.kind → IsNoIterator (binding_in (known_in scene).bindings h.entity) → IsSeen scene levels h.entity)
+module _ (x : BlockStep) (scene : Scene) (levels : List Level) (table : List MemEntry) (Name : Ref → Kind → Type 0) (seen : (h : Hidden) → Name (kept_name h) h.kind → IsNoIterator (binding_in (known_in scene).bindings h.entity) → IsSeen scene levels h.entity)
     (table_is : x.start.table ≡ table_of (program_seen scene.program.now)) (ready : IsReady (program_seen scene.program.now)) (program_table : IsProgramTable (table_of (program_seen scene.program.now))) (ways : TellsWays scene) (views : TellsViews scene x.start.views) where
   hidden_kept : (Sets : ℕ → Type 0) (r : Ref) (hs : List Hidden) → AllByRecursion (λ (h : Hidden). IsSoundHidden (known_in scene) table Name r h) hs → AreFree Sets hs → AllByRecursion (HiddenKept x scene levels Sets) hs
   hidden_kept Sets r [] s free = tt

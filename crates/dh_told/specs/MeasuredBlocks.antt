@@ -19,7 +19,7 @@ use Rattle.dh_expressions.specs.declared.scenes.Around.{Around}
 use Rattle.dh_expressions.specs.declared.scenes.Scene.{Scene}
 use Rattle.dh_expressions.specs.Evaluated.{known_in}
 use Rattle.dh_expressions.specs.Shown.{kind_written}
-use Rattle.dh_formed.specs.Formed.{Block}
+use Rattle.dh_formed.specs.Formed.{FormedBlock}
 use Rattle.dh_formed.specs.WholeBlocks.{IsCut, block_of}
 use Rattle.dh_sound.specs.SimpleForms.{FoldsInJoins}
 use Rattle.dh_blocks.specs.SoundTerms.{IsSound}
@@ -35,7 +35,7 @@ use Rattle.dh_told.specs.MadeFormed.{HasRegisters}
 
 -- A command that fits its block; if there is a reducer in it, then all names in it are other variables at each path, but
 -- what it assigns to.
-pub record FitsAlone (x : Block) (scene : Scene) (around : Around) (rounds : List Round) (c : Located) : Type 0 where
+pub record FitsAlone (x : FormedBlock) (scene : Scene) (around : Around) (rounds : List Round) (c : Located) : Type 0 where
   pub fits : FitsBlock x scene around rounds c
   pub alone : FoldsInJoins c.command ⊎ ((entity : ℕ) → fits.touched entity ≡ true)
 

@@ -6,7 +6,7 @@ use Rattle.dh_tree.specs.Memories.{table_of}
 use Rattle.dh_tree.specs.PlainTrees.{Term}
 use Rattle.dh_tree.specs.Ready.{IsReady}
 use Rattle.dh_tree.specs.Seen.{program_seen}
-use Rattle.dh_meaning.specs.CoreOf.{core_commands, core_test, form_of, test_of}
+use Rattle.dh_meaning.specs.CoreOf.{core_commands, core_test, action_form_of, test_of}
 use Rattle.dh_meaning.specs.Effects.{commands, tests}
 use Rattle.dh_meaning.specs.Phases.{Located, phases_of}
 use Rattle.dh_plan.specs.Correspondence.{Round}
@@ -17,7 +17,7 @@ use Rattle.dh_expressions.specs.declared.scenes.Around.{Around}
 use Rattle.dh_expressions.specs.declared.scenes.Scene.{Scene}
 use Rattle.dh_expressions.specs.Evaluated.{known_in}
 use Rattle.dh_blocks.specs.BlockMade.{AreSoundHere}
-use Rattle.dh_blocks.specs.BlockTraced.{IsTraced, TellsShares}
+use Rattle.dh_blocks.specs.BlockTraced.{IsTraced, SceneTellsShares}
 use Rattle.dh_blocks.specs.TestMade.{IsSoundTest, IsTestTraced}
 use Rattle.dh_typed_blocks.specs.SoundBlocks.{IsBehindViews, IsPlaceTold, loops_of}
 use Rattle.dh_typed_blocks.specs.TypedTerms.{ActionTyped, IsTyped}
@@ -32,7 +32,7 @@ pub record SoundStraight (scene : Scene) (around : Around) (plan : PlainPlan) (r
   pub typed : AllByRecursion (λ (c : Located). ActionTyped (known_in scene) (table_of (program_seen scene.program.now)) c.command) (of.done ++ of.folds)
   pub sound : AreSoundHere scene around plan rounds of.done of.folds
   -- where the scene tells which read shares which
-  pub traced : TellsShares scene → IsTraced scene of.done of.folds
+  pub traced : SceneTellsShares scene → IsTraced scene of.done of.folds
 
 -- the test of a command inside these loops
 pub record SoundTest (scene : Scene) (around : Around) (plan : PlainPlan) (rounds : List Round) (tested : Located) (t : Term) : Type 0 where
@@ -40,7 +40,7 @@ pub record SoundTest (scene : Scene) (around : Around) (plan : PlainPlan) (round
   pub is : of.tested ≡ tested
   pub typed : IsTyped (known_in scene) (table_of (program_seen scene.program.now)) t
   pub sound : IsSoundTest scene around plan rounds t
-  pub traced : TellsShares scene → IsTestTraced scene tested.first t
+  pub traced : SceneTellsShares scene → IsTestTraced scene tested.first t
 
 -- so of each phase of a ready program
 abbrev pub PlacedStraightsAreSound : Type 0
@@ -51,4 +51,4 @@ PlacedStraightsAreSound =
 abbrev pub PlacedTestsAreSound : Type 0
 PlacedTestsAreSound =
     (scene : Scene) (around : Around) (plan : PlainPlan) (rounds : List Round) (tested : Located) (t : Term) → IsReady (program_seen scene.program.now) → IsPlaceTold scene around plan rounds
-    → TestOf (known_in scene) [] (phases_of (program_seen scene.program.now)) (loops_of rounds) tested → test_of (form_of tested.command) ≡ Some t → SoundTest scene around plan rounds tested t
+    → TestOf (known_in scene) [] (phases_of (program_seen scene.program.now)) (loops_of rounds) tested → test_of (action_form_of tested.command) ≡ Some t → SoundTest scene around plan rounds tested t

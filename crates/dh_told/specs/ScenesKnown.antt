@@ -15,7 +15,7 @@ use Rattle.dh_expressions.specs.Copying.{HasScopes}
 use Rattle.dh_expressions.specs.ViewsTold.{TellsViews}
 use Rattle.dh_blocks.specs.SlotsOfScene.{HoldsVariables}
 use Rattle.dh_typed_blocks.specs.ScenesTold.{TellsScene}
-use Rattle.dh_gathering.specs.Registers.{HasKind, first_among}
+use Rattle.dh_gathering.specs.Registers.{HasRegisterKind, first_among}
 
 -- the registers of variables stand one behind the other, so many
 pub record AreHeldInOrder (scene : Scene) (count : ℕ) : Type 0 where
@@ -26,7 +26,7 @@ pub record AreHeldInOrder (scene : Scene) (count : ℕ) : Type 0 where
 abbrev pub HaveTheirKinds : Scene → (count : ℕ) → List Kind → Type 0
 HaveTheirKinds scene count registers =
     (entity register : ℕ) → entity < length scene.held.now → first_among scene.held.now count entity ≤ register → register < first_among scene.held.now count (suc entity)
-    → HasKind (program_seen scene.program.now) scene.held.now registers entity register
+    → HasRegisterKind (program_seen scene.program.now) scene.held.now registers entity register
 
 abbrev pub ReadyScenesTell : Type 0
 ReadyScenesTell =

@@ -11,7 +11,7 @@ use Rattle.dh_tree.specs.declared.tables.Shape.{Shape}
 use Rattle.dh_tree.specs.declared.trees.programs.DimPlaces.{DimPlaces}
 use Rattle.dh_tree.specs.declared.trees.programs.Entity.{Entity}
 use Rattle.dh_tree.specs.declared.trees.programs.ShapePlaces.{ShapePlaces}
-use Rattle.dh_tree.specs.Indices.{Known, divides, dim_breaches, dims_breaches, shape_breaches, dim_keeps, dims_keep, shape_keeps, term_index_breaches, turns_breaches, action_index_breaches, action_form_index_breaches, other_index_breaches, actions_index_breaches, groups_index_breaches, decls_shape_breaches}
+use Rattle.dh_tree.specs.Indices.{IndexContext, divides, dim_breaches, dims_breaches, shape_breaches, dim_keeps, dims_keep, shape_keeps, term_index_breaches, turns_breaches, action_index_breaches, action_form_index_breaches, other_index_breaches, actions_index_breaches, groups_index_breaches, decls_shape_breaches}
 use Rattle.dh_tree.specs.Kinds.{when}
 use Rattle.dh_tree.specs.Memories.{Memory, outside_memory, locals, form_locals, other_locals, groups_locals, part_locals}
 use Rattle.dh_tree.specs.Placements.{is_no_memory, Context, branched, in_body, in_combine, joined_breaches, action_placement_breaches, form_placement_breaches, other_placement_breaches, actions_placement_breaches, groups_placement_breaches, decls_placement_breaches}
@@ -72,7 +72,7 @@ all_both : {A : Type 0} (P : A → Type 0) (xs ys : List A) → AllByRecursion P
 all_both P [] ys h i = i
 all_both P (x ∷ xs) ys h i = (h.0, all_both P xs ys h.1 i)
 
-module _ (known : Known) (es : List Entity) where
+module _ (known : IndexContext) (es : List Entity) where
   mutual
     pub locals_kept : (c : Context) (a : Action) → action_index_breaches known a ≡ [] → action_placement_breaches es c a ≡ [] → ActionSized a → AllByRecursion IsKeptLocal (locals a)
     locals_kept c (action id place form) i p w = form_kept c place form i p w

@@ -1,4 +1,5 @@
--- The least of breaches that are kept one after the other, while the code's lists are walked over.
+-- The least of breaches that are kept one after the other, while the code's lists are walked over. Shared by the crates
+-- above that keep the least breach of a walk.
 use Rattle.std.proofs.Common.{◌≡◌, ℕ, ◌+◌, ◌<◌, List, [], ◌∷◌, ◌++◌, length, get_or, drop, map, Option, refl, ap, sym, ◌∙◌}
 use Rattle.std.specs.Prelude.{Vec}
 use Rattle.std.specs.Global.{Global}

@@ -5,7 +5,7 @@ use Rattle.std.specs.Prelude.{Bool, true, false, if◌then◌else◌}
 use Rattle.std.specs.List.{AllByRecursion}
 use Rattle.std.specs.Str.{bytes_eq}
 use Rattle.dh_tree.specs.PlainTrees.{Declared, Defined, Program}
-use Rattle.dh_tree.specs.Scopes.{Binding, binding, entity_of, is_visible, bind, Item, memory_items, function_items, merged, items_of, after_items, body_scope}
+use Rattle.dh_tree.specs.Scopes.{ScopeEntry, binding, entity_of, is_visible, bind, Item, memory_items, function_items, merged, items_of, after_items, body_scope}
 use Rattle.dh_tree.specs.Forms.{unbuilt_functions}
 
 pub no_rest : {A : Type 0} (xs ys : List A) → xs ++ ys ≡ [] → (xs ≡ []) × (ys ≡ [])
@@ -18,26 +18,26 @@ if_none true xs y ys e = (refl, e)
 if_none false xs y ys e = absurd (cc)
 
 -- the numbers of all visible names are below a number
-abbrev Below : ℕ → List Binding → Type 0
+abbrev Below : ℕ → List ScopeEntry → Type 0
 Below n bs = AllByRecursion (λ b. b.entity < n) bs
 
 either_some : (b : Bool) (e m n : ℕ) (rest : Option ℕ) → e < n → (rest ≡ Some m → m < n) → (if b then Some e else rest) ≡ Some m → m < n
 either_some true e m n rest first others h = let same : e ≡ m = cc in omega (arith, same, first)
 either_some false e m n rest first others h = others h
 
-entity_below : (n : ℕ) (bs : List Binding) (name : List ℕ) (m : ℕ) → Below n bs → entity_of bs name ≡ Some m → m < n
+entity_below : (n : ℕ) (bs : List ScopeEntry) (name : List ℕ) (m : ℕ) → Below n bs → entity_of bs name ≡ Some m → m < n
 entity_below n [] name m h e = absurd (cc)
 entity_below n (b ∷ bs) name m h e = either_some (bytes_eq name b.name) b.entity m n (entity_of bs name) h.0 (λ rest. entity_below n bs name m h.1 rest) e
 
-chosen_below : (n : ℕ) (t : Bool) (bs cs : List Binding) → Below n bs → Below n cs → Below n (if t then bs else cs)
+chosen_below : (n : ℕ) (t : Bool) (bs cs : List ScopeEntry) → Below n bs → Below n cs → Below n (if t then bs else cs)
 chosen_below n true bs cs h k = h
 chosen_below n false bs cs h k = k
 
-one_more : (n : ℕ) (bs : List Binding) (name : List ℕ) (e : ℕ) → Below n bs → e < n → Below n (bs ++ binding name e ∷ [])
+one_more : (n : ℕ) (bs : List ScopeEntry) (name : List ℕ) (e : ℕ) → Below n bs → e < n → Below n (bs ++ binding name e ∷ [])
 one_more n [] name e h k = (k, tt)
 one_more n (b ∷ bs) name e h k = (h.0, one_more n bs name e h.1 k)
 
-after_below : (n : ℕ) (bs : List Binding) (items : List Item) → Below n bs → AllByRecursion (λ i. i.entity < n) items → Below n (after_items bs items)
+after_below : (n : ℕ) (bs : List ScopeEntry) (items : List Item) → Below n bs → AllByRecursion (λ i. i.entity < n) items → Below n (after_items bs items)
 after_below n bs [] h k = h
 after_below n bs (i ∷ items) h k =
     after_below n (bind bs i.name.name i.entity) items

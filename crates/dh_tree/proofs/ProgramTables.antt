@@ -21,13 +21,13 @@ use Rattle.dh_tree.specs.Breaches.{twice, items_breaches, functions_breaches, br
 use Rattle.dh_tree.specs.Elements.{banks_of}
 use Rattle.dh_tree.specs.Excesses.{excess_at, or_else, first_above, copies_excess, first_excess}
 use Rattle.dh_tree.specs.Forms.{unbuilt_functions, unbuilt_forms}
-use Rattle.dh_tree.specs.Indices.{divides, dim_keeps, dims_keep, known_of, decls_shape_breaches, index_breaches_of}
+use Rattle.dh_tree.specs.Indices.{divides, dim_keeps, dims_keep, index_context_of, decls_shape_breaches, index_breaches_of}
 use Rattle.dh_tree.specs.Kinds.{is_truth}
 use Rattle.dh_tree.specs.Memories.{Memory, outside_memory, locals, memories_of, entry_of, table_of}
 use Rattle.dh_tree.specs.Names.{IsName}
 use Rattle.dh_tree.specs.Placements.{has_no_dims, nothing_round, decls_placement_breaches, placement_breaches}
 use Rattle.dh_tree.specs.PlainTrees.{Declared, Defined, Program}
-use Rattle.dh_tree.specs.Scopes.{Binding, binding, entity_of, is_visible, bind, Item, memory_items, function_items, merged, items_of, first_scope, body_scope}
+use Rattle.dh_tree.specs.Scopes.{ScopeEntry, binding, entity_of, is_visible, bind, Item, memory_items, function_items, merged, items_of, first_scope, body_scope}
 use Rattle.dh_tree.specs.Shapes.{IsDim, IsShape, IsMemory, IsLocal, outside_of, HasLocalsLast, IsProgramTable}
 use Rattle.dh_tree.specs.Tables.{HasNoName, HasDistinctNames, elements_in}
 use Rattle.dh_tree.specs.Written.{IsDeclared, IsOfText}
@@ -57,7 +57,7 @@ items_are p none =
 same_name : (name : List ℕ) → bytes_eq name name ≡ true
 same_name name = (bytes_eq-Decides name name).1 refl
 
-visible_last : (bs : List Binding) (name : List ℕ) (e : ℕ) → is_visible (bs ++ binding name e ∷ []) name ≡ true
+visible_last : (bs : List ScopeEntry) (name : List ℕ) (e : ℕ) → is_visible (bs ++ binding name e ∷ []) name ≡ true
 visible_last [] name e = ap (λ t. is_some (if t then Some e else None)) (same_name name)
 visible_last (b ∷ bs) name e = either_way (bytes_eq name b.name) b.entity (entity_of (bs ++ binding name e ∷ []) name) (visible_last bs name e)
   where
@@ -65,7 +65,7 @@ visible_last (b ∷ bs) name e = either_way (bytes_eq name b.name) b.entity (ent
     either_way true n rest h = refl
     either_way false n rest h = h
 
-visible_still : (bs : List Binding) (name : List ℕ) (more : List Binding) → is_visible bs name ≡ true → is_visible (bs ++ more) name ≡ true
+visible_still : (bs : List ScopeEntry) (name : List ℕ) (more : List ScopeEntry) → is_visible bs name ≡ true → is_visible (bs ++ more) name ≡ true
 visible_still [] name more h = absurd (cc)
 visible_still (b ∷ bs) name more h = still_way (bytes_eq name b.name) b.entity (entity_of bs name) (entity_of (bs ++ more) name) (λ k. visible_still bs name more k) h
   where
@@ -73,7 +73,7 @@ visible_still (b ∷ bs) name more h = still_way (bytes_eq name b.name) b.entity
     still_way true n rest after k h = refl
     still_way false n rest after k h = k h
 
-chosen_visible : (t : Bool) (bs cs : List Binding) (name : List ℕ) → (t ≡ true → is_visible bs name ≡ true) → is_visible cs name ≡ true → is_visible (if t then bs else cs) name ≡ true
+chosen_visible : (t : Bool) (bs cs : List ScopeEntry) (name : List ℕ) → (t ≡ true → is_visible bs name ≡ true) → is_visible cs name ≡ true → is_visible (if t then bs else cs) name ≡ true
 chosen_visible true bs cs name h k = h refl
 chosen_visible false bs cs name h k = k
 
@@ -82,7 +82,7 @@ not_twice true b e = absurd (cc)
 not_twice false b e = refl
 
 -- no further memory has a name that is visible already
-no_name : (name : List ℕ) (bs : List Binding) (n : ℕ) (ds : List Declared) → is_visible bs name ≡ true → items_breaches bs (memory_items n ds) ≡ [] → HasNoName name (map outer_entry ds)
+no_name : (name : List ℕ) (bs : List ScopeEntry) (n : ℕ) (ds : List Declared) → is_visible bs name ≡ true → items_breaches bs (memory_items n ds) ≡ [] → HasNoName name (map outer_entry ds)
 no_name name bs n [] seen h = tt
 no_name name bs n (d ∷ ds) seen h =
     let split = no_rest (twice bs d.name) (items_breaches (bind bs d.name.name n) (memory_items (n + 1) ds)) h in
@@ -94,7 +94,7 @@ no_name name bs n (d ∷ ds) seen h =
     )
 
 -- the names of the memories differ
-pub distinct_names : (bs : List Binding) (n : ℕ) (ds : List Declared) → items_breaches bs (memory_items n ds) ≡ [] → HasDistinctNames (map outer_entry ds)
+pub distinct_names : (bs : List ScopeEntry) (n : ℕ) (ds : List Declared) → items_breaches bs (memory_items n ds) ≡ [] → HasDistinctNames (map outer_entry ds)
 distinct_names bs n [] h = tt
 distinct_names bs n (d ∷ ds) h =
     let split = no_rest (twice bs d.name) (items_breaches (bind bs d.name.name n) (memory_items (n + 1) ds)) h in (
@@ -212,7 +212,7 @@ outer_are (d ∷ ds) ms h = ap (λ l. outer_entry d ∷ l) (outer_are ds ms h)
 pub program_table : (p : Program) (tokens : ℕ) → IsOfText tokens p → KeepsNames p → unbuilt_forms p ≡ [] → index_breaches_of p ≡ [] → first_excess p ≡ None → placement_breaches p ≡ [] → IsProgramTable (table_of p)
 program_table p tokens text names forms indices limits places =
     let outer = decls_kept p.decls (first_none (decls_shape_breaches p.decls) _ indices) (first_none (decls_placement_breaches p.decls) _ places) text.widths.decls in
-    let inner = locals_kept (known_of p) p.entities nothing_round p.body (second_none (decls_shape_breaches p.decls) _ indices) (second_none (decls_placement_breaches p.decls) _ places) text.widths.body in
+    let inner = locals_kept (index_context_of p) p.entities nothing_round p.body (second_none (decls_shape_breaches p.decls) _ indices) (second_none (decls_placement_breaches p.decls) _ places) text.widths.body in
     let ms : List Memory = memories_of p in
     let dims = first_above limit.Dimensions (λ m. length m.shape.dims) ms in
     let banks = first_above limit.Banks (λ m. banks_of m.shape.dims) ms in

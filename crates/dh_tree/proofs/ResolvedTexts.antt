@@ -10,15 +10,15 @@ use Rattle.dh_tree.specs.declared.trees.programs.Sort.TheVariants.{Iterator}
 use Rattle.dh_tree.specs.Forms.{unbuilt, form_holds, unbuilt_functions, unbuilt_action, unbuilt_form, unbuilt_other, unbuilt_groups, unbuilt_part, unbuilt_forms}
 use Rattle.dh_tree.specs.PlainTrees.{Term, term, TermForm, number, truth_value, named, accessed, in_bank, applied, converted, Terms, no_terms, term_then, Suffixed, ViewPlan, shrinks, splits, suffixes, shifts, Action, action, ActionForm, lets, lets_memory, views, assigns, stores, reduces, calls, blocks, decides, repeats, counts, MaybeAction, no_action, one_action, Actions, no_actions, action_then, Groups, no_groups, group_then, Declared, Formal, Defined, Program}
 use Rattle.dh_tree.specs.Resolved.{resolved_term, resolved_term_form, resolved_terms, resolved_offset, resolved_plan, resolved_action, resolved_form, resolved_other, resolved_actions, resolved_groups, resolved_decls, resolved_formals, resolved_functions, resolved}
-use Rattle.dh_tree.specs.Scopes.{Binding, Scope, declare, leave, past, at_end, actions_at_end, formal_sort, body_start, after_function, first_scope, body_scope}
+use Rattle.dh_tree.specs.Scopes.{ScopeEntry, Scope, declare, leave, past, at_end, actions_at_end, formal_sort, body_start, after_function, first_scope, body_scope}
 use Rattle.dh_tree.specs.Widths.{AreSized, AreSizedIn, AreAllSized, MaybeSized, PlanSized, ActionSized, FormSized, OtherSized, ActionsSized, GroupsSized, DefinedSized, HasWidths}
 use Rattle.dh_tree.proofs.ResolvedForms.{form_steps_kept, functions_kept}
 
 mutual
-  term_sized : (bs : List Binding) (t : Term) → AreSized t → AreSized (resolved_term bs t)
+  term_sized : (bs : List ScopeEntry) (t : Term) → AreSized t → AreSized (resolved_term bs t)
   term_sized bs (term place kind form) h = form_sized bs form h
 
-  form_sized : (bs : List Binding) (f : TermForm) → AreSizedIn f → AreSizedIn (resolved_term_form bs f)
+  form_sized : (bs : List ScopeEntry) (f : TermForm) → AreSizedIn f → AreSizedIn (resolved_term_form bs f)
   form_sized bs (number negative n) h = tt
   form_sized bs (truth_value value) h = tt
   form_sized bs (named r) h = tt
@@ -27,23 +27,23 @@ mutual
   form_sized bs (applied o left right) h = (term_sized bs left h.0, term_sized bs right h.1)
   form_sized bs (converted inner to) h = (h.0, term_sized bs inner h.1)
 
-  terms_sized : (bs : List Binding) (ts : Terms) → AreAllSized ts → AreAllSized (resolved_terms bs ts)
+  terms_sized : (bs : List ScopeEntry) (ts : Terms) → AreAllSized ts → AreAllSized (resolved_terms bs ts)
   terms_sized bs no_terms h = tt
   terms_sized bs (term_then t rest) h = (term_sized bs t h.0, terms_sized bs rest h.1)
 
-maybe_sized : (bs : List Binding) (t : Option Term) → MaybeSized t → MaybeSized (option_map (resolved_term bs) t)
+maybe_sized : (bs : List ScopeEntry) (t : Option Term) → MaybeSized t → MaybeSized (option_map (resolved_term bs) t)
 maybe_sized bs None h = tt
 maybe_sized bs (Some t) h = term_sized bs t h
 
-listed_sized : (bs : List Binding) (ts : List Term) → AllByRecursion AreSized ts → AllByRecursion AreSized (map (resolved_term bs) ts)
+listed_sized : (bs : List ScopeEntry) (ts : List Term) → AllByRecursion AreSized ts → AllByRecursion AreSized (map (resolved_term bs) ts)
 listed_sized bs [] h = tt
 listed_sized bs (t ∷ ts) h = (term_sized bs t h.0, listed_sized bs ts h.1)
 
-offsets_sized : (bs : List Binding) (ss : List Suffixed) → AllByRecursion (λ (s : Suffixed). AreSized s.offset) ss → AllByRecursion (λ (s : Suffixed). AreSized s.offset) (map (resolved_offset bs) ss)
+offsets_sized : (bs : List ScopeEntry) (ss : List Suffixed) → AllByRecursion (λ (s : Suffixed). AreSized s.offset) ss → AllByRecursion (λ (s : Suffixed). AreSized s.offset) (map (resolved_offset bs) ss)
 offsets_sized bs [] h = tt
 offsets_sized bs (s ∷ ss) h = (term_sized bs s.offset h.0, offsets_sized bs ss h.1)
 
-plan_sized : (bs : List Binding) (v : ViewPlan) → PlanSized v → PlanSized (resolved_plan bs v)
+plan_sized : (bs : List ScopeEntry) (v : ViewPlan) → PlanSized v → PlanSized (resolved_plan bs v)
 plan_sized bs (shrinks by_ by_place) h = tt
 plan_sized bs (splits by_ by_place) h = tt
 plan_sized bs (suffixes by_ by_place) h = offsets_sized bs by_ h

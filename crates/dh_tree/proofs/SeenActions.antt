@@ -15,7 +15,7 @@ use Rattle.dh_tree.specs.declared.trees.commands.LoopHeader.{LoopHeader}
 use Rattle.dh_tree.specs.declared.trees.commands.Sides.{Sides}
 use Rattle.dh_tree.specs.declared.trees.commands.ViewForm.{ViewForm}
 use Rattle.dh_tree.specs.PlainTrees.{action, lets, lets_memory, views, assigns, reduces, calls, blocks, decides, repeats, action_then, group_then}
-use Rattle.dh_tree.specs.Seen.{term_seen, plan_seen, sides_seen, counts_seen, action_form_seen, rows_seen, commands_seen, action_seen, actions, part_seen, groups, maybe_seen, maybe_block_seen}
+use Rattle.dh_tree.specs.Seen.{term_seen, view_plan, sides_seen, counts_seen, action_form_seen, rows_seen, commands_seen, action_seen, actions, part_seen, groups, maybe_seen, maybe_block_seen}
 use mathlib.Core.Former.{Count}
 
 pub let_is : (declared : Option Kind) (name : Ref) (value : Box (Option Expr) Global) → action_form_seen (Let declared name value) ≡ lets name declared (option_map term_seen value.value)
@@ -27,7 +27,7 @@ pub let_memory_is : (name : Box Ref Global) (shape : Box Shape Global) (places :
 unfolding action_form_seen
 let_memory_is name shape places value = refl
 
-pub view_is : (name parent : Box Ref Global) (form : Box ViewForm Global) → action_form_seen (View name parent form) ≡ views name.value parent.value (plan_seen form.value)
+pub view_is : (name parent : Box Ref Global) (form : Box ViewForm Global) → action_form_seen (View name parent form) ≡ views name.value parent.value (view_plan form.value)
 unfolding action_form_seen
 view_is name parent form = refl
 
@@ -85,9 +85,9 @@ pub ruleset actions_are = (let_is, let_memory_is, view_is, assign_is, store_is, 
 pub let_at : (declared : Option Kind) (name : Ref) (value : Box (Option Expr) Global) (v : Option Expr) → v ≡ value.value → action_form_seen (Let declared name value) ≡ lets name declared (option_map term_seen v)
 let_at declared name value v is = let_is declared name value ∙ ap (λ (x : Option Expr). lets name declared (option_map term_seen x)) (sym is)
 
-pub view_at : (name parent : Box Ref Global) (form : Box ViewForm Global) (n p : Ref) (f : ViewForm) → n ≡ name.value → p ≡ parent.value → f ≡ form.value → action_form_seen (View name parent form) ≡ views n p (plan_seen f)
+pub view_at : (name parent : Box Ref Global) (form : Box ViewForm Global) (n p : Ref) (f : ViewForm) → n ≡ name.value → p ≡ parent.value → f ≡ form.value → action_form_seen (View name parent form) ≡ views n p (view_plan f)
 view_at name parent form n p f is at by =
-    view_is name parent form ∙ (ap (λ (r : Ref). views r parent.value (plan_seen form.value)) (sym is) ∙ (ap (λ (r : Ref). views n r (plan_seen form.value)) (sym at) ∙ ap (λ (v : ViewForm). views n p (plan_seen v)) (sym by)))
+    view_is name parent form ∙ (ap (λ (r : Ref). views r parent.value (view_plan form.value)) (sym is) ∙ (ap (λ (r : Ref). views n r (view_plan form.value)) (sym at) ∙ ap (λ (v : ViewForm). views n p (view_plan v)) (sym by)))
 
 pub assign_at : (target : Ref) (value : Box Expr Global) (v : Expr) → v ≡ value.value → action_form_seen (Assign target value) ≡ assigns target (term_seen v)
 assign_at target value v is = assign_is target value ∙ ap (λ (x : Expr). assigns target (term_seen x)) (sym is)

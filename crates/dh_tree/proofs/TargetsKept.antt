@@ -5,10 +5,10 @@ use Rattle.dh_tree.specs.Kinds.{of_iterator, Facts, iterator_kind, facts_after, 
 use Rattle.dh_tree.specs.declared.trees.programs.Sort.TheVariants.{Iterator}
 use Rattle.dh_tree.specs.PlainTrees.{Term, term, number, truth_value, named, accessed, in_bank, applied, converted, Action, action, ActionForm, lets, lets_memory, views, assigns, stores, reduces, calls, blocks, decides, repeats, counts, MaybeAction, no_action, one_action, Actions, no_actions, action_then, Groups, no_groups, group_then}
 use Rattle.dh_tree.specs.Resolved.{resolved_term, resolved_action, resolved_form, resolved_other, resolved_actions, resolved_groups}
-use Rattle.dh_tree.specs.Scopes.{Binding, Scope, declare, leave, past, at_end, actions_at_end}
+use Rattle.dh_tree.specs.Scopes.{ScopeEntry, Scope, declare, leave, past, at_end, actions_at_end}
 use Rattle.dh_tree.specs.Targets.{IsAccess, HasTargets, FormHasTargets, OtherHasTargets, GroupsHaveTargets, PartHasTargets}
 
-resolved_access : (bs : List Binding) (t : Term) → IsAccess t → IsAccess (resolved_term bs t)
+resolved_access : (bs : List ScopeEntry) (t : Term) → IsAccess t → IsAccess (resolved_term bs t)
 resolved_access bs (term place k (accessed r ts)) h = tt
 resolved_access bs (term place k (in_bank r bank at t)) h = tt
 resolved_access bs (term place k (number negative x)) h = h

@@ -13,7 +13,7 @@ use Rattle.dh_tree.specs.declared.trees.programs.Sort.TheVariants.{Iterator}
 use Rattle.dh_tree.specs.Kinds.{Facts, fact_of, of_iterator, for_numbers, found, form_found, iterator_kind, target_kind, parameters_of, is_bare, left_want, right_want, typed_term, typed_form, typed_terms, typed_maybe, typed_offset, typed_plan, typed_arguments, facts_after, facts_after_actions, facts_after_function, formal_facts, first_facts, typed_action, typed_action_form, typed_other, typed_actions, typed_groups, typed_function, typed_functions, typed}
 use Rattle.dh_tree.specs.PlainTrees.{Term, term, TermForm, number, truth_value, named, accessed, in_bank, applied, converted, Terms, no_terms, term_then, Suffixed, ViewPlan, shrinks, splits, suffixes, shifts, Placed, Unrolled, Action, action, ActionForm, lets, lets_memory, views, assigns, stores, reduces, calls, blocks, decides, repeats, counts, MaybeAction, no_action, one_action, Actions, no_actions, action_then, Groups, no_groups, group_then, Declared, Defined, Program}
 use Rattle.dh_tree.specs.Resolved.{used, declares, resolved_term, resolved_term_form, resolved_terms, resolved_offset, resolved_plan, resolved_action, resolved_form, resolved_other, resolved_actions, resolved_groups, resolved_formals, resolved_function, resolved_functions, resolved, HasEntities}
-use Rattle.dh_tree.specs.Scopes.{Binding, Scope, declare, leave, past, at_end, actions_at_end, body_start, after_function, first_scope, body_scope, last_scope}
+use Rattle.dh_tree.specs.Scopes.{ScopeEntry, Scope, declare, leave, past, at_end, actions_at_end, body_start, after_function, first_scope, body_scope, last_scope}
 use Rattle.dh_tree.proofs.TypedForms.{start_of}
 use Rattle.dh_tree.proofs.TypedNames.{end_kept, actions_end_kept, next_kept, function_end_kept, first_kept, body_kept}
 
@@ -95,7 +95,7 @@ actions_parts a b r q h = (cc, cc)
 groups_parts : (a b : Actions) (r q : Groups) → group_then a r ≡ group_then b q → (a ≡ b) × (r ≡ q)
 groups_parts a b r q h = (cc, cc)
 
-module _ (bs : List Binding) (facts : Facts) where
+module _ (bs : List ScopeEntry) (facts : Facts) where
   mutual
     term_stays : (want : Option Kind) (t : Term) → resolved_term bs t ≡ t → resolved_term bs (typed_term facts want t) ≡ typed_term facts want t
     term_stays want (term place kind form) h =

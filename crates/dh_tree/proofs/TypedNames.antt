@@ -4,17 +4,17 @@ use Rattle.std.proofs.Common.{◌≡◌, ℕ, ◌+◌, List, [], ◌∷◌, ◌+
 use Rattle.dh_value.specs.declared.kinds.Kind.{Kind}
 use Rattle.dh_tree.specs.declared.breaches.Breach.{Breach}
 use Rattle.dh_tree.specs.declared.trees.programs.Sort.TheVariants.{Iterator, Memory, Function}
-use Rattle.dh_tree.specs.Breaches.{unknown, twice, term_breaches, term_form_breaches, terms_breaches, list_breaches, offsets_breaches, plan_breaches, value_breaches, breaches, form_breaches, other_breaches, actions_breaches, groups_breaches, formals_breaches, function_breaches, functions_breaches, items_breaches, breaches_of, KeepsNames}
+use Rattle.dh_tree.specs.Breaches.{unknown, twice, term_breaches, term_form_breaches, terms_breaches, list_breaches, offsets_breaches, plan_name_breaches, maybe_value_breaches, breaches, form_breaches, other_breaches, actions_breaches, groups_breaches, formals_breaches, function_breaches, functions_breaches, items_breaches, breaches_of, KeepsNames}
 use Rattle.dh_tree.specs.Kinds.{Facts, fact_of, of_iterator, for_numbers, found, iterator_kind, target_kind, parameters_of, is_bare, left_want, right_want, typed_term, typed_form, typed_terms, typed_maybe, typed_offset, typed_plan, typed_arguments, facts_after, facts_after_actions, facts_after_function, formal_facts, first_facts, typed_action, typed_action_form, typed_other, typed_actions, typed_groups, typed_function, typed_functions, typed}
 use Rattle.dh_tree.specs.PlainTrees.{Term, term, TermForm, number, truth_value, named, accessed, in_bank, applied, converted, Terms, no_terms, term_then, Suffixed, ViewPlan, shrinks, splits, suffixes, shifts, Action, action, ActionForm, lets, lets_memory, views, assigns, stores, reduces, calls, blocks, decides, repeats, counts, MaybeAction, no_action, one_action, Actions, no_actions, action_then, Groups, no_groups, group_then, Defined, Program}
-use Rattle.dh_tree.specs.Scopes.{Binding, Scope, declare, leave, past, at_end, form_at_end, other_at_end, actions_at_end, groups_at_end, body_start, after_function, after_functions, memory_items, function_items, merged, items_of, after_items, entity, first_scope, body_scope}
+use Rattle.dh_tree.specs.Scopes.{ScopeEntry, Scope, declare, leave, past, at_end, form_at_end, other_at_end, actions_at_end, groups_at_end, body_start, after_function, after_functions, memory_items, function_items, merged, items_of, after_items, entity, first_scope, body_scope}
 use Rattle.dh_tree.proofs.TypedForms.{start_of}
 
 -- two equal parts of a list of breaches
 both : (a a' b b' : List Breach) → a ≡ a' → b ≡ b' → a ++ b ≡ a' ++ b'
 both a a' b b' p q = ap (λ x. x ++ b) p ∙ ap (λ y. a' ++ y) q
 
-module _ (bs : List Binding) (facts : Facts) where
+module _ (bs : List ScopeEntry) (facts : Facts) where
   mutual
     term_alike : (want : Option Kind) (t : Term) → term_breaches bs (typed_term facts want t) ≡ term_breaches bs t
     term_alike want (term place kind form) = term_form_alike want form
@@ -49,13 +49,13 @@ module _ (bs : List Binding) (facts : Facts) where
   offsets_alike [] = refl
   offsets_alike (s ∷ ss) = both _ (term_breaches bs s.offset) _ (offsets_breaches bs ss) (term_alike None s.offset) (offsets_alike ss)
 
-  plan_alike : (v : ViewPlan) → plan_breaches bs (typed_plan facts v) ≡ plan_breaches bs v
+  plan_alike : (v : ViewPlan) → plan_name_breaches bs (typed_plan facts v) ≡ plan_name_breaches bs v
   plan_alike (shrinks by_ by_place) = refl
   plan_alike (splits by_ by_place) = refl
   plan_alike (suffixes by_ by_place) = offsets_alike by_
   plan_alike (shifts by_) = listed_alike by_
 
-  value_alike : (want : Option Kind) (v : Option Term) → value_breaches bs (typed_maybe facts want v) ≡ value_breaches bs v
+  value_alike : (want : Option Kind) (v : Option Term) → maybe_value_breaches bs (typed_maybe facts want v) ≡ maybe_value_breaches bs v
   value_alike want None = refl
   value_alike want (Some t) = term_alike (for_numbers want) t
 

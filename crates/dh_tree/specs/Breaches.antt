@@ -8,22 +8,22 @@ use Rattle.dh_tree.specs.declared.trees.programs.Sort.TheVariants.{Iterator}
 use Rattle.dh_tree.specs.PlainTrees.{Term, term, TermForm, number, truth_value, named, accessed, in_bank, applied, converted, Terms, no_terms, term_then, Suffixed, ViewPlan, shrinks, splits, suffixes, shifts, Action, action, ActionForm, lets, lets_memory, views, assigns, stores, reduces, calls, blocks, decides, repeats, counts, MaybeAction, no_action, one_action, Actions, no_actions, action_then, Groups, no_groups, group_then, Formal, Defined, Program}
 use Rattle.dh_tree.specs.declared.breaches.Breach.{Breach}
 use Rattle.dh_tree.specs.LeastBreach.{breach}
-use Rattle.dh_tree.specs.Scopes.{Binding, is_visible, bind, Scope, declare, leave, past, at_end, actions_at_end, formal_sort, body_start, after_function, Item, items_of, first_scope, body_scope}
+use Rattle.dh_tree.specs.Scopes.{ScopeEntry, is_visible, bind, Scope, declare, leave, past, at_end, actions_at_end, formal_sort, body_start, after_function, Item, items_of, first_scope, body_scope}
 
 -- a name that is used where these names are visible
-abbrev pub unknown : List Binding → Ref → List Breach
+abbrev pub unknown : List ScopeEntry → Ref → List Breach
 unknown bs r = if is_visible bs r.name then [] else breach UnknownName r.place ∷ []
 
 -- a name that is declared where these names are visible
-abbrev pub twice : List Binding → Ref → List Breach
+abbrev pub twice : List ScopeEntry → Ref → List Breach
 twice bs r = if is_visible bs r.name then breach NameTwice r.place ∷ [] else []
 
 abbrev mutual
   -- the breaches of an expression where these names are visible
-  pub term_breaches : List Binding → Term → List Breach
+  pub term_breaches : List ScopeEntry → Term → List Breach
   term_breaches bs (term place kind form) = term_form_breaches bs form
 
-  pub term_form_breaches : List Binding → TermForm → List Breach
+  pub term_form_breaches : List ScopeEntry → TermForm → List Breach
   term_form_breaches bs (number negative value) = []
   term_form_breaches bs (truth_value value) = []
   term_form_breaches bs (named r) = unknown bs r
@@ -32,29 +32,29 @@ abbrev mutual
   term_form_breaches bs (applied op left right) = term_breaches bs left ++ term_breaches bs right
   term_form_breaches bs (converted inner to) = term_breaches bs inner
 
-  pub terms_breaches : List Binding → Terms → List Breach
+  pub terms_breaches : List ScopeEntry → Terms → List Breach
   terms_breaches bs no_terms = []
   terms_breaches bs (term_then t rest) = term_breaches bs t ++ terms_breaches bs rest
 
-abbrev pub list_breaches : List Binding → List Term → List Breach
+abbrev pub list_breaches : List ScopeEntry → List Term → List Breach
 list_breaches bs [] = []
 list_breaches bs (t ∷ ts) = term_breaches bs t ++ list_breaches bs ts
 
-abbrev pub offsets_breaches : List Binding → List Suffixed → List Breach
+abbrev pub offsets_breaches : List ScopeEntry → List Suffixed → List Breach
 offsets_breaches bs [] = []
 offsets_breaches bs (s ∷ ss) = term_breaches bs s.offset ++ offsets_breaches bs ss
 
 -- those of a view's form
-abbrev pub plan_breaches : List Binding → ViewPlan → List Breach
-plan_breaches bs (shrinks by by_place) = []
-plan_breaches bs (splits by by_place) = []
-plan_breaches bs (suffixes by by_place) = offsets_breaches bs by
-plan_breaches bs (shifts by) = list_breaches bs by
+abbrev pub plan_name_breaches : List ScopeEntry → ViewPlan → List Breach
+plan_name_breaches bs (shrinks by by_place) = []
+plan_name_breaches bs (splits by by_place) = []
+plan_name_breaches bs (suffixes by by_place) = offsets_breaches bs by
+plan_name_breaches bs (shifts by) = list_breaches bs by
 
 -- those of an expression that may lack
-abbrev pub value_breaches : List Binding → Option Term → List Breach
-value_breaches bs None = []
-value_breaches bs (Some t) = term_breaches bs t
+abbrev pub maybe_value_breaches : List ScopeEntry → Option Term → List Breach
+maybe_value_breaches bs None = []
+maybe_value_breaches bs (Some t) = term_breaches bs t
 
 abbrev mutual
   -- the breaches of a command at this point: what a declaration declares is not visible in it
@@ -62,9 +62,9 @@ abbrev mutual
   breaches s (action id place form) = form_breaches s form
 
   pub form_breaches : Scope → ActionForm → List Breach
-  form_breaches s (lets name declared value) = value_breaches s.visible value ++ twice s.visible name
-  form_breaches s (lets_memory name shape shape_places value) = value_breaches s.visible value ++ twice s.visible name
-  form_breaches s (views name parent form) = unknown s.visible parent ++ (plan_breaches s.visible form ++ twice s.visible name)
+  form_breaches s (lets name declared value) = maybe_value_breaches s.visible value ++ twice s.visible name
+  form_breaches s (lets_memory name shape shape_places value) = maybe_value_breaches s.visible value ++ twice s.visible name
+  form_breaches s (views name parent form) = unknown s.visible parent ++ (plan_name_breaches s.visible form ++ twice s.visible name)
   form_breaches s (assigns target value) = unknown s.visible target ++ term_breaches s.visible value
   form_breaches s (stores target value) = term_breaches s.visible target ++ term_breaches s.visible value
   form_breaches s (reduces target op value) = unknown s.visible target ++ term_breaches s.visible value
@@ -102,7 +102,7 @@ functions_breaches n s [] = []
 functions_breaches n s (f ∷ fs) = function_breaches s f ++ functions_breaches (n + 1) (after_function n s f) fs
 
 -- those of the names that memories from outside and functions declare
-abbrev pub items_breaches : List Binding → List Item → List Breach
+abbrev pub items_breaches : List ScopeEntry → List Item → List Breach
 items_breaches bs [] = []
 items_breaches bs (i ∷ is) = twice bs i.name ++ items_breaches (bind bs i.name.name i.entity) is
 

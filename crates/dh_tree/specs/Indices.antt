@@ -99,66 +99,71 @@ index_kind cs kind (converted inner to) = dynamic
 abbrev pub is_beyond : (size : ℕ) → ℤ → Bool
 is_beyond size z = int_lt z (pos 0) || int_le (pos size) z
 
-abbrev pub index_breaches : Dim → Place → IndexKind → List Breach
-index_breaches d place (constant z) = when (is_beyond d.size z) (breach ConstantRange place ∷ [])
-index_breaches d place (iterator c offset) = when (nat_lt 1 d.banks && not (c.factor % d.banks == 0)) (breach BankUnroll place ∷ [])
-index_breaches d place dynamic = when (nat_lt 1 d.banks) (breach DynamicBank place ∷ [])
+abbrev pub one_index_breaches : Dim → Place → IndexKind → List Breach
+one_index_breaches d place (constant z) = when (is_beyond d.size z) (breach ConstantRange place ∷ [])
+one_index_breaches d place (iterator c offset) = when (nat_lt 1 d.banks && not (c.factor % d.banks == 0)) (breach BankUnroll place ∷ [])
+one_index_breaches d place dynamic = when (nat_lt 1 d.banks) (breach DynamicBank place ∷ [])
 
 -- indices, each for its dimension
 abbrev pub indices_breaches : List Counter → List Dim → Terms → List Breach
-indices_breaches cs (d ∷ ds) (term_then (term place kind form) rest) = index_breaches d place (index_kind cs kind form) ++ indices_breaches cs ds rest
+indices_breaches cs (d ∷ ds) (term_then (term place kind form) rest) = one_index_breaches d place (index_kind cs kind form) ++ indices_breaches cs ds rest
 indices_breaches cs _ _ = []
 
 -- a literal row of a bank
 abbrev pub row_breaches : List Dim → Term → List Breach
 row_breaches dims (term place kind (number negative n)) = when (is_beyond (rows_of dims) (signed_number negative n)) (breach ConstantRange place ∷ [])
-row_breaches dims (term place kind form) = []
+row_breaches dims (term place kind (truth_value value)) = []
+row_breaches dims (term place kind (named r)) = []
+row_breaches dims (term place kind (accessed r indices)) = []
+row_breaches dims (term place kind (in_bank r bank bank_place row)) = []
+row_breaches dims (term place kind (applied o left right)) = []
+row_breaches dims (term place kind (converted inner to)) = []
 
-abbrev pub bank_breaches : List Dim → (bank : ℕ) → Place → List Breach
-bank_breaches dims bank place = when (nat_le (banks_of dims) bank) (breach ConstantRange place ∷ [])
+abbrev pub physical_bank_breaches : List Dim → (bank : ℕ) → Place → List Breach
+physical_bank_breaches dims bank place = when (nat_le (banks_of dims) bank) (breach ConstantRange place ∷ [])
 
 -- the dimensions of what a name stands for, where its shape breaks no rule
 abbrev pub kept_dims : Option Memory → Option (List Dim)
 kept_dims None = None
 kept_dims (Some m) = if shape_keeps m.shape then Some m.shape.dims else None
 
-abbrev pub access_breaches : List Counter → Option (List Dim) → Terms → List Breach
-access_breaches cs None indices = []
-access_breaches cs (Some dims) indices = indices_breaches cs dims indices
+abbrev pub access_index_breaches : List Counter → Option (List Dim) → Terms → List Breach
+access_index_breaches cs None indices = []
+access_index_breaches cs (Some dims) indices = indices_breaches cs dims indices
 
 abbrev pub physical_breaches : Option (List Dim) → (bank : ℕ) → Place → Term → List Breach
 physical_breaches None bank bank_place row = []
-physical_breaches (Some dims) bank bank_place row = bank_breaches dims bank bank_place ++ row_breaches dims row
+physical_breaches (Some dims) bank bank_place row = physical_bank_breaches dims bank bank_place ++ row_breaches dims row
 
 -- the memories and loops of a program
-pub record Known : Type 0 where
+pub record IndexContext : Type 0 where
   pub memories : List Memory
   pub counters : List Counter
 
-abbrev pub known_of : Program → Known
-known_of p = record { memories = memories_of p; counters = counters_of p }
+abbrev pub index_context_of : Program → IndexContext
+index_context_of p = record { memories = memories_of p; counters = counters_of p }
 
 abbrev mutual
   -- the breaches in an expression
-  pub term_index_breaches : Known → Term → List Breach
+  pub term_index_breaches : IndexContext → Term → List Breach
   term_index_breaches known (term place kind form) = form_index_breaches known form
 
-  pub form_index_breaches : Known → TermForm → List Breach
+  pub form_index_breaches : IndexContext → TermForm → List Breach
   form_index_breaches known (number negative n) = []
   form_index_breaches known (truth_value value) = []
   form_index_breaches known (named r) = []
   form_index_breaches known (accessed r indices) =
-      access_breaches known.counters (kept_dims (memory_in known.memories r.entity)) indices ++ terms_index_breaches known indices
+      access_index_breaches known.counters (kept_dims (memory_in known.memories r.entity)) indices ++ terms_index_breaches known indices
   form_index_breaches known (in_bank r bank bank_place row) =
       physical_breaches (kept_dims (memory_in known.memories r.entity)) bank bank_place row ++ term_index_breaches known row
   form_index_breaches known (applied o left right) = term_index_breaches known left ++ term_index_breaches known right
   form_index_breaches known (converted inner to) = term_index_breaches known inner
 
-  pub terms_index_breaches : Known → Terms → List Breach
+  pub terms_index_breaches : IndexContext → Terms → List Breach
   terms_index_breaches known no_terms = []
   terms_index_breaches known (term_then t rest) = term_index_breaches known t ++ terms_index_breaches known rest
 
-abbrev pub maybe_index_breaches : Known → Option Term → List Breach
+abbrev pub maybe_index_breaches : IndexContext → Option Term → List Breach
 maybe_index_breaches known None = []
 maybe_index_breaches known (Some t) = term_index_breaches known t
 
@@ -170,10 +175,10 @@ turns_breaches low high factor =
 
 abbrev mutual
   -- the breaches in a command
-  pub action_index_breaches : Known → Action → List Breach
+  pub action_index_breaches : IndexContext → Action → List Breach
   action_index_breaches known (action id place form) = action_form_index_breaches known form
 
-  pub action_form_index_breaches : Known → ActionForm → List Breach
+  pub action_form_index_breaches : IndexContext → ActionForm → List Breach
   action_form_index_breaches known (lets name declared value) = maybe_index_breaches known value
   action_form_index_breaches known (lets_memory name shape shape_places value) = shape_breaches shape shape_places ++ maybe_index_breaches known value
   action_form_index_breaches known (assigns target value) = term_index_breaches known value
@@ -189,15 +194,15 @@ abbrev mutual
   action_form_index_breaches known (views name parent form) = []
   action_form_index_breaches known (calls function arguments) = []
 
-  pub other_index_breaches : Known → MaybeAction → List Breach
+  pub other_index_breaches : IndexContext → MaybeAction → List Breach
   other_index_breaches known no_action = []
   other_index_breaches known (one_action a) = action_index_breaches known a
 
-  pub actions_index_breaches : Known → Actions → List Breach
+  pub actions_index_breaches : IndexContext → Actions → List Breach
   actions_index_breaches known no_actions = []
   actions_index_breaches known (action_then a rest) = action_index_breaches known a ++ actions_index_breaches known rest
 
-  pub groups_index_breaches : Known → Groups → List Breach
+  pub groups_index_breaches : IndexContext → Groups → List Breach
   groups_index_breaches known no_groups = []
   groups_index_breaches known (group_then part rest) = actions_index_breaches known part ++ groups_index_breaches known rest
 
@@ -207,4 +212,4 @@ decls_shape_breaches (d ∷ ds) = shape_breaches d.shape d.shape_places ++ decls
 
 -- the shapes, indices and bounds of a program that break a rule
 abbrev pub index_breaches_of : Program → List Breach
-index_breaches_of p = decls_shape_breaches p.decls ++ action_index_breaches (known_of p) p.body
+index_breaches_of p = decls_shape_breaches p.decls ++ action_index_breaches (index_context_of p) p.body

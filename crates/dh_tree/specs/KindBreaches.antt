@@ -66,11 +66,11 @@ abbrev pub suffixes_breaches : Facts → List Suffixed → List Breach
 suffixes_breaches facts [] = []
 suffixes_breaches facts (s ∷ ss) = offset_breaches facts s.offset ++ suffixes_breaches facts ss
 
-abbrev pub plan_breaches : Facts → ViewPlan → List Breach
-plan_breaches facts (shrinks by by_place) = []
-plan_breaches facts (splits by by_place) = []
-plan_breaches facts (suffixes by by_place) = suffixes_breaches facts by
-plan_breaches facts (shifts by) = shifts_breaches facts by
+abbrev pub plan_kind_breaches : Facts → ViewPlan → List Breach
+plan_kind_breaches facts (shrinks by by_place) = []
+plan_kind_breaches facts (splits by by_place) = []
+plan_kind_breaches facts (suffixes by by_place) = suffixes_breaches facts by
+plan_kind_breaches facts (shifts by) = shifts_breaches facts by
 
 -- the name of what is assigned to stands for a variable; an iterator is left to another rule
 abbrev pub target_breaches : Option Fact → Place → List Breach
@@ -85,9 +85,9 @@ abbrev pub parent_breaches : Option Fact → Place → List Breach
 parent_breaches fact place = bank_breaches fact place
 
 -- the operator of a reducer takes no Bool
-abbrev pub reducer_breaches : (target value : Option Kind) → Place → List Breach
-reducer_breaches (Some t) (Some v) place = when (is_truth t) (mismatch place)
-reducer_breaches _ _ place = []
+abbrev pub reducer_kind_breaches : (target value : Option Kind) → Place → List Breach
+reducer_kind_breaches (Some t) (Some v) place = when (is_truth t) (mismatch place)
+reducer_kind_breaches _ _ place = []
 
 -- an argument that names a memory or a view is judged by another rule
 abbrev pub argument_form_breaches : Facts → Place → Option Kind → Option Fact → TermForm → List Breach
@@ -96,7 +96,12 @@ argument_form_breaches facts place kind fact form = form_kind_breaches facts pla
 
 abbrev pub name_fact : Facts → TermForm → Option Fact
 name_fact facts (named r) = fact_of facts r
-name_fact facts _ = None
+name_fact facts (number negative n) = None
+name_fact facts (truth_value value) = None
+name_fact facts (accessed r indices) = None
+name_fact facts (in_bank r bank bank_place row) = None
+name_fact facts (applied o left right) = None
+name_fact facts (converted inner to) = None
 
 abbrev pub argument_breaches : Facts → Term → List Breach
 argument_breaches facts (term place kind form) = argument_form_breaches facts place kind (name_fact facts form) form
@@ -124,13 +129,13 @@ abbrev mutual
   pub action_form_kind_breaches : Facts → ActionForm → List Breach
   action_form_kind_breaches facts (lets name declared value) = maybe_breaches facts declared value
   action_form_kind_breaches facts (lets_memory name shape shape_places value) = maybe_breaches facts (Some shape.kind) value
-  action_form_kind_breaches facts (views name parent form) = parent_breaches (fact_of facts parent) parent.place ++ plan_breaches facts form
+  action_form_kind_breaches facts (views name parent form) = parent_breaches (fact_of facts parent) parent.place ++ plan_kind_breaches facts form
   action_form_kind_breaches facts (assigns target value) =
       target_breaches (fact_of facts target) target.place ++ right_side_breaches facts (target_kind (fact_of facts target)) value
   action_form_kind_breaches facts (stores target value) = term_kind_breaches facts target ++ right_side_breaches facts (found target) value
   action_form_kind_breaches facts (reduces target o value) =
       target_breaches (fact_of facts target) target.place
-      ++ (reducer_breaches (target_kind (fact_of facts target)) (found value) target.place
+      ++ (reducer_kind_breaches (target_kind (fact_of facts target)) (found value) target.place
       ++ right_side_breaches facts (target_kind (fact_of facts target)) value)
   action_form_kind_breaches facts (calls function arguments) = arguments_breaches facts arguments
   action_form_kind_breaches facts (blocks body) = groups_kind_breaches facts body

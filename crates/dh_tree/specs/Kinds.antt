@@ -110,7 +110,20 @@ number_kind (Some k) = k
 abbrev pub is_shift : Op → Bool
 is_shift op.Shl = true
 is_shift op.Shr = true
-is_shift _ = false
+is_shift op.Add = false
+is_shift op.Sub = false
+is_shift op.Mul = false
+is_shift op.And = false
+is_shift op.Or = false
+is_shift op.Xor = false
+is_shift op.Lt = false
+is_shift op.Gt = false
+is_shift op.Le = false
+is_shift op.Ge = false
+is_shift op.Eq = false
+is_shift op.Ne = false
+is_shift op.Both = false
+is_shift op.Either = false
 
 -- whether an operation on bare operands is bare
 abbrev pub keeps_bare : Op → Bool
@@ -122,7 +135,14 @@ keeps_bare op.Or = true
 keeps_bare op.Xor = true
 keeps_bare op.Shl = true
 keeps_bare op.Shr = true
-keeps_bare _ = false
+keeps_bare op.Lt = false
+keeps_bare op.Gt = false
+keeps_bare op.Le = false
+keeps_bare op.Ge = false
+keeps_bare op.Eq = false
+keeps_bare op.Ne = false
+keeps_bare op.Both = false
+keeps_bare op.Either = false
 
 -- whether an expression is bare: a number, or an operation on two bare ones whose value is a number
 abbrev mutual
@@ -132,7 +152,11 @@ abbrev mutual
   pub is_bare_form : TermForm → Bool
   is_bare_form (number negative n) = true
   is_bare_form (applied o left right) = keeps_bare o && (is_bare left && is_bare right)
-  is_bare_form _ = false
+  is_bare_form (truth_value value) = false
+  is_bare_form (named r) = false
+  is_bare_form (accessed r indices) = false
+  is_bare_form (in_bank r bank bank_place row) = false
+  is_bare_form (converted inner to) = false
 
 -- the kind that an expression has been found to have
 abbrev pub found : Term → Option Kind
@@ -200,7 +224,14 @@ applied_kind op.Or j k = wider j k
 applied_kind op.Xor j k = wider j k
 applied_kind op.Shl j k = j
 applied_kind op.Shr j k = j
-applied_kind _ j k = kind.Bool
+applied_kind op.Lt j k = kind.Bool
+applied_kind op.Gt j k = kind.Bool
+applied_kind op.Le j k = kind.Bool
+applied_kind op.Ge j k = kind.Bool
+applied_kind op.Eq j k = kind.Bool
+applied_kind op.Ne j k = kind.Bool
+applied_kind op.Both j k = kind.Bool
+applied_kind op.Either j k = kind.Bool
 
 -- a kind, where there is no breach
 abbrev pub unless : List Breach → Kind → Option Kind
@@ -365,7 +396,9 @@ iterator_kind (Some k) = k
 -- what is known of a view, by its parent: a split has two dimensions, others those of the parent
 abbrev pub view_dims : ViewPlan → ℕ → ℕ
 view_dims (splits by by_place) dims = 2
-view_dims _ dims = dims
+view_dims (shrinks by by_place) dims = dims
+view_dims (suffixes by by_place) dims = dims
+view_dims (shifts by) dims = dims
 
 abbrev pub view_fact : Option Fact → ViewPlan → Fact
 view_fact (Some (of_memory kind dims)) form = of_memory kind (view_dims form dims)

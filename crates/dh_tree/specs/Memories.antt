@@ -75,5 +75,5 @@ abbrev pub table_of : Program → List MemEntry
 table_of p = map entry_of (memories_of p)
 
 -- the number of the memory that a name stands for; every name of a resolved program stands for something
-abbrev pub memory_of : List Memory → Ref → ℕ
-memory_of ms r = entity_number (number_in ms r.entity)
+abbrev pub memory_of_name : List Memory → Ref → ℕ
+memory_of_name ms r = entity_number (number_in ms r.entity)

@@ -20,11 +20,11 @@ reserved =
     codes "decl" ∷ (codes "def" ∷ (codes "let" ∷ (codes "view" ∷ (codes "shrink" ∷ (codes "suffix" ∷ (codes "shift" ∷ (codes "split" ∷ (codes "by" ∷ (codes "for" ∷ (codes "while" ∷ (codes "if" ∷ (codes "else" ∷ (codes "unroll" ∷ (codes "combine" ∷ (codes "bank" ∷ (codes "bit" ∷ (codes "ubit" ∷ (codes "bool" ∷ (codes "true" ∷ (codes "false" ∷ (codes "as" ∷ (codes "float" ∷ (codes "double" ∷ (codes "fix" ∷ (codes "ufix" ∷ (codes "record" ∷ (codes "import" ∷ (codes "decor" ∷ (codes "return" ∷ [])))))))))))))))))))))))))))))
 
 -- begins with a letter and goes on with letters and digits
-abbrev pub IsWord : List ℕ → Type 0
-IsWord [] = ⊥
-IsWord (b ∷ bs) = IsLetter b × AllByRecursion IsNameByte bs
+abbrev pub IsIdentifier : List ℕ → Type 0
+IsIdentifier [] = ⊥
+IsIdentifier (b ∷ bs) = IsLetter b × AllByRecursion IsNameByte bs
 
 -- a name: such a word that is not reserved
 pub record IsName (bytes : List ℕ) : Type 0 where
-  pub word : IsWord bytes
+  pub word : IsIdentifier bytes
   pub free : Contains reserved bytes → ⊥

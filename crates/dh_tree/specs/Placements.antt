@@ -110,8 +110,8 @@ is_from_inside iterator (Some n) = nat_lt iterator n
 abbrev pub is_outer_write : List Entity → (first : ℕ) → (target : Option ℕ) → Bool
 is_outer_write es first target = names_iterator es target || is_from_outside first target
 
-abbrev pub assigned_breaches : List Entity → (first : ℕ) → (target : Ref) → List Breach
-assigned_breaches es first target = when (is_outer_write es first target.entity) (breach OuterWrite target.place ∷ [])
+abbrev pub outer_write_breaches : List Entity → (first : ℕ) → (target : Ref) → List Breach
+outer_write_breaches es first target = when (is_outer_write es first target.entity) (breach OuterWrite target.place ∷ [])
 
 -- Reducers.
 
@@ -194,7 +194,7 @@ abbrev mutual
   form_placement_breaches es c place (lets_memory name shape shape_places value) =
       when (c.within || (is_no_memory shape || is_some value)) (breach MemoryPlace name.place ∷ [])
   form_placement_breaches es c place (views name parent form) = []
-  form_placement_breaches es c place (assigns target value) = assigned_breaches es c.first target
+  form_placement_breaches es c place (assigns target value) = outer_write_breaches es c.first target
   form_placement_breaches es c place (stores target value) = []
   form_placement_breaches es c place (reduces target o value) = reducer_breaches es c.joins target value
   form_placement_breaches es c place (calls function arguments) = []

@@ -4,10 +4,10 @@ use Rattle.std.specs.Option.{option_map}
 use Rattle.dh_tree.specs.declared.trees.expressions.Ref.{Ref}
 use Rattle.dh_tree.specs.declared.trees.programs.Sort.TheVariants.{Iterator}
 use Rattle.dh_tree.specs.PlainTrees.{Term, term, TermForm, number, truth_value, named, accessed, in_bank, applied, converted, Terms, no_terms, term_then, Suffixed, ViewPlan, shrinks, splits, suffixes, shifts, Action, action, ActionForm, lets, lets_memory, views, assigns, stores, reduces, calls, blocks, decides, repeats, counts, MaybeAction, no_action, one_action, Actions, no_actions, action_then, Groups, no_groups, group_then, Declared, Formal, Defined, Program}
-use Rattle.dh_tree.specs.Scopes.{Binding, entity_of, Scope, declare, leave, past, at_end, actions_at_end, formal_sort, body_start, after_function, first_scope, body_scope, last_scope}
+use Rattle.dh_tree.specs.Scopes.{ScopeEntry, entity_of, Scope, declare, leave, past, at_end, actions_at_end, formal_sort, body_start, after_function, first_scope, body_scope, last_scope}
 
 -- a name that is used where these names are visible; it has no entity where it is not visible
-abbrev pub used : List Binding → Ref → Ref
+abbrev pub used : List ScopeEntry → Ref → Ref
 used bs r = record { name = r.name; place = r.place; entity = entity_of bs r.name }
 
 -- a name that is declared as entity number n
@@ -20,10 +20,10 @@ declares s r = numbered (length s.entities) r
 
 abbrev mutual
   -- an expression where these names are visible
-  pub resolved_term : List Binding → Term → Term
+  pub resolved_term : List ScopeEntry → Term → Term
   resolved_term bs (term place kind form) = term place kind (resolved_term_form bs form)
 
-  pub resolved_term_form : List Binding → TermForm → TermForm
+  pub resolved_term_form : List ScopeEntry → TermForm → TermForm
   resolved_term_form bs (number negative value) = number negative value
   resolved_term_form bs (truth_value value) = truth_value value
   resolved_term_form bs (named r) = named (used bs r)
@@ -32,14 +32,14 @@ abbrev mutual
   resolved_term_form bs (applied op left right) = applied op (resolved_term bs left) (resolved_term bs right)
   resolved_term_form bs (converted inner to) = converted (resolved_term bs inner) to
 
-  pub resolved_terms : List Binding → Terms → Terms
+  pub resolved_terms : List ScopeEntry → Terms → Terms
   resolved_terms bs no_terms = no_terms
   resolved_terms bs (term_then t rest) = term_then (resolved_term bs t) (resolved_terms bs rest)
 
-abbrev pub resolved_offset : List Binding → Suffixed → Suffixed
+abbrev pub resolved_offset : List ScopeEntry → Suffixed → Suffixed
 resolved_offset bs s = record { factor = s.factor; offset = resolved_term bs s.offset }
 
-abbrev pub resolved_plan : List Binding → ViewPlan → ViewPlan
+abbrev pub resolved_plan : List ScopeEntry → ViewPlan → ViewPlan
 resolved_plan bs (shrinks by by_place) = shrinks by by_place
 resolved_plan bs (splits by by_place) = splits by by_place
 resolved_plan bs (suffixes by by_place) = suffixes (map (resolved_offset bs) by) by_place

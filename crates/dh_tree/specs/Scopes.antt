@@ -17,15 +17,15 @@ use Rattle.dh_tree.specs.LeastBreach.{is_before}
 use Rattle.dh_tree.specs.PlainTrees.{Action, action, ActionForm, lets, lets_memory, views, assigns, stores, reduces, calls, blocks, decides, repeats, counts, MaybeAction, no_action, one_action, Actions, no_actions, action_then, Groups, no_groups, group_then, Declared, Formal, Defined, Program}
 
 -- a name that is visible, and the number of what it stands for
-pub record Binding : Type 0 where
+pub record ScopeEntry : Type 0 where
   pub name : List ℕ
   pub entity : ℕ
 
-abbrev pub binding : List ℕ → ℕ → Binding
+abbrev pub binding : List ℕ → ℕ → ScopeEntry
 binding name entity = record { name = name; entity = entity }
 
 -- the number of what a name stands for, where it is visible
-abbrev pub entity_of : List Binding → List ℕ → Option ℕ
+abbrev pub entity_of : List ScopeEntry → List ℕ → Option ℕ
 entity_of [] name = None
 entity_of (b ∷ bs) name = if bytes_eq name b.name then Some b.entity else entity_of bs name
 
@@ -35,16 +35,16 @@ entity_number None = 0
 entity_number (Some n) = n
 
 -- whether a name is visible
-abbrev pub is_visible : List Binding → List ℕ → Bool
+abbrev pub is_visible : List ScopeEntry → List ℕ → Bool
 is_visible bs name = is_some (entity_of bs name)
 
 -- the names after a declaration: a name that is visible already goes on to stand for what it did
-abbrev pub bind : List Binding → List ℕ → ℕ → List Binding
+abbrev pub bind : List ScopeEntry → List ℕ → ℕ → List ScopeEntry
 bind bs name entity = if is_visible bs name then bs else bs ++ binding name entity ∷ []
 
 -- a point of the text: the names that are visible there, and the entities that are numbered so far
 pub record Scope : Type 0 where
-  pub visible : List Binding
+  pub visible : List ScopeEntry
   pub entities : List Entity
 
 abbrev pub entity : Ref → Sort → Entity
@@ -62,7 +62,16 @@ leave before inside = record { visible = before.visible; entities = inside.entit
 -- ends with the block
 abbrev pub past : Scope → Action → Scope → Scope
 past before (action id place (blocks body)) inside = leave before inside
-past before (action id place form) inside = inside
+past before (action id place (lets name declared value)) inside = inside
+past before (action id place (lets_memory name shape shape_places value)) inside = inside
+past before (action id place (views name parent form)) inside = inside
+past before (action id place (assigns target value)) inside = inside
+past before (action id place (stores target value)) inside = inside
+past before (action id place (reduces target op value)) inside = inside
+past before (action id place (calls function arguments)) inside = inside
+past before (action id place (decides test yes other)) inside = inside
+past before (action id place (repeats test body)) inside = inside
+past before (action id place (counts iterator declared low high factor body combine combine_place)) inside = inside
 
 abbrev mutual
   -- the point at the end of a command, for a block the point before its `}`
@@ -141,7 +150,7 @@ merged (m ∷ memories) (f ∷ functions) =
 abbrev pub items_of : Program → List Item
 items_of p = merged (memory_items 0 p.decls) (function_items (length p.decls) p.functions)
 
-abbrev pub after_items : List Binding → List Item → List Binding
+abbrev pub after_items : List ScopeEntry → List Item → List ScopeEntry
 after_items bs [] = bs
 after_items bs (i ∷ is) = after_items (bind bs i.name.name i.entity) is
 

@@ -58,11 +58,11 @@ abbrev pub factor_seen : ℕ × Expr → Suffixed
 factor_seen (n, e) = record { factor = n; offset = term_seen e }
 
 -- how a view shows its parent
-abbrev pub plan_seen : ViewForm → ViewPlan
-plan_seen (Shrink by by_place) = shrinks by.items by_place.items
-plan_seen (Split by by_place) = splits by.items by_place.items
-plan_seen (Suffix by by_place) = suffixes (map factor_seen by.items) by_place.items
-plan_seen (Shift by) = shifts (map term_seen by.items)
+abbrev pub view_plan : ViewForm → ViewPlan
+view_plan (Shrink by by_place) = shrinks by.items by_place.items
+view_plan (Split by by_place) = splits by.items by_place.items
+view_plan (Suffix by by_place) = suffixes (map factor_seen by.items) by_place.items
+view_plan (Shift by) = shifts (map term_seen by.items)
 
 abbrev pub placed : ℕ → Place → Placed
 placed value place = record { value = value; place = place }
@@ -92,7 +92,7 @@ unfoldable mutual
   pub action_form_seen : CommandForm → ActionForm
   action_form_seen (Let declared name value) = lets name declared (option_map term_seen value.value)
   action_form_seen (LetMemory name shape shape_places value) = lets_memory name.value shape.value shape_places.value (option_map term_seen value.value)
-  action_form_seen (View name parent form) = views name.value parent.value (plan_seen form.value)
+  action_form_seen (View name parent form) = views name.value parent.value (view_plan form.value)
   action_form_seen (Assign target value) = assigns target (term_seen value.value)
   action_form_seen (Store sides) = sides_seen sides.value
   action_form_seen (Reduce op target value) = reduces target op (term_seen value.value)

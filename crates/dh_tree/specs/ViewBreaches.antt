@@ -13,7 +13,7 @@ use Rattle.dh_tree.specs.declared.tables.Shape.{Shape}
 use Rattle.dh_tree.specs.declared.trees.expressions.Ref.{Ref}
 use Rattle.dh_tree.specs.declared.viewing.Viewed.{Viewed}
 use Rattle.dh_tree.specs.declared.viewing.ViewMap.{ViewMap}
-use Rattle.dh_tree.specs.Indices.{Known, known_of, access_breaches, index_breaches_of, term_index_breaches, shape_keeps}
+use Rattle.dh_tree.specs.Indices.{IndexContext, index_context_of, access_index_breaches, index_breaches_of, term_index_breaches, shape_keeps}
 use Rattle.dh_tree.specs.Kinds.{when}
 use Rattle.dh_tree.specs.LeastBreach.{breach}
 use Rattle.dh_tree.specs.Memories.{Memory, memories_of, memory_in}
@@ -54,12 +54,12 @@ kept_views p = kept_behind (memories_of p) [] (views_of p)
 
 -- a program's names, with its views and with those of them that keep the rules
 pub record KnownViews : Type 0 where
-  pub names : Known
+  pub names : IndexContext
   pub views : List Viewed
   pub kept : List Viewed
 
 abbrev pub known_views : Program → KnownViews
-known_views p = record { names = known_of p; views = viewed_in p; kept = kept_views p }
+known_views p = record { names = index_context_of p; views = viewed_in p; kept = kept_views p }
 
 abbrev pub dims_through : Option ViewMap → Option (List Dim)
 dims_through None = None
@@ -79,7 +79,7 @@ abbrev mutual
   form_view_breaches known (truth_value value) = []
   form_view_breaches known (named r) = []
   form_view_breaches known (accessed r indices) =
-      access_breaches known.names.counters (dims_through (view_in known.kept r.entity)) indices ++ terms_view_breaches known indices
+      access_index_breaches known.names.counters (dims_through (view_in known.kept r.entity)) indices ++ terms_view_breaches known indices
   form_view_breaches known (in_bank r bank bank_place row) = physical_broken (view_in known.views r.entity) r ++ term_view_breaches known row
   form_view_breaches known (applied o left right) = term_view_breaches known left ++ term_view_breaches known right
   form_view_breaches known (converted inner to) = term_view_breaches known inner

@@ -15,8 +15,8 @@ moves (splits by by_place) = false
 moves (suffixes by by_place) = true
 moves (shifts by) = true
 
-abbrev pub is_shift : ViewPlan → Bool
-is_shift (shrinks by by_place) = false
-is_shift (splits by by_place) = false
-is_shift (suffixes by by_place) = false
-is_shift (shifts by) = true
+abbrev pub is_shift_view : ViewPlan → Bool
+is_shift_view (shrinks by by_place) = false
+is_shift_view (splits by by_place) = false
+is_shift_view (suffixes by by_place) = false
+is_shift_view (shifts by) = true

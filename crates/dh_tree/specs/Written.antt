@@ -22,15 +22,15 @@ IsOneUnless None n = n ≡ 1
 IsOneUnless (Some place) n = Unit {0}
 
 -- the places of dimensions stand beside them
-abbrev pub AreDims : List Dim → List DimPlaces → Type 0
-AreDims [] [] = Unit {0}
-AreDims (d ∷ ds) (p ∷ ps) = IsOneUnless p.word_place d.banks × AreDims ds ps
-AreDims _ _ = ⊥
+abbrev pub HaveDimPlaces : List Dim → List DimPlaces → Type 0
+HaveDimPlaces [] [] = Unit {0}
+HaveDimPlaces (d ∷ ds) (p ∷ ps) = IsOneUnless p.word_place d.banks × HaveDimPlaces ds ps
+HaveDimPlaces _ _ = ⊥
 
 pub record IsDeclared (d : Declared) : Type 0 where
   pub named : IsName d.name.name
   pub ports : IsOneUnless d.shape_places.braces_place d.shape.ports
-  pub dims : AreDims d.shape.dims d.shape_places.dims
+  pub dims : HaveDimPlaces d.shape.dims d.shape_places.dims
 
 -- what holds of the tree of any text of at most so many tokens
 pub record IsOfText (tokens : ℕ) (p : Program) : Type 0 where

@@ -1,7 +1,7 @@
 //! Which texts are names.
 
 ghost use Rattle.std.specs.Prelude.{◌↔◌, IsTrue, Contains, map};
-ghost use Rattle.dh_tree.specs.Names.{IsLetter, IsNameByte, IsWord, IsName, reserved};
+ghost use Rattle.dh_tree.specs.Names.{IsLetter, IsNameByte, IsIdentifier, IsName, reserved};
 
 use crate::tables::Name;
 
@@ -21,7 +21,7 @@ fn is_name_byte(byte: u8) -> bool
 
 // Whether the text begins with a letter and goes on with letters and digits.
 fn is_word(text: &[u8]) -> bool
-    ensures { IsTrue result ↔ IsWord text.now }
+    ensures { IsTrue result ↔ IsIdentifier text.now }
 {
     match text.split_first() {
         Some((first, rest)) => is_letter(*first) && rest.iter().all(|byte| is_name_byte(*byte)),

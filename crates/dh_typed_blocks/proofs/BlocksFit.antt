@@ -12,18 +12,18 @@ use Rattle.dh_meaning.specs.Effects.{Block, commands, tests}
 use Rattle.dh_meaning.specs.Phases.{Located, phases_of, turn_count}
 use Rattle.dh_sound.specs.AssignsInside.{AssignsInside}
 use Rattle.dh_sound.specs.Blocks.{StandsIn}
-use Rattle.dh_sound.specs.LoopsMatch.{unrolled, EachMatches}
+use Rattle.dh_sound.specs.LoopsMatch.{unrolled_loops, EachMatches}
 use Rattle.dh_sound.specs.PhaseFacts.{HasStraight, HasTest}
 use Rattle.dh_sound.proofs.LoopsMatch.{EachInside, ListInside}
 use Rattle.dh_code.specs.Declarations.{placing_of}
 use Rattle.dh_typed_blocks.proofs.BlocksHolding.{StraightHolds, TestHolds, block_holds, program_inside, program_split, straight_of, tested_of}
-use Rattle.dh_typed_blocks.specs.PlainPrograms.{AreFew, AssignsPlain}
+use Rattle.dh_typed_blocks.specs.PlainPrograms.{AreFewMemories, AssignsPlain}
 use Rattle.dh_typed_blocks.proofs.FittingParts.{SimpleFits, JoinFits, groups_parts, other_parts, joins_parts, is_join}
 use Rattle.dh_typed_blocks.proofs.PhasesHolding.{EachGroup, IsSplit, ListSplit, OfOther, OtherOnlyFolds, inside}
 use Rattle.dh_typed_blocks.proofs.ProgramsFit.{ready_fits}
 use Rattle.dh_typed_blocks.proofs.SimplePrograms.{body_simple}
 
-module _ (p : Program) (ready : IsReady p) (few : AreFew (known_of p)) (assigned : AssignsInside (known_of p) 0 p.body) (plain : AssignsPlain (known_of p) p.body) where
+module _ (p : Program) (ready : IsReady p) (few : AreFewMemories (known_of p)) (assigned : AssignsInside (known_of p) 0 p.body) (plain : AssignsPlain (known_of p) p.body) where
   abbrev known : Known
   known = known_of p
 
@@ -61,9 +61,9 @@ module _ (p : Program) (ready : IsReady p) (few : AreFew (known_of p)) (assigned
   pub phases_inside : ListInside known [] (phases_of p)
   phases_inside = program_inside p Simple Joins (is_join known (placing_of p)) ready of_blocks of_choices of_repeats of_counts holds
 
-  pub straight_fits : (loops : List Turning) (cs : List Located) → HasStraight (phases_of p) cs → EachInside known (unrolled loops) cs → IsSplit known Simple Joins loops cs
+  pub straight_fits : (loops : List Turning) (cs : List Located) → HasStraight (phases_of p) cs → EachInside known (unrolled_loops loops) cs → IsSplit known Simple Joins loops cs
       → (f : StraightHolds p Simple Joins loops (commands (core_commands known cs))) × (cs ≡ f.of.done ++ f.of.folds)
   straight_fits loops cs has matched split = straight_of p Simple Joins (is_join known (placing_of p)) ready of_blocks of_choices of_repeats of_counts holds loops (commands (core_commands known cs)) cs refl has matched split
 
-  pub tested_fits : (loops : List Turning) (c : Located) → HasTest (phases_of p) c → EachMatches known (unrolled loops) c.around.loops → Simple loops c.command → (f : TestHolds p Simple Joins loops (tests (core_test known c))) × (f.of.tested ≡ c)
+  pub tested_fits : (loops : List Turning) (c : Located) → HasTest (phases_of p) c → EachMatches known (unrolled_loops loops) c.around.loops → Simple loops c.command → (f : TestHolds p Simple Joins loops (tests (core_test known c))) × (f.of.tested ≡ c)
   tested_fits loops c has matched h = tested_of p Simple Joins (is_join known (placing_of p)) ready of_blocks of_choices of_repeats of_counts holds loops (tests (core_test known c)) c refl has matched h

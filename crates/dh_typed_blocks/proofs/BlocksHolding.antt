@@ -9,16 +9,16 @@ use Rattle.dh_tree.specs.declared.trees.expressions.Ref.{Ref}
 use Rattle.dh_tree.specs.PlainTrees.{Placed, Unrolled, Term, Action, action, ActionForm, blocks, decides, repeats, counts, MaybeAction, Groups, Program}
 use Rattle.dh_tree.specs.Ready.{IsReady}
 use Rattle.dh_meaning.specs.Core.{Turning}
-use Rattle.dh_meaning.specs.CoreOf.{form_of, known_of, core_commands, core_of, core_test}
+use Rattle.dh_meaning.specs.CoreOf.{action_form_of, known_of, core_commands, core_of, core_test}
 use Rattle.dh_meaning.specs.Effects.{Block, commands, tests}
 use Rattle.dh_meaning.specs.Paths.{paths_in}
 use Rattle.dh_meaning.specs.Phases.{Located, turn_count, phases_of}
 use Rattle.dh_meaning.specs.Sites.{Around, nothing_around}
-use Rattle.dh_meets.specs.Charges.{factors_of}
+use Rattle.dh_meets.specs.Charges.{loop_factors}
 use Rattle.dh_meets.specs.SourceEvents.{SourceEvent, trace}
 use Rattle.dh_sound.specs.Blocks.{factors, StandsIn}
 use Rattle.dh_sound.specs.BlocksOfPhases.{OfStraight, OfTest}
-use Rattle.dh_sound.specs.LoopsMatch.{unrolled, EachMatches}
+use Rattle.dh_sound.specs.LoopsMatch.{unrolled_loops, EachMatches}
 use Rattle.dh_sound.specs.PhaseFacts.{HasStraight, HasTest}
 use Rattle.dh_sound.specs.SimpleForms.{AreFolds, IsFold, IsFoldForm}
 use Rattle.dh_sound.specs.Trails.{StandsBehind, of_located}
@@ -40,7 +40,7 @@ each_behind p r before part (c ∷ cs) h = (
   each_behind p r ((before ++ h.0) ++ of_located c) h.1.0 cs h.1.1.1.1,
 )
 
-as_fold : (a : Action) → IsFoldForm (form_of a) → IsFold a
+as_fold : (a : Action) → IsFoldForm (action_form_of a) → IsFold a
 as_fold (action id place form) h = h
 
 module _ (p : Program) (P : List Turning → Action → Type 0) (F : List Turning → ActionForm → Type 0) where
@@ -60,7 +60,7 @@ module _ (p : Program) (P : List Turning → Action → Type 0) (F : List Turnin
   module _ (is_fold : (loops : List Turning) (form : ActionForm) → IsReducer F loops form → IsFoldForm form) where
     are_folds : (loops : List Turning) (cs : List Located) → EachFold F loops cs → AreFolds cs
     are_folds loops [] h = tt
-    are_folds loops (c ∷ cs) h = (as_fold c.command (is_fold loops (form_of c.command) h.0), are_folds loops cs h.1)
+    are_folds loops (c ∷ cs) h = (as_fold c.command (is_fold loops (action_form_of c.command) h.0), are_folds loops cs h.1)
 
     module _ (ready : IsReady p)
         (of_blocks : (d : List Turning) (id : ℕ) (place : Place) (body : Groups) → P d (action id place (blocks body)) → EachGroup P d body)
@@ -78,12 +78,12 @@ module _ (p : Program) (P : List Turning → Action → Type 0) (F : List Turnin
       tops = tops_so (λ round es c. StandsViews p round es c) (λ round es c. StandsBehind round es c) (λ round es c s. s.stands) nothing_around [] (trace p) (phases_of p) behind_views
 
       -- straight commands that stand in these loops, split so
-      pub straight_of : (loops : List Turning) (block : Block) (cs : List Located) → block ≡ commands (core_commands (known_of p) cs) → HasStraight (phases_of p) cs → EachInside (known_of p) (unrolled loops) cs
+      pub straight_of : (loops : List Turning) (block : Block) (cs : List Located) → block ≡ commands (core_commands (known_of p) cs) → HasStraight (phases_of p) cs → EachInside (known_of p) (unrolled_loops loops) cs
           → (split : IsSplit (known_of p) P F loops cs) → (f : StraightHolds loops block) × (cs ≡ f.of.done ++ f.of.folds)
       straight_of loops block cs is has matched split =
-          let w = loops_by (known_of p) (λ round es c. StandsViews p round es c) (λ round es c x. x.stands.around) [] (trace p) (unrolled loops) cs
+          let w = loops_by (known_of p) (λ round es c. StandsViews p round es c) (λ round es c x. x.stands.around) [] (trace p) (unrolled_loops loops) cs
           (straight_by (λ round es c. StandsViews p round es c) [] (trace p) nothing_around (phases_of p) cs behind_views has) matched in
-          let same : factors loops ≡ factors_of w.0.loops = match_factors (known_of p) loops w.0.loops w.1.1 in
+          let same : factors loops ≡ loop_factors w.0.loops = match_factors (known_of p) loops w.0.loops w.1.1 in
           let views : FollowsViews p w.0 [] (trace p) split.done =
           less_by (λ round es c. StandsViews p round es c) w.0 [] (trace p) split.done split.folds (subst (λ (x : List Located). FollowsViews p w.0 [] (trace p) x) split.is w.1.0) in (
             record {
@@ -107,10 +107,10 @@ module _ (p : Program) (P : List Turning → Action → Type 0) (F : List Turnin
           )
 
       -- and a command whose test is evaluated
-      pub tested_of : (loops : List Turning) (block : Block) (c : Located) → block ≡ tests (core_test (known_of p) c) → HasTest (phases_of p) c → EachMatches (known_of p) (unrolled loops) c.around.loops → P loops c.command → (f : TestHolds loops block) × (f.of.tested ≡ c)
+      pub tested_of : (loops : List Turning) (block : Block) (c : Located) → block ≡ tests (core_test (known_of p) c) → HasTest (phases_of p) c → EachMatches (known_of p) (unrolled_loops loops) c.around.loops → P loops c.command → (f : TestHolds loops block) × (f.of.tested ≡ c)
       tested_of loops block c is has matched h =
           let f = own_around [] (trace p) c (tested_along [] (trace p) nothing_around (phases_of p) c tops has) in
-          let same : factors loops ≡ factors_of c.around.loops = match_factors (known_of p) loops c.around.loops matched in
+          let same : factors loops ≡ loop_factors c.around.loops = match_factors (known_of p) loops c.around.loops matched in
           (record { of = record { tested = c; is = is; has = has; follows = f; inside = same; paths = ap paths_in same }; holds = h }, refl)
 
       -- each block is one of these

@@ -9,13 +9,13 @@ use Rattle.dh_tree.specs.Ready.{IsReady}
 use Rattle.dh_tree.specs.Seen.{program_seen}
 use Rattle.dh_meaning.specs.Bindings.{binding_in, depth_bound}
 use Rattle.dh_meaning.specs.Core.{Turning}
-use Rattle.dh_meaning.specs.CoreOf.{Known, known_of, core_commands, core_of, form_of, test_of}
+use Rattle.dh_meaning.specs.CoreOf.{Known, known_of, core_commands, core_of, action_form_of, test_of}
 use Rattle.dh_meaning.specs.Effects.{Block}
 use Rattle.dh_meaning.specs.Levels.{any_assigns}
 use Rattle.dh_meaning.specs.Phases.{Located}
 use Rattle.dh_plan.specs.Correspondence.{Round}
 use Rattle.dh_plan.specs.PlainPlans.{PlainPlan}
-use Rattle.dh_runnable.specs.ActionsRun.{table_in}
+use Rattle.dh_runnable.specs.ActionsRun.{table_known}
 use Rattle.dh_sound.specs.AssignsInside.{AssignsInside}
 use Rattle.dh_sound.proofs.SortsOfPrograms.{assigns_inside}
 use Rattle.dh_sound.specs.Blocks.{factors, StandsIn}
@@ -63,7 +63,7 @@ module _ (known : Known) (p : Placing) (ts : List Turning) where
   all_simple (c ∷ cs) h = (h.0.0, all_simple cs h.1)
 
   -- the test of a command that fits
-  test_fits : (a : Action) (t : Term) → test_of (form_of a) ≡ Some t → Fits known p ts a → TestFits known p ts t
+  test_fits : (a : Action) (t : Term) → test_of (action_form_of a) ≡ Some t → Fits known p ts a → TestFits known p ts t
   test_fits (action id place (decides test chosen other)) t e h = let same : test ≡ t = cc in subst (λ (x : Term). TestFits known p ts x) same h.0
   test_fits (action id place (repeats test body)) t e h = let same : test ≡ t = cc in subst (λ (x : Term). TestFits known p ts x) same h.0
   test_fits (action id place (lets name declared value)) t e h = absurd cc
@@ -84,7 +84,7 @@ module _ (scene : Scene) (around : Around) (plan : PlainPlan) (rounds : List Rou
   places = placing_of (program_seen scene.program.now)
 
   module _ (ready : IsReady p) (place : IsPlaceTold scene around plan rounds) (block : Block) (stands : StandsIn [] (core_of p).phases (loops_of rounds) block) where
-    same_table : plan.table ≡ table_in (known_in scene)
+    same_table : plan.table ≡ table_known (known_in scene)
     same_table = place.table
 
     pub straight_sound : (f : StraightHolds p (SimpleFits (known_of p) places) (JoinFits (known_of p) places) (loops_of rounds) block) → (s : StraightSound scene around plan rounds block) × (s.of ≡ f.of)
@@ -139,7 +139,7 @@ module _ (scene : Scene) (around : Around) (plan : PlainPlan) (rounds : List Rou
             let fits = test_fits (known_in scene) places (loops_of rounds) f.of.tested.command t e holds in
             record {
               sound = subst (λ (table : List MemEntry). IsSound (known_in scene) table (IsNamedHere scene around.levels.now plan.registers rounds (λ entity. false)) t) (sym same_table)
-                  (term_mapped (known_in scene) (table_in (known_in scene)) (IsNamedIn (known_in scene) places (loops_of rounds)) (IsNamedHere scene around.levels.now plan.registers rounds (λ entity. false)) names t fits.0.0);
+                  (term_mapped (known_in scene) (table_known (known_in scene)) (IsNamedIn (known_in scene) places (loops_of rounds)) (IsNamedHere scene around.levels.now plan.registers rounds (λ entity. false)) names t fits.0.0);
               kind_is = fits.1;
             };
       },

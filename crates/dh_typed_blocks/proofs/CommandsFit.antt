@@ -15,7 +15,7 @@ use Rattle.dh_tree.specs.Breaches.{unknown, twice, term_breaches, terms_breaches
 use Rattle.dh_tree.specs.Excesses.{excess_at, form_copies_excess, other_copies_excess, part_copies_excess}
 use Rattle.dh_tree.specs.Forms.{unbuilt, form_holds, unbuilt_form, unbuilt_part}
 use Rattle.dh_tree.specs.Indices.{term_index_breaches, turns_breaches, action_form_index_breaches, actions_index_breaches}
-use Rattle.dh_tree.specs.KindBreaches.{term_kind_breaches, indices_kind_breaches, parent_breaches, assigned_breaches, truth_breaches, condition_breaches, target_breaches, reducer_breaches, iterator_breaches, low_breaches, high_breaches, action_form_kind_breaches, actions_kind_breaches}
+use Rattle.dh_tree.specs.KindBreaches.{term_kind_breaches, indices_kind_breaches, parent_breaches, assigned_breaches, truth_breaches, condition_breaches, target_breaches, reducer_kind_breaches, iterator_breaches, low_breaches, high_breaches, action_form_kind_breaches, actions_kind_breaches}
 use Rattle.dh_tree.specs.Kinds.{of_iterator, Facts, fact_of, found, place_of, for_numbers, index_breaches, target_kind, iterator_kind, facts_after_form, facts_after_actions, typed_term, typed_terms, typed_plan, typed_action_form, typed_other, typed_actions, typed_groups}
 use Rattle.dh_tree.specs.PlainTrees.{Term, term, term_then, accessed, in_bank, number, truth_value, named, applied, converted, action, ActionForm, lets, lets_memory, views, assigns, stores, reduces, calls, blocks, decides, repeats, counts, MaybeAction, no_action, one_action, Actions, no_actions, action_then, Groups, no_groups, group_then}
 use Rattle.dh_tree.specs.Resolved.{used, declares, resolved_term, resolved_terms, resolved_plan, resolved_form, resolved_other, resolved_actions, resolved_groups}
@@ -39,7 +39,7 @@ use Rattle.dh_sound.specs.Straight.{IsTarget, IsNamedForm, IsNamedOther, AreName
 use Rattle.dh_sound.proofs.DepthsNamed.{inside_count}
 use Rattle.dh_sound.proofs.FactsGrow.{form_grows, InStep, next_in_step, past_in_step, form_in_step, part_in_step}
 use Rattle.dh_sound.proofs.Offsets.{offsets_kinds, offsets_named, offsets_sized, offsets_typed, offsets_visible}
-use Rattle.dh_runnable.specs.ActionsRun.{table_in}
+use Rattle.dh_runnable.specs.ActionsRun.{table_known}
 use Rattle.dh_code.specs.Declarations.{factors_inside, form_factored, groups_factored, other_factored, part_factored}
 use Rattle.dh_code.specs.Ranks.{copies_in}
 use Rattle.dh_code.specs.Slots.{Placing}
@@ -56,7 +56,7 @@ use Rattle.dh_runnable.proofs.TypedParts.{for_numbers_sized}
 use Rattle.dh_runnable.proofs.ViewsKnown.{AreGoodWays, AreKept, Rules}
 use Rattle.dh_blocks.specs.SoundCommands.{CanHold, kind_aimed}
 use Rattle.dh_blocks.specs.SoundTerms.{IsSound, IsSoundTarget, kept_name}
-use Rattle.dh_typed_blocks.specs.PlainPrograms.{AreFew, IsKeptFor, IsPlainTarget, FormPlain, OtherPlain, GroupsPlain, PartPlain}
+use Rattle.dh_typed_blocks.specs.PlainPrograms.{AreFewMemories, IsKeptFor, IsPlainTarget, FormPlain, OtherPlain, GroupsPlain, PartPlain}
 use Rattle.dh_typed_blocks.proofs.Fitting.{AllInteger, IsNamedIn, IsTargetIn, KeepsFits, KeptFits, OffsetsFit, TermFits, kept_at, FoldFits, FormFits, OtherFits, GroupsFit, PartFits}
 use Rattle.dh_typed_blocks.proofs.KindsGiven.{written_is}
 use Rattle.dh_typed_blocks.proofs.ReducersWhole.{FormJoinsWhole, OtherJoinsWhole, GroupsJoinWhole, PartJoinsWhole, FormReducesWhole, OtherReducesWhole, GroupsReduceWhole, PartReducesWhole}
@@ -78,8 +78,8 @@ integer_kind (kind.Unsigned w) r s e = s
 integer_kind (kind.Signed w) r s e = s
 
 -- the target of a store
-store_target : (known : Known) (Name : Ref → Kind → Type 0) (target : Term) (j : Kind) → IsTarget target → IsSound known (table_in known) Name target → found target ≡ Some j
-    → IsSoundTarget known (table_in known) Name target × (kind_aimed known (table_in known) target ≡ j)
+store_target : (known : Known) (Name : Ref → Kind → Type 0) (target : Term) (j : Kind) → IsTarget target → IsSound known (table_known known) Name target → found target ≡ Some j
+    → IsSoundTarget known (table_known known) Name target × (kind_aimed known (table_known known) target ≡ j)
 store_target known Name (term place m (accessed r ts)) j n s e = ((s.0, s.1.0), sym s.1.1 ∙ ap kind_or_first e)
 store_target known Name (term place m (in_bank r bank at row)) j n s e = ((s.0, (s.1.0, s.1.1.0)), sym s.1.1.1.0 ∙ ap kind_or_first e)
 store_target known Name (term place m (number negative x)) j n s e = elim n [ ]
@@ -88,7 +88,7 @@ store_target known Name (term place m (named r)) j n s e = elim n [ ]
 store_target known Name (term place m (applied o left right)) j n s e = elim n [ ]
 store_target known Name (term place m (converted inner to)) j n s e = elim n [ ]
 
-module _ (known : Known) (rules : Rules) (good : AreGoodWays known rules.views) (p : Placing) (few : AreFew known) where
+module _ (known : Known) (rules : Rules) (good : AreGoodWays known rules.views) (p : Placing) (few : AreFewMemories known) where
   -- what keeps an offset is in scope
   kept_scope : (ts : List Turning) (h : Hidden) → binding_in known.bindings h.entity ≡ Some (hidden_binding h) → InScope known ts (kept_name h)
   kept_scope ts h e = is_variable h.entity refl (subst (λ (b : Option Binding). IsNoIterator b) (sym e) refl)
@@ -321,7 +321,7 @@ module _ (known : Known) (rules : Rules) (good : AreGoodWays known rules.views) 
         let below = second_none (unknown s.visible parent) _ h.visible in
         let typed = offsets_typed facts form plan_typed in
         let named_so = offsets_named s.visible form plan_named in
-        let seen = offsets_visible s.visible form ∙ first_none (names.plan_breaches s.visible form) _ below in
+        let seen = offsets_visible s.visible form ∙ first_none (names.plan_name_breaches s.visible form) _ below in
         let kinds = offsets_kinds facts form ∙ second_none (parent_breaches (fact_of facts parent) parent.place) _ h.kinds in
         let sized = offsets_sized form h.sized in
         let offsets = offsets_known known p (factors ts) rules good facts s.visible k (offsets_of form) typed named_so seen kinds h.views sized in
@@ -366,7 +366,7 @@ module _ (known : Known) (rules : Rules) (good : AreGoodWays known rules.views) 
         (second_none (term_index_breaches (indexed known rules) target) _ h.indices) (second_none (term_view_breaches (judged known rules) target) _ h.views) h.sized.1 sc.1 in
         let aim = store_target known (IsNamedIn known p ts) target t.0.kind na.0 t.1.0 t.0.is in (
           (v.1, (aim.0, t.1.1)),
-          can_hold (kind_aimed known (table_in known) target) (found target) t.0.kind value v.0.kind t.0.is aim.1 v.0.is (first_none (assigned_breaches (found target) (found value) (place_of value)) _ side),
+          can_hold (kind_aimed known (table_known known) target) (found target) t.0.kind value v.0.kind t.0.is aim.1 v.0.is (first_none (assigned_breaches (found target) (found value) (place_of value)) _ side),
         )
     form_fits (blocks body) ts facts s place l k h sc asg wh si na pl ai =
         groups_fit body ts facts s l k (record {
@@ -589,7 +589,7 @@ module _ (known : Known) (rules : Rules) (good : AreGoodWays known rules.views) 
         let same : used s.visible target ≡ target = let eq = h.named in cc in
         let name = name_known known p (factors ts) facts s.visible target k same (first_none (unknown s.visible target) _ h.visible) in
         let below = second_none (target_breaches (fact_of facts target) target.place) _ h.kinds in
-        let side = second_none (reducer_breaches (target_kind (fact_of facts target)) (found value) target.place) _ below in
+        let side = second_none (reducer_kind_breaches (target_kind (fact_of facts target)) (found value) target.place) _ below in
         let v = right ts facts s _ value ai k (for_numbers_sized _ (target_sized known p (factors ts) facts target name)) typed resolved
         (second_none (unknown s.visible target) _ h.visible)
         (second_none (assigned_breaches (target_kind (fact_of facts target)) (found value) (place_of value)) _ side) h.indices h.views h.sized sc in
@@ -599,7 +599,7 @@ module _ (known : Known) (rules : Rules) (good : AreGoodWays known rules.views) 
             (pl.1, wh),
             can_reduce target.place (kind_of known target) (target_kind (fact_of facts target)) t.kind value v.0.kind t.is (bound_is known p (factors ts) target t.number t.kind t.entity t.stands) v.0.is
                 t.stands.sized (v.0.operand 0).sized
-                (first_none (reducer_breaches (target_kind (fact_of facts target)) (found value) target.place) _ below)
+                (first_none (reducer_kind_breaches (target_kind (fact_of facts target)) (found value) target.place) _ below)
                 (first_none (assigned_breaches (target_kind (fact_of facts target)) (found value) (place_of value)) _ side),
           ),
         )

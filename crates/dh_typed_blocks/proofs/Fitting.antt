@@ -16,8 +16,8 @@ use Rattle.dh_meaning.specs.Phases.{turn_count}
 use Rattle.dh_meaning.specs.Ways.{Hidden, hidden_in}
 use Rattle.dh_sound.specs.Blocks.{factors}
 use Rattle.dh_sound.specs.NamesInScope.{InScope}
-use Rattle.dh_sound.specs.SameKeys.{IsIteratorOf}
-use Rattle.dh_runnable.specs.ActionsRun.{table_in}
+use Rattle.dh_sound.specs.SameKeys.{IsIteratorName}
+use Rattle.dh_runnable.specs.ActionsRun.{table_known}
 use Rattle.dh_code.specs.Slots.{Placing}
 use Rattle.dh_code.specs.Suited.{IsInside}
 use Rattle.dh_expressions.specs.Shown.{kind_written}
@@ -45,7 +45,7 @@ module _ (known : Known) (p : Placing) where
     pub bound : kind_of known r ≡ k
     pub inside : IsInside p (factors loops) (depth_of known r) (entity_number r.entity)
     pub scope : InScope known loops r
-    pub integer : (loop : Turning) → IsIteratorOf known r loop → IsInteger k
+    pub integer : (loop : Turning) → IsIteratorName known r loop → IsInteger k
 
   -- a variable that is assigned to, declared inside so many loops or more
   pub record IsTargetIn (loops : List Turning) (least : ℕ) (r : Ref) : Type 0 where
@@ -56,7 +56,7 @@ module _ (known : Known) (p : Placing) where
     pub full : least ≤ depth_of known r
 
   abbrev pub TermFits : List Turning → Term → Type 0
-  TermFits loops t = IsSound known (table_in known) (IsNamedIn loops) t × IsTyped known (table_in known) t
+  TermFits loops t = IsSound known (table_known known) (IsNamedIn loops) t × IsTyped known (table_known known) t
 
   abbrev pub TestFits : List Turning → Term → Type 0
   TestFits loops t = TermFits loops t × (kind_written t ≡ Bool)
@@ -70,8 +70,8 @@ module _ (known : Known) (p : Placing) where
 
   abbrev pub StoreFits : List Turning → (target value : Term) → Type 0
   StoreFits loops target t =
-      (TermFits loops t × (IsSoundTarget known (table_in known) (IsNamedIn loops) target × IsTyped known (table_in known) target))
-      × CanHold (kind_aimed known (table_in known) target) t
+      (TermFits loops t × (IsSoundTarget known (table_known known) (IsNamedIn loops) target × IsTyped known (table_known known) target))
+      × CanHold (kind_aimed known (table_known known) target) t
 
   -- offsets are numbers, and are kept in variables that follow one another from a first one on, inside as many loops: each has
   -- the kind of its offset
@@ -86,7 +86,7 @@ module _ (known : Known) (p : Placing) where
   KeepsFits loops (h ∷ hs) (t ∷ ts) = KeptFits loops h.depth h.entity (t ∷ ts)
 
   abbrev pub OffsetsFit : List Turning → List Term → Type 0
-  OffsetsFit loops ts = AreSound known (table_in known) (IsNamedIn loops) (terms ts) × AreTyped known (table_in known) (terms ts)
+  OffsetsFit loops ts = AreSound known (table_known known) (IsNamedIn loops) (terms ts) × AreTyped known (table_known known) (terms ts)
 
   abbrev pub FoldFits : List Turning → ActionForm → Type 0
   FoldFits loops (reduces r o t) =

@@ -22,9 +22,9 @@ use Rattle.dh_tree.specs.Scopes.{Scope, entity, declare, leave, past, at_end, fo
 use Rattle.dh_tree.proofs.EmptyLists.{first_none, second_none, not_none}
 use Rattle.dh_meaning.specs.Bindings.{Binding, bindings, bindings_of, form_bindings, other_bindings, groups_bindings, part_bindings, binding_in, depth_inside}
 use Rattle.dh_meaning.specs.CoreOf.{Known, known_of, entity_number}
-use Rattle.dh_meaning.specs.Ways.{Hidden, Led, Standing, behind_hidden, hidden_binding, hidden_bindings, hidden_of, led_binding, standings, view_bindings, ways_of}
+use Rattle.dh_meaning.specs.Ways.{Hidden, Led, ViewSite, behind_hidden, hidden_binding, hidden_bindings, hidden_of, led_binding, standings, view_bindings, ways_of}
 use Rattle.dh_sound.specs.SameKeys.{IsNoIterator}
-use Rattle.dh_sound.specs.Straight.{Stands, IsNamedAction, IsNamedForm, IsNamedOther, AreNamedGroups, AreNamedActions}
+use Rattle.dh_sound.specs.Straight.{StandsForSome, IsNamedAction, IsNamedForm, IsNamedOther, AreNamedGroups, AreNamedActions}
 use Rattle.dh_typed_blocks.specs.PlainPrograms.{IsPlainTarget, AssignsPlain, FormPlain, OtherPlain, GroupsPlain, PartPlain}
 use Rattle.dh_sound.proofs.NamedPrograms.{ready_named}
 use Rattle.dh_sound.proofs.FactsGrow.{appended, added_last}
@@ -150,7 +150,7 @@ module _ (es : List Entity) where
       (none_when (not (is_folded_into es i target.entity)) (breach Reducer target.place) (first_none (when (not (is_folded_into es i target.entity)) (breach Reducer target.place ∷ [])) _ e)))
 
   module _ (known : Known) (all : AllSorted known.bindings) where
-    pub plain_of : (r : Ref) → Stands r → names_iterator es r.entity ≡ false → IsPlainTarget known r
+    pub plain_of : (r : Ref) → StandsForSome r → names_iterator es r.entity ≡ false → IsPlainTarget known r
     plain_of r (n, is) e =
         subst (λ (k : ℕ). IsNoIterator (binding_in known.bindings k)) (sym (ap entity_number is)) (found_plain known.bindings n all (ap (names_iterator es) (sym is) ∙ e))
 
@@ -227,7 +227,7 @@ module _ (es : List Entity) where
   hidden_sorted [] = tt
   hidden_sorted (h ∷ hs) = (inl refl, hidden_sorted hs)
 
-  kept_sorted : (first : ℕ) (ss : List Standing) → AllSorted es (hidden_bindings first ss)
+  kept_sorted : (first : ℕ) (ss : List ViewSite) → AllSorted es (hidden_bindings first ss)
   kept_sorted first [] = tt
   kept_sorted first (s ∷ ss) = sorted_both es (map hidden_binding (hidden_of first s)) (hidden_bindings (behind_hidden first s) ss) (hidden_sorted (hidden_of first s)) (kept_sorted (behind_hidden first s) ss)
 

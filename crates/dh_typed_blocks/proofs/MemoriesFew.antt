@@ -19,10 +19,10 @@ use Rattle.dh_ways.proofs.HiddenApart.{way_within}
 use Rattle.dh_meets.specs.Charges.{binding_depends, entity_depends, variable_depends}
 use Rattle.dh_sound.specs.ViewsBound.{IsBoundTo}
 use Rattle.dh_sound.proofs.ViewsBound.{views_bound}
-use Rattle.dh_runnable.specs.ActionsRun.{table_in}
+use Rattle.dh_runnable.specs.ActionsRun.{table_known}
 use Rattle.dh_runnable.proofs.TurnsCounted.{first_within, second_within, within_limit}
 use Rattle.dh_blocks.proofs.MemoriesUnbound.{memories_unbound}
-use Rattle.dh_typed_blocks.specs.PlainPrograms.{AreFew, IsKeptFor}
+use Rattle.dh_typed_blocks.specs.PlainPrograms.{AreFewMemories, IsKeptFor}
 
 -- Memories are names.
 
@@ -110,11 +110,11 @@ kept_named p ready name n w e is = each w.hidden ((views_bound p ready).bound (S
     each (h ∷ hs) f d = (one h f.0 d.0, each hs f.1 d.1)
 
 -- of a ready program
-pub ready_few : (p : Program) → IsReady p → AreFew (known_of p)
+pub ready_few : (p : Program) → IsReady p → AreFewMemories (known_of p)
 ready_few p r = record {
-  memories = count (length (table_in (known_of p))) (length (memories_of p)) (length (map outside_memory p.decls)) (length p.decls) (length (locals p.body)) (declared_in p.body) (length p.functions) (declared_in_functions p.functions)
+  memories = count (length (table_known (known_of p))) (length (memories_of p)) (length (map outside_memory p.decls)) (length p.decls) (length (locals p.body)) (declared_in p.body) (length p.functions) (declared_in_functions p.functions)
       (mapped_long entry_of (memories_of p)) (length-append (map outside_memory p.decls) (locals p.body)) (mapped_long outside_memory p.decls) (locals_few p.body) r.of_text.names;
-  banks = λ memory. low_enough (banks_of (dims_at (table_in (known_of p)) memory)) (banks_few (memories_of p) memory (first_within (first_above limit.Banks (λ (m : Memory). banks_of m.shape.dims) (memories_of p)) _ (second_within (first_above limit.Dimensions (λ (m : Memory). length m.shape.dims) (memories_of p)) _ r.limits)));
+  banks = λ memory. low_enough (banks_of (dims_at (table_known (known_of p)) memory)) (banks_few (memories_of p) memory (first_within (first_above limit.Banks (λ (m : Memory). banks_of m.shape.dims) (memories_of p)) _ (second_within (first_above limit.Dimensions (λ (m : Memory). length m.shape.dims) (memories_of p)) _ r.limits)));
   unbound = memories_unbound p r;
   kept = λ name n w e is. kept_named p r name n w e (ap (way_to p) (sym e) ∙ is);
 }

@@ -11,21 +11,21 @@ use Rattle.dh_plan.specs.Correspondence.{Round}
 use Rattle.dh_sound.specs.Blocks.{factors}
 use Rattle.dh_sound.specs.LoopsMatch.{AreSpared}
 use Rattle.dh_sound.specs.NamesInScope.{InScope, is_variable, is_iterator}
-use Rattle.dh_sound.specs.SameKeys.{IsIteratorOf, IsNoIterator}
+use Rattle.dh_sound.specs.SameKeys.{IsIteratorName, IsNoIterator}
 use Rattle.dh_code.specs.Declarations.{placing_of}
 use Rattle.dh_code.specs.Slots.{held_at}
 use Rattle.dh_code.specs.Suited.{IsInside}
 use Rattle.dh_expressions.specs.declared.paths.Level.{Level}
 use Rattle.dh_expressions.specs.declared.scenes.Scene.{Scene}
 use Rattle.dh_expressions.specs.Evaluated.{counter_of, known_in}
-use Rattle.dh_commands.specs.ShownVariables.{IsSeen, depth_in, factors_of}
+use Rattle.dh_commands.specs.ShownVariables.{IsSeen, depth_in, level_factors}
 use Rattle.dh_blocks.specs.NamedVariables.{IsOfRound, IsNamedHere}
 use Rattle.dh_typed_blocks.specs.SoundBlocks.{loops_of}
 use Rattle.dh_typed_blocks.specs.ScenesTold.{TellsScene, IsRoundTold, AreRoundsTold}
 use Rattle.dh_typed_blocks.proofs.Fitting.{IsNamedIn, IsTargetIn}
 use Rattle.dh_typed_blocks.specs.PlainPrograms.{IsPlainTarget}
 
-counted_levels : (levels : List Level) → length (factors_of levels) ≡ length levels
+counted_levels : (levels : List Level) → length (level_factors levels) ≡ length levels
 counted_levels [] = refl
 counted_levels (l ∷ ls) = ap suc (counted_levels ls)
 
@@ -42,7 +42,7 @@ spared_at touched [] i loop h e = absurd cc
 spared_at touched (l ∷ ls) zero loop h e = let same : l ≡ loop = cc in subst (λ (x : Turning). touched x.iterator ≡ false) same h.0
 spared_at touched (l ∷ ls) (suc i) loop h e = spared_at touched ls i loop h.1 e
 
-module _ (scene : Scene) (levels : List Level) (rounds : List Round) (tells : TellsScene scene) (top : factors_of levels ≡ factors (loops_of rounds)) where
+module _ (scene : Scene) (levels : List Level) (rounds : List Round) (tells : TellsScene scene) (top : level_factors levels ≡ factors (loops_of rounds)) where
   pub long_is : length levels ≡ length (factors (loops_of rounds))
   long_is = sym (counted_levels levels) ∙ ap length top
 
@@ -72,7 +72,7 @@ module _ (scene : Scene) (levels : List Level) (rounds : List Round) (tells : Te
         by true e = inr (subst (λ (n : ℕ). n ≤ depth_in scene entity) (sym long_is) (inside entity e))
         by false e = inl e
 
-    round_here : (r : Ref) (k : Kind) (i : ℕ) (round : Round) → slice_get rounds i ≡ Some round → touched round.loop.iterator ≡ false → IsIteratorOf (known_in scene) r round.loop → IsNamedIn (known_in scene) (placing_of (program_seen scene.program.now)) (loops_of rounds) r k
+    round_here : (r : Ref) (k : Kind) (i : ℕ) (round : Round) → slice_get rounds i ≡ Some round → touched round.loop.iterator ≡ false → IsIteratorName (known_in scene) r round.loop → IsNamedIn (known_in scene) (placing_of (program_seen scene.program.now)) (loops_of rounds) r k
         → IsRoundTold scene kinds rounds i round → IsOfRound scene kinds rounds touched r k
     round_here r k i round at left it h t =
         let number : entity_number r.entity ≡ round.loop.iterator = ap entity_number it.entity in
@@ -108,4 +108,4 @@ module _ (scene : Scene) (levels : List Level) (rounds : List Round) (tells : Te
             let round = round_at rounds i loop at in
             inr (round_here r k i round.0 round.1.0
             (subst (λ (l : Turning). touched l.iterator ≡ false) (sym round.1.1) (spared_at touched (loops_of rounds) i loop spared at))
-            (subst (λ (l : Turning). IsIteratorOf (known_in scene) r l) (sym round.1.1) it) h (told i round.0 round.1.0))
+            (subst (λ (l : Turning). IsIteratorName (known_in scene) r l) (sym round.1.1) it) h (told i round.0 round.1.0))

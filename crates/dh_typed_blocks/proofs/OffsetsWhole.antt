@@ -11,11 +11,11 @@ use Rattle.dh_meaning.specs.Bindings.{depth_inside, kind_found}
 use Rattle.dh_meaning.specs.Core.{Turning}
 use Rattle.dh_meaning.specs.CoreOf.{Known, known_of, turning_of}
 use Rattle.dh_meaning.specs.Phases.{turn_count}
-use Rattle.dh_meaning.specs.Ways.{Hidden, Standing, behind_hidden, form_standings, groups_standings, hidden_from, hidden_of, other_standings, part_standings, standings}
+use Rattle.dh_meaning.specs.Ways.{Hidden, ViewSite, behind_hidden, form_standings, groups_standings, hidden_from, hidden_of, other_standings, part_standings, standings}
 use Rattle.dh_ways.specs.HiddenVariables.{all_hidden}
-use Rattle.dh_ways.specs.Stands.{standing_of}
+use Rattle.dh_ways.specs.Stands.{view_site_of}
 use Rattle.dh_sound.proofs.SortsOfPrograms.{assigns_inside}
-use Rattle.dh_runnable.specs.ActionsRun.{table_in}
+use Rattle.dh_runnable.specs.ActionsRun.{table_known}
 use Rattle.dh_code.specs.Declarations.{Declaration, Factored, all_hidden_declared, hidden_declared, placing_of}
 use Rattle.dh_code.specs.Slots.{Placing}
 use Rattle.dh_code.proofs.HiddenPlaced.{stand_of}
@@ -31,10 +31,10 @@ abbrev pub AreWhole : List Term → Type 0
 AreWhole ts = AllByRecursion (λ (t : Term). IsInteger (kind_found t)) ts
 
 -- the offsets of each view
-abbrev pub AllWhole : List Standing → Type 0
-AllWhole ss = AllByRecursion (λ (s : Standing). AreWhole (offsets_of s.form)) ss
+abbrev pub AllWhole : List ViewSite → Type 0
+AllWhole ss = AllByRecursion (λ (s : ViewSite). AreWhole (offsets_of s.form)) ss
 
-two_whole : (ss more : List Standing) → AllWhole ss → AllWhole more → AllWhole (ss ++ more)
+two_whole : (ss more : List ViewSite) → AllWhole ss → AllWhole more → AllWhole (ss ++ more)
 two_whole [] more a b = b
 two_whole (s ∷ ss) more a b = (a.0, two_whole ss more a.1 b)
 
@@ -73,7 +73,7 @@ module _ (F : List Turning → ActionForm → Type 0) where
   other_only (one_action a) d loops h = only_whole a d loops h
 
 module _ (known : Known) (p : Placing) where
-  typed_whole : (ts : List Term) → AreTyped known (table_in known) (terms ts) → AreWhole ts
+  typed_whole : (ts : List Term) → AreTyped known (table_known known) (terms ts) → AreWhole ts
   typed_whole [] h = tt
   typed_whole (t ∷ ts) h = (subst (λ (k : Kind). IsInteger k) (found_written t) h.0.1, typed_whole ts h.1)
 
@@ -119,7 +119,7 @@ both_whole : (hs gs : List Hidden) → AllByRecursion (λ (h : Hidden). IsIntege
 both_whole [] gs a b = b
 both_whole (h ∷ hs) gs a b = (a.0, both_whole hs gs a.1 b)
 
-pub hidden_whole : (first : ℕ) (ss : List Standing) → AllWhole ss → AllByRecursion (λ (h : Hidden). IsInteger h.kind) (all_hidden first ss)
+pub hidden_whole : (first : ℕ) (ss : List ViewSite) → AllWhole ss → AllByRecursion (λ (h : Hidden). IsInteger h.kind) (all_hidden first ss)
 hidden_whole first [] a = tt
 hidden_whole first (s ∷ ss) a = both_whole (hidden_of first s) (all_hidden (behind_hidden first s) ss) (from_whole first s.depth (offsets_of s.form) a.0) (hidden_whole (behind_hidden first s) ss a.1)
 
@@ -132,7 +132,7 @@ both_declared : (ds es : List Declaration) → AllByRecursion (λ (d : Declarati
 both_declared [] es a b = b
 both_declared (d ∷ ds) es a b = (a.0, both_declared ds es a.1 b)
 
-pub factored_whole : (first : ℕ) (fs : List Factored) → AllWhole (map (λ f. standing_of (stand_of f)) fs) → AllByRecursion (λ (d : Declaration). IsInteger d.kind_is) (all_hidden_declared first fs)
+pub factored_whole : (first : ℕ) (fs : List Factored) → AllWhole (map (λ f. view_site_of (stand_of f)) fs) → AllByRecursion (λ (d : Declaration). IsInteger d.kind_is) (all_hidden_declared first fs)
 factored_whole first [] a = tt
 factored_whole first (f ∷ fs) a =
     both_declared (hidden_declared first f.factors (offsets_of f.form)) (all_hidden_declared (first + length (offsets_of f.form)) fs) (declared_whole first f.factors (offsets_of f.form) a.0)

@@ -10,12 +10,12 @@ use Rattle.dh_tree.specs.declared.trees.expressions.Ref.{Ref}
 use Rattle.dh_tree.specs.PlainTrees.{shrinks, splits, suffixes, shifts, Placed, Unrolled, Term, Action, action, ActionForm, lets, lets_memory, views, assigns, stores, reduces, calls, blocks, decides, repeats, counts, MaybeAction, no_action, one_action, Actions, no_actions, action_then, Groups, no_groups, group_then}
 use Rattle.dh_meaning.specs.AccessNumbers.{term_accesses, accesses_of, part_accesses}
 use Rattle.dh_meaning.specs.Core.{Turning}
-use Rattle.dh_meaning.specs.CoreOf.{Known, form_of, turning_of, core_commands, core_test, core_phase, core_phases}
+use Rattle.dh_meaning.specs.CoreOf.{Known, action_form_of, turning_of, core_commands, core_test, core_phase, core_phases}
 use Rattle.dh_meaning.specs.Effects.{Block, commands, tests}
 use Rattle.dh_meaning.specs.Phases.{Located, located, Phase, straight, turns, repeated, decided, Phases, no_phases, phase, of_list, one_straight, joined, are_straight, one_command, folded, turn_count, turn_phases, choice_phases, phases, form_phases, other_phases, groups_phases, parts_phases}
 use Rattle.dh_meaning.specs.Sites.{Around, in_arm, in_loop, loop_of, nothing_around}
 use Rattle.dh_sound.specs.Blocks.{StandsIn, StandsInPhase}
-use Rattle.dh_sound.specs.LoopsMatch.{unrolled, EachMatches}
+use Rattle.dh_sound.specs.LoopsMatch.{unrolled_loops, EachMatches}
 use Rattle.dh_sound.specs.Straight.{IsNamedAction}
 use Rattle.dh_sound.specs.PhaseFacts.{HasStraightIn, HaveStraight, HasStraight, HasTestIn, HaveTest, HasTest}
 use Rattle.dh_sound.proofs.LoopsMatch.{unrolled_both, EachInside, IsInside, AreInside, ListInside, action_inside}
@@ -85,7 +85,7 @@ module _ (F : List Turning → ActionForm → Type 0) where
 
   abbrev pub EachFold : List Turning → List Located → Type 0
   EachFold loops [] = Unit {0}
-  EachFold loops (c ∷ cs) = IsReducer loops (form_of c.command) × EachFold loops cs
+  EachFold loops (c ∷ cs) = IsReducer loops (action_form_of c.command) × EachFold loops cs
 
 module _ (known : Known) (P : List Turning → Action → Type 0) (F : List Turning → ActionForm → Type 0) where
   -- the loops inside a loop of these numbers of turns
@@ -103,7 +103,7 @@ module _ (known : Known) (P : List Turning → Action → Type 0) (F : List Turn
   abbrev mutual
     pub IsOwn : (loops : List Turning) → Phase → Type 0
     IsOwn loops (straight cs) = EachOf P loops cs
-    IsOwn loops (turns loop count body) = AreSplit (inside loops count (form_of loop.command)) body
+    IsOwn loops (turns loop count body) = AreSplit (inside loops count (action_form_of loop.command)) body
     IsOwn loops (repeated loop body) = P loops loop.command × AreOwn loops body
     IsOwn loops (decided choice chosen other) = P loops choice.command × (AreOwn loops chosen × AreOwn loops other)
 
@@ -113,7 +113,7 @@ module _ (known : Known) (P : List Turning → Action → Type 0) (F : List Turn
 
     pub PhaseSplit : (loops : List Turning) → Phase → Type 0
     PhaseSplit loops (straight cs) = IsSplit loops cs
-    PhaseSplit loops (turns loop count body) = AreSplit (inside loops count (form_of loop.command)) body
+    PhaseSplit loops (turns loop count body) = AreSplit (inside loops count (action_form_of loop.command)) body
     PhaseSplit loops (repeated loop body) = P loops loop.command × AreOwn loops body
     PhaseSplit loops (decided choice chosen other) = P loops choice.command × (AreOwn loops chosen × AreOwn loops other)
 
@@ -294,13 +294,13 @@ module _ (known : Known) (P : List Turning → Action → Type 0) (F : List Turn
   folded_splits d (decided choice chosen other ∷ []) fold h g = (h.0, list_folds_split d fold g)
   folded_splits d (p ∷ q ∷ ps) fold h g = (phase_splits d p h.0, folded_splits d (q ∷ ps) fold h.1 g)
 
-  own_turn : (d : List Turning) (loop : Located) (count : ℕ) (turn : List Phase) → ListSplit (inside d count (form_of loop.command)) turn → ListOwn d (turn_phases loop count turn)
+  own_turn : (d : List Turning) (loop : Located) (count : ℕ) (turn : List Phase) → ListSplit (inside d count (action_form_of loop.command)) turn → ListOwn d (turn_phases loop count turn)
   own_turn d loop count [] h = tt
   own_turn d loop count (p ∷ ps) h = by (count == 0)
     where
       by : (z : Bool) → ListOwn d (if z then [] else turns loop count (of_list (p ∷ ps)) ∷ [])
       by true = tt
-      by false = (split_listed (inside d count (form_of loop.command)) (p ∷ ps) h, tt)
+      by false = (split_listed (inside d count (action_form_of loop.command)) (p ∷ ps) h, tt)
 
   own_choice : (d : List Turning) (choice : Located) (chosen other : List Phase) → P d choice.command → ListOwn d chosen → ListOwn d other → ListOwn d (choice_phases choice chosen other)
   own_choice d choice chosen other e h g = by (are_straight chosen && are_straight other)
@@ -365,10 +365,10 @@ module _ (known : Known) (P : List Turning → Action → Type 0) (F : List Turn
     -- round them match.
 
     abbrev pub HoldsStraight : (S : List Located → Type 0) → (loops : List Turning) → Block → Type 0
-    HoldsStraight S loops b = (cs : List Located) × ((b ≡ commands (core_commands known cs)) × (S cs × (EachInside known (unrolled loops) cs × IsSplit loops cs)))
+    HoldsStraight S loops b = (cs : List Located) × ((b ≡ commands (core_commands known cs)) × (S cs × (EachInside known (unrolled_loops loops) cs × IsSplit loops cs)))
 
     abbrev pub HoldsTest : (T : Located → Type 0) → (loops : List Turning) → Block → Type 0
-    HoldsTest T loops b = (c : Located) × ((b ≡ tests (core_test known c)) × (T c × (EachMatches known (unrolled loops) c.around.loops × P loops c.command)))
+    HoldsTest T loops b = (c : Located) × ((b ≡ tests (core_test known c)) × (T c × (EachMatches known (unrolled_loops loops) c.around.loops × P loops c.command)))
 
     abbrev pub Holding : (S : List Located → Type 0) (T : Located → Type 0) → (loops : List Turning) → Block → Type 0
     Holding S T loops b = HoldsStraight S loops b ⊎ HoldsTest T loops b
@@ -378,16 +378,16 @@ module _ (known : Known) (P : List Turning → Action → Type 0) (F : List Turn
     holding_more S S2 T T2 loops b s t (inl (cs, (is, (has, holds)))) = inl (cs, (is, (s cs has, holds)))
     holding_more S S2 T T2 loops b s t (inr (c, (is, (has, holds)))) = inr (c, (is, (t c has, holds)))
 
-    test_holds : (S : List Located → Type 0) (T : Located → Type 0) (round loops : List Turning) (b : Block) (c : Located) → T c → EachMatches known (unrolled round) c.around.loops → P round c.command
+    test_holds : (S : List Located → Type 0) (T : Located → Type 0) (round loops : List Turning) (b : Block) (c : Located) → T c → EachMatches known (unrolled_loops round) c.around.loops → P round c.command
         → (loops ≡ round) × (b ≡ tests (core_test known c)) → Holding S T loops b
-    test_holds S T round loops b c t m h s = inr (c, (s.1, (t, subst (λ (l : List Turning). EachMatches known (unrolled l) c.around.loops × P l c.command) (sym s.0) (m, h))))
+    test_holds S T round loops b c t m h s = inr (c, (s.1, (t, subst (λ (l : List Turning). EachMatches known (unrolled_loops l) c.around.loops × P l c.command) (sym s.0) (m, h))))
 
     mutual
-      find_in : (p : Phase) (round loops : List Turning) (b : Block) → IsInside known (unrolled round) p → PhaseSplit round p → StandsInPhase round (core_phase known p) loops b → Holding (HasStraightIn p) (HasTestIn p) loops b
-      find_in (straight cs) round loops b m h s = inl (cs, (s.1, (refl, subst (λ (l : List Turning). EachInside known (unrolled l) cs × IsSplit l cs) (sym s.0) (m, h))))
+      find_in : (p : Phase) (round loops : List Turning) (b : Block) → IsInside known (unrolled_loops round) p → PhaseSplit round p → StandsInPhase round (core_phase known p) loops b → Holding (HasStraightIn p) (HasTestIn p) loops b
+      find_in (straight cs) round loops b m h s = inl (cs, (s.1, (refl, subst (λ (l : List Turning). EachInside known (unrolled_loops l) cs × IsSplit l cs) (sym s.0) (m, h))))
       find_in (turns loop count body) round loops b m h s =
-          find body (inside round count (form_of loop.command)) loops b
-          (subst (λ (ts : List Turning). AreInside known ts body) (sym (unrolled_both round (turning_of known count (form_of loop.command) ∷ []))) m) h s
+          find body (inside round count (action_form_of loop.command)) loops b
+          (subst (λ (ts : List Turning). AreInside known ts body) (sym (unrolled_both round (turning_of known count (action_form_of loop.command) ∷ []))) m) h s
       find_in (repeated loop body) round loops b m h (inl s) = test_holds (HasStraightIn (repeated loop body)) (HasTestIn (repeated loop body)) round loops b loop (inl refl) m.0 h.0 s
       find_in (repeated loop body) round loops b m h (inr s) =
           holding_more (HaveStraight body) (HasStraightIn (repeated loop body)) (HaveTest body) (HasTestIn (repeated loop body)) loops b (λ cs g. g) (λ c g. inr g)
@@ -401,14 +401,14 @@ module _ (known : Known) (P : List Turning → Action → Type 0) (F : List Turn
           holding_more (HaveStraight other) (HasStraightIn (decided choice chosen other)) (HaveTest other) (HasTestIn (decided choice chosen other)) loops b
           (λ cs g. inr g) (λ c g. inr (inr g)) (find other round loops b m.1.1 (phases_split round other h.1.1) s)
 
-      find : (ps : Phases) (round loops : List Turning) (b : Block) → AreInside known (unrolled round) ps → AreSplit round ps → StandsIn round (core_phases known ps) loops b → Holding (HaveStraight ps) (HaveTest ps) loops b
+      find : (ps : Phases) (round loops : List Turning) (b : Block) → AreInside known (unrolled_loops round) ps → AreSplit round ps → StandsIn round (core_phases known ps) loops b → Holding (HaveStraight ps) (HaveTest ps) loops b
       find no_phases round loops b m h s = elim s [ ]
       find (phase p ps) round loops b m h (inl s) =
           holding_more (HasStraightIn p) (HaveStraight (phase p ps)) (HasTestIn p) (HaveTest (phase p ps)) loops b (λ cs g. inl g) (λ c g. inl g) (find_in p round loops b m.0 h.0 s)
       find (phase p ps) round loops b m h (inr s) =
           holding_more (HaveStraight ps) (HaveStraight (phase p ps)) (HaveTest ps) (HaveTest (phase p ps)) loops b (λ cs g. inr g) (λ c g. inr g) (find ps round loops b m.1 h.1 s)
 
-    find_listed : (ps : List Phase) (round loops : List Turning) (b : Block) → ListInside known (unrolled round) ps → ListSplit round ps → StandsIn round (core_phases known (of_list ps)) loops b
+    find_listed : (ps : List Phase) (round loops : List Turning) (b : Block) → ListInside known (unrolled_loops round) ps → ListSplit round ps → StandsIn round (core_phases known (of_list ps)) loops b
         → Holding (HasStraight ps) (HasTest ps) loops b
     find_listed [] round loops b m h s = elim s [ ]
     find_listed (p ∷ ps) round loops b m h (inl s) =

@@ -40,12 +40,12 @@ use Rattle.dh_typed_blocks.proofs.CommandsFit.{form_fits}
 use Rattle.dh_typed_blocks.specs.PlainPrograms.{AssignsPlain}
 use Rattle.dh_typed_blocks.proofs.Fitting.{Fits}
 use Rattle.dh_typed_blocks.proofs.SimplePrograms.{body_simple}
-use Rattle.dh_typed_blocks.specs.PlainPrograms.{AreFew}
+use Rattle.dh_typed_blocks.specs.PlainPrograms.{AreFewMemories}
 use Rattle.dh_typed_blocks.proofs.ProgramsEnough.{enough}
 use Rattle.dh_typed_blocks.proofs.ReducersWhole.{JoinsWhole, ready_whole}
 
 -- a body of which each walk tells its own
-body_fits : (known : Known) (rules : Rules) (good : AreGoodWays known rules.views) (p : Placing) (few : AreFew known) (a : Action) (facts : Facts) (s : Scope) → InStep s facts → Knows known p [] facts s.visible
+body_fits : (known : Known) (rules : Rules) (good : AreGoodWays known rules.views) (p : Placing) (few : AreFewMemories known) (a : Action) (facts : Facts) (s : Scope) → InStep s facts → Knows known p [] facts s.visible
     → typed_action facts a ≡ a → resolved_action s a ≡ a → breaches s a ≡ [] → action_kind_breaches facts a ≡ [] → action_index_breaches (indexed known rules) a ≡ [] → action_view_breaches (judged known rules) a ≡ [] → unbuilt_action a ≡ []
     → ActionSized a → copies_excess 1 a ≡ None → HasTextNumbers a → ArePlaced known p [] a → Declares known.memories a → AllByRecursion (λ f. IsViewed known.memories known.ways p f) (factored [] a)
     → IsScoped known [] a → AssignsInside known 0 a → JoinsWhole known 0 a → FoldsInJoins a → IsNamedAction a → AssignsPlain known a → Fits known p [] a
@@ -69,7 +69,7 @@ body_fits known rules good p few (action id place form) facts s l k typed named 
     }) sc asg wh si na pl tt
 
 -- the body of a ready program fits, if its memories are few, it assigns inside its loops and to no iterators
-pub ready_fits : (q : Program) → IsReady q → AreFew (known_of q) → AssignsInside (known_of q) 0 q.body → AssignsPlain (known_of q) q.body → Fits (known_of q) (placing_of q) [] q.body
+pub ready_fits : (q : Program) → IsReady q → AreFewMemories (known_of q) → AssignsInside (known_of q) 0 q.body → AssignsPlain (known_of q) q.body → Fits (known_of q) (placing_of q) [] q.body
 ready_fits q r few inside plain =
     let h = enough q r in
     let named = resolved_body q h in

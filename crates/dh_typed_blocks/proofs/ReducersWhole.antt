@@ -12,7 +12,7 @@ use Rattle.dh_tree.specs.declared.trees.programs.Entity.{Entity}
 use Rattle.dh_tree.specs.declared.trees.programs.Sort.TheVariants as sort
 use Rattle.dh_tree.specs.Breaches.{unknown, twice, term_breaches, breaches, form_breaches, other_breaches, actions_breaches, groups_breaches, items_breaches, functions_breaches}
 use Rattle.dh_tree.specs.Forms.{unbuilt_functions}
-use Rattle.dh_tree.specs.KindBreaches.{term_kind_breaches, assigned_breaches, condition_breaches, target_breaches, reducer_breaches, iterator_breaches, low_breaches, high_breaches, action_kind_breaches, action_form_kind_breaches, other_kind_breaches, actions_kind_breaches, groups_kind_breaches, functions_kind_breaches}
+use Rattle.dh_tree.specs.KindBreaches.{term_kind_breaches, assigned_breaches, condition_breaches, target_breaches, reducer_kind_breaches, iterator_breaches, low_breaches, high_breaches, action_kind_breaches, action_form_kind_breaches, other_kind_breaches, actions_kind_breaches, groups_kind_breaches, functions_kind_breaches}
 use Rattle.dh_tree.specs.Kinds.{Fact, Facts, of_iterator, of_memory, of_variable, of_function, fact_at, fact_of, found, place_of, target_kind, iterator_kind, value_breaches, when, first_facts, body_facts, facts_after, facts_after_actions}
 use Rattle.dh_tree.specs.LeastBreach.{breach}
 use Rattle.dh_tree.specs.Memories.{Memory, memories_of, locals, form_locals, other_locals, part_locals, groups_locals, outside_memory}
@@ -25,7 +25,7 @@ use Rattle.dh_tree.specs.Scopes as scopes
 use Rattle.dh_tree.specs.Scopes.{entity_of, bind, Scope, declare, leave, past, at_end, form_at_end, other_at_end, actions_at_end, groups_at_end, items_of, first_scope, body_scope}
 use Rattle.dh_tree.proofs.EmptyLists.{first_none, second_none, not_none}
 use Rattle.dh_meaning.specs.Bindings.{depth_inside, binding_in, depth_bound}
-use Rattle.dh_meaning.specs.Ways.{Standing, all_bindings_of, form_standings, groups_standings, other_standings, part_standings, standings, view_bindings}
+use Rattle.dh_meaning.specs.Ways.{ViewSite, all_bindings_of, form_standings, groups_standings, other_standings, part_standings, standings, view_bindings}
 use Rattle.dh_meaning.specs.CoreOf.{Known, known_of, depth_of, entity_number}
 use Rattle.dh_meaning.specs.Sites.{nothing_around}
 use Rattle.dh_sound.specs.IndexValues.{IsTypedProgram}
@@ -135,7 +135,7 @@ module _ (p : Program) (all : AllSorted p.entities (known_of p).bindings) (i : �
   deep_name d r n is l = subst (λ (o : Option ℕ). d ≤ depth_bound (binding_in (all_bindings_of p) (entity_number o))) (sym is) l
 
   -- the name of what is folded
-  folded_name : (facts : Facts) (bs : List scopes.Binding) (first d : ℕ) (r : Ref) (place : Place) → AreSorted p facts first d bs → first ≤ i → entity_of bs r.name ≡ r.entity → unknown bs r ≡ [] → value_breaches (fact_of facts r) place ≡ []
+  folded_name : (facts : Facts) (bs : List scopes.ScopeEntry) (first d : ℕ) (r : Ref) (place : Place) → AreSorted p facts first d bs → first ≤ i → entity_of bs r.name ≡ r.entity → unknown bs r ≡ [] → value_breaches (fact_of facts r) place ≡ []
       → not (is_folded es i (named r)) ≡ false → IsPlainTarget (known_of p) r × (d ≤ depth_of (known_of p) r)
   folded_name facts bs first d r place k l same seen kinds folded =
       let w = used_stands bs r same seen in
@@ -146,7 +146,7 @@ module _ (p : Program) (all : AllSorted p.entities (known_of p).bindings) (i : �
         deep_name d r w.0 w.1 (far (above first w.0 l inside)),
       )
 
-  folded_term : (facts : Facts) (bs : List scopes.Binding) (first d : ℕ) (t : Term) → AreSorted p facts first d bs → first ≤ i → resolved_term bs t ≡ t → term_breaches bs t ≡ [] → term_kind_breaches facts t ≡ [] → folded_breaches es i t ≡ []
+  folded_term : (facts : Facts) (bs : List scopes.ScopeEntry) (first d : ℕ) (t : Term) → AreSorted p facts first d bs → first ≤ i → resolved_term bs t ≡ t → term_breaches bs t ≡ [] → term_kind_breaches facts t ≡ [] → folded_breaches es i t ≡ []
       → IsWholeTerm (known_of p) d t
   folded_term facts bs first d (term place k (named r)) s l same seen kinds folded =
       let name : entity_of bs r.name ≡ r.entity = cc in
@@ -205,7 +205,7 @@ module _ (p : Program) (all : AllSorted p.entities (known_of p).bindings) (i : �
     form_whole (reduces target o value) facts s c place first d j k l e v b f q =
         let right : resolved_term s.visible value ≡ value = cc in
         let below = second_none (target_breaches (fact_of facts target) target.place) _ b in
-        let side = second_none (reducer_breaches (target_kind (fact_of facts target)) (found value) target.place) _ below in
+        let side = second_none (reducer_kind_breaches (target_kind (fact_of facts target)) (found value) target.place) _ below in
         reduced_whole c.joins facts s first d target value j k l right (second_none (unknown s.visible target) _ v) (second_none (assigned_breaches (target_kind (fact_of facts target)) (found value) (place_of value)) _ side) q
     form_whole (blocks body) facts s c place first d j k l e v b f q = groups_whole body facts s c first d j k l (let g = e in cc) v b f q
     form_whole (lets name declared value) facts s c place first d j k l e v b f q = tt
@@ -225,7 +225,7 @@ module _ (p : Program) (all : AllSorted p.entities (known_of p).bindings) (i : �
         let one_same : resolved_actions s part ≡ part = cc in
         let rest_same : resolved_groups (actions_at_end s part) rest ≡ rest = cc in
         let later : AreSorted p (facts_after_actions facts part) first d (actions_at_end s part).visible =
-        subst (λ (bs : List scopes.Binding). AreSorted p (facts_after_actions facts part) first d bs) (sym (part_visible s part f.0)) (all_later p facts (facts_after_actions facts part) first d s.visible (part_grows facts part) k) in (
+        subst (λ (bs : List scopes.ScopeEntry). AreSorted p (facts_after_actions facts part) first d bs) (sym (part_visible s part f.0)) (all_later p facts (facts_after_actions facts part) first d s.visible (part_grows facts part) k) in (
           part_whole part facts s c first d j k l one_same (first_none (actions_breaches s part) _ v) (first_none (actions_kind_breaches facts part) _ b) f.0 (first_none (actions_placement_breaches es c part) _ q),
           groups_whole rest (facts_after_actions facts part) (actions_at_end s part) c first d j later l rest_same (second_none (actions_breaches s part) _ v) (second_none (actions_kind_breaches facts part) _ b) f.1 (second_none (actions_placement_breaches es c part) _ q),
         )
@@ -237,7 +237,7 @@ module _ (p : Program) (all : AllSorted p.entities (known_of p).bindings) (i : �
         let one_same : resolved_action s a ≡ a = cc in
         let rest_same : resolved_actions (past s a (at_end s a)) rest ≡ rest = cc in
         let later : AreSorted p (facts_after facts a) first d (past s a (at_end s a)).visible =
-        subst (λ (bs : List scopes.Binding). AreSorted p (facts_after facts a) first d bs) (sym (past_visible s a f.0)) (all_later p facts (facts_after facts a) first d s.visible (grows facts a) k) in (
+        subst (λ (bs : List scopes.ScopeEntry). AreSorted p (facts_after facts a) first d bs) (sym (past_visible s a f.0)) (all_later p facts (facts_after facts a) first d s.visible (grows facts a) k) in (
           reduces_whole a facts s c first d j k l one_same (first_none (breaches s a) _ v) (first_none (action_kind_breaches facts a) _ b) f.0 (first_none (action_placement_breaches es c a) _ q),
           part_whole rest (facts_after facts a) (past s a (at_end s a)) c first d j later l rest_same (second_none (breaches s a) _ v) (second_none (action_kind_breaches facts a) _ b) f.1 (second_none (joined_breaches c.joins a) _ (second_none (action_placement_breaches es c a) _ q)),
         )
@@ -281,11 +281,11 @@ enters p facts s first d factor k name l h q =
 module _ (p : Program) (ready : IsReady p) (all : AllSorted p.entities (known_of p).bindings) where
   mutual
     whole : (a : Action) (facts : Facts) (s : Scope) (c : Context) (d : ℕ) → Sorted p facts s c.first d → resolved_action s a ≡ a → breaches s a ≡ [] → action_kind_breaches facts a ≡ [] → FoldsInJoins a → outer_breaches c.first a ≡ [] → Deep (all_bindings_of p) d a → ((m : Memory) → Has m (locals a) → Has m (memories_of p))
-        → ((y : Standing) → Has y (standings d a) → Has y (standings 0 p.body)) → action_placement_breaches p.entities c a ≡ [] → JoinsWhole (known_of p) d a
+        → ((y : ViewSite) → Has y (standings d a) → Has y (standings 0 p.body)) → action_placement_breaches p.entities c a ≡ [] → JoinsWhole (known_of p) d a
     whole (action id place form) facts s c d k e v b x o q w z t = let same : resolved_form s form ≡ form = cc in form_joins form facts s c place d k same v b x o q w z t
 
     form_joins : (f : ActionForm) (facts : Facts) (s : Scope) (c : Context) (place : Place) (d : ℕ) → Sorted p facts s c.first d → resolved_form s f ≡ f → form_breaches s f ≡ [] → action_form_kind_breaches facts f ≡ [] → FormFoldsInJoins f → outer_form_breaches c.first f ≡ [] → FormDeep (all_bindings_of p) d f
-        → ((m : Memory) → Has m (form_locals f) → Has m (memories_of p)) → ((y : Standing) → Has y (form_standings d f) → Has y (standings 0 p.body)) → form_placement_breaches p.entities c place f ≡ [] → FormJoinsWhole (known_of p) d f
+        → ((m : Memory) → Has m (form_locals f) → Has m (memories_of p)) → ((y : ViewSite) → Has y (form_standings d f) → Has y (standings 0 p.body)) → form_placement_breaches p.entities c place f ≡ [] → FormJoinsWhole (known_of p) d f
     form_joins (lets name declared value) facts s c place d k e v b x o q w z t = tt
     form_joins (lets_memory name shape shape_places value) facts s c place d k e v b x o q w z t = tt
     form_joins (views name parent form) facts s c place d k e v b x o q w z t = tt
@@ -340,7 +340,7 @@ module _ (p : Program) (ready : IsReady p) (all : AllSorted p.entities (known_of
         let body_kinds = first_none (action_kind_breaches more body) _ kinds in
         let body_outer = first_none (outer_breaches (first_inside c.first factor.value iterator.entity) body) _ o in
         let body_memories : (m : Memory) → Has m (locals body) → Has m (memories_of p) = λ m h. w m (has_left m (locals body) (other_locals combine) h) in
-        let body_views : (y : Standing) → Has y (standings (depth_inside d factor.value) body) → Has y (standings 0 p.body) =
+        let body_views : (y : ViewSite) → Has y (standings (depth_inside d factor.value) body) → Has y (standings 0 p.body) =
         λ y h. z y (has_left y (standings (depth_inside d factor.value) body) (other_standings (depth_inside d factor.value) combine) h) in
         let one = told p ready body (facts ++ of_iterator (iterator_kind declared) ∷ []) (declare s iterator sort.Iterator) nothing_around (first_inside c.first factor.value iterator.entity) (depth_inside d factor.value) step sorted first_same body_seen body_kinds x.0 body_outer q.1.0 body_memories body_views in
         let below = second_none (action_placement_breaches p.entities (in_body c factor.value iterator.entity) body) _ t in
@@ -352,19 +352,19 @@ module _ (p : Program) (ready : IsReady p) (all : AllSorted p.entities (known_of
         )
 
     other_joins : (m : MaybeAction) (facts : Facts) (s : Scope) (c : Context) (d : ℕ) → Sorted p facts s c.first d → resolved_other s m ≡ m → other_breaches s m ≡ [] → other_kind_breaches facts m ≡ [] → OtherFoldsInJoins m → outer_other_breaches c.first m ≡ [] → OtherDeep (all_bindings_of p) d m
-        → ((y : Memory) → Has y (other_locals m) → Has y (memories_of p)) → ((y : Standing) → Has y (other_standings d m) → Has y (standings 0 p.body)) → other_placement_breaches p.entities c m ≡ [] → OtherJoinsWhole (known_of p) d m
+        → ((y : Memory) → Has y (other_locals m) → Has y (memories_of p)) → ((y : ViewSite) → Has y (other_standings d m) → Has y (standings 0 p.body)) → other_placement_breaches p.entities c m ≡ [] → OtherJoinsWhole (known_of p) d m
     other_joins no_action facts s c d k e v b x o q w z t = tt
     other_joins (one_action a) facts s c d k e v b x o q w z t = let same : resolved_action s a ≡ a = cc in whole a facts s c d k same v b x o q w z t
 
     part_joins : (part : Actions) (facts : Facts) (s : Scope) (c : Context) (d : ℕ) → Sorted p facts s c.first d → resolved_actions s part ≡ part → actions_breaches s part ≡ [] → actions_kind_breaches facts part ≡ [] → PartFoldsInJoins part → outer_part_breaches c.first part ≡ [] → PartDeep (all_bindings_of p) d part
-        → ((m : Memory) → Has m (part_locals part) → Has m (memories_of p)) → ((y : Standing) → Has y (part_standings d part) → Has y (standings 0 p.body)) → actions_placement_breaches p.entities c part ≡ []
+        → ((m : Memory) → Has m (part_locals part) → Has m (memories_of p)) → ((y : ViewSite) → Has y (part_standings d part) → Has y (standings 0 p.body)) → actions_placement_breaches p.entities c part ≡ []
         → PartJoinsWhole (known_of p) d part × AreSorted p (facts_after_actions facts part) c.first d (actions_at_end s part).visible
     part_joins no_actions facts s c d k e v b x o q w z t = (tt, k.names)
     part_joins (action_then a rest) facts s c d k e v b x o q w z t =
         let first_same : resolved_action s a ≡ a = cc in
         let second_same : resolved_actions (past s a (at_end s a)) rest ≡ rest = cc in
         let memories : (m : Memory) → Has m (locals a) → Has m (memories_of p) = λ m h. w m (has_left m (locals a) (part_locals rest) h) in
-        let views_here : (y : Standing) → Has y (standings d a) → Has y (standings 0 p.body) = λ y h. z y (has_left y (standings d a) (part_standings d rest) h) in
+        let views_here : (y : ViewSite) → Has y (standings d a) → Has y (standings 0 p.body) = λ y h. z y (has_left y (standings d a) (part_standings d rest) h) in
         let one = told p ready a facts s nothing_around c.first d k.step k.names first_same (first_none (breaches s a) _ v) (first_none (action_kind_breaches facts a) _ b) x.0 (first_none (outer_breaches c.first a) _ o) q.0 memories views_here in
         let same_size = ap length (past_on s (at_end s a) a) in
         let longer = on_long _ _ (goes_on a s) in
@@ -384,7 +384,7 @@ module _ (p : Program) (ready : IsReady p) (all : AllSorted p.entities (known_of
         )
 
     groups_join : (gs : Groups) (facts : Facts) (s : Scope) (c : Context) (d : ℕ) → Sorted p facts s c.first d → resolved_groups s gs ≡ gs → groups_breaches s gs ≡ [] → groups_kind_breaches facts gs ≡ [] → GroupsFoldInJoins gs → outer_groups_breaches c.first gs ≡ [] → GroupsDeep (all_bindings_of p) d gs
-        → ((m : Memory) → Has m (groups_locals gs) → Has m (memories_of p)) → ((y : Standing) → Has y (groups_standings d gs) → Has y (standings 0 p.body)) → groups_placement_breaches p.entities c gs ≡ [] → GroupsJoinWhole (known_of p) d gs
+        → ((m : Memory) → Has m (groups_locals gs) → Has m (memories_of p)) → ((y : ViewSite) → Has y (groups_standings d gs) → Has y (standings 0 p.body)) → groups_placement_breaches p.entities c gs ≡ [] → GroupsJoinWhole (known_of p) d gs
     groups_join no_groups facts s c d k e v b x o q w z t = tt
     groups_join (group_then part rest) facts s c d k e v b x o q w z t =
         let first_same : resolved_actions s part ≡ part = cc in

@@ -6,7 +6,7 @@ use Rattle.dh_value.specs.declared.kinds.Kind.{Kind}
 use Rattle.dh_value.specs.declared.kinds.Kind.TheVariants as kind
 use Rattle.dh_value.specs.Words.{IsInteger, IsKind}
 use Rattle.dh_tree.specs.declared.trees.expressions.Ref.{Ref}
-use Rattle.dh_tree.specs.KindBreaches.{assigned_breaches, truth_breaches, reducer_breaches}
+use Rattle.dh_tree.specs.KindBreaches.{assigned_breaches, truth_breaches, reducer_kind_breaches}
 use Rattle.dh_tree.specs.Kinds.{is_truth, when, mismatch, found, place_of}
 use Rattle.dh_tree.specs.WiderKinds.{wider}
 use Rattle.dh_tree.specs.PlainTrees.{Term}
@@ -16,7 +16,7 @@ use Rattle.dh_meaning.specs.Core.{Turning}
 use Rattle.dh_meaning.specs.CoreOf.{Known, entity_number, kind_of}
 use Rattle.dh_sound.specs.Blocks.{factors}
 use Rattle.dh_sound.specs.NamesInScope.{InScope, is_variable, is_iterator}
-use Rattle.dh_sound.specs.SameKeys.{IsIteratorOf, IsNoIterator}
+use Rattle.dh_sound.specs.SameKeys.{IsIteratorName, IsNoIterator}
 use Rattle.dh_runnable.proofs.NamesKnown.{IsVariable}
 use Rattle.dh_runnable.proofs.TermsSuited.{name_inside}
 use Rattle.dh_code.specs.Declarations.{factors_inside}
@@ -59,7 +59,7 @@ module _ (known : Known) where
   not_plain b f h e = absurd cc
 
   -- an iterator in scope is of an integer kind
-  pub integer_named : (ts : List Turning) (r : Ref) (k : Kind) → AllInteger known ts → kind_of known r ≡ k → InScope known ts r → (loop : Turning) → IsIteratorOf known r loop → IsInteger k
+  pub integer_named : (ts : List Turning) (r : Ref) (k : Kind) → AllInteger known ts → kind_of known r ≡ k → InScope known ts r → (loop : Turning) → IsIteratorName known r loop → IsInteger k
   integer_named ts r k h bound (is_variable e is none) loop it =
       let same : e ≡ loop.iterator = one_entity r.entity e loop.iterator is it.entity in
       let plain : IsNoIterator (Some it.binding) = subst (λ (o : Option Binding). IsNoIterator o) (ap (λ (n : ℕ). binding_in known.bindings n) same ∙ it.bound) none in
@@ -118,9 +118,9 @@ reduced_integer place other (kind.Signed m) (kind.Unsigned n) s t e h = not_none
 reduced_integer place other (kind.Signed m) (kind.Signed n) s t e h = integer_wider place place (kind.Signed m) (kind.Signed n) s t refl
 
 pub can_reduce : (place : Place) (own : Kind) (target : Option Kind) (j : Kind) (t : Term) (k : Kind) → target ≡ Some j → own ≡ j → found t ≡ Some k → IsKind j → IsKind k
-    → reducer_breaches target (found t) place ≡ [] → assigned_breaches target (found t) (place_of t) ≡ [] → IsInteger (wider own (kind_written t))
+    → reducer_kind_breaches target (found t) place ≡ [] → assigned_breaches target (found t) (place_of t) ≡ [] → IsInteger (wider own (kind_written t))
 can_reduce place own target j t k is same value js ks a b =
-    let numbers : when (is_truth j) (mismatch place) ≡ [] = sym (ap (λ (x : Option Kind). reducer_breaches x (found t) place) is ∙ ap (λ (x : Option Kind). reducer_breaches (Some j) x place) value) ∙ a in
+    let numbers : when (is_truth j) (mismatch place) ≡ [] = sym (ap (λ (x : Option Kind). reducer_kind_breaches x (found t) place) is ∙ ap (λ (x : Option Kind). reducer_kind_breaches (Some j) x place) value) ∙ a in
     let alike : assigned_breaches (Some j) (Some k) (place_of t) ≡ [] =
     sym (ap (λ (x : Option Kind). assigned_breaches x (found t) (place_of t)) is ∙ ap (λ (x : Option Kind). assigned_breaches (Some j) x (place_of t)) value) ∙ b in
     subst (λ (x : Kind). IsInteger (wider x (kind_written t))) (sym same)

@@ -27,7 +27,7 @@ use Rattle.dh_meets.specs.Charges.{binding_depends, entity_depends}
 use Rattle.dh_meaning.specs.CoreOf.{Known, core_terms, memory_of, way_of}
 use Rattle.dh_meaning.specs.Ways.{Hidden, Way, hidden_binding, hidden_in, way_at, way_in}
 use Rattle.dh_sound.specs.SameKeys.{EachName, EachNameOf, IsNoIterator}
-use Rattle.dh_runnable.specs.ActionsRun.{table_in}
+use Rattle.dh_runnable.specs.ActionsRun.{table_known}
 use Rattle.dh_runnable.proofs.NamesKnown.{IsVariable, IsGood, Knows, name_known, fact_is}
 use Rattle.dh_runnable.proofs.TermsSuited.{access_there, indexed, judged, memory_way, not_viewed, way_found, IsReady, AreReady, IsKnown, term_known}
 use Rattle.dh_runnable.proofs.TypedParts.{for_numbers_sized, typed_parts}
@@ -35,19 +35,19 @@ use Rattle.dh_runnable.proofs.ViewsKnown.{AreGoodWays, AreKept, IsKept, Rules}
 use Rattle.dh_code.specs.Slots.{Placing}
 use Rattle.dh_code.specs.Suited.{IsInside}
 use Rattle.dh_blocks.specs.SoundTerms.{IsSound, IsSoundForm, IsSoundHidden, IsSoundWay, IsUnbound, AreSound, kept_name}
-use Rattle.dh_typed_blocks.specs.PlainPrograms.{AreFew, IsKeptFor}
+use Rattle.dh_typed_blocks.specs.PlainPrograms.{AreFewMemories, IsKeptFor}
 use Rattle.dh_typed_blocks.proofs.KindsGiven.{gives, gives_written, applied_known}
 use Rattle.dh_typed_blocks.proofs.OperandsRight.{operands_right}
 
 below_more : (a b c : ℕ) → a < b → b ≤ c → a < c
 below_more a b c l m = omega (arith, l, m)
 
-module _ (known : Known) (p : Placing) (loops : List ℕ) (few : AreFew known) (Near : Ref → Type 0) (Name : Ref → Kind → Type 0)
+module _ (known : Known) (p : Placing) (loops : List ℕ) (few : AreFewMemories known) (Near : Ref → Type 0) (Name : Ref → Kind → Type 0)
     (to_name : (r : Ref) (n : ℕ) (k : Kind) → r.entity ≡ Some n → IsVariable known p loops n k → Near r → Name r k)
     (near_kept : (h : Hidden) → binding_in known.bindings h.entity ≡ Some (hidden_binding h) → Near (kept_name h)) where
   -- a form that is sound at the kind that was found
-  of_form : (place : Place) (m : Option Kind) (k : Kind) (form : TermForm) → m ≡ Some k → IsSoundForm known (table_in known) Name k form → IsSound known (table_in known) Name (term place m form)
-  of_form place m k form e s = subst (λ (j : Kind). IsSoundForm known (table_in known) Name j form) (sym (ap kind_or_first e)) s
+  of_form : (place : Place) (m : Option Kind) (k : Kind) (form : TermForm) → m ≡ Some k → IsSoundForm known (table_known known) Name k form → IsSound known (table_known known) Name (term place m form)
+  of_form place m k form e s = subst (λ (j : Kind). IsSoundForm known (table_known known) Name j form) (sym (ap kind_or_first e)) s
 
   -- a name that has a kind is of a variable
   variable_named : (n : ℕ) (f : Fact) (k : Kind) → IsGood known p loops n f → value_kind (Some f) ≡ Some k → IsVariable known p loops n k
@@ -74,7 +74,7 @@ module _ (known : Known) (p : Placing) (loops : List ℕ) (few : AreFew known) (
           (ap (λ z. is_some (view_in rules.views z)) entity ∙ good.seen (Some n) v.way (way_found (memory_in known.memories (Some n)) (way_in known.ways (Some n)) v.way v.is)) direct)
 
   -- what keeps an offset on the way of a view
-  hidden_sound : (r : Ref) (h : Hidden) → IsKeptFor known r h → IsKept p loops h → IsSoundHidden known (table_in known) Name r h
+  hidden_sound : (r : Ref) (h : Hidden) → IsKeptFor known r h → IsKept p loops h → IsSoundHidden known (table_known known) Name r h
   hidden_sound r h f k = record {
     named =
         to_name (kept_name h) h.entity h.kind refl
@@ -88,18 +88,18 @@ module _ (known : Known) (p : Placing) (loops : List ℕ) (few : AreFew known) (
     less = f.less;
   }
 
-  all_sound : (r : Ref) (hs : List Hidden) → AllByRecursion (IsKeptFor known r) hs → AreKept p loops hs → AllByRecursion (λ (h : Hidden). IsSoundHidden known (table_in known) Name r h) hs
+  all_sound : (r : Ref) (hs : List Hidden) → AllByRecursion (IsKeptFor known r) hs → AreKept p loops hs → AllByRecursion (λ (h : Hidden). IsSoundHidden known (table_known known) Name r h) hs
   all_sound r [] f k = tt
   all_sound r (h ∷ hs) f k = (hidden_sound r h f.0 k.0, all_sound r hs f.1 k.1)
 
   abbrev WaySound : Ref → Option Way → Type 0
-  WaySound r o = AllByRecursion (λ (h : Hidden). IsSoundHidden known (table_in known) Name r h) (hidden_in o)
+  WaySound r o = AllByRecursion (λ (h : Hidden). IsSoundHidden known (table_known known) Name r h) (hidden_in o)
 
   -- the way of what is accessed
-  way_sound : (n : ℕ) (r : Ref) (o : Option Fact) (f : Fact) (place : Place) (ts : Terms) → r.entity ≡ Some n → o ≡ Some f → IsGood known p loops n f → access_breaches o place ts ≡ [] → IsSoundWay known (table_in known) Name r
+  way_sound : (n : ℕ) (r : Ref) (o : Option Fact) (f : Fact) (place : Place) (ts : Terms) → r.entity ≡ Some n → o ≡ Some f → IsGood known p loops n f → access_breaches o place ts ≡ [] → IsSoundWay known (table_known known) Name r
   way_sound n r o f place ts entity at g e = cases f g (ap (λ x. access_breaches x place ts) (sym at) ∙ e)
     where
-      cases : (f : Fact) → IsGood known p loops n f → access_breaches (Some f) place ts ≡ [] → IsSoundWay known (table_in known) Name r
+      cases : (f : Fact) → IsGood known p loops n f → access_breaches (Some f) place ts ≡ [] → IsSoundWay known (table_known known) Name r
       cases (of_variable k) g e = not_none _ _ e
       cases (of_iterator k) g e = not_none _ _ e
       cases (of_function parameters) g e = not_none _ _ e
@@ -110,8 +110,8 @@ module _ (known : Known) (p : Placing) (loops : List ℕ) (few : AreFew known) (
 
   module _ (rules : Rules) (good : AreGoodWays known rules.views) where
     mutual
-      pub term_sound : (facts : Facts) (bs : List scopes.Binding) → Knows known p loops facts bs → (want : Option Kind) → IsSized want → (t : Term) → typed_term facts want t ≡ t → IsReady known rules facts bs t
-          → EachName Near t → IsSound known (table_in known) Name t
+      pub term_sound : (facts : Facts) (bs : List scopes.ScopeEntry) → Knows known p loops facts bs → (want : Option Kind) → IsSized want → (t : Term) → typed_term facts want t ≡ t → IsReady known rules facts bs t
+          → EachName Near t → IsSound known (table_known known) Name t
       term_sound facts bs k want s (term place m (number negative n)) e h near =
           let whole = term_known known p loops rules good facts bs k want s (term place m (number negative n)) e h in
           of_form place m whole.kind (number negative n) whole.is (whole.operand 0).sized
@@ -133,11 +133,11 @@ module _ (known : Known) (p : Placing) (loops : List ℕ) (few : AreFew known) (
             named = named;
             visible = second_none (unknown bs r) _ h.visible;
             kinds = second_none (access_breaches (fact_of facts r) place indices) _ h.kinds;
-            indices = second_none (places.access_breaches rules.counters (kept_dims (memory_in known.memories r.entity)) indices) _ h.indices;
-            views = second_none (places.access_breaches rules.counters (dims_through (view_in rules.kept r.entity)) indices) _ h.views;
+            indices = second_none (places.access_index_breaches rules.counters (kept_dims (memory_in known.memories r.entity)) indices) _ h.indices;
+            views = second_none (places.access_index_breaches rules.counters (dims_through (view_in rules.kept r.entity)) indices) _ h.views;
             sized = h.sized;
           }) near in
-          let there = access_there (table_in known) (memory_of known r) (way_of known r) (core_terms known 0 indices) (whole.operand 0).suits in
+          let there = access_there (table_known known) (memory_of known r) (way_of known r) (core_terms known 0 indices) (whole.operand 0).suits in
           let low = below_more _ _ (2 ^ 32) there few.memories in
           let same : used bs r ≡ r = let eq = h.named in cc in
           let name = name_known known p loops facts bs r k same (first_none (unknown bs r) _ h.visible) in
@@ -190,7 +190,7 @@ module _ (known : Known) (p : Placing) (loops : List ℕ) (few : AreFew known) (
             views = second_none (term_view_breaches (judged known rules) left) _ h.views;
             sized = h.sized.1;
           } in
-          let both = operands_right known p loops (IsSound known (table_in known) Name) facts o want left right (is_bare left) (is_bare right) s
+          let both = operands_right known p loops (IsSound known (table_known known) Name) facts o want left right (is_bare left) (is_bare right) s
           (λ w z f. (term_known known p loops rules good facts bs k w z left f left_ready, term_sound facts bs k w z left f left_ready near.0))
           (λ w z f. (term_known known p loops rules good facts bs k w z right f right_ready, term_sound facts bs k w z right f right_ready near.1))
           left_typed right_typed in
@@ -215,8 +215,8 @@ module _ (known : Known) (p : Placing) (loops : List ℕ) (few : AreFew known) (
           }) near in
           of_form place m whole.kind (converted inner to) whole.is (i, ((whole.operand 0).suits.0, sym (whole.operand 0).kind))
 
-      pub terms_sound : (facts : Facts) (bs : List scopes.Binding) → Knows known p loops facts bs → (ts : Terms) → typed_terms facts ts ≡ ts → AreReady known rules facts bs ts → EachNameOf Near ts
-          → AreSound known (table_in known) Name ts
+      pub terms_sound : (facts : Facts) (bs : List scopes.ScopeEntry) → Knows known p loops facts bs → (ts : Terms) → typed_terms facts ts ≡ ts → AreReady known rules facts bs ts → EachNameOf Near ts
+          → AreSound known (table_known known) Name ts
       terms_sound facts bs k no_terms e h near = tt
       terms_sound facts bs k (term_then t rest) e h near =
           let first_typed : typed_term facts None t ≡ t = cc in

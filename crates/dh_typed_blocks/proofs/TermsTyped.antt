@@ -21,7 +21,7 @@ use Rattle.dh_tree.specs.Scopes.{entity_number}
 use Rattle.dh_tree.specs.Memories.{Memory, entry_of, memory_in, number_in}
 use Rattle.dh_tree.specs.PlainTrees.{Term, term, number, truth_value, named, accessed, in_bank, applied, converted, Terms, no_terms, term_then}
 use Rattle.dh_tree.specs.Resolved.{used, resolved_term, resolved_terms}
-use Rattle.dh_tree.specs.Scopes.{Binding}
+use Rattle.dh_tree.specs.Scopes.{ScopeEntry}
 use Rattle.dh_tree.specs.ViewBreaches.{dims_through, physical_broken, term_view_breaches}
 use Rattle.dh_tree.specs.Views.{view_in}
 use Rattle.dh_tree.specs.Widths.{IsSized}
@@ -29,7 +29,7 @@ use Rattle.dh_tree.proofs.EmptyLists.{first_none, second_none, not_none}
 use Rattle.dh_meaning.specs.Bindings.{kind_or_first}
 use Rattle.dh_meaning.specs.CoreOf.{Known, core_terms, dims_by, dims_named, memory_of, way_of}
 use Rattle.dh_meaning.specs.Ways.{Way, base_of, way_at}
-use Rattle.dh_runnable.specs.ActionsRun.{table_in}
+use Rattle.dh_runnable.specs.ActionsRun.{table_known}
 use Rattle.dh_runnable.proofs.ElementsFound.{number_found}
 use Rattle.dh_runnable.proofs.NamesKnown.{IsGood, Knows, name_known, fact_is}
 use Rattle.dh_runnable.proofs.TermsSuited.{access_there, indexed, is_index, judged, memory_way, one_count, IsReady, AreReady, IsKnown, term_known, terms_known}
@@ -37,7 +37,7 @@ use Rattle.dh_runnable.proofs.TypedParts.{for_numbers_sized, typed_parts}
 use Rattle.dh_runnable.proofs.ViewsKnown.{AreGoodWays, Rules}
 use Rattle.dh_code.specs.Slots.{Placing}
 use Rattle.dh_expressions.specs.Shown.{kind_written}
-use Rattle.dh_typed_blocks.specs.TypedTerms.{AreOperands, IsTyped, AreTyped}
+use Rattle.dh_typed_blocks.specs.TypedTerms.{AreTypedOperands, IsTyped, AreTyped}
 use Rattle.dh_typed_blocks.proofs.KindsGiven.{written_is, applied_known}
 use Rattle.dh_typed_blocks.proofs.OperandsRight.{operands_right}
 
@@ -50,7 +50,7 @@ integer_of (kind.Unsigned w) s e = s
 integer_of (kind.Signed w) s e = s
 
 -- the dimensions of what a name stands for
-dims_found : (known : Known) (r : Ref) (m : Memory) → memory_in known.memories r.entity ≡ Some m → dims_at (table_in known) (memory_of known r) ≡ m.shape.dims
+dims_found : (known : Known) (r : Ref) (m : Memory) → memory_in known.memories r.entity ≡ Some m → dims_at (table_known known) (memory_of known r) ≡ m.shape.dims
 dims_found known r m e =
     let at = number_found known.memories r.entity m e in
     let same : memory_of known r ≡ at.number = ap (λ (w : Option Way). entity_number (number_in known.memories (base_of w r.entity))) (memory_way known r m e) ∙ ap entity_number at.is in
@@ -58,10 +58,10 @@ dims_found known r m e =
 
 -- operands by the kinds that are written at them
 operands_written : (o : Op) (left right : Term) (j k whole : Kind) → found left ≡ Some j → found right ≡ Some k → whole ≡ applied_kind o j k → IsKind j → IsKind k
-    → operands_breaches (takes o) (place_of left) (place_of right) j k ≡ [] → AreOperands o (kind_written left) (kind_written right) whole
+    → operands_breaches (takes o) (place_of left) (place_of right) j k ≡ [] → AreTypedOperands o (kind_written left) (kind_written right) whole
 operands_written o left right j k whole e f is sj sk none =
-    subst (λ (x : Kind). AreOperands o x (kind_written right) whole) (sym (written_is left j e))
-    (subst (λ (x : Kind). AreOperands o j x whole) (sym (written_is right k f))
+    subst (λ (x : Kind). AreTypedOperands o x (kind_written right) whole) (sym (written_is left j e))
+    (subst (λ (x : Kind). AreTypedOperands o j x whole) (sym (written_is right k f))
     (record { left_place = place_of left; right_place = place_of right; left = sj; right = sk; none = none; is = is }))
 
 module _ (known : Known) (p : Placing) (loops : List ℕ) where
@@ -71,24 +71,24 @@ module _ (known : Known) (p : Placing) (loops : List ℕ) where
 
   -- as many indices as dimensions
   indices_counted : (n : ℕ) (r : Ref) (o : Option Fact) (f : Fact) (place : Place) (ts : Terms) → r.entity ≡ Some n → o ≡ Some f → IsGood known p loops n f → access_breaches o place ts ≡ [] → all_found ts ≡ true
-      → count_of ts ≡ length (dims_named known (table_in known) r)
+      → count_of ts ≡ length (dims_named known (table_known known) r)
   indices_counted n r o f place ts entity at g e a = cases f g (ap (λ x. access_breaches x place ts) (sym at) ∙ e)
     where
-      cases : (f : Fact) → IsGood known p loops n f → access_breaches (Some f) place ts ≡ [] → count_of ts ≡ length (dims_named known (table_in known) r)
+      cases : (f : Fact) → IsGood known p loops n f → access_breaches (Some f) place ts ≡ [] → count_of ts ≡ length (dims_named known (table_known known) r)
       cases (of_variable k) g e = not_none _ _ e
       cases (of_iterator k) g e = not_none _ _ e
       cases (of_function parameters) g e = not_none _ _ e
       cases (of_memory k dims) (inr v) e =
           same_count (count_of ts) dims (one_count (all_found ts) (count_of ts == dims) place a e)
-          ∙ (v.long ∙ sym (ap (λ (w : Option Way). length (dims_by (dims_at (table_in known) (memory_of known r)) w)) (ap (way_at known.memories known.ways) entity ∙ v.is)))
+          ∙ (v.long ∙ sym (ap (λ (w : Option Way). length (dims_by (dims_at (table_known known) (memory_of known r)) w)) (ap (way_at known.memories known.ways) entity ∙ v.is)))
       cases (of_memory k dims) (inl g) e =
           same_count (count_of ts) dims (one_count (all_found ts) (count_of ts == dims) place a e)
           ∙ (g.long ∙ (ap length (sym (dims_found known r g.memory (ap (memory_in known.memories) entity ∙ g.is)))
-          ∙ sym (ap (λ (w : Option Way). length (dims_by (dims_at (table_in known) (memory_of known r)) w)) (memory_way known r g.memory (ap (memory_in known.memories) entity ∙ g.is)))))
+          ∙ sym (ap (λ (w : Option Way). length (dims_by (dims_at (table_known known) (memory_of known r)) w)) (memory_way known r g.memory (ap (memory_in known.memories) entity ∙ g.is)))))
 
   module _ (rules : Rules) (good : AreGoodWays known rules.views) where
     mutual
-      pub term_typed : (facts : Facts) (bs : List Binding) → Knows known p loops facts bs → (want : Option Kind) → IsSized want → (t : Term) → typed_term facts want t ≡ t → IsReady known rules facts bs t → IsTyped known (table_in known) t
+      pub term_typed : (facts : Facts) (bs : List ScopeEntry) → Knows known p loops facts bs → (want : Option Kind) → IsSized want → (t : Term) → typed_term facts want t ≡ t → IsReady known rules facts bs t → IsTyped known (table_known known) t
       term_typed facts bs k want s (term place m (number negative n)) e h = tt
       term_typed facts bs k want s (term place m (truth_value value)) e h = tt
       term_typed facts bs k want s (term place m (named r)) e h = tt
@@ -103,14 +103,14 @@ module _ (known : Known) (p : Placing) (loops : List ℕ) where
             named = named;
             visible = second_none (unknown bs r) _ h.visible;
             kinds = second_none (access_breaches (fact_of facts r) place indices) _ h.kinds;
-            indices = second_none (places.access_breaches rules.counters (kept_dims (memory_in known.memories r.entity)) indices) _ h.indices;
-            views = second_none (places.access_breaches rules.counters (dims_through (view_in rules.kept r.entity)) indices) _ h.views;
+            indices = second_none (places.access_index_breaches rules.counters (kept_dims (memory_in known.memories r.entity)) indices) _ h.indices;
+            views = second_none (places.access_index_breaches rules.counters (dims_through (view_in rules.kept r.entity)) indices) _ h.views;
             sized = h.sized;
           } in
           let inner = terms_known known p loops rules good facts bs k indices typed ready in (
             terms_typed facts bs k indices typed ready,
             record {
-              there = access_there (table_in known) (memory_of known r) (way_of known r) (core_terms known 0 indices) (whole.operand 0).suits;
+              there = access_there (table_known known) (memory_of known r) (way_of known r) (core_terms known 0 indices) (whole.operand 0).suits;
               many = indices_counted name.number r (fact_of facts r) name.stands.fact place indices name.entity (fact_is known p loops facts r name) name.stands.good
                   (first_none (access_breaches (fact_of facts r) place indices) _ h.kinds) inner.found;
             },
@@ -158,7 +158,7 @@ module _ (known : Known) (p : Placing) (loops : List ℕ) where
             views = second_none (term_view_breaches (judged known rules) left) _ h.views;
             sized = h.sized.1;
           } in
-          let both = operands_right known p loops (IsTyped known (table_in known)) facts o want left right (is_bare left) (is_bare right) s
+          let both = operands_right known p loops (IsTyped known (table_known known)) facts o want left right (is_bare left) (is_bare right) s
           (λ w z f. (term_known known p loops rules good facts bs k w z left f left_ready, term_typed facts bs k w z left f left_ready))
           (λ w z f. (term_known known p loops rules good facts bs k w z right f right_ready, term_typed facts bs k w z right f right_ready))
           left_typed right_typed in
@@ -181,7 +181,7 @@ module _ (known : Known) (p : Placing) (loops : List ℕ) where
             sized = h.sized.1;
           })
 
-      pub terms_typed : (facts : Facts) (bs : List Binding) → Knows known p loops facts bs → (ts : Terms) → typed_terms facts ts ≡ ts → AreReady known rules facts bs ts → AreTyped known (table_in known) ts
+      pub terms_typed : (facts : Facts) (bs : List ScopeEntry) → Knows known p loops facts bs → (ts : Terms) → typed_terms facts ts ≡ ts → AreReady known rules facts bs ts → AreTyped known (table_known known) ts
       terms_typed facts bs k no_terms e h = tt
       terms_typed facts bs k (term_then t rest) e h =
           let first_typed : typed_term facts None t ≡ t = cc in

@@ -10,7 +10,7 @@ use Rattle.dh_meaning.specs.Bindings.{binding_in}
 use Rattle.dh_meaning.specs.CoreOf.{Known, depth_of, entity_number, way_of}
 use Rattle.dh_meaning.specs.Ways.{Hidden, Way, hidden_binding}
 use Rattle.dh_meets.specs.Charges.{entity_depends}
-use Rattle.dh_runnable.specs.ActionsRun.{table_in}
+use Rattle.dh_runnable.specs.ActionsRun.{table_known}
 use Rattle.dh_sound.specs.SameKeys.{IsNoIterator}
 use Rattle.dh_tree.specs.TextNumbers.{Reduces}
 
@@ -20,9 +20,9 @@ pub record IsKeptFor (known : Known) (r : Ref) (h : Hidden) : Type 0 where
   pub less : (level : ℕ) → entity_depends known.bindings level (Some h.entity) ≡ true → entity_depends known.bindings level r.entity ≡ true
 
 -- memories and their banks have numbers of 32 bits, no memory is a variable, and what keeps offsets are variables
-pub record AreFew (known : Known) : Type 0 where
-  pub memories : length (table_in known) ≤ 2 ^ 32
-  pub banks : (memory : ℕ) → banks_of (dims_at (table_in known) memory) ≤ 2 ^ 32
+pub record AreFewMemories (known : Known) : Type 0 where
+  pub memories : length (table_known known) ≤ 2 ^ 32
+  pub banks : (memory : ℕ) → banks_of (dims_at (table_known known) memory) ≤ 2 ^ 32
   pub unbound : (n : ℕ) (m : Memory) → memory_in known.memories (Some n) ≡ Some m → binding_in known.bindings n ≡ None
   pub kept : (r : Ref) (n : ℕ) (w : Way) → r.entity ≡ Some n → way_of known r ≡ Some w → AllByRecursion (IsKeptFor known r) w.hidden
 

@@ -6,7 +6,7 @@ use Rattle.dh_tree.specs.Memories.{table_of}
 use Rattle.dh_tree.specs.Ready.{IsReady}
 use Rattle.dh_tree.specs.Seen.{program_seen}
 use Rattle.dh_meaning.specs.Core.{Turning}
-use Rattle.dh_meaning.specs.CoreOf.{core_of, form_of, test_of}
+use Rattle.dh_meaning.specs.CoreOf.{core_of, action_form_of, test_of}
 use Rattle.dh_meaning.specs.Effects.{Block}
 use Rattle.dh_meaning.specs.Phases.{Located}
 use Rattle.dh_meets.specs.SourceEvents.{trace}
@@ -50,8 +50,8 @@ pub record StraightSound (scene : Scene) (around : Around) (plan : PlainPlan) (r
 
 pub record TestSound (scene : Scene) (around : Around) (plan : PlainPlan) (rounds : List Round) (block : Block) : Type 0 where
   pub of : OfTest (program_seen scene.program.now) (loops_of rounds) block
-  pub typed : (t : Term) → test_of (form_of of.tested.command) ≡ Some t → IsTyped (known_in scene) (table_of (program_seen scene.program.now)) t
-  pub sound : (t : Term) → test_of (form_of of.tested.command) ≡ Some t → IsSoundTest scene around plan rounds t
+  pub typed : (t : Term) → test_of (action_form_of of.tested.command) ≡ Some t → IsTyped (known_in scene) (table_of (program_seen scene.program.now)) t
+  pub sound : (t : Term) → test_of (action_form_of of.tested.command) ≡ Some t → IsSoundTest scene around plan rounds t
 
 abbrev pub ReadyBlocksAreSound : (scene : Scene) (around : Around) (plan : PlainPlan) (rounds : List Round) → Type 0
 ReadyBlocksAreSound scene around plan rounds =

@@ -20,7 +20,7 @@ use Rattle.dh_code.specs.Banks.{HasBank}
 use Rattle.dh_expressions.specs.Shown.{kind_written}
 
 -- operands of these kinds break no rule, and the operator gives this kind
-pub record AreOperands (o : Op) (j k whole : Kind) : Type 0 where
+pub record AreTypedOperands (o : Op) (j k whole : Kind) : Type 0 where
   pub left_place : Place
   pub right_place : Place
   pub left : IsKind j
@@ -55,7 +55,7 @@ module _ (known : Known) (table : List MemEntry) where
     IsTypedForm k (named r) = Unit {0}
     IsTypedForm k (accessed r ts) = AreTyped ts × HasIndices known table r (count_of ts)
     IsTypedForm k (in_bank r bank at row) = (IsTyped row × IsInteger (kind_written row)) × HasBank table (memory_of known r) bank
-    IsTypedForm k (applied o left right) = (IsTyped left × IsTyped right) × AreOperands o (kind_written left) (kind_written right) k
+    IsTypedForm k (applied o left right) = (IsTyped left × IsTyped right) × AreTypedOperands o (kind_written left) (kind_written right) k
     IsTypedForm k (converted inner to) = IsTyped inner
 
     -- indices

@@ -6,7 +6,7 @@ use Rattle.std.proofs.lemmas.Bool.{eqb-true}
 use Rattle.dh_value.specs.declared.kinds.Kind.{Kind}
 use Rattle.dh_tree.specs.declared.tables.Dim.{Dim}
 use Rattle.dh_tree.specs.Elements.{banks_of, dims_at}
-use Rattle.dh_meaning.specs.Ways.{Step}
+use Rattle.dh_meaning.specs.Ways.{WayStep}
 use Rattle.dh_meets.specs.Charges.{any_below, may_reach}
 use Rattle.dh_viewing.specs.declared.bank_sets.BankSet.{BankSet}
 use Rattle.dh_viewing.specs.ReachedBanks.{can_reach, is_in}
@@ -37,7 +37,7 @@ and_second true b e = e
 and_second false b e = absurd cc
 
 -- what may be reached through views lies in the memory
-pub reached_lies : (ss : List Step) (dims : List Dim) → StepsLead ss dims → (bank behind : ℕ) → bank < banks_of (next_dims ss dims) → may_reach ss bank behind ≡ true → behind < banks_of dims
+pub reached_lies : (ss : List WayStep) (dims : List Dim) → StepsLead ss dims → (bank behind : ℕ) → bank < banks_of (next_dims ss dims) → may_reach ss bank behind ≡ true → behind < banks_of dims
 reached_lies [] dims lead bank behind low e = subst (λ (n : ℕ). n < banks_of dims) (eqb-true bank behind e) low
 reached_lies (s ∷ ss) dims lead bank behind low e =
     let w = below_found (banks_of s.is.parent.dims) (λ inner. can_reach s.is bank inner && may_reach ss inner behind) e in

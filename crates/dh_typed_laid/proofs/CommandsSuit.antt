@@ -23,12 +23,12 @@ use Rattle.dh_expressions.specs.declared.scenes.Around.{Around}
 use Rattle.dh_expressions.specs.declared.scenes.Scene.{Scene}
 use Rattle.dh_expressions.specs.Evaluated.{known_in}
 use Rattle.dh_expressions.specs.Shown.{kind_written}
-use Rattle.dh_formed.specs.Formed.{AreNumbers, Block, Site, TermSuits, TermsSuit}
+use Rattle.dh_formed.specs.Formed.{AreNumbers, FormedBlock, BlockSite, TermSuits, TermsSuit}
 use Rattle.dh_commands.specs.declared.buildings.Building.{Building}
 use Rattle.dh_commands.specs.declared.choices.Left.{Left}
 use Rattle.dh_commands.specs.LanesRun.{lane_of, paths_counted}
 use Rattle.dh_commands.specs.MadeCommands.{MadeActions, MadeCommand, MadeGroups, MadeOther}
-use Rattle.dh_commands.specs.ShownVariables.{IsSeen, factors_of}
+use Rattle.dh_commands.specs.ShownVariables.{IsSeen, level_factors}
 use Rattle.dh_blocks.specs.NamedVariables.{IsNamedHere}
 use Rattle.dh_blocks.specs.PathsOfLevels.{AreSpread}
 use Rattle.dh_blocks.specs.SoundCommands.{CanHold, CanKeep, CanKeepFrom, SoundAction, SoundGroups, SoundOther, SoundPart, kind_aimed}
@@ -86,7 +86,7 @@ module _ (scene : Scene) (levels : List Level) (table : List MemEntry) (Name : R
     part_reaches Folds no_actions s = tt
     part_reaches Folds (action_then a rest) s = (sound_reaches Folds a s.0, part_reaches Folds rest s.1)
 
-module _ (x : Block) (scene : Scene) (count : ℕ) (rounds : List Round) (touched : ℕ → Truth) where
+module _ (x : FormedBlock) (scene : Scene) (count : ℕ) (rounds : List Round) (touched : ℕ → Truth) where
   abbrev known : Known
   known = known_in scene
 
@@ -112,7 +112,7 @@ module _ (x : Block) (scene : Scene) (count : ℕ) (rounds : List Round) (touche
     holds = h.holds;
     table = h.table;
     spread = subst (λ (ls : List Level). AreSpread ls) (sym levels) h.spread;
-    counted = long ∙ (h.counted ∙ ap (λ (ls : List Level). copies_in (factors_of ls)) (sym levels));
+    counted = long ∙ (h.counted ∙ ap (λ (ls : List Level). copies_in (level_factors ls)) (sym levels));
     some = subst (λ (n : ℕ). 0 < n) (sym long) h.some;
     kinds = h.kinds;
     plain = h.plain;
@@ -229,9 +229,9 @@ module _ (x : Block) (scene : Scene) (count : ℕ) (rounds : List Round) (touche
         let fewer : m.own + accesses_of chosen < 2 ^ 32 = omega (arith, few, own) in
         let next_is = (command_reached scene chosen m.chosen.arm m.chosen.begin m.chosen.inside m.own m.behind m.chosen.command reach inner.some fewer).1.next_is in
         let size = command_sites_long scene chosen m.chosen.arm m.chosen.begin m.chosen.inside m.own m.behind m.chosen.command reach in
-        let tests : List (Option Site) = all_there (term_sites scene around test) in
-        let firsts : List (Option Site) = command_sites scene chosen m.chosen.arm m.chosen.begin m.chosen.inside m.own m.behind m.chosen.command in
-        let others : List (Option Site) = other_sites scene other around m.tests m.after_chosen m.after_other m.behind next m.other_left m.other in
+        let tests : List (Option BlockSite) = all_there (term_sites scene around test) in
+        let firsts : List (Option BlockSite) = command_sites scene chosen m.chosen.arm m.chosen.begin m.chosen.inside m.own m.behind m.chosen.command in
+        let others : List (Option BlockSite) = other_sites scene other around m.tests m.after_chosen m.after_other m.behind next m.other_left m.other in
         let inside : HasPlaces x.sites m.own (firsts ++ others) = places_behind x.sites first m.own tests (firsts ++ others) (own ∙ behind first (length tests) (term_accesses test) (test_places_long scene around test)) h in (
           (y.0.1, λ n l. value_suits around stands test first s.0 y.0.0 (places_front x.sites first tests (firsts ++ others) h) n l),
           (
@@ -266,8 +266,8 @@ module _ (x : Block) (scene : Scene) (count : ℕ) (rounds : List Round) (touche
         let fewer : first + accesses_of a < 2 ^ 32 = omega (arith, few) in
         let own = (command_reached scene a around old m.middle first m.own m.one reach stands.some fewer).1.next_is in
         let size = command_sites_long scene a around old m.middle first m.own m.one reach in
-        let firsts : List (Option Site) = command_sites scene a around old m.middle first m.own m.one in
-        let others : List (Option Site) = actions_sites scene rest around m.middle new m.own next m.rest in (
+        let firsts : List (Option BlockSite) = command_sites scene a around old m.middle first m.own m.one in
+        let others : List (Option BlockSite) = actions_sites scene rest around m.middle new m.own next m.rest in (
           command_suits a around old m.middle first m.own m.one Folds seen stands s.0 y.0 fewer (places_front x.sites first firsts others h),
           actions_suit rest around m.middle new m.own next m.rest Folds seen stands s.1 y.1 (omega (arith, few, own)) (places_behind x.sites first m.own firsts others (own ∙ behind first (length firsts) (accesses_of a) size) h),
         )
@@ -281,8 +281,8 @@ module _ (x : Block) (scene : Scene) (count : ℕ) (rounds : List Round) (touche
         let fewer : first + part_accesses g < 2 ^ 32 = omega (arith, few) in
         let own = (actions_reached scene g around old m.middle first m.own m.one reach stands.some fewer).1.next_is in
         let size = actions_sites_long scene g around old m.middle first m.own m.one reach in
-        let firsts : List (Option Site) = actions_sites scene g around old m.middle first m.own m.one in
-        let others : List (Option Site) = groups_sites scene rest around m.middle new m.own next m.rest in (
+        let firsts : List (Option BlockSite) = actions_sites scene g around old m.middle first m.own m.one in
+        let others : List (Option BlockSite) = groups_sites scene rest around m.middle new m.own next m.rest in (
           actions_suit g around old m.middle first m.own m.one Folds seen stands s.0 y.0 fewer (places_front x.sites first firsts others h),
           groups_suit rest around m.middle new m.own next m.rest Folds seen stands s.1 y.1 (omega (arith, few, own)) (places_behind x.sites first m.own firsts others (own ∙ behind first (length firsts) (part_accesses g) size) h),
         )

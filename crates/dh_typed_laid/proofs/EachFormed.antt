@@ -9,7 +9,7 @@ use Rattle.dh_plan.specs.Correspondence.{Round}
 use Rattle.dh_expressions.specs.declared.scenes.Around.{Around}
 use Rattle.dh_expressions.specs.declared.scenes.Scene.{Scene}
 use Rattle.dh_expressions.proofs.Pushing.{extends_again}
-use Rattle.dh_formed.specs.Formed.{Block, Site}
+use Rattle.dh_formed.specs.Formed.{FormedBlock, BlockSite}
 use Rattle.dh_formed.proofs.ValuesFormed.{agrees_before, forms_again, started_later}
 use Rattle.dh_commands.specs.declared.buildings.Building.{Building}
 use Rattle.dh_commands.specs.ShownVariables.{IsSeen}
@@ -28,7 +28,7 @@ use Rattle.dh_typed_laid.proofs.CommandsSuit.{command_suits, sound_reaches}
 
 -- One behind the other.
 
-again_forms : (scene : Scene) (around : Around) (old mid new : Building) (A B : Block → Type 0) → FormsCommand scene around old mid A → FormsCommand scene around mid new B → FormsCommand scene around old new (λ x. A x × B x)
+again_forms : (scene : Scene) (around : Around) (old mid new : Building) (A B : FormedBlock → Type 0) → FormsCommand scene around old mid A → FormsCommand scene around mid new B → FormsCommand scene around old new (λ x. A x × B x)
 again_forms scene around old mid new A B one rest = record {
   extends = extends_again old.draft mid.draft new.draft one.extends rest.extends;
   logs = λ ready. logged_again old.values mid.values new.values (one.logs ready) (rest.logs (logged_ready old.values mid.values (one.logs ready) ready));
@@ -53,7 +53,7 @@ above a b i l = omega (arith, l)
 further : (a b k n : ℕ) → a ≤ b → b + k ≤ n → a ≤ n
 further a b k n l m = omega (arith, l, m)
 
-module _ (x : Block) (scene : Scene) (count : ℕ) (around : Around) (rounds : List Round) (stands : StandsSo x scene count around) where
+module _ (x : FormedBlock) (scene : Scene) (count : ℕ) (around : Around) (rounds : List Round) (stands : StandsSo x scene count around) where
   each_suits : (cs : List Located) (from : ℕ) (old new : Building) (m : MadeEach scene around cs old new) → ((number : ℕ) → from ≤ number → x.sites number ≡ block_sites scene around cs old new m number)
       → AllByRecursion (FitsBlock x scene around rounds) cs → AreRising from cs → EachFew scene around cs old new m × EachSuits x scene around cs old new m
   each_suits [] from old new m sites fits rising = (tt, tt)
@@ -65,10 +65,10 @@ module _ (x : Block) (scene : Scene) (count : ℕ) (around : Around) (rounds : L
       let size : length (command_sites scene c.command around old mid c.first next m) ≡ accesses_of c.command = command_sites_long scene c.command around old mid c.first next m reach in
       let places : HasPlaces x.sites c.first (command_sites scene c.command around old mid c.first next m) = λ i s e.
       sites (c.first + i) (above from c.first i rising.0)
-      ∙ ap (λ (o : Option Site). site_or o (block_sites scene around cs mid new rest (c.first + i))) (places_own c.first (command_sites scene c.command around old mid c.first next m) i (Some s) e) in
+      ∙ ap (λ (o : Option BlockSite). site_or o (block_sites scene around cs mid new rest (c.first + i))) (places_own c.first (command_sites scene c.command around old mid c.first next m) i (Some s) e) in
       let later : (number : ℕ) → c.first + accesses_of c.command ≤ number → x.sites number ≡ block_sites scene around cs mid new rest number = λ number l.
       sites number (further from c.first (accesses_of c.command) number rising.0 l)
-      ∙ ap (λ (o : Option Site). site_or o (block_sites scene around cs mid new rest number))
+      ∙ ap (λ (o : Option BlockSite). site_or o (block_sites scene around cs mid new rest number))
       (places_past c.first (command_sites scene c.command around old mid c.first next m) number (subst (λ (n : ℕ). c.first + n ≤ number) (sym size) l)) in
       let more = each_suits cs (c.first + accesses_of c.command) mid new rest later fits.1 rising.1.1 in (
         (reached.0, more.0),
@@ -77,4 +77,4 @@ module _ (x : Block) (scene : Scene) (count : ℕ) (around : Around) (rounds : L
 
 pub made_commands_suit : MadeCommandsSuit
 made_commands_suit x scene count around rounds cs old new m sites stands fits rising =
-    each_suits x scene count around rounds stands cs 0 old new m (λ number l. ap (λ (f : ℕ → Option Site). f number) sites) fits rising
+    each_suits x scene count around rounds stands cs 0 old new m (λ number l. ap (λ (f : ℕ → Option BlockSite). f number) sites) fits rising

@@ -13,7 +13,7 @@ use Rattle.dh_expressions.specs.declared.scenes.Around.{Around}
 use Rattle.dh_expressions.specs.declared.scenes.Scene.{Scene}
 use Rattle.dh_expressions.specs.Evaluated.{counter_of}
 use Rattle.dh_expressions.specs.Shown.{register_at}
-use Rattle.dh_formed.specs.Formed.{Block, RegisterSuits, VariableSuits}
+use Rattle.dh_formed.specs.Formed.{FormedBlock, RegisterSuits, VariableSuits}
 use Rattle.dh_commands.specs.LanesRun.{lane_of, paths_counted}
 use Rattle.dh_commands.specs.ShownVariables.{IsSeen, register_in, seen_path}
 use Rattle.dh_blocks.specs.SlotsOfScene.{placing_in}
@@ -30,7 +30,7 @@ counter_there (k ∷ kinds) (suc n) width e = let l = counter_there kinds n widt
 within_all : (a b c : ℕ) → a < b → b ≤ c → a < c
 within_all a b c l m = omega (arith, l, m)
 
-module _ (x : Block) (scene : Scene) (count : ℕ) (around : Around) (stands : StandsSo x scene count around) where
+module _ (x : FormedBlock) (scene : Scene) (count : ℕ) (around : Around) (stands : StandsSo x scene count around) where
   -- a variable that is seen
   pub register_suits : (e n : ℕ) → IsSeen scene around.levels.now e → n < paths_counted around → RegisterSuits x (register_in scene around e n) (held_at scene.held.now e).kind
   register_suits e n s h =

@@ -26,13 +26,13 @@ use Rattle.dh_expressions.specs.Numbers.{narrowed}
 use Rattle.dh_expressions.specs.ReachedBanks.{bank_by}
 use Rattle.dh_expressions.specs.Shown.{kind_written}
 use Rattle.dh_expressions.specs.Standings.{banks_at, copy_places, standing_at}
-use Rattle.dh_formed.specs.Formed.{AccessSuits, AreNumbers, Block, FormSuits, OperandsSuit, ReadSuits, TermSuits, TermsSuit, count_of}
+use Rattle.dh_formed.specs.Formed.{AccessSuits, AreNumbers, FormedBlock, FormSuits, OperandsSuit, ReadSuits, TermSuits, TermsSuit, count_of_terms}
 use Rattle.dh_formed.proofs.OperandsTyped.{typed_operands_suit}
 use Rattle.dh_commands.specs.LanesRun.{lane_of, paths_counted}
 use Rattle.dh_blocks.specs.SoundTerms.{AreSound, IsSound, IsSoundForm}
 use Rattle.dh_laid.specs.BlockSites.{HasSites, form_sites, read_site, term_sites, terms_sites}
 use Rattle.dh_laid.proofs.SitesLaid.{sites_behind, sites_front, sites_last, term_sites_long, terms_sites_long}
-use Rattle.dh_typed_blocks.specs.TypedTerms.{AreOperands, AreTyped, IsTyped, IsTypedForm}
+use Rattle.dh_typed_blocks.specs.TypedTerms.{AreTypedOperands, AreTyped, IsTyped, IsTypedForm}
 use Rattle.dh_typed_laid.specs.SuitingBlocks.{NamedHere, StandsSo, TermsSuitBlocks, WayHere}
 use Rattle.dh_typed_laid.proofs.BanksListed.{one_bank, reached_lies, set_banks}
 use Rattle.dh_typed_laid.proofs.MemoriesSuit.{bank_below, dims_there, narrowed_below}
@@ -40,7 +40,7 @@ use Rattle.dh_typed_laid.proofs.NamesSuit.{name_suits}
 use Rattle.dh_typed_laid.proofs.WaysSuit.{way_suits}
 
 -- operands that break no rule suit
-operands_suit : (o : Op) (j k whole : Kind) → AreOperands o j k whole → OperandsSuit o j k whole
+operands_suit : (o : Op) (j k whole : Kind) → AreTypedOperands o j k whole → OperandsSuit o j k whole
 operands_suit o j k whole h = subst (λ (x : Kind). OperandsSuit o j k x) (sym h.is) (typed_operands_suit o h.left_place h.right_place j k h.left h.right h.none)
 
 -- indices
@@ -48,11 +48,11 @@ pub numbers : (known : Known) (table : List MemEntry) (ts : plain.Terms) → Are
 numbers known table plain.no_terms h = tt
 numbers known table (plain.term_then t ts) h = (h.0.1, numbers known table ts h.1)
 
-counted : (ts : plain.Terms) → count_of ts ≡ kinds.count_of ts
+counted : (ts : plain.Terms) → count_of_terms ts ≡ kinds.count_of ts
 counted plain.no_terms = refl
 counted (plain.term_then t ts) = let e = counted ts in omega (arith, e)
 
-module _ (x : Block) (scene : Scene) (count : ℕ) (around : Around) (rounds : List Round) (touched : ℕ → Truth) (stands : StandsSo x scene count around) where
+module _ (x : FormedBlock) (scene : Scene) (count : ℕ) (around : Around) (rounds : List Round) (touched : ℕ → Truth) (stands : StandsSo x scene count around) where
   abbrev known : Known
   known = known_in scene
 
@@ -116,7 +116,7 @@ module _ (x : Block) (scene : Scene) (count : ℕ) (around : Around) (rounds : L
   }
 
   -- as many indices as dimensions
-  pub many_indices : (r : Ref) (ts : plain.Terms) → kinds.count_of ts ≡ length (dims_named known table r) → count_of ts ≡ length (dims_named known x.plan.table r)
+  pub many_indices : (r : Ref) (ts : plain.Terms) → kinds.count_of ts ≡ length (dims_named known table r) → count_of_terms ts ≡ length (dims_named known x.plan.table r)
   many_indices r ts e = counted ts ∙ (e ∙ ap (λ (t : List MemEntry). length (dims_named known t r)) same_table)
 
   behind : (first m n : ℕ) → m ≡ n → first + n ≡ first + m

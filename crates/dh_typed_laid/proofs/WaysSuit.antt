@@ -12,7 +12,7 @@ use Rattle.dh_tree.specs.Memories.{table_of}
 use Rattle.dh_tree.specs.Seen.{program_seen}
 use Rattle.dh_tree.specs.ViewElements.{offsets_needed}
 use Rattle.dh_meaning.specs.CoreOf.{memory_of, way_of}
-use Rattle.dh_meaning.specs.Ways.{Hidden, Step, Way, hidden_in, step_of}
+use Rattle.dh_meaning.specs.Ways.{Hidden, WayStep, Way, hidden_in, step_of}
 use Rattle.dh_ways.specs.Leading.{StepsLead, next_dims, offsets_on}
 use Rattle.dh_plan.specs.Correspondence.{Round}
 use Rattle.dh_code.specs.Slots.{held_at}
@@ -21,7 +21,7 @@ use Rattle.dh_expressions.specs.declared.scenes.Scene.{Scene}
 use Rattle.dh_expressions.specs.declared.scenes.Through.{Through}
 use Rattle.dh_expressions.specs.Evaluated.{AreViews, counter_of, known_in}
 use Rattle.dh_expressions.specs.Named.{first_view, number_of_parent}
-use Rattle.dh_formed.specs.Formed.{Block, HiddenSuits, StepsSuit, VariableSuits, WaySuits}
+use Rattle.dh_formed.specs.Formed.{FormedBlock, HiddenSuits, StepsSuit, VariableSuits, WaySuits}
 use Rattle.dh_commands.specs.LanesRun.{lane_of, paths_counted}
 use Rattle.dh_blocks.specs.SoundTerms.{IsSoundHidden, IsSoundWay, kept_name}
 use Rattle.dh_typed_laid.specs.SuitingBlocks.{NamedHere, StandsSo, WayHere}
@@ -30,22 +30,22 @@ use Rattle.dh_typed_laid.proofs.NamesSuit.{name_suits}
 -- Steps.
 
 -- each takes what its view needs
-abbrev AllNeed : List Step → Type 0
+abbrev AllNeed : List WayStep → Type 0
 AllNeed [] = Unit {0}
 AllNeed (s ∷ ss) = (s.offsets ≡ offsets_needed s.is.sort s.is.parent.dims) × AllNeed ss
 
-heads : (s t : Step) (ss ts : List Step) → s ∷ ss ≡ t ∷ ts → s ≡ t
+heads : (s t : WayStep) (ss ts : List WayStep) → s ∷ ss ≡ t ∷ ts → s ≡ t
 heads s t ss ts e = cc
 
-tails : (s t : Step) (ss ts : List Step) → s ∷ ss ≡ t ∷ ts → ss ≡ ts
+tails : (s t : WayStep) (ss ts : List WayStep) → s ∷ ss ≡ t ∷ ts → ss ≡ ts
 tails s t ss ts e = cc
 
-all_need : (ss : List Step) → map step_of (map (λ (s : Step). s.is) ss) ≡ ss → AllNeed ss
+all_need : (ss : List WayStep) → map step_of (map (λ (s : WayStep). s.is) ss) ≡ ss → AllNeed ss
 all_need [] e = tt
 all_need (s ∷ ss) e =
-    (sym (ap (λ (x : Step). x.offsets) (heads (step_of s.is) s (map step_of (map (λ (x : Step). x.is) ss)) ss e)), all_need ss (tails (step_of s.is) s (map step_of (map (λ (x : Step). x.is) ss)) ss e))
+    (sym (ap (λ (x : WayStep). x.offsets) (heads (step_of s.is) s (map step_of (map (λ (x : WayStep). x.is) ss)) ss e)), all_need ss (tails (step_of s.is) s (map step_of (map (λ (x : WayStep). x.is) ss)) ss e))
 
-steps_suit : (x : Block) (through : List Through) (memory first : ℕ) (ss : List Step) → AreViews through x.plan.views first ss → StepsLead ss (dims_at x.plan.table memory) → AllNeed ss → StepsSuit x through memory first ss (offsets_on ss) (next_dims ss (dims_at x.plan.table memory))
+steps_suit : (x : FormedBlock) (through : List Through) (memory first : ℕ) (ss : List WayStep) → AreViews through x.plan.views first ss → StepsLead ss (dims_at x.plan.table memory) → AllNeed ss → StepsSuit x through memory first ss (offsets_on ss) (next_dims ss (dims_at x.plan.table memory))
 steps_suit x through memory first [] are lead need = (refl, refl)
 steps_suit x through memory first (s ∷ ss) are lead need = (
   (are.0, (refl, need.0)),
@@ -57,7 +57,7 @@ steps_suit x through memory first (s ∷ ss) are lead need = (
 
 -- Ways.
 
-module _ (x : Block) (scene : Scene) (count : ℕ) (around : Around) (rounds : List Round) (touched : ℕ → Bool) (stands : StandsSo x scene count around) where
+module _ (x : FormedBlock) (scene : Scene) (count : ℕ) (around : Around) (rounds : List Round) (touched : ℕ → Bool) (stands : StandsSo x scene count around) where
   abbrev table : List MemEntry
   table = table_of (program_seen scene.program.now)
 

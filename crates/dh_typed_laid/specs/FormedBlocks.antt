@@ -5,7 +5,7 @@ use Rattle.dh_meaning.specs.Phases.{Located}
 use Rattle.dh_plan.specs.Correspondence.{Round}
 use Rattle.dh_expressions.specs.declared.scenes.Around.{Around}
 use Rattle.dh_expressions.specs.declared.scenes.Scene.{Scene}
-use Rattle.dh_formed.specs.Formed.{Block}
+use Rattle.dh_formed.specs.Formed.{FormedBlock}
 use Rattle.dh_commands.specs.declared.buildings.Building.{Building}
 use Rattle.dh_laid.specs.BareCommands.{AreRising}
 use Rattle.dh_laid.specs.BlockSites.{MadeEach, block_sites}
@@ -21,6 +21,6 @@ EachForms =
 -- commands whose sites are the block's suit each, and their numbers are few
 abbrev pub MadeCommandsSuit : Type 0
 MadeCommandsSuit =
-    (x : Block) (scene : Scene) (count : ℕ) (around : Around) (rounds : List Round) (cs : List Located) (old new : Building) (m : MadeEach scene around cs old new)
+    (x : FormedBlock) (scene : Scene) (count : ℕ) (around : Around) (rounds : List Round) (cs : List Located) (old new : Building) (m : MadeEach scene around cs old new)
     → x.sites ≡ block_sites scene around cs old new m → StandsSo x scene count around → AllByRecursion (FitsBlock x scene around rounds) cs → AreRising 0 cs
     → EachFew scene around cs old new m × EachSuits x scene around cs old new m

@@ -12,10 +12,10 @@ use Rattle.dh_tree.specs.declared.trees.commands.Command.{Command}
 use Rattle.dh_tree.specs.declared.trees.commands.LoopHeader.{LoopHeader}
 use Rattle.dh_tree.specs.declared.trees.commands.ViewForm.{ViewForm}
 use Rattle.dh_tree.specs.declared.trees.expressions.Expr.{Expr}
-use Rattle.dh_tree.specs.Seen.{plan_seen, action_seen, low_seen, high_seen, unroll_seen, counts_seen}
+use Rattle.dh_tree.specs.Seen.{view_plan, action_seen, low_seen, high_seen, unroll_seen, counts_seen}
 use Rattle.dh_tree.specs.PlainTrees.{Term, ViewPlan, Placed, Unrolled, Action, ActionForm, lets, lets_memory, views, assigns, stores, reduces, calls, blocks, decides, repeats, counts, MaybeAction, Groups}
 use Rattle.dh_tree.specs.Kinds.{Fact, of_iterator, Facts, fact_of, found, for_numbers, parameters_of, target_kind, variable_fact, parameter_fact, view_fact, iterator_kind, facts_after, facts_after_other, typed_term, typed_maybe, typed_plan, typed_arguments, typed_action, typed_other}
-use Rattle.dh_tree.specs.KindBreaches.{term_kind_breaches, right_side_breaches, maybe_breaches, condition_breaches, plan_breaches, target_breaches, parent_breaches, reducer_breaches, arguments_breaches, iterator_breaches, low_breaches, high_breaches, action_kind_breaches, other_kind_breaches}
+use Rattle.dh_tree.specs.KindBreaches.{term_kind_breaches, right_side_breaches, maybe_breaches, condition_breaches, plan_kind_breaches, target_breaches, parent_breaches, reducer_kind_breaches, arguments_breaches, iterator_breaches, low_breaches, high_breaches, action_kind_breaches, other_kind_breaches}
 use Rattle.dh_types.specs.InTrees.{value_seen}
 use Rattle.dh_types.specs.Walks.{State, walked, noted, learned, entered, entered_as, Types, TypesForm, TypesOther, TypesGroups}
 use Rattle.dh_tree.proofs.Leasts.{least_append}
@@ -50,12 +50,12 @@ memory_done s0 s1 s2 name shape places v v' fact tree one known two = record {
 
 pub views_done : (s0 s1 s2 s3 : State) (name parent : Ref) (f f' : ViewPlan) (fact : Fact)
     → s1 ≡ noted s0 (parent_breaches (fact_of s0.facts parent) parent.place)
-    → f' ≡ typed_plan s1.facts f → s2 ≡ noted s1 (plan_breaches s1.facts f')
+    → f' ≡ typed_plan s1.facts f → s2 ≡ noted s1 (plan_kind_breaches s1.facts f')
     → fact ≡ view_fact (fact_of s2.facts parent) f' → s3 ≡ learned s2 fact
     → TypesForm s0 s3 (views name parent f) (views name parent f')
 views_done s0 s1 s2 s3 name parent f f' fact one plan two known three =
-    let both : s2 ≡ walked s0 (parent_breaches (fact_of s0.facts parent) parent.place ++ plan_breaches s0.facts f') s0.facts =
-    next_step s0 s1 s2 (parent_breaches (fact_of s0.facts parent) parent.place) s0.facts (λ fs. plan_breaches fs f') (λ fs. fs) one two in
+    let both : s2 ≡ walked s0 (parent_breaches (fact_of s0.facts parent) parent.place ++ plan_kind_breaches s0.facts f') s0.facts =
+    next_step s0 s1 s2 (parent_breaches (fact_of s0.facts parent) parent.place) s0.facts (λ fs. plan_kind_breaches fs f') (λ fs. fs) one two in
     record {
       tree = ap (λ g. views name parent g) (plan ∙ ap (λ s. typed_plan s.facts f) one);
       state = three ∙ ap (λ x. learned s2 x) known ∙ ap (λ s. learned s (view_fact (fact_of s.facts parent) f')) both;
@@ -79,7 +79,7 @@ stores_done s0 s1 s2 t t' v v' target one value two = record {
 
 pub reduces_done : (s0 s1 : State) (target : Ref) (op : Op) (v v' : Term)
     → v' ≡ typed_term s0.facts (for_numbers (target_kind (fact_of s0.facts target))) v
-    → s1 ≡ noted s0 (target_breaches (fact_of s0.facts target) target.place ++ (reducer_breaches (target_kind (fact_of s0.facts target)) (found v') target.place ++ right_side_breaches s0.facts (target_kind (fact_of s0.facts target)) v'))
+    → s1 ≡ noted s0 (target_breaches (fact_of s0.facts target) target.place ++ (reducer_kind_breaches (target_kind (fact_of s0.facts target)) (found v') target.place ++ right_side_breaches s0.facts (target_kind (fact_of s0.facts target)) v'))
     → TypesForm s0 s1 (reduces target op v) (reduces target op v')
 reduces_done s0 s1 target op v v' tree one = record { tree = ap (λ w. reduces target op w) tree; state = one }
 
@@ -162,10 +162,10 @@ memory_at s s' name places x y v w u is now done =
     (subst (λ (o : Option Expr). TypesForm s s' (lets_memory name x places (value_seen o)) (lets_memory name x places (value_seen u))) now done)
 
 pub viewed_at : (s s' : State) (name x y : Ref) (f g h : ViewForm) → x ≡ y → f ≡ g
-    → TypesForm s s' (views name x (plan_seen f)) (views name x (plan_seen h)) → TypesForm s s' (views name y (plan_seen g)) (views name y (plan_seen h))
+    → TypesForm s s' (views name x (view_plan f)) (views name x (view_plan h)) → TypesForm s s' (views name y (view_plan g)) (views name y (view_plan h))
 viewed_at s s' name x y f g h is now done =
-    subst (λ (r : Ref). TypesForm s s' (views name r (plan_seen g)) (views name r (plan_seen h))) is
-    (subst (λ (p : ViewForm). TypesForm s s' (views name x (plan_seen p)) (views name x (plan_seen h))) now done)
+    subst (λ (r : Ref). TypesForm s s' (views name r (view_plan g)) (views name r (view_plan h))) is
+    (subst (λ (p : ViewForm). TypesForm s s' (views name x (view_plan p)) (views name x (view_plan h))) now done)
 
 pub types_at : (s s' : State) (x y : Command) (b : Action) → x ≡ y → Types s s' (action_seen x) b → Types s s' (action_seen y) b
 types_at s s' x y b is done = subst (λ z. Types s s' (action_seen z) b) is done

@@ -9,7 +9,7 @@ use Rattle.dh_tree.specs.Kinds as kinds
 use Rattle.dh_tree.specs.Kinds.{Facts, is_integer, fact_of, view_fact, function_fact}
 use Rattle.dh_tree.specs.KindBreaches.{name_fact}
 use Rattle.dh_tree.specs.PlainTrees.{Term, term}
-use Rattle.dh_tree.specs.Seen.{plan_seen, formal_seen, defined_seen}
+use Rattle.dh_tree.specs.Seen.{view_plan, formal_seen, defined_seen}
 use Rattle.dh_tree.specs.declared.trees.expressions.Ref.{Ref}
 use Rattle.dh_tree.specs.declared.trees.commands.ViewForm.{ViewForm}
 use Rattle.dh_tree.specs.declared.trees.programs.Parameter.{Parameter}
@@ -32,7 +32,7 @@ known_fact fact = option_map (λ f. fact_seen f.now) fact
 
 -- a fact is what is known of a view of the parent with this name
 abbrev pub IsViewFact : List Fact → (parent : Ref) → ViewForm → Fact → Type 0
-IsViewFact facts parent form fact = fact_seen fact ≡ view_fact (fact_of (facts_seen facts) parent) (plan_seen form)
+IsViewFact facts parent form fact = fact_seen fact ≡ view_fact (fact_of (facts_seen facts) parent) (view_plan form)
 
 -- a fact is what is known of a function
 abbrev pub IsFunctionFact : Function → Fact → Type 0

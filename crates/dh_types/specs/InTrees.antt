@@ -7,7 +7,7 @@ use Rattle.dh_tree.specs.declared.trees.expressions.Expr.{Expr}
 use Rattle.dh_tree.specs.declared.trees.expressions.Ref.{Ref}
 use Rattle.dh_tree.specs.declared.trees.commands.ViewForm.{ViewForm}
 use Rattle.dh_tree.specs.PlainTrees.{Term, Terms}
-use Rattle.dh_tree.specs.Seen.{term_seen, expressions_seen, factor_seen, plan_seen}
+use Rattle.dh_tree.specs.Seen.{term_seen, expressions_seen, factor_seen, view_plan}
 use Rattle.dh_tree.specs.Kinds.{fact_of, found, for_numbers, left_want, right_want, all_found, all_integer, count_of, typed_term, typed_maybe, typed_offset, typed_plan, typed_arguments, parameters_of, target_kind}
 use Rattle.dh_types.specs.declared.facts.Fact.{Fact}
 use Rattle.dh_types.specs.Facts.{facts_seen}
@@ -55,7 +55,7 @@ TypesCall facts function old new = TypesArguments facts (parameters_of (fact_of 
 
 -- the offsets of a view take their kinds
 abbrev pub TypesPlan : List Fact → (old new : ViewForm) → Type 0
-TypesPlan facts old new = plan_seen new ≡ typed_plan (facts_seen facts) (plan_seen old)
+TypesPlan facts old new = view_plan new ≡ typed_plan (facts_seen facts) (view_plan old)
 
 -- the offsets of factors take their kinds
 abbrev pub TypesSuffixes : List Fact → (old new : Vec (ℕ × Expr) Global) → Type 0

@@ -18,11 +18,11 @@ use Rattle.dh_tree.specs.declared.trees.programs.Parameter.{Parameter}
 use Rattle.dh_tree.specs.declared.trees.programs.Function.{Function}
 use Rattle.dh_tree.specs.LeastBreach.{least_of}
 use Rattle.dh_tree.specs.NameCounts.{declared_in}
-use Rattle.dh_tree.specs.Seen.{term_seen, plan_seen, low_seen, high_seen, sides_seen, action_seen, action_form_seen, part_seen, declared_seen, formal_seen, defined_seen, maybe_block_seen}
+use Rattle.dh_tree.specs.Seen.{term_seen, view_plan, low_seen, high_seen, sides_seen, action_seen, action_form_seen, part_seen, declared_seen, formal_seen, defined_seen, maybe_block_seen}
 use Rattle.dh_tree.specs.PlainTrees.{Action, ActionForm, lets, lets_memory, views, MaybeAction, Actions, Groups, Defined}
 use Rattle.dh_tree.specs.Kinds.{Fact, of_iterator, iterator_kind, Facts, fact_of, target_kind, function_fact, declared_facts, formal_facts, facts_after, facts_after_form, facts_after_other, facts_after_actions, facts_after_groups, facts_after_function, facts_after_functions, typed_action, typed_action_form, typed_other, typed_actions, typed_groups, typed_function, typed_functions}
 use Rattle.dh_tree.specs.Kinds as rules
-use Rattle.dh_tree.specs.KindBreaches.{right_side_breaches, target_breaches, parent_breaches, reducer_breaches, iterator_breaches, low_breaches, high_breaches, action_kind_breaches, action_form_kind_breaches, other_kind_breaches, actions_kind_breaches, groups_kind_breaches, function_kind_breaches, functions_kind_breaches}
+use Rattle.dh_tree.specs.KindBreaches.{right_side_breaches, target_breaches, parent_breaches, reducer_kind_breaches, iterator_breaches, low_breaches, high_breaches, action_kind_breaches, action_form_kind_breaches, other_kind_breaches, actions_kind_breaches, groups_kind_breaches, function_kind_breaches, functions_kind_breaches}
 use Rattle.dh_types.specs.declared.facts.Fact as known
 use Rattle.dh_types.specs.Facts.{fact_seen, facts_seen}
 use Rattle.dh_types.specs.InTrees.{value_seen}
@@ -81,7 +81,7 @@ NotesAssigned old new target value =
 abbrev pub NotesReduced : (old new : Walk) → (target : Ref) → (value : Expr) → Type 0
 NotesReduced old new target value =
     NotesAll old new (target_breaches (fact_of (state_of old).facts target) target.place
-    ++ (reducer_breaches (target_kind (fact_of (state_of old).facts target)) (rules.found (term_seen value)) target.place
+    ++ (reducer_kind_breaches (target_kind (fact_of (state_of old).facts target)) (rules.found (term_seen value)) target.place
     ++ right_side_breaches (state_of old).facts (target_kind (fact_of (state_of old).facts target)) (term_seen value)))
 
 -- the walk notes the breach of the name of a view's parent
@@ -156,7 +156,7 @@ TypesMemory old new shape a b =
     (name : Ref) (places : ShapePlaces) → TypesForm (state_of old) (state_of new) (lets_memory name shape places (value_seen a)) (lets_memory name shape places (value_seen b))
 
 abbrev pub TypesViewed : (old new : Walk) → (parent : Ref) → (a b : ViewForm) → Type 0
-TypesViewed old new parent a b = (name : Ref) → TypesForm (state_of old) (state_of new) (views name parent (plan_seen a)) (views name parent (plan_seen b))
+TypesViewed old new parent a b = (name : Ref) → TypesForm (state_of old) (state_of new) (views name parent (view_plan a)) (views name parent (view_plan b))
 
 abbrev pub TypesSides : (old new : Walk) → (a b : Sides) → Type 0
 TypesSides old new a b = TypesForm (state_of old) (state_of new) (sides_seen a) (sides_seen b)

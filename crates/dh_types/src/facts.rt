@@ -1,7 +1,7 @@
 //! What is known of entities.
 
 ghost use Rattle.std.specs.Prelude.{◌≡◌, ◌<◌, MatchResult, length};
-ghost use Rattle.dh_tree.specs.Seen.{plan_seen};
+ghost use Rattle.dh_tree.specs.Seen.{view_plan};
 ghost use Rattle.dh_tree.specs.Kinds as rules;
 ghost use Rattle.dh_types.specs.Facts.{fact_seen, facts_seen, known_fact, IsFunctionFact, parameter_kinds};
 ghost use Rattle.dh_types.specs.InTrees.{value_seen};
@@ -63,7 +63,7 @@ pub fn variable_fact(declared: Option<Kind>, value: &Option<Expr>) -> Fact
 
 // The dimensions of a view of a parent with so many.
 fn view_dims(form: &ViewForm, dims: usize) -> usize
-    ensures { result ≡ rules.view_dims (plan_seen form.now) dims }
+    ensures { result ≡ rules.view_dims (view_plan form.now) dims }
 {
     match form {
         ViewForm::Split { .. } => 2,
@@ -73,7 +73,7 @@ fn view_dims(form: &ViewForm, dims: usize) -> usize
 
 /// What is known of a view, by what is known of its parent.
 pub fn view_fact(parent: Option<&Fact>, form: &ViewForm) -> Fact
-    ensures { fact_seen result ≡ rules.view_fact (known_fact parent.entry) (plan_seen form.now) }
+    ensures { fact_seen result ≡ rules.view_fact (known_fact parent.entry) (view_plan form.now) }
 {
     match parent {
         Some(Fact::Memory { kind, dims }) => Fact::Memory {

@@ -5,7 +5,7 @@ ghost use Rattle.std.specs.Prelude.{◌≡◌};
 ghost use Rattle.std.specs.Option.{is_some};
 ghost use Rattle.dh_tree.specs.Seen.{term_seen, placed, all_terms_seen};
 ghost use Rattle.dh_tree.specs.Kinds as rules;
-ghost use Rattle.dh_tree.specs.KindBreaches.{term_kind_breaches, indices_kind_breaches, offset_breaches, assigned_breaches, truth_breaches, condition_breaches, argument_breaches, target_breaches, parent_breaches, reducer_breaches, iterator_breaches, low_breaches, high_breaches};
+ghost use Rattle.dh_tree.specs.KindBreaches.{term_kind_breaches, indices_kind_breaches, offset_breaches, assigned_breaches, truth_breaches, condition_breaches, argument_breaches, target_breaches, parent_breaches, reducer_kind_breaches, iterator_breaches, low_breaches, high_breaches};
 ghost use Rattle.dh_types.specs.Facts.{facts_seen, known_fact, listed, is_memory as names_it, is_memory_name};
 ghost use Rattle.dh_types.specs.InTrees.{have_wrong_count};
 ghost use Rattle.dh_types.specs.Judging.{JudgesAccess, KeepsBy, breaches_for};
@@ -293,7 +293,7 @@ pub fn parent_breach(fact: Option<&Fact>, place: Place) -> Option<Breach>
 
 /// The breach of a reducer whose target is Bool.
 pub fn reducer_breach(target: Option<Kind>, value: Option<Kind>, place: Place) -> Option<Breach>
-    ensures { listed result ≡ reducer_breaches target value place }
+    ensures { listed result ≡ reducer_kind_breaches target value place }
 {
     match (target, value) {
         (Some(target), Some(_)) => mismatch_unless(!is_truth(target), place),

@@ -1,8 +1,8 @@
 //! The kinds of offsets of views.
 
 ghost use Rattle.std.specs.Prelude.{None, map};
-ghost use Rattle.dh_tree.specs.Seen.{term_seen, plan_seen, factor_seen, expressions_seen};
-ghost use Rattle.dh_tree.specs.KindBreaches.{plan_breaches, offset_breaches, suffixes_breaches, shifts_breaches};
+ghost use Rattle.dh_tree.specs.Seen.{term_seen, view_plan, factor_seen, expressions_seen};
+ghost use Rattle.dh_tree.specs.KindBreaches.{plan_kind_breaches, offset_breaches, suffixes_breaches, shifts_breaches};
 ghost use Rattle.dh_types.specs.InTrees.{TypesTerm, TypesTerms, TypesPlan, TypesSuffixes};
 ghost use Rattle.dh_types.specs.Walks.{NotesBy};
 
@@ -15,7 +15,7 @@ impl Walk {
     /// Gives the offsets of a view their kinds.
     pub fn plan(&mut self, form: &mut ViewForm)
         ensures tree { TypesPlan self.old.facts.items form.old form.new }
-        ensures state { NotesBy plan_breaches self.old self.new (plan_seen form.new) }
+        ensures state { NotesBy plan_kind_breaches self.old self.new (view_plan form.new) }
     {
         match form {
             ViewForm::Shrink { .. } => {}

@@ -10,7 +10,7 @@ use Rattle.std.proofs.lemmas.Option.{get_or_from_slice_get}
 use Rattle.dh_tree.specs.declared.viewing.ViewMap.{ViewMap}
 use Rattle.dh_tree.specs.Elements.{banks_of}
 use Rattle.dh_tree.specs.ViewShapes.{IsViewMap}
-use Rattle.dh_meaning.specs.Ways.{Step, step_of}
+use Rattle.dh_meaning.specs.Ways.{WayStep, step_of}
 use Rattle.dh_meets.specs.Charges.{any_below, may_reach}
 use Rattle.dh_viewing.specs.declared.bank_sets.BankSet.{BankSet}
 use Rattle.dh_viewing.specs.ReachedBanks.{ReachesBank, can_reach, is_in}
@@ -161,7 +161,7 @@ one_in own sets bank number found more new same is made before b =
     ∙ (ap (λ n. any_in own sets bank b || (is_in own n && is_in more b)) same ∙ ap (λ (s : BankSet). any_in own sets bank b || (is_in own bank && is_in s b)) is))
 
 -- of another view what may be reached from each of its banks is known
-pub behind_reached : (v : ViewMap) (ss : List Step) (bank : ℕ) (own s : BankSet) (sets : List BankSet) → ((b : ℕ) → is_in own b ≡ reaches_inside v bank b) → length sets ≡ banks_of v.parent.dims → ReachedByBanks ss (banks_of v.parent.dims) sets
+pub behind_reached : (v : ViewMap) (ss : List WayStep) (bank : ℕ) (own s : BankSet) (sets : List BankSet) → ((b : ℕ) → is_in own b ≡ reaches_inside v bank b) → length sets ≡ banks_of v.parent.dims → ReachedByBanks ss (banks_of v.parent.dims) sets
     → ((b : ℕ) → is_in s b ≡ any_in own sets (length sets) b) → AreReached (step_of v ∷ ss) bank s
 behind_reached v ss bank own s sets is many reached all c =
     all c
@@ -176,7 +176,7 @@ behind_reached v ss bank own s sets is many reached all c =
 
 -- By each bank.
 
-pub no_sets : (ss : List Step) (sets : List BankSet) → sets ≡ [] → (length sets ≡ 0) × ReachedByBanks ss 0 sets
+pub no_sets : (ss : List WayStep) (sets : List BankSet) → sets ≡ [] → (length sets ≡ 0) × ReachedByBanks ss 0 sets
 no_sets ss sets e = (ap (λ (l : List BankSet). length l) e, λ bank l. absurd (none bank l))
   where
     none : (k : ℕ) → k < 0 → ⊥
@@ -197,7 +197,7 @@ pub one_longer : {A : Type 0} (xs : List A) (x : A) → length (xs ++ x ∷ []) 
 one_longer [] x = refl
 one_longer (z ∷ xs) x = ap suc (one_longer xs x)
 
-pub sets_more : (ss : List Step) (n : ℕ) (old new : List BankSet) (s : BankSet) → new ≡ old ++ s ∷ [] → AreReached ss n s → (length old ≡ n) × ReachedByBanks ss n old → (length new ≡ suc n) × ReachedByBanks ss (suc n) new
+pub sets_more : (ss : List WayStep) (n : ℕ) (old new : List BankSet) (s : BankSet) → new ≡ old ++ s ∷ [] → AreReached ss n s → (length old ≡ n) × ReachedByBanks ss n old → (length new ≡ suc n) × ReachedByBanks ss (suc n) new
 sets_more ss n old new s added reached (long, all) =
     subst (λ (l : List BankSet). (length l ≡ suc n) × ReachedByBanks ss (suc n) l) (sym added) (one_longer old s ∙ ap suc long, λ bank l. by bank l (cases_lt bank n))
   where
@@ -221,7 +221,7 @@ more_behind v parent old new n own s added is many all (long, known) = (
 
 -- what is made of a view behind one whose sets are kept at a place
 pub behind_place : (v : ViewMap) (through : List Through) (o : Option ℕ) (place : ℕ) (t : Through) (kept sets : List BankSet) → o ≡ Some place → HasSets v through (Some place) → t ≡ get_or through place t → kept ≡ t.banks
-    → (length sets ≡ banks_of v.shape.dims) × ((ss : List Step) → ReachedByBanks ss (banks_of v.parent.dims) kept → ReachedByBanks (step_of v ∷ ss) (banks_of v.shape.dims) sets) → MakesSets v through o sets
+    → (length sets ≡ banks_of v.shape.dims) × ((ss : List WayStep) → ReachedByBanks ss (banks_of v.parent.dims) kept → ReachedByBanks (step_of v ∷ ss) (banks_of v.shape.dims) sets) → MakesSets v through o sets
 behind_place v through o place t kept sets is has there same (long, known) =
     subst (λ (x : Option ℕ). MakesSets v through x sets) (sym is)
     (long, λ ss u at r. known ss (subst (λ (l : List BankSet). ReachedByBanks ss (banks_of v.parent.dims) l) (sym (same ∙ ap (λ (x : Through). x.banks) (there ∙ get_or_from_slice_get through place u t at))) r))

@@ -8,7 +8,7 @@ use Rattle.dh_tree.specs.Seen.{action_seen, program_seen}
 use Rattle.dh_meaning.specs.Bindings.{bindings}
 use Rattle.dh_meaning.specs.Ways.{all_bindings_of, all_entities_of, hidden_binding, led_binding, ways_of}
 use Rattle.dh_ways.specs.declared.ways.Hidden.{Hidden}
-use Rattle.dh_ways.specs.Kept.{Led}
+use Rattle.dh_ways.specs.Kept.{KeptLed}
 use Rattle.dh_ways.specs.Seen.{hidden_seen, led_seen}
 use Rattle.dh_ways.specs.Stands.{hidden_of_program}
 use Rattle.dh_plan.specs.Passes.{IsToCompile}
@@ -62,7 +62,7 @@ module _ (scene : Scene) where
   }
 
   -- from what the calls told of the program's tree
-  module _ {E : Type 0} (n count : ℕ) (hidden kept : List Hidden) (led : List Led) (places : List Held) (through : List Through) (shares : List (Option ℕ)) (r : Result Phased E) (asked : IsToCompile p) (ways : map led_seen scene.ways.now ≡ ways_of p)
+  module _ {E : Type 0} (n count : ℕ) (hidden kept : List Hidden) (led : List KeptLed) (places : List Held) (through : List Through) (shares : List (Option ℕ)) (r : Result Phased E) (asked : IsToCompile p) (ways : map led_seen scene.ways.now ≡ ways_of p)
       (taken : scene.through.now ≡ through) (are_led : led ≡ scene.ways.now) (found : hidden ≡ hidden_of_program p) (are_kept : kept ≡ hidden) where
     abbrev Told : Tree → Type 0
     Told t =
@@ -75,7 +75,7 @@ module _ (scene : Scene) where
     here long placed held own shared narrow makes =
         let scopes : AreScopes (all_bindings_of p) scene.scopes.now =
         scopes_told p (action_seen scene.program.now.body) refl (map led_binding (map led_seen led) ++ map hidden_binding (map hidden_seen kept))
-        (bindings_found p led hidden kept (ap (λ (ls : List Led). map led_seen ls) are_led ∙ ways) found are_kept) scene.scopes.now own in
+        (bindings_found p led hidden kept (ap (λ (ls : List KeptLed). map led_seen ls) are_led ∙ ways) found are_kept) scene.scopes.now own in
         let are : (scene.held.now ≡ (placing_of p).held) × (count ≡ slots_of p) =
         places_are scene.program.now n kept long (are_kept ∙ found) (action_seen scene.program.now.body) count scene.held.now places held refl placed in
         let made = scene_made count shares asked are.0 are.1 ways scopes (shared p asked.ready.of_text.first refl asked.ready.of_text.numbered) narrow in

@@ -19,7 +19,7 @@ use Rattle.dh_tree.specs.Views.{Viewing, shape_in, viewed_behind, viewed_in, vie
 use Rattle.dh_tree.proofs.EmptyLists.{first_none}
 use Rattle.dh_tree.proofs.ProgramTables.{program_table}
 use Rattle.dh_tree.proofs.ViewsDeclared.{views_few}
-use Rattle.dh_meaning.specs.Ways.{Led, Step, Way, step_of, way_in, way_unless, ways_of}
+use Rattle.dh_meaning.specs.Ways.{Led, WayStep, Way, step_of, way_in, way_unless, ways_of}
 use Rattle.dh_meets.specs.Charges.{may_reach}
 use Rattle.dh_viewing.specs.declared.bank_sets.BankSet.{BankSet}
 use Rattle.dh_viewing.specs.ReachedBanks.{is_in}
@@ -76,20 +76,20 @@ led_there (l ∷ ls) zero d h e = subst (λ (x : Led). LeadsSomewhere x.way.step
 led_there (l ∷ ls) (suc k) d h e = led_there ls k d h.1 e
 
 -- what code keeps at a place, and what is seen of it
-pub record SeenAt (ls : List kept.Led) (k : ℕ) (d : Led) : Type 0 where
-  pub item : kept.Led
+pub record SeenAt (ls : List kept.KeptLed) (k : ℕ) (d : Led) : Type 0 where
+  pub item : kept.KeptLed
   pub there : slice_get ls k ≡ Some item
   pub seen : led_seen item ≡ d
 
-seen_at : (ls : List kept.Led) (k : ℕ) (d : Led) → slice_get (map led_seen ls) k ≡ Some d → SeenAt ls k d
+seen_at : (ls : List kept.KeptLed) (k : ℕ) (d : Led) → slice_get (map led_seen ls) k ≡ Some d → SeenAt ls k d
 seen_at [] k d e = absurd (none-some d e)
 seen_at (l ∷ ls) zero d e = record { item = l; there = refl; seen = same_Some (led_seen l) d e }
 seen_at (l ∷ ls) (suc k) d e = let rest = seen_at ls k d e in record { item = rest.item; there = rest.there; seen = rest.seen }
 
-there_seen : (ls : List kept.Led) (k : ℕ) (l : kept.Led) → slice_get ls k ≡ Some l → slice_get (map led_seen ls) k ≡ Some (led_seen l)
+there_seen : (ls : List kept.KeptLed) (k : ℕ) (l : kept.KeptLed) → slice_get ls k ≡ Some l → slice_get (map led_seen ls) k ≡ Some (led_seen l)
 there_seen ls k l e = slice_get-map led_seen ls k ∙ ap (option_map led_seen) e
 
-steps_go_on : (ls : List kept.Led) (place : ℕ) (parent : Option ℕ) (l : kept.Led) → slice_get ls place ≡ Some l → IsParentAt ls place parent → StepsGoOn (map led_seen ls) place parent (way_seen l.way)
+steps_go_on : (ls : List kept.KeptLed) (place : ℕ) (parent : Option ℕ) (l : kept.KeptLed) → slice_get ls place ≡ Some l → IsParentAt ls place parent → StepsGoOn (map led_seen ls) place parent (way_seen l.way)
 steps_go_on ls place None l at told = ap (λ (vs : List ViewMap). step_of l.way.view ∷ map step_of vs) (told l at)
 steps_go_on ls place (Some k) l at told = (
   told.0,
@@ -99,25 +99,25 @@ steps_go_on ls place (Some k) l at told = (
 
 -- The view at a place, as code has it.
 
-module _ (ls : List kept.Led) (place : ℕ) (w : kept.Way) (inside : place < length ls) (told : Some w ≡ way_there ls (Some place)) where
+module _ (ls : List kept.KeptLed) (place : ℕ) (w : kept.KeptWay) (inside : place < length ls) (told : Some w ≡ way_there ls (Some place)) where
   abbrev ds : List Led
   ds = map led_seen ls
 
-  abbrev item : kept.Led
+  abbrev item : kept.KeptLed
   item = (stands_in ls place inside).item
 
   at : slice_get ls place ≡ Some item
   at = (stands_in ls place inside).there
 
   way_is : w ≡ item.way
-  way_is = same_Some w item.way (told ∙ ap (option_map (λ (l : kept.Led). l.way)) at)
+  way_is = same_Some w item.way (told ∙ ap (option_map (λ (l : kept.KeptLed). l.way)) at)
 
   module _ (leads : AllByRecursion (λ (l : Led). LeadsSomewhere l.way.steps) ds) (v : ViewMap) (v_is : v ≡ w.view) where
     lead : LeadsSomewhere (way_seen item.way).steps
     lead = led_there ds place (led_seen item) leads (there_seen ls place item at)
 
     own_is : v ≡ item.way.view
-    own_is = v_is ∙ ap (λ (x : kept.Way). x.view) way_is
+    own_is = v_is ∙ ap (λ (x : kept.KeptWay). x.view) way_is
 
     pub view_map : IsViewMap v
     view_map = subst (λ (x : ViewMap). IsViewMap x) (sym own_is) lead.1.0
@@ -125,7 +125,7 @@ module _ (ls : List kept.Led) (place : ℕ) (w : kept.Way) (inside : place < len
     module _ (views : List ViewMap) (taken : List Through) (parent : Option ℕ) (is_parent : IsParentAt ls place parent) (lists : ListsFirst ds place views taken) where
       -- the view behind it
       record Behind (k : ℕ) : Type 0 where
-        pub above : kept.Led
+        pub above : kept.KeptLed
         pub above_at : slice_get ls k ≡ Some above
         pub through : Through
         pub through_at : slice_get taken k ≡ Some through
@@ -163,11 +163,11 @@ module _ (ls : List kept.Led) (place : ℕ) (w : kept.Way) (inside : place < len
         where
           by : (o : Option ℕ) → IsParentAt ls place o → SetsGoOn v taken o sets → ReachedByBanks (way_seen item.way).steps (banks_of v.shape.dims) sets
           by None p h =
-              subst (λ (ss : List Step). ReachedByBanks ss (banks_of v.shape.dims) sets)
+              subst (λ (ss : List WayStep). ReachedByBanks ss (banks_of v.shape.dims) sets)
               (sym (ap (λ (vs : List ViewMap). step_of item.way.view ∷ map step_of vs) (p item at) ∙ ap (λ (x : ViewMap). step_of x ∷ []) (sym own_is))) h
           by (Some k) p h =
               let b = behind k p in
-              subst (λ (ss : List Step). ReachedByBanks ss (banks_of v.shape.dims) sets) (sym b.steps)
+              subst (λ (ss : List WayStep). ReachedByBanks ss (banks_of v.shape.dims) sets) (sym b.steps)
               (h (way_seen b.above.way).steps b.through b.through_at (subst (λ (d : List Dim). ReachedByBanks (way_seen b.above.way).steps (banks_of d) b.through.banks) (sym b.dims) b.is.banks_are))
 
       pub lists_more : (copy : ViewMap) (new : List ViewMap) (more : List Through) (number : ℕ) (sets : List BankSet) → MakesSets v taken parent sets → copy ≡ v → new ≡ views ++ copy ∷ [] → number ≡ number_at parent → more ≡ taken ++ record { behind = number; banks = sets } ∷ []
@@ -211,7 +211,7 @@ lists_none ls views through none empty = record {
   each = λ k l t there at. absurd (none-some t (ap (λ (ts : List Through). slice_get ts k) (sym empty) ∙ at));
 }
 
-pub lists_all : (ls : List kept.Led) (place n : ℕ) (views : List ViewMap) (through : List Through) → n ≡ length ls → n ≤ place → place ≤ n → length ls < 2 ^ 32 → ListsFirst (map led_seen ls) place views through → ListsAll (map led_seen ls) views through
+pub lists_all : (ls : List kept.KeptLed) (place n : ℕ) (views : List ViewMap) (through : List Through) → n ≡ length ls → n ≤ place → place ≤ n → length ls < 2 ^ 32 → ListsFirst (map led_seen ls) place views through → ListsAll (map led_seen ls) views through
 lists_all ls place n views through many past inside few lists = (
   subst (λ (k : ℕ). ListsFirst (map led_seen ls) k views through) end lists,
   subst (λ (k : ℕ). k < 2 ^ 32) (sym (length-map ls led_seen)) few,
@@ -238,7 +238,7 @@ viewed_few ms before (v ∷ vs) =
     let one = viewed_one v (shape_in ms before v.parent.entity) in
     omega (arith, rest, long, one)
 
-pub ways_few : (p : Program) (ls : List kept.Led) → IsReady p → length p.entities < 2 ^ 32 → map led_seen ls ≡ ways_of p → length ls < 2 ^ 32
+pub ways_few : (p : Program) (ls : List kept.KeptLed) → IsReady p → length p.entities < 2 ^ 32 → map led_seen ls ≡ ways_of p → length ls < 2 ^ 32
 ways_few p ls r few are =
     let long : length (viewed_in p) ≤ 0 + length (views_of p) = viewed_few (memories_of p) [] (views_of p) in
     let all = views_few p r.entities in
@@ -291,10 +291,10 @@ module _ (ds : List Led) (views : List ViewMap) (through : List Through) (lists 
       number = ap parent_of (taken_at k d e).there
 
       by : (o : Option ℕ) → StepsGoOn ds k o d.way → (taken_at k d e).taken.behind ≡ number_at o → ((j : ℕ) (m : Led) → j < n → slice_get ds j ≡ Some m → AreViews through views j m.way.steps) → AreViews through views k d.way.steps
-      by None goes_on is rest = subst (λ (ss : List Step). AreViews through views k ss) (sym goes_on) (view_there k d e, tt)
+      by None goes_on is rest = subst (λ (ss : List WayStep). AreViews through views k ss) (sym goes_on) (view_there k d e, tt)
       by (Some j) goes_on is rest =
           let m = stands_in ds j (less j k (length ds) goes_on.0 (slice_get_within ds k d e)) in
-          subst (λ (ss : List Step). AreViews through views k ss) (sym (goes_on.1 m.item m.there)) (
+          subst (λ (ss : List WayStep). AreViews through views k ss) (sym (goes_on.1 m.item m.there)) (
             view_there k d e,
             subst (λ (i : ℕ). AreViews through views i m.item.way.steps) (sym (number ∙ (is ∙ few_places j m.item m.there))) (rest j m.item (lower j k n goes_on.0 l) m.there),
           )
@@ -331,7 +331,7 @@ module _ (scene : Scene) where
   pub views_told : (views : List ViewMap) → ListsAll (map led_seen scene.ways.now) views scene.through.now → TellsViews scene views
   views_told views lists r w is = let t = here (place_found ls r.entity) (finds_found ls r.entity) in record { views_are = t.0; banks_are = t.1 }
     where
-      ls : List kept.Led
+      ls : List kept.KeptLed
       ls = scene.ways.now
 
       found : way_in (map led_seen ls) r.entity ≡ Some w

@@ -4,7 +4,7 @@ use Rattle.std.specs.Prelude.{◌≡◌, ℕ, ◌<◌, ◌^◌, ◌&&◌, nat_lt
 use Rattle.dh_tree.specs.declared.tables.Dim.{Dim}
 use Rattle.dh_tree.specs.declared.viewing.ViewMap.{ViewMap}
 use Rattle.dh_tree.specs.Elements.{banks_of}
-use Rattle.dh_meaning.specs.Ways.{Led, Step, Way, step_of}
+use Rattle.dh_meaning.specs.Ways.{Led, WayStep, Way, step_of}
 use Rattle.dh_meets.specs.Charges.{any_below, may_reach}
 use Rattle.dh_viewing.specs.declared.bank_sets.BankSet.{BankSet}
 use Rattle.dh_viewing.specs.ReachedBanks.{can_reach, is_in}
@@ -23,15 +23,15 @@ abbrev pub any_in : BankSet → List BankSet → (n behind : ℕ) → Bool
 any_in s sets n behind = any_below n (λ bank. is_in s bank && is_in (set_or_none (slice_get sets bank)) behind)
 
 -- the views on a way follow one another to some memory
-abbrev pub LeadsSomewhere : List Step → Type 0
+abbrev pub LeadsSomewhere : List WayStep → Type 0
 LeadsSomewhere ss = (dims : List Dim) × StepsLead ss dims
 
 -- the banks of the memory that may be reached from a bank of the first view
-abbrev pub AreReached : List Step → (bank : ℕ) → BankSet → Type 0
+abbrev pub AreReached : List WayStep → (bank : ℕ) → BankSet → Type 0
 AreReached ss bank s = (behind : ℕ) → is_in s behind ≡ may_reach ss bank behind
 
 -- by each of the first banks, so many
-abbrev pub ReachedByBanks : List Step → (count : ℕ) → List BankSet → Type 0
+abbrev pub ReachedByBanks : List WayStep → (count : ℕ) → List BankSet → Type 0
 ReachedByBanks ss count sets = (bank : ℕ) → bank < count → (s : BankSet) × ((slice_get sets bank ≡ Some s) × AreReached ss bank s)
 
 -- One view behind its parent.
@@ -42,7 +42,7 @@ SetsAlone v count sets = (length sets ≡ count) × ReachedByBanks (step_of v �
 
 -- and of those of a view of another one, whatever stands behind that
 abbrev pub SetsBehind : ViewMap → (parent : List BankSet) → (count : ℕ) → List BankSet → Type 0
-SetsBehind v parent count sets = (length sets ≡ count) × ((ss : List Step) → ReachedByBanks ss (banks_of v.parent.dims) parent → ReachedByBanks (step_of v ∷ ss) count sets)
+SetsBehind v parent count sets = (length sets ≡ count) × ((ss : List WayStep) → ReachedByBanks ss (banks_of v.parent.dims) parent → ReachedByBanks (step_of v ∷ ss) count sets)
 
 -- what is taken of a view, of which the parent has this number
 abbrev pub one_through : (behind : ℕ) → List BankSet → Through
@@ -57,7 +57,7 @@ HasSets v through (Some place) = (t : Through) × ((slice_get through place ≡ 
 abbrev pub SetsGoOn : ViewMap → List Through → (parent : Option ℕ) → List BankSet → Type 0
 SetsGoOn v through None sets = ReachedByBanks (step_of v ∷ []) (banks_of v.shape.dims) sets
 SetsGoOn v through (Some place) sets =
-    (ss : List Step) (t : Through) → slice_get through place ≡ Some t → ReachedByBanks ss (banks_of v.parent.dims) t.banks → ReachedByBanks (step_of v ∷ ss) (banks_of v.shape.dims) sets
+    (ss : List WayStep) (t : Through) → slice_get through place ≡ Some t → ReachedByBanks ss (banks_of v.parent.dims) t.banks → ReachedByBanks (step_of v ∷ ss) (banks_of v.shape.dims) sets
 
 abbrev pub MakesSets : ViewMap → List Through → (parent : Option ℕ) → List BankSet → Type 0
 MakesSets v through parent sets = (length sets ≡ banks_of v.shape.dims) × SetsGoOn v through parent sets

@@ -114,7 +114,7 @@ module _ (scene : Scene) where
       by i o r is (inl at) = aimed_stays scene b.operations.items c.operations.items (adds_stay b c k) r (h.each i o r at is)
       by i o r is (inr at) = k.each at.0 o r at.1 is
 
-  abbrev pub no_sites : ℕ → Option formed.Site
+  abbrev pub no_sites : ℕ → Option formed.BlockSite
   no_sites number = None
 
   -- what reaches no memory
@@ -128,7 +128,7 @@ module _ (scene : Scene) where
       never : (r : Reach) → IsSitesReach no_sites r → ⊥
       never r s = lost s.site s.there
         where
-          lost : (x : formed.Site) → None ≡ Some x → ⊥
+          lost : (x : formed.BlockSite) → None ≡ Some x → ⊥
           lost x e = cc
 
   -- what reaches one

@@ -33,10 +33,10 @@ use Rattle.dh_expressions.specs.declared.scenes.Around.{Around}
 use Rattle.dh_expressions.specs.declared.scenes.Scene.{Scene}
 use Rattle.dh_expressions.specs.Levels.{leader_number, path_at}
 use Rattle.dh_expressions.proofs.ListPlaces.{place_within}
-use Rattle.dh_formed.specs.Formed.{Site}
+use Rattle.dh_formed.specs.Formed.{BlockSite}
 use Rattle.dh_formed.proofs.PartsCounted.{uses_append}
 use Rattle.dh_commands.specs.LanesRun.{paths_counted}
-use Rattle.dh_commands.specs.ShownVariables.{factors_of}
+use Rattle.dh_commands.specs.ShownVariables.{level_factors}
 use Rattle.dh_blocks.specs.PathsOfLevels.{AreSpread}
 use Rattle.dh_blocks.proofs.PathNumbers.{kept, leader_within, leads, number_is, some_copies}
 use Rattle.dh_laid.specs.BlockSites.{block_sites, test_sites}
@@ -61,13 +61,13 @@ kept_all level [] = refl
 kept_all level (c ∷ p) = ap (λ (q : Path). c ∷ q) (kept_all (level + 1) p)
 
 -- where all loops count each path leads
-all_lead : (levels : List Level) → AreSpread levels → (n : ℕ) → n < copies_in (factors_of levels) → leader_number levels (λ l. true) n ≡ n
+all_lead : (levels : List Level) → AreSpread levels → (n : ℕ) → n < copies_in (level_factors levels) → leader_number levels (λ l. true) n ≡ n
 all_lead levels s n below =
     number_is levels s (leader_number levels (λ l. true) n) n (leader_within levels s (λ l. true) n below) below ((leads levels s (λ l. true) n below).path_is ∙ kept_all 0 (path_at levels n))
 
 -- One access.
 
-module _ (scene : Scene) (around : Around) (spread : AreSpread around.levels.now) (counted : paths_counted around ≡ copies_in (factors_of around.levels.now)) (tells : TellsShares (program_seen scene.program.now) scene.shares.now) where
+module _ (scene : Scene) (around : Around) (spread : AreSpread around.levels.now) (counted : paths_counted around ≡ copies_in (level_factors around.levels.now)) (tells : TellsShares (program_seen scene.program.now) scene.shares.now) where
   abbrev p : Program
   p = program_seen scene.program.now
 
@@ -79,7 +79,7 @@ module _ (scene : Scene) (around : Around) (spread : AreSpread around.levels.now
   depends_by writes level entity e = writes || (entity_depends (all_bindings_of p) level entity || element_depends (all_bindings_of p) level e)
 
   -- it leads as often as it has keys
-  led_keys : (s : Site) (a : SourceAccess) → IsSiteOf scene levels (paths_counted around) s a → charges.factors_of a.site.loops ≡ factors_of levels → (n : ℕ) → used_by (Some None) (Some s) n ≡ leads_below (leader_number levels (depends (all_bindings_of p) a)) n
+  led_keys : (s : BlockSite) (a : SourceAccess) → IsSiteOf scene levels (paths_counted around) s a → charges.loop_factors a.site.loops ≡ level_factors levels → (n : ℕ) → used_by (Some None) (Some s) n ≡ leads_below (leader_number levels (depends (all_bindings_of p) a)) n
   led_keys s a is loops zero = refl
   led_keys s a is loops (suc n) = sum _ _ _ _ (led_keys s a is loops n) (ap (λ l. if l == n then 1 else 0) leader_is)
     where
@@ -88,22 +88,22 @@ module _ (scene : Scene) (around : Around) (spread : AreSpread around.levels.now
 
       leader_is : s.standing.leader n ≡ leader_number levels (depends (all_bindings_of p) a) n
       leader_is =
-          ap (λ (t : Site). t.standing.leader n) is.is
+          ap (λ (t : BlockSite). t.standing.leader n) is.is
           ∙ (ap (λ (ls : List Level). leader_number ls (λ level. depends_by a.writes level (entity_in is.form) (element_in is.form)) n) is.levels_are
           ∙ (ap (λ (x : Option ℕ). leader_number levels (λ level. depends_by a.writes level x (element_in is.form)) n) is.named_is
           ∙ ap (λ (e : Element). leader_number levels (λ level. depends_by a.writes level a.entity e) n) is.element_is))
 
-  all_keys : (s : Site) (a : SourceAccess) → IsSiteOf scene levels (paths_counted around) s a → charges.factors_of a.site.loops ≡ factors_of levels → used_by (Some None) (Some s) (paths_counted around) ≡ keys_of p a
+  all_keys : (s : BlockSite) (a : SourceAccess) → IsSiteOf scene levels (paths_counted around) s a → charges.loop_factors a.site.loops ≡ level_factors levels → used_by (Some None) (Some s) (paths_counted around) ≡ keys_of p a
   all_keys s a is loops =
       led_keys s a is loops (paths_counted around)
       ∙ (ap (λ n. leads_below (leader_number levels (depends (all_bindings_of p) a)) n) counted
       ∙ ((all_leaders_are_keys levels spread (depends (all_bindings_of p) a)).all ∙ ap (λ (fs : List ℕ). distinct_count same_path (map (picked (depends (all_bindings_of p) a) 0) (paths_in fs))) (sym loops)))
 
-  shared_none : (j : ℕ) (s : Site) (n : ℕ) → used_by (Some (Some j)) (Some s) n ≡ 0
+  shared_none : (j : ℕ) (s : BlockSite) (n : ℕ) → used_by (Some (Some j)) (Some s) n ≡ 0
   shared_none j s zero = refl
   shared_none j s (suc n) = let e = shared_none j s n in omega (arith, e)
 
-  wanted : (s : Site) (number : ℕ) (a : SourceAccess) → access_at p number ≡ Some a → IsSiteOf scene levels (paths_counted around) s a → charges.factors_of a.site.loops ≡ factors_of levels
+  wanted : (s : BlockSite) (number : ℕ) (a : SourceAccess) → access_at p number ≡ Some a → IsSiteOf scene levels (paths_counted around) s a → charges.loop_factors a.site.loops ≡ level_factors levels
       → used_by (slice_get scene.shares.now number) (Some s) (paths_counted around) ≡ uses_wanted p number a
   wanted s number a at is loops = ap (λ (o : Option (Option ℕ)). used_by o (Some s) (paths_counted around)) told ∙ by (shared p number)
     where
@@ -114,32 +114,32 @@ module _ (scene : Scene) (around : Around) (spread : AreSpread around.levels.now
       by None = all_keys s a is loops
       by (Some j) = shared_none j s (paths_counted around)
 
-  paths_long : (a : SourceAccess) → charges.factors_of a.site.loops ≡ factors_of levels → paths_counted around ≡ length (paths_of a)
-  paths_long a loops = counted ∙ (ap copies_in (sym loops) ∙ sym (length_paths (charges.factors_of a.site.loops)))
+  paths_long : (a : SourceAccess) → charges.loop_factors a.site.loops ≡ level_factors levels → paths_counted around ≡ length (paths_of a)
+  paths_long a loops = counted ∙ (ap copies_in (sym loops) ∙ sym (length_paths (charges.loop_factors a.site.loops)))
 
   -- All accesses, by their sites.
-  module _ (makes : ℕ → Truth) (sites : ℕ → Option Site) (sited : AreSited scene around makes sites) (loops : (number : ℕ) (a : SourceAccess) → makes number ≡ true → access_at p number ≡ Some a → charges.factors_of a.site.loops ≡ factors_of levels) where
+  module _ (makes : ℕ → Truth) (sites : ℕ → Option BlockSite) (sited : AreSited scene around makes sites) (loops : (number : ℕ) (a : SourceAccess) → makes number ≡ true → access_at p number ≡ Some a → charges.loop_factors a.site.loops ≡ level_factors levels) where
     lost : (b : Truth) → b ≡ true → b ≡ false → ⊥
     lost b e g = cc
 
     used_as_made : (number : ℕ) (a : SourceAccess) → access_at p number ≡ Some a → used_to scene sites (paths_counted around) number ≡ (if makes number then uses_wanted p number a else 0)
     used_as_made number a at = by (sites number) refl (makes number) (sited.made number)
       where
-        by : (o : Option Site) → sites number ≡ o → (b : Truth) → is_some (sites number) ≡ b → used_by (slice_get scene.shares.now number) (sites number) (paths_counted around) ≡ (if b then uses_wanted p number a else 0)
+        by : (o : Option BlockSite) → sites number ≡ o → (b : Truth) → is_some (sites number) ≡ b → used_by (slice_get scene.shares.now number) (sites number) (paths_counted around) ≡ (if b then uses_wanted p number a else 0)
         by None e true h = absurd (lost (is_some (sites number)) h (ap is_some e))
-        by None e false h = ap (λ (s : Option Site). used_by (slice_get scene.shares.now number) s (paths_counted around)) e ∙ used_nowhere (slice_get scene.shares.now number) (paths_counted around)
+        by None e false h = ap (λ (s : Option BlockSite). used_by (slice_get scene.shares.now number) s (paths_counted around)) e ∙ used_nowhere (slice_get scene.shares.now number) (paths_counted around)
         by (Some s) e true h =
-            ap (λ (s : Option Site). used_by (slice_get scene.shares.now number) s (paths_counted around)) e
+            ap (λ (s : Option BlockSite). used_by (slice_get scene.shares.now number) s (paths_counted around)) e
             ∙ wanted s number a at (sited.told number s a e at) (loops number a (sym (sited.made number) ∙ h) at)
         by (Some s) e false h = absurd (lost (is_some (sites number)) (ap is_some e) h)
 
     probed_as_made : (number : ℕ) (a : SourceAccess) → access_at p number ≡ Some a → probed_by (sites number) (paths_counted around) ≡ (if makes number then length (paths_of a) else 0)
     probed_as_made number a at = by (sites number) refl (makes number) (sited.made number)
       where
-        by : (o : Option Site) → sites number ≡ o → (b : Truth) → is_some (sites number) ≡ b → probed_by (sites number) (paths_counted around) ≡ (if b then length (paths_of a) else 0)
+        by : (o : Option BlockSite) → sites number ≡ o → (b : Truth) → is_some (sites number) ≡ b → probed_by (sites number) (paths_counted around) ≡ (if b then length (paths_of a) else 0)
         by None e true h = absurd (lost (is_some (sites number)) h (ap is_some e))
-        by None e false h = ap (λ (s : Option Site). probed_by s (paths_counted around)) e
-        by (Some s) e true h = ap (λ (s : Option Site). probed_by s (paths_counted around)) e ∙ paths_long a (loops number a (sym (sited.made number) ∙ h) at)
+        by None e false h = ap (λ (s : Option BlockSite). probed_by s (paths_counted around)) e
+        by (Some s) e true h = ap (λ (s : Option BlockSite). probed_by s (paths_counted around)) e ∙ paths_long a (loops number a (sym (sited.made number) ∙ h) at)
         by (Some s) e false h = absurd (lost (is_some (sites number)) (ap is_some e) h)
 
     -- of a block, whose operations are these and quiet ones behind

@@ -8,7 +8,7 @@ use Rattle.dh_tree.specs.Memories.{memories_of, number_in}
 use Rattle.dh_tree.specs.PlainTrees.{Program, Term}
 use Rattle.dh_tree.specs.Seen.{program_seen}
 use Rattle.dh_meaning.specs.AccessNumbers.{term_accesses}
-use Rattle.dh_meaning.specs.CoreOf.{Known, entity_number, form_of, memory_of, test_of}
+use Rattle.dh_meaning.specs.CoreOf.{Known, entity_number, action_form_of, memory_of, test_of}
 use Rattle.dh_meaning.specs.OnePhase.{any_makes, test_makes}
 use Rattle.dh_meaning.specs.Phases.{Located, idle_phases_of, phases_of}
 use Rattle.dh_meaning.specs.Ways.{base_of, way_to}
@@ -28,7 +28,7 @@ use Rattle.dh_expressions.specs.declared.scenes.Scene.{Scene}
 use Rattle.dh_expressions.specs.Evaluated.{known_in}
 use Rattle.dh_expressions.specs.Numbers.{narrowed}
 use Rattle.dh_expressions.proofs.ListPlaces.{there}
-use Rattle.dh_formed.specs.Formed.{Site}
+use Rattle.dh_formed.specs.Formed.{BlockSite}
 use Rattle.dh_formed.proofs.ElementsFormed.{all_append}
 use Rattle.dh_commands.specs.declared.buildings.Building.{Building}
 use Rattle.dh_commands.specs.LanesRun.{paths_counted}
@@ -46,7 +46,7 @@ use Rattle.dh_used.proofs.BlocksByKeys.{each_of, paths_lead, some_paths}
 use Rattle.dh_used.proofs.SharesOfProgram.{any_below, shares_inside, test_below, writes_alone}
 use Rattle.dh_used.proofs.SitesOfSource.{blocks_are_sited, tests_are_sited}
 
-module _ (scene : Scene) (around : Around) (makes : ℕ → Truth) (sites : ℕ → Option Site) (sited : AreSited scene around makes sites) (below : (k : ℕ) → makes k ≡ true → k < length (accesses_in (trace (program_seen scene.program.now)))) (ways : TellsWays scene) where
+module _ (scene : Scene) (around : Around) (makes : ℕ → Truth) (sites : ℕ → Option BlockSite) (sited : AreSited scene around makes sites) (below : (k : ℕ) → makes k ≡ true → k < length (accesses_in (trace (program_seen scene.program.now)))) (ways : TellsWays scene) where
   abbrev p : Program
   p = program_seen scene.program.now
 
@@ -60,7 +60,7 @@ module _ (scene : Scene) (around : Around) (makes : ℕ → Truth) (sites : ℕ 
         there = at.1;
         memory_is =
             q.memory_is
-            ∙ (ap (λ (s : Site). narrowed s.memory) site.is
+            ∙ (ap (λ (s : BlockSite). narrowed s.memory) site.is
             ∙ (ap (λ (known : Known). narrowed (memory_of known site.ref)) ways ∙ ap (λ (e : Option ℕ). narrowed (entity_number (number_in (memories_of p) (base_of (way_to p e) e)))) site.entity_is));
       }
 
@@ -109,7 +109,7 @@ straights_reach scene plan block around cs old new end m here along named has te
     sited = blocks_are_sited scene around cs old new m named stand
 
 pub tests_reach : (scene : Scene) (plan : PlainPlan) (block : ℕ) (around : Around) (tested : Located) (t : Term) (old new : Building) (end : Draft) (next : ℕ) (tests : List ℕ)
-    → MadeTests scene around tested.first t (paths_counted around) old new next tests → test_of (form_of tested.command) ≡ Some t
+    → MadeTests scene around tested.first t (paths_counted around) old new next tests → test_of (action_form_of tested.command) ≡ Some t
     → IsInLoops scene around (λ number. test_makes number tested) → tested.first + term_accesses t < 2 ^ 32 → HasTest (phases_of (program_seen scene.program.now)) tested → TellsShares (program_seen scene.program.now) scene.shares.now → TellsWays scene
     → HaveNoOperations (test_sites scene around tested.first t) old.accesses → IsOwn plan block old.draft end → EndsQuietly new.draft end → ReachSource (program_seen scene.program.now) (operations_in plan block)
 tests_reach scene plan block around tested t old new end next tests m is here few has tells ways bare own ends =

@@ -270,7 +270,7 @@ module _ (scene : Scene) where
       (blocks_aim around stands some cs (c.first + accesses_of c.command) mid new rest along.1 stand.1)
 
   -- the test of a command
-  pub test_aims : (around : Around) → StandsIn scene around → (tested : Located) (t : Term) → core.test_of (core.form_of tested.command) ≡ Some t → StandsAmong 0 (trace (program_seen scene.program.now)) tested → AreFewIn tested.first t
+  pub test_aims : (around : Around) → StandsIn scene around → (tested : Located) (t : Term) → core.test_of (core.action_form_of tested.command) ≡ Some t → StandsAmong 0 (trace (program_seen scene.program.now)) tested → AreFewIn tested.first t
       → (count : ℕ) (old new : Building) (next : ℕ) (tests : List ℕ) → MadeTests scene around tested.first t count old new next tests → Aims scene old.draft new.draft
   test_aims around stands tested t has stand few count old new next tests m =
       let b = test_begins tested.around tested.command t has in

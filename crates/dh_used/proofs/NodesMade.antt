@@ -6,7 +6,7 @@ use Rattle.dh_tree.specs.PlainTrees.{Program}
 use Rattle.dh_tree.specs.Seen.{program_seen}
 use Rattle.dh_meaning.specs.AccessNumbers.{accesses_of, term_accesses}
 use Rattle.dh_meaning.specs.Core.{CoreCommands, CoreTerm, Turning, CorePhase, straightly, turning, looping, choosing, CorePhases, no_core_phases, phase_and}
-use Rattle.dh_meaning.specs.CoreOf.{Known, core_of, form_of, known_of, turning_of}
+use Rattle.dh_meaning.specs.CoreOf.{Known, core_of, action_form_of, known_of, turning_of}
 use Rattle.dh_meaning.specs.OnePhase.{any_makes, makes, test_makes}
 use Rattle.dh_meaning.specs.Phases.{Located, Phase, straight, turns, repeated, decided, Phases, no_phases, phase, idle_phases_of, phases_of}
 use Rattle.dh_meaning.specs.Sites.{nothing_around}
@@ -20,7 +20,7 @@ use Rattle.dh_plan.specs.DoneProgram.{operations_using, probes_among}
 use Rattle.dh_plan.specs.PlainPlans.{Node, block_node, turns_node, loop_node, choice_node, threads_node, Nodes, no_nodes, node_then, PlainPlan}
 use Rattle.dh_plan.specs.PlanPhases.{AreNodesOf, IsNodeOf, Tie}
 use Rattle.dh_plan.specs.SoundPlans.{access_in}
-use Rattle.dh_sound.specs.LoopsMatch.{EachMatches, unrolled}
+use Rattle.dh_sound.specs.LoopsMatch.{EachMatches, unrolled_loops}
 use Rattle.dh_sound.specs.PhaseFacts.{HasStraight, HasStraightIn, HasTest, HasTestIn, HaveStraight, HaveTest}
 use Rattle.dh_sound.specs.Straight.{IsKeptAction}
 use Rattle.dh_sound.specs.ToldEvents.{access_at}
@@ -101,46 +101,46 @@ module _ (known : Known) where
 
   -- The loops round them match those of the source.
 
-  inside_moved : (round : List Turning) (loop : Turning) (qs : Phases) → AreInside known (unrolled round ++ unrolled (loop ∷ [])) qs → AreInside known (unrolled (round ++ loop ∷ [])) qs
+  inside_moved : (round : List Turning) (loop : Turning) (qs : Phases) → AreInside known (unrolled_loops round ++ unrolled_loops (loop ∷ [])) qs → AreInside known (unrolled_loops (round ++ loop ∷ [])) qs
   inside_moved round loop qs h = subst (λ (ts : List Turning). AreInside known ts qs) (sym (unrolled_both round (loop ∷ []))) h
 
   mutual
-    straight_inside_in : (round : List Turning) (q : Phase) (loops : List Turning) (cs : List Located) → IsInside known (unrolled round) q → StraightInLoops known round q loops cs → EachInside known (unrolled loops) cs
-    straight_inside_in round (straight ds) loops cs i h = subst (λ (ls : List Turning). EachInside known (unrolled ls) cs) (sym h.0) (subst (λ (l : List Located). EachInside known (unrolled round) l) h.1 i)
-    straight_inside_in round (turns loop count body) loops cs i h = straights_inside _ body loops cs (inside_moved round (turning_of known count (form_of loop.command)) body i) h
+    straight_inside_in : (round : List Turning) (q : Phase) (loops : List Turning) (cs : List Located) → IsInside known (unrolled_loops round) q → StraightInLoops known round q loops cs → EachInside known (unrolled_loops loops) cs
+    straight_inside_in round (straight ds) loops cs i h = subst (λ (ls : List Turning). EachInside known (unrolled_loops ls) cs) (sym h.0) (subst (λ (l : List Located). EachInside known (unrolled_loops round) l) h.1 i)
+    straight_inside_in round (turns loop count body) loops cs i h = straights_inside _ body loops cs (inside_moved round (turning_of known count (action_form_of loop.command)) body i) h
     straight_inside_in round (repeated loop body) loops cs i h = straights_inside round body loops cs i.1 h
     straight_inside_in round (decided choice chosen other) loops cs i (inl h) = straights_inside round chosen loops cs i.1.0 h
     straight_inside_in round (decided choice chosen other) loops cs i (inr h) = straights_inside round other loops cs i.1.1 h
 
-    straights_inside : (round : List Turning) (qs : Phases) (loops : List Turning) (cs : List Located) → AreInside known (unrolled round) qs → StraightsInLoops known round qs loops cs → EachInside known (unrolled loops) cs
+    straights_inside : (round : List Turning) (qs : Phases) (loops : List Turning) (cs : List Located) → AreInside known (unrolled_loops round) qs → StraightsInLoops known round qs loops cs → EachInside known (unrolled_loops loops) cs
     straights_inside round no_phases loops cs i h = absurd h
     straights_inside round (phase q qs) loops cs i (inl h) = straight_inside_in round q loops cs i.0 h
     straights_inside round (phase q qs) loops cs i (inr h) = straights_inside round qs loops cs i.1 h
 
-  pub straight_inside : (round : List Turning) (qs : List Phase) (loops : List Turning) (cs : List Located) → ListInside known (unrolled round) qs → StraightOf known round qs loops cs → EachInside known (unrolled loops) cs
+  pub straight_inside : (round : List Turning) (qs : List Phase) (loops : List Turning) (cs : List Located) → ListInside known (unrolled_loops round) qs → StraightOf known round qs loops cs → EachInside known (unrolled_loops loops) cs
   straight_inside round [] loops cs i h = absurd h
   straight_inside round (q ∷ qs) loops cs i (inl h) = straight_inside_in round q loops cs i.0 h
   straight_inside round (q ∷ qs) loops cs i (inr h) = straight_inside round qs loops cs i.1 h
 
-  test_matches : (round loops : List Turning) (d c : Located) → EachMatches known (unrolled round) d.around.loops → (loops ≡ round) × (d ≡ c) → EachMatches known (unrolled loops) c.around.loops
-  test_matches round loops d c i h = subst (λ (ls : List Turning). EachMatches known (unrolled ls) c.around.loops) (sym h.0) (subst (λ (x : Located). EachMatches known (unrolled round) x.around.loops) h.1 i)
+  test_matches : (round loops : List Turning) (d c : Located) → EachMatches known (unrolled_loops round) d.around.loops → (loops ≡ round) × (d ≡ c) → EachMatches known (unrolled_loops loops) c.around.loops
+  test_matches round loops d c i h = subst (λ (ls : List Turning). EachMatches known (unrolled_loops ls) c.around.loops) (sym h.0) (subst (λ (x : Located). EachMatches known (unrolled_loops round) x.around.loops) h.1 i)
 
   mutual
-    test_inside_in : (round : List Turning) (q : Phase) (loops : List Turning) (c : Located) → IsInside known (unrolled round) q → TestInLoops known round q loops c → EachMatches known (unrolled loops) c.around.loops
+    test_inside_in : (round : List Turning) (q : Phase) (loops : List Turning) (c : Located) → IsInside known (unrolled_loops round) q → TestInLoops known round q loops c → EachMatches known (unrolled_loops loops) c.around.loops
     test_inside_in round (straight ds) loops c i h = absurd h
-    test_inside_in round (turns loop count body) loops c i h = tests_inside _ body loops c (inside_moved round (turning_of known count (form_of loop.command)) body i) h
+    test_inside_in round (turns loop count body) loops c i h = tests_inside _ body loops c (inside_moved round (turning_of known count (action_form_of loop.command)) body i) h
     test_inside_in round (repeated loop body) loops c i (inl h) = test_matches round loops loop c i.0 h
     test_inside_in round (repeated loop body) loops c i (inr h) = tests_inside round body loops c i.1 h
     test_inside_in round (decided choice chosen other) loops c i (inl h) = test_matches round loops choice c i.0 h
     test_inside_in round (decided choice chosen other) loops c i (inr (inl h)) = tests_inside round chosen loops c i.1.0 h
     test_inside_in round (decided choice chosen other) loops c i (inr (inr h)) = tests_inside round other loops c i.1.1 h
 
-    tests_inside : (round : List Turning) (qs : Phases) (loops : List Turning) (c : Located) → AreInside known (unrolled round) qs → TestsInLoops known round qs loops c → EachMatches known (unrolled loops) c.around.loops
+    tests_inside : (round : List Turning) (qs : Phases) (loops : List Turning) (c : Located) → AreInside known (unrolled_loops round) qs → TestsInLoops known round qs loops c → EachMatches known (unrolled_loops loops) c.around.loops
     tests_inside round no_phases loops c i h = absurd h
     tests_inside round (phase q qs) loops c i (inl h) = test_inside_in round q loops c i.0 h
     tests_inside round (phase q qs) loops c i (inr h) = tests_inside round qs loops c i.1 h
 
-  pub test_inside : (round : List Turning) (qs : List Phase) (loops : List Turning) (c : Located) → ListInside known (unrolled round) qs → TestOf known round qs loops c → EachMatches known (unrolled loops) c.around.loops
+  pub test_inside : (round : List Turning) (qs : List Phase) (loops : List Turning) (c : Located) → ListInside known (unrolled_loops round) qs → TestOf known round qs loops c → EachMatches known (unrolled_loops loops) c.around.loops
   test_inside round [] loops c i h = absurd h
   test_inside round (q ∷ qs) loops c i (inl h) = test_inside_in round q loops c i.0 h
   test_inside round (q ∷ qs) loops c i (inr h) = test_inside round qs loops c i.1 h
@@ -245,7 +245,7 @@ module _ (scene : Scene) (final : Made) (plan : PlainPlan) (is : IsMadeOf scene 
     top : IsTop rounds around
     top = rounds_are_top scene rounds around round stands
 
-    in_loops : (makes : ℕ → Truth) → ((number : ℕ) (a : SourceAccess) → makes number ≡ true → access_at p number ≡ Some a → EachMatches (known_in scene) (unrolled (loops_round rounds)) a.site.loops) → IsInLoops scene around makes
+    in_loops : (makes : ℕ → Truth) → ((number : ℕ) (a : SourceAccess) → makes number ≡ true → access_at p number ≡ Some a → EachMatches (known_in scene) (unrolled_loops (loops_round rounds)) a.site.loops) → IsInLoops scene around makes
     in_loops makes matches = record {
       stands = stands;
       spread = top.spread;
@@ -261,15 +261,15 @@ module _ (scene : Scene) (final : Made) (plan : PlainPlan) (is : IsMadeOf scene 
     pub straight_held : AllHold (named_facts (known_in scene)) tt b.located
     straight_held = straight_named (known_in scene) (phases_of (program_seen scene.program.now)) b.located body_named straight_has
 
-    straight_matches : EachInside (known_in scene) (unrolled (loops_round rounds)) b.located
+    straight_matches : EachInside (known_in scene) (unrolled_loops (loops_round rounds)) b.located
     straight_matches = straight_inside (known_in scene) [] (phases_of (program_seen scene.program.now)) (loops_round rounds) b.located body_inside b.placed
 
-    straight_loops_match : (number : ℕ) (a : SourceAccess) → any_makes number b.located ≡ true → access_at (program_seen scene.program.now) number ≡ Some a → EachMatches (known_in scene) (unrolled (loops_round rounds)) a.site.loops
+    straight_loops_match : (number : ℕ) (a : SourceAccess) → any_makes number b.located ≡ true → access_at (program_seen scene.program.now) number ≡ Some a → EachMatches (known_in scene) (unrolled_loops (loops_round rounds)) a.site.loops
     straight_loops_match number a made at =
         let c = maker number b.located made in
-        subst (λ ls. EachMatches (known_in scene) (unrolled (loops_round rounds)) ls)
+        subst (λ ls. EachMatches (known_in scene) (unrolled_loops (loops_round rounds)) ls)
         (sym (straight_loops number a (program_seen scene.program.now) at b.located c.0 (straight_either (phases_of (program_seen scene.program.now)) (idle_phases_of (program_seen scene.program.now)) b.located (inl straight_has)) c.1.0 c.1.1))
-        (inside_of (known_in scene) (unrolled (loops_round rounds)) b.located c.0 straight_matches c.1.0)
+        (inside_of (known_in scene) (unrolled_loops (loops_round rounds)) b.located c.0 straight_matches c.1.0)
 
     pub straight_stands : IsInLoops scene b.made.around (λ number. any_makes number b.located)
     straight_stands = in_loops rounds b.made.around b.made.round b.made.stands_in (λ number. any_makes number b.located) straight_loops_match
@@ -305,9 +305,9 @@ module _ (scene : Scene) (final : Made) (plan : PlainPlan) (is : IsMadeOf scene 
     pub test_has : HasTest (phases_of (program_seen scene.program.now)) b.tested
     test_has = test_there (known_in scene) [] (phases_of (program_seen scene.program.now)) (loops_round rounds) b.tested b.placed
 
-    test_loops_match : (number : ℕ) (a : SourceAccess) → test_makes number b.tested ≡ true → access_at (program_seen scene.program.now) number ≡ Some a → EachMatches (known_in scene) (unrolled (loops_round rounds)) a.site.loops
+    test_loops_match : (number : ℕ) (a : SourceAccess) → test_makes number b.tested ≡ true → access_at (program_seen scene.program.now) number ≡ Some a → EachMatches (known_in scene) (unrolled_loops (loops_round rounds)) a.site.loops
     test_loops_match number a made at =
-        subst (λ ls. EachMatches (known_in scene) (unrolled (loops_round rounds)) ls)
+        subst (λ ls. EachMatches (known_in scene) (unrolled_loops (loops_round rounds)) ls)
         (sym (ap (λ (s : _). s.loops) (test_stands_there number a (program_seen scene.program.now) at b.tested (test_either (phases_of (program_seen scene.program.now)) (idle_phases_of (program_seen scene.program.now)) b.tested (inl test_has)) made)))
         (test_inside (known_in scene) [] (phases_of (program_seen scene.program.now)) (loops_round rounds) b.tested body_inside b.placed)
 

@@ -16,7 +16,7 @@ use Rattle.dh_meaning.specs.AccessNumbers.{accesses_of, part_accesses, term_acce
 use Rattle.dh_meaning.specs.Bindings.{kind_found}
 use Rattle.dh_meaning.specs.Core.{CoreTerm, literal, truth_literal, variable, read, binary, convert, Target, by_indices, by_row, by_views, CoreTerms, no_terms, term_and, CoreCommand, store, assign, choose, keep, CoreCommands, no_commands, command_and}
 use Rattle.dh_meaning.specs.CoreOf.{Known, core_action, core_commands, core_groups, core_other, core_part, core_term, core_terms, core_test, extended, kept_by, kept_terms, operation_of, store_to, target_to, terms_both, way_of}
-use Rattle.dh_meaning.specs.OnePhase.{any_makes, groups_make, is_within, makes, other_makes, part_makes, test_makes}
+use Rattle.dh_meaning.specs.OnePhase.{any_makes, groups_make, is_between, makes, other_makes, part_makes, test_makes}
 use Rattle.dh_meaning.specs.Phases.{Located}
 use Rattle.dh_meaning.specs.Ways.{Hidden, Way, hidden_in}
 use Rattle.dh_sound.specs.Straight.{AreKeptActions, AreKeptGroups, IsKeptAction, IsKeptOther, IsTarget, KeepsAny}
@@ -55,13 +55,13 @@ module _ (k : ℕ) where
 
   -- Ranges of numbers.
 
-  within_none : (n : ℕ) → false ≡ is_within k n 0
+  within_none : (n : ℕ) → false ≡ is_between k n 0
   within_none n = grind (arith, nat_tests)
 
-  within_both : (n a b : ℕ) → (is_within k n a || is_within k (n + a) b) ≡ is_within k n (a + b)
+  within_both : (n a b : ℕ) → (is_between k n a || is_between k (n + a) b) ≡ is_between k n (a + b)
   within_both n a b = grind (arith, nat_tests)
 
-  within_last : (n a : ℕ) → (is_within k n a || (k == n + a)) ≡ is_within k n (suc a)
+  within_last : (n a : ℕ) → (is_between k n a || (k == n + a)) ≡ is_between k n (suc a)
   within_last n a = grind (arith, nat_tests)
 
   or_none : (b : Truth) → b ≡ (b || false)
@@ -116,7 +116,7 @@ module _ (k : ℕ) where
 
   module _ (known : Known) where
     mutual
-      term_within : (n : ℕ) (t : plain.Term) → term_holds (core_term known n t) ≡ is_within k n (term_accesses t)
+      term_within : (n : ℕ) (t : plain.Term) → term_holds (core_term known n t) ≡ is_between k n (term_accesses t)
       term_within n (plain.term place of (plain.number negative z)) = within_none n
       term_within n (plain.term place of (plain.truth_value b)) = within_none n
       term_within n (plain.term place of (plain.named r)) = within_none n
@@ -126,26 +126,26 @@ module _ (k : ℕ) where
       term_within n (plain.term place of (plain.applied o left right)) =
           operation_holds o (kind_found left) (kind_found right) (core_term known n left) (core_term known (n + term_accesses left) right)
           ∙ (ap (λ b. b || term_holds (core_term known (n + term_accesses left) right)) (term_within n left)
-          ∙ (ap (λ b. is_within k n (term_accesses left) || b) (term_within (n + term_accesses left) right) ∙ within_both n (term_accesses left) (term_accesses right)))
+          ∙ (ap (λ b. is_between k n (term_accesses left) || b) (term_within (n + term_accesses left) right) ∙ within_both n (term_accesses left) (term_accesses right)))
       term_within n (plain.term place of (plain.converted inner to)) = term_within n inner
 
-      terms_within : (n : ℕ) (ts : plain.Terms) → terms_hold (core_terms known n ts) ≡ is_within k n (terms_accesses ts)
+      terms_within : (n : ℕ) (ts : plain.Terms) → terms_hold (core_terms known n ts) ≡ is_between k n (terms_accesses ts)
       terms_within n plain.no_terms = within_none n
       terms_within n (plain.term_then t ts) =
           ap (λ b. b || terms_hold (core_terms known (n + term_accesses t) ts)) (term_within n t)
-          ∙ (ap (λ b. is_within k n (term_accesses t) || b) (terms_within (n + term_accesses t) ts) ∙ within_both n (term_accesses t) (terms_accesses ts))
+          ∙ (ap (λ b. is_between k n (term_accesses t) || b) (terms_within (n + term_accesses t) ts) ∙ within_both n (term_accesses t) (terms_accesses ts))
 
     store_within : (n : ℕ) (target value : plain.Term) → IsTarget target
-        → command_holds (store_to known (n + term_accesses value) target (core_term known n value)) ≡ is_within k n (term_accesses value + term_accesses target)
+        → command_holds (store_to known (n + term_accesses value) target (core_term known n value)) ≡ is_between k n (term_accesses value + term_accesses target)
     store_within n (plain.term place of (plain.accessed r ts)) value is =
         ap (λ b. b || (target_holds (target_to (way_of known r) (core_terms known (n + term_accesses value) ts)) || (k == n + term_accesses value + terms_accesses ts))) (term_within n value)
-        ∙ (ap (λ b. is_within k n (term_accesses value) || (b || (k == n + term_accesses value + terms_accesses ts)))
+        ∙ (ap (λ b. is_between k n (term_accesses value) || (b || (k == n + term_accesses value + terms_accesses ts)))
         (aimed_holds (way_of known r) (core_terms known (n + term_accesses value) ts) ∙ terms_within (n + term_accesses value) ts)
-        ∙ (ap (λ b. is_within k n (term_accesses value) || b) (within_last (n + term_accesses value) (terms_accesses ts)) ∙ within_both n (term_accesses value) (suc (terms_accesses ts))))
+        ∙ (ap (λ b. is_between k n (term_accesses value) || b) (within_last (n + term_accesses value) (terms_accesses ts)) ∙ within_both n (term_accesses value) (suc (terms_accesses ts))))
     store_within n (plain.term place of (plain.in_bank r bank at row)) value is =
         ap (λ b. b || (term_holds (core_term known (n + term_accesses value) row) || (k == n + term_accesses value + term_accesses row))) (term_within n value)
-        ∙ (ap (λ b. is_within k n (term_accesses value) || (b || (k == n + term_accesses value + term_accesses row))) (term_within (n + term_accesses value) row)
-        ∙ (ap (λ b. is_within k n (term_accesses value) || b) (within_last (n + term_accesses value) (term_accesses row)) ∙ within_both n (term_accesses value) (suc (term_accesses row))))
+        ∙ (ap (λ b. is_between k n (term_accesses value) || (b || (k == n + term_accesses value + term_accesses row))) (term_within (n + term_accesses value) row)
+        ∙ (ap (λ b. is_between k n (term_accesses value) || b) (within_last (n + term_accesses value) (term_accesses row)) ∙ within_both n (term_accesses value) (suc (term_accesses row))))
     store_within n (plain.term place of (plain.number negative z)) value is = absurd is
     store_within n (plain.term place of (plain.truth_value b)) value is = absurd is
     store_within n (plain.term place of (plain.named r)) value is = absurd is
@@ -159,7 +159,7 @@ module _ (k : ℕ) where
 
     -- the offsets of a view, of which there are none where no variable keeps one
     view_within : (hs : List Hidden) (n : ℕ) (os : List plain.Term) (rest : CoreCommands) → KeepsAny hs os
-        → commands_hold (kept_by hs (core_terms known n (terms os)) rest) ≡ (is_within k n (terms_accesses (terms os)) || commands_hold rest)
+        → commands_hold (kept_by hs (core_terms known n (terms os)) rest) ≡ (is_between k n (terms_accesses (terms os)) || commands_hold rest)
     view_within [] n [] rest is = ap (λ b. b || commands_hold rest) (within_none n)
     view_within [] n (o ∷ os) rest is = absurd (never o os is)
     view_within (h ∷ hs) n [] rest is = ap (λ b. b || commands_hold rest) (within_none n)
@@ -175,9 +175,9 @@ module _ (k : ℕ) where
       action_within n (action id place (decides test chosen other)) rest is =
           ap (λ b. b || commands_hold rest)
           (ap (λ b. b || (commands_hold (core_action known (n + term_accesses test) chosen no_commands) || commands_hold (core_other known (n + term_accesses test + accesses_of chosen) other))) (term_within n test)
-          ∙ (ap (λ b. is_within k n (term_accesses test) || (b || commands_hold (core_other known (n + term_accesses test + accesses_of chosen) other)))
+          ∙ (ap (λ b. is_between k n (term_accesses test) || (b || commands_hold (core_other known (n + term_accesses test + accesses_of chosen) other)))
           (action_within (n + term_accesses test) chosen no_commands is.1.0 ∙ sym (or_none (makes k (n + term_accesses test) chosen)))
-          ∙ ap (λ b. is_within k n (term_accesses test) || (makes k (n + term_accesses test) chosen || b)) (other_within (n + term_accesses test + accesses_of chosen) other is.1.1)))
+          ∙ ap (λ b. is_between k n (term_accesses test) || (makes k (n + term_accesses test) chosen || b)) (other_within (n + term_accesses test + accesses_of chosen) other is.1.1)))
       action_within n (action id place (blocks body)) rest is = groups_within n body rest is
       action_within n (action id place (lets_memory name shape shape_places value)) rest is = refl
       action_within n (action id place (views name parent form)) rest is = view_within (hidden_in (way_of known name)) n (offsets_of form) rest is.1

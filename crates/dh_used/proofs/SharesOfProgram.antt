@@ -26,7 +26,7 @@ use Rattle.dh_sound.proofs.Makes.{makes_within}
 use Rattle.dh_lengths.specs.SharedReads.{TellsShares, share_told}
 use Rattle.dh_expressions.specs.declared.scenes.Scene.{Scene}
 use Rattle.dh_expressions.proofs.ListPlaces.{place_within, there}
-use Rattle.dh_formed.specs.Formed.{Site}
+use Rattle.dh_formed.specs.Formed.{BlockSite}
 use Rattle.dh_laid.specs.Laid.{aim_accesses}
 use Rattle.dh_laid.specs.LaidNumbers.{IsAccessForm, StoresReach, StoresReachGroups, StoresReachOther, StoresReachPart}
 use Rattle.dh_laid.specs.LaidUses.{EachWrite, EachWriteActions, EachWriteGroups, EachWriteOther, IsUnshared, SharesInside, WritesAlone}
@@ -225,7 +225,7 @@ module _ (scene : Scene) (tells : TellsShares (program_seen scene.program.now) s
         clash a.writes writes (ap (λ (b : SourceAccess). b.writes) (the_same a s.read (sym at ∙ s.there)) ∙ s.reads);
   }
 
-  pub shares_inside : (makes : ℕ → Truth) (sites : ℕ → Option Site) → ((k : ℕ) → is_some (sites k) ≡ makes k) → ((k : ℕ) → makes k ≡ true → k < length (accesses_in (trace p)))
+  pub shares_inside : (makes : ℕ → Truth) (sites : ℕ → Option BlockSite) → ((k : ℕ) → is_some (sites k) ≡ makes k) → ((k : ℕ) → makes k ≡ true → k < length (accesses_in (trace p)))
       → ((j k : ℕ) → in_one_phase p j k ≡ true → makes k ≡ true → makes j ≡ true) → SharesInside scene sites
   shares_inside makes sites made below one_phase = record {
     known = λ k s at. subst (λ (n : ℕ). k < n) (sym as_many) (below k (is_made k s at));
@@ -233,11 +233,11 @@ module _ (scene : Scene) (tells : TellsShares (program_seen scene.program.now) s
     inside = λ k j s at e. has j (sites j) refl (made j ∙ one_phase j k (shared_there p j k (shared_is k j e)).phase (is_made k s at));
   }
     where
-      is_made : (k : ℕ) (s : Site) → sites k ≡ Some s → makes k ≡ true
+      is_made : (k : ℕ) (s : BlockSite) → sites k ≡ Some s → makes k ≡ true
       is_made k s at = sym (made k) ∙ ap is_some at
 
-      has : (j : ℕ) (o : Option Site) → sites j ≡ o → is_some (sites j) ≡ true → (t : Site) × (sites j ≡ Some t)
-      has j None e h = let q : is_some {T = Site} None ≡ true = sym (ap is_some e) ∙ h in absurd (never q)
+      has : (j : ℕ) (o : Option BlockSite) → sites j ≡ o → is_some (sites j) ≡ true → (t : BlockSite) × (sites j ≡ Some t)
+      has j None e h = let q : is_some {T = BlockSite} None ≡ true = sym (ap is_some e) ∙ h in absurd (never q)
         where
           never : false ≡ true → ⊥
           never q = cc

@@ -15,8 +15,8 @@ use Rattle.dh_tree.specs.PlainTrees.{Term, Action, action, lets, lets_memory, vi
 use Rattle.dh_tree.specs.Seen.{program_seen, terms}
 use Rattle.dh_tree.specs.ViewOffsets.{offsets_of}
 use Rattle.dh_meaning.specs.AccessNumbers.{accesses_of, other_accesses, part_accesses, plan_accesses, term_accesses, terms_accesses}
-use Rattle.dh_meaning.specs.CoreOf.{form_of, memory_of, test_of, way_of}
-use Rattle.dh_meaning.specs.OnePhase.{any_makes, groups_make, is_within, makes, other_makes, part_makes, test_makes, tests_make}
+use Rattle.dh_meaning.specs.CoreOf.{action_form_of, memory_of, test_of, way_of}
+use Rattle.dh_meaning.specs.OnePhase.{any_makes, groups_make, is_between, makes, other_makes, part_makes, test_makes, tests_make}
 use Rattle.dh_meaning.specs.Phases.{Located}
 use Rattle.dh_meaning.specs.Ways.{Hidden, hidden_in}
 use Rattle.dh_meaning.specs.Sites as source
@@ -32,7 +32,7 @@ use Rattle.dh_expressions.specs.declared.paths.Level.{Level}
 use Rattle.dh_expressions.specs.declared.scenes.Around.{Around}
 use Rattle.dh_expressions.specs.declared.scenes.Scene.{Scene}
 use Rattle.dh_expressions.specs.Evaluated.{known_in}
-use Rattle.dh_formed.specs.Formed.{Site}
+use Rattle.dh_formed.specs.Formed.{BlockSite}
 use Rattle.dh_commands.specs.declared.buildings.Building.{Building}
 use Rattle.dh_commands.specs.declared.choices.Left.{Left}
 use Rattle.dh_commands.specs.LanesRun.{paths_counted}
@@ -46,25 +46,25 @@ use Rattle.dh_used.specs.SourceSites.{AllStand, AreSitesOf, BlocksAreSited, IsSi
 use Rattle.dh_used.proofs.NamedStores.{all_reach, named_reaches, part_reaches, target_reaches}
 
 module _ (scene : Scene) (levels : List Level) (paths : ℕ) where
-  abbrev SitesAre : List (Option Site) → List SourceAccess → Type 0
+  abbrev SitesAre : List (Option BlockSite) → List SourceAccess → Type 0
   SitesAre ss ls = AreSitesOf scene levels paths ss ls
 
   -- One behind the other.
 
-  both_sited : (xs ys : List (Option Site)) (ls bs : List SourceAccess) → SitesAre xs ls → SitesAre ys bs → SitesAre (xs ++ ys) (ls ++ bs)
+  both_sited : (xs ys : List (Option BlockSite)) (ls bs : List SourceAccess) → SitesAre xs ls → SitesAre ys bs → SitesAre (xs ++ ys) (ls ++ bs)
   both_sited [] ys [] bs h k = k
   both_sited [] ys (a ∷ ls) bs h k = absurd h
   both_sited (x ∷ xs) ys [] bs h k = absurd h
   both_sited (x ∷ xs) ys (a ∷ ls) bs h k = (h.0, both_sited xs ys ls bs h.1 k)
 
-  places_joined : (xs ys : List (Option Site)) (es fs : List SourceEvent) → SitesAre xs (accesses_in es) → SitesAre ys (accesses_in fs) → SitesAre (xs ++ ys) (accesses_in (es ++ fs))
+  places_joined : (xs ys : List (Option BlockSite)) (es fs : List SourceEvent) → SitesAre xs (accesses_in es) → SitesAre ys (accesses_in fs) → SitesAre (xs ++ ys) (accesses_in (es ++ fs))
   places_joined xs ys es fs h k = subst (λ (ls : List SourceAccess). SitesAre (xs ++ ys) ls) (sym (accesses_joined es fs)) (both_sited xs ys (accesses_in es) (accesses_in fs) h k)
 
-  sites_joined : (xs ys : List Site) (es fs : List SourceEvent) → SitesAre (all_there xs) (accesses_in es) → SitesAre (all_there ys) (accesses_in fs) → SitesAre (all_there (xs ++ ys)) (accesses_in (es ++ fs))
-  sites_joined xs ys es fs h k = subst (λ (ss : List (Option Site)). SitesAre ss (accesses_in (es ++ fs))) (sym (map-append (λ (s : Site). Some s) xs ys)) (places_joined (all_there xs) (all_there ys) es fs h k)
+  sites_joined : (xs ys : List BlockSite) (es fs : List SourceEvent) → SitesAre (all_there xs) (accesses_in es) → SitesAre (all_there ys) (accesses_in fs) → SitesAre (all_there (xs ++ ys)) (accesses_in (es ++ fs))
+  sites_joined xs ys es fs h k = subst (λ (ss : List (Option BlockSite)). SitesAre ss (accesses_in (es ++ fs))) (sym (map-append (λ (s : BlockSite). Some s) xs ys)) (places_joined (all_there xs) (all_there ys) es fs h k)
 
   -- an assignment is no access
-  then_assigned : (xs : List (Option Site)) (es : List SourceEvent) (entity : Option ℕ) → SitesAre xs (accesses_in es) → SitesAre xs (accesses_in (es ++ assigned entity ∷ []))
+  then_assigned : (xs : List (Option BlockSite)) (es : List SourceEvent) (entity : Option ℕ) → SitesAre xs (accesses_in es) → SitesAre xs (accesses_in (es ++ assigned entity ∷ []))
   then_assigned xs es entity h = subst (λ (ls : List SourceAccess). SitesAre xs ls) (sym (accesses_joined es (assigned entity ∷ []) ∙ append-nil (accesses_in es))) h
 
   none_sited : (n : ℕ) (ls : List SourceAccess) → length ls ≡ n → SitesAre (none_there n) ls
@@ -172,23 +172,23 @@ module _ (scene : Scene) (levels : List Level) (paths : ℕ) where
         (actions_sited part r around old m.middle first m.own m.one inside long is.0) (groups_sited rest r around m.middle new m.own next m.rest inside long is.1)
 
   -- the site of a place is that of the access there
-  pub site_at : (ss : List (Option Site)) (ls : List SourceAccess) → SitesAre ss ls → (i : ℕ) (s : Site) (a : SourceAccess) → slice_get ss i ≡ Some (Some s) → slice_get ls i ≡ Some a → IsSiteOf scene levels paths s a
+  pub site_at : (ss : List (Option BlockSite)) (ls : List SourceAccess) → SitesAre ss ls → (i : ℕ) (s : BlockSite) (a : SourceAccess) → slice_get ss i ≡ Some (Some s) → slice_get ls i ≡ Some a → IsSiteOf scene levels paths s a
   site_at [] [] h i s a e g = absurd (cc)
   site_at [] (b ∷ ls) h i s a e g = absurd h
   site_at (x ∷ ss) [] h i s a e g = absurd h
   site_at (None ∷ ss) (b ∷ ls) h zero s a e g = absurd (cc)
-  site_at (Some x ∷ ss) (b ∷ ls) h zero s a e g = let same : x ≡ s = cc in let other : b ≡ a = cc in subst (λ (t : Site). IsSiteOf scene levels paths t a) same (subst (λ (c : SourceAccess). IsSiteOf scene levels paths x c) other h.0)
+  site_at (Some x ∷ ss) (b ∷ ls) h zero s a e g = let same : x ≡ s = cc in let other : b ≡ a = cc in subst (λ (t : BlockSite). IsSiteOf scene levels paths t a) same (subst (λ (c : SourceAccess). IsSiteOf scene levels paths x c) other h.0)
   site_at (x ∷ ss) (b ∷ ls) h (suc i) s a e g = site_at ss ls h.1 i s a e g
 
 -- Which numbers have sites.
 
-placed_both : (first own : ℕ) (xs ys : List (Option Site)) (k : ℕ) → own ≡ first + length xs → is_some (places_from first (xs ++ ys) k) ≡ (is_some (places_from first xs k) || is_some (places_from own ys k))
+placed_both : (first own : ℕ) (xs ys : List (Option BlockSite)) (k : ℕ) → own ≡ first + length xs → is_some (places_from first (xs ++ ys) k) ≡ (is_some (places_from first xs k) || is_some (places_from own ys k))
 placed_both first own xs ys k is = by (cases_lt k first) (cases_lt k own)
   where
     here : (i : ℕ) → i < length xs → slice_get (xs ++ ys) i ≡ slice_get xs i
     here i l = front xs i l
       where
-        front : (zs : List (Option Site)) (i : ℕ) → i < length zs → slice_get (zs ++ ys) i ≡ slice_get zs i
+        front : (zs : List (Option BlockSite)) (i : ℕ) → i < length zs → slice_get (zs ++ ys) i ≡ slice_get zs i
         front [] i l = absurd (never i l)
           where
             never : (i : ℕ) → i < 0 → ⊥
@@ -199,7 +199,7 @@ placed_both first own xs ys k is = by (cases_lt k first) (cases_lt k own)
     there : (i j : ℕ) → i ≡ length xs + j → slice_get (xs ++ ys) i ≡ slice_get ys j
     there i j e = ap (λ m. slice_get (xs ++ ys) m) e ∙ behind xs
       where
-        behind : (zs : List (Option Site)) → slice_get (zs ++ ys) (length zs + j) ≡ slice_get ys j
+        behind : (zs : List (Option BlockSite)) → slice_get (zs ++ ys) (length zs + j) ≡ slice_get ys j
         behind [] = ap (λ m. slice_get ys m) (none j)
           where
             none : (j : ℕ) → 0 + j ≡ j
@@ -219,33 +219,33 @@ placed_both first own xs ys k is = by (cases_lt k first) (cases_lt k own)
     or_false true = refl
     or_false false = refl
 
-    at : (n : ℕ) (zs : List (Option Site)) → n ≤ k → places_from n zs k ≡ one_site (slice_get zs (k - n))
+    at : (n : ℕ) (zs : List (Option BlockSite)) → n ≤ k → places_from n zs k ≡ one_site (slice_get zs (k - n))
     at n zs h = ap (λ (b : Truth). if b then None else one_site (slice_get zs (k - n))) (above k n h)
 
     by : (k < first) ⊎ (first ≤ k) → (k < own) ⊎ (own ≤ k) → is_some (places_from first (xs ++ ys) k) ≡ (is_some (places_from first xs k) || is_some (places_from own ys k))
     by (inl low) other =
         ap is_some (places_low first (xs ++ ys) k low)
-        ∙ sym (ap (λ (s : Option Site). is_some s || is_some (places_from own ys k)) (places_low first xs k low) ∙ ap is_some (places_low own ys k (omega (arith, is, low))))
+        ∙ sym (ap (λ (s : Option BlockSite). is_some s || is_some (places_from own ys k)) (places_low first xs k low) ∙ ap is_some (places_low own ys k (omega (arith, is, low))))
     by (inr from) (inl less) =
         ap is_some (at first (xs ++ ys) from ∙ (ap one_site (here (k - first) (omega (arith, is, from, less))) ∙ sym (at first xs from)))
         ∙ (or_false (is_some (places_from first xs k)) ∙ ap (λ (b : Truth). is_some (places_from first xs k) || b) (sym (ap is_some (places_low own ys k less))))
     by (inr from) (inr more) =
         ap is_some (at first (xs ++ ys) from ∙ (ap one_site (there (k - first) (k - own) (omega (arith, is, from, more))) ∙ sym (at own ys more)))
-        ∙ sym (ap (λ (s : Option Site). is_some s || is_some (places_from own ys k)) (places_past first xs k (omega (arith, is, more))))
+        ∙ sym (ap (λ (s : Option BlockSite). is_some s || is_some (places_from own ys k)) (places_past first xs k (omega (arith, is, more))))
 
-placed_all : (first : ℕ) (ss : List Site) (count : ℕ) (k : ℕ) → length (all_there ss) ≡ count → is_some (places_from first (all_there ss) k) ≡ is_within k first count
+placed_all : (first : ℕ) (ss : List BlockSite) (count : ℕ) (k : ℕ) → length (all_there ss) ≡ count → is_some (places_from first (all_there ss) k) ≡ is_between k first count
 placed_all first ss count k long = by (cases_lt k first) (cases_lt k (first + count))
   where
-    low_none : k < first → is_within k first count ≡ false
+    low_none : k < first → is_between k first count ≡ false
     low_none h = grind (arith, nat_tests, h)
 
-    far_none : first + count ≤ k → is_within k first count ≡ false
+    far_none : first + count ≤ k → is_between k first count ≡ false
     far_none h = grind (arith, nat_tests, h)
 
-    inside : first ≤ k → k < first + count → is_within k first count ≡ true
+    inside : first ≤ k → k < first + count → is_between k first count ≡ true
     inside h l = grind (arith, nat_tests, h, l)
 
-    some : (zs : List Site) (i : ℕ) → i < length (all_there zs) → is_some (one_site (slice_get (all_there zs) i)) ≡ true
+    some : (zs : List BlockSite) (i : ℕ) → i < length (all_there zs) → is_some (one_site (slice_get (all_there zs) i)) ≡ true
     some [] i l = absurd (never i l)
       where
         never : (i : ℕ) → i < 0 → ⊥
@@ -256,7 +256,7 @@ placed_all first ss count k long = by (cases_lt k first) (cases_lt k (first + co
     above : (a b : ℕ) → b ≤ a → nat_lt a b ≡ false
     above a b h = grind (arith, nat_tests, h)
 
-    by : (k < first) ⊎ (first ≤ k) → (k < first + count) ⊎ (first + count ≤ k) → is_some (places_from first (all_there ss) k) ≡ is_within k first count
+    by : (k < first) ⊎ (first ≤ k) → (k < first + count) ⊎ (first + count ≤ k) → is_some (places_from first (all_there ss) k) ≡ is_between k first count
     by (inl low) other = ap is_some (places_low first (all_there ss) k low) ∙ sym (low_none low)
     by (inr from) (inl below) =
         ap is_some (ap (λ (b : Truth). if b then None else one_site (slice_get (all_there ss) (k - first))) (above k first from))
@@ -275,16 +275,16 @@ placed_none first count k = by (nat_lt k first)
     by true = refl
     by false = none count (k - first)
 
-none_within : (k n : ℕ) → false ≡ is_within k n 0
+none_within : (k n : ℕ) → false ≡ is_between k n 0
 none_within k n = grind (arith, nat_tests)
 
-next_is : (first : ℕ) (ss : List (Option Site)) (count : ℕ) → length ss ≡ count → first + count ≡ first + length ss
+next_is : (first : ℕ) (ss : List (Option BlockSite)) (count : ℕ) → length ss ≡ count → first + count ≡ first + length ss
 next_is first ss count long = ap (λ n. first + n) (sym long)
 
 module _ (scene : Scene) (k : ℕ) where
-  view_placed : (hidden : List Hidden) (form : ViewPlan) (n : ℕ) (around : Around) → KeepsAny hidden (offsets_of form) → is_some (places_from n (view_sites scene around hidden form) k) ≡ is_within k n (plan_accesses form)
-  view_placed [] form n around none = placed_none n (plan_accesses form + 0) k ∙ subst (λ (ts : List Term). false ≡ is_within k n (terms_accesses (terms ts))) (sym none) (none_within k n)
-  view_placed (h ∷ hs) form n around none = placed_all n (terms_sites scene around (terms (offsets_of form))) (plan_accesses form) k (length-map (terms_sites scene around (terms (offsets_of form))) (λ (s : Site). Some s) ∙ terms_sites_long scene around (terms (offsets_of form)))
+  view_placed : (hidden : List Hidden) (form : ViewPlan) (n : ℕ) (around : Around) → KeepsAny hidden (offsets_of form) → is_some (places_from n (view_sites scene around hidden form) k) ≡ is_between k n (plan_accesses form)
+  view_placed [] form n around none = placed_none n (plan_accesses form + 0) k ∙ subst (λ (ts : List Term). false ≡ is_between k n (terms_accesses (terms ts))) (sym none) (none_within k n)
+  view_placed (h ∷ hs) form n around none = placed_all n (terms_sites scene around (terms (offsets_of form))) (plan_accesses form) k (length-map (terms_sites scene around (terms (offsets_of form))) (λ (s : BlockSite). Some s) ∙ terms_sites_long scene around (terms (offsets_of form)))
 
   mutual
     command_placed : (a : Action) (n : ℕ) (around : Around) (old new : Building) (first next : ℕ) (m : MadeCommand scene a around old new first next) → IsKeptAction (known_in scene) a
@@ -298,16 +298,16 @@ module _ (scene : Scene) (k : ℕ) where
     command_placed (action id place (decides test chosen other)) n around old new first next m is =
         placed_both n (n + term_accesses test) (all_there (term_sites scene around test)) _ k (next_is n (all_there (term_sites scene around test)) (term_accesses test) (test_places_long scene around test))
         ∙ (ap (λ (b : Truth). b || is_some (places_from (n + term_accesses test) (chosen_sites ++ last_sites) k)) (placed_all n (term_sites scene around test) (term_accesses test) k (test_places_long scene around test))
-        ∙ ap (λ (b : Truth). is_within k n (term_accesses test) || b)
+        ∙ ap (λ (b : Truth). is_between k n (term_accesses test) || b)
         (placed_both (n + term_accesses test) (n + term_accesses test + accesses_of chosen) chosen_sites last_sites k
         (next_is (n + term_accesses test) chosen_sites (accesses_of chosen) (command_sites_long scene chosen m.chosen.arm m.chosen.begin m.chosen.inside m.own m.behind m.chosen.command (named_reaches (known_in scene) chosen is.1.0)))
         ∙ (ap (λ (b : Truth). b || is_some (places_from (n + term_accesses test + accesses_of chosen) last_sites k)) (command_placed chosen (n + term_accesses test) m.chosen.arm m.chosen.begin m.chosen.inside m.own m.behind m.chosen.command is.1.0)
         ∙ ap (λ (b : Truth). makes k (n + term_accesses test) chosen || b) (other_placed other (n + term_accesses test + accesses_of chosen) around m.tests m.after_chosen m.after_other m.behind next m.other_left m.other is.1.1))))
       where
-        chosen_sites : List (Option Site)
+        chosen_sites : List (Option BlockSite)
         chosen_sites = command_sites scene chosen m.chosen.arm m.chosen.begin m.chosen.inside m.own m.behind m.chosen.command
 
-        last_sites : List (Option Site)
+        last_sites : List (Option BlockSite)
         last_sites = other_sites scene other around m.tests m.after_chosen m.after_other m.behind next m.other_left m.other
     command_placed (action id place (blocks body)) n around old new first next m is = groups_placed body n around old new first next m is
     command_placed (action id place (lets_memory name shape shape_places value)) n around old new first next m is = placed_none n 0 k
@@ -342,7 +342,7 @@ module _ (scene : Scene) (k : ℕ) where
 
 -- Blocks.
 
-some_or : (s t : Option Site) → is_some (site_or s t) ≡ (is_some s || is_some t)
+some_or : (s t : Option BlockSite) → is_some (site_or s t) ≡ (is_some s || is_some t)
 some_or None t = refl
 some_or (Some s) t = refl
 
@@ -385,7 +385,7 @@ own_access es c k a s from below at =
         more n i = omega arith
 
 -- a place that has a site is one of the list
-place_of : (first : ℕ) (ss : List (Option Site)) (k : ℕ) (s : Site) → places_from first ss k ≡ Some s → (first ≤ k) × ((k < first + length ss) × (slice_get ss (k - first) ≡ Some (Some s)))
+place_of : (first : ℕ) (ss : List (Option BlockSite)) (k : ℕ) (s : BlockSite) → places_from first ss k ≡ Some s → (first ≤ k) × ((k < first + length ss) × (slice_get ss (k - first) ≡ Some (Some s)))
 place_of first ss k s e = by (cases_lt k first) (cases_lt k (first + length ss))
   where
     lost : None ≡ Some s → ⊥
@@ -394,9 +394,9 @@ place_of first ss k s e = by (cases_lt k first) (cases_lt k (first + length ss))
     above : (a b : ℕ) → b ≤ a → nat_lt a b ≡ false
     above a b h = grind (arith, nat_tests, h)
 
-    the : (o : Option (Option Site)) → one_site o ≡ Some s → o ≡ Some (Some s)
+    the : (o : Option (Option BlockSite)) → one_site o ≡ Some s → o ≡ Some (Some s)
     the None h = absurd (lost h)
-    the (Some t) h = ap (λ (u : Option Site). Some u) h
+    the (Some t) h = ap (λ (u : Option BlockSite). Some u) h
 
     by : (k < first) ⊎ (first ≤ k) → (k < first + length ss) ⊎ (first + length ss ≤ k) → (first ≤ k) × ((k < first + length ss) × (slice_get ss (k - first) ≡ Some (Some s)))
     by (inl low) other = absurd (lost (sym (places_low first ss k low) ∙ e))
@@ -404,25 +404,25 @@ place_of first ss k s e = by (cases_lt k first) (cases_lt k (first + length ss))
     by (inr from) (inl below) = (from, (below, the (slice_get ss (k - first)) (sym (ap (λ (b : Truth). if b then None else one_site (slice_get ss (k - first))) (above k first from)) ∙ e)))
 
 module _ (scene : Scene) (around : Around) where
-  block_told : (cs : List Located) (old new : Building) (m : MadeEach scene around cs old new) → AllByRecursion (λ (c : Located). StoresReach c.command) cs → AllStand scene cs → (k : ℕ) (s : Site) (a : SourceAccess)
+  block_told : (cs : List Located) (old new : Building) (m : MadeEach scene around cs old new) → AllByRecursion (λ (c : Located). StoresReach c.command) cs → AllStand scene cs → (k : ℕ) (s : BlockSite) (a : SourceAccess)
       → block_sites scene around cs old new m k ≡ Some s → access_at (program_seen scene.program.now) k ≡ Some a → IsSiteOf scene around.levels.now (paths_counted around) s a
   block_told [] old new m is stand k s a e at = absurd (cc)
   block_told (c ∷ cs) old new (mid, (next, (m, rest))) is stand k s a e at = by (places_from c.first own_sites k) refl e (λ g. block_told cs mid new rest is.1 stand.1 k s a g at)
     where
-      own_sites : List (Option Site)
+      own_sites : List (Option BlockSite)
       own_sites = command_sites scene c.command around old mid c.first next m
 
-      here : (t : Site) → places_from c.first own_sites k ≡ Some t → IsSiteOf scene around.levels.now (paths_counted around) t a
+      here : (t : BlockSite) → places_from c.first own_sites k ≡ Some t → IsSiteOf scene around.levels.now (paths_counted around) t a
       here t h =
           let p = place_of c.first own_sites k t h in
           site_at scene around.levels.now (paths_counted around) own_sites (accesses_in (events c.around c.command))
           (command_sited scene around.levels.now (paths_counted around) c.command c.around around old mid c.first next m refl refl is.0) (k - c.first) t a p.1.1
           (own_access (trace (program_seen scene.program.now)) c k a stand.0 p.0 (subst (λ (n : ℕ). k < c.first + n) (command_sites_long scene c.command around old mid c.first next m is.0 ∙ sym (events_counted c.around c.command)) p.1.0) at)
 
-      by : (o : Option Site) → places_from c.first own_sites k ≡ o → site_or o (block_sites scene around cs mid new rest k) ≡ Some s
+      by : (o : Option BlockSite) → places_from c.first own_sites k ≡ o → site_or o (block_sites scene around cs mid new rest k) ≡ Some s
           → (block_sites scene around cs mid new rest k ≡ Some s → IsSiteOf scene around.levels.now (paths_counted around) s a) → IsSiteOf scene around.levels.now (paths_counted around) s a
       by None h g later = later g
-      by (Some t) h g later = let same : t ≡ s = cc in subst (λ (u : Site). IsSiteOf scene around.levels.now (paths_counted around) u a) same (here t h)
+      by (Some t) h g later = let same : t ≡ s = cc in subst (λ (u : BlockSite). IsSiteOf scene around.levels.now (paths_counted around) u a) same (here t h)
 
 pub blocks_are_sited : BlocksAreSited
 blocks_are_sited scene around cs old new m is stand = record {
@@ -438,7 +438,7 @@ pub record BeginsWithTest (r : source.Around) (c : Action) (t : Term) : Type 0 w
   pub rest : List SourceEvent
   pub are : events r c ≡ term_events site t ++ rest
 
-pub test_begins : (r : source.Around) (c : Action) (t : Term) → test_of (form_of c) ≡ Some t → BeginsWithTest r c t
+pub test_begins : (r : source.Around) (c : Action) (t : Term) → test_of (action_form_of c) ≡ Some t → BeginsWithTest r c t
 test_begins r (action id place (decides test chosen other)) t e = let same : test ≡ t = cc in record {
   site = site_of r id;
   rest = events (in_arm r id true) chosen ++ other_events (in_arm r id false) other;
@@ -459,9 +459,9 @@ test_begins r (action id place (calls function arguments)) t e = absurd (cc)
 test_begins r (action id place (blocks body)) t e = absurd (cc)
 test_begins r (action id place (counts iterator declared low high factor body combine combine_place)) t e = absurd (cc)
 
-tests_within : (k n : ℕ) (c : Action) (t : Term) → test_of (form_of c) ≡ Some t → tests_make k n c ≡ is_within k n (term_accesses t)
-tests_within k n (action id place (decides test chosen other)) t e = let same : test ≡ t = cc in ap (λ (u : Term). is_within k n (term_accesses u)) same
-tests_within k n (action id place (repeats test body)) t e = let same : test ≡ t = cc in ap (λ (u : Term). is_within k n (term_accesses u)) same
+tests_within : (k n : ℕ) (c : Action) (t : Term) → test_of (action_form_of c) ≡ Some t → tests_make k n c ≡ is_between k n (term_accesses t)
+tests_within k n (action id place (decides test chosen other)) t e = let same : test ≡ t = cc in ap (λ (u : Term). is_between k n (term_accesses u)) same
+tests_within k n (action id place (repeats test body)) t e = let same : test ≡ t = cc in ap (λ (u : Term). is_between k n (term_accesses u)) same
 tests_within k n (action id place (lets name declared value)) t e = absurd (cc)
 tests_within k n (action id place (lets_memory name shape shape_places value)) t e = absurd (cc)
 tests_within k n (action id place (views name parent form)) t e = absurd (cc)
@@ -472,8 +472,8 @@ tests_within k n (action id place (calls function arguments)) t e = absurd (cc)
 tests_within k n (action id place (blocks body)) t e = absurd (cc)
 tests_within k n (action id place (counts iterator declared low high factor body combine combine_place)) t e = absurd (cc)
 
-module _ (scene : Scene) (around : Around) (tested : Located) (t : Term) (has : test_of (form_of tested.command) ≡ Some t) (stand : StandsAmong 0 (trace (program_seen scene.program.now)) tested) where
-  abbrev places : List (Option Site)
+module _ (scene : Scene) (around : Around) (tested : Located) (t : Term) (has : test_of (action_form_of tested.command) ≡ Some t) (stand : StandsAmong 0 (trace (program_seen scene.program.now)) tested) where
+  abbrev places : List (Option BlockSite)
   places = all_there (term_sites scene around t)
 
   test_placed : (k : ℕ) → is_some (test_sites scene around tested.first t k) ≡ test_makes k tested
@@ -481,7 +481,7 @@ module _ (scene : Scene) (around : Around) (tested : Located) (t : Term) (has : 
       ap is_some (test_places tested.first (term_sites scene around t) k)
       ∙ (placed_all tested.first (term_sites scene around t) (term_accesses t) k (test_places_long scene around t) ∙ sym (tests_within k tested.first tested.command t has))
 
-  test_told : (k : ℕ) (s : Site) (a : SourceAccess) → test_sites scene around tested.first t k ≡ Some s → access_at (program_seen scene.program.now) k ≡ Some a → IsSiteOf scene around.levels.now (paths_counted around) s a
+  test_told : (k : ℕ) (s : BlockSite) (a : SourceAccess) → test_sites scene around tested.first t k ≡ Some s → access_at (program_seen scene.program.now) k ≡ Some a → IsSiteOf scene around.levels.now (paths_counted around) s a
   test_told k s a e at =
       let b = test_begins tested.around tested.command t has in
       let p = place_of tested.first places k s (sym (test_places tested.first (term_sites scene around t) k) ∙ e) in
@@ -514,10 +514,10 @@ tests_are_sited scene around tested t has stand = record {
 
 -- What has a site is made.
 
-pub blocks_placed : (scene : Scene) (around : Around) (cs : List Located) (old new : Building) (m : MadeEach scene around cs old new) → AllByRecursion (λ (c : Located). IsKeptAction (known_in scene) c.command) cs → (number : ℕ) (s : Site) → block_sites scene around cs old new m number ≡ Some s → any_makes number cs ≡ true
+pub blocks_placed : (scene : Scene) (around : Around) (cs : List Located) (old new : Building) (m : MadeEach scene around cs old new) → AllByRecursion (λ (c : Located). IsKeptAction (known_in scene) c.command) cs → (number : ℕ) (s : BlockSite) → block_sites scene around cs old new m number ≡ Some s → any_makes number cs ≡ true
 blocks_placed scene around cs old new m h number s at = sym (block_placed scene around number cs old new m h) ∙ ap is_some at
 
-pub test_placed_all : (scene : Scene) (around : Around) (first : ℕ) (t : Term) (number : ℕ) (s : Site) → test_sites scene around first t number ≡ Some s → (first ≤ number) × (number < first + term_accesses t)
+pub test_placed_all : (scene : Scene) (around : Around) (first : ℕ) (t : Term) (number : ℕ) (s : BlockSite) → test_sites scene around first t number ≡ Some s → (first ≤ number) × (number < first + term_accesses t)
 test_placed_all scene around first t number s at =
     let p = place_of first (all_there (term_sites scene around t)) number s (sym (test_places first (term_sites scene around t) number) ∙ at) in
     (p.0, subst (λ (n : ℕ). number < first + n) (test_places_long scene around t) p.1.0)

@@ -27,13 +27,13 @@ use Rattle.dh_used.specs.MadePlans.{IsMadeOf}
 use Rattle.dh_used.specs.UsedPlans.{OneNodeEach}
 
 -- a constant among operations, which is done whatever holds
-abbrev pub StandsAmong : List Operation → (value : ℕ) → Word → Type 0
-StandsAmong os value word = slice_get os value ≡ Some (record { guard = None; form = Constant word })
+abbrev pub ConstantStands : List Operation → (value : ℕ) → Word → Type 0
+ConstantStands os value word = slice_get os value ≡ Some (record { guard = None; form = Constant word })
 
 module _ (os : List Operation) where
   -- the value of a literal of a kind is its constant; of another expression nothing is told
   abbrev pub HoldsForm : Kind → plain.TermForm → (value : ℕ) → Type 0
-  HoldsForm k (plain.number negative n) value = (word : Word) × (StandsAmong os value word × (IsKind k → word ≡ with_bits k (bits_of k negative n)))
+  HoldsForm k (plain.number negative n) value = (word : Word) × (ConstantStands os value word × (IsKind k → word ≡ with_bits k (bits_of k negative n)))
   HoldsForm k (plain.truth_value b) value = Unit {0}
   HoldsForm k (plain.named r) value = Unit {0}
   HoldsForm k (plain.accessed r indices) value = Unit {0}

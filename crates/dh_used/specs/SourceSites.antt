@@ -6,7 +6,7 @@ use Rattle.std.specs.Option.{is_some}
 use Rattle.dh_tree.specs.declared.trees.expressions.Ref.{Ref}
 use Rattle.dh_tree.specs.PlainTrees.{Program, Term, TermForm}
 use Rattle.dh_tree.specs.Seen.{program_seen}
-use Rattle.dh_meaning.specs.CoreOf.{form_of, memory_of, test_of}
+use Rattle.dh_meaning.specs.CoreOf.{action_form_of, memory_of, test_of}
 use Rattle.dh_meaning.specs.OnePhase.{any_makes, test_makes}
 use Rattle.dh_meaning.specs.Phases.{Located}
 use Rattle.dh_meaning.specs.Ways.{way_to}
@@ -20,14 +20,14 @@ use Rattle.dh_expressions.specs.declared.scenes.Around.{Around}
 use Rattle.dh_expressions.specs.declared.scenes.Scene.{Scene}
 use Rattle.dh_expressions.specs.Evaluated.{known_in}
 use Rattle.dh_expressions.specs.Standings.{standing_at}
-use Rattle.dh_formed.specs.Formed.{Site}
+use Rattle.dh_formed.specs.Formed.{BlockSite}
 use Rattle.dh_commands.specs.declared.buildings.Building.{Building}
 use Rattle.dh_commands.specs.LanesRun.{paths_counted}
 use Rattle.dh_laid.specs.BlockSites.{MadeEach, block_sites, test_sites}
 use Rattle.dh_laid.specs.LaidNumbers.{IsAccessForm}
 
 -- a site is that of an access of the source, inside these loops, at so many paths
-pub record IsSiteOf (scene : Scene) (levels : List Level) (paths : ℕ) (s : Site) (a : SourceAccess) : Type 0 where
+pub record IsSiteOf (scene : Scene) (levels : List Level) (paths : ℕ) (s : BlockSite) (a : SourceAccess) : Type 0 where
   pub around : Around
   pub levels_are : around.levels.now ≡ levels
   pub long : paths_counted around ≡ paths
@@ -40,11 +40,11 @@ pub record IsSiteOf (scene : Scene) (levels : List Level) (paths : ℕ) (s : Sit
   pub is : s ≡ record { memory = memory_of (known_in scene) ref; standing = standing_at scene around (memory_of (known_in scene) ref) a.place form a.writes }
 
 -- so is each of a list that has one, access by access
-abbrev pub IsSiteOrNone : Scene → List Level → (paths : ℕ) → Option Site → SourceAccess → Type 0
+abbrev pub IsSiteOrNone : Scene → List Level → (paths : ℕ) → Option BlockSite → SourceAccess → Type 0
 IsSiteOrNone scene levels paths None a = Unit {0}
 IsSiteOrNone scene levels paths (Some s) a = IsSiteOf scene levels paths s a
 
-abbrev pub AreSitesOf : Scene → List Level → (paths : ℕ) → List (Option Site) → List SourceAccess → Type 0
+abbrev pub AreSitesOf : Scene → List Level → (paths : ℕ) → List (Option BlockSite) → List SourceAccess → Type 0
 AreSitesOf scene levels paths [] [] = Unit {0}
 AreSitesOf scene levels paths [] (a ∷ ls) = ⊥
 AreSitesOf scene levels paths (s ∷ ss) [] = ⊥
@@ -55,9 +55,9 @@ abbrev pub RowsAreDirect : Program → Type 0
 RowsAreDirect p = (number : ℕ) (a : SourceAccess) → access_at p number ≡ Some a → (bank : ℕ) (row : Term) → a.element ≡ in_row bank row → way_to p a.entity ≡ None
 
 -- The sites of a block's accesses, by their numbers: those of numbers that something makes.
-pub record AreSited (scene : Scene) (around : Around) (makes : ℕ → Bool) (sites : ℕ → Option Site) : Type 0 where
+pub record AreSited (scene : Scene) (around : Around) (makes : ℕ → Bool) (sites : ℕ → Option BlockSite) : Type 0 where
   pub made : (number : ℕ) → is_some (sites number) ≡ makes number
-  pub told : (number : ℕ) (s : Site) (a : SourceAccess) → sites number ≡ Some s → access_at (program_seen scene.program.now) number ≡ Some a → IsSiteOf scene around.levels.now (paths_counted around) s a
+  pub told : (number : ℕ) (s : BlockSite) (a : SourceAccess) → sites number ≡ Some s → access_at (program_seen scene.program.now) number ≡ Some a → IsSiteOf scene around.levels.now (paths_counted around) s a
 
 -- the events of each command stand among those of the program
 abbrev pub AllStand : Scene → List Located → Type 0
@@ -71,5 +71,5 @@ BlocksAreSited =
 -- and those of a test
 abbrev pub TestsAreSited : Type 0
 TestsAreSited =
-    (scene : Scene) (around : Around) (tested : Located) (t : Term) → test_of (form_of tested.command) ≡ Some t → StandsAmong 0 (trace (program_seen scene.program.now)) tested
+    (scene : Scene) (around : Around) (tested : Located) (t : Term) → test_of (action_form_of tested.command) ≡ Some t → StandsAmong 0 (trace (program_seen scene.program.now)) tested
     → AreSited scene around (λ number. test_makes number tested) (test_sites scene around tested.first t)

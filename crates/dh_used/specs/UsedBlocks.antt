@@ -5,7 +5,7 @@ use Rattle.std.specs.List.{AllByRecursion}
 use Rattle.dh_tree.specs.PlainTrees.{Program, Term}
 use Rattle.dh_tree.specs.Seen.{program_seen}
 use Rattle.dh_meaning.specs.AccessNumbers.{term_accesses}
-use Rattle.dh_meaning.specs.CoreOf.{form_of, test_of}
+use Rattle.dh_meaning.specs.CoreOf.{action_form_of, test_of}
 use Rattle.dh_meaning.specs.OnePhase.{any_makes, test_makes}
 use Rattle.dh_meaning.specs.Paths.{copies_in}
 use Rattle.dh_meaning.specs.Phases.{Located, phases_of}
@@ -27,7 +27,7 @@ use Rattle.dh_expressions.specs.Evaluated.{known_in}
 use Rattle.dh_commands.specs.declared.buildings.Building.{Building}
 use Rattle.dh_commands.specs.LanesRun.{paths_counted}
 use Rattle.dh_commands.specs.MadeCommands.{MadeTests}
-use Rattle.dh_commands.specs.ShownVariables.{factors_of}
+use Rattle.dh_commands.specs.ShownVariables.{level_factors}
 use Rattle.dh_blocks.specs.PathsOfLevels.{AreSpread}
 use Rattle.dh_laid.specs.BlockSites.{MadeEach, block_sites, test_sites}
 use Rattle.dh_laid.specs.LaidQuiet.{StandsIn}
@@ -42,8 +42,8 @@ pub record UsesAsMade (p : Program) (plan : PlainPlan) (block : ℕ) (makes : �
 pub record IsInLoops (scene : Scene) (around : Around) (makes : ℕ → Bool) : Type 0 where
   pub stands : StandsIn scene around
   pub spread : AreSpread around.levels.now
-  pub counted : paths_counted around ≡ copies_in (factors_of around.levels.now)
-  pub loops : (number : ℕ) (a : SourceAccess) → makes number ≡ true → access_at (program_seen scene.program.now) number ≡ Some a → charges.factors_of a.site.loops ≡ factors_of around.levels.now
+  pub counted : paths_counted around ≡ copies_in (level_factors around.levels.now)
+  pub loops : (number : ℕ) (a : SourceAccess) → makes number ≡ true → access_at (program_seen scene.program.now) number ≡ Some a → charges.loop_factors a.site.loops ≡ level_factors around.levels.now
 
 -- operations behind, which access nothing: registers that are set, and a flag
 pub record EndsQuietly (d e : Draft) : Type 0 where
@@ -69,7 +69,7 @@ StraightsUseAsMade =
 abbrev pub TestsUseAsMade : Type 0
 TestsUseAsMade =
     (scene : Scene) (plan : PlainPlan) (block : ℕ) (around : Around) (tested : Located) (t : Term) (old new : Building) (end : Draft) (next : ℕ) (tests : List ℕ)
-    → MadeTests scene around tested.first t (paths_counted around) old new next tests → test_of (form_of tested.command) ≡ Some t
+    → MadeTests scene around tested.first t (paths_counted around) old new next tests → test_of (action_form_of tested.command) ≡ Some t
     → IsInLoops scene around (λ number. test_makes number tested) → tested.first + term_accesses t < 2 ^ 32 → HasTest (phases_of (program_seen scene.program.now)) tested → TellsShares (program_seen scene.program.now) scene.shares.now
     → HaveNoOperations (test_sites scene around tested.first t) old.accesses → IsOwn plan block old.draft end → EndsQuietly new.draft end
     → UsesAsMade (program_seen scene.program.now) plan block (λ number. test_makes number tested)

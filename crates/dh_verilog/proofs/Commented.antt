@@ -7,7 +7,7 @@ use Rattle.std.proofs.lemmas.List.{append_cancel_left}
 use Rattle.dh_base.specs.declared.outcomes.FaultKind.{FaultKind}
 use Rattle.dh_base.specs.declared.outcomes.FaultKind.TheVariants as fault
 use Rattle.dh_base.specs.declared.places.Place.{Place}
-use Rattle.dh_tree.specs.Names.{IsLetter, IsNameByte, IsWord}
+use Rattle.dh_tree.specs.Names.{IsLetter, IsNameByte, IsIdentifier}
 use Rattle.dh_value.specs.Words.{IsInteger}
 use Rattle.dh_value.specs.declared.kinds.Kind.{Kind}
 use Rattle.dh_value.specs.declared.kinds.Kind.TheVariants as kind
@@ -35,7 +35,7 @@ bytes_no_space : (bs : List ℕ) → AllByRecursion IsNameByte bs → NoSpace bs
 bytes_no_space [] h = tt
 bytes_no_space (b ∷ bs) h = (byte_no_space b h.0, bytes_no_space bs h.1)
 
-name_no_space : (bs : List ℕ) → IsWord bs → NoSpace bs
+name_no_space : (bs : List ℕ) → IsIdentifier bs → NoSpace bs
 name_no_space [] h = tt
 name_no_space (b ∷ bs) h = (letter_no_space b h.0, bytes_no_space bs h.1)
 
@@ -109,7 +109,7 @@ same_side false true x y e =
 
 -- memories
 pub record IsSmallEntry (e : MemEntry) : Type 0 where
-  pub name : IsWord e.name
+  pub name : IsIdentifier e.name
   pub integer : IsInteger e.shape.kind
   pub ports : e.shape.ports < 2 ^ 64
   pub some : IsSomeDims e.shape.dims

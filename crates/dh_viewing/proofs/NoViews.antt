@@ -1,7 +1,7 @@
 -- A program without views breaks no rule on them.
 use Rattle.std.proofs.Common.{◌≡◌, Bool, false, List, [], ◌++◌, Option, Some, None, refl, ap, sym, ◌∙◌}
 use Rattle.dh_tree.specs.declared.breaches.Breach.{Breach}
-use Rattle.dh_tree.specs.Indices.{Known, known_of}
+use Rattle.dh_tree.specs.Indices.{IndexContext, index_context_of}
 use Rattle.dh_tree.specs.Memories.{memories_of}
 use Rattle.dh_tree.specs.PlainTrees.{Term, term, TermForm, number, truth_value, named, accessed, in_bank, applied, converted, Terms, no_terms, term_then, Action, action, ActionForm, lets, lets_memory, views, assigns, stores, reduces, calls, blocks, decides, repeats, counts, MaybeAction, no_action, one_action, Actions, no_actions, action_then, Groups, no_groups, group_then, Program}
 use Rattle.dh_tree.specs.ViewBreaches.{KnownViews, known_views, kept_behind, term_view_breaches, form_view_breaches, terms_view_breaches, maybe_view_breaches, action_view_breaches, action_form_view_breaches, other_view_breaches, groups_view_breaches, part_view_breaches, view_breaches_of}
@@ -16,7 +16,7 @@ both_none xs ys e f = ap (λ l. l ++ ys) e ∙ f
 
 -- No access through one.
 
-module _ (names : Known) where
+module _ (names : IndexContext) where
   abbrev pub none_known : KnownViews
   none_known = record { names = names; views = []; kept = [] }
 
@@ -83,7 +83,7 @@ module _ (names : Known) where
 pub without_views : (p : Program) → views_of p ≡ [] → view_breaches_of p ≡ []
 without_views p e =
     both_none (factor_breaches_of p) (action_view_breaches (known_views p) p.body) (ap (λ vs. viewings_breaches (memories_of p) [] vs) e)
-    (ap (λ vs. action_view_breaches (record { names = known_of p; views = viewed_behind (memories_of p) [] vs; kept = kept_behind (memories_of p) [] vs }) p.body) e ∙ action_keeps (known_of p) p.body e)
+    (ap (λ vs. action_view_breaches (record { names = index_context_of p; views = viewed_behind (memories_of p) [] vs; kept = kept_behind (memories_of p) [] vs }) p.body) e ∙ action_keeps (index_context_of p) p.body e)
 
 -- so nothing is told of one that is found to declare none
 pub nothing_judged : (p : Program) (declares : Bool) (kept : Option Breach) → declares ≡ is_any (views_of p) → declares ≡ false → (views_of p ≡ []) × ((view_breaches_of p ≡ []) × (kept ≡ kept))

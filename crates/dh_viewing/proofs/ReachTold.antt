@@ -13,7 +13,7 @@ use Rattle.dh_tree.specs.Shapes.{IsDim}
 use Rattle.dh_tree.specs.declared.viewing.ViewMap.{ViewMap}
 use Rattle.dh_tree.specs.declared.viewing.ViewSort.{ViewSort}
 use Rattle.dh_tree.specs.declared.viewing.ViewSort.TheVariants.{Shrink, Split, Suffix, Shift}
-use Rattle.dh_viewing.specs.ReachedBanks.{ReachesBank, bank_at, covering, reach_told, can_reach}
+use Rattle.dh_viewing.specs.ReachedBanks.{ReachesBank, bank_at, covering, is_reached_by_sort, can_reach}
 use Rattle.dh_tree.specs.ViewElements.{is_index, is_inside, inside_of, split_index, dealt_index, element_through, named_by, parent_index, first_banks}
 use Rattle.dh_tree.specs.ViewShapes.{IsShapeOf, AreDimsOf, AreSplitOf, IsViewMap}
 use Rattle.dh_viewing.proofs.BankDigits.{both, first_of, rest_of, index_is, natural_of, banks_fit, indices_of, indices_long, digits_inside, digits_bank, bank_at_below}
@@ -124,7 +124,7 @@ told_split v w p k (a ∷ b ∷ []) bank c h d e from to =
 
 pub told_all : (s : ViewSort) (vs ps : List Dim) (ks : List ℕ) (es is : List ℤ) (bank c : ℕ) → IsShapeOf s vs ps ks → AllByRecursion IsDim vs → AllByRecursion IsDim ps
     → is_inside vs is ≡ true → is_inside ps (parent_index s (first_banks ps) ks es is) ≡ true → bank_at vs is ≡ bank → bank_at ps (parent_index s (first_banks ps) ks es is) ≡ c
-    → reach_told s vs ps bank c ≡ true
+    → is_reached_by_sort s vs ps bank c ≡ true
 told_all Shrink vs ps ks es is bank c h own dims inside there from to = told_shrink vs ps ks is bank c h dims there from to
 told_all Suffix vs ps ks es is bank c h own dims inside there from to = equal_told c bank (sym to ∙ (suffix_bank vs ps ks es is h inside there ∙ from))
 told_all Shift vs ps ks es is bank c h own dims inside there from to = refl
@@ -238,7 +238,7 @@ split_witness v w p k bank c h dw dp below e =
     }
 
 witness_of : (s : ViewSort) (vs ps : List Dim) (ks : List ℕ) (bank c : ℕ) → IsShapeOf s vs ps ks → AllByRecursion IsDim vs → AllByRecursion IsDim ps
-    → bank < banks_of vs → c < banks_of ps → reach_told s vs ps bank c ≡ true → Witness s vs ps ks bank c
+    → bank < banks_of vs → c < banks_of ps → is_reached_by_sort s vs ps bank c ≡ true → Witness s vs ps ks bank c
 witness_of Shrink vs ps ks bank c h own dims mine below e = shrink_witness vs ps ks bank c h dims below e
 witness_of Suffix vs ps ks bank c h own dims mine below e = let same = suffix_same vs ps ks h in suffix_witness vs ps ks bank c same.0 same.1 dims below e
 witness_of Shift vs ps ks bank c h own dims mine below e = shift_witness vs ps ks bank c h.0 dims (subst (λ (l : List Dim). bank < banks_of l) h.0 mine) below

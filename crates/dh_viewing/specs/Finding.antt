@@ -13,14 +13,14 @@ use Rattle.dh_tree.specs.declared.viewing.Viewed.{Viewed}
 use Rattle.dh_tree.specs.declared.viewing.ViewMap.{ViewMap}
 use Rattle.dh_tree.specs.Indices.{shape_keeps}
 use Rattle.dh_tree.specs.Memories.{Memory, memories_of, memory_in}
-use Rattle.dh_tree.specs.Seen.{factor_seen, plan_seen, program_seen}
+use Rattle.dh_tree.specs.Seen.{factor_seen, view_plan, program_seen}
 use Rattle.dh_tree.specs.ViewBreaches.{breaks_none, kept_behind, kept_of, kept_shape_in}
 use Rattle.dh_tree.specs.ViewFactors.{factor_broken, factor_keeps, factors_breaches, viewing_breaches, viewings_breaches}
 use Rattle.dh_tree.specs.Views.{Viewing, map_of, shape_in, viewed_behind, viewed_of}
 use Rattle.dh_viewing.specs.declared.collecting.Found.{Found}
 
 abbrev pub viewing_found : Found → Viewing
-viewing_found f = record { name = f.name.now; parent = f.parent.now; form = plan_seen f.form.now }
+viewing_found f = record { name = f.name.now; parent = f.parent.now; form = view_plan f.form.now }
 
 abbrev pub all_found : List Found → List Viewing
 all_found fs = map viewing_found fs

@@ -34,11 +34,11 @@ covering (v ∷ vs) (p ∷ ps) bank = ((bank / elements.banks_of ps) % v.banks) 
 covering _ _ bank = 0
 
 -- it is told so by the sort of the view: fixed banks but for a shift, by which any bank is reached
-abbrev pub reach_told : ViewSort → (view parent : List Dim) → (bank parent_bank : ℕ) → Bool
-reach_told Shrink view parent bank parent_bank = covering view parent parent_bank == bank
-reach_told Split view parent bank parent_bank = parent_bank == bank
-reach_told Suffix view parent bank parent_bank = parent_bank == bank
-reach_told Shift view parent bank parent_bank = true
+abbrev pub is_reached_by_sort : ViewSort → (view parent : List Dim) → (bank parent_bank : ℕ) → Bool
+is_reached_by_sort Shrink view parent bank parent_bank = covering view parent parent_bank == bank
+is_reached_by_sort Split view parent bank parent_bank = parent_bank == bank
+is_reached_by_sort Suffix view parent bank parent_bank = parent_bank == bank
+is_reached_by_sort Shift view parent bank parent_bank = true
 
 abbrev pub can_reach : ViewMap → (bank parent_bank : ℕ) → Bool
-can_reach v bank parent_bank = reach_told v.sort v.shape.dims v.parent.dims bank parent_bank
+can_reach v bank parent_bank = is_reached_by_sort v.sort v.shape.dims v.parent.dims bank parent_bank

@@ -3,7 +3,7 @@
 ghost use Rattle.std.specs.Prelude.{◌≡◌, ◌++◌, ◌/◌, Some, true, map, option_map, slice_get, IfOk, OnOk};
 ghost use Rattle.std.specs.Option.{is_some};
 ghost use Rattle.dh_tree.specs.Memories.{memories_of};
-ghost use Rattle.dh_tree.specs.Seen.{action_seen, all_parts_seen, maybe_block_seen, factor_seen, plan_seen, program_seen};
+ghost use Rattle.dh_tree.specs.Seen.{action_seen, all_parts_seen, maybe_block_seen, factor_seen, view_plan, program_seen};
 ghost use Rattle.dh_tree.specs.Views.{dims_of, factors_of, groups_viewings, map_of, other_viewings, shape_in, shrunk_dims, sort_of, split_dims, view_of, viewed_in, viewings, views_of};
 ghost use Rattle.dh_viewing.specs.Finding.{FindsViews, all_found, entry_shape, map_behind, memory_shape_in, shrunk_by, viewed_as, with_all_found, with_found};
 
@@ -132,7 +132,7 @@ fn split(alloc: Global, factors: &[u64], dims: &[Dim]) -> Result<Items<Dim>, NoM
 
 /// The dimensions of a view of what has these.
 fn dims(alloc: Global, form: &ViewForm, parent: &[Dim]) -> Result<Items<Dim>, NoMemory>
-    ensures { IfOk result (λ ds. ds ≡ dims_of (plan_seen form.now) parent.now) }
+    ensures { IfOk result (λ ds. ds ≡ dims_of (view_plan form.now) parent.now) }
 {
     match form {
         ViewForm::Shrink { by, .. } => shrunk(alloc, by.as_slice(), parent),
@@ -155,7 +155,7 @@ fn suffix_factors(alloc: Global, by: &[(u64, Expr)]) -> Result<Items<u64>, NoMem
 
 /// The factors of a view.
 fn factors(alloc: Global, form: &ViewForm) -> Result<Items<u64>, NoMemory>
-    ensures { IfOk result (λ ks. ks ≡ factors_of (plan_seen form.now)) }
+    ensures { IfOk result (λ ks. ks ≡ factors_of (view_plan form.now)) }
 {
     match form {
         ViewForm::Shrink { by, .. } => Ok(Items::from_vec(Vec::from_slice(alloc, by.as_slice())?)),
@@ -167,7 +167,7 @@ fn factors(alloc: Global, form: &ViewForm) -> Result<Items<u64>, NoMemory>
 
 /// The sort of a view.
 pub(crate) fn sort(form: &ViewForm) -> ViewSort
-    ensures { result ≡ sort_of (plan_seen form.now) }
+    ensures { result ≡ sort_of (view_plan form.now) }
 {
     match form {
         ViewForm::Shrink { .. } => ViewSort::Shrink,
@@ -183,7 +183,7 @@ pub(crate) fn sort(form: &ViewForm) -> ViewSort
 ///
 /// `NoMemory`, the one error; no clause tells when.
 pub(crate) fn map_to(alloc: Global, form: &ViewForm, parent: &Shape) -> Result<ViewMap, NoMemory>
-    ensures { IfOk result (λ m. m ≡ map_of (plan_seen form.now) parent.now) }
+    ensures { IfOk result (λ m. m ≡ map_of (view_plan form.now) parent.now) }
 {
     let own = Shape {
         kind: parent.kind,

@@ -5,7 +5,7 @@ ghost use Rattle.dh_base.specs.declared.rules.Rule.TheVariants as rules;
 ghost use Rattle.dh_tree.specs.Kinds.{when};
 ghost use Rattle.dh_tree.specs.LeastBreach.{breach, least_of};
 ghost use Rattle.dh_tree.specs.Memories.{memories_of};
-ghost use Rattle.dh_tree.specs.Seen.{plan_seen, program_seen};
+ghost use Rattle.dh_tree.specs.Seen.{view_plan, program_seen};
 ghost use Rattle.dh_tree.specs.ViewFactors as definitions;
 ghost use Rattle.dh_tree.specs.ViewFactors.{factors_breaches, plan_breaches, viewing_breaches};
 ghost use Rattle.dh_tree.specs.Views.{shape_in};
@@ -131,7 +131,7 @@ fn keep_multiples(
 
 /// Whether a view has one bracket for each of so many dimensions of its parent; of a split there is one.
 fn brackets_fit(form: &ViewForm, dims: usize) -> bool
-    ensures { result ≡ definitions.brackets_fit (plan_seen form.now) dims }
+    ensures { result ≡ definitions.brackets_fit (view_plan form.now) dims }
 {
     match form {
         ViewForm::Shrink { by, .. } => by.len() == dims,
@@ -144,7 +144,7 @@ fn brackets_fit(form: &ViewForm, dims: usize) -> bool
 /// The breaches of a view of what has these dimensions, by its factors.
 #[tactic(auto, using(dh_tree::proofs::Leasts::least_append))]
 fn keep_view(kept: &mut Option<Breach>, dims: &[Dim], parent: Place, form: &ViewForm)
-    ensures { kept.new ≡ least_of kept.old (plan_breaches dims.now parent (plan_seen form.now)) }
+    ensures { kept.new ≡ least_of kept.old (plan_breaches dims.now parent (view_plan form.now)) }
 {
     let is_fit = brackets_fit(form, dims.len());
     keep_if(kept, !is_fit, parent);

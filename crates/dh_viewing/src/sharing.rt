@@ -2,7 +2,7 @@
 //! each sort the last one is at hand.
 
 ghost use Rattle.std.specs.Prelude.{◌≡◌, map, IfOk, IfSome, IsTrue};
-ghost use Rattle.dh_tree.specs.Seen.{factor_seen, plan_seen};
+ghost use Rattle.dh_tree.specs.Seen.{factor_seen, view_plan};
 ghost use Rattle.dh_tree.specs.Views.{factors_of, map_of};
 ghost use Rattle.dh_viewing.specs.Shared.{IsAlike};
 
@@ -63,7 +63,7 @@ fn are_multiples(numbers: &[u64], by: &[(u64, Expr)]) -> bool
 
 /// Whether numbers are the factors of a view.
 fn are_factors(numbers: &[u64], form: &ViewForm) -> bool
-    ensures { IsTrue result → numbers.now ≡ factors_of (plan_seen form.now) }
+    ensures { IsTrue result → numbers.now ≡ factors_of (view_plan form.now) }
 {
     match form {
         ViewForm::Shrink { by, .. } => are_numbers(numbers, by.as_slice()),
@@ -91,7 +91,7 @@ fn are_shapes(one: &Shape, other: &Shape) -> bool
 
 /// Whether a view has this form, and what it is of this shape.
 fn is_alike(map: &ViewMap, form: &ViewForm, parent: &Shape) -> bool
-    ensures { IsTrue result → IsAlike map.now (plan_seen form.now) parent.now }
+    ensures { IsTrue result → IsAlike map.now (view_plan form.now) parent.now }
 {
     are_sorts(map.sort, sort(form))
         && are_factors(map.by.as_slice(), form)
@@ -118,7 +118,7 @@ impl Model for SharedMap {
 impl SharedMap {
     /// A view of what has this shape.
     fn new(alloc: Global, form: &ViewForm, parent: &Shape) -> Result<SharedMap, NoMemory>
-        ensures { IfOk result (λ made. made ≡ map_of (plan_seen form.now) parent.now) }
+        ensures { IfOk result (λ made. made ≡ map_of (view_plan form.now) parent.now) }
     {
         let made = map_to(alloc, form, parent)?;
         let map = Rc::new(alloc, made)?;
@@ -142,7 +142,7 @@ impl SharedMap {
 
     /// Whether it is the view of what has this shape.
     fn is_of(&self, form: &ViewForm, parent: &Shape) -> bool
-        ensures { IsTrue result → self.now ≡ map_of (plan_seen form.now) parent.now }
+        ensures { IsTrue result → self.now ≡ map_of (view_plan form.now) parent.now }
     {
         let map = self.map.as_ref();
         is_alike(map, form, parent)
@@ -156,7 +156,7 @@ fn again(
     parent: &Shape,
 ) -> Result<Option<SharedMap>, NoMemory>
     ensures { IfOk result (λ again. IfSome again (λ made. made
-        ≡ map_of (plan_seen form.now) parent.now)) }
+        ≡ map_of (view_plan form.now) parent.now)) }
 {
     match last {
         Some(made) => {
@@ -177,7 +177,7 @@ fn shared(
     form: &ViewForm,
     parent: &Shape,
 ) -> Result<SharedMap, NoMemory>
-    ensures { IfOk result (λ made. made ≡ map_of (plan_seen form.now) parent.now) }
+    ensures { IfOk result (λ made. made ≡ map_of (view_plan form.now) parent.now) }
 {
     match again(last, form, parent)? {
         Some(made) => Ok(made),
@@ -220,7 +220,7 @@ impl LastMaps {
         form: &ViewForm,
         parent: &Shape,
     ) -> Result<SharedMap, NoMemory>
-        ensures { IfOk result (λ made. made ≡ map_of (plan_seen form.now) parent.now) }
+        ensures { IfOk result (λ made. made ≡ map_of (view_plan form.now) parent.now) }
     {
         match form {
             ViewForm::Shrink { .. } => shared(alloc, &mut self.shrink, form, parent),

@@ -8,7 +8,7 @@ use Rattle.dh_tree.specs.declared.trees.counters.Counter.{Counter}
 use Rattle.dh_tree.specs.declared.trees.expressions.Expr.{Expr}
 use Rattle.dh_tree.specs.declared.trees.programs.DimPlaces.{DimPlaces}
 use Rattle.dh_tree.specs.Counters.{counter_in}
-use Rattle.dh_tree.specs.Indices.{IndexKind, constant, iterator, dynamic, is_beyond, index_breaches, indices_breaches, dims_breaches}
+use Rattle.dh_tree.specs.Indices.{IndexKind, constant, iterator, dynamic, is_beyond, one_index_breaches, indices_breaches, dims_breaches}
 use Rattle.dh_tree.specs.Kinds.{when}
 use Rattle.dh_tree.specs.LeastBreach.{least_of, breach}
 use Rattle.dh_tree.specs.Seen.{term_seen, terms}
@@ -20,19 +20,19 @@ use Rattle.dh_views.specs.Kept.{copies_of, placed_breaches}
 
 -- what an index is, as it was told
 pub constant_kept : (cs : List Counter) (d : Dim) (place : Place) (k : IndexKind) (z : ℤ) → Classifies cs k (kinds.Constant z)
-    → index_breaches d place k ≡ when (is_beyond d.size z) (breach ConstantRange place ∷ [])
+    → one_index_breaches d place k ≡ when (is_beyond d.size z) (breach ConstantRange place ∷ [])
 constant_kept cs d place (constant v) z h = ap (λ x. when (is_beyond d.size x) (breach ConstantRange place ∷ [])) (sym h)
 constant_kept cs d place (iterator c offset) z h = absurd h
 constant_kept cs d place dynamic z h = absurd h
 
 pub iterator_kept : (cs : List Counter) (d : Dim) (place : Place) (k : IndexKind) (entity : ℕ) (offset : ℤ) → Classifies cs k (kinds.Iterator entity offset)
-    → index_breaches d place k ≡ when (nat_lt 1 d.banks && not (copies_of (counter_in cs (Some entity)) % d.banks == 0)) (breach BankUnroll place ∷ [])
+    → one_index_breaches d place k ≡ when (nat_lt 1 d.banks && not (copies_of (counter_in cs (Some entity)) % d.banks == 0)) (breach BankUnroll place ∷ [])
 iterator_kept cs d place (constant v) entity offset h = absurd h
 iterator_kept cs d place (iterator c o) entity offset h = ap (λ x. when (nat_lt 1 d.banks && not (copies_of x % d.banks == 0)) (breach BankUnroll place ∷ [])) (sym h.0)
 iterator_kept cs d place dynamic entity offset h = absurd h
 
 pub dynamic_kept : (cs : List Counter) (d : Dim) (place : Place) (k : IndexKind) → Classifies cs k kinds.Dynamic
-    → index_breaches d place k ≡ when (nat_lt 1 d.banks) (breach DynamicBank place ∷ [])
+    → one_index_breaches d place k ≡ when (nat_lt 1 d.banks) (breach DynamicBank place ∷ [])
 dynamic_kept cs d place (constant v) h = absurd h
 dynamic_kept cs d place (iterator c o) h = absurd h
 dynamic_kept cs d place dynamic h = refl

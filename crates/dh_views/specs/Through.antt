@@ -6,7 +6,7 @@ use Rattle.dh_tree.specs.declared.breaches.Breach.{Breach}
 use Rattle.dh_tree.specs.declared.trees.commands.Command.{Command}
 use Rattle.dh_tree.specs.declared.trees.expressions.Expr.{Expr}
 use Rattle.dh_tree.specs.declared.trees.programs.Tree.{Tree}
-use Rattle.dh_tree.specs.Indices.{access_breaches}
+use Rattle.dh_tree.specs.Indices.{access_index_breaches}
 use Rattle.dh_tree.specs.PlainTrees.{Term}
 use Rattle.dh_tree.specs.Seen.{term_seen, all_terms_seen, factor_seen, action_seen, all_parts_seen, maybe_block_seen}
 use Rattle.dh_tree.specs.ViewBreaches.{KnownViews, dims_through, term_view_breaches, terms_view_breaches, maybe_view_breaches, offsets_view_breaches, action_view_breaches, other_view_breaches, groups_view_breaches}
@@ -20,7 +20,7 @@ known_through tree v = record { names = known_in tree; views = v.all; kept = v.k
 
 -- the breaches of the indices of an access through a view that keeps the rules, by the entity of its name
 abbrev pub through_broken : Tree → JudgedViews → (entity : Option ℕ) → List Expr → List Breach
-through_broken tree v entity es = access_breaches (loops_in tree) (dims_through (view_in v.kept entity)) (all_terms_seen es)
+through_broken tree v entity es = access_index_breaches (loops_in tree) (dims_through (view_in v.kept entity)) (all_terms_seen es)
 
 -- the breaches in an expression, in expressions, and in one that may lack
 abbrev pub term_viewed : Tree → JudgedViews → Expr → List Breach

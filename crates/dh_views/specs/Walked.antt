@@ -11,7 +11,7 @@ use Rattle.dh_tree.specs.declared.trees.expressions.Expr.{Expr}
 use Rattle.dh_tree.specs.declared.trees.programs.Tree.{Tree}
 use Rattle.dh_tree.specs.Elements.{rows_of}
 use Rattle.dh_tree.specs.Indices as indices
-use Rattle.dh_tree.specs.Indices.{Known, known_of, index_kind, index_breaches, indices_breaches, access_breaches, physical_breaches, kept_dims, term_index_breaches, terms_index_breaches, maybe_index_breaches, shape_breaches, turns_breaches, action_index_breaches, other_index_breaches, groups_index_breaches}
+use Rattle.dh_tree.specs.Indices.{IndexContext, index_context_of, index_kind, one_index_breaches, indices_breaches, access_index_breaches, physical_breaches, kept_dims, term_index_breaches, terms_index_breaches, maybe_index_breaches, shape_breaches, turns_breaches, action_index_breaches, other_index_breaches, groups_index_breaches}
 use Rattle.dh_tree.specs.Kinds.{signed_number}
 use Rattle.dh_tree.specs.LeastBreach.{least_of}
 use Rattle.dh_tree.specs.Memories.{memory_in, memories_of}
@@ -19,8 +19,8 @@ use Rattle.dh_tree.specs.PlainTrees.{ActionForm, lets, lets_memory, views, assig
 use Rattle.dh_tree.specs.Seen.{form_seen, term_seen, all_terms_seen, action_form_seen, action_seen, all_parts_seen, maybe_block_seen, program_seen}
 
 -- the memories and loops of a program
-abbrev pub known_in : Tree → Known
-known_in tree = known_of (program_seen tree)
+abbrev pub known_in : Tree → IndexContext
+known_in tree = index_context_of (program_seen tree)
 
 -- the dimensions of what a name stands for, where its shape breaks no rule
 abbrev pub dims_in : Tree → (entity : Option ℕ) → Option (List Dim)
@@ -28,11 +28,11 @@ dims_in tree entity = kept_dims (memory_in (memories_of (program_seen tree)) ent
 
 -- the breaches of an index of a dimension
 abbrev pub index_broken : Tree → Dim → Expr → List Breach
-index_broken tree d index = index_breaches d index.place (index_kind (loops_in tree) index.kind (form_seen index.form))
+index_broken tree d index = one_index_breaches d index.place (index_kind (loops_in tree) index.kind (form_seen index.form))
 
 -- the breach of an index of this kind, whichever index the kind is told of
 abbrev pub KeepsKind : Tree → (old new : Option Breach) → Dim → Place → IndexKind → Type 0
-KeepsKind tree old new d place kind = (k : indices.IndexKind) → Classifies (loops_in tree) k kind → new ≡ least_of old (index_breaches d place k)
+KeepsKind tree old new d place kind = (k : indices.IndexKind) → Classifies (loops_in tree) k kind → new ≡ least_of old (one_index_breaches d place k)
 
 -- the breaches of indices, each of its dimension
 abbrev pub indices_broken : Tree → List Dim → List Expr → List Breach
@@ -40,7 +40,7 @@ indices_broken tree ds es = indices_breaches (loops_in tree) ds (all_terms_seen 
 
 -- the breaches of the indices of an access, by the entity of its name
 abbrev pub access_broken : Tree → (entity : Option ℕ) → List Expr → List Breach
-access_broken tree entity es = access_breaches (loops_in tree) (dims_in tree entity) (all_terms_seen es)
+access_broken tree entity es = access_index_breaches (loops_in tree) (dims_in tree entity) (all_terms_seen es)
 
 -- whether a literal is no row of a bank
 abbrev pub is_no_row : List Dim → (negative : Bool) → (value : ℕ) → Bool
@@ -61,7 +61,7 @@ abbrev pub maybe_broken : Tree → Option Expr → List Breach
 maybe_broken tree e = maybe_index_breaches (known_in tree) (option_map term_seen e)
 
 -- the breaches of a command, without those of the commands inside it
-abbrev pub own_breaches : Known → ActionForm → List Breach
+abbrev pub own_breaches : IndexContext → ActionForm → List Breach
 own_breaches known (lets name declared value) = maybe_index_breaches known value
 own_breaches known (lets_memory name shape shape_places value) = shape_breaches shape shape_places ++ maybe_index_breaches known value
 own_breaches known (views name parent form) = []

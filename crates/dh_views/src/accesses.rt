@@ -4,7 +4,7 @@ ghost use Rattle.std.specs.Prelude.{◌≡◌, ◌*◌, ◌/◌, ◌≤◌, Some
 ghost use Rattle.dh_tree.specs.Counters.{counter_in};
 ghost use Rattle.dh_tree.specs.Elements as elements;
 ghost use Rattle.dh_tree.specs.Indices as definitions;
-ghost use Rattle.dh_tree.specs.Indices.{row_breaches, bank_breaches};
+ghost use Rattle.dh_tree.specs.Indices.{row_breaches, physical_bank_breaches};
 ghost use Rattle.dh_tree.specs.LeastBreach.{least_of};
 ghost use Rattle.dh_tree.specs.Seen.{term_seen};
 ghost use Rattle.dh_shape.specs.Classified.{loops_in};
@@ -120,7 +120,7 @@ fn rows(dims: &[Dim]) -> u128
 
 /// A bank that a memory of these dimensions has not.
 fn keep_bank(kept: &mut Option<Breach>, dims: &[Dim], bank: u64, place: Place)
-    ensures { kept.new ≡ least_of kept.old (bank_breaches dims.now bank place) }
+    ensures { kept.new ≡ least_of kept.old (physical_bank_breaches dims.now bank place) }
 {
     let is_broken = banks(dims) <= u128::from(bank);
     keep_if(kept, is_broken, Rule::ConstantRange, place);

@@ -2,7 +2,7 @@
 
 ghost use Rattle.std.specs.Prelude.{◌≡◌, map};
 ghost use Rattle.dh_tree.specs.LeastBreach.{least_of};
-ghost use Rattle.dh_tree.specs.Seen.{plan_seen, term_seen};
+ghost use Rattle.dh_tree.specs.Seen.{view_plan, term_seen};
 ghost use Rattle.dh_tree.specs.ViewBreaches.{physical_broken};
 ghost use Rattle.dh_tree.specs.ViewOffsets.{offsets_of};
 ghost use Rattle.dh_tree.specs.Views.{view_in};
@@ -124,7 +124,7 @@ fn keep_shifts(typed: &Typed, views: &JudgedViews, kept: &mut Option<Breach>, by
 /// Those in the offsets of a view.
 fn keep_offsets(typed: &Typed, views: &JudgedViews, kept: &mut Option<Breach>, form: &ViewForm)
     ensures { kept.new ≡ least_of kept.old
-        (offsets_viewed typed.now views.now (offsets_of (plan_seen form.now))) }
+        (offsets_viewed typed.now views.now (offsets_of (view_plan form.now))) }
 {
     match form {
         ViewForm::Shrink { .. } => {}

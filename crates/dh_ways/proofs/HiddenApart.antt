@@ -7,9 +7,9 @@ use Rattle.dh_tree.specs.declared.tables.Shape.{Shape}
 use Rattle.dh_tree.specs.declared.viewing.ViewMap.{ViewMap}
 use Rattle.dh_tree.specs.Memories.{Memory, memories_of, memory_in, same_entity}
 use Rattle.dh_tree.specs.PlainTrees.{Term, ViewPlan, shrinks, splits, suffixes, shifts, Program}
-use Rattle.dh_tree.specs.ViewOffsets.{offsets_of, moves, is_shift}
+use Rattle.dh_tree.specs.ViewOffsets.{offsets_of, moves, is_shift_view}
 use Rattle.dh_tree.specs.Views.{map_of}
-use Rattle.dh_meaning.specs.Ways.{Hidden, Led, Standing, Way, all_entities_of, behind_all, behind_hidden, depth_where, hidden_from, hidden_of, led_after, led_behind, led_of, shape_named, standings, way_at, way_behind, way_in, way_to, way_unless, ways_of}
+use Rattle.dh_meaning.specs.Ways.{Hidden, Led, ViewSite, Way, all_entities_of, behind_all, behind_hidden, depth_where, hidden_from, hidden_of, led_after, led_behind, led_of, shape_named, standings, way_at, way_behind, way_in, way_to, way_unless, ways_of}
 use Rattle.dh_ways.specs.HiddenVariables.{IsWayWithin, all_hidden, hidden_variables, numbers_from}
 
 -- Numbers.
@@ -38,7 +38,7 @@ numbers_both first (suc a) b = ap (λ ns. first ∷ ns) (ap (λ n. numbers_from 
     moved : (m n : ℕ) → m + suc n ≡ suc m + n
     moved m n = omega arith
 
-all_numbered : (first : ℕ) (ss : List Standing) → map (λ (h : Hidden). h.entity) (all_hidden first ss) ≡ numbers_from first (length (all_hidden first ss))
+all_numbered : (first : ℕ) (ss : List ViewSite) → map (λ (h : Hidden). h.entity) (all_hidden first ss) ≡ numbers_from first (length (all_hidden first ss))
 all_numbered first [] = refl
 all_numbered first (s ∷ ss) =
     let rest = all_hidden (behind_hidden first s) ss in
@@ -49,7 +49,7 @@ all_numbered first (s ∷ ss) =
     ∙ (numbers_both first (length (offsets_of s.form)) (length rest)
     ∙ ap (λ n. numbers_from first n) (sym (length-append (hidden_of first s) rest ∙ ap (λ n. n + length rest) own)))))
 
-counted : (first : ℕ) (ss : List Standing) → behind_all first ss ≡ first + length (all_hidden first ss)
+counted : (first : ℕ) (ss : List ViewSite) → behind_all first ss ≡ first + length (all_hidden first ss)
 counted first [] = plain first
   where
     plain : (n : ℕ) → n ≡ n + 0
@@ -114,7 +114,7 @@ own_moved (splits by by_place) deepest first depth l = tt
 own_moved (suffixes by by_place) deepest first depth l = own_deep deepest first depth l (offsets_of (suffixes by by_place))
 own_moved (shifts by) deepest first depth l = own_deep deepest first depth l by
 
-shift_moves : (form : ViewPlan) (depth : ℕ) → depth_where (is_shift form) depth ≤ depth_where (moves form) depth
+shift_moves : (form : ViewPlan) (depth : ℕ) → depth_where (is_shift_view form) depth ≤ depth_where (moves form) depth
 shift_moves (shrinks by by_place) depth = omega arith
 shift_moves (splits by by_place) depth = omega arith
 shift_moves (suffixes by by_place) depth = omega arith
@@ -150,7 +150,7 @@ module _ (low : ℕ) where
           some_same a b g = ap (or a) g
       by false f rest = rest f
 
-  behind_within : (first high : ℕ) (s : Standing) (v : ViewMap) (o : Option Way) → low ≤ first → behind_hidden first s ≤ high → ((w : Way) → o ≡ Some w → IsWayWithin low high w) → IsWayWithin low high (way_behind first s v o)
+  behind_within : (first high : ℕ) (s : ViewSite) (v : ViewMap) (o : Option Way) → low ≤ first → behind_hidden first s ≤ high → ((w : Way) → o ≡ Some w → IsWayWithin low high w) → IsWayWithin low high (way_behind first s v o)
   behind_within first high s v None l m more = record {
     least = own_least low first s.depth l (offsets_of s.form);
     below = own_below high first s.depth (offsets_of s.form) m;
@@ -166,10 +166,10 @@ module _ (low : ℕ) where
             (own_moved s.form (max (depth_where (moves s.form) s.depth) w.deepest) first s.depth (left_most (depth_where (moves s.form) s.depth) w.deepest))
             (each_so (λ h. h.depth ≤ w.deepest) (λ h. h.depth ≤ max (depth_where (moves s.form) s.depth) w.deepest)
             (λ h d. through_most h.depth w.deepest (max (depth_where (moves s.form) s.depth) w.deepest) d (right_most (depth_where (moves s.form) s.depth) w.deepest)) w.hidden rest.deep);
-        shifts = both_most (depth_where (is_shift s.form) s.depth) w.shifts (depth_where (moves s.form) s.depth) w.deepest (shift_moves s.form s.depth) rest.shifts;
+        shifts = both_most (depth_where (is_shift_view s.form) s.depth) w.shifts (depth_where (moves s.form) s.depth) w.deepest (shift_moves s.form s.depth) rest.shifts;
       }
 
-  one_within : (first high : ℕ) (s : Standing) (shape : Option Shape) (o : Option Way) → low ≤ first → behind_hidden first s ≤ high → ((w : Way) → o ≡ Some w → IsWayWithin low high w) → AllWithin high (led_of first s shape o)
+  one_within : (first high : ℕ) (s : ViewSite) (shape : Option Shape) (o : Option Way) → low ≤ first → behind_hidden first s ≤ high → ((w : Way) → o ≡ Some w → IsWayWithin low high w) → AllWithin high (led_of first s shape o)
   one_within first high s None o l m more = tt
   one_within first high s (Some shape) o l m more = (behind_within first high s (map_of s.form shape) o l m more, tt)
 
@@ -177,7 +177,7 @@ module _ (low : ℕ) where
   unless_some (Some m) o w e = cc
   unless_some None o w e = e
 
-  pub all_within : (ms : List Memory) (first : ℕ) (ls : List Led) (ss : List Standing) → low ≤ first → AllWithin first ls → AllWithin (behind_all first ss) (led_behind ms first ls ss)
+  pub all_within : (ms : List Memory) (first : ℕ) (ls : List Led) (ss : List ViewSite) → low ≤ first → AllWithin first ls → AllWithin (behind_all first ss) (led_behind ms first ls ss)
   all_within ms first ls [] l a = a
   all_within ms first ls (s ∷ ss) l a =
       let next = behind_hidden first s in

@@ -7,7 +7,7 @@ use denote.Ref.{Bor}
 use Rattle.dh_tree.specs.declared.viewing.ViewMap.{ViewMap}
 use Rattle.dh_ways.specs.declared.linking.Link.{Link}
 use Rattle.dh_ways.specs.declared.ways.Hidden.{Hidden}
-use Rattle.dh_ways.specs.Kept.{Led, Way}
+use Rattle.dh_ways.specs.Kept.{KeptLed, KeptWay}
 use Rattle.dh_ways.specs.Linked.{AreLinked, AreLinkedOn, CanFollow, IsBefore, IsLinkAt, IsParentAt, IsSplit, hidden_kept, led_by, led_on, views_kept, way_linked, way_over, way_there, ways_linked}
 
 -- Places in lists.
@@ -50,7 +50,7 @@ stands_in (x ∷ xs) (suc k) e = let rest = stands_in xs k (less_one k (length x
 
 -- As many views as links.
 
-long_on : (before : List Led) (ls : List Link) → length (led_on before ls) ≡ length before + length ls
+long_on : (before : List KeptLed) (ls : List Link) → length (led_on before ls) ≡ length before + length ls
 long_on before [] = plain (length before)
   where
     plain : (n : ℕ) → n ≡ n + 0
@@ -68,41 +68,41 @@ links_long links = long_on [] links ∙ front (length links)
 
 -- The entities of the views.
 
-entities_on : (before : List Led) (ls : List Link) → map (λ (l : Led). l.entity) (led_on before ls) ≡ map (λ (l : Led). l.entity) before ++ map (λ (l : Link). l.entity) ls
-entities_on before [] = sym (append-nil (map (λ (l : Led). l.entity) before))
+entities_on : (before : List KeptLed) (ls : List Link) → map (λ (l : KeptLed). l.entity) (led_on before ls) ≡ map (λ (l : KeptLed). l.entity) before ++ map (λ (l : Link). l.entity) ls
+entities_on before [] = sym (append-nil (map (λ (l : KeptLed). l.entity) before))
 entities_on before (l ∷ ls) =
     entities_on (before ++ led_by before l ∷ []) ls
-    ∙ (ap (λ es. es ++ map (λ (x : Link). x.entity) ls) (map_push (λ (x : Led). x.entity) before (led_by before l))
-    ∙ append_assoc (map (λ (x : Led). x.entity) before) (l.entity ∷ []) (map (λ (x : Link). x.entity) ls))
+    ∙ (ap (λ es. es ++ map (λ (x : Link). x.entity) ls) (map_push (λ (x : KeptLed). x.entity) before (led_by before l))
+    ∙ append_assoc (map (λ (x : KeptLed). x.entity) before) (l.entity ∷ []) (map (λ (x : Link). x.entity) ls))
 
-pub entities_are : (links : List Link) → map (λ (l : Led). l.entity) (ways_linked links) ≡ map (λ (l : Link). l.entity) links
+pub entities_are : (links : List Link) → map (λ (l : KeptLed). l.entity) (ways_linked links) ≡ map (λ (l : Link). l.entity) links
 entities_are links = entities_on [] links
 
 -- What stands at a place.
 
 -- views stay where they are when others are added
-stays : (before : List Led) (ls : List Link) (k : ℕ) (x : Led) → slice_get before k ≡ Some x → slice_get (led_on before ls) k ≡ Some x
+stays : (before : List KeptLed) (ls : List Link) (k : ℕ) (x : KeptLed) → slice_get before k ≡ Some x → slice_get (led_on before ls) k ≡ Some x
 stays before [] k x e = e
 stays before (l ∷ ls) k x e = stays (before ++ led_by before l ∷ []) ls k x (in_front before (led_by before l ∷ []) k x e)
 
-same_way : (before : List Led) (ls : List Link) (parent : Option ℕ) → IsBefore (length before) parent → way_there before parent ≡ way_there (led_on before ls) parent
+same_way : (before : List KeptLed) (ls : List Link) (parent : Option ℕ) → IsBefore (length before) parent → way_there before parent ≡ way_there (led_on before ls) parent
 same_way before ls None h = refl
-same_way before ls (Some k) h = let at = stands_in before k h in ap (option_map (λ (l : Led). l.way)) (at.there ∙ sym (stays before ls k at.item at.there))
+same_way before ls (Some k) h = let at = stands_in before k h in ap (option_map (λ (l : KeptLed). l.way)) (at.there ∙ sym (stays before ls k at.item at.there))
 
-abbrev led_over : Link → Option Way → Led
+abbrev led_over : Link → Option KeptWay → KeptLed
 led_over l w = record { entity = l.entity; way = way_over l w }
 
 -- the view at a place is that of the link there, by that of its parent
-pub record LinkTold (ls : List Led) (place : ℕ) (l : Link) : Type 0 where
+pub record LinkTold (ls : List KeptLed) (place : ℕ) (l : Link) : Type 0 where
   pub led : slice_get ls place ≡ Some (led_by ls l)
   pub parent : IsBefore place l.parent
   pub first : l.first ≡ slice_get (way_linked ls l).hidden 0
 
-link_on : (before : List Led) (ls : List Link) (i place : ℕ) (l : Link) → AreLinkedOn before ls → slice_get ls i ≡ Some l → place ≡ length before + i → LinkTold (led_on before ls) place l
+link_on : (before : List KeptLed) (ls : List Link) (i place : ℕ) (l : Link) → AreLinkedOn before ls → slice_get ls i ≡ Some l → place ≡ length before + i → LinkTold (led_on before ls) place l
 link_on before [] i place l h e p = absurd (none-some l e)
 link_on before (x ∷ ls) zero place l h e p = subst (λ (y : Link). LinkTold all place y) (same_Some x l e) here
   where
-    all : List Led
+    all : List KeptLed
     all = led_on before (x ∷ ls)
 
     same : way_there before x.parent ≡ way_there all x.parent
@@ -132,11 +132,11 @@ link_told links place l h e = link_on [] links place place l h e (sym (front pla
 pub link_read : (links : List Link) (place : ℕ) (l : Link) → place < length links → l ≡ get_or links place l → slice_get links place ≡ Some l
 link_read links place l inside is = slice_get-get_or links place l inside ∙ ap Some (sym is)
 
-pub way_told : (ls : List Led) (place : ℕ) (l : Link) → LinkTold ls place l → way_there ls (Some place) ≡ Some (way_linked ls l)
-way_told ls place l t = ap (option_map (λ (x : Led). x.way)) t.led
+pub way_told : (ls : List KeptLed) (place : ℕ) (l : Link) → LinkTold ls place l → way_there ls (Some place) ≡ Some (way_linked ls l)
+way_told ls place l t = ap (option_map (λ (x : KeptLed). x.way)) t.led
 
-pub entity_told : (ls : List Led) (place : ℕ) (l : Link) → LinkTold ls place l → Some l.entity ≡ option_map (λ (x : Led). x.entity) (slice_get ls place)
-entity_told ls place l t = sym (ap (option_map (λ (x : Led). x.entity)) t.led)
+pub entity_told : (ls : List KeptLed) (place : ℕ) (l : Link) → LinkTold ls place l → Some l.entity ≡ option_map (λ (x : KeptLed). x.entity) (slice_get ls place)
+entity_told ls place l t = sym (ap (option_map (λ (x : KeptLed). x.entity)) t.led)
 
 -- a parent before a place among these is one of them
 pub before_all : (place n : ℕ) (parent : Option ℕ) → place < n → IsBefore place parent → IsBefore n parent
@@ -147,20 +147,20 @@ pub parent_there : (links : List Link) (place : ℕ) (l : Link) (k : ℕ) → Is
 parent_there links place l k at e =
     subst (λ (o : Option ℕ). IsBefore (length links) o) e (before_all place (length links) l.parent (slice_get_within links place l at.there) (link_told links place l at.linked at.there).parent)
 
-pub parent_told : (ls : List Led) (place : ℕ) (x : Link) → LinkTold ls place x → (parent : Option ℕ) → x.parent ≡ parent → IsParentAt ls place parent
-parent_told ls place x t None e = λ l there. let is : l ≡ led_by ls x = same_Some l (led_by ls x) (sym there ∙ t.led) in ap (λ (y : Led). y.way.behind) is ∙ ap (λ o. views_kept (way_there ls o)) e
+pub parent_told : (ls : List KeptLed) (place : ℕ) (x : Link) → LinkTold ls place x → (parent : Option ℕ) → x.parent ≡ parent → IsParentAt ls place parent
+parent_told ls place x t None e = λ l there. let is : l ≡ led_by ls x = same_Some l (led_by ls x) (sym there ∙ t.led) in ap (λ (y : KeptLed). y.way.behind) is ∙ ap (λ o. views_kept (way_there ls o)) e
 parent_told ls place x t (Some k) e = (
   subst (λ (o : Option ℕ). IsBefore place o) e t.parent,
   λ l m there above. let is : l ≡ led_by ls x = same_Some l (led_by ls x) (sym there ∙ t.led) in
-      ap (λ (y : Led). y.way.behind) is ∙ (ap (λ o. views_kept (way_there ls o)) e ∙ ap (λ o. views_kept (option_map (λ (y : Led). y.way) o)) above),
+      ap (λ (y : KeptLed). y.way.behind) is ∙ (ap (λ o. views_kept (way_there ls o)) e ∙ ap (λ o. views_kept (option_map (λ (y : KeptLed). y.way) o)) above),
 )
 
 -- The way behind a link.
 
-pub split_told : (ls : List Led) (l : Link) (w : Way) (own : List Hidden) (behind : Option Way) → way_linked ls l ≡ w → own ≡ l.own → behind ≡ way_there ls l.parent → IsSplit w own behind
+pub split_told : (ls : List KeptLed) (l : Link) (w : KeptWay) (own : List Hidden) (behind : Option KeptWay) → way_linked ls l ≡ w → own ≡ l.own → behind ≡ way_there ls l.parent → IsSplit w own behind
 split_told ls l w own behind is kept there = record {
-  views = sym (ap (λ (x : Way). x.behind) is) ∙ ap views_kept (sym there);
-  hidden = sym (ap (λ (x : Way). x.hidden) is) ∙ (ap (λ hs. hs ++ hidden_kept (way_there ls l.parent)) (sym kept) ∙ ap (λ o. own ++ hidden_kept o) (sym there));
+  views = sym (ap (λ (x : KeptWay). x.behind) is) ∙ ap views_kept (sym there);
+  hidden = sym (ap (λ (x : KeptWay). x.hidden) is) ∙ (ap (λ hs. hs ++ hidden_kept (way_there ls l.parent)) (sym kept) ∙ ap (λ o. own ++ hidden_kept o) (sym there));
 }
 
 -- Link by link.
@@ -230,11 +230,11 @@ view_pushed old new v view e is = ap (map (λ (x : Bor ViewMap). x.now)) e ∙ (
 
 -- One link more.
 
-pushed_on : (before : List Led) (ls : List Link) (l : Link) → led_on before (ls ++ l ∷ []) ≡ led_on before ls ++ led_by (led_on before ls) l ∷ []
+pushed_on : (before : List KeptLed) (ls : List Link) (l : Link) → led_on before (ls ++ l ∷ []) ≡ led_on before ls ++ led_by (led_on before ls) l ∷ []
 pushed_on before [] l = refl
 pushed_on before (x ∷ ls) l = pushed_on (before ++ led_by before x ∷ []) ls l
 
-pub linked_on_more : (before : List Led) (ls : List Link) (l : Link) → AreLinkedOn before ls → CanFollow (led_on before ls) l → AreLinkedOn before (ls ++ l ∷ [])
+pub linked_on_more : (before : List KeptLed) (ls : List Link) (l : Link) → AreLinkedOn before ls → CanFollow (led_on before ls) l → AreLinkedOn before (ls ++ l ∷ [])
 linked_on_more before [] l h follows = (follows, tt)
 linked_on_more before (x ∷ ls) l h follows = (h.0, linked_on_more (before ++ led_by before x ∷ []) ls l h.1 follows)
 
@@ -248,14 +248,14 @@ ways_pushed (Err e) links new l is = tt
 
 -- Links as a table shows them.
 
-pub shown_ways : (links shown : List Link) (ways : List Led) → shown ≡ links → ways_linked links ≡ ways → ways_linked shown ≡ ways
+pub shown_ways : (links shown : List Link) (ways : List KeptLed) → shown ≡ links → ways_linked links ≡ ways → ways_linked shown ≡ ways
 shown_ways links shown ways same are = ap ways_linked same ∙ are
 
 pub shown_linked : (links shown : List Link) → shown ≡ links → AreLinked links → AreLinked shown
 shown_linked links shown same h = subst (λ (ls : List Link). AreLinked ls) (sym same) h
 
-pub shown_inside : (links shown : List Link) (ways : List Led) (place : ℕ) → shown ≡ links → ways_linked links ≡ ways → place < length ways → place < length shown
-shown_inside links shown ways place same are inside = subst (λ (n : ℕ). place < n) (ap (λ (l : List Led). length l) (sym (shown_ways links shown ways same are)) ∙ links_long shown) inside
+pub shown_inside : (links shown : List Link) (ways : List KeptLed) (place : ℕ) → shown ≡ links → ways_linked links ≡ ways → place < length ways → place < length shown
+shown_inside links shown ways place same are inside = subst (λ (n : ℕ). place < n) (ap (λ (l : List KeptLed). length l) (sym (shown_ways links shown ways same are)) ∙ links_long shown) inside
 
 -- The first variable that keeps an offset.
 

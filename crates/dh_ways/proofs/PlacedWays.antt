@@ -10,7 +10,7 @@ use Rattle.dh_tree.specs.Memories.{same_entity}
 use Rattle.dh_viewing.specs.Placed.{placed_at}
 use Rattle.dh_meaning.specs.Ways.{way_in}
 use Rattle.dh_ways.specs.declared.linking.Link.{Link}
-use Rattle.dh_ways.specs.Kept.{Led, Way}
+use Rattle.dh_ways.specs.Kept.{KeptLed, KeptWay}
 use Rattle.dh_ways.specs.Linked.{way_there, ways_linked}
 use Rattle.dh_ways.specs.Placed.{ArePlaced, FindsPlace, place_found, place_in}
 use Rattle.dh_ways.specs.Seen.{led_seen, way_seen}
@@ -39,36 +39,36 @@ among_links : (vs : List Link) (e : Option ℕ) → place_in vs e ≡ place_amon
 among_links [] e = refl
 among_links (v ∷ vs) e = ap (λ o. if same_entity v.entity e then Some 0 else option_map suc o) (among_links vs e)
 
-further : (v : Led) (vs : List Led) (e : Option ℕ) (b : Bool) → same_entity v.entity e ≡ b → (o : Option ℕ) → FindsPlace vs e o → FindsPlace (v ∷ vs) e (if b then Some 0 else option_map suc o)
+further : (v : KeptLed) (vs : List KeptLed) (e : Option ℕ) (b : Bool) → same_entity v.entity e ≡ b → (o : Option ℕ) → FindsPlace vs e o → FindsPlace (v ∷ vs) e (if b then Some 0 else option_map suc o)
 further v vs e true t o h = (v, (refl, ap (λ x. if x then Some (way_seen v.way) else way_in (map led_seen vs) e) t))
 further v vs e false t None h = ap (λ x. if x then Some (way_seen v.way) else way_in (map led_seen vs) e) t ∙ h
 further v vs e false t (Some k) h = (h.0, (h.1.0, ap (λ x. if x then Some (way_seen v.way) else way_in (map led_seen vs) e) t ∙ h.1.1))
 
-pub finds_found : (vs : List Led) (e : Option ℕ) → FindsPlace vs e (place_found vs e)
+pub finds_found : (vs : List KeptLed) (e : Option ℕ) → FindsPlace vs e (place_found vs e)
 finds_found [] e = refl
 finds_found (v ∷ vs) e = further v vs e (same_entity v.entity e) refl (place_found vs e) (finds_found vs e)
 
-among_views : (vs : List Led) (e : Option ℕ) → place_among (map (λ (l : Led). l.entity) vs) e ≡ place_found vs e
+among_views : (vs : List KeptLed) (e : Option ℕ) → place_among (map (λ (l : KeptLed). l.entity) vs) e ≡ place_found vs e
 among_views [] e = refl
 among_views (v ∷ vs) e = ap (λ o. if same_entity v.entity e then Some 0 else option_map suc o) (among_views vs e)
 
 -- what a table tells of an entity is the place of its view
-pub place_same : (links : List Link) (ways : List Led) (places shown : List (Option ℕ)) (e place : Option ℕ) → ArePlaced links places → ways_linked links ≡ ways → shown ≡ places → place ≡ placed_at shown e → place ≡ place_found ways e
+pub place_same : (links : List Link) (ways : List KeptLed) (places shown : List (Option ℕ)) (e place : Option ℕ) → ArePlaced links places → ways_linked links ≡ ways → shown ≡ places → place ≡ placed_at shown e → place ≡ place_found ways e
 place_same links ways places shown e place h are same is =
     is
     ∙ (ap (λ l. placed_at l e) same
     ∙ (told links places e h
     ∙ (among_links links e ∙ (ap (λ es. place_among es e) (sym (entities_are links)) ∙ (among_views (ways_linked links) e ∙ ap (λ ls. place_found ls e) are)))))
 
-pub finds_place : (links : List Link) (ways : List Led) (places shown : List (Option ℕ)) (e place : Option ℕ) → ArePlaced links places → ways_linked links ≡ ways → shown ≡ places → place ≡ placed_at shown e → FindsPlace ways e place
+pub finds_place : (links : List Link) (ways : List KeptLed) (places shown : List (Option ℕ)) (e place : Option ℕ) → ArePlaced links places → ways_linked links ≡ ways → shown ≡ places → place ≡ placed_at shown e → FindsPlace ways e place
 finds_place links ways places shown e place h are same is = subst (λ (o : Option ℕ). FindsPlace ways e o) (sym (place_same links ways places shown e place h are same is)) (finds_found ways e)
 
 -- the way at that place is that of its view
-pub found_way : (ls : List Led) (e : Option ℕ) (place : ℕ) (w : Way) → FindsPlace ls e (Some place) → Some w ≡ way_there ls (Some place) → Some (way_seen w) ≡ way_in (map led_seen ls) e
+pub found_way : (ls : List KeptLed) (e : Option ℕ) (place : ℕ) (w : KeptWay) → FindsPlace ls e (Some place) → Some w ≡ way_there ls (Some place) → Some (way_seen w) ≡ way_in (map led_seen ls) e
 found_way ls e place w h is =
-    ap (option_map way_seen) (is ∙ ap (option_map (λ (l : Led). l.way)) h.1.0) ∙ sym h.1.1
+    ap (option_map way_seen) (is ∙ ap (option_map (λ (l : KeptLed). l.way)) h.1.0) ∙ sym h.1.1
 
-pub found_inside : (ls : List Led) (e o : Option ℕ) (place : ℕ) → FindsPlace ls e o → o ≡ Some place → place < length ls
+pub found_inside : (ls : List KeptLed) (e o : Option ℕ) (place : ℕ) → FindsPlace ls e o → o ≡ Some place → place < length ls
 found_inside ls e o place h is = let at = subst (λ (x : Option ℕ). FindsPlace ls e x) is h in slice_get_within ls place at.0 at.1.0
 
 -- One more view.

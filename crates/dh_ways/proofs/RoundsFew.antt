@@ -11,7 +11,7 @@ use Rattle.dh_base.specs.declared.rules.Rule.TheVariants.{ConstantRange, UnrollD
 use Rattle.dh_tree.specs.declared.breaches.Breach.{Breach}
 use Rattle.dh_tree.specs.Elements.{banks_of}
 use Rattle.dh_tree.specs.Excesses.{most_counted, excess_at, or_else, first_above, copies_excess, form_copies_excess, other_copies_excess, groups_copies_excess, part_copies_excess, first_excess}
-use Rattle.dh_tree.specs.Indices.{Known, known_of, divides, term_index_breaches, turns_breaches, action_index_breaches, action_form_index_breaches, other_index_breaches, actions_index_breaches, groups_index_breaches, decls_shape_breaches, index_breaches_of}
+use Rattle.dh_tree.specs.Indices.{IndexContext, index_context_of, divides, term_index_breaches, turns_breaches, action_index_breaches, action_form_index_breaches, other_index_breaches, actions_index_breaches, groups_index_breaches, decls_shape_breaches, index_breaches_of}
 use Rattle.dh_tree.specs.Kinds.{when}
 use Rattle.dh_tree.specs.LeastBreach.{breach}
 use Rattle.dh_tree.specs.Memories.{memories_of, table_of}
@@ -104,7 +104,7 @@ few_both : (xs ys : List Stand) → AllByRecursion IsFewRound xs → AllByRecurs
 few_both [] ys h i = i
 few_both (x ∷ xs) ys h i = (h.0, few_both xs ys h.1 i)
 
-module _ (known : Known) where
+module _ (known : IndexContext) where
   mutual
     rounds_few : (d n : ℕ) (a : Action) → Round d n → copies_excess n a ≡ None → action_index_breaches known a ≡ [] → AllByRecursion IsFewRound (stands d n a)
     rounds_few d n (action id place form) r x e = form_few d n form r x e
@@ -161,5 +161,5 @@ all_few p e x =
     let a = rest_of (first_above limit.Dimensions (λ m. length m.shape.dims) (memories_of p)) (or_else (first_above limit.Banks (λ m. banks_of m.shape.dims) (memories_of p)) (or_else (first_above limit.Ports (λ m. m.shape.ports) (memories_of p)) (or_else (copies_excess 1 p.body) (excess_at limit.Elements (elements_in (table_of p)))))) x in
     let b = rest_of (first_above limit.Banks (λ m. banks_of m.shape.dims) (memories_of p)) (or_else (first_above limit.Ports (λ m. m.shape.ports) (memories_of p)) (or_else (copies_excess 1 p.body) (excess_at limit.Elements (elements_in (table_of p))))) a in
     let c = rest_of (first_above limit.Ports (λ m. m.shape.ports) (memories_of p)) (or_else (copies_excess 1 p.body) (excess_at limit.Elements (elements_in (table_of p)))) b in
-    rounds_few (known_of p) 0 1 p.body (record { deep = omega arith; few = omega arith }) (first_of (copies_excess 1 p.body) (excess_at limit.Elements (elements_in (table_of p))) c)
-    (second_none (decls_shape_breaches p.decls) (action_index_breaches (known_of p) p.body) e)
+    rounds_few (index_context_of p) 0 1 p.body (record { deep = omega arith; few = omega arith }) (first_of (copies_excess 1 p.body) (excess_at limit.Elements (elements_in (table_of p))) c)
+    (second_none (decls_shape_breaches p.decls) (action_index_breaches (index_context_of p) p.body) e)

@@ -11,7 +11,7 @@ use Rattle.dh_tree.specs.PlainTrees.{ViewPlan, Action, action, ActionForm, lets,
 use Rattle.dh_tree.specs.Seen.{factor_seen, term_seen}
 use Rattle.dh_tree.specs.ViewOffsets.{offsets_of}
 use Rattle.dh_meaning.specs.Bindings.{depth_inside}
-use Rattle.dh_meaning.specs.Ways.{Standing, all_entities_of, behind_all, behind_hidden}
+use Rattle.dh_meaning.specs.Ways.{ViewSite, all_entities_of, behind_all, behind_hidden}
 use Rattle.dh_ways.specs.declared.standing.Stood.{Stood}
 use Rattle.dh_ways.specs.declared.ways.Hidden.{Hidden}
 use Rattle.dh_ways.specs.HiddenVariables.{hidden_variables}
@@ -190,7 +190,7 @@ names_few p k few = fewer_names (length p.entities) (length (hidden_variables p)
     fewer_names : (a b c : ℕ) → c ≡ a + b → c < k → a < k
     fewer_names a b c e l = omega (arith, e, l)
 
-pub not_before : (first : ℕ) (ss : List Standing) → first ≤ behind_all first ss
+pub not_before : (first : ℕ) (ss : List ViewSite) → first ≤ behind_all first ss
 not_before first [] = omega arith
 not_before first (s ∷ ss) = let more = not_before (behind_hidden first s) ss in omega (arith, more)
 

@@ -10,13 +10,13 @@ use Rattle.dh_tree.specs.Seen.{factor_seen, term_seen}
 use Rattle.dh_tree.specs.ViewOffsets.{offsets_of}
 use Rattle.dh_meaning.specs.Bindings.{depth_inside, kind_found}
 use Rattle.dh_meaning.specs.Ways as definitions
-use Rattle.dh_meaning.specs.Ways.{Standing, form_standings, groups_standings, hidden_from, other_standings, part_standings, standings}
+use Rattle.dh_meaning.specs.Ways.{ViewSite, form_standings, groups_standings, hidden_from, other_standings, part_standings, standings}
 use Rattle.dh_ways.specs.declared.standing.Stood.{Stood}
 use Rattle.dh_ways.specs.declared.ways.Hidden.{Hidden}
 use Rattle.dh_ways.specs.HiddenVariables.{all_hidden, hidden_variables}
 use Rattle.dh_ways.specs.Seen.{hidden_seen}
 use Rattle.dh_ways.specs.CutStands.{form_cut_stands}
-use Rattle.dh_ways.specs.Stands.{Stand, all_own, copies_inside, form_stands, groups_stands, hidden_at, hidden_of_program, other_stands, own_of, part_stands, stand_seen, standing_of, standing_seen, stands}
+use Rattle.dh_ways.specs.Stands.{Stand, all_own, copies_inside, form_stands, groups_stands, hidden_at, hidden_of_program, other_stands, own_of, part_stands, stand_seen, view_site_of, standing_seen, stands}
 
 -- A view is found.
 pub stood_more : (found new : List Stood) (s : Stood) (depth copies : ℕ) (seen form : ActionForm) → new ≡ found ++ s ∷ [] → seen ≡ form → form_cut_stands depth copies form ≡ stand_seen s ∷ [] → map stand_seen new ≡ map stand_seen found ++ form_cut_stands depth copies seen
@@ -25,14 +25,14 @@ stood_more found new s depth copies seen form e f l =
 
 -- Views where they stand are those of the meaning.
 
-both_told : (xs ys : List Stand) (us vs : List Standing) → map standing_of xs ≡ us → map standing_of ys ≡ vs → map standing_of (xs ++ ys) ≡ us ++ vs
-both_told xs ys us vs e f = map-append standing_of xs ys ∙ (ap (λ l. l ++ map standing_of ys) e ∙ ap (λ l. us ++ l) f)
+both_told : (xs ys : List Stand) (us vs : List ViewSite) → map view_site_of xs ≡ us → map view_site_of ys ≡ vs → map view_site_of (xs ++ ys) ≡ us ++ vs
+both_told xs ys us vs e f = map-append view_site_of xs ys ∙ (ap (λ l. l ++ map view_site_of ys) e ∙ ap (λ l. us ++ l) f)
 
 mutual
-  pub stands_told : (d n : ℕ) (a : Action) → map standing_of (stands d n a) ≡ standings d a
+  pub stands_told : (d n : ℕ) (a : Action) → map view_site_of (stands d n a) ≡ standings d a
   stands_told d n (action id place form) = form_told d n form
 
-  form_told : (d n : ℕ) (f : ActionForm) → map standing_of (form_stands d n f) ≡ form_standings d f
+  form_told : (d n : ℕ) (f : ActionForm) → map view_site_of (form_stands d n f) ≡ form_standings d f
   form_told d n (views name parent form) = refl
   form_told d n (lets name declared value) = refl
   form_told d n (lets_memory name shape shape_places value) = refl
@@ -48,15 +48,15 @@ mutual
       let more = copies_inside n factor.value in
       both_told (stands inside more body) (other_stands inside more combine) (standings inside body) (other_standings inside combine) (stands_told inside more body) (other_told inside more combine)
 
-  other_told : (d n : ℕ) (m : MaybeAction) → map standing_of (other_stands d n m) ≡ other_standings d m
+  other_told : (d n : ℕ) (m : MaybeAction) → map view_site_of (other_stands d n m) ≡ other_standings d m
   other_told d n no_action = refl
   other_told d n (one_action a) = stands_told d n a
 
-  groups_told : (d n : ℕ) (gs : Groups) → map standing_of (groups_stands d n gs) ≡ groups_standings d gs
+  groups_told : (d n : ℕ) (gs : Groups) → map view_site_of (groups_stands d n gs) ≡ groups_standings d gs
   groups_told d n no_groups = refl
   groups_told d n (group_then part rest) = both_told (part_stands d n part) (groups_stands d n rest) (part_standings d part) (groups_standings d rest) (part_told d n part) (groups_told d n rest)
 
-  part_told : (d n : ℕ) (part : Actions) → map standing_of (part_stands d n part) ≡ part_standings d part
+  part_told : (d n : ℕ) (part : Actions) → map view_site_of (part_stands d n part) ≡ part_standings d part
   part_told d n no_actions = refl
   part_told d n (action_then a rest) = both_told (stands d n a) (part_stands d n rest) (standings d a) (part_standings d rest) (stands_told d n a) (part_told d n rest)
 
@@ -159,7 +159,7 @@ pub all_end : (stood : List Stood) (start first i : ℕ) (before now : List Hidd
 all_end stood start first i before now over h = sym (append-nil now) ∙ (ap (λ l. now ++ all_own first (map stand_seen l)) (sym (drop_of_length-le stood over)) ∙ h)
 
 -- they are the hidden variables of the meaning
-all_told : (first : ℕ) (ss : List Stand) → map hidden_seen (all_own first ss) ≡ all_hidden first (map standing_of ss)
+all_told : (first : ℕ) (ss : List Stand) → map hidden_seen (all_own first ss) ≡ all_hidden first (map view_site_of ss)
 all_told first [] = refl
 all_told first (s ∷ ss) =
     map-append hidden_seen (own_of first s) (all_own (first + length (offsets_of s.form)) ss)

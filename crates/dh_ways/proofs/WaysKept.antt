@@ -15,7 +15,7 @@ use Rattle.dh_tree.specs.ViewFactors.{brackets_broken, factor_breaches_of, facto
 use Rattle.dh_tree.specs.ViewOffsets.{offsets_of}
 use Rattle.dh_tree.specs.Views.{factors_of, map_of, shape_in, sort_of, viewed_of}
 use Rattle.dh_viewing.proofs.KeptViews.{first_none, second_none}
-use Rattle.dh_meaning.specs.Ways.{Led, Standing, Step, Way, behind_hidden, hidden_of, led_after, led_behind, led_of, shape_named, standings, step_of, way_in, way_unless, ways_of}
+use Rattle.dh_meaning.specs.Ways.{Led, ViewSite, WayStep, Way, behind_hidden, hidden_of, led_after, led_behind, led_of, shape_named, standings, step_of, way_in, way_unless, ways_of}
 use Rattle.dh_ways.specs.Leading.{KeepsOffsets, viewed_of_led}
 use Rattle.dh_ways.proofs.HiddenApart.{from_long}
 use Rattle.dh_ways.proofs.WaysLead.{forget, next_seen, shape_same, standings_are}
@@ -36,7 +36,7 @@ brackets dims at (suffixes by by_place) e =
     length-map by (λ s. s.offset) ∙ eqb-true (length by) (length dims) (fits (length by == length dims) at (first_none (brackets_broken (length by == length dims) at) (factors_breaches true at (factors_of (suffixes by by_place)) by_place dims) e))
 brackets dims at (shifts by) e = eqb-true (length by) (length dims) (fits (length by == length dims) at (first_none (brackets_broken (length by == length dims) at) (factors_breaches false at [] [] dims) e))
 
-own_many : (first : ℕ) (s : Standing) (dims : List Dim) → plan_breaches dims s.parent.place s.form ≡ [] → length (hidden_of first s) ≡ offsets_needed (sort_of s.form) dims
+own_many : (first : ℕ) (s : ViewSite) (dims : List Dim) → plan_breaches dims s.parent.place s.form ≡ [] → length (hidden_of first s) ≡ offsets_needed (sort_of s.form) dims
 own_many first s dims e = from_long first s.depth (offsets_of s.form) ∙ brackets dims s.parent.place s.form e
 
 -- Ways, one behind the other.
@@ -63,7 +63,7 @@ way_keeps (l ∷ ls) e w h is = by (same_entity l.entity e) is (λ f. way_keeps 
         some_same a b g = ap (or a) g
     by false f rest = rest f
 
-one_keeps : (first : ℕ) (ls : List Led) (s : Standing) (all : AllKeep ls) (m : Option Memory) (w : Option Way) → way_in ls s.parent.entity ≡ w → viewing_breaches (forget s) (shape_named m w) ≡ [] → AllKeep (led_of first s (shape_named m w) (way_unless m w))
+one_keeps : (first : ℕ) (ls : List Led) (s : ViewSite) (all : AllKeep ls) (m : Option Memory) (w : Option Way) → way_in ls s.parent.entity ≡ w → viewing_breaches (forget s) (shape_named m w) ≡ [] → AllKeep (led_of first s (shape_named m w) (way_unless m w))
 one_keeps first ls s all (Some m) w g e = (record { many = own_many first s m.shape.dims e ∙ alone (offsets_needed (sort_of s.form) m.shape.dims); each = refl }, tt)
   where
     alone : (n : ℕ) → n ≡ n + 0
@@ -72,13 +72,13 @@ one_keeps first ls s all None (Some w) g e =
     let before = way_keeps ls s.parent.entity w all g in (
       record {
         many = length-append (hidden_of first s) w.hidden ∙ (ap (λ n. n + length w.hidden) (own_many first s w.is.shape.dims e) ∙ ap (λ n. offsets_needed (sort_of s.form) w.is.shape.dims + n) before.many);
-        each = ap (λ (l : List Step). step_of (map_of s.form w.is.shape) ∷ l) before.each;
+        each = ap (λ (l : List WayStep). step_of (map_of s.form w.is.shape) ∷ l) before.each;
       },
       tt,
     )
 one_keeps first ls s all None None g e = tt
 
-all_keep : (ms : List Memory) (first : ℕ) (ls : List Led) (ss : List Standing) → AllKeep ls → viewings_breaches ms (map viewed_of_led ls) (map forget ss) ≡ [] → AllKeep (led_behind ms first ls ss)
+all_keep : (ms : List Memory) (first : ℕ) (ls : List Led) (ss : List ViewSite) → AllKeep ls → viewings_breaches ms (map viewed_of_led ls) (map forget ss) ≡ [] → AllKeep (led_behind ms first ls ss)
 all_keep ms first ls [] all e = all
 all_keep ms first ls (s ∷ ss) all e =
     let o = shape_in ms (map viewed_of_led ls) s.parent.entity in

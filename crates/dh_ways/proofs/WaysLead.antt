@@ -12,15 +12,15 @@ use Rattle.dh_tree.specs.ViewShapes.{IsViewMap}
 use Rattle.dh_viewing.proofs.KeptPrograms.{memory_kept}
 use Rattle.dh_viewing.proofs.KeptViews.{first_none, second_none, kept_view}
 use Rattle.dh_meaning.specs.Bindings.{depth_inside}
-use Rattle.dh_meaning.specs.Ways.{Led, Standing, Way, behind_hidden, form_standings, groups_standings, led_after, led_behind, led_of, other_standings, part_standings, shape_named, standings, way_at, way_in, way_unless, ways_of}
+use Rattle.dh_meaning.specs.Ways.{Led, ViewSite, Way, behind_hidden, form_standings, groups_standings, led_after, led_behind, led_of, other_standings, part_standings, shape_named, standings, way_at, way_in, way_unless, ways_of}
 use Rattle.dh_ways.specs.Leading.{LeadsTo, viewed_of_led}
 
 -- Views where they stand are those of the program, in one order.
 
-abbrev pub forget : Standing → Viewing
+abbrev pub forget : ViewSite → Viewing
 forget s = record { name = s.name; parent = s.parent; form = s.form }
 
-both_are : (xs ys : List Standing) (us vs : List Viewing) → map forget xs ≡ us → map forget ys ≡ vs → map forget (xs ++ ys) ≡ us ++ vs
+both_are : (xs ys : List ViewSite) (us vs : List Viewing) → map forget xs ≡ us → map forget ys ≡ vs → map forget (xs ++ ys) ≡ us ++ vs
 both_are xs ys us vs e f = map-append forget xs ys ∙ (ap (λ l. l ++ map forget ys) e ∙ ap (λ l. us ++ l) f)
 
 mutual
@@ -75,19 +75,19 @@ shape_same ms ls e = named_same (memory_in ms e) (way_in ls e) ∙ ap (λ o. sha
 
 -- Ways are of views.
 
-one_seen : (first : ℕ) (s : Standing) (o : Option Shape) (w : Option Way) → map viewed_of_led (led_of first s o w) ≡ viewed_of (forget s) o
+one_seen : (first : ℕ) (s : ViewSite) (o : Option Shape) (w : Option Way) → map viewed_of_led (led_of first s o w) ≡ viewed_of (forget s) o
 one_seen first s None w = refl
 one_seen first s (Some shape) None = refl
 one_seen first s (Some shape) (Some w) = refl
 
-pub next_seen : (ms : List Memory) (first : ℕ) (ls : List Led) (s : Standing)
+pub next_seen : (ms : List Memory) (first : ℕ) (ls : List Led) (s : ViewSite)
     → map viewed_of_led (ls ++ led_after ms first ls s) ≡ map viewed_of_led ls ++ viewed_of (forget s) (shape_in ms (map viewed_of_led ls) s.parent.entity)
 next_seen ms first ls s =
     map-append viewed_of_led ls (led_after ms first ls s)
     ∙ ap (λ l. map viewed_of_led ls ++ l)
     (one_seen first s (shape_named (memory_in ms s.parent.entity) (way_in ls s.parent.entity)) (way_at ms ls s.parent.entity) ∙ ap (λ o. viewed_of (forget s) o) (shape_same ms ls s.parent.entity))
 
-all_seen : (ms : List Memory) (first : ℕ) (ls : List Led) (ss : List Standing) → map viewed_of_led (led_behind ms first ls ss) ≡ viewed_behind ms (map viewed_of_led ls) (map forget ss)
+all_seen : (ms : List Memory) (first : ℕ) (ls : List Led) (ss : List ViewSite) → map viewed_of_led (led_behind ms first ls ss) ≡ viewed_behind ms (map viewed_of_led ls) (map forget ss)
 all_seen ms first ls [] = refl
 all_seen ms first ls (s ∷ ss) =
     all_seen ms (behind_hidden first s) (ls ++ led_after ms first ls s) ss ∙ ap (λ l. viewed_behind ms l (map forget ss)) (next_seen ms first ls s)
@@ -122,7 +122,7 @@ module _ (ms : List Memory) where
       by false f rest = rest f
 
   module _ (entries : AllByRecursion IsMemory (map entry_of ms)) where
-    one_leads : (first : ℕ) (ls : List Led) (s : Standing) (all : AllLead ls) (m : Option Memory) → memory_in ms s.parent.entity ≡ m → (w : Option Way) → way_in ls s.parent.entity ≡ w
+    one_leads : (first : ℕ) (ls : List Led) (s : ViewSite) (all : AllLead ls) (m : Option Memory) → memory_in ms s.parent.entity ≡ m → (w : Option Way) → way_in ls s.parent.entity ≡ w
         → viewing_breaches (forget s) (shape_named m w) ≡ [] → AllLead (led_of first s (shape_named m w) (way_unless m w))
     one_leads first ls s all (Some m) f w g e =
         let v : IsViewMap (map_of s.form m.shape) = kept_view s.form m.shape s.parent.place (memory_kept ms s.parent.entity m entries f) e in
@@ -133,7 +133,7 @@ module _ (ms : List Memory) where
         (record { memory = before.memory; found = before.found; own = v; steps = (v, (sym before.first, before.steps)); first = refl }, tt)
     one_leads first ls s all None f None g e = tt
 
-    all_lead : (first : ℕ) (ls : List Led) (ss : List Standing) → AllLead ls → viewings_breaches ms (map viewed_of_led ls) (map forget ss) ≡ [] → AllLead (led_behind ms first ls ss)
+    all_lead : (first : ℕ) (ls : List Led) (ss : List ViewSite) → AllLead ls → viewings_breaches ms (map viewed_of_led ls) (map forget ss) ≡ [] → AllLead (led_behind ms first ls ss)
     all_lead first ls [] all e = all
     all_lead first ls (s ∷ ss) all e =
         let o = shape_in ms (map viewed_of_led ls) s.parent.entity in

@@ -2,10 +2,10 @@
 use Rattle.std.specs.Prelude.{◌≡◌, ℕ, zero, suc, ◌<◌, ◌≤◌, List, [], ◌∷◌, ◌++◌, length, map, Option, Some}
 use Rattle.std.specs.List.{AllByRecursion}
 use Rattle.dh_tree.specs.PlainTrees.{Program}
-use Rattle.dh_meaning.specs.Ways.{Hidden, Standing, Way, all_entities_of, behind_hidden, hidden_of, standings, way_to}
+use Rattle.dh_meaning.specs.Ways.{Hidden, ViewSite, Way, all_entities_of, behind_hidden, hidden_of, standings, way_to}
 
 -- those of views where they stand, of which the first is this entity
-abbrev pub all_hidden : (first : ℕ) → List Standing → List Hidden
+abbrev pub all_hidden : (first : ℕ) → List ViewSite → List Hidden
 all_hidden first [] = []
 all_hidden first (s ∷ ss) = hidden_of first s ++ all_hidden (behind_hidden first s) ss
 

@@ -4,7 +4,7 @@ use Rattle.dh_tree.specs.declared.viewing.ViewMap.{ViewMap}
 use Rattle.dh_ways.specs.declared.ways.Hidden.{Hidden}
 
 -- the way from a view to its memory
-pub record Way : Type 0 where
+pub record KeptWay : Type 0 where
   -- the view that is named, those behind it in order, and the entity of the memory
   pub view : ViewMap
   pub behind : List ViewMap
@@ -16,6 +16,6 @@ pub record Way : Type 0 where
   pub shifts : ℕ
 
 -- a view by its entity, with its way
-pub record Led : Type 0 where
+pub record KeptLed : Type 0 where
   pub entity : Option ℕ
-  pub way : Way
+  pub way : KeptWay

@@ -9,14 +9,14 @@ use Rattle.dh_tree.specs.PlainTrees.{Program}
 use Rattle.dh_tree.specs.Shapes.{IsProgramTable}
 use Rattle.dh_tree.specs.ViewFactors.{factor_breaches_of}
 use Rattle.dh_tree.specs.ViewShapes.{IsViewMap}
-use Rattle.dh_meaning.specs.Ways.{Led, Step, Way, step_of, way_to, ways_of}
+use Rattle.dh_meaning.specs.Ways.{Led, WayStep, Way, step_of, way_to, ways_of}
 
 -- the dimensions of what is named, by views or the memory itself
-abbrev pub next_dims : List Step → (memory : List Dim) → List Dim
+abbrev pub next_dims : List WayStep → (memory : List Dim) → List Dim
 next_dims [] memory = memory
 next_dims (s ∷ ss) memory = s.is.shape.dims
 
-abbrev pub StepsLead : List Step → (memory : List Dim) → Type 0
+abbrev pub StepsLead : List WayStep → (memory : List Dim) → Type 0
 StepsLead [] memory = Unit {0}
 StepsLead (s ∷ ss) memory = IsViewMap s.is × ((s.is.parent.dims ≡ next_dims ss memory) × StepsLead ss memory)
 
@@ -29,7 +29,7 @@ pub record LeadsTo (ms : List Memory) (w : Way) : Type 0 where
   pub first : next_dims w.steps memory.shape.dims ≡ w.is.shape.dims
 
 -- how many offsets views take
-abbrev pub offsets_on : List Step → ℕ
+abbrev pub offsets_on : List WayStep → ℕ
 offsets_on [] = 0
 offsets_on (s ∷ ss) = s.offsets + offsets_on ss
 

@@ -3,7 +3,7 @@ use Rattle.std.specs.Prelude.{◌≡◌, ℕ, suc, List, [], ◌∷◌, ◌++◌
 use Rattle.dh_tree.specs.Memories.{same_entity}
 use Rattle.dh_meaning.specs.Ways.{way_in}
 use Rattle.dh_ways.specs.declared.linking.Link.{Link}
-use Rattle.dh_ways.specs.Kept.{Led}
+use Rattle.dh_ways.specs.Kept.{KeptLed}
 use Rattle.dh_ways.specs.Seen.{led_seen, way_seen}
 
 -- the place among links of that of the first view that is this entity, if one is
@@ -21,11 +21,11 @@ PlacesNext entity place old new =
     (ls : List Link) (l : Link) → ArePlaced ls old → place ≡ length ls → l.entity ≡ Some entity → ArePlaced (ls ++ l ∷ []) new
 
 -- the place of the first view that is this entity, if one is
-abbrev pub place_found : List Led → Option ℕ → Option ℕ
+abbrev pub place_found : List KeptLed → Option ℕ → Option ℕ
 place_found [] entity = None
 place_found (l ∷ ls) entity = if same_entity l.entity entity then Some 0 else option_map suc (place_found ls entity)
 
 -- this is the place of the view that an entity is, if one of these is
-abbrev pub FindsPlace : List Led → Option ℕ → (place : Option ℕ) → Type 0
+abbrev pub FindsPlace : List KeptLed → Option ℕ → (place : Option ℕ) → Type 0
 FindsPlace ls entity None = way_in (map led_seen ls) entity ≡ None
-FindsPlace ls entity (Some place) = (l : Led) × ((slice_get ls place ≡ Some l) × (way_in (map led_seen ls) entity ≡ Some (way_seen l.way)))
+FindsPlace ls entity (Some place) = (l : KeptLed) × ((slice_get ls place ≡ Some l) × (way_in (map led_seen ls) entity ≡ Some (way_seen l.way)))

@@ -3,12 +3,12 @@ use Rattle.std.specs.Prelude.{◌∷◌, map}
 use Rattle.dh_meaning.specs.Ways as definitions
 use Rattle.dh_meaning.specs.Ways.{step_of}
 use Rattle.dh_ways.specs.declared.ways.Hidden.{Hidden}
-use Rattle.dh_ways.specs.Kept.{Led, Way}
+use Rattle.dh_ways.specs.Kept.{KeptLed, KeptWay}
 
 abbrev pub hidden_seen : Hidden → definitions.Hidden
 hidden_seen h = record { entity = h.entity; kind = h.kind; depth = h.depth }
 
-abbrev pub way_seen : Way → definitions.Way
+abbrev pub way_seen : KeptWay → definitions.Way
 way_seen w = record {
   is = w.view;
   memory = w.memory;
@@ -18,5 +18,5 @@ way_seen w = record {
   shifts = w.shifts;
 }
 
-abbrev pub led_seen : Led → definitions.Led
+abbrev pub led_seen : KeptLed → definitions.Led
 led_seen l = record { entity = l.entity; way = way_seen l.way }

@@ -4,10 +4,10 @@ use Rattle.std.specs.Prelude.{◌≡◌, ℕ, suc, ◌+◌, ◌*◌, nat_lt, if�
 use Rattle.std.specs.Global.{Global}
 use Rattle.dh_tree.specs.declared.trees.expressions.Ref.{Ref}
 use Rattle.dh_tree.specs.PlainTrees.{Term, ViewPlan, Action, action, ActionForm, lets, lets_memory, views, assigns, stores, reduces, calls, blocks, decides, repeats, counts, MaybeAction, no_action, one_action, Actions, no_actions, action_then, Groups, no_groups, group_then, Program}
-use Rattle.dh_tree.specs.Seen.{plan_seen}
+use Rattle.dh_tree.specs.Seen.{view_plan}
 use Rattle.dh_tree.specs.ViewOffsets.{offsets_of}
 use Rattle.dh_meaning.specs.Bindings.{depth_inside, kind_found}
-use Rattle.dh_meaning.specs.Ways.{Standing}
+use Rattle.dh_meaning.specs.Ways.{ViewSite}
 use Rattle.dh_ways.specs.declared.standing.Stood.{Stood}
 use Rattle.dh_ways.specs.declared.ways.Hidden.{Hidden}
 
@@ -52,16 +52,16 @@ abbrev mutual
   part_stands depth copies no_actions = []
   part_stands depth copies (action_then a rest) = stands depth copies a ++ part_stands depth copies rest
 
-abbrev pub standing_of : Stand → Standing
-standing_of s = record { name = s.name; parent = s.parent; form = s.form; depth = s.depth }
+abbrev pub view_site_of : Stand → ViewSite
+view_site_of s = record { name = s.name; parent = s.parent; form = s.form; depth = s.depth }
 
 -- What the code finds.
 
 abbrev pub stand_seen : Stood → Stand
-stand_seen s = record { name = s.name.now; parent = s.parent.now; form = plan_seen s.form.now; depth = s.depth; copies = s.copies }
+stand_seen s = record { name = s.name.now; parent = s.parent.now; form = view_plan s.form.now; depth = s.depth; copies = s.copies }
 
-abbrev pub standing_seen : Stood → Standing
-standing_seen s = standing_of (stand_seen s)
+abbrev pub standing_seen : Stood → ViewSite
+standing_seen s = view_site_of (stand_seen s)
 
 -- these views are found behind those that were found before, where no memory was refused
 abbrev pub FindsStanding : {E : Type 0} → Result (Unit {0}) E → (old new : Vec Stood Global) → List Stand → Type 0

@@ -2,13 +2,13 @@
 
 ghost use Rattle.std.specs.Prelude.{◌≡◌, ◌+◌, ◌<◌, ◌++◌, List, Some, None, length, map, max, slice_get, IfOk, OnOk};
 ghost use Rattle.dh_tree.specs.Memories.{memories_of};
-ghost use Rattle.dh_tree.specs.Seen.{plan_seen, program_seen};
+ghost use Rattle.dh_tree.specs.Seen.{view_plan, program_seen};
 ghost use Rattle.dh_tree.specs.ViewOffsets as offsets;
 ghost use Rattle.dh_tree.specs.ViewOffsets.{offsets_of};
 ghost use Rattle.dh_meaning.specs.Ways as definitions;
 ghost use Rattle.dh_meaning.specs.Ways.{behind_all, led_after, led_of, ways_of};
 ghost use Rattle.dh_ways.specs.CutStands.{HasFewWays};
-ghost use Rattle.dh_ways.specs.Kept.{Led};
+ghost use Rattle.dh_ways.specs.Kept.{KeptLed};
 ghost use Rattle.dh_ways.specs.Traced.{AddsWay, AddsWays, AreWaysOf, IsFirstOr, IsLinkBehind, IsLinkOf, IsLinked, LinksBehind, MayFollow, led_in, linked_on};
 ghost use Rattle.dh_ways.specs.Seen.{led_seen};
 ghost use Rattle.dh_ways.specs.Stands.{stand_seen, standing_seen};
@@ -26,7 +26,7 @@ use std::alloc::Global;
 
 /// Whether a view is a shift.
 fn is_shift(form: &ViewForm) -> bool
-    ensures { result ≡ offsets.is_shift (plan_seen form.now) }
+    ensures { result ≡ offsets.is_shift_view (view_plan form.now) }
 {
     match form {
         ViewForm::Shrink { .. } => false,
@@ -72,7 +72,7 @@ fn first_or(hidden: &[Hidden], behind: Option<Hidden>) -> Option<Hidden>
 
 /// The link of a view of a memory, whose offsets are kept in these variables.
 fn link_from(view: &Stood<'_>, made: SharedMap, own: Own) -> Link
-    ensures { (before : List Led) → IsLinkOf before (standing_seen view.now) own made None result }
+    ensures { (before : List KeptLed) → IsLinkOf before (standing_seen view.now) own made None result }
 {
     let first = first_or(own.as_slice(), None);
     let deepest = depth_where(moves(view.form), view.depth);
@@ -125,7 +125,7 @@ fn lead_memory(
     own: Own,
     shape: &Shape,
 ) -> Result<Option<Link>, NoMemory>
-    ensures { IfOk result (λ link. (before : List Led) → IsLinked before (standing_seen view.now)
+    ensures { IfOk result (λ link. (before : List KeptLed) → IsLinked before (standing_seen view.now)
         own (λ first. led_of first (standing_seen view.now) (Some shape.now) None) link) }
 {
     let made = maps.map_to(alloc, view.form, shape)?;

@@ -4,12 +4,12 @@ use Rattle.std.specs.Global.{Global}
 use Rattle.std.proofs.lemmas.Result.{IfOk-weaker}
 use Rattle.dh_tree.specs.declared.trees.commands.Command.{Command}
 use Rattle.dh_tree.specs.PlainTrees.{assigns, blocks, decides, lets, reduces, stores, views}
-use Rattle.dh_tree.specs.Seen.{action_form_seen, action_seen, groups, maybe_block_seen, maybe_seen, part_seen, plan_seen, term_seen}
+use Rattle.dh_tree.specs.Seen.{action_form_seen, action_seen, groups, maybe_block_seen, maybe_seen, part_seen, view_plan, term_seen}
 use Rattle.dh_tree.proofs.SeenActions.{assign_at, block_is, call_is, for_is, if_at, let_at, let_memory_is, reduce_at, store_at, view_at, while_is}
 use Rattle.dh_meaning.specs.AccessNumbers.{accesses_of, term_accesses}
 use Rattle.dh_meaning.specs.Core.{no_commands}
 use Rattle.dh_meaning.specs.CoreOf.{core_action, core_other, core_term, depth_of, entity_number, first_value}
-use Rattle.dh_code.specs.Flattening.{IsInFront, known_in, table_in}
+use Rattle.dh_code.specs.Flattening.{IsInFront, known_by_names, table_in}
 use Rattle.dh_code.specs.Suited.{CanDoAll}
 use Rattle.dh_code.proofs.CommandsFlattened.{FlattensGroups, FlattensPart, assign_front, choose_front, front_as, front_none, groups_begin, groups_turn, part_begins, part_turn}
 use Rattle.dh_code.proofs.Ranges.{drop_none}
@@ -19,14 +19,14 @@ pub flatten_command-returns-in_ok-value-in-Let : goal.flatten_command-returns-in
 flatten_command-returns-in_ok-value-in-Let t c =
     IfOk-weaker c.add_assign.result _ _ (λ first step. front_as c.args.names.now c.args.code.now c.add_assign.new.code c.args.command.now first c.args.next (lets c.in-Let.name c.in-Let.declared (option_map term_seen c.deref.result.now))
     (ap action_form_seen c.in-Let.is ∙ let_at c.in-Let.declared c.in-Let.name c.in-Let.value c.deref.result.now c.deref.ensures) (λ p loops n rest placing can.
-    assign_front c.args.names.now p loops placing.held c.args.code.now c.first_value.new.code c.add_assign.new.code (entity_number c.in-Let.name.entity) (depth_of (known_in c.args.names.now) c.in-Let.name) (first_value (known_in c.args.names.now) n c.in-Let.declared (option_map term_seen c.deref.result.now))
+    assign_front c.args.names.now p loops placing.held c.args.code.now c.first_value.new.code c.add_assign.new.code (entity_number c.in-Let.name.entity) (depth_of (known_by_names c.args.names.now) c.in-Let.name) (first_value (known_by_names c.args.names.now) n c.in-Let.declared (option_map term_seen c.deref.result.now))
     c.in_ok-value-in-Let.value c.args.next first rest can (c.in_ok-value-in-Let.ensures n) step)) c.add_assign.ensures
 
 pub flatten_command-returns-in_ok-value-in-Assign : goal.flatten_command-returns-in_ok-value-in-Assign
 flatten_command-returns-in_ok-value-in-Assign t c =
     IfOk-weaker c.add_assign-in-Assign.result _ _ (λ first step. front_as c.args.names.now c.args.code.now c.add_assign-in-Assign.new.code c.args.command.now first c.args.next (assigns c.in-Assign.target (term_seen c.deref-in-Assign.result.now))
     (ap action_form_seen c.in-Assign.is ∙ assign_at c.in-Assign.target c.in-Assign.value c.deref-in-Assign.result.now c.deref-in-Assign.ensures) (λ p loops n rest placing can.
-    assign_front c.args.names.now p loops placing.held c.args.code.now c.flat.new.code c.add_assign-in-Assign.new.code (entity_number c.in-Assign.target.entity) (depth_of (known_in c.args.names.now) c.in-Assign.target) (core_term (known_in c.args.names.now) n (term_seen c.deref-in-Assign.result.now))
+    assign_front c.args.names.now p loops placing.held c.args.code.now c.flat.new.code c.add_assign-in-Assign.new.code (entity_number c.in-Assign.target.entity) (depth_of (known_by_names c.args.names.now) c.in-Assign.target) (core_term (known_by_names c.args.names.now) n (term_seen c.deref-in-Assign.result.now))
     c.in_ok-value-in-Assign.value c.args.next first rest can (c.in_ok-value-in-Assign.ensures n) step)) c.add_assign-in-Assign.ensures
 
 pub flatten_command-returns-in-Store : goal.flatten_command-returns-in-Store
@@ -43,7 +43,7 @@ pub flatten_command-returns-in_ok-other-in-If : goal.flatten_command-returns-in_
 flatten_command-returns-in_ok-other-in-If t c =
     IfOk-weaker c.add_step.result _ _ (λ first step. front_as c.args.names.now c.args.code.now c.add_step.new.code c.args.command.now first c.args.next (decides (term_seen c.deref-in-If.result.now) (action_seen c.in-If.then.value) (maybe_block_seen c.in-If.other))
     (ap action_form_seen c.in-If.is ∙ if_at c.in-If.test c.in-If.then c.in-If.other c.deref-in-If.result.now c.in-If.then.value c.deref-in-If.ensures refl) (λ p loops n rest placing can.
-    let known = known_in c.args.names.now in
+    let known = known_by_names c.args.names.now in
     let m = n + term_accesses (term_seen c.deref-in-If.result.now) in
     choose_front c.args.names.now p loops c.args.code.now c.flat-in-If.new.code c.flatten_command.new.code c.flatten_other.new.code c.add_step.new.code (core_term known n (term_seen c.deref-in-If.result.now)) (core_action known m (action_seen c.in-If.then.value) no_commands) (core_other known (m + accesses_of (action_seen c.in-If.then.value)) (maybe_block_seen c.in-If.other))
     c.in_ok-test-in-If.test c.in_ok-chosen-in-If.chosen c.in_ok-other-in-If.other c.args.next first rest can (c.in_ok-test-in-If.ensures n)
@@ -75,7 +75,7 @@ flatten_command-returns-in-LetMemory t c = front_as c.args.names.now c.args.code
 
 pub flatten_command-returns-in-View : goal.flatten_command-returns-in-View
 flatten_command-returns-in-View t c =
-    IfOk-weaker c.add_view.result _ _ (λ first h. front_as c.args.names.now c.args.code.now c.add_view.new.code c.args.command.now first c.args.next (views c.deref-in-View.result.now c.in-View.parent.value (plan_seen c.deref-in-View-2.result.now))
+    IfOk-weaker c.add_view.result _ _ (λ first h. front_as c.args.names.now c.args.code.now c.add_view.new.code c.args.command.now first c.args.next (views c.deref-in-View.result.now c.in-View.parent.value (view_plan c.deref-in-View-2.result.now))
     (ap action_form_seen c.in-View.is ∙ view_at c.in-View.name c.in-View.parent c.in-View.form c.deref-in-View.result.now c.in-View.parent.value c.deref-in-View-2.result.now c.deref-in-View.ensures refl c.deref-in-View-2.ensures) (λ p loops n rest placing can. h n rest p loops placing can)) c.add_view.ensures
 
 pub flatten_command-returns-in-Call : goal.flatten_command-returns-in-Call
@@ -89,4 +89,4 @@ flatten_command-returns-in-For t c = front_as c.args.names.now c.args.code.now c
 
 pub flatten_other-returns-in-None : goal.flatten_other-returns-in-None
 flatten_other-returns-in-None t c = λ p loops n placing can.
-    subst (λ (o : Option (Box Command Global)). IsInFront c.args.names.now c.args.code.now c.args.code.now None None (core_other (known_in c.args.names.now) n (maybe_seen (option_map (λ b. action_seen b.value) o))) no_commands) (sym c.in-None.is) (front_none c.args.names.now c.args.code.now None no_commands)
+    subst (λ (o : Option (Box Command Global)). IsInFront c.args.names.now c.args.code.now c.args.code.now None None (core_other (known_by_names c.args.names.now) n (maybe_seen (option_map (λ b. action_seen b.value) o))) no_commands) (sym c.in-None.is) (front_none c.args.names.now c.args.code.now None no_commands)

@@ -4,7 +4,7 @@ use Rattle.dh_tree.specs.declared.trees.commands.Command.{Command}
 use Rattle.dh_meaning.specs.Core.{no_commands}
 use Rattle.dh_meaning.specs.CoreOf.{core_commands}
 use Rattle.dh_meaning.specs.Phases.{Located}
-use Rattle.dh_code.specs.Flattening.{IsInFront, known_in, table_in}
+use Rattle.dh_code.specs.Flattening.{IsInFront, known_by_names, table_in}
 use Rattle.dh_code.specs.Suited.{CanDoAll}
 use Rattle.dh_code.proofs.CommandsFlattened.{commands_begin, commands_turn}
 use Rattle.dh_code.proofs.Ranges.{drop_none}
@@ -19,5 +19,5 @@ loop-i-preserved c = commands_turn c.args.names.now c.args.code.now c.loop-i.cod
 pub returns : goal.returns
 returns c = λ p loops ls same placing can.
     let all = drop_none ls c.loop-i.i c.loop-i-test.false in
-    subst (λ (l : List Located). IsInFront c.args.names.now c.args.code.now c.loop-i.code c.loop-i.first None (core_commands (known_in c.args.names.now) l) no_commands) all
-    (c.loop-i.invariant.so p loops ls same placing (subst (λ (l : List Located). CanDoAll (table_in c.args.names.now) p loops (core_commands (known_in c.args.names.now) l)) (sym all) can))
+    subst (λ (l : List Located). IsInFront c.args.names.now c.args.code.now c.loop-i.code c.loop-i.first None (core_commands (known_by_names c.args.names.now) l) no_commands) all
+    (c.loop-i.invariant.so p loops ls same placing (subst (λ (l : List Located). CanDoAll (table_in c.args.names.now) p loops (core_commands (known_by_names c.args.names.now) l)) (sym all) can))

@@ -3,7 +3,7 @@ use Rattle.std.specs.Prelude.{Option, option_map}
 use Rattle.std.proofs.lemmas.Result.{IfOk-weaker}
 use Rattle.dh_tree.specs.declared.trees.expressions.Expr.{Expr}
 use Rattle.dh_tree.specs.PlainTrees.{lets, views, assigns, stores, reduces, blocks, decides}
-use Rattle.dh_tree.specs.Seen.{action_form_seen, action_seen, all_parts_seen, maybe_block_seen, plan_seen, term_seen}
+use Rattle.dh_tree.specs.Seen.{action_form_seen, action_seen, all_parts_seen, maybe_block_seen, view_plan, term_seen}
 use Rattle.dh_tree.proofs.SeenActions.{assign_at, block_is, call_is, for_is, if_at, let_at, let_memory_is, reduce_at, store_at, view_at, while_is}
 use Rattle.dh_meaning.specs.CoreOf.{way_of}
 use Rattle.dh_meaning.specs.Ways.{hidden_in}
@@ -97,7 +97,7 @@ push_command-returns-in-View-clause-means t c =
     let name = c.deref-in-View.result.now in
     let form = c.deref-in-View-2.result.now in
     IfOk-weaker c.keep_view.result _ _
-    (λ next d. viewed_done c.args.scene.now c.args.around c.args.command.now name c.in-View.parent.value (plan_seen form) c.args.first c.behind_command-idle.result next c.args.building.now c.keep_view.new.building
+    (λ next d. viewed_done c.args.scene.now c.args.around c.args.command.now name c.in-View.parent.value (view_plan form) c.args.first c.behind_command-idle.result next c.args.building.now c.keep_view.new.building
     (ap action_form_seen c.in-View.is ∙ view_at c.in-View.name c.in-View.parent c.in-View.form name c.in-View.parent.value form c.deref-in-View.ensures refl c.deref-in-View-2.ensures) c.behind_command-idle.ensures d)
     c.keep_view.ensures.means
 
@@ -250,8 +250,8 @@ push_command-returns-in-View-clause-made t c =
     let form = c.deref-in-View-2.result.now in
     let view_seen = ap action_form_seen c.in-View.is ∙ view_at c.in-View.name c.in-View.parent c.in-View.form name c.in-View.parent.value form c.deref-in-View.ensures refl c.deref-in-View-2.ensures in
     IfOk-weaker c.keep_view.result _ _
-    (λ next m. made_seen c.args.scene.now c.args.around c.args.command.now (views name c.in-View.parent.value (plan_seen form)) c.args.first next c.args.building.now c.keep_view.new.building view_seen
-    (view_made c.args.scene.now c.args.around (plan_seen form) c.args.first c.behind_command-idle.result next c.args.building.now c.keep_view.new.building (idle_next c.args.command.now _ c.args.first c.behind_command-idle.result view_seen c.behind_command-idle.ensures)
+    (λ next m. made_seen c.args.scene.now c.args.around c.args.command.now (views name c.in-View.parent.value (view_plan form)) c.args.first next c.args.building.now c.keep_view.new.building view_seen
+    (view_made c.args.scene.now c.args.around (view_plan form) c.args.first c.behind_command-idle.result next c.args.building.now c.keep_view.new.building (idle_next c.args.command.now _ c.args.first c.behind_command-idle.result view_seen c.behind_command-idle.ensures)
     (hidden_in (way_of (known_in c.args.scene.now) name)) m))
     c.keep_view.ensures.made
 

@@ -2,7 +2,7 @@ use Rattle.std.proofs.Common.{ℕ, suc, List, get_or, false, subst, sym, add-one
 use Rattle.std.specs.Prelude.{Option}
 use Rattle.std.proofs.lemmas.Option.{slice_get-get_or}
 use Rattle.dh_value.specs.Operations.{is_true}
-use Rattle.dh_expressions.specs.Drafted.{shown}
+use Rattle.dh_expressions.specs.Drafted.{word_shown}
 use Rattle.dh_expressions.specs.Shown.{guard_of}
 use Rattle.dh_commands.specs.Choosing.{MakesGuard, MakesGuards}
 use Rattle.dh_commands.proofs.ArmGuards.{guard_not, guards_more}
@@ -18,7 +18,7 @@ loop-i-preserved c =
           (guards_more c.args.guards.now c.args.tests.now false c.args.draft.now c.loop-i.draft c.push_both.new.draft c.loop-i.i (get_or c.args.tests.now c.loop-i.i 0) c.in_ok-made.made c.loop-i.all.items
           (slice_get-get_or c.args.tests.now c.loop-i.i 0 c.loop-i-test.true) c.loop-i.invariant.means
           (guard_not c.loop-i.draft c.push_not.new.draft c.push_both.new.draft (guard_of c.args.guards.now c.loop-i.i) (get_or c.args.tests.now c.loop-i.i 0) c.in_ok-fails.fails c.in_ok-made.made c.in_ok-fails.ensures.means
-          (subst (λ (g : Option ℕ). MakesGuard c.push_not.new.draft c.push_both.new.draft g (λ x. is_true (shown x c.in_ok-fails.fails)) c.in_ok-made.made) c.guard_at-guard.ensures c.in_ok-made.ensures.means)));
+          (subst (λ (g : Option ℕ). MakesGuard c.push_not.new.draft c.push_both.new.draft g (λ x. is_true (word_shown x c.in_ok-fails.fails)) c.in_ok-made.made) c.guard_at-guard.ensures c.in_ok-made.ensures.means)));
       made = (
         c.loop-i.draft,
         (

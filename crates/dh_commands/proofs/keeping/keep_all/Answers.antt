@@ -1,5 +1,5 @@
 use Rattle.std.proofs.Common.{add-one, ◌≡◌, ℕ, subst, arith}
-use Rattle.dh_tree.specs.Seen.{plan_seen}
+use Rattle.dh_tree.specs.Seen.{view_plan}
 use Rattle.dh_tree.specs.ViewOffsets.{offsets_of}
 use Rattle.dh_ways.specs.Seen.{hidden_seen}
 use Rattle.dh_commands.specs.LanesRun.{paths_counted}
@@ -19,9 +19,9 @@ loop-i-preserved c =
 pub returns-clause-made : goal.returns-clause-made
 returns-clause-made c =
     let end : c.loop-i.i ≡ paths_counted c.args.around = let l = c.loop-i-test.false in let e = c.loop-i.auto.i-end in omega (arith, l, e) in
-    subst (λ (n : ℕ). KeptTo c.args.scene.now c.args.around c.args.first c.args.hidden.entity (offsets_of (plan_seen c.args.form.now)) n c.args.building.now c.loop-i.building c.loop-i.next) end c.loop-i.invariant.made
+    subst (λ (n : ℕ). KeptTo c.args.scene.now c.args.around c.args.first c.args.hidden.entity (offsets_of (view_plan c.args.form.now)) n c.args.building.now c.loop-i.building c.loop-i.next) end c.loop-i.invariant.made
 
 pub returns-clause-means : goal.returns-clause-means
 returns-clause-means c =
     let end : c.loop-i.i ≡ paths_counted c.args.around = let l = c.loop-i-test.false in let e = c.loop-i.auto.i-end in omega (arith, l, e) in
-    subst (λ (n : ℕ). KeepsFirst c.args.scene.now c.args.around c.args.building.now c.loop-i.building c.args.first c.loop-i.next (hidden_seen c.args.hidden) (offsets_of (plan_seen c.args.form.now)) n) end c.loop-i.invariant.means
+    subst (λ (n : ℕ). KeepsFirst c.args.scene.now c.args.around c.args.building.now c.loop-i.building c.args.first c.loop-i.next (hidden_seen c.args.hidden) (offsets_of (view_plan c.args.form.now)) n) end c.loop-i.invariant.means

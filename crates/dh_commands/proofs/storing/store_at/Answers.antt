@@ -3,7 +3,7 @@ use Rattle.std.specs.Prelude.{Option}
 use Rattle.dh_value.specs.declared.kinds.Kind.{Kind}
 use Rattle.dh_tree.specs.Seen.{term_seen}
 use Rattle.dh_expressions.specs.declared.elements.Aim.{Aim}
-use Rattle.dh_expressions.specs.Drafted.{Gives, shown}
+use Rattle.dh_expressions.specs.Drafted.{Gives, word_shown}
 use Rattle.dh_expressions.specs.Evaluated.{EvaluatesTerm}
 use Rattle.dh_expressions.specs.Shown.{held_shown}
 use Rattle.dh_commands.specs.Setting.{AimsAtTarget, StoresOne}
@@ -37,7 +37,7 @@ returns-clause-means c =
     (subst (λ (os : List (Option ℕ)). AimsAtTarget c.args.scene.now c.args.lane.now os c.push_term.new.draft c.aim_at.new.draft c.push_term.new.accesses c.aim_at.new.accesses c.in_ok-own.own.next (term_seen c.args.target.now) (Some (c.in-Some.aim, c.in-Some.memory))) c.as_slice-current.ensures.value
     (subst (λ (o : Option (Aim × ℕ)). AimsAtTarget c.args.scene.now c.args.lane.now c.as_slice-current.result.now c.push_term.new.draft c.aim_at.new.draft c.push_term.new.accesses c.aim_at.new.accesses c.in_ok-own.own.next (term_seen c.args.target.now) o)
     c.in-Some.is c.in_ok-aim.ensures.means))
-    (subst (λ (k : Kind). Gives c.aim_at.new.draft c.push_held.new.draft c.in_ok-held.held (λ x. held_shown (term_seen c.args.value.now) k (shown x c.in_ok-own.own.value))) c.element_kind.ensures c.in_ok-held.ensures.means)
+    (subst (λ (k : Kind). Gives c.aim_at.new.draft c.push_held.new.draft c.in_ok-held.held (λ x. held_shown (term_seen c.args.value.now) k (word_shown x c.in_ok-own.own.value))) c.element_kind.ensures c.in_ok-held.ensures.means)
     c.in_ok-push_write.ensures.means)
 
 pub returns-in_default-clause-made : goal.returns-in_default-clause-made

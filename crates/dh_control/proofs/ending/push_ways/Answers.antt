@@ -2,7 +2,7 @@ use Rattle.std.proofs.Common.{arith, length, ◌∙◌}
 use Rattle.std.proofs.lemmas.List.{length-map}
 use Rattle.std.specs.Prelude.{map, get_or}
 use Rattle.dh_cells.proofs.CellsAppended.{wire_stays, grows_then}
-use Rattle.dh_control.specs.AllBlocks.{ways_of}
+use Rattle.dh_control.specs.AllBlocks.{state_ways}
 use Rattle.dh_control.specs.WayMoves.{way_of_decision}
 use Rattle.dh_control.proofs.StatesLead.{stand_at, stands_long, way_of_state, next_way}
 use Rattle.dh_control.proofs.WaysMoved.{after_sized}
@@ -37,7 +37,7 @@ loop-i-preserved c =
     let less = c.loop-i-test.true in
     record {
       added =
-          next_way _ _ _ _ c.args.widths.now c.args.width (length c.args.states.now) c.args.state c.args.commit c.args.after.now.items c.loop-i.after.items (ways_of c.args.states.now) c.loop-i.i c.in_ok-active.active
+          next_way _ _ _ _ c.args.widths.now c.args.width (length c.args.states.now) c.args.state c.args.commit c.args.after.now.items c.loop-i.after.items (state_ways c.args.states.now) c.loop-i.i c.in_ok-active.active
           (get_or c.args.stands.now c.loop-i.i (record { key = 0; item = 0 })).item (way_of_decision (get_or c.args.states.now c.loop-i.i c.index-states-i.result).next) _ _ _ _ _ _ c.loop-i.invariant.added c.in_ok-active.ensures
           (stand_at _ c.args.state 0 c.loop-i.i c.loop-i.i (map (λ s. s.block) c.args.states.now) c.args.stands.now (record { key = 0; item = 0 }) c.requires.stands (omega (arith, long, mapped, less)) (omega arith))
           c.loop-i.invariant.kept c.in_ok-push_way.ensures.added (way_of_state c.args.states.now c.loop-i.i c.index-states-i.result c.loop-i-test.true);

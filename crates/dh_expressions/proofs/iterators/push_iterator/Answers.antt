@@ -2,7 +2,7 @@ use Rattle.std.proofs.Common.{◌+◌, ◌≤◌, ◌^◌, ◌%◌, inl, inr, No
 use Rattle.std.proofs.lemmas.Result.{IfOk-weaker}
 use Rattle.dh_plan.specs.declared.operations.OperationForm.TheVariants.{Old}
 use Rattle.dh_expressions.specs.Drafted.{Computes, Pushes}
-use Rattle.dh_expressions.specs.Shown.{register_shown}
+use Rattle.dh_expressions.specs.Shown.{register_as_begun}
 use Rattle.dh_expressions.proofs.IteratorTurns.{iterator_constant, iterator_multiple, iterator_sum, some_factor}
 use Rattle.dh_expressions.proofs.iterators.push_iterator.Goals as goal
 
@@ -14,13 +14,13 @@ returns-then-turn_count-le1-clause-means c =
 pub returns-then-start-eq0-clause-means : goal.returns-then-start-eq0-clause-means
 returns-then-start-eq0-clause-means c =
     iterator_multiple c.args.counter c.args.held c.args.lane.now c.args.kind c.args.draft.now c.push_old.new.draft c.push_convert.new.draft c.push_multiple.new.draft c.in_ok-old.old c.in_ok-turn.turn c.in_ok-multiple.multiple
-    (subst (λ (r : ℕ). Computes c.args.draft.now c.push_old.new.draft c.in_ok-old.old (λ x. register_shown x r)) c.from.ensures c.in_ok-old.ensures.means) c.in_ok-turn.ensures.means (c.in_ok-multiple.ensures.means (some_factor c.args.counter c.args.held c.args.lane.now c.args.kind c.turn_count.result c.turn_count.ensures c.if-turn_count-le1.false))
+    (subst (λ (r : ℕ). Computes c.args.draft.now c.push_old.new.draft c.in_ok-old.old (λ x. register_as_begun x r)) c.from.ensures c.in_ok-old.ensures.means) c.in_ok-turn.ensures.means (c.in_ok-multiple.ensures.means (some_factor c.args.counter c.args.held c.args.lane.now c.args.kind c.turn_count.result c.turn_count.ensures c.if-turn_count-le1.false))
     ((c.args.counter.low + c.copy_of.result) % 2 ^ 64) (ap (λ m. (c.args.counter.low + m) % 2 ^ 64) c.copy_of.ensures) c.if-start-eq0.true
 
 pub returns-clause-means : goal.returns-clause-means
 returns-clause-means c =
     IfOk-weaker c.push_compute.result _ _ (λ n s. iterator_sum c.args.counter c.args.held c.args.lane.now c.args.kind c.args.draft.now c.push_old.new.draft c.push_convert.new.draft c.push_multiple.new.draft c.in_ok-old.old c.in_ok-turn.turn c.in_ok-multiple.multiple
-    (subst (λ (r : ℕ). Computes c.args.draft.now c.push_old.new.draft c.in_ok-old.old (λ x. register_shown x r)) c.from.ensures c.in_ok-old.ensures.means) c.in_ok-turn.ensures.means (c.in_ok-multiple.ensures.means (some_factor c.args.counter c.args.held c.args.lane.now c.args.kind c.turn_count.result c.turn_count.ensures c.if-turn_count-le1.false))
+    (subst (λ (r : ℕ). Computes c.args.draft.now c.push_old.new.draft c.in_ok-old.old (λ x. register_as_begun x r)) c.from.ensures c.in_ok-old.ensures.means) c.in_ok-turn.ensures.means (c.in_ok-multiple.ensures.means (some_factor c.args.counter c.args.held c.args.lane.now c.args.kind c.turn_count.result c.turn_count.ensures c.if-turn_count-le1.false))
     c.push_constant-2.new.draft c.push_compute.new.draft c.in_ok-start.start n ((c.args.counter.low + c.copy_of.result) % 2 ^ 64) c.literal-2.result
     (ap (λ m. (c.args.counter.low + m) % 2 ^ 64) c.copy_of.ensures) c.literal-2.ensures c.in_ok-start.ensures.means s) c.push_compute.ensures.means
 

@@ -5,7 +5,7 @@ use Rattle.dh_value.specs.Operations.{binary_of}
 use Rattle.dh_tree.specs.Seen.{term_seen}
 use Rattle.dh_meaning.specs.Bindings.{kind_or_first}
 use Rattle.dh_code.specs.Extended.{extension_of}
-use Rattle.dh_expressions.specs.Drafted.{Gives, shown}
+use Rattle.dh_expressions.specs.Drafted.{Gives, word_shown}
 use Rattle.dh_expressions.specs.MadeValues.{MadeExtended}
 use Rattle.dh_expressions.specs.Shown.{extended_shown}
 use Rattle.dh_expressions.proofs.Pushing.{gives_both}
@@ -19,8 +19,8 @@ returns-clause-means c =
     c.extension-to.ensures
     ∙ (ap (λ j. extension_of c.args.op j c.kind_found-2.result) c.kind_found.ensures ∙ ap (λ j. extension_of c.args.op (kind_or_first c.args.left.now.kind) j) c.kind_found-2.ensures) in
     IfOk-weaker c.push_compute.result _ _ (λ v p.
-    subst (λ (k : Kind). Gives c.args.draft.now c.push_compute.new.draft v (λ x. binary_of c.args.op (extended_shown l k (shown x c.args.a)) (extended_shown r k (shown x c.args.b)))) to
-    (gives_both c.args.draft.now c.push_extended.new.draft c.push_extended-2.new.draft c.push_compute.new.draft c.in_ok-x.x c.in_ok-y.y v (λ x. extended_shown l c.extension-to.result (shown x c.args.a)) (λ x. extended_shown r c.extension-to.result (shown x c.args.b))
+    subst (λ (k : Kind). Gives c.args.draft.now c.push_compute.new.draft v (λ x. binary_of c.args.op (extended_shown l k (word_shown x c.args.a)) (extended_shown r k (word_shown x c.args.b)))) to
+    (gives_both c.args.draft.now c.push_extended.new.draft c.push_extended-2.new.draft c.push_compute.new.draft c.in_ok-x.x c.in_ok-y.y v (λ x. extended_shown l c.extension-to.result (word_shown x c.args.a)) (λ x. extended_shown r c.extension-to.result (word_shown x c.args.b))
     (λ u w. binary_of c.args.op u w) c.in_ok-x.ensures.means c.in_ok-y.ensures.means p)) c.push_compute.ensures.means
 
 pub returns-clause-made : goal.returns-clause-made

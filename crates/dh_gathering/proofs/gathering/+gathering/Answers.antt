@@ -4,7 +4,7 @@ use Rattle.std.proofs.lemmas.Result.{IfOk-weaker}
 use Rattle.dh_accesses.proofs.CountedParts.{left_first, next_command}
 use Rattle.dh_tree.proofs.SeenActions as known
 use Rattle.dh_tree.specs.PlainTrees.{action}
-use Rattle.dh_tree.specs.Seen.{action_seen, action_form_seen, all_parts_seen, high_seen, low_seen, maybe_block_seen, plan_seen, term_seen, unroll_seen}
+use Rattle.dh_tree.specs.Seen.{action_seen, action_form_seen, all_parts_seen, high_seen, low_seen, maybe_block_seen, view_plan, term_seen, unroll_seen}
 use Rattle.dh_tree.specs.ViewOffsets.{moves}
 use Rattle.dh_meaning.specs.AccessNumbers.{groups_accesses}
 use Rattle.dh_expressions.specs.Levels.{levels_inside}
@@ -46,13 +46,13 @@ gather-returns-in-View-clause-gathers t c =
     let seen = ap action_form_seen c.in-View.is ∙ known.view_at c.in-View.name c.in-View.parent c.in-View.form c.in-View.name.value c.in-View.parent.value c.deref-in-View.result.now refl refl c.deref-in-View.ensures in
     IfOk-weaker c.view_phases.result _ _
     (λ g is. gathers_as c.args.scene.now c.args.paths.now c.args.made.now c.args.made.now (all_kept g.0.items) c.args.first c.args.command.now.id c.args.command.now.place (action_form_seen c.args.command.now.form) _ seen
-    (view_of_code c.args.scene.now c.args.paths.now c.args.made.now (all_kept g.0.items) c.args.first c.args.command.now.id c.args.command.now.place c.in-View.name.value c.in-View.parent.value (plan_seen c.deref-in-View.result.now)
-    (is ∙ ap (λ f. view_kept (moves (plan_seen c.deref-in-View.result.now)) (numbered (action c.args.command.now.id c.args.command.now.place f) c.args.first)) seen)))
+    (view_of_code c.args.scene.now c.args.paths.now c.args.made.now (all_kept g.0.items) c.args.first c.args.command.now.id c.args.command.now.place c.in-View.name.value c.in-View.parent.value (view_plan c.deref-in-View.result.now)
+    (is ∙ ap (λ f. view_kept (moves (view_plan c.deref-in-View.result.now)) (numbered (action c.args.command.now.id c.args.command.now.place f) c.args.first)) seen)))
     c.view_phases.ensures.forms
 
 pub gather-returns-in-View-clause-once : goal.gather-returns-in-View-clause-once
 gather-returns-in-View-clause-once t c =
-    IfOk-weaker c.view_phases.result _ _ (λ g is. once_view c.args.made.now (all_kept g.0.items) (moves (plan_seen c.deref-in-View.result.now)) (numbered (action_seen c.args.command.now) c.args.first) is) c.view_phases.ensures.forms
+    IfOk-weaker c.view_phases.result _ _ (λ g is. once_view c.args.made.now (all_kept g.0.items) (moves (view_plan c.deref-in-View.result.now)) (numbered (action_seen c.args.command.now) c.args.first) is) c.view_phases.ensures.forms
 
 pub gather-returns-in-Block-clause-gathers : goal.gather-returns-in-Block-clause-gathers
 gather-returns-in-Block-clause-gathers t c =

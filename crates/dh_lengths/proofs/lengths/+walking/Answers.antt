@@ -4,12 +4,12 @@ use Rattle.std.specs.Global.{Global}
 use Rattle.std.proofs.lemmas.Result.{on_ok_weaker}
 use Rattle.dh_tree.specs.declared.trees.commands.Command.{Command}
 use Rattle.dh_tree.specs.PlainTrees.{assigns, blocks, calls, decides, lets, lets_memory, reduces, repeats, views}
-use Rattle.dh_tree.specs.Seen.{action_form_seen, action_seen, counts_seen, groups, high_seen, low_seen, maybe_block_seen, maybe_seen, part_seen, plan_seen, sides_seen, term_seen, unroll_seen}
+use Rattle.dh_tree.specs.Seen.{action_form_seen, action_seen, counts_seen, groups, high_seen, low_seen, maybe_block_seen, maybe_seen, part_seen, view_plan, sides_seen, term_seen, unroll_seen}
 use Rattle.dh_tree.proofs.SeenActions.{assign_is, block_is, call_is, for_at, if_at, let_is, let_memory_is, reduce_is, store_is, view_is, while_at}
 use Rattle.dh_tree.specs.ViewOffsets.{moves}
 use Rattle.dh_meaning.specs.AccessNumbers.{accesses_of, other_accesses}
 use Rattle.dh_meaning.specs.Phases.{other_phases, phases}
-use Rattle.dh_events.specs.Tables.{numbered}
+use Rattle.dh_events.specs.Tables.{kept_at}
 use Rattle.dh_lengths.specs.HeldLevels.{count}
 use Rattle.dh_lengths.specs.PhaseWalks.{IsWalked, TellOther, TellsStages}
 use Rattle.dh_lengths.proofs.PhaseWalking.{by_form, groups_begin, groups_turn, never_more, view_few, part_begin, part_turn, put_released, walked_block, walked_choice, walked_none, walked_nothing, walked_repeat, walked_turns, where_none, where_one}
@@ -86,16 +86,16 @@ pub walk_command-returns-in-LetMemory : goal.walk_command-returns-in-LetMemory
 walk_command-returns-in-LetMemory t c = by_form c.args.ways.now c.args.stages.now c.args.walk.now c.args.walk.now c.args.command.now (lets_memory c.in-LetMemory.name.value c.in-LetMemory.shape.value c.in-LetMemory.shape_places.value (option_map term_seen c.in-LetMemory.value.value)) (ap action_form_seen c.in-LetMemory.is ∙ let_memory_is _ _ _ _) c.get_at-stage.result c.get_at-stage.ensures c.if-stage-eq0.false c.if-stage-eq1.false (never_more c.args.stages.now c.args.walk.now c.args.command.now (lets_memory c.in-LetMemory.name.value c.in-LetMemory.shape.value c.in-LetMemory.shape_places.value (option_map term_seen c.in-LetMemory.value.value)) (λ r. refl))
 
 pub walk_command-returns-in-View : goal.walk_command-returns-in-View
-walk_command-returns-in-View t c = by_form c.args.ways.now c.args.stages.now c.args.walk.now c.args.walk.now c.args.command.now (views c.in-View.name.value c.in-View.parent.value (plan_seen c.in-View.form.value)) (ap action_form_seen c.in-View.is ∙ view_is _ _ _) c.get_at-stage.result c.get_at-stage.ensures c.if-stage-eq0.false c.if-stage-eq1.false (never_more c.args.stages.now c.args.walk.now c.args.command.now (views c.in-View.name.value c.in-View.parent.value (plan_seen c.in-View.form.value)) (λ r. view_few (moves (plan_seen c.in-View.form.value)) _))
+walk_command-returns-in-View t c = by_form c.args.ways.now c.args.stages.now c.args.walk.now c.args.walk.now c.args.command.now (views c.in-View.name.value c.in-View.parent.value (view_plan c.in-View.form.value)) (ap action_form_seen c.in-View.is ∙ view_is _ _ _) c.get_at-stage.result c.get_at-stage.ensures c.if-stage-eq0.false c.if-stage-eq1.false (never_more c.args.stages.now c.args.walk.now c.args.command.now (views c.in-View.name.value c.in-View.parent.value (view_plan c.in-View.form.value)) (λ r. view_few (moves (view_plan c.in-View.form.value)) _))
 
 pub walk_command-returns-in-Call : goal.walk_command-returns-in-Call
 walk_command-returns-in-Call t c = by_form c.args.ways.now c.args.stages.now c.args.walk.now c.args.walk.now c.args.command.now (calls c.in-Call.function.value (map term_seen c.in-Call.arguments.items)) (ap action_form_seen c.in-Call.is ∙ call_is _ _) c.get_at-stage.result c.get_at-stage.ensures c.if-stage-eq0.false c.if-stage-eq1.false (never_more c.args.stages.now c.args.walk.now c.args.command.now (calls c.in-Call.function.value (map term_seen c.in-Call.arguments.items)) (λ r. refl))
 
 pub walk_other-returns-in-Some : goal.walk_other-returns-in-Some
 walk_other-returns-in-Some t c = on_ok_weaker c.walk_command.result (λ g known u r base line tells s.
-    subst (λ (o : Option (Box Command Global)). TellOther (numbered c.args.stages.now) (maybe_seen (option_map (λ b. action_seen b.value) o)) → IsWalked known base line c.args.walk.now c.walk_command.new.walk (other_phases r (count c.args.walk.now.held) (maybe_seen (option_map (λ b. action_seen b.value) o))) (other_accesses (maybe_seen (option_map (λ b. action_seen b.value) o)))) (sym c.in-Some.is)
+    subst (λ (o : Option (Box Command Global)). TellOther (kept_at c.args.stages.now) (maybe_seen (option_map (λ b. action_seen b.value) o)) → IsWalked known base line c.args.walk.now c.walk_command.new.walk (other_phases r (count c.args.walk.now.held) (maybe_seen (option_map (λ b. action_seen b.value) o))) (other_accesses (maybe_seen (option_map (λ b. action_seen b.value) o)))) (sym c.in-Some.is)
     (λ tell. subst (λ (x : Command). IsWalked known base line c.args.walk.now c.walk_command.new.walk (phases r (count c.args.walk.now.held) (action_seen x)) (accesses_of (action_seen x))) c.deref.ensures
-    (g known u r base line (subst (λ (x : Command). TellsStages (numbered c.args.stages.now) (action_seen x)) (sym c.deref.ensures) tell) s)) tells) c.walk_command.ensures
+    (g known u r base line (subst (λ (x : Command). TellsStages (kept_at c.args.stages.now) (action_seen x)) (sym c.deref.ensures) tell) s)) tells) c.walk_command.ensures
 
 pub walk_other-returns-in-None : goal.walk_other-returns-in-None
 walk_other-returns-in-None t c = λ known u r base line tells s.

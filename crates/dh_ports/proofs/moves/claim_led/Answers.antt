@@ -2,7 +2,7 @@ use Rattle.std.proofs.Common.{ap, sym, ◌∙◌, arith}
 use Rattle.dh_tree.specs.Memories.{memories_of, number_in}
 use Rattle.dh_tree.specs.Seen.{program_seen}
 use Rattle.dh_meaning.specs.Ways.{way_to}
-use Rattle.dh_events.specs.Accesses.{loops_in}
+use Rattle.dh_events.specs.Accesses.{loops_listed}
 use Rattle.dh_ports.specs.Runs.{moves_in}
 use Rattle.dh_ports.proofs.ClaimTurns.{none_claimed}
 use Rattle.dh_ports.proofs.MoveTurns.{nothing_added}
@@ -15,7 +15,7 @@ returns-in_default c =
     let unled = unfound (program_seen c.args.typed.now) c.args.layout.now.ways c.args.layout.now.carriers.items c.requires.layout.ways c.requires.layout.carriers c.requires.leads c.args.entity c.requires.other c.place_of.result c.place_of.ensures.finds c.in_default.is in
     record {
       claims = nothing_added (moves_in c.args.moves.now.items) _
-          (none_claimed c.args.typed.now c.args.claimant.event (loops_in c.args.layout.now.rounds.items c.args.claimant.round) c.args.claimant.writes c.args.claimant.access.now (ap (way_to p) (sym c.requires.entity) ∙ unled)
+          (none_claimed c.args.typed.now c.args.claimant.event (loops_listed c.args.layout.now.rounds.items c.args.claimant.round) c.args.claimant.writes c.args.claimant.access.now (ap (way_to p) (sym c.requires.entity) ∙ unled)
           (number_in (memories_of p) c.args.entity) (ap (number_in (memories_of p)) c.requires.entity) c.requires.other);
       past = c.requires.past;
     }

@@ -4,7 +4,7 @@ use Rattle.dh_tree.specs.declared.trees.counters.Counter.{Counter}
 use Rattle.dh_tree.specs.Memories.{memories_of, number_in, table_of}
 use Rattle.dh_tree.specs.Seen.{form_seen, program_seen}
 use Rattle.dh_meaning.specs.Ways.{all_bindings_of}
-use Rattle.dh_events.specs.Accesses.{entity_in, loops_in}
+use Rattle.dh_events.specs.Accesses.{entity_in, loops_listed}
 use Rattle.dh_ports.specs.Banks.{each_below}
 use Rattle.dh_ports.specs.Claims.{keys_on, source_of}
 use Rattle.dh_ports.specs.Copies.{copies_round}
@@ -20,7 +20,7 @@ returns-in_default c =
     let p = program_seen c.args.typed.now in
     let past : length c.as_slice.result.now ≤ c.args.memory = search rules in
     record {
-      claims = nothing_added (moves_in c.args.moves.now.items) _ (past_claimed c.args.typed.now c.args.claimant.event (loops_in c.args.layout.now.rounds.items c.args.claimant.round) c.args.claimant.writes c.args.claimant.access.now (number_unled p (entity_in (form_seen c.args.claimant.access.now.form)) c.args.memory c.requires.named)
+      claims = nothing_added (moves_in c.args.moves.now.items) _ (past_claimed c.args.typed.now c.args.claimant.event (loops_listed c.args.layout.now.rounds.items c.args.claimant.round) c.args.claimant.writes c.args.claimant.access.now (number_unled p (entity_in (form_seen c.args.claimant.access.now.form)) c.args.memory c.requires.named)
           (number_in (memories_of p) (entity_in (form_seen c.args.claimant.access.now.form))) c.args.memory refl c.requires.named (none_at (table_of p) c.as_slice.result.now c.args.memory (c.as_slice.ensures ∙ c.memories.ensures) past));
       past = c.requires.past;
     }
@@ -62,8 +62,8 @@ returns-then-is_empty c =
     let within : c.args.memory < length c.as_slice.result.now = search rules in
     let is : c.in-Some.entry.now ≡ get_or c.as_slice.result.now c.args.memory c.in-Some.entry.now = search rules in
     let same = c.as_slice.ensures ∙ c.memories.ensures in
-    let loops_are = c.loops_round-loops.ensures ∙ ap (λ rounds. loops_in rounds c.args.claimant.round) c.as_slice-2.ensures.value in
-    let claims = one_claimed c.args.typed.now c.args.claimant.event (loops_in c.args.layout.now.rounds.items c.args.claimant.round) c.args.claimant.writes c.args.claimant.access.now (number_unled p (entity_in (form_seen c.args.claimant.access.now.form)) c.args.memory c.requires.named)
+    let loops_are = c.loops_round-loops.ensures ∙ ap (λ rounds. loops_listed rounds c.args.claimant.round) c.as_slice-2.ensures.value in
+    let claims = one_claimed c.args.typed.now c.args.claimant.event (loops_listed c.args.layout.now.rounds.items c.args.claimant.round) c.args.claimant.writes c.args.claimant.access.now (number_unled p (entity_in (form_seen c.args.claimant.access.now.form)) c.args.memory c.requires.named)
     (number_in (memories_of p) (entity_in (form_seen c.args.claimant.access.now.form))) c.args.memory refl c.requires.named
     c.in-Some.entry.now (entry_at (table_of p) c.as_slice.result.now c.args.memory c.in-Some.entry.now same within is) c.as_slice-dims.result.now c.as_slice-dims.ensures c.index-base.result.now c.bank_count-banks.result
     (base_at (table_of p) c.as_slice.result.now c.args.layout.now.bases.items c.args.memory c.index-base.result.now same c.requires.layout.bases within c.index-base.ensures) c.bank_count-banks.ensures
@@ -80,7 +80,7 @@ keys_reaching-requires c =
     let is : c.in-Some.entry.now ≡ get_or c.as_slice.result.now c.args.memory c.in-Some.entry.now = search rules in
     let same = c.as_slice.ensures ∙ c.memories.ensures in
     let shape = shape_at (table_of p) c.as_slice.result.now c.args.memory c.in-Some.entry.now c.as_slice-dims.result.now same c.requires.table within is c.as_slice-dims.ensures in
-    let loops_are = c.loops_round-loops.ensures ∙ ap (λ rounds. loops_in rounds c.args.claimant.round) c.as_slice-2.ensures.value in
+    let loops_are = c.loops_round-loops.ensures ∙ ap (λ rounds. loops_listed rounds c.args.claimant.round) c.as_slice-2.ensures.value in
     record {
       dims = shape.dims;
       few = shape.few;
@@ -109,8 +109,8 @@ returns c =
     let within : c.args.memory < length c.as_slice.result.now = search rules in
     let is : c.in-Some.entry.now ≡ get_or c.as_slice.result.now c.args.memory c.in-Some.entry.now = search rules in
     let same = c.as_slice.ensures ∙ c.memories.ensures in
-    let loops_are = c.loops_round-loops.ensures ∙ ap (λ rounds. loops_in rounds c.args.claimant.round) c.as_slice-2.ensures.value in
-    let claims = all_claimed c.args.typed.now c.args.claimant.event (loops_in c.args.layout.now.rounds.items c.args.claimant.round) c.args.claimant.writes c.args.claimant.access.now (number_unled p (entity_in (form_seen c.args.claimant.access.now.form)) c.args.memory c.requires.named)
+    let loops_are = c.loops_round-loops.ensures ∙ ap (λ rounds. loops_listed rounds c.args.claimant.round) c.as_slice-2.ensures.value in
+    let claims = all_claimed c.args.typed.now c.args.claimant.event (loops_listed c.args.layout.now.rounds.items c.args.claimant.round) c.args.claimant.writes c.args.claimant.access.now (number_unled p (entity_in (form_seen c.args.claimant.access.now.form)) c.args.memory c.requires.named)
     (number_in (memories_of p) (entity_in (form_seen c.args.claimant.access.now.form))) c.args.memory refl c.requires.named
     c.in-Some.entry.now (entry_at (table_of p) c.as_slice.result.now c.args.memory c.in-Some.entry.now same within is) c.as_slice-dims.result.now c.as_slice-dims.ensures c.index-base.result.now c.bank_count-banks.result
     (base_at (table_of p) c.as_slice.result.now c.args.layout.now.bases.items c.args.memory c.index-base.result.now same c.requires.layout.bases within c.index-base.ensures) c.bank_count-banks.ensures

@@ -1,7 +1,7 @@
 -- Whatever keys there come to be: where the rest of the row is noted, the whole run is.
 use Rattle.std.proofs.Common.{◌-◌, length}
 use Rattle.std.specs.List.{AllByRecursion}
-use Rattle.dh_events.specs.Classes.{Extends}
+use Rattle.dh_events.specs.Classes.{ExtendsKeys}
 use Rattle.dh_ports.specs.Orders.{AreMarked}
 use Rattle.dh_ports.specs.Runs.{moves_of_run, row_of}
 use Rattle.dh_ports.specs.Scanned.{IsMoveOf}
@@ -10,7 +10,7 @@ use Rattle.dh_ports.proofs.ordering.note_run.Given as goal
 
 abbrev pub invariant-loop-slot : goal.invariant-loop-slot
 invariant-loop-slot l =
-    Extends l.fn.classes l.classes
+    ExtendsKeys l.fn.classes l.classes
     × (NotesAll l.classes l.events (row_of l.run.first l.slot (l.run.end - l.slot)) (moves_of_run l.run)
     × (AllByRecursion (IsMoveOf (length l.events)) (row_of l.run.first l.slot (l.run.end - l.slot))
     × (AreMarked l.fn.classes l.fn.marked.items → AreMarked l.classes l.marked.items)))

@@ -1,7 +1,7 @@
 use Rattle.std.proofs.Common.{◌≤◌, ◌++◌, Bool, List, ap, length, subst, sym, ◌∙◌}
 use Rattle.std.specs.List.{AllByRecursion}
 use Rattle.dh_tree.specs.Seen.{program_seen}
-use Rattle.dh_events.specs.Accesses.{loops_in}
+use Rattle.dh_events.specs.Accesses.{loops_listed}
 use Rattle.dh_events.specs.Noted.{all_seen}
 use Rattle.dh_ports.specs.declared.moves.Run.{Run}
 use Rattle.dh_ports.specs.Ahead.{NotesMoves}
@@ -32,8 +32,8 @@ note_runs-requires c = record {
   within = subst (λ (rs : List Run). AllByRecursion (IsMoveOf (length c.args.events.now)) (moves_in rs)) (sym c.as_slice-runs.ensures.value)
       (moves_there (program_seen c.args.typed.now) c.args.layout.now c.args.events.now c.loop-event.event c.index-events-event.result c.loop-event-test.true c.index-events-event.is (moves_in c.move_banks.new.moves.items)
       (c.in_ok-move_banks.ensures.moves
-      ∙ (ap (λ x. moves_in c.clear.new.self.items ++ moves_of (program_seen c.args.typed.now) (loops_in c.args.layout.now.rounds.items) c.loop-event.event x) (item_once c.args.events.now c.loop-event.event c.index-events-event.result c.index-events-event-in-loop-event.result c.loop-event-test.true c.index-events-event.is c.index-events-event-in-loop-event.is)
-      ∙ ap (λ l. moves_in l ++ moves_of (program_seen c.args.typed.now) (loops_in c.args.layout.now.rounds.items) c.loop-event.event c.index-events-event.result) c.clear.ensures.items)));
+      ∙ (ap (λ x. moves_in c.clear.new.self.items ++ moves_of (program_seen c.args.typed.now) (loops_listed c.args.layout.now.rounds.items) c.loop-event.event x) (item_once c.args.events.now c.loop-event.event c.index-events-event.result c.index-events-event-in-loop-event.result c.loop-event-test.true c.index-events-event.is c.index-events-event-in-loop-event.is)
+      ∙ ap (λ l. moves_in l ++ moves_of (program_seen c.args.typed.now) (loops_listed c.args.layout.now.rounds.items) c.loop-event.event c.index-events-event.result) c.clear.ensures.items)));
 }
 
 pub spend_behind-requires : goal.spend_behind-requires
@@ -44,7 +44,7 @@ spend_behind-requires c =
     let d = c.index-events-event.result in
     let flags = c.note.new.self.flags.items in
     let same = item_once c.args.events.now c.loop-event.event c.index-events-event.result c.index-events-event-in-loop-event.result c.loop-event-test.true c.index-events-event.is c.index-events-event-in-loop-event.is in
-    let are = c.in_ok-move_banks.ensures.moves ∙ (ap (λ x. moves_in c.clear.new.self.items ++ moves_of p (loops_in layout.rounds.items) c.loop-event.event x) same ∙ ap (λ l. moves_in l ++ moves_of p (loops_in layout.rounds.items) c.loop-event.event d) c.clear.ensures.items) in
+    let are = c.in_ok-move_banks.ensures.moves ∙ (ap (λ x. moves_in c.clear.new.self.items ++ moves_of p (loops_listed layout.rounds.items) c.loop-event.event x) same ∙ ap (λ l. moves_in l ++ moves_of p (loops_listed layout.rounds.items) c.loop-event.event d) c.clear.ensures.items) in
     let long = flags_behind p layout events c.loop-event.event d c.loop-event-test.true c.index-events-event.is c.loop-event.sharing c.note.new.self c.loop-event.invariant.0.shared c.in_ok-note.ensures in
     record {
       few = subst (λ (l : List Bool). length l ≤ length events) (sym c.as_slice-flags.ensures.value) (flags_few p layout events c.loop-event.event d c.loop-event-test.true c.index-events-event.is (length flags) long);
@@ -62,7 +62,7 @@ loop-event-preserved c =
     let d = c.index-events-event.result in
     let flags = c.note.new.self.flags.items in
     let same = item_once c.args.events.now c.loop-event.event c.index-events-event.result c.index-events-event-in-loop-event.result c.loop-event-test.true c.index-events-event.is c.index-events-event-in-loop-event.is in
-    let are = c.in_ok-move_banks.ensures.moves ∙ (ap (λ x. moves_in c.clear.new.self.items ++ moves_of p (loops_in layout.rounds.items) c.loop-event.event x) same ∙ ap (λ l. moves_in l ++ moves_of p (loops_in layout.rounds.items) c.loop-event.event d) c.clear.ensures.items) in
+    let are = c.in_ok-move_banks.ensures.moves ∙ (ap (λ x. moves_in c.clear.new.self.items ++ moves_of p (loops_listed layout.rounds.items) c.loop-event.event x) same ∙ ap (λ l. moves_in l ++ moves_of p (loops_listed layout.rounds.items) c.loop-event.event d) c.clear.ensures.items) in
     let noted = subst (λ (rs : List Run). NotesMoves events c.loop-event.lasts (moves_in rs) c.note_runs.new.lasts) c.as_slice-runs.ensures.value c.in_ok-note_runs.ensures in
     let spends = λ (more : List Bool). subst (λ (rs : List Run). SpendsTo (all_seen events) (flags ++ more) c.loop-event.walked c.loop-event.levels (moves_in rs) c.in_ok-walked.walked c.spend_behind.new.levels) c.as_slice-runs.ensures.value
     (subst (λ (l : List Bool). SpendsTo (all_seen events) (l ++ more) c.loop-event.walked c.loop-event.levels (moves_in c.as_slice-runs.result.now) c.in_ok-walked.walked c.spend_behind.new.levels) c.as_slice-flags.ensures.value (c.in_ok-walked.ensures more)) in (

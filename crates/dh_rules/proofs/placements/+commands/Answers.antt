@@ -1,7 +1,7 @@
 use Rattle.std.proofs.Common.{refl, ap, sym, ◌+◌, ◌-◌, ◌/◌, ◌∙◌, min, map, arith, zero-add}
 use Rattle.dh_tree.specs.declared.trees.commands.Command.{Command}
 use Rattle.dh_tree.specs.LeastBreach.{least_of}
-use Rattle.dh_tree.specs.Indices.{known_of, action_index_breaches, actions_index_breaches, groups_index_breaches}
+use Rattle.dh_tree.specs.Indices.{index_context_of, action_index_breaches, actions_index_breaches, groups_index_breaches}
 use Rattle.dh_tree.specs.PhaseKinds.{phase_kind, form_phase_kind, groups_phase_kind, turns_kind}
 use Rattle.dh_tree.specs.Placements as placements
 use Rattle.dh_tree.specs.Placements.{in_body, in_combine, action_placement_breaches, other_placement_breaches, combine_breaches, form_placement_breaches}
@@ -24,7 +24,7 @@ keep_groups-loop-part-init t c = record {
 pub keep_groups-loop-command-preserved : goal.keep_groups-loop-command-preserved
 keep_groups-loop-command-preserved t c = record {
   shapes =
-      rest_next (action_index_breaches (known_of (program_seen c.args.typed.now))) (actions_index_breaches (known_of (program_seen c.args.typed.now))) (groups_index_breaches (known_of (program_seen c.args.typed.now))) (λ a rest. refl)
+      rest_next (action_index_breaches (index_context_of (program_seen c.args.typed.now))) (actions_index_breaches (index_context_of (program_seen c.args.typed.now))) (groups_index_breaches (index_context_of (program_seen c.args.typed.now))) (λ a rest. refl)
       c.loop-command.shapes c.keep_command-steps.new.shapes c.deref-command-items.result.now c.loop-command.command-index c.command-item.result c.args.parts.now (c.loop-part.part-index + 1)
       c.loop-command-test.true c.command-item.is c.keep_command-steps.ensures.shapes
       ∙ c.loop-command.invariant.shapes;
@@ -41,7 +41,7 @@ keep_groups-loop-command-preserved t c = record {
 -- its own breaches, then those of the body, then those of the block that joins copies
 pub keep_command-returns-in-For-clause-shapes : goal.keep_command-returns-in-For-clause-shapes
 keep_command-returns-in-For-clause-shapes t c =
-    let known = known_of (program_seen c.args.typed.now) in
+    let known = index_context_of (program_seen c.args.typed.now) in
     let h = c.as_ref-header.result.now in
     loop_kept known h (action_seen c.in-For.body.value) (maybe_block_seen c.in-For.combine) (action_form_seen c.args.command.now.form)
     c.args.shapes.now c.keep_own.new.kept c.keep_command-turn.new.shapes c.keep_other-folds.new.shapes

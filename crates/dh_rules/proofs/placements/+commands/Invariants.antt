@@ -1,5 +1,5 @@
 use Rattle.std.proofs.Common.{◌≡◌, ◌+◌, ◌≤◌, min, max, map, drop}
-use Rattle.dh_tree.specs.Indices.{known_of, actions_index_breaches, groups_index_breaches}
+use Rattle.dh_tree.specs.Indices.{index_context_of, actions_index_breaches, groups_index_breaches}
 use Rattle.dh_tree.specs.PhaseKinds.{part_phase_kind, groups_phase_kind}
 use Rattle.dh_tree.specs.Placements.{actions_placement_breaches, groups_placement_breaches}
 use Rattle.dh_tree.specs.Seen.{action_seen, actions, part_seen, groups, program_seen}
@@ -10,7 +10,7 @@ use Rattle.dh_rules.proofs.placements.+commands.Given as goal
 -- what is left leads to what all leads to; the phases so far with those of the rest are those of all
 abbrev pub invariant-keep_groups-loop-part : goal.invariant-keep_groups-loop-part
 invariant-keep_groups-loop-part l = record {
-  shapes : parts_rest (groups_index_breaches (known_of (program_seen l.typed))) l.shapes l.parts l.part-index ≡ parts_rest (groups_index_breaches (known_of (program_seen l.typed))) l.fn.shapes l.parts 0;
+  shapes : parts_rest (groups_index_breaches (index_context_of (program_seen l.typed))) l.shapes l.parts l.part-index ≡ parts_rest (groups_index_breaches (index_context_of (program_seen l.typed))) l.fn.shapes l.parts 0;
   places :
       parts_rest (groups_placement_breaches l.typed.entities.items (context_seen l.context)) l.places l.parts l.part-index
       ≡ parts_rest (groups_placement_breaches l.typed.entities.items (context_seen l.context)) l.fn.places l.parts 0;
@@ -21,8 +21,8 @@ invariant-keep_groups-loop-part l = record {
 abbrev pub invariant-keep_groups-loop-command : goal.invariant-keep_groups-loop-command
 invariant-keep_groups-loop-command l = record {
   shapes :
-      part_rest (actions_index_breaches (known_of (program_seen l.typed))) (groups_index_breaches (known_of (program_seen l.typed))) l.shapes l.command-items l.command-index l.parts (l.part-index + 1)
-      ≡ parts_rest (groups_index_breaches (known_of (program_seen l.typed))) l.fn.shapes l.parts 0;
+      part_rest (actions_index_breaches (index_context_of (program_seen l.typed))) (groups_index_breaches (index_context_of (program_seen l.typed))) l.shapes l.command-items l.command-index l.parts (l.part-index + 1)
+      ≡ parts_rest (groups_index_breaches (index_context_of (program_seen l.typed))) l.fn.shapes l.parts 0;
   places :
       part_rest (actions_placement_breaches l.typed.entities.items (context_seen l.context)) (groups_placement_breaches l.typed.entities.items (context_seen l.context)) l.places l.command-items l.command-index l.parts (l.part-index + 1)
       ≡ parts_rest (groups_placement_breaches l.typed.entities.items (context_seen l.context)) l.fn.places l.parts 0;

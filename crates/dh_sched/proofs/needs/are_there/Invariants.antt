@@ -1,9 +1,9 @@
 use Rattle.std.proofs.Common.{◌≤◌, map, drop}
 use Rattle.std.specs.Prelude.{◌↔◌}
-use Rattle.dh_plan.specs.LegalSchedules.{value_clock, greatest_of}
+use Rattle.dh_plan.specs.LegalSchedules.{value_clock, greatest_number}
 use Rattle.dh_sched.proofs.needs.are_there.Given as goal
 
 abbrev pub invariant-loop-number : goal.invariant-loop-number
 invariant-loop-number l =
-    (greatest_of (map (value_clock l.first l.operations l.clocks) (drop l.number-index l.taken)) ≤ l.own)
-    ↔ (greatest_of (map (value_clock l.first l.operations l.clocks) l.taken) ≤ l.own)
+    (greatest_number (map (value_clock l.first l.operations l.clocks) (drop l.number-index l.taken)) ≤ l.own)
+    ↔ (greatest_number (map (value_clock l.first l.operations l.clocks) l.taken) ≤ l.own)

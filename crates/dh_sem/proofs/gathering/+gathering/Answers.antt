@@ -2,7 +2,7 @@ use Rattle.std.proofs.Common.{List, [], ◌∷◌, option_map, refl, ap, sym, �
 use Rattle.std.proofs.lemmas.List.{drop_all}
 use Rattle.std.proofs.lemmas.Result.{IfOk-weaker}
 use Rattle.dh_tree.proofs.SeenActions as known
-use Rattle.dh_tree.specs.Seen.{action_seen, action_form_seen, low_seen, high_seen, maybe_seen, plan_seen, unroll_seen}
+use Rattle.dh_tree.specs.Seen.{action_seen, action_form_seen, low_seen, high_seen, maybe_seen, view_plan, unroll_seen}
 use Rattle.dh_meaning.specs.Phases.{other_phases}
 use Rattle.dh_tree.specs.PlainTrees.{Action}
 use Rattle.dh_sem.specs.Gathered.{GathersGroups, GathersOf, Kept, all_kept, commands_seen, done_at_once, joined_at}
@@ -33,7 +33,7 @@ phases_in-returns-in-LetMemory t c = nothing_as c.args.names.now c.args.paths c.
 
 pub phases_in-returns-in-View : goal.phases_in-returns-in-View
 phases_in-returns-in-View t c =
-    IfOk-weaker c.view_phases.result _ _ (λ forms is. view_as c.args.names.now c.args.paths c.args.made.now (all_kept forms.items) c.args.command.now c.in-View.name.value c.in-View.parent.value (plan_seen c.deref-in-View.result.now)
+    IfOk-weaker c.view_phases.result _ _ (λ forms is. view_as c.args.names.now c.args.paths c.args.made.now (all_kept forms.items) c.args.command.now c.in-View.name.value c.in-View.parent.value (view_plan c.deref-in-View.result.now)
     (ap action_form_seen c.in-View.is ∙ known.view_at c.in-View.name c.in-View.parent c.in-View.form c.in-View.name.value c.in-View.parent.value c.deref-in-View.result.now refl refl c.deref-in-View.ensures) is) c.view_phases.ensures
 
 pub phases_in-returns-in-Call : goal.phases_in-returns-in-Call

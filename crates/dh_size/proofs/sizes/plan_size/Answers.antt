@@ -5,7 +5,7 @@ use Rattle.dh_tree.specs.Seen.{action_seen, program_seen}
 use Rattle.dh_meaning.specs.Ways.{ways_of}
 use Rattle.dh_tree.specs.declared.trees.programs.Tree.{Tree}
 use Rattle.dh_tree.specs.PlainTrees.{Program}
-use Rattle.dh_events.specs.Accesses.{loops_in}
+use Rattle.dh_events.specs.Accesses.{loops_listed}
 use Rattle.dh_events.specs.Noted.{all_seen}
 use Rattle.dh_events.specs.Rounds.{rounds_of}
 use Rattle.dh_lengths.specs.SharedReads.{TellsShares}
@@ -63,6 +63,6 @@ returns c =
     c.new-stages.ensures.items c.in_ok-note_stages.ensures.noted c.as_slice.ensures.value c.in_ok-notes.ensures.empty c.in_ok-note_body.ensures.adds c.as_slice-events.ensures.value in
     let table = c.kept_programs_have_tables.ensures p 1048577 h.of_text h.names h.built h.indices h.limits h.placements in
     let shares : TellsShares p c.as_slice-3.result.now = subst (λ (ss : List (Option _)). TellsShares p ss) (sym c.as_slice-3.ensures.value) (c.in_ok-shares.ensures p h.of_text.first body h.of_text.numbered) in
-    size_done p (sizes_from p (loops_in c.as_slice-2.result.now) c.as_slice-3.result.now 0 (all_seen c.as_slice-events.result.now)) c.in_ok-accesses.accesses c.with_command.result c.min.result c.in_ok-accesses.ensures
+    size_done p (sizes_from p (loops_listed c.as_slice-2.result.now) c.as_slice-3.result.now 0 (all_seen c.as_slice-events.result.now)) c.in_ok-accesses.accesses c.with_command.result c.min.result c.in_ok-accesses.ensures
     (events_sized p h.of_text.first h.of_text.numbered c.as_slice-2.result.now noted c.as_slice-events.result.now seen c.as_slice-3.result.now (λ k a e w u. leads_at p h.views table k a e w u) shares)
     (c.with_command.ensures ∙ ap (λ a. summed c.in_ok-accesses.accesses (unit_size a)) (sym body)) c.min.ensures

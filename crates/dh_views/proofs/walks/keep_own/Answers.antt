@@ -1,7 +1,7 @@
 use Rattle.std.proofs.Common.{ap, sym, ◌∙◌}
 use Rattle.dh_tree.specs.declared.trees.commands.LoopHeader.{LoopHeader}
 use Rattle.dh_tree.specs.LeastBreach.{least_of}
-use Rattle.dh_tree.specs.Indices.{known_of}
+use Rattle.dh_tree.specs.Indices.{index_context_of}
 use Rattle.dh_tree.specs.Seen.{action_form_seen, program_seen}
 use Rattle.dh_tree.proofs.SeenActions.{for_is}
 use Rattle.dh_views.specs.Kept.{header_breaches}
@@ -12,4 +12,4 @@ pub returns-in-For : goal.returns-in-For
 returns-in-For c =
     c.keep_turns.ensures
     ∙ (ap (λ (h : LoopHeader). least_of c.args.kept.now (header_breaches h)) c.deref-in-For.ensures
-    ∙ ap (λ f. least_of c.args.kept.now (own_breaches (known_of (program_seen c.args.typed.now)) f)) (sym (ap action_form_seen c.in-For.is ∙ for_is c.in-For.header c.in-For.body c.in-For.combine)))
+    ∙ ap (λ f. least_of c.args.kept.now (own_breaches (index_context_of (program_seen c.args.typed.now)) f)) (sym (ap action_form_seen c.in-For.is ∙ for_is c.in-For.header c.in-For.body c.in-For.combine)))

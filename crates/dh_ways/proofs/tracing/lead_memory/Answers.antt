@@ -1,5 +1,5 @@
 use Rattle.std.proofs.Common.{None}
-use Rattle.dh_tree.specs.Seen.{plan_seen}
+use Rattle.dh_tree.specs.Seen.{view_plan}
 use Rattle.dh_tree.specs.Views.{map_of}
 use Rattle.dh_ways.specs.Stands.{standing_seen}
 use Rattle.dh_ways.proofs.WaysMade.{link_leads}
@@ -7,4 +7,4 @@ use Rattle.dh_ways.proofs.tracing.lead_memory.Goals as goal
 
 pub returns : goal.returns
 returns c before =
-    link_leads before (standing_seen c.args.view.now) c.args.own c.in_ok-made.made (map_of (plan_seen c.args.view.now.form.now) c.args.shape.now) None c.link_from.result c.in_ok-made.ensures (c.link_from.ensures before)
+    link_leads before (standing_seen c.args.view.now) c.args.own c.in_ok-made.made (map_of (view_plan c.args.view.now.form.now) c.args.shape.now) None c.link_from.result c.in_ok-made.ensures (c.link_from.ensures before)

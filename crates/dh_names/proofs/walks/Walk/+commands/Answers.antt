@@ -3,7 +3,7 @@ use Rattle.std.proofs.lemmas.Result.{MatchResult-weaker}
 use Rattle.std.specs.Box.{with_value}
 use Rattle.std.specs.Vec.{with_items}
 use Rattle.dh_tree.specs.declared.trees.programs.Sort.TheVariants.{Memory, View}
-use Rattle.dh_tree.specs.Seen.{term_seen, plan_seen, action_seen, action_form_seen, part_seen, groups, maybe_block_seen}
+use Rattle.dh_tree.specs.Seen.{term_seen, view_plan, action_seen, action_form_seen, part_seen, groups, maybe_block_seen}
 use Rattle.dh_tree.proofs.SeenActions.{let_is, let_memory_is, view_is, assign_is, store_is, reduce_is, call_is, block_is, if_is, while_is, for_is}
 use Rattle.dh_names.specs.Walks.{state_of}
 use Rattle.dh_names.specs.NotBuilt.{KeepsOptional}
@@ -51,7 +51,7 @@ form-returns-in_ok-declare-in-View-clause-names t c =
     let n = declared_at (state_of c.plan.new.self) (state_of c.declare-in-View.new.self) View _ _ c.declare-in-View.new.name c.deref_mut-in-View-3.ensures.value c.in_ok-declare-in-View.ensures.tree c.in_ok-declare-in-View.ensures.state in
     form_done _ _ _ _ _ _ (ap action_form_seen r.1 ∙ view_is r.0.0 r.0.1.0 r.0.1.1.0) (view_is (with_value r.0.0 c.declare-in-View.new.name) (with_value r.0.1.0 c.use_name.new.name) (with_value r.0.1.1.0 c.plan.new.form))
     (views_done (state_of c.args.self.now) (state_of c.use_name.new.self) (state_of c.plan.new.self) (state_of c.declare-in-View.new.self) r.0.0.value c.declare-in-View.new.name r.0.1.0.value c.use_name.new.name
-    (plan_seen r.0.1.1.0.value) (plan_seen c.plan.new.form) u.0 u.1 p.0 p.1 n.0 n.1)
+    (view_plan r.0.1.1.0.value) (view_plan c.plan.new.form) u.0 u.1 p.0 p.1 n.0 n.1)
 
 pub form-returns-in_ok-declare-in-View-clause-forms : goal.form-returns-in_ok-declare-in-View-clause-forms
 form-returns-in_ok-declare-in-View-clause-forms t c =

@@ -1,6 +1,6 @@
 use Rattle.std.proofs.Common.{ap}
-use Rattle.dh_ways.specs.Kept.{Way}
+use Rattle.dh_ways.specs.Kept.{KeptWay}
 use Rattle.dh_ways.proofs.linking.WayRef.memory.Goals as goal
 
 pub returns : goal.returns
-returns c = ap (λ (w : Way). w.memory) c.self.view_is
+returns c = ap (λ (w : KeptWay). w.memory) c.self.view_is

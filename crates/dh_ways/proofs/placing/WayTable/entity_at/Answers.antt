@@ -1,5 +1,5 @@
 use Rattle.std.proofs.Common.{◌≡◌, Some, List, subst}
-use Rattle.dh_ways.specs.Kept.{Led}
+use Rattle.dh_ways.specs.Kept.{KeptLed}
 use Rattle.std.specs.Prelude.{option_map, slice_get}
 use Rattle.dh_ways.proofs.LinksTold.{shown_inside, shown_linked, shown_ways}
 use Rattle.dh_ways.proofs.placing.WayTable.entity_at.Goals as goal
@@ -11,4 +11,4 @@ entity_of-requires c = record {
 }
 
 pub returns : goal.returns
-returns c = subst (λ (ls : List Led). Some c.entity_of.result ≡ option_map (λ (l : Led). l.entity) (slice_get ls c.args.place)) (shown_ways c.self.inside.links c.as_slice.result.now c.args.self.now c.as_slice.ensures c.self.view_is) c.entity_of.ensures
+returns c = subst (λ (ls : List KeptLed). Some c.entity_of.result ≡ option_map (λ (l : KeptLed). l.entity) (slice_get ls c.args.place)) (shown_ways c.self.inside.links c.as_slice.result.now c.args.self.now c.as_slice.ensures c.self.view_is) c.entity_of.ensures

@@ -1,5 +1,5 @@
 use Rattle.std.proofs.Common.{List, subst}
-use Rattle.dh_ways.specs.Kept.{Led}
+use Rattle.dh_ways.specs.Kept.{KeptLed}
 use Rattle.dh_ways.specs.Linked.{IsParentAt}
 use Rattle.dh_ways.proofs.LinksTold.{shown_inside, shown_linked, shown_ways}
 use Rattle.dh_ways.proofs.placing.WayTable.parent_at.Goals as goal
@@ -11,4 +11,4 @@ parent_of-requires c = record {
 }
 
 pub returns : goal.returns
-returns c = subst (λ (ls : List Led). IsParentAt ls c.args.place c.parent_of.result) (shown_ways c.self.inside.links c.as_slice.result.now c.args.self.now c.as_slice.ensures c.self.view_is) c.parent_of.ensures
+returns c = subst (λ (ls : List KeptLed). IsParentAt ls c.args.place c.parent_of.result) (shown_ways c.self.inside.links c.as_slice.result.now c.args.self.now c.as_slice.ensures c.self.view_is) c.parent_of.ensures
