@@ -14,7 +14,7 @@ use Rattle.dh_tree.specs.declared.tables.MemEntry.{MemEntry}
 use Rattle.dh_plan.specs.declared.operations.Operation.{Operation}
 use Rattle.dh_plan.specs.declared.operations.OperationForm.{OperationForm}
 use Rattle.dh_plan.specs.declared.operations.OperationForm.TheVariants.{Constant, Old, Compute, Convert, Select, Check, Probe, Read, Write, Set}
-use Rattle.dh_plan.specs.Blocks.{StepStart, Look, no_word, word_at, operation_word, values_behind, values_of}
+use Rattle.dh_plan.specs.Blocks.{StepStart, Look, no_word, word_at, operation_word, values_behind, values_of_operations}
 use Rattle.dh_plan.specs.BlockLaws.{LooksBack}
 use Rattle.dh_plan.specs.LegalSchedules.{needed_clock, least_clocks, value_clock, there_at, there_from}
 use Rattle.dh_plan.specs.Ordered.{form_takes, IsBetween, TakesEarlier, one_or_none}
@@ -48,10 +48,10 @@ word_behind s look first back (p ∷ os) ws (suc i) o e early =
 -- the value of an operation that takes earlier ones
 pub word_solved : (s : StepStart) (look : Look) (first : ℕ) → LooksBack look first → (os : List Operation) (i : ℕ) (o : Operation) → slice_get os i ≡ Some o
     → TakesEarlier first (first + i) o
-    → word_at first (values_of s look first os) (first + i) ≡ operation_word s look first (values_of s look first os) (first + i) o
+    → word_at first (values_of_operations s look first os) (first + i) ≡ operation_word s look first (values_of_operations s look first os) (first + i) o
 word_solved s look first back os i o e early =
     let none : 0 + i ≡ i = omega arith in
-    let final = values_of s look first os in
+    let final = values_of_operations s look first os in
     let from = word_behind s look first back os [] i o e (subst (λ (k : ℕ). TakesEarlier first (first + k) o) (sym none) early) in
     let here = subst (λ (k : ℕ). get_or final k no_word ≡ operation_word s look first final (first + k) o) none from in
     subst (λ (k : ℕ). get_or final k no_word ≡ operation_word s look first final (first + i) o) (sym (add-sub_cancel_left first i)) here

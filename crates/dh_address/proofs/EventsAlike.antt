@@ -15,7 +15,7 @@ use Rattle.dh_plan.specs.declared.operations.OperationForm.{OperationForm}
 use Rattle.dh_plan.specs.declared.operations.OperationForm.TheVariants.{Constant, Old, Compute, Convert, Select, Check, Probe, Read, Write, Set}
 use Rattle.dh_plan.specs.declared.operations.PlanBlock.{PlanBlock}
 use Rattle.dh_plan.specs.declared.operations.Reach.{Reach}
-use Rattle.dh_plan.specs.Blocks.{StepStart, word_at, is_on, spot_of_reach, BlockEvent, fails_unless, fails_outside, puts_inside, form_events, operation_events, block_events, RegisterSet, form_sets, operation_sets, block_sets, first_fault, Put, puts_of}
+use Rattle.dh_plan.specs.Blocks.{StepStart, word_at, is_on, spot_of_reach, BlockEvent, fails_unless, fails_outside, puts_inside, operation_form_events, operation_events, block_events, RegisterSet, form_sets, operation_sets, block_sets, first_fault, Put, puts_of}
 use Rattle.dh_plan.specs.BlockLaws.{fault_or}
 use Rattle.dh_plan.specs.Ordered.{one_or_none, form_takes, operation_takes, IsBetween}
 use Rattle.dh_plan.specs.PlainPlans.{PlainPlan, first_in, operations_in}
@@ -239,12 +239,12 @@ module _ (p : PlainPlan) (maps : HasMaps p) (tables : IsProgramTable p.table) (b
           (inputs_at p maps tables bs block front begins formed all_formed ns ks i o old mid n at)
 
       -- the same operation at new numbers
-      same_so : (f f' : OperationForm) → o.form ≡ f → IsMade mid n (pushed old (new_or_none a o.guard) f') → form_events t first vs f' ≡ form_events s old_first ws f → form_sets first vs f' ≡ form_sets old_first ws f
+      same_so : (f f' : OperationForm) → o.form ≡ f → IsMade mid n (pushed old (new_or_none a o.guard) f') → operation_form_events t first vs f' ≡ operation_form_events s old_first ws f → form_sets first vs f' ≡ form_sets old_first ws f
           → DoesAsOne old mid o
       same_so f f' e h events sets =
           let same_events : operation_events t first vs (record { guard = new_or_none a o.guard; form = f' }) ≡ operation_events s old_first ws o =
-          ap (λ (b : Bool). if b then form_events t first vs f' else []) on_same
-          ∙ ap (λ (es : List BlockEvent). if is_on old_first ws o.guard then es else []) (events ∙ ap (λ (g : OperationForm). form_events s old_first ws g) (sym e))
+          ap (λ (b : Bool). if b then operation_form_events t first vs f' else []) on_same
+          ∙ ap (λ (es : List BlockEvent). if is_on old_first ws o.guard then es else []) (events ∙ ap (λ (g : OperationForm). operation_form_events s old_first ws g) (sym e))
           in
           let same_sets : operation_sets first vs (record { guard = new_or_none a o.guard; form = f' }) ≡ operation_sets old_first ws o =
           ap (λ (b : Bool). if b then form_sets first vs f' else []) on_same
@@ -264,7 +264,7 @@ module _ (p : PlainPlan) (maps : HasMaps p) (tables : IsProgramTable p.table) (b
           in
           let own = made_so t first vs h.last mid n h.on (Read h.reach) h.read in
           let nothing = no_choice (is_on first vs h.on) [] refl in
-          let no_old = ap (λ (f : OperationForm). if is_on old_first ws o.guard then form_events s old_first ws f else []) e ∙ no_choice (is_on old_first ws o.guard) [] refl in
+          let no_old = ap (λ (f : OperationForm). if is_on old_first ws o.guard then operation_form_events s old_first ws f else []) e ∙ no_choice (is_on old_first ws o.guard) [] refl in
           let no_old_sets = ap (λ (f : OperationForm). if is_on old_first ws o.guard then form_sets old_first ws f else []) e ∙ no_set_chosen (is_on old_first ws o.guard) [] refl in
           so_as t first vs old mid _ _ _ _ _ _
           (grows_both t first vs old h.last mid None _ [] _ [] _ (grows_quiet t first vs old h.last quiet) own)
@@ -289,7 +289,7 @@ module _ (p : PlainPlan) (maps : HasMaps p) (tables : IsProgramTable p.table) (b
           ∙ (ap (λ (es : List BlockEvent). if is_on old_first ws o.guard && is_some spot then es else []) bits_same
           ∙ (write_same (word_at old_first ws value).bits (is_on old_first ws o.guard) spot (spot_of_reach t first vs h.reach)
           (λ sp on leads. m.leads.leads sp leads (listed i o r sp at.there (ap use_in e) on leads))
-          ∙ ap (λ (f : OperationForm). if is_on old_first ws o.guard then form_events s old_first ws f else []) (sym e)))
+          ∙ ap (λ (f : OperationForm). if is_on old_first ws o.guard then operation_form_events s old_first ws f else []) (sym e)))
           in
           let no_old_sets = ap (λ (f : OperationForm). if is_on old_first ws o.guard then form_sets old_first ws f else []) e ∙ no_set_chosen (is_on old_first ws o.guard) [] refl in
           so_as t first vs old mid _ _ _ _ _ _
@@ -352,7 +352,7 @@ module _ (p : PlainPlan) (maps : HasMaps p) (tables : IsProgramTable p.table) (b
           let quiet_way = grows_quiet t first vs old h.passed (adds_quietly p maps tables bs block front begins formed all_formed old h.passed w.adds passed_all) in
           let checks = checks_so fault h.ranges h.passed h.checked h.checks to_all (begun_later x old h.passed w.adds.grows at.begun) w.ranges led.shown in
           let quiet = value_quietly p maps tables bs block front begins formed all_formed ns ks i o old mid n at a.probed r h.checked h.value (begun_later x old h.checked checked at.begun) checked input in
-          let old_events = ap (λ (f : OperationForm). if is_on old_first ws o.guard then form_events s old_first ws f else []) e in
+          let old_events = ap (λ (f : OperationForm). if is_on old_first ws o.guard then operation_form_events s old_first ws f else []) e in
           so_as t first vs old mid _ _ [] _ [] _
           (grows_both t first vs old h.checked mid (missing (is_on first vs (new_or_none a o.guard)) (all_in x h.ranges) fault) None [] [] [] []
           (grows_both t first vs old h.passed h.checked None (missing (is_on first vs (new_or_none a o.guard)) (all_in x h.ranges) fault) [] [] [] [] quiet_way checks) (grows_quiet t first vs h.checked mid quiet))

@@ -15,7 +15,7 @@ use Rattle.dh_plan.specs.declared.operations.OperationForm.{OperationForm}
 use Rattle.dh_plan.specs.declared.operations.OperationForm.TheVariants.{Constant, Old, Compute, Convert, Select, Check, Probe, Read, Write, Set}
 use Rattle.dh_plan.specs.declared.operations.PlanBlock.{PlanBlock}
 use Rattle.dh_plan.specs.declared.operations.Reach.{Reach}
-use Rattle.dh_plan.specs.Blocks.{StepStart, is_on, BlockEvent, form_events, block_events, RegisterSet, form_sets, block_sets}
+use Rattle.dh_plan.specs.Blocks.{StepStart, is_on, BlockEvent, operation_form_events, block_events, RegisterSet, form_sets, block_sets}
 use Rattle.dh_plan.specs.Ordered.{one_or_none, reach_takes, form_takes, operation_takes, TakesEarlier}
 use Rattle.dh_plan.specs.PlainPlans.{PlainPlan, first_in, operations_in}
 use Rattle.dh_plan.specs.PlanKinds.{kind_of_value, kinds_of, ReachSuits, PicksBank, IsFormedBlock}
@@ -81,7 +81,7 @@ either_none : {A : Type 0} (b : Bool) (xs : List A) → xs ≡ [] → (if b then
 either_none true xs e = e
 either_none false xs e = refl
 
-form_events_quiet : (s : StepStart) (first : ℕ) (ws : List Word) (f : OperationForm) → is_plain f ≡ true → form_events s first ws f ≡ []
+form_events_quiet : (s : StepStart) (first : ℕ) (ws : List Word) (f : OperationForm) → is_plain f ≡ true → operation_form_events s first ws f ≡ []
 form_events_quiet s first ws (Constant word) p = refl
 form_events_quiet s first ws (Old register) p = refl
 form_events_quiet s first ws (Compute op left right) p = refl
@@ -108,7 +108,7 @@ form_sets_quiet first ws (Set register value) p = absurd (cc)
 pub events_quiet : (s : StepStart) (first : ℕ) (ws : List Word) (os : List Operation) → AllByRecursion IsQuiet os → block_events s first ws os ≡ []
 events_quiet s first ws [] h = refl
 events_quiet s first ws (o ∷ os) h =
-    ap (λ (es : List BlockEvent). es ++ block_events s first ws os) (either_none (is_on first ws o.guard) (form_events s first ws o.form) (form_events_quiet s first ws o.form h.0)) ∙ events_quiet s first ws os h.1
+    ap (λ (es : List BlockEvent). es ++ block_events s first ws os) (either_none (is_on first ws o.guard) (operation_form_events s first ws o.form) (form_events_quiet s first ws o.form h.0)) ∙ events_quiet s first ws os h.1
 
 pub sets_quiet : (first : ℕ) (ws : List Word) (os : List Operation) → AllByRecursion IsQuiet os → block_sets first ws os ≡ []
 sets_quiet first ws [] h = refl

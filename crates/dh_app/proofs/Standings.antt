@@ -16,7 +16,7 @@ use Rattle.dh_tree.specs.Elements.{Spot, spot_of, spot_in_bank, dims_at}
 use Rattle.dh_tree.specs.Tables.{Fits}
 use Rattle.dh_meaning.specs.Core.{Reach, CoreTerm, literal, truth_literal, variable, read, binary, convert, Target, by_indices, by_views, by_row, CoreTerms, no_terms, term_and, CoreCommand, store, assign, keep, choose, CoreCommands, no_commands, command_and, CoreProgram}
 use Rattle.dh_meaning.specs.Effects as effects
-use Rattle.dh_meaning.specs.Effects.{Begun, Variables, Event, reads, writes, faults, kind_in, is_inside, is_row, indices_through, spot_if_inside, value_of, values_of, spot_reached, term_events, target_events, terms_events, read_made, write_made, kept_bits, Effect, store_events, stored_at, assigned_at, kept_at, tested_at, at_each, paths_where, holds_at, command_run, commands_run, Block, commands, tests, block_run, written}
+use Rattle.dh_meaning.specs.Effects.{Begun, Variables, Event, reads, writes, faults, kind_in, is_inside, is_row, indices_through, spot_if_inside, value_of_term, values_of, spot_reached, term_events, target_events, terms_events, read_made, write_made, kept_bits, Effect, store_events, stored_at, assigned_at, kept_at, tested_at, at_each, paths_where, holds_at, command_run, commands_run, Block, commands, tests, block_run, written}
 use Rattle.dh_meaning.specs.Paths.{Path}
 use Rattle.dh_meaning.specs.Runs.{RunPlace, ended, at, place_run, RunState, begun_at, step_effect, state_after, step_from, next_state, run_state}
 
@@ -113,16 +113,16 @@ module _ (b : Begun) where
   write_small variables path r (by_views steps count indices) value l =
       led_small b.table r path value l (indices_through steps (take count (values_of b variables path indices)) (drop count (values_of b variables path indices)))
   write_small variables path r (by_row bank row) value l =
-      made_small b.table r path value (spot_in_bank b.table r.memory bank (unsigned_abs (words.value_of (value_of b variables path row)))) l
-      (is_row (dims_at b.table r.memory) (words.value_of (value_of b variables path row)))
+      made_small b.table r path value (spot_in_bank b.table r.memory bank (unsigned_abs (words.value_of (value_of_term b variables path row)))) l
+      (is_row (dims_at b.table r.memory) (words.value_of (value_of_term b variables path row)))
 
   store_small : (r : Reach) (target : Target) (value : CoreTerm) (path : Path) (e : Effect) → AreSmall b.table e.events → AreSmall b.table (stored_at b r target value path e).events
   store_small r target value path e h =
       joined b.table e.events _ h
       (joined b.table (term_events b e.variables path value) _ (term_small e.variables path value)
       (joined b.table (target_events b e.variables path target) _ (target_small e.variables path target)
-      (write_small e.variables path r target (kept_bits b.table r.memory (value_of b e.variables path value))
-      (residue-lt (2 ^ width_of (kind_in b.table r.memory)) (words.value_of (value_of b e.variables path value)) (pow_pos (width_of (kind_in b.table r.memory)))))))
+      (write_small e.variables path r target (kept_bits b.table r.memory (value_of_term b e.variables path value))
+      (residue-lt (2 ^ width_of (kind_in b.table r.memory)) (words.value_of (value_of_term b e.variables path value)) (pow_pos (width_of (kind_in b.table r.memory)))))))
 
   each_small : (run : Path → Effect → Effect) → ((path : Path) (e : Effect) → AreSmall b.table e.events → AreSmall b.table (run path e).events) → (paths : List Path) (e : Effect)
       → AreSmall b.table e.events → AreSmall b.table (at_each run paths e).events

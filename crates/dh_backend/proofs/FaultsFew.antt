@@ -11,7 +11,7 @@ use Rattle.dh_meaning.specs.AccessNumbers.{accesses_of}
 use Rattle.dh_meaning.specs.Paths.{Path, outer_paths, copies_of, all_copies, paths_from}
 use Rattle.dh_meaning.specs.Sites.{Around, nothing_around, in_arm, in_loop, loop_of}
 use Rattle.dh_meets.specs.Charges.{loop_factors, paths_of}
-use Rattle.dh_meets.specs.SourceEvents.{Site, SourceAccess, SourceEvent, accesses, assigned, term_events, terms_events, maybe_events, write_events, site_of, events, command_events, other_events, groups_events, part_events, accesses_in, trace}
+use Rattle.dh_meets.specs.SourceEvents.{Site, SourceAccess, SourceEvent, accesses, assigned, source_term_events, source_terms_events, maybe_events, write_events, site_of, events, command_events, other_events, groups_events, part_events, accesses_in, trace}
 use Rattle.dh_meaning.specs.Ways.{base_of, way_to}
 use Rattle.dh_plan.specs.PlanSizes.{entity_banks_charged, accesses_size, plan_size_of}
 use Rattle.dh_sound.proofs.EventCounts.{events_counted}
@@ -35,26 +35,26 @@ one_more_has (x ∷ loops) c h i = (h.0, one_more_has loops c h.1 i)
 
 module _ (site : Site) (have : HaveCopies site.loops) where
   mutual
-    term_has : (t : Term) → AllHaveCopies (term_events site t)
+    term_has : (t : Term) → AllHaveCopies (source_term_events site t)
     term_has (term place k (number negative n)) = tt
     term_has (term place k (truth_value value)) = tt
     term_has (term place k (named r)) = tt
-    term_has (term place k (accessed r indices)) = both_have (terms_events site indices) _ (terms_have indices) (have, tt)
-    term_has (term place k (in_bank r bank bank_place row)) = both_have (term_events site row) _ (term_has row) (have, tt)
-    term_has (term place k (applied o left right)) = both_have (term_events site left) (term_events site right) (term_has left) (term_has right)
+    term_has (term place k (accessed r indices)) = both_have (source_terms_events site indices) _ (terms_have indices) (have, tt)
+    term_has (term place k (in_bank r bank bank_place row)) = both_have (source_term_events site row) _ (term_has row) (have, tt)
+    term_has (term place k (applied o left right)) = both_have (source_term_events site left) (source_term_events site right) (term_has left) (term_has right)
     term_has (term place k (converted inner to)) = term_has inner
 
-    terms_have : (ts : Terms) → AllHaveCopies (terms_events site ts)
+    terms_have : (ts : Terms) → AllHaveCopies (source_terms_events site ts)
     terms_have no_terms = tt
-    terms_have (term_then t rest) = both_have (term_events site t) (terms_events site rest) (term_has t) (terms_have rest)
+    terms_have (term_then t rest) = both_have (source_term_events site t) (source_terms_events site rest) (term_has t) (terms_have rest)
 
   write_has : (t : Term) → AllHaveCopies (write_events site t)
   write_has (term place k (number negative n)) = tt
   write_has (term place k (truth_value value)) = tt
   write_has (term place k (named r)) = tt
-  write_has (term place k (accessed r indices)) = both_have (terms_events site indices) _ (terms_have indices) (have, tt)
-  write_has (term place k (in_bank r bank bank_place row)) = both_have (term_events site row) _ (term_has row) (have, tt)
-  write_has (term place k (applied o left right)) = both_have (term_events site left) (term_events site right) (term_has left) (term_has right)
+  write_has (term place k (accessed r indices)) = both_have (source_terms_events site indices) _ (terms_have indices) (have, tt)
+  write_has (term place k (in_bank r bank bank_place row)) = both_have (source_term_events site row) _ (term_has row) (have, tt)
+  write_has (term place k (applied o left right)) = both_have (source_term_events site left) (source_term_events site right) (term_has left) (term_has right)
   write_has (term place k (converted inner to)) = term_has inner
 
   maybe_has : (t : Option Term) → AllHaveCopies (maybe_events site t)
@@ -76,15 +76,15 @@ mutual
   form_has r h site have (lets name declared value) = both_have (maybe_events site value) _ (maybe_has site have value) tt
   form_has r h site have (lets_memory name shape shape_places value) = tt
   form_has r h site have (views name parent form) = terms_have site have (terms (offsets_of form))
-  form_has r h site have (assigns target value) = both_have (term_events site value) _ (term_has site have value) tt
-  form_has r h site have (stores target value) = both_have (term_events site value) (write_events site target) (term_has site have value) (write_has site have target)
-  form_has r h site have (reduces target o value) = both_have (term_events site value) _ (term_has site have value) tt
+  form_has r h site have (assigns target value) = both_have (source_term_events site value) _ (term_has site have value) tt
+  form_has r h site have (stores target value) = both_have (source_term_events site value) (write_events site target) (term_has site have value) (write_has site have target)
+  form_has r h site have (reduces target o value) = both_have (source_term_events site value) _ (term_has site have value) tt
   form_has r h site have (calls function arguments) = tt
   form_has r h site have (blocks body) = groups_have r h body
   form_has r h site have (decides test chosen other) =
-      both_have (term_events site test) _ (term_has site have test)
+      both_have (source_term_events site test) _ (term_has site have test)
       (both_have (events (in_arm r site.command true) chosen) _ (events_have (in_arm r site.command true) h chosen) (other_has (in_arm r site.command false) h other))
-  form_has r h site have (repeats test body) = both_have (term_events site test) (events r body) (term_has site have test) (events_have r h body)
+  form_has r h site have (repeats test body) = both_have (source_term_events site test) (events r body) (term_has site have test) (events_have r h body)
   form_has r h site have (counts iterator declared low high factor body combine combine_place) =
       let c = loop_of iterator low high factor in
       both_have (events (in_loop r c) body) _ (events_have (in_loop r c) (inside_loop r c h) body) (other_has (in_loop r c) (inside_loop r c h) combine)

@@ -21,7 +21,7 @@ use Rattle.dh_meaning.specs.AccessNumbers.{accesses_of, groups_accesses, other_a
 use Rattle.dh_meaning.specs.Bindings.{kind_found}
 use Rattle.dh_meaning.specs.Core.{CoreTerm, CoreCommands, no_commands, command_and, keep, variable}
 use Rattle.dh_meaning.specs.CoreOf.{core_action, core_groups, core_other, core_part, core_term, core_terms, entity_number, kept_by, kind_of, memory_of, operation_of, store_to, way_of}
-use Rattle.dh_meaning.specs.Effects.{Effect, Variables, commands_run, entry_kind, value_of}
+use Rattle.dh_meaning.specs.Effects.{Effect, Variables, commands_run, entry_kind, value_of_term}
 use Rattle.dh_meaning.specs.Levels.{any_assigns, assigns_to}
 use Rattle.dh_meaning.specs.Paths.{Path, copies_in}
 use Rattle.dh_meaning.specs.Ways.{Hidden, hidden_in}
@@ -509,7 +509,7 @@ module _ (scene : Scene) (x : BlockStep) (find : ℕ → Option Found) (before :
         (variable (kind_of (known_in scene) r) (depth_in scene (entity_number r.entity)) (entity_number r.entity))
         (V i (entity_number r.entity) (take (depth_in scene (entity_number r.entity)) (path_in around i))) o s.1
         (ap (λ k. word_of k (V i (entity_number r.entity) (take (depth_in scene (entity_number r.entity)) (path_in around i)))) s.1.kind_is)
-        ∙ ap (λ k. word_of (held_at scene.held.now (entity_number r.entity)).kind (words.value_of (value_of (begun_of x) (V i) (path_in around i)
+        ∙ ap (λ k. word_of (held_at scene.held.now (entity_number r.entity)).kind (words.value_of (value_of_term (begun_of x) (V i) (path_in around i)
         (operation_of o k (kind_found t) (variable (kind_of (known_in scene) r) (depth_in scene (entity_number r.entity)) (entity_number r.entity)) (core_term (known_in scene) n t))))) (sym s.1.kind_is);
   }
     where

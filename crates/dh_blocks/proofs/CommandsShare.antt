@@ -16,7 +16,7 @@ use Rattle.dh_meaning.specs.AccessNumbers.{accesses_of, groups_accesses, other_a
 use Rattle.dh_meaning.specs.Core.{CoreTerm, no_commands}
 use Rattle.dh_meaning.specs.CoreOf.{Known, core_action, core_groups, core_other, core_part, core_term, core_terms, entity_number, kept_by, way_of}
 use Rattle.dh_value.specs.Words as words
-use Rattle.dh_meaning.specs.Effects.{Begun, Effect, Variables, commands_run, value_of, values_of}
+use Rattle.dh_meaning.specs.Effects.{Begun, Effect, Variables, commands_run, value_of_term, values_of}
 use Rattle.dh_meaning.specs.Levels.{any_assigns}
 use Rattle.dh_meaning.specs.OnePhase.{form_makes, groups_make, in_one_phase, is_between, makes, other_makes, part_makes}
 use Rattle.dh_meaning.specs.Paths.{Path, copies_in, same_path}
@@ -24,7 +24,7 @@ use Rattle.dh_meaning.specs.Ways.{Hidden, behind_all, hidden_in, part_standings,
 use Rattle.dh_meaning.specs.Sites as sites
 use Rattle.dh_meaning.specs.Sites.{Arm, in_arm}
 use Rattle.dh_meets.specs.Sharing.{all_arms_of, same_arm, same_truth, shared}
-use Rattle.dh_meets.specs.SourceEvents.{Element, with_indices, in_row, SourceEvent, accesses, assigned, command_events, events, groups_events, one_access, other_events, part_events, site_of, term_events, terms_events, write_events}
+use Rattle.dh_meets.specs.SourceEvents.{Element, with_indices, in_row, SourceEvent, accesses, assigned, command_events, events, groups_events, one_access, other_events, part_events, site_of, source_term_events, source_terms_events, write_events}
 use Rattle.dh_sound.specs.BehindViews.{ActionBehind, FormBehind, GroupsBehind, IsOwn, OtherBehind, PartBehind, TermBehind, TermsBehind}
 use Rattle.dh_sound.specs.SimpleForms.{FoldsInJoins, GroupsFoldInJoins, OtherFoldsInJoins, PartFoldsInJoins}
 use Rattle.dh_sound.specs.Straight.{AreNamedActions, AreNamedGroups, AreNamedTerms, IsNamedAction, IsNamedOther, IsNamedTerm, IsTarget as NamesTarget}
@@ -177,7 +177,7 @@ module _ (scene : Scene) (x : BlockStep) (around : Around) (r : Ref) (t : CoreTe
         by : (on : Bool) → (lanes_run x around (assign_run scene x r t) n e).variables entity (take d (path_in around i)) ≡ e.variables entity (take d (path_in around i))
             → (run_if on (assign_run scene x r t) (path_in around n) (lanes_run x around (assign_run scene x r t) n e)).variables entity (take d (path_in around i)) ≡ e.variables entity (take d (path_in around i))
         by true g =
-            ap (λ (c : Bool). if c then words.value_of (value_of (begun_of x) (lanes_run x around (assign_run scene x r t) n e).variables (path_in around n) t) else (lanes_run x around (assign_run scene x r t) n e).variables entity (take d (path_in around i)))
+            ap (λ (c : Bool). if c then words.value_of (value_of_term (begun_of x) (lanes_run x around (assign_run scene x r t) n e).variables (path_in around n) t) else (lanes_run x around (assign_run scene x r t) n e).variables entity (take d (path_in around i)))
             (and_right (entity == entity_number r.entity) _ (apart i n h (let l = low in omega (arith, l, h)) differ d))
             ∙ g
         by false g = g
@@ -273,10 +273,10 @@ module _ (scene : Scene) (x : BlockStep) (find : ℕ → Option Found) (levels :
 
   -- behind an assignment
   assigned_walk : (around : Around) → Here around → (r : sites.Around) (id y : ℕ) (before : List SourceEvent) (n : ℕ) (q : Ref) (t : Term) (e : Effect) → IsOwn program q × TermBehind program y t → IsBehind program y before → IsNamedTerm t
-      → IsOwnOf scene around.levels.now (entity_number q.entity) → CutAt before (term_events (site_of r id) t ++ assigned q.entity ∷ []) n → Agrees n (term_accesses t + 0) (λ k. is_between k n (term_accesses t))
+      → IsOwnOf scene around.levels.now (entity_number q.entity) → CutAt before (source_term_events (site_of r id) t ++ assigned q.entity ∷ []) n → Agrees n (term_accesses t + 0) (λ k. is_between k n (term_accesses t))
       → AreFoundAt find n (term_found scene around x (variables_along scene x around (assign_run scene x q (term_in scene x n t)) e) n t) → KnowsAt around r before (λ i. e.variables)
       → (W : Variables) → ((m : ℕ) → (m == entity_number q.entity) ≡ false → (p : Path) → W m p ≡ e.variables m p)
-      → TermShares scene x find around (variables_along scene x around (assign_run scene x q (term_in scene x n t)) e) n t × KnowsAt around r (before ++ (term_events (site_of r id) t ++ assigned q.entity ∷ [])) (λ i. W)
+      → TermShares scene x find around (variables_along scene x around (assign_run scene x q (term_in scene x n t)) e) n t × KnowsAt around r (before ++ (source_term_events (site_of r id) t ++ assigned q.entity ∷ [])) (λ i. W)
   assigned_walk around here r id y before n q t e names behind named own c agrees f knows W others =
       let V = variables_along scene x around (assign_run scene x q (term_in scene x n t)) e in
       let seen : KnowsAt around r before V =
@@ -285,11 +285,11 @@ module _ (scene : Scene) (x : BlockStep) (find : ℕ → Option Found) (levels :
       ∙ (lanes_seen scene x around q (term_in scene x n t) (subst (λ (ls : List Level). AreSpread ls) (sym here.levels_are) spread)
       (here.long ∙ (sized ∙ ap (λ (ls : List Level). copies_in (level_factors ls)) (sym here.levels_are))) own.full i (subst (λ (m : ℕ). i < m) (sym here.long) h) i (same i) e entity d
       ∙ ap (λ (ls : List Level). e.variables entity (take d (path_at ls i))) here.levels_are))) knows in
-      let w = walk_term scene x find levels size in_block share shares_are around here r id V before n t named (cut_first before (term_events (site_of r id) t) (assigned q.entity ∷ []) n c)
+      let w = walk_term scene x find levels size in_block share shares_are around here r id V before n t named (cut_first before (source_term_events (site_of r id) t) (assigned q.entity ∷ []) n c)
       (own_inside n (term_accesses t) (term_accesses t + 0) agrees (zero_more (term_accesses t))) f seen in (
         w.0,
-        regroup around r (λ i. W) before (term_events (site_of r id) t) (assigned q.entity ∷ [])
-            (knows_over scene x find levels size in_block ways around r (before ++ term_events (site_of r id) t) (assigned q.entity ∷ []) V (λ i. W) y tt (behind_test program y (site_of r id) before t behind names.1)
+        regroup around r (λ i. W) before (source_term_events (site_of r id) t) (assigned q.entity ∷ [])
+            (knows_over scene x find levels size in_block ways around r (before ++ source_term_events (site_of r id) t) (assigned q.entity ∷ []) V (λ i. W) y tt (behind_test program y (site_of r id) before t behind names.1)
             (λ i h m low left p. lanes_other scene x around q (term_in scene x n t) m (other m left) i e p ∙ sym (others m (other m left) p)) w.1),
       )
     where
@@ -309,19 +309,19 @@ module _ (scene : Scene) (x : BlockStep) (find : ℕ → Option Found) (levels :
 
   -- a store, of which no variable is set
   stored_walk : (around : Around) → Here around → (r : sites.Around) (id : ℕ) (before : List SourceEvent) (n : ℕ) (target t : Term) (e : Effect) → NamesTarget target → IsNamedTerm t
-      → CutAt before (term_events (site_of r id) t ++ write_events (site_of r id) target) n → ((k : ℕ) → n ≤ k → k < n + (term_accesses t + term_accesses target) → in_block k ≡ true)
+      → CutAt before (source_term_events (site_of r id) t ++ write_events (site_of r id) target) n → ((k : ℕ) → n ≤ k → k < n + (term_accesses t + term_accesses target) → in_block k ≡ true)
       → AreFoundAt find n (form_of_found scene x around no_arms n (stores target t) e) → KnowsAt around r before (variables_along scene x around (store_run scene x n target t) e)
       → SharesInForm scene x find around no_arms n (stores target t) e
-      × KnowsAt around r (before ++ (term_events (site_of r id) t ++ write_events (site_of r id) target)) (variables_along scene x around (store_run scene x n target t) e)
+      × KnowsAt around r (before ++ (source_term_events (site_of r id) t ++ write_events (site_of r id) target)) (variables_along scene x around (store_run scene x n target t) e)
   stored_walk around here r id before n target t e names named c within f knows =
       let V = variables_along scene x around (store_run scene x n target t) e in
-      let w = walk_term scene x find levels size in_block share shares_are around here r id V before n t named (cut_first before (term_events (site_of r id) t) (write_events (site_of r id) target) n c)
+      let w = walk_term scene x find levels size in_block share shares_are around here r id V before n t named (cut_first before (source_term_events (site_of r id) t) (write_events (site_of r id) target) n c)
       (λ k l u. within k l (omega (arith, u))) (found_first (IsFoundAt find) n (term_found scene around x V n t) _ f) knows in
-      let v = target_walk V (before ++ term_events (site_of r id) t) (n + term_accesses t) target names
-      (cut_then before (term_events (site_of r id) t) (write_events (site_of r id) target) n (n + term_accesses t) c (ap (λ m. n + m) (sym (term_counted (site_of r id) t))))
+      let v = target_walk V (before ++ source_term_events (site_of r id) t) (n + term_accesses t) target names
+      (cut_then before (source_term_events (site_of r id) t) (write_events (site_of r id) target) n (n + term_accesses t) c (ap (λ m. n + m) (sym (term_counted (site_of r id) t))))
       (λ k l u. within k (omega (arith, l)) (omega (arith, u)))
       (found_then (IsFoundAt find) n (n + term_accesses t) (term_found scene around x V n t) _ (ap (λ m. n + m) (sym (term_long scene around x V n t))) f) w.1 in
-      ((w.0, v.0), regroup around r V before (term_events (site_of r id) t) (write_events (site_of r id) target) v.1)
+      ((w.0, v.0), regroup around r V before (source_term_events (site_of r id) t) (write_events (site_of r id) target) v.1)
     where
       written : (V : ℕ → Variables) (front : List SourceEvent) (place : _) (entity : Option ℕ) (element : Element) (more : List SourceEvent) → KnowsAt around r (front ++ more) V
           → KnowsAt around r (front ++ (more ++ one_access place entity element true (site_of r id))) V
@@ -333,13 +333,13 @@ module _ (scene : Scene) (x : BlockStep) (find : ℕ → Option Found) (levels :
           → ((k : ℕ) → m ≤ k → k < m + term_accesses target → in_block k ≡ true) → AreFoundAt find m (target_found scene around x V m target) → KnowsAt around r front V
           → TargetShares scene x find around V m target × KnowsAt around r (front ++ write_events (site_of r id) target) V
       target_walk V front m (term place k (plain.accessed q ts)) names c within f knows =
-          let w = walk_terms scene x find levels size in_block share shares_are around here r id V front m ts names (cut_first front (terms_events (site_of r id) ts) _ m c)
+          let w = walk_terms scene x find levels size in_block share shares_are around here r id V front m ts names (cut_first front (source_terms_events (site_of r id) ts) _ m c)
           (λ j l u. within j l (let a : m + terms_accesses ts < m + suc (terms_accesses ts) = omega arith in omega (arith, u, a))) (found_first (IsFoundAt find) m (terms_found scene around x V m ts) _ f) knows in
-          (w.0, written V front place q.entity (with_indices ts) (terms_events (site_of r id) ts) w.1)
+          (w.0, written V front place q.entity (with_indices ts) (source_terms_events (site_of r id) ts) w.1)
       target_walk V front m (term place k (plain.in_bank q bank at row)) names c within f knows =
-          let w = walk_term scene x find levels size in_block share shares_are around here r id V front m row names (cut_first front (term_events (site_of r id) row) _ m c)
+          let w = walk_term scene x find levels size in_block share shares_are around here r id V front m row names (cut_first front (source_term_events (site_of r id) row) _ m c)
           (λ j l u. within j l (let a : m + term_accesses row < m + suc (term_accesses row) = omega arith in omega (arith, u, a))) (found_first (IsFoundAt find) m (term_found scene around x V m row) _ f) knows in
-          (w.0, written V front place q.entity (in_row bank row) (term_events (site_of r id) row) w.1)
+          (w.0, written V front place q.entity (in_row bank row) (source_term_events (site_of r id) row) w.1)
       target_walk V front m (term place k (plain.number negative z)) names c within f knows = absurd names
       target_walk V front m (term place k (plain.truth_value b)) names c within f knows = absurd names
       target_walk V front m (term place k (plain.named q)) names c within f knows = absurd names
@@ -354,10 +354,10 @@ module _ (scene : Scene) (x : BlockStep) (find : ℕ → Option Found) (levels :
 
   -- a view whose offsets are kept behind all that is known
   kept_walk : (around : Around) → Here around → (r : sites.Around) (id y : ℕ) (before : List SourceEvent) (n : ℕ) (hs : List Hidden) (ts : List Term) (e : Effect) → HeadIs y hs ts
-      → CanKeep scene around.levels.now table Name hs ts → TermsBehind program y (terms ts) → AreNamedTerms (terms ts) → IsBehind program y before → CutAt before (terms_events (site_of r id) (terms ts)) n
+      → CanKeep scene around.levels.now table Name hs ts → TermsBehind program y (terms ts) → AreNamedTerms (terms ts) → IsBehind program y before → CutAt before (source_terms_events (site_of r id) (terms ts)) n
       → ((k : ℕ) → n ≤ k → k < n + terms_accesses (terms ts) → in_block k ≡ true) → AreFoundAt find n (view_found scene x around n hs ts e) → KnowsAt around r before (λ i. e.variables)
       → SharesInView scene x find around n hs ts e
-      × KnowsAt around r (before ++ terms_events (site_of r id) (terms ts)) (λ i. (commands_run (begun_of x) (paths_on x around) (kept_by hs (core_terms known n (terms ts)) no_commands) e).variables)
+      × KnowsAt around r (before ++ source_terms_events (site_of r id) (terms ts)) (λ i. (commands_run (begun_of x) (paths_on x around) (kept_by hs (core_terms known n (terms ts)) no_commands) e).variables)
   kept_walk around here r id y before n [] [] e head can deep named behind c within f knows =
       (tt, subst (λ (l : List SourceEvent). KnowsAt around r l (λ i. e.variables)) (sym (append-nil before)) knows)
   kept_walk around here r id y before n (h ∷ hs) [] e head can deep named behind c within f knows =
@@ -380,12 +380,12 @@ module _ (scene : Scene) (x : BlockStep) (find : ℕ → Option Found) (levels :
       along : (i : ℕ) → AgreeBelow h.entity e.variables (V i)
       along i = lanes_below scene x around h n all i e
 
-      w : SharesInView scene x find around n (h ∷ hs) all e × KnowsAt around r (before ++ terms_events (site_of r id) (terms all)) V
+      w : SharesInView scene x find around n (h ∷ hs) all e × KnowsAt around r (before ++ source_terms_events (site_of r id) (terms all)) V
       w = walk_terms scene x find levels size in_block share shares_are around here r id V before n (terms all) named c within f
           (knows_kept scene x find levels size in_block ways around r before (λ i. e.variables) V h.entity at_head (λ i l. along i) knows)
 
-      behind_part : IsBehind program h.entity (before ++ terms_events (site_of r id) (terms all))
-      behind_part = behind_then program h.entity h.entity before (terms_events (site_of r id) (terms all)) (same h.entity) at_head
+      behind_part : IsBehind program h.entity (before ++ source_terms_events (site_of r id) (terms all))
+      behind_part = behind_then program h.entity h.entity before (source_terms_events (site_of r id) (terms all)) (same h.entity) at_head
           (terms_seen program h.entity (site_of r id) (terms all) (subst (λ (m : ℕ). TermsBehind program m (terms all)) (sym head) deep))
         where
           same : (m : ℕ) → m ≤ m
@@ -395,8 +395,8 @@ module _ (scene : Scene) (x : BlockStep) (find : ℕ → Option Found) (levels :
       ends m below q = sym (commands_spare (begun_of x) m q (paths_on x around) (kept_by (h ∷ hs) (core_terms known n (terms all)) no_commands) e
           (kept_below known m h.entity n (h ∷ hs) all no_commands below refl))
 
-      after : KnowsAt around r (before ++ terms_events (site_of r id) (terms all)) (λ i. W)
-      after = knows_kept scene x find levels size in_block ways around r (before ++ terms_events (site_of r id) (terms all)) V (λ i. W) h.entity behind_part
+      after : KnowsAt around r (before ++ source_terms_events (site_of r id) (terms all)) (λ i. W)
+      after = knows_kept scene x find levels size in_block ways around r (before ++ source_terms_events (site_of r id) (terms all)) V (λ i. W) h.entity behind_part
           (λ i l m below q. sym (along i m below q) ∙ ends m below q) w.1
 
   -- What a walk of a command gives.
@@ -412,15 +412,15 @@ module _ (scene : Scene) (x : BlockStep) (find : ℕ → Option Found) (levels :
       → Agrees n (term_accesses t + (accesses_of chosen + other_accesses other)) (λ k. form_makes k n (decides t chosen other)) → Stood r id before
       → FormBehind program d y (decides t chosen other) → IsBehind program y before → CutAt before (command_events r (site_of r id) (decides t chosen other)) n
       → AreFoundAt find n (term_found scene around x (variables_along scene x around (test_run scene x n t) e) n t) → KnowsAt around r before (λ i. e.variables)
-      → ((arm : IsArm x around one true (test_out scene x n t e)) → Stood (in_arm r id true) (suc id) (before ++ term_events (site_of r id) t) → IsBehind program y (before ++ term_events (site_of r id) t) → CutAt (before ++ term_events (site_of r id) t) (events (in_arm r id true) chosen) (n + term_accesses t)
+      → ((arm : IsArm x around one true (test_out scene x n t e)) → Stood (in_arm r id true) (suc id) (before ++ source_term_events (site_of r id) t) → IsBehind program y (before ++ source_term_events (site_of r id) t) → CutAt (before ++ source_term_events (site_of r id) t) (events (in_arm r id true) chosen) (n + term_accesses t)
       → Agrees (n + term_accesses t) (accesses_of chosen) (λ k. makes k (n + term_accesses t) chosen)
-      → KnowsAt one (in_arm r id true) (before ++ term_events (site_of r id) t) (λ i. (tested scene x around n t e).variables)
+      → KnowsAt one (in_arm r id true) (before ++ source_term_events (site_of r id) t) (λ i. (tested scene x around n t e).variables)
       → SharesIn scene x find one inside (n + term_accesses t) chosen (tested scene x around n t e))
-      → ((arm : IsArm x around one true (test_out scene x n t e)) (second : IsArm x around two false (test_out scene x n t e)) → Stood (in_arm r id false) (suc id + commands_in chosen) ((before ++ term_events (site_of r id) t) ++ events (in_arm r id true) chosen)
-      → IsBehind program (behind_all y (standings d chosen)) ((before ++ term_events (site_of r id) t) ++ events (in_arm r id true) chosen)
-      → CutAt ((before ++ term_events (site_of r id) t) ++ events (in_arm r id true) chosen) (other_events (in_arm r id false) other) (n + term_accesses t + accesses_of chosen)
+      → ((arm : IsArm x around one true (test_out scene x n t e)) (second : IsArm x around two false (test_out scene x n t e)) → Stood (in_arm r id false) (suc id + commands_in chosen) ((before ++ source_term_events (site_of r id) t) ++ events (in_arm r id true) chosen)
+      → IsBehind program (behind_all y (standings d chosen)) ((before ++ source_term_events (site_of r id) t) ++ events (in_arm r id true) chosen)
+      → CutAt ((before ++ source_term_events (site_of r id) t) ++ events (in_arm r id true) chosen) (other_events (in_arm r id false) other) (n + term_accesses t + accesses_of chosen)
       → Agrees (n + term_accesses t + accesses_of chosen) (other_accesses other) (λ k. other_makes k (n + term_accesses t + accesses_of chosen) other)
-      → KnowsAt two (in_arm r id false) ((before ++ term_events (site_of r id) t) ++ events (in_arm r id true) chosen) (λ i. (effect_of scene x (paths_on x one) (n + term_accesses t) chosen (tested scene x around n t e)).variables)
+      → KnowsAt two (in_arm r id false) ((before ++ source_term_events (site_of r id) t) ++ events (in_arm r id true) chosen) (λ i. (effect_of scene x (paths_on x one) (n + term_accesses t) chosen (tested scene x around n t e)).variables)
       → SharesInOther scene x find two behind (n + term_accesses t + accesses_of chosen) other (effect_of scene x (paths_on x one) (n + term_accesses t) chosen (tested scene x around n t e)))
       → SharesInForm scene x find around (arms_of one two inside behind) n (decides t chosen other) e
       × KnowsAt around r (before ++ command_events r (site_of r id) (decides t chosen other)) (λ i. (commands_run (begun_of x) (paths_on x around) (core_action known n (action id (record { line = 0; column = 0 }) (decides t chosen other)) no_commands) e).variables)
@@ -437,7 +437,7 @@ module _ (scene : Scene) (x : BlockStep) (find : ℕ → Option Found) (levels :
   )
     where
       te : List SourceEvent
-      te = term_events (site_of r id) t
+      te = source_term_events (site_of r id) t
 
       ce : List SourceEvent
       ce = events (in_arm r id true) chosen
@@ -578,7 +578,7 @@ module _ (scene : Scene) (x : BlockStep) (find : ℕ → Option Found) (levels :
         let w = stored_walk around here r id before n target t e names.0 names.1 c (own_inside n (term_accesses t + term_accesses target) (term_accesses t + term_accesses target + 0) agrees (zero_more (term_accesses t + term_accesses target))) f
         (knows_seen scene x find levels size in_block around r before (λ i. e.variables) V (λ i l entity d. ap (λ (v : Variables). v entity (take d (path_at levels i))) (sym (same i))) knows) in (
           w.0,
-          knows_seen scene x find levels size in_block around r (before ++ (term_events (site_of r id) t ++ write_events (site_of r id) target)) V (λ i. (effect_of scene x (paths_on x around) n (action id place (stores target t)) e).variables)
+          knows_seen scene x find levels size in_block around r (before ++ (source_term_events (site_of r id) t ++ write_events (site_of r id) target)) V (λ i. (effect_of scene x (paths_on x around) n (action id place (stores target t)) e).variables)
               (λ i l entity d. ap (λ (v : Variables). v entity (take d (path_at levels i))) (same i)
               ∙ sym (left around n (action id place (stores target t)) e entity (take d (path_at levels i)) (store_assigns program known ways entity (n + term_accesses t) target (core_term known n t) no_commands))) w.1,
         )
@@ -594,11 +594,11 @@ module _ (scene : Scene) (x : BlockStep) (find : ℕ → Option Found) (levels :
         (subst (λ (k : ℕ). IsNumbered (suc k) chosen × IsNumberedOther (suc k + commands_in chosen) other) (sym h.0) h.1) names agrees
         (subst (λ (k : ℕ). Stood r k before) (sym h.0) stood) nb at c (found_first (IsFoundAt find) n (term_found scene around x _ n t) _ f) knows
         (λ arm stands seen cut agree known_here.
-        (walk_action one inside (λ i. ⊥) (in_arm r id true) (suc id) d y (before ++ term_events (site_of r id) t) (n + term_accesses t) chosen (tested scene x around n t e) (inner around one true (test_out scene x n t e) arm here)
+        (walk_action one inside (λ i. ⊥) (in_arm r id true) (suc id) d y (before ++ source_term_events (site_of r id) t) (n + term_accesses t) chosen (tested scene x around n t e) (inner around one true (test_out scene x n t e) arm here)
         (subst (λ (k : ℕ). IsNumbered (suc k) chosen) (sym h.0) h.1.0) names.1.0 simple.0 nb.1.0 seen (subst (λ (ls : List Level). SoundAt ls (λ i. ⊥) chosen) (sym arm.levels) s.1.0) shape.0 agree stands cut
         (found_first (IsFoundAt find) (n + term_accesses t) (found scene x one inside (n + term_accesses t) chosen (tested scene x around n t e)) _ arms_found) known_here).0)
         (λ arm second stands seen cut agree known_here.
-        (walk_other two behind (λ i. ⊥) (in_arm r id false) (suc id + commands_in chosen) d (behind_all y (standings d chosen)) ((before ++ term_events (site_of r id) t) ++ events (in_arm r id true) chosen) (n + term_accesses t + accesses_of chosen) other
+        (walk_other two behind (λ i. ⊥) (in_arm r id false) (suc id + commands_in chosen) d (behind_all y (standings d chosen)) ((before ++ source_term_events (site_of r id) t) ++ events (in_arm r id true) chosen) (n + term_accesses t + accesses_of chosen) other
         (effect_of scene x (paths_on x one) (n + term_accesses t) chosen (tested scene x around n t e)) (inner around two false (test_out scene x n t e) second here)
         (subst (λ (k : ℕ). IsNumberedOther (suc k + commands_in chosen) other) (sym h.0) h.1.1) names.1.1 simple.1 nb.1.1 seen
         (subst (λ (ls : List Level). SoundOther scene ls table Name (λ i. ⊥) other) (sym second.levels) s.1.1) shape.1 agree stands cut

@@ -16,7 +16,7 @@ use Rattle.dh_meaning.specs.Levels.{any_assigns}
 use Rattle.dh_meaning.specs.Ways.{Hidden, Way, behind_all, hidden_from, hidden_in, part_standings, standings, way_to}
 use Rattle.dh_meaning.specs.Sites as sites
 use Rattle.dh_meaning.specs.Sites.{in_arm}
-use Rattle.dh_meets.specs.SourceEvents.{SourceEvent, accesses, assigned, events, groups_events, other_events, part_events, site_of, term_events}
+use Rattle.dh_meets.specs.SourceEvents.{SourceEvent, accesses, assigned, events, groups_events, other_events, part_events, site_of, source_term_events}
 use Rattle.dh_sound.specs.BehindViews.{ActionBehind, GroupsBehind, IsOwn, KeepsFrom, OtherBehind, PartBehind}
 use Rattle.dh_sound.proofs.EventsBehind.{behind_more}
 use Rattle.dh_blocks.proofs.ElementsAlike.{HasAssigned, IsFree}
@@ -132,10 +132,10 @@ module _ (p : Program) (known : Known) (ways : known ≡ known_of p) (m : ℕ) w
     -- below the first variable that its views keep, a command sets names of the program, which are assigned among its events
     pub events_assign : (r : sites.Around) (d y n : ℕ) (a : Action) (rest : CoreCommands) → m < y → ActionBehind p d y a → any_assigns m (core_action known n a rest) ≡ true → IsAssigned (events r a) ⊎ (any_assigns m rest ≡ true)
     events_assign r d y n (action id place (lets q declared None)) rest below names h = one_assigned q [] (any_assigns m rest) names.0 h
-    events_assign r d y n (action id place (lets q declared (Some t))) rest below names h = one_assigned q (term_events (site_of r id) t) (any_assigns m rest) names.0 h
-    events_assign r d y n (action id place (assigns q t)) rest below names h = one_assigned q (term_events (site_of r id) t) (any_assigns m rest) names.0 h
+    events_assign r d y n (action id place (lets q declared (Some t))) rest below names h = one_assigned q (source_term_events (site_of r id) t) (any_assigns m rest) names.0 h
+    events_assign r d y n (action id place (assigns q t)) rest below names h = one_assigned q (source_term_events (site_of r id) t) (any_assigns m rest) names.0 h
     events_assign r d y n (action id place (stores target t)) rest below names h = inr (sym (store_assigns (n + term_accesses t) target (core_term known n t) rest) ∙ h)
-    events_assign r d y n (action id place (reduces q o t)) rest below names h = one_assigned q (term_events (site_of r id) t) (any_assigns m rest) names.0 h
+    events_assign r d y n (action id place (reduces q o t)) rest below names h = one_assigned q (source_term_events (site_of r id) t) (any_assigns m rest) names.0 h
     events_assign r d y n (action id place (decides t chosen other)) rest below names h =
         by (λ g. none_more (events (in_arm r id true) chosen) (events_assign (in_arm r id true) d y (n + term_accesses t) chosen no_commands below names.1.0 g))
         (λ g. others_assign (in_arm r id false) d (behind_all y (standings d chosen)) (n + term_accesses t + accesses_of chosen) other (let l = behind_more y (standings d chosen) in omega (arith, l, below)) names.1.1 g)
@@ -144,10 +144,10 @@ module _ (p : Program) (known : Known) (ways : known ≡ known_of p) (m : ℕ) w
         by : (any_assigns m (core_action known (n + term_accesses t) chosen no_commands) ≡ true → IsAssigned (events (in_arm r id true) chosen))
             → (any_assigns m (core_other known (n + term_accesses t + accesses_of chosen) other) ≡ true → IsAssigned (other_events (in_arm r id false) other))
             → ((any_assigns m (core_action known (n + term_accesses t) chosen no_commands) || any_assigns m (core_other known (n + term_accesses t + accesses_of chosen) other)) ≡ true) ⊎ (any_assigns m rest ≡ true)
-            → IsAssigned (term_events (site_of r id) t ++ (events (in_arm r id true) chosen ++ other_events (in_arm r id false) other)) ⊎ (any_assigns m rest ≡ true)
+            → IsAssigned (source_term_events (site_of r id) t ++ (events (in_arm r id true) chosen ++ other_events (in_arm r id false) other)) ⊎ (any_assigns m rest ≡ true)
         by one two (inr e) = inr e
         by one two (inl e) =
-            inl (at_right (term_events (site_of r id) t) _
+            inl (at_right (source_term_events (site_of r id) t) _
             (elim (either_of (any_assigns m (core_action known (n + term_accesses t) chosen no_commands)) (any_assigns m (core_other known (n + term_accesses t + accesses_of chosen) other)) e) [
               | inl g ↦ at_left (events (in_arm r id true) chosen) (other_events (in_arm r id false) other) (one g)
               | inr g ↦ at_right (events (in_arm r id true) chosen) (other_events (in_arm r id false) other) (two g)

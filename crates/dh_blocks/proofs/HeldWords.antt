@@ -19,7 +19,7 @@ use Rattle.dh_tree.specs.PlainTrees.{Term, term}
 use Rattle.dh_meaning.specs.Bindings.{kind_found}
 use Rattle.dh_meaning.specs.Core.{CoreTerm}
 use Rattle.dh_meaning.specs.CoreOf.{Known, core_term, entity_number, extended, operation_of}
-use Rattle.dh_meaning.specs.Effects.{Begun, Variables, value_of}
+use Rattle.dh_meaning.specs.Effects.{Begun, Variables, value_of_term}
 use Rattle.dh_meaning.specs.Paths.{Path}
 use Rattle.dh_tree.specs.Kinds.{same_kind}
 use Rattle.dh_expressions.specs.Shown.{conversion_shown, extended_shown, held_shown, is_kept, is_read_term, kind_written, lowest_bit}
@@ -60,7 +60,7 @@ other_is j k w h = by (cases_Bool (same_kind j k))
 
 module _ (b : Begun) (v : Variables) (path : Path) (known : Known) (Name : Ref → Kind → Type 0) (n : ℕ) (t : Term) (s : IsSound known b.table Name t) where
   abbrev value : Word
-  value = value_of b v path (core_term known n t)
+  value = value_of_term b v path (core_term known n t)
 
   pub converted_is : (to : Kind) → conversion_shown t to value ≡ word_of to (words.value_of value)
   converted_is to = by (cases_Bool (is_kept t to))
@@ -83,19 +83,19 @@ module _ (b : Begun) (v : Variables) (path : Path) (known : Known) (Name : Ref �
 
   -- what a reducer puts together, of operands that are extended to an integer kind
   reduced_by : (o : Op) (j w : Kind) (z : ℤ) (l : CoreTerm) → ((m : ℕ) → Suits o (kind.Unsigned m) (kind.Unsigned m)) → ((m : ℕ) → Suits o (kind.Signed m) (kind.Signed m)) → ((k : Kind) → result_of o k ≡ k)
-      → IsInteger w → IsKind j → value_of b v path l ≡ word_of j z
+      → IsInteger w → IsKind j → value_of_term b v path l ≡ word_of j z
       → in_own_kind (same_kind j w) j (binary_of o (old_extended j w (word_of j z)) (extended_shown t w value))
-      ≡ word_of j (words.value_of (binary_of o (value_of b v path (extended w l)) (value_of b v path (extended w (core_term known n t)))))
+      ≡ word_of j (words.value_of (binary_of o (value_of_term b v path (extended w l)) (value_of_term b v path (extended w (core_term known n t)))))
   reduced_by o j kind.Bool z l u s same h sized is = absurd h
   reduced_by o j (kind.Unsigned m) z l u s same h sized is =
       ap (λ a. in_own_kind (same_kind j (kind.Unsigned m)) j (binary_of o a (conversion_shown t (kind.Unsigned m) value)))
       (own_is j (kind.Unsigned m) (word_of j z) (of_word j z sized) ∙ ap (λ a. word_of (kind.Unsigned m) (words.value_of a)) (sym is))
-      ∙ (ap (λ a. in_own_kind (same_kind j (kind.Unsigned m)) j (binary_of o (word_of (kind.Unsigned m) (words.value_of (value_of b v path l))) a)) (converted_is (kind.Unsigned m))
+      ∙ (ap (λ a. in_own_kind (same_kind j (kind.Unsigned m)) j (binary_of o (word_of (kind.Unsigned m) (words.value_of (value_of_term b v path l))) a)) (converted_is (kind.Unsigned m))
       ∙ other_is j (kind.Unsigned m) _ (both_word b v path o (kind.Unsigned m) l (core_term known n t) u s same h))
   reduced_by o j (kind.Signed m) z l u s same h sized is =
       ap (λ a. in_own_kind (same_kind j (kind.Signed m)) j (binary_of o a (conversion_shown t (kind.Signed m) value)))
       (own_is j (kind.Signed m) (word_of j z) (of_word j z sized) ∙ ap (λ a. word_of (kind.Signed m) (words.value_of a)) (sym is))
-      ∙ (ap (λ a. in_own_kind (same_kind j (kind.Signed m)) j (binary_of o (word_of (kind.Signed m) (words.value_of (value_of b v path l))) a)) (converted_is (kind.Signed m))
+      ∙ (ap (λ a. in_own_kind (same_kind j (kind.Signed m)) j (binary_of o (word_of (kind.Signed m) (words.value_of (value_of_term b v path l))) a)) (converted_is (kind.Signed m))
       ∙ other_is j (kind.Signed m) _ (both_word b v path o (kind.Signed m) l (core_term known n t) u s same h))
 
   found_written : kind_found t ≡ kind_written t
@@ -108,8 +108,8 @@ module _ (b : Begun) (v : Variables) (path : Path) (known : Known) (Name : Ref �
     abbrev own_kind : Kind
     own_kind = (held_at scene.held.now (entity_number r.entity)).kind
 
-    pub reduced_is : (o : Op) → CanReduce scene r o t → value_of b v path l ≡ word_of own_kind z
-        → reduced_shown scene (entity_number r.entity) o t (word_of own_kind z) value ≡ word_of own_kind (words.value_of (value_of b v path (operation_of o own_kind (kind_found t) l (core_term known n t))))
+    pub reduced_is : (o : Op) → CanReduce scene r o t → value_of_term b v path l ≡ word_of own_kind z
+        → reduced_shown scene (entity_number r.entity) o t (word_of own_kind z) value ≡ word_of own_kind (words.value_of (value_of_term b v path (operation_of o own_kind (kind_found t) l (core_term known n t))))
     reduced_is op.Add c is = reduced_by op.Add own_kind (wider own_kind (kind_found t)) z l (λ m. refl) (λ m. refl) (λ k. refl) (subst (λ (k : Kind). IsInteger (wider own_kind k)) (sym found_written) c.integer) c.sized is
     reduced_is op.Sub c is = reduced_by op.Sub own_kind (wider own_kind (kind_found t)) z l (λ m. refl) (λ m. refl) (λ k. refl) (subst (λ (k : Kind). IsInteger (wider own_kind k)) (sym found_written) c.integer) c.sized is
     reduced_is op.Mul c is = reduced_by op.Mul own_kind (wider own_kind (kind_found t)) z l (λ m. refl) (λ m. refl) (λ k. refl) (subst (λ (k : Kind). IsInteger (wider own_kind k)) (sym found_written) c.integer) c.sized is

@@ -22,7 +22,7 @@ use Rattle.dh_meaning.specs.AccessNumbers.{term_accesses}
 use Rattle.dh_meaning.specs.Bindings.{kind_or_first, kind_found}
 use Rattle.dh_meaning.specs.Core.{CoreTerm}
 use Rattle.dh_meaning.specs.CoreOf.{Known, core_term, extended, operation_of}
-use Rattle.dh_meaning.specs.Effects.{Begun, Variables, bits_of, value_of}
+use Rattle.dh_meaning.specs.Effects.{Begun, Variables, bits_of, value_of_term}
 use Rattle.dh_meaning.specs.Paths.{Path}
 use Rattle.dh_tree.specs.Kinds.{same_kind}
 use Rattle.dh_expressions.specs.Shown.{is_kept, is_read_term, kind_written}
@@ -59,25 +59,25 @@ kinds_same (kind.Signed m) (kind.Unsigned n) e = cc
 kinds_same (kind.Signed m) (kind.Signed n) e = ap kind.Signed (eqb-true m n e)
 
 module _ (b : Begun) (v : Variables) (path : Path) where
-  pub extended_word : (w : Kind) (t : CoreTerm) → IsInteger w → IsWordOf w (value_of b v path (extended w t))
+  pub extended_word : (w : Kind) (t : CoreTerm) → IsInteger w → IsWordOf w (value_of_term b v path (extended w t))
   extended_word kind.Bool t h = absurd h
-  extended_word (kind.Unsigned m) t h = of_word (kind.Unsigned m) (words.value_of (value_of b v path t)) h
-  extended_word (kind.Signed m) t h = of_word (kind.Signed m) (words.value_of (value_of b v path t)) h
+  extended_word (kind.Unsigned m) t h = of_word (kind.Unsigned m) (words.value_of (value_of_term b v path t)) h
+  extended_word (kind.Signed m) t h = of_word (kind.Signed m) (words.value_of (value_of_term b v path t)) h
 
   -- of operands that are extended to an integer kind the operation gives a word of it
   pub both_word : (o : Op) (w : Kind) (l r : CoreTerm) → ((m : ℕ) → Suits o (kind.Unsigned m) (kind.Unsigned m)) → ((m : ℕ) → Suits o (kind.Signed m) (kind.Signed m)) → ((k : Kind) → result_of o k ≡ k)
-      → IsInteger w → IsWordOf w (binary_of o (value_of b v path (extended w l)) (value_of b v path (extended w r)))
+      → IsInteger w → IsWordOf w (binary_of o (value_of_term b v path (extended w l)) (value_of_term b v path (extended w r)))
   both_word o kind.Bool l r u s same h = absurd h
   both_word o (kind.Unsigned m) l r u s same h =
-      let x = value_of b v path (extended (kind.Unsigned m) l) in
-      let y = value_of b v path (extended (kind.Unsigned m) r) in
+      let x = value_of_term b v path (extended (kind.Unsigned m) l) in
+      let y = value_of_term b v path (extended (kind.Unsigned m) r) in
       record {
         kind_is = binary_kind o x y ∙ same (kind.Unsigned m);
         word = binary_is_word o x y (extended_word (kind.Unsigned m) l h).word (extended_word (kind.Unsigned m) r h).word (u m);
       }
   both_word o (kind.Signed m) l r u s same h =
-      let x = value_of b v path (extended (kind.Signed m) l) in
-      let y = value_of b v path (extended (kind.Signed m) r) in
+      let x = value_of_term b v path (extended (kind.Signed m) l) in
+      let y = value_of_term b v path (extended (kind.Signed m) r) in
       record {
         kind_is = binary_kind o x y ∙ same (kind.Signed m);
         word = binary_is_word o x y (extended_word (kind.Signed m) l h).word (extended_word (kind.Signed m) r h).word (s m);
@@ -86,15 +86,15 @@ module _ (b : Begun) (v : Variables) (path : Path) where
   shifted_word : (j : Kind) (z : ℤ) (w : Word) → w.kind ≡ j → IsKind j → IsWordOf j (word_of w.kind z)
   shifted_word j z w is sized = subst (λ (i : Kind). IsWordOf j (word_of i z)) (sym is) (of_word j z sized)
 
-  applied_word : (o : Op) (j k r : Kind) (left right : CoreTerm) → GivesKind o j k r → (value_of b v path left).kind ≡ j → IsWordOf r (value_of b v path (operation_of o j k left right))
+  applied_word : (o : Op) (j k r : Kind) (left right : CoreTerm) → GivesKind o j k r → (value_of_term b v path left).kind ≡ j → IsWordOf r (value_of_term b v path (operation_of o j k left right))
   applied_word op.Add j k r left right g is = as_kind (wider j k) r _ (sym g.1) (both_word op.Add (wider j k) left right (λ m. refl) (λ m. refl) (λ i. refl) g.0)
   applied_word op.Sub j k r left right g is = as_kind (wider j k) r _ (sym g.1) (both_word op.Sub (wider j k) left right (λ m. refl) (λ m. refl) (λ i. refl) g.0)
   applied_word op.Mul j k r left right g is = as_kind (wider j k) r _ (sym g.1) (both_word op.Mul (wider j k) left right (λ m. refl) (λ m. refl) (λ i. refl) g.0)
   applied_word op.And j k r left right g is = as_kind (wider j k) r _ (sym g.1) (both_word op.And (wider j k) left right (λ m. refl) (λ m. refl) (λ i. refl) g.0)
   applied_word op.Or j k r left right g is = as_kind (wider j k) r _ (sym g.1) (both_word op.Or (wider j k) left right (λ m. refl) (λ m. refl) (λ i. refl) g.0)
   applied_word op.Xor j k r left right g is = as_kind (wider j k) r _ (sym g.1) (both_word op.Xor (wider j k) left right (λ m. refl) (λ m. refl) (λ i. refl) g.0)
-  applied_word op.Shl j k r left right g is = as_kind j r _ (sym g.1) (shifted_word j _ (value_of b v path left) is g.0)
-  applied_word op.Shr j k r left right g is = as_kind j r _ (sym g.1) (shifted_word j _ (value_of b v path left) is g.0)
+  applied_word op.Shl j k r left right g is = as_kind j r _ (sym g.1) (shifted_word j _ (value_of_term b v path left) is g.0)
+  applied_word op.Shr j k r left right g is = as_kind j r _ (sym g.1) (shifted_word j _ (value_of_term b v path left) is g.0)
   applied_word op.Lt j k r left right g is = as_kind kind.Bool r _ (sym g) (truth_word _)
   applied_word op.Gt j k r left right g is = as_kind kind.Bool r _ (sym g) (truth_word _)
   applied_word op.Le j k r left right g is = as_kind kind.Bool r _ (sym g) (truth_word _)
@@ -109,14 +109,14 @@ module _ (b : Begun) (v : Variables) (path : Path) where
     found_written (term place k f) = refl
 
     -- an operator on parts of which the left one has its kind
-    word_of_parts : (n : ℕ) (k : Kind) (o : Op) (left right : Term) → GivesKind o (kind_written left) (kind_written right) k → (value_of b v path (core_term known n left)).kind ≡ kind_written left
-        → IsWordOf k (value_of b v path (operation_of o (kind_found left) (kind_found right) (core_term known n left) (core_term known (n + term_accesses left) right)))
+    word_of_parts : (n : ℕ) (k : Kind) (o : Op) (left right : Term) → GivesKind o (kind_written left) (kind_written right) k → (value_of_term b v path (core_term known n left)).kind ≡ kind_written left
+        → IsWordOf k (value_of_term b v path (operation_of o (kind_found left) (kind_found right) (core_term known n left) (core_term known (n + term_accesses left) right)))
     word_of_parts n k o left right g is =
         applied_word o (kind_found left) (kind_found right) k (core_term known n left) (core_term known (n + term_accesses left) right)
         (subst (λ (i : Kind). GivesKind o i (kind_found right) k) (sym (found_written left)) (subst (λ (i : Kind). GivesKind o (kind_written left) i k) (sym (found_written right)) g))
         (is ∙ sym (found_written left))
 
-    pub value_kind : (n : ℕ) (t : Term) → IsSound known b.table Name t → (value_of b v path (core_term known n t)).kind ≡ kind_written t
+    pub value_kind : (n : ℕ) (t : Term) → IsSound known b.table Name t → (value_of_term b v path (core_term known n t)).kind ≡ kind_written t
     value_kind n (term place k (number negative z)) h = refl
     value_kind n (term place k (truth_value t)) h = sym h
     value_kind n (term place k (named r)) h = refl
@@ -125,7 +125,7 @@ module _ (b : Begun) (v : Variables) (path : Path) where
     value_kind n (term place k (applied o left right)) h = (word_of_parts n (kind_or_first k) o left right h.1 (value_kind n left h.0.0)).kind_is
     value_kind n (term place k (converted inner to)) h = sym h.1.1
 
-    pub value_word : (n : ℕ) (t : Term) → IsSound known b.table Name t → is_read_term t ≡ false → IsWordOf (kind_written t) (value_of b v path (core_term known n t))
+    pub value_word : (n : ℕ) (t : Term) → IsSound known b.table Name t → is_read_term t ≡ false → IsWordOf (kind_written t) (value_of_term b v path (core_term known n t))
     value_word n (term place k (number negative z)) h no_read = record { kind_is = refl; word = bits_small (kind_or_first k) negative z h }
     value_word n (term place k (truth_value t)) h no_read = as_kind kind.Bool (kind_or_first k) _ (sym h) (truth_word t)
     value_word n (term place k (named r)) h no_read = of_word (kind_or_first k) _ h.1
@@ -136,12 +136,12 @@ module _ (b : Begun) (v : Variables) (path : Path) where
 
     -- what needs no conversion to a kind is a word of it
     pub kept_word : (n : ℕ) (t : Term) (to : Kind) → IsSound known b.table Name t → is_kept t to ≡ true
-        → word_of to (words.value_of (value_of b v path (core_term known n t))) ≡ value_of b v path (core_term known n t)
+        → word_of to (words.value_of (value_of_term b v path (core_term known n t))) ≡ value_of_term b v path (core_term known n t)
     kept_word n t to h kept =
         let both = parts (same_kind (kind_written t) to) (is_read_term t) kept in
         let w = value_word n t h both.1 in
-        let is : (value_of b v path (core_term known n t)).kind ≡ to = w.kind_is ∙ kinds_same (kind_written t) to both.0 in
-        ap (λ k. word_of k (words.value_of (value_of b v path (core_term known n t)))) (sym is) ∙ word_again (value_of b v path (core_term known n t)) w.word
+        let is : (value_of_term b v path (core_term known n t)).kind ≡ to = w.kind_is ∙ kinds_same (kind_written t) to both.0 in
+        ap (λ k. word_of k (words.value_of (value_of_term b v path (core_term known n t)))) (sym is) ∙ word_again (value_of_term b v path (core_term known n t)) w.word
       where
         parts : (x y : Bool) → (x && not y) ≡ true → (x ≡ true) × (y ≡ false)
         parts true false e = (refl, refl)

@@ -15,12 +15,12 @@ use Rattle.dh_tree.specs.Seen.{program_seen}
 use Rattle.dh_meaning.specs.AccessNumbers.{term_accesses, terms_accesses}
 use Rattle.dh_meaning.specs.Bindings.{kind_or_first}
 use Rattle.dh_meaning.specs.CoreOf.{Known, core_form, memory_of}
-use Rattle.dh_meaning.specs.Effects.{Begun, Variables, spot_by_row, value_of}
+use Rattle.dh_meaning.specs.Effects.{Begun, Variables, spot_by_row, value_of_term}
 use Rattle.dh_meaning.specs.OnePhase.{in_one_phase}
 use Rattle.dh_meaning.specs.Sites as sites
 use Rattle.dh_meets.specs.Charges.{element_depends, entity_depends}
 use Rattle.dh_meets.specs.Sharing.{all_arms_of, alike_elements, reassigned, shared, shares_with}
-use Rattle.dh_meets.specs.SourceEvents.{Element, with_indices, in_row, SourceAccess, SourceEvent, one_access, site_of, term_events, terms_events, trace}
+use Rattle.dh_meets.specs.SourceEvents.{Element, with_indices, in_row, SourceAccess, SourceEvent, one_access, site_of, source_term_events, source_terms_events, trace}
 use Rattle.dh_sound.specs.Straight.{AreNamedTerms, IsNamedTerm}
 use Rattle.dh_sound.specs.Trails.{count}
 use Rattle.dh_sound.proofs.KnownReads.{Shares, count_joined, shared_found}
@@ -94,7 +94,7 @@ module _ (scene : Scene) (x : BlockStep) (find : ℕ → Option Found) (levels :
   -- a read by its own form
   module _ (around : Around) (here : IsHere around) (V : ℕ → Variables) (n : ℕ) (place : Place) (k : Kind) (entity : Option ℕ) (form : TermForm) (element : Element)
       (depends : (l : ℕ) → depends_at scene form false l ≡ (entity_depends known.bindings l entity || element_depends known.bindings l element))
-      (word_is : (i : ℕ) → value_of begun (V i) (path_in around i) (core_form known n place k form) ≡ read_value begun known entity (source_spot begun known (V i) (path_in around i) entity element)) (memory : ℕ) where
+      (word_is : (i : ℕ) → value_of_term begun (V i) (path_in around i) (core_form known n place k form) ≡ read_value begun known entity (source_spot begun known (V i) (path_in around i) entity element)) (memory : ℕ) where
     abbrev own : Found
     own = read_found scene around x V n place k memory form
 
@@ -185,13 +185,13 @@ module _ (scene : Scene) (x : BlockStep) (find : ℕ → Option Found) (levels :
   Inside n c = (k : ℕ) → n ≤ k → k < n + c → in_block k ≡ true
 
   indices_word : (around : Around) (V : ℕ → Variables) (n : ℕ) (place : Place) (k : Kind) (r : Ref) (ts : Terms) (i : ℕ)
-      → value_of begun (V i) (path_in around i) (core_form known n place k (accessed r ts)) ≡ read_value begun known r.entity (source_spot begun known (V i) (path_in around i) r.entity (with_indices ts))
+      → value_of_term begun (V i) (path_in around i) (core_form known n place k (accessed r ts)) ≡ read_value begun known r.entity (source_spot begun known (V i) (path_in around i) r.entity (with_indices ts))
   indices_word around V n place k r ts i =
       accessed_is begun known (V i) (path_in around i) n place (Some k) r ts
       ∙ ap (λ zs. read_value begun known r.entity (spot_named begun known (V i) (path_in around i) r.entity zs)) (all_numbers_aside begun known (V i) (path_in around i) n 0 ts)
 
   row_word : (around : Around) (V : ℕ → Variables) (n : ℕ) (place : Place) (k : Kind) (r : Ref) (bank : ℕ) (at : Place) (t : Term) (i : ℕ)
-      → value_of begun (V i) (path_in around i) (core_form known n place k (in_bank r bank at t)) ≡ read_value begun known r.entity (source_spot begun known (V i) (path_in around i) r.entity (in_row bank t))
+      → value_of_term begun (V i) (path_in around i) (core_form known n place k (in_bank r bank at t)) ≡ read_value begun known r.entity (source_spot begun known (V i) (path_in around i) r.entity (in_row bank t))
   row_word around V n place k r bank at t i = ap (λ z. read_value begun known r.entity (spot_by_row begun.table (memory_at begun known r.entity) bank (words.value_of z))) (numbers_aside begun known (V i) (path_in around i) n 0 t)
 
   module _ (around : Around) (here : IsHere around) (r : sites.Around) (id : ℕ) (V : ℕ → Variables) where
@@ -201,7 +201,7 @@ module _ (scene : Scene) (x : BlockStep) (find : ℕ → Option Found) (levels :
     -- a read behind its indices
     read_here : (before : List SourceEvent) (n : ℕ) (place : Place) (k : Option Kind) (q : Ref) (form : TermForm) (element : Element) (front : List SourceEvent) (fs : List Found) (count_of : ℕ)
         → length fs ≡ count_of → count front ≡ count_of → ((l : ℕ) → depends_at scene form false l ≡ (entity_depends known.bindings l q.entity || element_depends known.bindings l element))
-        → ((i : ℕ) → value_of begun (V i) (path_in around i) (core_form known n place (kind_or_first k) form) ≡ read_value begun known q.entity (source_spot begun known (V i) (path_in around i) q.entity element))
+        → ((i : ℕ) → value_of_term begun (V i) (path_in around i) (core_form known n place (kind_or_first k) form) ≡ read_value begun known q.entity (source_spot begun known (V i) (path_in around i) q.entity element))
         → IsNamedElement begun known element → IsCut before (front ++ one_access place q.entity element false (site_of r id)) n → Inside n (suc count_of)
         → AreFoundAt find n (fs ++ read_found scene around x V n place (kind_or_first k) (memory_of known q) form ∷ [])
         → AreShared scene x find n fs × KnowsAt around r (before ++ front) V
@@ -242,43 +242,43 @@ module _ (scene : Scene) (x : BlockStep) (find : ℕ → Option Found) (levels :
         last (suc i) g e = absurd (cc)
 
     mutual
-      pub walk_term : (before : List SourceEvent) (n : ℕ) (t : Term) → IsNamedTerm t → IsCut before (term_events (site_of r id) t) n → Inside n (term_accesses t)
+      pub walk_term : (before : List SourceEvent) (n : ℕ) (t : Term) → IsNamedTerm t → IsCut before (source_term_events (site_of r id) t) n → Inside n (term_accesses t)
           → AreFoundAt find n (term_found scene around x V n t) → KnowsAt around r before V
-          → AreShared scene x find n (term_found scene around x V n t) × KnowsAt around r (before ++ term_events (site_of r id) t) V
+          → AreShared scene x find n (term_found scene around x V n t) × KnowsAt around r (before ++ source_term_events (site_of r id) t) V
       walk_term before n (term place k (number s z)) names c within f knows = ((λ i g e. absurd (cc)), subst (λ (l : List SourceEvent). KnowsAt around r l V) (sym (append-nil before)) knows)
       walk_term before n (term place k (truth_value b)) names c within f knows = ((λ i g e. absurd (cc)), subst (λ (l : List SourceEvent). KnowsAt around r l V) (sym (append-nil before)) knows)
       walk_term before n (term place k (named q)) names c within f knows = ((λ i g e. absurd (cc)), subst (λ (l : List SourceEvent). KnowsAt around r l V) (sym (append-nil before)) knows)
       walk_term before n (term place k (accessed q ts)) names c within f knows =
-          let w = walk_terms before n ts names (first_cut before (terms_events (site_of r id) ts) _ n c) (λ j l u. within j l (let a : n + terms_accesses ts < n + suc (terms_accesses ts) = omega arith in omega (arith, u, a)))
+          let w = walk_terms before n ts names (first_cut before (source_terms_events (site_of r id) ts) _ n c) (λ j l u. within j l (let a : n + terms_accesses ts < n + suc (terms_accesses ts) = omega arith in omega (arith, u, a)))
           (found_first (IsFoundAt find) n (terms_found scene around x V n ts) _ f) knows in
-          read_here before n place k q (accessed q ts) (with_indices ts) (terms_events (site_of r id) ts) (terms_found scene around x V n ts) (terms_accesses ts)
+          read_here before n place k q (accessed q ts) (with_indices ts) (source_terms_events (site_of r id) ts) (terms_found scene around x V n ts) (terms_accesses ts)
           (terms_long scene around x V n ts) (terms_counted (site_of r id) ts) (λ l. refl) (indices_word around V n place (kind_or_first k) q ts) names c within f w
       walk_term before n (term place k (in_bank q bank at t)) names c within f knows =
-          let w = walk_term before n t names (first_cut before (term_events (site_of r id) t) _ n c) (λ j l u. within j l (let a : n + term_accesses t < n + suc (term_accesses t) = omega arith in omega (arith, u, a)))
+          let w = walk_term before n t names (first_cut before (source_term_events (site_of r id) t) _ n c) (λ j l u. within j l (let a : n + term_accesses t < n + suc (term_accesses t) = omega arith in omega (arith, u, a)))
           (found_first (IsFoundAt find) n (term_found scene around x V n t) _ f) knows in
-          read_here before n place k q (in_bank q bank at t) (in_row bank t) (term_events (site_of r id) t) (term_found scene around x V n t) (term_accesses t)
+          read_here before n place k q (in_bank q bank at t) (in_row bank t) (source_term_events (site_of r id) t) (term_found scene around x V n t) (term_accesses t)
           (term_long scene around x V n t) (term_counted (site_of r id) t) (λ l. refl) (row_word around V n place (kind_or_first k) q bank at t) names c within f w
       walk_term before n (term place k (applied o a b)) names c within f knows =
-          let w = walk_term before n a names.0 (first_cut before (term_events (site_of r id) a) _ n c) (λ j l u. within j l (omega (arith, u))) (found_first (IsFoundAt find) n (term_found scene around x V n a) _ f) knows in
-          let v = walk_term (before ++ term_events (site_of r id) a) (n + term_accesses a) b names.1 (then_cut before (term_events (site_of r id) a) _ n (n + term_accesses a) c (ap (λ m. n + m) (sym (term_counted (site_of r id) a))))
+          let w = walk_term before n a names.0 (first_cut before (source_term_events (site_of r id) a) _ n c) (λ j l u. within j l (omega (arith, u))) (found_first (IsFoundAt find) n (term_found scene around x V n a) _ f) knows in
+          let v = walk_term (before ++ source_term_events (site_of r id) a) (n + term_accesses a) b names.1 (then_cut before (source_term_events (site_of r id) a) _ n (n + term_accesses a) c (ap (λ m. n + m) (sym (term_counted (site_of r id) a))))
           (λ j l u. within j (omega (arith, l)) (omega (arith, u)))
           (found_then (IsFoundAt find) n (n + term_accesses a) (term_found scene around x V n a) _ (ap (λ m. n + m) (sym (term_long scene around x V n a))) f) w.1 in (
             all_found_both (IsShared scene x find) n (term_found scene around x V n a) (term_found scene around x V (n + term_accesses a) b) w.0
                 (subst (λ (m : ℕ). AreShared scene x find m (term_found scene around x V (n + term_accesses a) b)) (ap (λ m. n + m) (sym (term_long scene around x V n a))) v.0),
-            regroup before (term_events (site_of r id) a) (term_events (site_of r id) b) v.1,
+            regroup before (source_term_events (site_of r id) a) (source_term_events (site_of r id) b) v.1,
           )
       walk_term before n (term place k (converted inner to)) names c within f knows = walk_term before n inner names c within f knows
 
-      pub walk_terms : (before : List SourceEvent) (n : ℕ) (ts : Terms) → AreNamedTerms ts → IsCut before (terms_events (site_of r id) ts) n → Inside n (terms_accesses ts)
+      pub walk_terms : (before : List SourceEvent) (n : ℕ) (ts : Terms) → AreNamedTerms ts → IsCut before (source_terms_events (site_of r id) ts) n → Inside n (terms_accesses ts)
           → AreFoundAt find n (terms_found scene around x V n ts) → KnowsAt around r before V
-          → AreShared scene x find n (terms_found scene around x V n ts) × KnowsAt around r (before ++ terms_events (site_of r id) ts) V
+          → AreShared scene x find n (terms_found scene around x V n ts) × KnowsAt around r (before ++ source_terms_events (site_of r id) ts) V
       walk_terms before n no_terms names c within f knows = ((λ i g e. absurd (cc)), subst (λ (l : List SourceEvent). KnowsAt around r l V) (sym (append-nil before)) knows)
       walk_terms before n (term_then t ts) names c within f knows =
-          let w = walk_term before n t names.0 (first_cut before (term_events (site_of r id) t) _ n c) (λ j l u. within j l (omega (arith, u))) (found_first (IsFoundAt find) n (term_found scene around x V n t) _ f) knows in
-          let v = walk_terms (before ++ term_events (site_of r id) t) (n + term_accesses t) ts names.1 (then_cut before (term_events (site_of r id) t) _ n (n + term_accesses t) c (ap (λ m. n + m) (sym (term_counted (site_of r id) t))))
+          let w = walk_term before n t names.0 (first_cut before (source_term_events (site_of r id) t) _ n c) (λ j l u. within j l (omega (arith, u))) (found_first (IsFoundAt find) n (term_found scene around x V n t) _ f) knows in
+          let v = walk_terms (before ++ source_term_events (site_of r id) t) (n + term_accesses t) ts names.1 (then_cut before (source_term_events (site_of r id) t) _ n (n + term_accesses t) c (ap (λ m. n + m) (sym (term_counted (site_of r id) t))))
           (λ j l u. within j (omega (arith, l)) (omega (arith, u)))
           (found_then (IsFoundAt find) n (n + term_accesses t) (term_found scene around x V n t) _ (ap (λ m. n + m) (sym (term_long scene around x V n t))) f) w.1 in (
             all_found_both (IsShared scene x find) n (term_found scene around x V n t) (terms_found scene around x V (n + term_accesses t) ts) w.0
                 (subst (λ (m : ℕ). AreShared scene x find m (terms_found scene around x V (n + term_accesses t) ts)) (ap (λ m. n + m) (sym (term_long scene around x V n t))) v.0),
-            regroup before (term_events (site_of r id) t) (terms_events (site_of r id) ts) v.1,
+            regroup before (source_term_events (site_of r id) t) (source_terms_events (site_of r id) ts) v.1,
           )

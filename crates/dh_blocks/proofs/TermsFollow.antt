@@ -16,7 +16,7 @@ use Rattle.dh_tree.specs.PlainTrees.{Term, term, TermForm, number, truth_value, 
 use Rattle.dh_meaning.specs.AccessNumbers.{term_accesses, terms_accesses}
 use Rattle.dh_meaning.specs.Bindings.{Binding, binding_in, depth_bound, kind_or_first}
 use Rattle.dh_meaning.specs.CoreOf.{core_form, depth_of, entity_number, memory_of, way_of}
-use Rattle.dh_meaning.specs.Effects.{Variables, value_of}
+use Rattle.dh_meaning.specs.Effects.{Variables, value_of_term}
 use Rattle.dh_meaning.specs.Paths.{Path, copies_in}
 use Rattle.dh_meaning.specs.Runs.{iterator_value}
 use Rattle.dh_meaning.specs.Ways.{Hidden, Way, hidden_in}
@@ -355,7 +355,7 @@ module _ (scene : Scene) (around : Around) (x : BlockStep) (find : ℕ → Optio
   -- Reads.
 
   abbrev word : (n : ℕ) → Place → Kind → TermForm → (i : ℕ) → Word
-  word n place k form i = value_of (begun_of x) (V i) (path i) (core_form (known_in scene) n place k form)
+  word n place k form i = value_of_term (begun_of x) (V i) (path i) (core_form (known_in scene) n place k form)
 
   abbrev counts : TermForm → ℕ → Bool
   counts form = depends_at scene form false

@@ -9,7 +9,7 @@ use Rattle.dh_tree.specs.PlainTrees.{Term, term, TermForm, number, truth_value, 
 use Rattle.dh_meaning.specs.AccessNumbers.{term_accesses}
 use Rattle.dh_meaning.specs.Bindings.{kind_found, kind_or_first}
 use Rattle.dh_meaning.specs.CoreOf.{Known, core_term, core_terms, kept_terms, way_of}
-use Rattle.dh_meaning.specs.Effects.{Begun, Variables, spot_by_row, value_of, values_of}
+use Rattle.dh_meaning.specs.Effects.{Begun, Variables, spot_by_row, value_of_term, values_of}
 use Rattle.dh_meaning.specs.Paths.{Path}
 use Rattle.dh_meaning.specs.Ways.{Hidden}
 use Rattle.dh_meets.specs.Charges.{entity_depends, term_depends, terms_depend}
@@ -47,7 +47,7 @@ module _ (b : Begun) (known : Known) (v w : Variables) (p q : Path) where
       ap (λ xs. spot_named b known v p r.entity xs) e ∙ ap (λ os. spot_to b.table (memory_at b known r.entity) (way_of known r) ys os) (still agree)
 
   mutual
-    pub settled_value : (n : ℕ) (t : Term) → Settles t → CopiesAgree (λ l. term_depends known.bindings l t) p q → value_of b v p (core_term known n t) ≡ value_of b w q (core_term known n t)
+    pub settled_value : (n : ℕ) (t : Term) → Settles t → CopiesAgree (λ l. term_depends known.bindings l t) p q → value_of_term b v p (core_term known n t) ≡ value_of_term b w q (core_term known n t)
     settled_value n (term place k (number negative z)) s a = refl
     settled_value n (term place k (truth_value t)) s a = refl
     settled_value n (term place k (named r)) s a = ap (λ z. word_of (kind_or_first k) z) (s a)
@@ -70,7 +70,7 @@ module _ (b : Begun) (known : Known) (v w : Variables) (p q : Path) where
     settled_values n (term_then t ts) s a =
         ap (λ x. words.value_of x ∷ values_of b v p (core_terms known (n + term_accesses t) ts))
         (settled_value n t s.0 (agree_left (λ i. term_depends known.bindings i t) (λ i. terms_depend known.bindings i ts) p q a))
-        ∙ ap (λ zs. words.value_of (value_of b w q (core_term known n t)) ∷ zs)
+        ∙ ap (λ zs. words.value_of (value_of_term b w q (core_term known n t)) ∷ zs)
         (settled_values (n + term_accesses t) ts s.1 (agree_right (λ i. term_depends known.bindings i t) (λ i. terms_depend known.bindings i ts) p q a))
 
 -- offsets that are kept have one value at two paths where each variable has

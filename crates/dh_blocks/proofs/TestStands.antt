@@ -10,7 +10,7 @@ use Rattle.dh_meaning.specs.Effects.{Variables}
 use Rattle.dh_meaning.specs.OnePhase.{is_between, test_makes, tests_make}
 use Rattle.dh_meaning.specs.Phases.{Located}
 use Rattle.dh_meaning.specs.Sites as sites
-use Rattle.dh_meets.specs.SourceEvents.{SourceEvent, events, site_of, term_events, trace}
+use Rattle.dh_meets.specs.SourceEvents.{SourceEvent, events, site_of, source_term_events, trace}
 use Rattle.dh_sound.specs.Straight.{IsNamedAction, IsNamedTerm}
 use Rattle.dh_sound.specs.Trails.{StandsBehind, count, of_located}
 use Rattle.dh_expressions.specs.declared.scenes.Around.{Around}
@@ -27,7 +27,7 @@ use Rattle.dh_blocks.proofs.SharesFound.{IsCut, first_cut, walk_term}
 pub record BeginsWith (r : sites.Around) (a : Action) (t : Term) : Type 0 where
   pub id : ℕ
   pub rest : List SourceEvent
-  pub is : events r a ≡ term_events (site_of r id) t ++ rest
+  pub is : events r a ≡ source_term_events (site_of r id) t ++ rest
   pub names : IsNamedAction a → IsNamedTerm t
   pub makes : (k n : ℕ) → tests_make k n a ≡ is_between k n (term_accesses t)
 
@@ -88,8 +88,8 @@ module _ (scene : Scene) (x : BlockStep) (find : ℕ → Option Found) (around :
   b : BeginsWith tested.around tested.command t
   b = begins_with tested.around tested.command t traced.test_is
 
-  cut : IsCut scene x find around.levels.now (paths_counted around) in_block traced.one_phase traced.shares gap (term_events (site_of tested.around b.id) t) first
-  cut = first_cut scene x find around.levels.now (paths_counted around) in_block traced.one_phase traced.shares gap (term_events (site_of tested.around b.id) t) b.rest first
+  cut : IsCut scene x find around.levels.now (paths_counted around) in_block traced.one_phase traced.shares gap (source_term_events (site_of tested.around b.id) t) first
+  cut = first_cut scene x find around.levels.now (paths_counted around) in_block traced.one_phase traced.shares gap (source_term_events (site_of tested.around b.id) t) b.rest first
       (record { after = rest; cut = split ∙ ap (λ l. gap ++ (l ++ rest)) b.is; number = sym traced.first_is ∙ stands.first })
 
   never : (k : ℕ) → k < count gap → tested.first ≤ k → ⊥

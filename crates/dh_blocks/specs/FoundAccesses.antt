@@ -11,7 +11,7 @@ use Rattle.dh_tree.specs.PlainTrees.{Action, action, ActionForm, lets, lets_memo
 use Rattle.dh_meaning.specs.AccessNumbers.{accesses_of, other_accesses, part_accesses, term_accesses, terms_accesses}
 use Rattle.dh_meaning.specs.Bindings.{kind_or_first}
 use Rattle.dh_meaning.specs.CoreOf.{core_form, memory_of, way_of}
-use Rattle.dh_meaning.specs.Effects.{Effect, Variables, value_of}
+use Rattle.dh_meaning.specs.Effects.{Effect, Variables, value_of_term}
 use Rattle.dh_meaning.specs.Paths.{Path}
 use Rattle.dh_meaning.specs.Phases.{Located}
 use Rattle.dh_meaning.specs.Ways.{Hidden, hidden_in}
@@ -34,7 +34,7 @@ module _ (scene : Scene) (around : Around) (x : BlockStep) (variables : ℕ → 
   abbrev pub read_found : (n : ℕ) → Place → Kind → (memory : ℕ) → plain.TermForm → Found
   read_found n place k memory form = record {
     standing = standing_at scene around memory place form false;
-    word = λ path. value_of (begun_of x) (variables path) (path_in around path) (core_form (known_in scene) n place k form);
+    word = λ path. value_of_term (begun_of x) (variables path) (path_in around path) (core_form (known_in scene) n place k form);
   }
 
   abbrev mutual

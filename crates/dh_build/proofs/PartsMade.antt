@@ -27,7 +27,7 @@ use Rattle.dh_control.specs.declared.driving.MemoryPorts.{MemoryPorts}
 use Rattle.dh_control.specs.declared.gathering.Keyed.{Keyed}
 use Rattle.dh_control.specs.AllBlocks.{ChecksSuit, SetsSuit}
 use Rattle.dh_control.specs.ControlsWhole.{ControlMade, OwnWires}
-use Rattle.dh_control.specs.SizedWires.{AreSized}
+use Rattle.dh_control.specs.SizedWires.{WiresAreSized}
 use Rattle.dh_control.specs.WayMoves.{HoldsStates}
 use Rattle.dh_control.specs.WireLists.{EachTells}
 use Rattle.dh_control.proofs.ListFacts.{at_index}
@@ -104,10 +104,10 @@ own_wires d plan s own states h is holds = record {
   holds = subst (λ (n : ℕ). HoldsStates n states) (sym is) holds;
 }
 
-pub registers_sized : (d : PlainCircuit) (plan : PlainPlan) (u : Uses) (w : PlanWires) (widths wires : List ℕ) → ShowsPlan d plan u w → widths ≡ map width_of plan.registers → wires ≡ w.registers.wires → AreSized d widths wires
+pub registers_sized : (d : PlainCircuit) (plan : PlainPlan) (u : Uses) (w : PlanWires) (widths wires : List ℕ) → ShowsPlan d plan u w → widths ≡ map width_of plan.registers → wires ≡ w.registers.wires → WiresAreSized d widths wires
 registers_sized d plan u w widths wires shows widths_are wires_are =
-    subst (λ (l : List ℕ). AreSized d l wires) (sym widths_are)
-    (subst (λ (l : List ℕ). AreSized d (map width_of plan.registers) l) (sym wires_are)
+    subst (λ (l : List ℕ). WiresAreSized d l wires) (sym widths_are)
+    (subst (λ (l : List ℕ). WiresAreSized d (map width_of plan.registers) l) (sym wires_are)
     (let long = length-map plan.registers width_of in
     record {
       long = (let l = shows.registers.long in l ∙ sym long);

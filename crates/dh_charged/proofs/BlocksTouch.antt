@@ -20,7 +20,7 @@ use Rattle.dh_plan.specs.declared.operations.OperationForm.{OperationForm}
 use Rattle.dh_plan.specs.declared.operations.OperationForm.TheVariants.{Check, Compute, Constant, Convert, Old, Probe, Read, Select, Set, Write}
 use Rattle.dh_plan.specs.Correspondence.{Round}
 use Rattle.dh_plan.specs.PlainPlans.{PlainPlan, operations_in}
-use Rattle.dh_plan.specs.PlanPhases.{IsCounterOf, IsIteratorOf, IsRegisterOf, Touches, command_mentions, commands_mention, term_mentions, terms_mention}
+use Rattle.dh_plan.specs.PlanPhases.{IsCounterOf, IsIteratorOf, IsRegisterOf, Touches, command_mentions, commands_mention, term_mentions, core_terms_mention}
 use Rattle.dh_expressions.specs.declared.scenes.Around.{Around}
 use Rattle.dh_expressions.specs.declared.scenes.Scene.{Scene}
 use Rattle.dh_expressions.specs.Evaluated.{counter_of, hidden_register, known_in}
@@ -36,7 +36,7 @@ use Rattle.dh_commands.specs.MadeCommands.{MadeTests}
 use Rattle.dh_commands.specs.ShownVariables.{IsSeen, register_in, seen_path}
 use Rattle.dh_commands.specs.Undone.{AreReady, NoneGiven, given_at}
 use Rattle.dh_laid.specs.BlockSites.{MadeEach}
-use Rattle.dh_laid.specs.LaidQuiet.{StandsIn}
+use Rattle.dh_laid.specs.LaidQuiet.{BlockStandsIn}
 use Rattle.dh_laid.proofs.ValuesLogged.{logged_ready}
 use Rattle.dh_sound.specs.SameKeys.{IsNoIterator}
 use Rattle.dh_blocks.specs.BlockMade.{AreSoundBy, IsPut, set_made, sets_made}
@@ -70,7 +70,7 @@ mutual
   command_assigned : (e : ℕ) (c : CoreCommand) → assigns_to e c ≡ true → command_mentions e c ≡ true
   command_assigned e (store reach target value) h = absurd (cc)
   command_assigned e (assign depth other value) h = first_of (e == other) (term_mentions e value) h
-  command_assigned e (keep depth first values) h = first_of (assigns_to e (keep depth first values)) (terms_mention e values) h
+  command_assigned e (keep depth first values) h = first_of (assigns_to e (keep depth first values)) (core_terms_mention e values) h
   command_assigned e (choose test chosen other) h =
       second_of (term_mentions e test) _
       (elim (either_of (any_assigns e chosen) (any_assigns e other) h) [
@@ -168,7 +168,7 @@ none_ready v count n = record {
 -- Blocks.
 
 module _ (scene : Scene) (around : Around) (plan : PlainPlan) (rounds : List Round) (count block : ℕ) (stands : StandsInPlan scene around plan rounds count) where
-  stands_in : StandsIn scene around
+  stands_in : BlockStandsIn scene around
   stands_in = record { scopes = stands.holds.scopes; low = stands.top.low; few = stands.few }
 
   -- a variable that is seen has its register at each path

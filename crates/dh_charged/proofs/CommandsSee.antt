@@ -48,7 +48,7 @@ use Rattle.dh_commands.proofs.ArmsLeft.{AreSame, same_ready}
 use Rattle.dh_commands.proofs.ChangesBack.{logs_again, logs_none, logs_one}
 use Rattle.dh_commands.proofs.JoinedArms.{first_has}
 use Rattle.dh_laid.specs.LaidCommands.{AreLogged}
-use Rattle.dh_laid.specs.LaidQuiet.{StandsIn}
+use Rattle.dh_laid.specs.LaidQuiet.{BlockStandsIn}
 use Rattle.dh_laid.proofs.ValuesLogged.{IsBack, arm_back, arm_long, logged_ready, stands_arm, tests_same}
 use Rattle.dh_charged.specs.SeenRegisters.{AddsSeeing, GoalsFrom, NamesAction, NamesActions, NamesAim, NamesCommand, NamesGroups, NamesOther, NamesTerm, NamesTerms, NamesView, SeesAndGives, TellsRegisters}
 use Rattle.dh_charged.proofs.TermsSee.{aim_sees, converted_sees, held_sees, number_sees, seeing_again, seeing_none, seeing_pushed, shown_sees, storing_sees, term_sees, terms_sees}
@@ -132,7 +132,7 @@ module _ (scene : Scene) (Sees Target : ℕ → Type 0) (Named : Ref → Type 0)
 
   -- One path.
 
-  module _ (around : Around) (stands : StandsIn scene around) (tells : Tells around) (n : ℕ) (within : n < paths_counted around) where
+  module _ (around : Around) (stands : BlockStandsIn scene around) (tells : Tells around) (n : ℕ) (within : n < paths_counted around) where
     lane_names : (r : Ref) → Named r → Sees (register_seen (counter_of scene (entity_number r.entity)) (held_at scene.held.now (entity_number r.entity)) (lane_of around n))
     lane_names r h = tells.names r n h within
 
@@ -242,14 +242,14 @@ module _ (scene : Scene) (Sees Target : ℕ → Type 0) (Named : Ref → Type 0)
   all_paths : (count : ℕ) → count ≤ count
   all_paths count = omega arith
 
-  tests_see : (around : Around) → StandsIn scene around → Tells around → (first : ℕ) (t : Term) → NamesTerm (known_in scene) Named Kept t → (count : ℕ) (old new : Building) (next : ℕ) (tests : List ℕ) → count ≤ paths_counted around
+  tests_see : (around : Around) → BlockStandsIn scene around → Tells around → (first : ℕ) (t : Term) → NamesTerm (known_in scene) Named Kept t → (count : ℕ) (old new : Building) (next : ℕ) (tests : List ℕ) → count ≤ paths_counted around
       → MadeTests scene around first t count old new next tests → AddsSeeing Sees old.draft new.draft
   tests_see around stands tells first t h zero old new next tests few m = seeing_none Sees old.draft new.draft (ap (λ (b : Building). b.draft) m.0)
   tests_see around stands tells first t h (suc n) old new next tests few m =
       seeing_again Sees old.draft (m.0).draft new.draft (tests_see around stands tells first t h n old m.0 m.1.0 m.1.1.0 (omega (arith, few)) m.1.1.1.1.0)
       (term_sees Sees scene (lane_of around n) stands Named (λ r k. tells.names r n k (omega (arith, few))) Kept (λ h k. tells.kept h n k (omega (arith, few))) (m.0).values.current.items t (m.0).draft new.draft (m.0).accesses new.accesses first next m.1.1.1.0 h (m.1.1.1.1.1.0).term)
 
-  pub tests_do : (around : Around) → StandsIn scene around → Tells around → (first : ℕ) (t : Term) → NamesTerm (known_in scene) Named Kept t → (old new : Building) (next : ℕ) (tests : List ℕ)
+  pub tests_do : (around : Around) → BlockStandsIn scene around → Tells around → (first : ℕ) (t : Term) → NamesTerm (known_in scene) Named Kept t → (old new : Building) (next : ℕ) (tests : List ℕ)
       → MadeTests scene around first t (paths_counted around) old new next tests → Does old new
   tests_do around stands tells first t h old new next tests m = record {
     sees = tests_see around stands tells first t h (paths_counted around) old new next tests (all_paths (paths_counted around)) m;
@@ -383,7 +383,7 @@ module _ (scene : Scene) (Sees Target : ℕ → Type 0) (Named : Ref → Type 0)
   }
 
   module _ (Chosen Other : Around → (tests : List ℕ) → (old new : Building) → (first next : ℕ) → (lefts : List Left) → Type 0) (t : Term) (around : Around) (old new : Building) (first next : ℕ) (m : MadeIf scene Chosen Other t around old new first next)
-      (stands : StandsIn scene around) (tells : Tells around) (named : NamesTerm (known_in scene) Named Kept t) (ready : AreReady old.values)
+      (stands : BlockStandsIn scene around) (tells : Tells around) (named : NamesTerm (known_in scene) Named Kept t) (ready : AreReady old.values)
       (chosen : AreReady m.tested.values → SeesArm m.tested m.after_chosen m.chosen_left) (other : AreReady m.after_chosen.values → SeesArm m.after_chosen m.after_other m.other_left) where
     tested : Does old m.tested
     tested = tests_do around stands tells first t named old m.tested m.own m.tests m.test
@@ -420,7 +420,7 @@ module _ (scene : Scene) (Sees Target : ℕ → Type 0) (Named : Ref → Type 0)
   abbrev tests_many : (around : Around) (first : ℕ) (t : Term) (old new : Building) (next : ℕ) (tests : List ℕ) → MadeTests scene around first t (paths_counted around) old new next tests → length tests ≡ paths_counted around
   tests_many around first t old new next tests m = (tests_same scene around first t (paths_counted around) old new next tests m).1
 
-  view_sees : (hs : List Hidden) (form : ViewPlan) (around : Around) (old new : Building) (first next : ℕ) → StandsIn scene around → Tells around → NamesView (known_in scene) Named Kept Goal hs (offsets_of form)
+  view_sees : (hs : List Hidden) (form : ViewPlan) (around : Around) (old new : Building) (first next : ℕ) → BlockStandsIn scene around → Tells around → NamesView (known_in scene) Named Kept Goal hs (offsets_of form)
       → MadeView scene hs form around old new first next → Does old new
   view_sees [] form around old new first next s tells h m = does_none old new m.still
   view_sees (k ∷ hs) form around old new first next s tells h m =
@@ -428,10 +428,10 @@ module _ (scene : Scene) (Sees Target : ℕ → Type 0) (Named : Ref → Type 0)
       (λ n b d l less one. kept_sees around s tells n less first k.entity (offsets_of form) b d l h.0 h.1 one) (paths_counted around) first old new next (all_paths (paths_counted around)) m
 
   mutual
-    pub command_sees : (a : Action) (around : Around) (old new : Building) (first next : ℕ) → StandsIn scene around → Tells around → NamesCommand (known_in scene) Named Kept Goal a → MadeCommand scene a around old new first next → AreReady old.values → Does old new
+    pub command_sees : (a : Action) (around : Around) (old new : Building) (first next : ℕ) → BlockStandsIn scene around → Tells around → NamesCommand (known_in scene) Named Kept Goal a → MadeCommand scene a around old new first next → AreReady old.values → Does old new
     command_sees (action id place form) around old new first next s tells h m ready = action_sees form around old new first next s tells h m ready
 
-    action_sees : (form : ActionForm) (around : Around) (old new : Building) (first next : ℕ) → StandsIn scene around → Tells around → NamesAction (known_in scene) Named Kept Goal form → MadeActionForm scene form around old new first next → AreReady old.values → Does old new
+    action_sees : (form : ActionForm) (around : Around) (old new : Building) (first next : ℕ) → BlockStandsIn scene around → Tells around → NamesAction (known_in scene) Named Kept Goal form → MadeActionForm scene form around old new first next → AreReady old.values → Does old new
     action_sees (lets name declared (Some value)) around old new first next s tells h m ready =
         lanes_see (λ n b d k. MadeAssigned scene (lane_of around n) first (entity_number name.entity) value b d k) (paths_counted around)
         (λ n b d k less one. assigned_sees around s tells n less first (entity_number name.entity) value b d k h.0 h.1 one) (paths_counted around) first old new next (all_paths (paths_counted around)) m
@@ -462,7 +462,7 @@ module _ (scene : Scene) (Sees Target : ℕ → Type 0) (Named : Ref → Type 0)
     action_sees (repeats test body) around old new first next s tells h m ready = does_none old new m.still
     action_sees (counts iterator declared low high factor body combine combine_place) around old new first next s tells h m ready = does_none old new m.still
 
-    other_sees : (other : MaybeAction) (around : Around) (tests : List ℕ) (old new : Building) (first next : ℕ) (lefts : List Left) → StandsIn scene around → Tells around → length tests ≡ paths_counted around → NamesOther (known_in scene) Named Kept Goal other
+    other_sees : (other : MaybeAction) (around : Around) (tests : List ℕ) (old new : Building) (first next : ℕ) (lefts : List Left) → BlockStandsIn scene around → Tells around → length tests ≡ paths_counted around → NamesOther (known_in scene) Named Kept Goal other
         → MadeOther scene other around tests old new first next lefts → AreReady old.values → SeesArm old new lefts
     other_sees no_action around tests old new first next lefts s tells many h m ready = none_sees old new lefts m.still m.none
     other_sees (one_action a) around tests old new first next lefts s tells many h m ready =
@@ -470,12 +470,12 @@ module _ (scene : Scene) (Sees Target : ℕ → Type 0) (Named : Ref → Type 0)
         (command_sees a m.arm m.begin m.inside first next (stands_arm scene (MadeCommand scene a) around false tests old new first next lefts m s many)
         (tells_arm (MadeCommand scene a) around false tests old new first next lefts m tells many) h m.command)
 
-    actions_see : (part : Actions) (around : Around) (old new : Building) (first next : ℕ) → StandsIn scene around → Tells around → NamesActions (known_in scene) Named Kept Goal part → MadeActions scene part around old new first next → AreReady old.values → Does old new
+    actions_see : (part : Actions) (around : Around) (old new : Building) (first next : ℕ) → BlockStandsIn scene around → Tells around → NamesActions (known_in scene) Named Kept Goal part → MadeActions scene part around old new first next → AreReady old.values → Does old new
     actions_see no_actions around old new first next s tells h m ready = does_none old new m.still
     actions_see (action_then a rest) around old new first next s tells h m ready =
         does_then old m.middle new (command_sees a around old m.middle first m.own s tells h.0 m.one) (actions_see rest around m.middle new m.own next s tells h.1 m.rest) ready
 
-    groups_see : (body : Groups) (around : Around) (old new : Building) (first next : ℕ) → StandsIn scene around → Tells around → NamesGroups (known_in scene) Named Kept Goal body → MadeGroups scene body around old new first next → AreReady old.values → Does old new
+    groups_see : (body : Groups) (around : Around) (old new : Building) (first next : ℕ) → BlockStandsIn scene around → Tells around → NamesGroups (known_in scene) Named Kept Goal body → MadeGroups scene body around old new first next → AreReady old.values → Does old new
     groups_see no_groups around old new first next s tells h m ready = does_none old new m.still
     groups_see (group_then g rest) around old new first next s tells h m ready =
         does_then old m.middle new (actions_see g around old m.middle first m.own s tells h.0 m.one) (groups_see rest around m.middle new m.own next s tells h.1 m.rest) ready

@@ -19,7 +19,7 @@ use Rattle.dh_meaning.specs.Core.{CoreCommands, CoreTerm, CoreTerms, command_and
 use Rattle.dh_meaning.specs.CoreOf.{Known, assigned, core_action, core_groups, core_other, core_part, core_term, core_terms, depth_of, entity_number, kept_by, kept_terms, kind_of, operation_of, store_to, target_to, way_of}
 use Rattle.dh_meaning.specs.Levels.{any_assigns, assigns_to}
 use Rattle.dh_meaning.specs.Ways.{Hidden, Way, hidden_in}
-use Rattle.dh_plan.specs.PlanPhases.{command_mentions, commands_mention, target_mentions, term_mentions, terms_mention}
+use Rattle.dh_plan.specs.PlanPhases.{command_mentions, commands_mention, target_mentions, term_mentions, core_terms_mention}
 use Rattle.dh_expressions.specs.declared.paths.Level.{Level}
 use Rattle.dh_expressions.specs.declared.scenes.Scene.{Scene}
 use Rattle.dh_expressions.specs.Evaluated.{known_in}
@@ -60,11 +60,11 @@ module _ (known : Known) (table : List MemEntry) (Name : Ref → Kind → Type 0
   way_named : (r : Ref) (ts : CoreTerms) → IsSoundWay known table Name r → ((e : ℕ) → target_mentions e (target_to (way_of known r) ts) ≡ true → P e) → NamesWay known Both KeptSo r
   way_named r ts s h = by (way_of known r) s h
     where
-      each : (hs : List Hidden) → AllByRecursion (λ (k : Hidden). IsSoundHidden known table Name r k) hs → ((e : ℕ) → terms_mention e (kept_terms hs) ≡ true → P e) → AllByRecursion (λ (k : Hidden). KeptSo k) hs
+      each : (hs : List Hidden) → AllByRecursion (λ (k : Hidden). IsSoundHidden known table Name r k) hs → ((e : ℕ) → core_terms_mention e (kept_terms hs) ≡ true → P e) → AllByRecursion (λ (k : Hidden). KeptSo k) hs
       each [] a m = tt
       each (k ∷ hs) a m = (
-        (m k.entity (first_of (term_mentions k.entity (variable k.kind k.depth k.entity)) (terms_mention k.entity (kept_terms hs)) (itself k.entity)), (r, a.0)),
-        each hs a.1 (λ e g. m e (second_of (term_mentions e (variable k.kind k.depth k.entity)) (terms_mention e (kept_terms hs)) g)),
+        (m k.entity (first_of (term_mentions k.entity (variable k.kind k.depth k.entity)) (core_terms_mention k.entity (kept_terms hs)) (itself k.entity)), (r, a.0)),
+        each hs a.1 (λ e g. m e (second_of (term_mentions e (variable k.kind k.depth k.entity)) (core_terms_mention e (kept_terms hs)) g)),
       )
 
       by : (o : Option Way) → AllByRecursion (λ (k : Hidden). IsSoundHidden known table Name r k) (hidden_in o) → ((e : ℕ) → target_mentions e (target_to o ts) ≡ true → P e) → AllByRecursion (λ (k : Hidden). KeptSo k) (hidden_in o)
@@ -90,7 +90,7 @@ module _ (known : Known) (table : List MemEntry) (Name : Ref → Kind → Type 0
         mention e = operation_mentions e op (kind_found left) (kind_found right) (core_term known n left) (core_term known (n + term_accesses left) right)
     term_named n (plain.term place k (plain.converted inner to)) s h = term_named n inner s.0 h
 
-    pub terms_named : (n : ℕ) (ts : plain.Terms) → AreSound known table Name ts → ((e : ℕ) → terms_mention e (core_terms known n ts) ≡ true → P e) → NamesTerms known Both KeptSo ts
+    pub terms_named : (n : ℕ) (ts : plain.Terms) → AreSound known table Name ts → ((e : ℕ) → core_terms_mention e (core_terms known n ts) ≡ true → P e) → NamesTerms known Both KeptSo ts
     terms_named n plain.no_terms s h = tt
     terms_named n (plain.term_then t ts) s h = (
       term_named n t s.0 (λ e m. h e (first_of (term_mentions e (core_term known n t)) _ m)),

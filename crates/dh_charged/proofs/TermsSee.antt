@@ -40,7 +40,7 @@ use Rattle.dh_formed.proofs.ElementsFormed.{all_append}
 use Rattle.dh_formed.proofs.ValuesCounted.{copies_counts, held_counts, number_counts, operation_counts, shown_counts, variable_counts}
 use Rattle.dh_commands.specs.declared.buildings.Building.{Building}
 use Rattle.dh_commands.specs.MadeCommands.{MadeAim, MadeStoring}
-use Rattle.dh_laid.specs.LaidQuiet.{StandsIn}
+use Rattle.dh_laid.specs.LaidQuiet.{BlockStandsIn}
 use Rattle.dh_charged.specs.SeenRegisters.{AddsSeeing, IsSeeing, NamesAim, NamesTerm, NamesTerms}
 
 abbrev any_reach : Reach → Type 0
@@ -83,7 +83,7 @@ module _ (Sees : ℕ → Type 0) where
 
   -- Accesses.
 
-  module _ (scene : Scene) (lane : Lane) (stands : StandsIn scene lane.around) where
+  module _ (scene : Scene) (lane : Lane) (stands : BlockStandsIn scene lane.around) where
     touch_sees : (access : Term) (memory : ℕ) (writes : Truth) (old new : Draft) (before after : Accesses) (number : ℕ)
         → TouchesAt scene lane.around (standing_at scene lane.around memory (place_written access) (form_of access) writes) old new before after number → AddsSeeing Sees old new
     touch_sees access memory writes old new before after number t = by t.adds

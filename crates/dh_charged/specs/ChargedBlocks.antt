@@ -20,14 +20,14 @@ use Rattle.dh_commands.specs.LanesRun.{paths_counted}
 use Rattle.dh_commands.specs.MadeCommands.{MadeTests}
 use Rattle.dh_commands.specs.ShownVariables.{level_factors}
 use Rattle.dh_laid.specs.BlockSites.{MadeEach, block_sites, test_sites}
-use Rattle.dh_laid.specs.LaidQuiet.{StandsIn}
+use Rattle.dh_laid.specs.LaidQuiet.{BlockStandsIn}
 use Rattle.dh_laid.specs.LaidUses.{AreAlong, HaveNoOperations, SharesInside, WritesAlone}
 use Rattle.dh_blocks.specs.PathsOfLevels.{AreSpread}
 use Rattle.dh_charged.specs.ChargedUses.{AreSitesAt, HasShares, OperationsCharge}
 
 -- the paths round a block are those of its loops, of which there is at least one
 pub record StandsAtPaths (scene : Scene) (around : Around) : Type 0 where
-  pub stands : StandsIn scene around
+  pub stands : BlockStandsIn scene around
   pub spread : AreSpread around.levels.now
   pub counted : paths_counted around ≡ copies_in (level_factors around.levels.now)
 

@@ -7,7 +7,7 @@ use Rattle.dh_tree.specs.Elements.{Spot}
 use Rattle.dh_meaning.specs.Paths.{Path}
 use Rattle.dh_meaning.specs.Core.{Reach, CoreTerm, literal, truth_literal, variable, read, binary, convert, by_indices, by_row, by_views, CoreTerms, no_terms, term_and}
 use Rattle.dh_meaning.specs.Core as core
-use Rattle.dh_meaning.specs.Effects.{Begun, Effect, Event, Variables, reads, writes, faults, read_made, spot_reached, stop_after, target_events, term_events, terms_events, value_of}
+use Rattle.dh_meaning.specs.Effects.{Begun, Effect, Event, Variables, reads, writes, faults, read_made, spot_reached, stop_after, target_events, term_events, terms_events, value_of_term}
 use Rattle.dh_code.specs.declared.codes.Flat.{Flat}
 use Rattle.dh_code.specs.declared.codes.Operation.{Operation}
 use Rattle.dh_code.specs.declared.evaluating.Scene.{Scene}
@@ -78,7 +78,7 @@ module _ (s : Scene) (scene : IsScene s) (p : Placing) (v : Variables) (factors 
   right : Gives p (begun_in s) v factors path at.inside scene.entries scene.small w f.from t
   right = gives p (begun_in s) v factors path at.inside scene.entries scene.small w f.from t (record { slots = h; ranks = at.are }) can.0 can.1 enough
 
-  pub flat_value : flat_word s w f ≡ value_of (begun_in s) v path t
+  pub flat_value : flat_word s w f ≡ value_of_term (begun_in s) v path t
   flat_value =
       ap (λ o. operand_word (flat_sight s w f) o) is.value
       ∙ (ap (λ (l : List Operation). operand_word (sight_after (begun_in s) w f.from l) code.value) is.operations ∙ right.value)

@@ -6,7 +6,7 @@ use Rattle.dh_value.specs.Words as words
 use Rattle.dh_value.specs.Words.{residue}
 use Rattle.dh_meaning.specs.Paths.{Path}
 use Rattle.dh_meaning.specs.Core.{CoreTerm}
-use Rattle.dh_meaning.specs.Effects.{Effect, Event, Variables, assigned_at, holds_at, set_variable, term_events, tested_at, value_of}
+use Rattle.dh_meaning.specs.Effects.{Effect, Event, Variables, assigned_at, holds_at, set_variable, term_events, tested_at, value_of_term}
 use Rattle.dh_code.specs.declared.codes.Flat.{Flat}
 use Rattle.dh_code.specs.declared.evaluating.Scene.{Scene}
 use Rattle.dh_code.specs.declared.evaluating.Stop.{Stop}
@@ -27,7 +27,7 @@ use Rattle.dh_code.proofs.SlotsHeld.{held_more}
 module _ (s : Scene) (scene : IsScene s) (p : Placing) (factors ranks : List ℕ) (path : Path) (t : CoreTerm) (f : Flat) (e : Effect) (old middle : State)
     (at : AreRanks factors ranks path) (is : IsFlat p.held s.entries.now s.code.now t f) (can : CanEvaluate s.entries.now p factors t) (k : Keeps p s.entries.now e s.step old) (ready : IsReadyState s old) where
   abbrev value : Word
-  value = value_of (begun_in s) e.variables path t
+  value = value_of_term (begun_in s) e.variables path t
 
   abbrev happens : List Event
   happens = term_events (begun_in s) e.variables path t

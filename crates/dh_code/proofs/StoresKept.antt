@@ -8,7 +8,7 @@ use Rattle.dh_value.specs.declared.words.Word.{Word}
 use Rattle.dh_meaning.specs.Paths.{Path}
 use Rattle.dh_meaning.specs.Core.{Reach, CoreTerm}
 use Rattle.dh_meaning.specs.Core as core
-use Rattle.dh_meaning.specs.Effects.{Effect, Event, Variables, faults, kept_bits, spot_reached, stop_after, stored_at, target_events, term_events, value_of, write_made, writes}
+use Rattle.dh_meaning.specs.Effects.{Effect, Event, Variables, faults, kept_bits, spot_reached, stop_after, stored_at, target_events, term_events, value_of_term, write_made, writes}
 use Rattle.dh_code.specs.declared.codes.Access.{Access}
 use Rattle.dh_code.specs.declared.codes.Flat.{Flat}
 use Rattle.dh_code.specs.declared.codes.Operation.{Operation}
@@ -77,7 +77,7 @@ module _ (s : Scene) (scene : IsScene s) (p : Placing) (factors ranks : List ℕ
       (room_left p (begun_in s) v factors path at.inside scene.entries scene.small w f.from (length one.operations) (length two.operations) one.operations refl room)
 
   abbrev value : Word
-  value = value_of (begun_in s) v path t
+  value = value_of_term (begun_in s) v path t
 
   abbrev happens : List Event
   happens = term_events (begun_in s) v path t ++ target_events (begun_in s) v path target

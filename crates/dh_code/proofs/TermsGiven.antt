@@ -20,7 +20,7 @@ use Rattle.dh_tree.specs.Shapes.{IsMemory}
 use Rattle.dh_meaning.specs.Paths.{Path}
 use Rattle.dh_meaning.specs.Core.{Reach, CoreTerm, literal, truth_literal, variable, read, binary, convert, by_indices, by_row, by_views, CoreTerms, no_terms, term_and}
 use Rattle.dh_meaning.specs.Core as core
-use Rattle.dh_meaning.specs.Effects.{Begun, Event, Variables, bits_at, kind_in, read_made, spot_by_indices, spot_by_row, spot_by_views, spot_reached, target_events, term_events, terms_events, value_of, values_of}
+use Rattle.dh_meaning.specs.Effects.{Begun, Event, Variables, bits_at, kind_in, read_made, spot_by_indices, spot_by_row, spot_by_views, spot_reached, target_events, term_events, terms_events, value_of_term, values_of}
 use Rattle.dh_code.specs.declared.codes.Operand.{Operand}
 use Rattle.dh_code.specs.declared.codes.Operand.TheVariants.{Variable}
 use Rattle.dh_code.specs.declared.codes.Operation.{Operation}
@@ -89,7 +89,7 @@ module _ (p : Placing) (b : Begun) (v : Variables) (factors : List ℕ) (path : 
 
   -- the code gives the value of the expression
   pub record Gives (w : Sight) (at : ℕ) (t : CoreTerm) : Type 0 where
-    pub value : operand_word (sight_after b w at (terms at t).operations) (terms at t).value ≡ value_of b v path t
+    pub value : operand_word (sight_after b w at (terms at t).operations) (terms at t).value ≡ value_of_term b v path t
     pub events : events_after b w at (terms at t).operations ≡ all_plain (term_events b v path t)
     pub before : IsBefore b (at + length (terms at t).operations) (terms at t).value
 
@@ -118,7 +118,7 @@ module _ (p : Placing) (b : Begun) (v : Variables) (factors : List ℕ) (path : 
       moved : (a x y k : ℕ) → a + (x + y) ≤ k → (a + x) + y ≤ k
       moved a x y k e = omega (arith, e)
 
-  pub words_of : (t : CoreTerm) → IsSuited b.table t → IsWord (value_of b v path t)
+  pub words_of : (t : CoreTerm) → IsSuited b.table t → IsWord (value_of_term b v path t)
   words_of t h = value_word b v path entries small t h
 
   -- one operation more behind code that is done
@@ -191,10 +191,10 @@ module _ (p : Placing) (b : Begun) (v : Variables) (factors : List ℕ) (path : 
       k : Kind
       k = result_of o (kind_of_operand one.value)
 
-      same : operation_word b (sight_after b w at os) it ≡ value_of b v path (binary o left right)
+      same : operation_word b (sight_after b w at os) it ≡ value_of_term b v path (binary o left right)
       same =
-          ap (λ x. binary_of o x (operand_word (sight_after b w at os) two.value)) (first_stays w at one.operations two.operations one.value (value_of b v path left) gl.before gl.value)
-          ∙ ap (λ y. binary_of o (value_of b v path left) y) (second_is w at one.operations two.operations two.value (value_of b v path right) gr.value)
+          ap (λ x. binary_of o x (operand_word (sight_after b w at os) two.value)) (first_stays w at one.operations two.operations one.value (value_of_term b v path left) gl.before gl.value)
+          ∙ ap (λ y. binary_of o (value_of_term b v path left) y) (second_is w at one.operations two.operations two.value (value_of_term b v path right) gr.value)
 
       kinds : (operation_word b (sight_after b w at os) it).kind ≡ k
       kinds = ap (λ (x : Word). x.kind) same ∙ (value_kind b v path (binary o left right) ∙ ap (λ j. result_of o j) (sym (made_kind p.held b.table at left)))
@@ -212,7 +212,7 @@ module _ (p : Placing) (b : Begun) (v : Variables) (factors : List ℕ) (path : 
       it : Operation
       it = Read (access_to r (target_made p.held b.table at target).target)
 
-      same : operation_word b (sight_after b w at os) it ≡ value_of b v path (read r target)
+      same : operation_word b (sight_after b w at os) it ≡ value_of_term b v path (read r target)
       same = ap (λ o. with_bits (kind_in b.table r.memory) (bits_at b.memories o)) g.spot
 
       made_event : read_made (record { number = 0; place = r.place; memory = r.memory }) [] (access_spot b (sight_after b w at os) (access_to r (target_made p.held b.table at target).target)) ≡ plain (read_made r path (spot_reached b v path r target))
@@ -235,7 +235,7 @@ module _ (p : Placing) (b : Begun) (v : Variables) (factors : List ℕ) (path : 
       it = Convert m.value to
 
       worth : Word
-      worth = value_of b v path inner
+      worth = value_of_term b v path inner
 
       kinds : worth.kind ≡ kind_of_operand m.value
       kinds = value_kind b v path inner ∙ sym (made_kind p.held b.table at inner)
@@ -255,8 +255,8 @@ module _ (p : Placing) (b : Begun) (v : Variables) (factors : List ℕ) (path : 
   all_gives : (w : Sight) (at : ℕ) (t : CoreTerm) (ts : CoreTerms) → Gives w at t → GivesAll (sight_after b w at (terms at t).operations) (at + length (terms at t).operations) ts → GivesAll w at (term_and t ts)
   all_gives w at t ts gl gr = record {
     values =
-        ap (λ (x : Word). words.value_of x ∷ index_values (sight_after b w at (one.operations ++ two)) others) (first_stays w at one.operations two one.value (value_of b v path t) gl.before gl.value)
-        ∙ ap (λ l. words.value_of (value_of b v path t) ∷ l) (ap (λ (x : Sight). index_values x others) (sight_append b w at one.operations two) ∙ gr.values);
+        ap (λ (x : Word). words.value_of x ∷ index_values (sight_after b w at (one.operations ++ two)) others) (first_stays w at one.operations two one.value (value_of_term b v path t) gl.before gl.value)
+        ∙ ap (λ l. words.value_of (value_of_term b v path t) ∷ l) (ap (λ (x : Sight). index_values x others) (sight_append b w at one.operations two) ∙ gr.values);
     events = both_events w at one.operations two (term_events b v path t) (terms_events b v path ts) gl.events gr.events;
     before = (before_more b (at + length one.operations) (at + length (one.operations ++ two)) one.value (further (length one.operations) (length two) _ (length-append one.operations two)) gl.before, subst (λ (n : ℕ). AreBefore b n others) (longer w at one.operations two 0) gr.before);
   }

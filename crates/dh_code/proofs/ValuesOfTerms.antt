@@ -15,7 +15,7 @@ use Rattle.dh_tree.specs.Elements.{Spot}
 use Rattle.dh_tree.specs.Shapes.{IsMemory}
 use Rattle.dh_meaning.specs.Paths.{Path}
 use Rattle.dh_meaning.specs.Core.{Reach, CoreTerm, literal, truth_literal, variable, read, binary, convert, Target, by_indices, by_row, by_views}
-use Rattle.dh_meaning.specs.Effects.{Begun, Variables, bits_at, bits_of, indices_through, kind_in, spot_if_inside, spot_reached, value_of, values_of}
+use Rattle.dh_meaning.specs.Effects.{Begun, Variables, bits_at, bits_of, indices_through, kind_in, spot_if_inside, spot_reached, value_of_term, values_of}
 use Rattle.dh_code.specs.Scenes.{AreSmall}
 use Rattle.dh_code.specs.Suited.{IsSuited, IsSuitedTarget, term_kind}
 use Rattle.dh_code.proofs.Entries.{entry_at, kind_is, no_entry}
@@ -37,12 +37,12 @@ small_at table memories memory (Some s) small at = subst (λ (m : ℕ). bits_at 
 
 module _ (b : Begun) (variables : Variables) (path : Path) where
   -- the value of an expression has its kind
-  pub value_kind : (t : CoreTerm) → (value_of b variables path t).kind ≡ term_kind b.table t
+  pub value_kind : (t : CoreTerm) → (value_of_term b variables path t).kind ≡ term_kind b.table t
   value_kind (literal kind negative n) = refl
   value_kind (truth_literal value) = refl
   value_kind (variable kind depth entity) = refl
   value_kind (read r target) = refl
-  value_kind (binary o left right) = binary_kind o (value_of b variables path left) (value_of b variables path right) ∙ ap (λ k. result_of o k) (value_kind left)
+  value_kind (binary o left right) = binary_kind o (value_of_term b variables path left) (value_of_term b variables path right) ∙ ap (λ k. result_of o k) (value_kind left)
   value_kind (convert to inner) = refl
 
   pub of_memory : (r : Reach) (target : Target) (s : Spot) → spot_reached b variables path r target ≡ Some s → s.memory ≡ r.memory
@@ -75,7 +75,7 @@ module _ (b : Begun) (variables : Variables) (path : Path) where
   memory_there r (by_row bank row) h = h.0.0
 
   -- an expression that suits has a word for its value
-  pub value_word : AllByRecursion IsMemory b.table → AreSmall b.table b.memories → (t : CoreTerm) → IsSuited b.table t → IsWord (value_of b variables path t)
+  pub value_word : AllByRecursion IsMemory b.table → AreSmall b.table b.memories → (t : CoreTerm) → IsSuited b.table t → IsWord (value_of_term b variables path t)
   value_word entries small (literal kind negative n) h = record { sized = h; fits = bits_fit kind negative n }
   value_word entries small (truth_literal value) h = truth_is_word value
   value_word entries small (variable kind depth entity) h = word_of_is_word kind _ h
@@ -84,6 +84,6 @@ module _ (b : Begun) (variables : Variables) (path : Path) where
     fits = small_at b.table b.memories r.memory (spot_reached b variables path r target) small (of_memory r target);
   }
   value_word entries small (binary o left right) h =
-      binary_is_word o (value_of b variables path left) (value_of b variables path right) (value_word entries small left h.1.0) (value_word entries small right h.1.1)
+      binary_is_word o (value_of_term b variables path left) (value_of_term b variables path right) (value_word entries small left h.1.0) (value_word entries small right h.1.1)
       (suits_at o (sym (value_kind left)) (sym (value_kind right)) h.0)
   value_word entries small (convert to inner) h = word_of_is_word to _ (integer_width to h.0)

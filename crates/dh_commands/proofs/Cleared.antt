@@ -8,7 +8,7 @@ use Rattle.dh_value.specs.declared.words.Word.{Word}
 use Rattle.dh_value.specs.Words as words
 use Rattle.dh_value.specs.Words.{IsKind, IsWord, width_of, with_bits, word_of}
 use Rattle.dh_value.proofs.WordLaws.{word_again}
-use Rattle.dh_meaning.specs.Effects.{Effect, Variables, bits_of, value_of}
+use Rattle.dh_meaning.specs.Effects.{Effect, Variables, bits_of, value_of_term}
 use Rattle.dh_code.specs.Slots.{held_at}
 use Rattle.dh_expressions.specs.declared.accesses.Accesses.{Accesses}
 use Rattle.dh_expressions.specs.declared.scenes.Lane.{Lane}
@@ -50,7 +50,7 @@ cleared_one scene lane old new entity value w is c same s = record {
         cases : (on : Bool) → is_on_at x lane.around lane.number ≡ on → StandsBeside scene lane.around x reads new (run_if on (assigned_run scene entity (zero_of scene entity) x) (path_in lane.around lane.number) f)
         cases true on =
             set_on scene lane entity value old new s within p.target x reads f stands knows
-            (words.value_of (value_of (begun_of x) f.variables (path_in lane.around lane.number) (zero_of scene entity))) []
+            (words.value_of (value_of_term (begun_of x) f.variables (path_in lane.around lane.number) (zero_of scene entity))) []
             (c.is x fits begun ∙ (is p.sized ∙ sym (word_again (with_bits (held_at scene.held.now entity).kind (bits_of (held_at scene.held.now entity).kind false 0)) (zero_word (held_at scene.held.now entity).kind p.sized))))
             (c.quiet x fits begun ∙ sym (append-nil (tale x old.draft)))
         cases false off = set_off scene lane entity value old new s within p.target x reads f stands knows off (c.quiet x fits begun)

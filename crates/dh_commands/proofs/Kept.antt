@@ -10,7 +10,7 @@ use Rattle.dh_tree.specs.Seen.{terms}
 use Rattle.dh_meaning.specs.AccessNumbers.{terms_accesses}
 use Rattle.dh_meaning.specs.Core.{CoreTerms, no_terms, term_and}
 use Rattle.dh_meaning.specs.CoreOf.{core_terms}
-use Rattle.dh_meaning.specs.Effects.{Begun as Start, Effect, Variables, set_from, set_variable, value_of, values_of}
+use Rattle.dh_meaning.specs.Effects.{Begun as Start, Effect, Variables, set_from, set_variable, value_of_term, values_of}
 use Rattle.dh_meaning.specs.Paths.{Path}
 use Rattle.dh_meaning.specs.Ways.{Hidden}
 use Rattle.dh_code.specs.Slots.{held_at}
@@ -38,7 +38,7 @@ use Rattle.dh_commands.proofs.Tested.{quiet_stands, told_stands}
 -- the whole numbers of words
 numbers_are : (b : Start) (v : Variables) (path : Path) (ts : CoreTerms) → map (λ w. words.value_of w) (term_words b v path ts) ≡ values_of b v path ts
 numbers_are b v path no_terms = refl
-numbers_are b v path (term_and t ts) = ap (λ zs. words.value_of (value_of b v path t) ∷ zs) (numbers_are b v path ts)
+numbers_are b v path (term_and t ts) = ap (λ zs. words.value_of (value_of_term b v path t) ∷ zs) (numbers_are b v path ts)
 
 -- values show these whole numbers, each as the variable holds it that keeps it
 abbrev AreShown : Scene → BlockStep → (first : ℕ) → List ℕ → List ℤ → Type 0

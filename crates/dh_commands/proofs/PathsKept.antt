@@ -8,7 +8,7 @@ use Rattle.std.proofs.lemmas.Bool.{eq-eqb, eqb-true}
 use Rattle.std.proofs.lemmas.Bool.Decides.{nat_tests}
 use Rattle.dh_value.specs.Words as words
 use Rattle.dh_meaning.specs.Core.{CoreTerms, no_terms, term_and, CoreCommand, store, assign, choose, keep, CoreCommands, no_commands, command_and, count_terms}
-use Rattle.dh_meaning.specs.Effects.{Begun, Effect, Variables, assigned_at, at_each, command_run, commands_run, holds_at, kept_at, paths_where, set_from, set_variable, stored_at, tested_at, value_of, values_of}
+use Rattle.dh_meaning.specs.Effects.{Begun, Effect, Variables, assigned_at, at_each, command_run, commands_run, holds_at, kept_at, paths_where, set_from, set_variable, stored_at, tested_at, value_of_term, values_of}
 use Rattle.dh_meaning.specs.Levels.{any_assigns, assigns_to}
 use Rattle.dh_meaning.specs.Paths.{Path, same_path}
 use Rattle.dh_plan.proofs.SourceMoves.{same_is}
@@ -76,13 +76,13 @@ mutual
 kept_others : (b : Begun) (v : Variables) (e : ℕ) (p : Path) (depth first : ℕ) (ts : CoreTerms) (q : Path) (vs : Variables) → IsNone e p depth first (count_terms ts) q → set_from vs first (take depth q) (values_of b v q ts) e p ≡ vs e p
 kept_others b v e p depth first no_terms q vs h = refl
 kept_others b v e p depth first (term_and t ts) q vs h =
-    kept_others b v e p depth (suc first) ts q (set_variable vs first (take depth q) (words.value_of (value_of b v q t))) h.1 ∙ ap (λ (c : Bool). if c then words.value_of (value_of b v q t) else vs e p) h.0
+    kept_others b v e p depth (suc first) ts q (set_variable vs first (take depth q) (words.value_of (value_of_term b v q t))) h.1 ∙ ap (λ (c : Bool). if c then words.value_of (value_of_term b v q t) else vs e p) h.0
 
 mutual
   pub command_keeps : (b : Begun) (e : ℕ) (p : Path) (paths : List Path) (c : CoreCommand) (f : Effect) → KeepsAt e p paths c → (command_run b paths c f).variables e p ≡ f.variables e p
   command_keeps b e p paths (store r target value) f h = each_keeps (stored_at b r target value) e p (λ q g. refl) paths f
   command_keeps b e p paths (assign depth entity value) f h =
-      each_keeps_on (assigned_at b depth entity value) e p (IsOther e p depth entity) (λ q g other. ap (λ (t : Bool). if t then words.value_of (value_of b g.variables q value) else g.variables e p) other) paths f h
+      each_keeps_on (assigned_at b depth entity value) e p (IsOther e p depth entity) (λ q g other. ap (λ (t : Bool). if t then words.value_of (value_of_term b g.variables q value) else g.variables e p) other) paths f h
   command_keeps b e p paths (keep depth first values) f h =
       each_keeps_on (kept_at b depth first values) e p (λ q. IsNone e p depth first (count_terms values) q) (λ q g none. kept_others b g.variables e p depth first values q g.variables none) paths f h
   command_keeps b e p paths (choose t chosen other) f h =

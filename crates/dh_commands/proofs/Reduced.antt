@@ -8,7 +8,7 @@ use Rattle.dh_meaning.specs.AccessNumbers.{term_accesses}
 use Rattle.dh_meaning.specs.Bindings.{kind_found}
 use Rattle.dh_meaning.specs.CoreOf.{core_term, entity_number, kind_of}
 use Rattle.dh_meaning.specs.Core.{variable}
-use Rattle.dh_meaning.specs.Effects.{Effect, Event, Variables, term_events, value_of}
+use Rattle.dh_meaning.specs.Effects.{Effect, Event, Variables, term_events, value_of_term}
 use Rattle.dh_code.specs.Slots.{held_at}
 use Rattle.dh_expressions.specs.declared.drafts.Draft.{Draft}
 use Rattle.dh_expressions.specs.declared.scenes.Lane.{Lane}
@@ -73,7 +73,7 @@ reduced_one scene lane old new d first r op t own made e g s = record {
             → StandsBeside scene lane.around x reads new (run_if on (assigned_run scene (entity_number r.entity) (reduced_term scene r op first t) x) (path_in lane.around lane.number) f)
         cases true on =
             set_on scene lane (entity_number r.entity) made old new s within p.target x reads f stands knows
-            (words.value_of (value_of (begun_of x) f.variables (path_in lane.around lane.number) (reduced_term scene r op first t)))
+            (words.value_of (value_of_term (begun_of x) f.variables (path_in lane.around lane.number) (reduced_term scene r op first t)))
             (term_events (begun_of x) f.variables (path_in lane.around lane.number) (reduced_term scene r op first t))
             (g.is x fits begun_d
             ∙ (ap (λ w. reduced_shown scene (entity_number r.entity) op t w (word_shown x own.value)) (old_is on)

@@ -22,7 +22,7 @@ use Rattle.dh_meaning.specs.AccessNumbers.{accesses_of, part_accesses, term_acce
 use Rattle.dh_meaning.specs.Bindings.{kind_found, kind_or_first}
 use Rattle.dh_meaning.specs.Core.{CoreTerm, by_row, no_commands, variable}
 use Rattle.dh_meaning.specs.CoreOf.{core_action, core_groups, core_other, core_part, core_term, core_terms, entity_number, kind_of, memory_of, operation_of, reach_of, target_to, way_of}
-use Rattle.dh_meaning.specs.Effects.{Effect, Variables, assigned_at, commands_run, entry_kind, holds_at, kept_at, kept_bits, stored_at, tested_at, value_of}
+use Rattle.dh_meaning.specs.Effects.{Effect, Variables, assigned_at, commands_run, entry_kind, holds_at, kept_at, kept_bits, stored_at, tested_at, value_of_term}
 use Rattle.dh_meaning.specs.Levels.{any_assigns}
 use Rattle.dh_meaning.specs.Paths.{Path}
 use Rattle.dh_meaning.specs.Ways.{Hidden, hidden_in}
@@ -49,7 +49,7 @@ pub record IsFollowed (scene : Scene) (around : Around) (x : BlockStep) (reads :
 
 -- its value at a path
 abbrev pub value_at : Scene → Around → BlockStep → Variables → (number n : ℕ) → plain.Term → Word
-value_at scene around x variables number n t = value_of (begun_of x) variables (path_in around number) (core_term (known_in scene) n t)
+value_at scene around x variables number n t = value_of_term (begun_of x) variables (path_in around number) (core_term (known_in scene) n t)
 
 -- What the operations of a reducer show.
 
@@ -100,7 +100,7 @@ module _ (scene : Scene) (around : Around) where
     pub value : IsFollowed scene around x reads variables number n t
     pub held : is_on_at x around number ≡ true
         → reduced_shown scene (entity_number r.entity) op t (old_word (entity_number r.entity) number variables) (value_at scene around x variables number n t)
-        ≡ word_of (held_at scene.held.now (entity_number r.entity)).kind (words.value_of (value_of (begun_of x) variables (path_in around number) (reduced_term scene r op n t)))
+        ≡ word_of (held_at scene.held.now (entity_number r.entity)).kind (words.value_of (value_of_term (begun_of x) variables (path_in around number) (reduced_term scene r op n t)))
 
   -- the indices or the row of a store's target, and where its write stands; no text has a target that is no access
   module _ (number : ℕ) (x : BlockStep) (reads : StepReads) (variables : Variables) where

@@ -9,7 +9,7 @@ use Rattle.dh_tree.specs.Seen.{term_seen, terms}
 use Rattle.dh_meaning.specs.AccessNumbers.{terms_accesses}
 use Rattle.dh_meaning.specs.Core.{CoreTerms, no_terms, term_and}
 use Rattle.dh_meaning.specs.CoreOf.{core_terms}
-use Rattle.dh_meaning.specs.Effects.{Begun as Start, Event, Variables, value_of}
+use Rattle.dh_meaning.specs.Effects.{Begun as Start, Event, Variables, value_of_term}
 use Rattle.dh_meaning.specs.Paths.{Path}
 use Rattle.dh_code.specs.Slots.{held_at}
 use Rattle.dh_expressions.specs.declared.accesses.Accesses.{Accesses}
@@ -27,7 +27,7 @@ paired by = map (λ p. term_seen p.1) by
 -- the words of terms at a path
 abbrev pub term_words : Start → Variables → Path → CoreTerms → List Word
 term_words b v path no_terms = []
-term_words b v path (term_and t ts) = value_of b v path t ∷ term_words b v path ts
+term_words b v path (term_and t ts) = value_of_term b v path t ∷ term_words b v path ts
 
 abbrev pub terms_words : Scene → Lane → View → (n : ℕ) → plain.Terms → List Word
 terms_words scene lane v n ts = term_words (begun_of v.step) v.variables (lane_path lane) (core_terms (known_in scene) n ts)

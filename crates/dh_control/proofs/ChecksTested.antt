@@ -8,7 +8,7 @@ use Rattle.dh_value.specs.Operations.{is_true}
 use Rattle.dh_plan.specs.declared.operations.Operation.{Operation}
 use Rattle.dh_plan.specs.declared.operations.OperationForm.{OperationForm}
 use Rattle.dh_plan.specs.declared.operations.OperationForm.TheVariants.{Constant, Old, Compute, Convert, Select, Check, Probe, Read, Write, Set}
-use Rattle.dh_plan.specs.Blocks.{StepStart, BlockEvent, fails_unless, is_on, form_events, block_events, first_fault}
+use Rattle.dh_plan.specs.Blocks.{StepStart, BlockEvent, fails_unless, is_on, operation_form_events, block_events, first_fault}
 use Rattle.dh_plan.specs.BlockLaws.{fault_or}
 use Rattle.dh_plan.specs.Ordered.{one_or_none, form_takes, operation_takes}
 use Rattle.dh_plan.proofs.Appends.{events_behind, fault_behind}
@@ -45,13 +45,13 @@ none_fails false true events default e = refl
 none_fails false false events default e = refl
 
 pub nothing_checked : (d : PlainCircuit) (active : ℕ) (wires : List ℕ) (o : Operation) (tests : List Tested) (f : OperationForm) → o.form ≡ f
-    → ((s : StepStart) (first : ℕ) (ws : List Word) → first_fault (form_events s first ws f) ≡ None) → ChecksAdded d d active wires (o ∷ []) tests tests
+    → ((s : StepStart) (first : ℕ) (ws : List Word) → first_fault (operation_form_events s first ws f) ≡ None) → ChecksAdded d d active wires (o ∷ []) tests tests
 nothing_checked d active wires o tests f is none = record {
   grows = grows_none d;
   tests = λ h. h;
   does = λ x s first ws kinds default settled h.
       ap (λ v. first_of x tests v)
-      (none_fails (is_one x active) (is_on first ws o.guard) (form_events s first ws o.form) default (ap (λ g. first_fault (form_events s first ws g)) is ∙ none s first ws));
+      (none_fails (is_one x active) (is_on first ws o.guard) (operation_form_events s first ws o.form) default (ap (λ g. first_fault (operation_form_events s first ws g)) is ∙ none s first ws));
 }
 
 -- A check.
@@ -111,7 +111,7 @@ check_added d e f g h active wires o ok fault number asked wrong test value befo
           ∙ (by_tests (is_one x active) (on_shown x wires o.guard) (is_one x (slice_index wires ok)) fault default
           ∙ (ap (λ (t : Bool). code_where (is_one x active) (first_fault ((if t then fails_unless fault (is_one x (slice_index wires ok)) else []) ++ [])) default) (sym guard)
           ∙ (ap (λ (w : Word). code_where (is_one x active) (first_fault ((if is_on first ws o.guard then fails_unless fault (is_true w) else []) ++ [])) default) (sym word)
-          ∙ ap (λ (w : OperationForm). code_where (is_one x active) (first_fault ((if is_on first ws o.guard then form_events s first ws w else []) ++ [])) default) (sym is)))))));
+          ∙ ap (λ (w : OperationForm). code_where (is_one x active) (first_fault ((if is_on first ws o.guard then operation_form_events s first ws w else []) ++ [])) default) (sym is)))))));
     }
 
 -- Operations one after the other.

@@ -18,7 +18,7 @@ use Rattle.dh_control.specs.AllBlocks.{state_ways, AllChecksAdded, AllSetsAdded,
 use Rattle.dh_control.specs.ControlsMade.{ActivityMade, OutcomeMade, AfterMade, ResultsMade}
 use Rattle.dh_control.specs.KeyedItems.{items_picked}
 use Rattle.dh_control.specs.MovedValues.{Move, moved, AreMoves, MovesMade}
-use Rattle.dh_control.specs.SizedWires.{AreSized, shown_all}
+use Rattle.dh_control.specs.SizedWires.{WiresAreSized, shown_all}
 use Rattle.dh_control.specs.StateWires.{AreStands, StandsMade, active_shown, with_each_shown}
 use Rattle.dh_control.specs.StepWires.{PaceMade, VerdictMade}
 use Rattle.dh_control.specs.WayMoves.{LeadAdded}
@@ -107,7 +107,7 @@ from_none d widths moves none = subst (λ (l : List Move). AreMoves d widths l) 
 pub moves_listed : (d e : PlainCircuit) (widths : List ℕ) (moves list : List Move) → Grows d e → AreMoves d widths moves → list ≡ moves → AreMoves e widths list
 moves_listed d e widths moves list g h same = subst (λ (l : List Move). AreMoves e widths l) (sym same) (moves_stay d e widths moves g h)
 
-pub one_sized : (d e : PlainCircuit) (width wire : ℕ) → Grows d e → IsWire d wire width → AreSized e (width ∷ []) (wire ∷ [])
+pub one_sized : (d e : PlainCircuit) (width wire : ℕ) → Grows d e → IsWire d wire width → WiresAreSized e (width ∷ []) (wire ∷ [])
 one_sized d e width wire g h = record {
   long = refl;
   each = λ i less. by i less;

@@ -16,7 +16,7 @@ use Rattle.dh_cells.proofs.CellsAppended.{grows_then, settled_fewer, wire_stays}
 use Rattle.dh_control.specs.declared.leading.Branch.{Branch}
 use Rattle.dh_control.specs.declared.leading.Counted.{Counted}
 use Rattle.dh_control.specs.MovedValues.{Move, set_where, moved, MoveFits, AreMoves}
-use Rattle.dh_control.specs.SizedWires.{AreSized, shown_all}
+use Rattle.dh_control.specs.SizedWires.{WiresAreSized, shown_all}
 use Rattle.dh_control.specs.WayMoves.{spot_number, BranchMade, CountedMade, WayAdded, counts}
 use Rattle.dh_control.proofs.ListFacts.{all_both}
 use Rattle.dh_control.proofs.MovedLists.{moves_stay, shown_at}
@@ -35,7 +35,7 @@ width_at kinds widths r same less =
     ap (λ l. slice_index l r) (sym same) ∙ get_or-map width_of kinds r kind.Bool 0 (omega (arith, long, mapped, less))
 
 module _ (d d1 e f g : PlainCircuit) (widths : List ℕ) (width states active : ℕ) (after after1 after2 : List ℕ) (counter last : ℕ) (again past : GraphWay) (b : Branch) (c : Counted)
-    (m0 m1 m2 m3 l0 l1 l2 : List Move) (inside : counter < length widths) (sized : AreSized d widths after) (a : BranchMade d d1 active (slice_index after counter) last b)
+    (m0 m1 m2 m3 l0 l1 l2 : List Move) (inside : counter < length widths) (sized : WiresAreSized d widths after) (a : BranchMade d d1 active (slice_index after counter) last b)
     (made : CountedMade d1 e (slice_index widths counter) (slice_index after counter) c) (first : after1 ≡ slice_set after counter c.none) (second : after2 ≡ slice_set after counter c.more)
     (p : WayAdded e f widths width states b.chosen after1 past m0 m1 l0 l1) (q : WayAdded f g widths width states b.other after2 again m1 m2 l1 l2) (put : m3 ≡ m2 ++ counts counter b c) where
   e_g : Grows e g
@@ -161,10 +161,10 @@ module _ (d d1 e f g : PlainCircuit) (widths : List ℕ) (width states active : 
   }
 
 -- wires of registers, of which one is another
-pub sized_set : (d : PlainCircuit) (widths wires items : List ℕ) (place wire : ℕ) → AreSized d widths items → wires ≡ slice_set items place wire → place < length widths
-    → IsWire d wire (slice_index widths place) → AreSized d widths wires
+pub sized_set : (d : PlainCircuit) (widths wires items : List ℕ) (place wire : ℕ) → WiresAreSized d widths items → wires ≡ slice_set items place wire → place < length widths
+    → IsWire d wire (slice_index widths place) → WiresAreSized d widths wires
 sized_set d widths wires items place wire h is inside there =
-    subst (λ (l : List ℕ). AreSized d widths l) (sym is)
+    subst (λ (l : List ℕ). WiresAreSized d widths l) (sym is)
     (record {
       long = length-set items place wire ∙ h.long;
       each = λ i less. elim (cases_eq i place) [
@@ -190,7 +190,7 @@ set_back after set2 kept set3 place b wire p q r is =
     second_set after set2 kept set3 place b wire p q r ∙ (ap (λ w. slice_set after place w) is ∙ set-get_or after place 0)
 
 pub count_done : (d d1 e f g : PlainCircuit) (widths : List ℕ) (width states active : ℕ) (after after1 after2 wires : List ℕ) (counter last : ℕ) (whole again past : GraphWay) (b : Branch) (c : Counted)
-    (m0 m1 m2 m3 l0 l1 l2 : List Move) → counter < length widths → AreSized d widths after → wires ≡ after → BranchMade d d1 active (slice_index wires counter) last b
+    (m0 m1 m2 m3 l0 l1 l2 : List Move) → counter < length widths → WiresAreSized d widths after → wires ≡ after → BranchMade d d1 active (slice_index wires counter) last b
     → CountedMade d1 e (slice_index widths counter) (slice_index wires counter) c → after1 ≡ slice_set after counter c.none → after2 ≡ slice_set after counter c.more
     → WayAdded e f widths width states b.chosen after1 past m0 m1 l0 l1 → WayAdded f g widths width states b.other after2 again m1 m2 l1 l2 → m3 ≡ m2 ++ counts counter b c
     → whole ≡ by_count counter last again past → WayAdded d g widths width states active after whole m0 m3 l0 l2

@@ -12,7 +12,7 @@ use Rattle.dh_cells.proofs.CellsAppended.{grows_none, grows_then, wire_stays}
 use Rattle.dh_cells.proofs.WireTrees.{tested_stays}
 use Rattle.dh_control.specs.KeyedItems.{items_picked}
 use Rattle.dh_control.specs.MovedValues.{Move, set_where, moved, AreMoves, MovesMade}
-use Rattle.dh_control.specs.SizedWires.{AreSized, shown_all}
+use Rattle.dh_control.specs.SizedWires.{WiresAreSized, shown_all}
 use Rattle.dh_control.specs.WireLists.{EachShows}
 use Rattle.dh_control.proofs.GatheredItems.{picked_here, picked_past}
 use Rattle.dh_control.proofs.WiresListed.{none_listed, next_listed}
@@ -82,7 +82,7 @@ pub moves_stay : (d e : PlainCircuit) (widths : List ℕ) (ms : List Move) → G
 moves_stay d e widths [] g h = tt
 moves_stay d e widths (m ∷ ms) g h = ((λ less. tested_stays d e m.item (slice_index widths m.key) g (h.0 less)), moves_stay d e widths ms g h.1)
 
-pub sized_stay : (d e : PlainCircuit) (widths wires : List ℕ) → Grows d e → AreSized d widths wires → AreSized e widths wires
+pub sized_stay : (d e : PlainCircuit) (widths wires : List ℕ) → Grows d e → WiresAreSized d widths wires → WiresAreSized e widths wires
 sized_stay d e widths wires g h = record { long = h.long; each = λ i less. wire_stays d e (slice_index wires i) (slice_index widths i) g (h.each i less) }
 
 -- The values one after the other.

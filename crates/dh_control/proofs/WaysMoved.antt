@@ -12,7 +12,7 @@ use Rattle.dh_cells.proofs.CellsAppended.{grows_then, settled_fewer, wire_stays,
 use Rattle.dh_cells.proofs.OperatorBits.{bit_tells}
 use Rattle.dh_control.specs.declared.leading.Branch.{Branch}
 use Rattle.dh_control.specs.MovedValues.{Move, set_where, moved, MoveFits, AreMoves}
-use Rattle.dh_control.specs.SizedWires.{AreSized, shown_all}
+use Rattle.dh_control.specs.SizedWires.{WiresAreSized, shown_all}
 use Rattle.dh_control.specs.WayMoves.{HoldsStates, spot_number, BranchMade, CountedMade, LeadAdded, WayAdded}
 use Rattle.dh_control.proofs.ListFacts.{all_both}
 use Rattle.dh_control.proofs.MovedLists.{moves_stay, sized_stay, shown_at}
@@ -193,8 +193,8 @@ test_done d e f g widths width states active after again flag whole w v b m0 m1 
     subst (λ (y : GraphWay). WayAdded d g widths width states active after y m0 m2 l0 l2) (sym is)
     (test_way d e f g widths width states active after flag w v b m0 m1 m2 l0 l1 l2 inside a p (subst (λ (l : List ℕ). WayAdded f g widths width states b.other l v m1 m2 l1 l2) same q))
 
-pub after_sized : (d e : PlainCircuit) (widths wires : List ℕ) (items : List ℕ) → Grows d e → wires ≡ items → AreSized d widths items → AreSized e widths wires
-after_sized d e widths wires items g same h = subst (λ (l : List ℕ). AreSized e widths l) (sym same) (sized_stay d e widths items g h)
+pub after_sized : (d e : PlainCircuit) (widths wires : List ℕ) (items : List ℕ) → Grows d e → wires ≡ items → WiresAreSized d widths items → WiresAreSized e widths wires
+after_sized d e widths wires items g same h = subst (λ (l : List ℕ). WiresAreSized e widths l) (sym same) (sized_stay d e widths items g h)
 
 pub holds_fewer : (width states number : ℕ) → HoldsStates width states → number < states → HoldsStates width number
 holds_fewer width states number h less = (h.0, fewer (2 ^ width) h.1)

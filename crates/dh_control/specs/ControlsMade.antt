@@ -15,7 +15,7 @@ use Rattle.dh_control.specs.declared.controlling.Outcome.{Outcome}
 use Rattle.dh_control.specs.declared.controlling.Results.{Results}
 use Rattle.dh_control.specs.declared.stepping.Verdict.{Verdict}
 use Rattle.dh_control.specs.AllBlocks.{BlockWords, AreBlockWords, blocks_set, blocks_code, state_ways, way_at}
-use Rattle.dh_control.specs.SizedWires.{AreSized, shown_all}
+use Rattle.dh_control.specs.SizedWires.{WiresAreSized, shown_all}
 use Rattle.dh_control.specs.StateWires.{AreStands, blocks_active}
 use Rattle.dh_control.specs.StepWires.{any_waits}
 use Rattle.dh_control.specs.WayMoves.{spot_number}
@@ -51,15 +51,15 @@ pub record OutcomeMade (old new : PlainCircuit) (clock : ℕ) (active lengths wi
 -- the registers after sets
 pub record AfterMade (old new : PlainCircuit) (widths registers commits wires : List ℕ) (blocks : List PlanBlock) (after : List ℕ) : Type 0 where
   pub grows : Grows old new
-  pub sized : AreSized new widths after
+  pub sized : WiresAreSized new widths after
   pub shows : (x : Signals) (w : BlockWords) (kinds : List Kind) → IsSettled new x → AreBlockWords w kinds wires x 0 blocks
       → shown_all x after ≡ blocks_set x commits w 0 blocks (shown_all x registers)
 
 -- the registers and the state after the step
 pub record ResultsMade (old new : PlainCircuit) (widths after : List ℕ) (width state : ℕ) (v : Verdict) (states : List State) (r : Results) : Type 0 where
   pub grows : Grows old new
-  pub news : AreSized new widths r.news
-  pub next : AreSized new (width ∷ []) r.state
+  pub news : WiresAreSized new widths r.news
+  pub next : WiresAreSized new (width ∷ []) r.state
   pub turns : (x : Signals) (kinds : List Kind) (n : ℕ) → IsSettled new x → map width_of kinds ≡ widths → is_one x v.commit ≡ true → shown x state ≡ n → n < length states
       → shown_all x r.news ≡ (resolve kinds (way_at (state_ways states) n) (shown_all x after)).registers
   pub keeps : (x : Signals) → IsSettled new x → is_one x v.commit ≡ false → shown_all x r.news ≡ shown_all x after

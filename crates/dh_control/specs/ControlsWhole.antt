@@ -10,7 +10,7 @@ use Rattle.dh_lower.specs.NetOfPlan.{Making}
 use Rattle.dh_control.specs.declared.controlling.Control.{Control}
 use Rattle.dh_control.specs.declared.controlling.Own.{Own}
 use Rattle.dh_control.specs.AllBlocks.{AreBlockWords, state_ways}
-use Rattle.dh_control.specs.SizedWires.{AreSized, shown_all}
+use Rattle.dh_control.specs.SizedWires.{WiresAreSized, shown_all}
 use Rattle.dh_control.specs.ThreadHolds.{own_registers, ControlWires, ControlShows, shown_blocks, state_blocks}
 use Rattle.dh_control.specs.WayMoves.{HoldsStates}
 
@@ -66,7 +66,7 @@ pub record ControlMade (old new : PlainCircuit) (own : Own) (widths registers wi
   pub clock_wire : IsWire new c.nexts.clock own.clock_width
   pub fault_wire : IsWire new c.nexts.fault 32
   pub done_wire : IsWire new c.nexts.done 1
-  pub state_wires : AreSized new (own.state_width ∷ []) c.results.state
-  pub news_wires : AreSized new widths c.results.news
+  pub state_wires : WiresAreSized new (own.state_width ∷ []) c.results.state
+  pub news_wires : WiresAreSized new widths c.results.news
   pub shows : (k : Making) (kinds : List Kind) (x : Signals) → IsSettled new x → AreOfMaking k widths blocks states lengths → OwnShown own registers x
       → AreBlockWords (shown_blocks k x) kinds wires x 0 blocks → ControlShows k (control_wires own registers c) x

@@ -8,7 +8,7 @@ use Rattle.dh_cells.specs.Settled.{Signals, IsSettled, Grows, shown}
 use Rattle.dh_cells.specs.ShownValues.{is_one}
 use Rattle.dh_cells.specs.declared.trees.Tested.{Tested}
 use Rattle.dh_control.specs.declared.gathering.Keyed.{Keyed}
-use Rattle.dh_control.specs.SizedWires.{AreSized, shown_all}
+use Rattle.dh_control.specs.SizedWires.{WiresAreSized, shown_all}
 
 -- a move: which value, the test, and the wire of the new value
 abbrev pub Move : Type 0
@@ -32,5 +32,5 @@ AreMoves d widths ms = AllByRecursion (MoveFits d widths) ms
 -- cells were added for the values after moves
 pub record MovesMade (old new : PlainCircuit) (widths wires : List ℕ) (moves : List Move) (news : List ℕ) : Type 0 where
   pub grows : Grows old new
-  pub sized : AreSized new widths news
+  pub sized : WiresAreSized new widths news
   pub shows : (x : Signals) → IsSettled new x → shown_all x news ≡ moved x moves (shown_all x wires)

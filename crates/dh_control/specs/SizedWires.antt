@@ -8,6 +8,6 @@ abbrev pub shown_all : Signals → (wires : List ℕ) → List ℕ
 shown_all x wires = map (λ w. shown x w) wires
 
 -- a wire for each of these widths
-pub record AreSized (d : PlainCircuit) (widths wires : List ℕ) : Type 0 where
+pub record WiresAreSized (d : PlainCircuit) (widths wires : List ℕ) : Type 0 where
   pub long : length wires ≡ length widths
   pub each : (i : ℕ) → i < length widths → IsWire d (slice_index wires i) (slice_index widths i)

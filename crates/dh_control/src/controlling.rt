@@ -6,7 +6,7 @@ ghost use Rattle.dh_cells.specs.Settled.{AreWires, IsWire};
 ghost use Rattle.dh_control.specs.AllBlocks.{ChecksSuit, SetsSuit};
 ghost use Rattle.dh_control.specs.ControlsMade.{ActivityMade, AfterMade, OutcomeMade, ResultsMade};
 ghost use Rattle.dh_control.specs.ControlsWhole.{ControlMade, OwnWires};
-ghost use Rattle.dh_control.specs.SizedWires.{AreSized};
+ghost use Rattle.dh_control.specs.SizedWires.{WiresAreSized};
 ghost use Rattle.dh_control.specs.StateWires.{AreStands};
 ghost use Rattle.dh_plan.specs.SeenGraphs.{FitsThread};
 ghost use Rattle.dh_control.specs.WayMoves.{HoldsStates};
@@ -112,7 +112,7 @@ pub fn push_after(
     wires: &[u64],
     blocks: &[PlanBlock],
 ) -> Result<Items<u64>, NoMemory>
-    requires registers { AreSized circuit.old widths.now registers.now }
+    requires registers { WiresAreSized circuit.old widths.now registers.now }
     requires commits { AreWires circuit.old commits.now 1 }
     requires each { length commits.now ≡ length blocks.now }
     requires suit { SetsSuit circuit.old widths.now wires.now blocks.now }
@@ -141,7 +141,7 @@ pub fn push_results(
     requires commit { IsWire circuit.old verdict.commit 1 }
     requires faulted { IsWire circuit.old verdict.faulted 1 }
     requires stands { AreStands circuit.old state 0 (map (λ s. s.block) states.now) stands.now }
-    requires after { AreSized circuit.old widths.now after.now }
+    requires after { WiresAreSized circuit.old widths.now after.now }
     requires ways { AllByRecursion
         (λ s. FitsThread (length states.now) (length widths.now) s.next) states.now }
     ensures { IfOk result (λ r. ResultsMade circuit.old circuit.new widths.now after.now width state
@@ -215,7 +215,7 @@ pub fn push_control(
     lengths: &[u64],
 ) -> Result<Control, NoMemory>
     requires own { OwnWires circuit.old own (length states.now) }
-    requires registers { AreSized circuit.old widths.now registers.now }
+    requires registers { WiresAreSized circuit.old widths.now registers.now }
     requires each { length lengths.now ≡ length blocks.now }
     requires fits { AllByRecursion (λ n. (1 ≤ n) × (n ≤ 2 ^ own.clock_width)) lengths.now }
     requires checks { ChecksSuit circuit.old wires.now blocks.now }

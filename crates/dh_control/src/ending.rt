@@ -4,7 +4,7 @@ ghost use Rattle.std.specs.Prelude.{◌≡◌, length, map, OnOk};
 ghost use Rattle.std.specs.List.{AllByRecursion};
 ghost use Rattle.dh_cells.specs.Settled.{AreWires, IsWire};
 ghost use Rattle.dh_control.specs.AllBlocks.{AllChecksAdded, AllSetsAdded, ChecksSuit, SetsSuit, WaysAdded, state_ways};
-ghost use Rattle.dh_control.specs.SizedWires.{AreSized};
+ghost use Rattle.dh_control.specs.SizedWires.{WiresAreSized};
 ghost use Rattle.dh_control.specs.StateWires.{AreStands};
 ghost use Rattle.dh_plan.specs.SeenGraphs.{FitsThread};
 ghost use Rattle.dh_control.specs.WayMoves.{HoldsStates};
@@ -76,7 +76,7 @@ pub fn push_ways(
     requires commit { IsWire circuit.old commit 1 }
     requires width { HoldsStates width (length states.now) }
     requires stands { AreStands circuit.old state 0 (map (λ s. s.block) states.now) stands.now }
-    requires after { AreSized circuit.old widths.now after.old.items }
+    requires after { WiresAreSized circuit.old widths.now after.old.items }
     requires ways { AllByRecursion
         (λ s. FitsThread (length states.now) (length widths.now) s.next) states.now }
     ensures { OnOk result (WaysAdded circuit.old circuit.new widths.now width (length states.now)

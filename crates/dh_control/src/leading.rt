@@ -2,7 +2,7 @@
 
 ghost use Rattle.std.specs.Prelude.{◌≡◌, ◌<◌, ◌++◌, length, slice_index, slice_set, IfOk, OnOk};
 ghost use Rattle.dh_cells.specs.Settled.{IsWire};
-ghost use Rattle.dh_control.specs.SizedWires.{AreSized};
+ghost use Rattle.dh_control.specs.SizedWires.{WiresAreSized};
 ghost use Rattle.dh_plan.specs.SeenGraphs.{FitsThread};
 ghost use Rattle.dh_control.specs.WayMoves.{BranchMade, CountedMade, HoldsStates, LeadAdded, WayAdded, counts, way_of_decision};
 
@@ -40,7 +40,7 @@ fn push_branch(
     number: u64,
 ) -> Result<Branch, NoMemory>
     requires active { IsWire circuit.old active 1 }
-    requires wires { AreSized circuit.old widths.now wires.now }
+    requires wires { WiresAreSized circuit.old widths.now wires.now }
     requires register { register < length widths.now }
     ensures { IfOk result (λ b. BranchMade circuit.old circuit.new active
         (slice_index wires.now register) number b) }
@@ -60,7 +60,7 @@ fn push_counted(
     wires: &[u64],
     counter: u64,
 ) -> Result<Counted, NoMemory>
-    requires wires { AreSized circuit.old widths.now wires.now }
+    requires wires { WiresAreSized circuit.old widths.now wires.now }
     requires counter { counter < length widths.now }
     ensures { IfOk result (λ c. CountedMade circuit.old circuit.new
         (slice_index widths.now counter) (slice_index wires.now counter) c) }
@@ -153,7 +153,7 @@ pub fn push_way(
 ) -> Result<(), NoMemory>
     requires active { IsWire circuit.old active 1 }
     requires states { HoldsStates width states }
-    requires after { AreSized circuit.old widths.now after.old.items }
+    requires after { WiresAreSized circuit.old widths.now after.old.items }
     requires way { FitsThread states (length widths.now) way.now }
     ensures added { OnOk result (WayAdded circuit.old circuit.new widths.now width states active
         after.old.items (way_of_decision way.now) moves.old moves.new leads.old leads.new) }

@@ -1,7 +1,7 @@
 //! Values at the end of a step: each chosen by the moves of it.
 
 ghost use Rattle.std.specs.Prelude.{IfOk};
-ghost use Rattle.dh_control.specs.SizedWires.{AreSized};
+ghost use Rattle.dh_control.specs.SizedWires.{WiresAreSized};
 ghost use Rattle.dh_control.specs.MovedValues.{AreMoves, MovesMade};
 
 use crate::gathering::{Keyed, gather};
@@ -17,7 +17,7 @@ pub fn push_moved(
     wires: &[u64],
     moves: &[Keyed<Tested>],
 ) -> Result<Items<u64>, NoMemory>
-    requires wires { AreSized circuit.old widths.now wires.now }
+    requires wires { WiresAreSized circuit.old widths.now wires.now }
     requires moves { AreMoves circuit.old widths.now moves.now }
     ensures { IfOk result
         (λ news. MovesMade circuit.old circuit.new widths.now wires.now moves.now news) }

@@ -15,7 +15,7 @@ use Rattle.dh_tree.specs.declared.tables.MemEntry.{MemEntry}
 use Rattle.dh_plan.specs.declared.operations.Operation.{Operation}
 use Rattle.dh_plan.specs.declared.operations.OperationForm.{OperationForm}
 use Rattle.dh_plan.specs.declared.operations.OperationForm.TheVariants.{Constant, Old, Compute, Convert, Select, Check, Probe, Read, Write, Set}
-use Rattle.dh_plan.specs.Blocks.{StepStart, is_on, form_word, guarded, operation_word, values_behind, values_of, AreValues}
+use Rattle.dh_plan.specs.Blocks.{StepStart, is_on, form_word, guarded, operation_word, values_behind, values_of_operations, AreValues}
 use Rattle.dh_plan.specs.BlockLaws.{SameAt, LooksBack}
 use Rattle.dh_plan.specs.Ordered.{one_or_none, offsets_taken, form_takes, operation_takes, IsBetween}
 use Rattle.dh_plan.specs.PlainPlans.{PlainPlan}
@@ -129,7 +129,7 @@ pub record RowSoFar (start d : PlainCircuit) (plan : PlainPlan) (offset : ℕ) (
   pub long : length ws ≡ i
   pub kinds : kinds_behind plan.table plan.registers first ks (drop i os) ≡ row_kinds plan first os
   pub words : (x : Signals) → IsSettled d x
-      → values_behind (start_shown plan offset x) (row_look plan.table used x.held first) first (value_words ks ws x) (drop i os) ≡ values_of (start_shown plan offset x) (row_look plan.table used x.held first) first os
+      → values_behind (start_shown plan offset x) (row_look plan.table used x.held first) first (value_words ks ws x) (drop i os) ≡ values_of_operations (start_shown plan offset x) (row_look plan.table used x.held first) first os
 
 pub row_begins : (d : PlainCircuit) (plan : PlainPlan) (offset : ℕ) (used : List (List (ℕ × ℕ))) (first : ℕ) (os : List Operation) (ks : List Kind) (ws : List ℕ) → ks ≡ [] → ws ≡ []
     → RowSoFar d d plan offset used first os 0 ks ws

@@ -16,7 +16,7 @@ use Rattle.dh_events.specs.declared.events.Site.{Site}
 use Rattle.dh_events.specs.Incidents.{PortEvent, term_incidents, terms_incidents}
 use Rattle.dh_events.specs.Structures.{Describes, DescribesAll, DescribesElement, IsNameless, AnyNameless, Extends}
 use Rattle.dh_events.specs.Elements.{moment_assigned_at, clocks_after, clocks_from, IsNumberOf, ElementNameless, IsKnown, AreKnown, AreKnownSoFar, terms_behind, IsElement, IsRead, AreReads, no_clocks, StaysNoted, StaysRead, IsStep, IsTouch}
-use Rattle.dh_events.specs.Tables.{kept_at}
+use Rattle.dh_events.specs.Tables.{table_at}
 use Rattle.dh_events.proofs.ElementFacts.{extends_same, extends_both, describes_still, from_still, is_element_still, reads_still, clocks_more, reads_more}
 
 absurd : {A : Type 0} → ⊥ → A
@@ -72,7 +72,7 @@ step_read known clocks event.Begins s = tt
 step_read known clocks event.Next s = tt
 step_read known clocks event.Ends s = tt
 
-quiet : (old : Notes) (events : Vec Event Global) (e : Event) → ((clocks : ℕ → ℕ) (place : ℕ) → clocks_after clocks place e ≡ clocks) → IsRead old.structures (kept_at old.clocks.items) e
+quiet : (old : Notes) (events : Vec Event Global) (e : Event) → ((clocks : ℕ → ℕ) (place : ℕ) → clocks_after clocks place e ≡ clocks) → IsRead old.structures (table_at old.clocks.items) e
     → events.items ≡ old.events.items ++ e ∷ [] → StaysRead old (with_events old events)
 quiet old events e still read is = record {
   extends = extends_same old.structures;
@@ -84,7 +84,7 @@ quiet old events e still read is = record {
 }
 
 pub step_noted : (old : Notes) (events : Vec Event Global) (e : Event) → events.items ≡ old.events.items ++ e ∷ [] → IsStep e → StaysRead old (with_events old events)
-step_noted old events e is s = quiet old events e (λ clocks place. step_clocks clocks place e s) (step_read old.structures (kept_at old.clocks.items) e s) is
+step_noted old events e is s = quiet old events e (λ clocks place. step_clocks clocks place e s) (step_read old.structures (table_at old.clocks.items) e s) is
 
 pub touch_noted : (old : Notes) (events : Vec Event Global) (e : Event) → events.items ≡ old.events.items ++ e ∷ [] → IsTouch old e → StaysRead old (with_events old events)
 touch_noted old events (event.Touch writes phase round access element newest) is r = quiet old events (event.Touch writes phase round access element newest) (λ clocks place. refl) r is
@@ -97,7 +97,7 @@ touch_noted old events event.Ends is r = absurd r
 
 -- an assignment more
 pub assigned_noted : (old : Notes) (events : Vec Event Global) (clocks : Vec ℕ Global) (entity : Option ℕ) → events.items ≡ old.events.items ++ event.Assigned entity ∷ []
-    → kept_at clocks.items ≡ moment_assigned_at (kept_at old.clocks.items) (length old.events.items + 1) entity → StaysNoted old (record { events = events; structures = old.structures; clocks = clocks })
+    → table_at clocks.items ≡ moment_assigned_at (table_at old.clocks.items) (length old.events.items + 1) entity → StaysNoted old (record { events = events; structures = old.structures; clocks = clocks })
 assigned_noted old events clocks entity is set = record {
   extends = extends_same old.structures;
   noted = λ i. record {
@@ -125,16 +125,16 @@ moved : (known : List Structure) (f g : ℕ → ℕ) (d e : Element) (s : Option
 moved known f g d e s m x y i = subst (λ (c : ℕ → ℕ). IsElement known c e s m) x (subst (λ (z : Element). IsElement known f z s m) y i)
 
 -- a read of an element behind what its indices read
-pub read_stays : (old mid new : Notes) (f : TermForm) (e : Element) (s : Option ℕ) (m : ℕ) → StaysRead old mid → element_in f ≡ e → IsElement mid.structures (kept_at old.clocks.items) e s m
-    → (IsElement mid.structures (kept_at mid.clocks.items) (element_in f) s m → StaysRead mid new) → StaysRead old new
-read_stays old mid new f e s m first is known second = stays_both old mid new first (second (moved mid.structures (kept_at old.clocks.items) (kept_at mid.clocks.items) e (element_in f) s m (sym first.clocks) (sym is) known))
+pub read_stays : (old mid new : Notes) (f : TermForm) (e : Element) (s : Option ℕ) (m : ℕ) → StaysRead old mid → element_in f ≡ e → IsElement mid.structures (table_at old.clocks.items) e s m
+    → (IsElement mid.structures (table_at mid.clocks.items) (element_in f) s m → StaysRead mid new) → StaysRead old new
+read_stays old mid new f e s m first is known second = stays_both old mid new first (second (moved mid.structures (table_at old.clocks.items) (table_at mid.clocks.items) e (element_in f) s m (sym first.clocks) (sym is) known))
 
-pub read_element : (old mid new : Notes) (f : TermForm) (e : Element) (s : Option ℕ) (m : ℕ) → StaysRead old mid → element_in f ≡ e → IsElement mid.structures (kept_at old.clocks.items) e s m
-    → (IsElement mid.structures (kept_at mid.clocks.items) (element_in f) s m → StaysRead mid new) → IsElement new.structures (kept_at old.clocks.items) (element_in f) s m
+pub read_element : (old mid new : Notes) (f : TermForm) (e : Element) (s : Option ℕ) (m : ℕ) → StaysRead old mid → element_in f ≡ e → IsElement mid.structures (table_at old.clocks.items) e s m
+    → (IsElement mid.structures (table_at mid.clocks.items) (element_in f) s m → StaysRead mid new) → IsElement new.structures (table_at old.clocks.items) (element_in f) s m
 read_element old mid new f e s m first is known second =
-    let there = moved mid.structures (kept_at old.clocks.items) (kept_at mid.clocks.items) e (element_in f) s m (sym first.clocks) (sym is) known in
-    is_element_still mid.structures new.structures (second there).extends (kept_at old.clocks.items) (element_in f) s m
-    (moved mid.structures (kept_at old.clocks.items) (kept_at old.clocks.items) e (element_in f) s m refl (sym is) known)
+    let there = moved mid.structures (table_at old.clocks.items) (table_at mid.clocks.items) e (element_in f) s m (sym first.clocks) (sym is) known in
+    is_element_still mid.structures new.structures (second there).extends (table_at old.clocks.items) (element_in f) s m
+    (moved mid.structures (table_at old.clocks.items) (table_at old.clocks.items) e (element_in f) s m refl (sym is) known)
 
 -- What is known stays known.
 

@@ -5,7 +5,7 @@ use Rattle.std.proofs.lemmas.List.{get_or-set_same, get_or-set_other}
 use mathlib.Core.Path.{fun_ext}
 use Rattle.std.proofs.Math.Seq.{drop-cons}
 use Rattle.std.specs.Prelude.{slice_set}
-use Rattle.dh_events.specs.Tables.{kept_at, with_number}
+use Rattle.dh_events.specs.Tables.{table_at, with_number}
 
 pub at_item : {X : Type 0} (xs : List X) (i : ℕ) (x : X) → i < length xs → x ≡ get_or xs i x → drop i xs ≡ x ∷ drop (i + 1) xs
 at_item xs i x within is = drop-cons xs i x within ∙ (ap (λ y. y ∷ drop (suc i) xs) (sym is) ∙ ap (λ n. x ∷ drop n xs) (sym (add-one i)))
@@ -20,7 +20,7 @@ zero_more [] (suc e) = refl
 zero_more (x ∷ xs) zero = refl
 zero_more (x ∷ xs) (suc e) = zero_more xs e
 
-pub zeros_more : (xs : List ℕ) → kept_at (xs ++ 0 ∷ []) ≡ kept_at xs
+pub zeros_more : (xs : List ℕ) → table_at (xs ++ 0 ∷ []) ≡ table_at xs
 zeros_more xs = fun_ext (λ e. zero_more xs e)
 
 other_number : (a b : ℕ) → (a == b) ≡ false → b ≡ a → ⊥
@@ -34,5 +34,5 @@ index_set xs k v m within = by_test (cases_Bool (k == m))
     by_test (inr e) = get_or-set_other xs k m v 0 (λ i. elim (other_number k m e i) [ ]) ∙ sym (ap (λ b. if b then v else slice_index xs m) e)
 
 -- a number that is set
-pub number_set : (xs : List ℕ) (place number : ℕ) → place < length xs → kept_at (slice_set xs place number) ≡ with_number (kept_at xs) place number
+pub number_set : (xs : List ℕ) (place number : ℕ) → place < length xs → table_at (slice_set xs place number) ≡ with_number (table_at xs) place number
 number_set xs place number within = fun_ext (λ e. index_set xs place number e within)

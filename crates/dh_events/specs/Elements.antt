@@ -18,7 +18,7 @@ use Rattle.dh_events.specs.declared.known.Known.{Known}
 use Rattle.dh_events.specs.declared.events.Notes.{Notes}
 use Rattle.dh_events.specs.Accesses.{entity_in, element_in}
 use Rattle.dh_events.specs.Structures.{sort_found, StructureStands, Describes, DescribesAll, DescribesElement, Extends, IsNameless, AnyNameless, newest_in, newest_behind, element_newest}
-use Rattle.dh_events.specs.Tables.{kept_at, with_number}
+use Rattle.dh_events.specs.Tables.{table_at, with_number}
 
 -- the moments of variables after an assignment
 abbrev pub moment_assigned_at : (clocks : ℕ → ℕ) → (moment : ℕ) → Option ℕ → ℕ → ℕ
@@ -84,7 +84,7 @@ no_clocks e = 0
 
 -- what is noted is right: the moments of variables, and of each read its indices
 pub record IsNoted (notes : Notes) : Type 0 where
-  pub clocks : kept_at notes.clocks.items ≡ clocks_from no_clocks 0 notes.events.items
+  pub clocks : table_at notes.clocks.items ≡ clocks_from no_clocks 0 notes.events.items
   pub reads : AreReads notes.structures no_clocks 0 notes.events.items
 
 -- more is noted, and stays right
@@ -95,7 +95,7 @@ pub record StaysNoted (old new : Notes) : Type 0 where
 -- the same, and no variable was assigned
 pub record StaysRead (old new : Notes) : Type 0 where
   pub extends : Extends old.structures new.structures
-  pub clocks : kept_at new.clocks.items ≡ kept_at old.clocks.items
+  pub clocks : table_at new.clocks.items ≡ table_at old.clocks.items
   pub noted : IsNoted old → IsNoted new
 
 -- an event that is no access and no assignment
@@ -110,7 +110,7 @@ IsStep event.Ends = Unit {0}
 
 -- an event that is an access, and of a read the number and the moment of its indices
 abbrev pub IsTouch : Notes → Event → Type 0
-IsTouch notes (event.Touch writes phase round access element newest) = IsRead notes.structures (kept_at notes.clocks.items) (event.Touch writes phase round access element newest)
+IsTouch notes (event.Touch writes phase round access element newest) = IsRead notes.structures (table_at notes.clocks.items) (event.Touch writes phase round access element newest)
 IsTouch notes (event.Assigned entity) = ⊥
 IsTouch notes event.ArmBegins = ⊥
 IsTouch notes event.ArmEnds = ⊥
@@ -120,7 +120,7 @@ IsTouch notes event.Ends = ⊥
 
 -- this is known of the element of an access
 abbrev pub IsElementOf : Notes → Expr → Known → Type 0
-IsElementOf notes access k = IsElement notes.structures (kept_at notes.clocks.items) (element_of (term_seen access)) k.structure k.newest
+IsElementOf notes access k = IsElement notes.structures (table_at notes.clocks.items) (element_of (term_seen access)) k.structure k.newest
 
 -- a form is an access
 abbrev pub IsAccess : TermForm → Type 0

@@ -15,7 +15,7 @@ use Rattle.dh_events.specs.declared.events.Site.{Site}
 use Rattle.dh_events.specs.declared.noting.Around.{Around}
 use Rattle.dh_events.specs.declared.noting.Open.{Open}
 use Rattle.dh_events.specs.Incidents.{PortEvent, touches, assigned, arm_begins, arm_ends, begins, next, ends, site_at, is_stepped, tested, inside_choice, when_parted, has_other, arms_part, term_incidents, terms_incidents, maybe_incidents, target_incidents, incidents, command_incidents, open_after, form_open, combine_incidents, open_combine, groups_incidents, groups_open, closed, open_at}
-use Rattle.dh_events.specs.Tables.{kept_at}
+use Rattle.dh_events.specs.Tables.{table_at}
 
 abbrev pub event_seen : Event → PortEvent
 event_seen (event.Touch writes phase round access element newest) = touches (term_seen access.now) writes (site_at phase round)
@@ -87,7 +87,7 @@ view_opened_by behind phase form = if moves (view_plan form) then open_at (Some 
 
 -- how many phases each command has, as the walk knows it
 abbrev pub stages_known : Around → ℕ → ℕ
-stages_known around = kept_at around.stages.now
+stages_known around = table_at around.stages.now
 
 abbrev pub done_by : Around → Open → Command → List PortEvent
 done_by around behind c = incidents (stages_known around) around.round behind (action_seen c)
@@ -140,4 +140,4 @@ parts_opened_by around stepped behind parts = groups_open (stages_known around) 
 
 -- what happens in a program's body, of which so many phases are noted by the numbers of its commands
 abbrev pub body_done_by : (stages : List ℕ) → Command → List PortEvent
-body_done_by stages c = incidents (kept_at stages) None closed (action_seen c)
+body_done_by stages c = incidents (table_at stages) None closed (action_seen c)

@@ -2,8 +2,8 @@
 use Rattle.std.specs.Prelude.{◌≡◌, ℕ, ◌==◌, if◌then◌else◌, List, slice_index, Vec}
 use Rattle.std.specs.Global.{Global}
 
-abbrev pub kept_at : List ℕ → ℕ → ℕ
-kept_at numbers place = slice_index numbers place
+abbrev pub table_at : List ℕ → ℕ → ℕ
+table_at numbers place = slice_index numbers place
 
 -- one number of a function changed
 abbrev pub with_number : (ℕ → ℕ) → (place number : ℕ) → ℕ → ℕ
@@ -11,4 +11,4 @@ with_number f place number n = if place == n then number else f n
 
 -- the numbers are those that this change makes of the ones before
 abbrev pub AreNumbers : (old new : Vec ℕ Global) → ((ℕ → ℕ) → ℕ → ℕ) → Type 0
-AreNumbers old new change = kept_at new.items ≡ change (kept_at old.items)
+AreNumbers old new change = table_at new.items ≡ change (table_at old.items)

@@ -6,7 +6,7 @@ ghost use Rattle.dh_meets.specs.Sharing.{number_of_op};
 ghost use Rattle.dh_events.specs.declared.structures.Form.TheVariants as form;
 ghost use Rattle.dh_events.specs.Structures as definitions;
 ghost use Rattle.dh_events.specs.Elements.{both_known, MakesCast, MakesIndex, MakesNoIndex, MakesNumber, MakesOperation, MakesRead, MakesRow, MakesTruth, MakesVariable, MakesFrom};
-ghost use Rattle.dh_events.specs.Tables.{kept_at};
+ghost use Rattle.dh_events.specs.Tables.{table_at};
 
 use crate::structures::{Form, Sort, Structure, Structures, op_number, sort_of};
 use crate::tables::get_at;
@@ -74,7 +74,7 @@ pub fn variable(
     entity: Option<u32>,
 ) -> Result<Known, NoMemory>
     ensures { IfOk result (λ k. MakesVariable structures.old structures.new
-        (kept_at clocks.now) sort entity k) }
+        (table_at clocks.now) sort entity k) }
 {
     match entity {
         Some(entity) => {

@@ -6,7 +6,7 @@ ghost use Rattle.dh_events.specs.Elements.{AreKnown, IsKnown, IsStep, StaysNoted
 ghost use Rattle.dh_events.specs.Incidents as incidents;
 ghost use Rattle.dh_events.specs.Incidents.{is_stepped, phase_of as phase_of_open, released, when_parted};
 ghost use Rattle.dh_events.specs.Noted.{all_read_by, arms_begun_by, arms_ended_by, arms_opened_by, assigned_by, block_done_by, block_opened_by, body_done_by, combine_opened_by, done_by, event_seen, given_done_by, left_open, let_by, maybe_read_by, offsets_read_by, opened_by, other_begun_by, parts_done_by, parts_opened_by, read_by, reads_none, stages_known, stored_by, suffixes_read_by, turns_begun_by, turns_ended_by, view_opened_by, written_by, Adds};
-ghost use Rattle.dh_events.specs.Tables.{kept_at};
+ghost use Rattle.dh_events.specs.Tables.{table_at};
 
 use crate::events::{Event, Notes, Site};
 use crate::known::{
@@ -25,7 +25,7 @@ fn note_index<'a>(notes: &mut Notes<'a>, site: Site, expr: &'a Expr) -> Result<K
     ensures adds { OnOk result (Adds notes.old notes.new (read_by site expr.now)) }
     ensures noted { OnOk result (StaysRead notes.old notes.new) }
     ensures known { IfOk result (λ k. IsKnown notes.new.structures
-        (kept_at notes.old.clocks.items) (term_seen expr.now) k) }
+        (table_at notes.old.clocks.items) (term_seen expr.now) k) }
 {
     let sort = sort_found(expr.kind);
     match &expr.form {
@@ -72,7 +72,7 @@ fn note_indices<'a>(
     ensures adds { OnOk result (Adds notes.old notes.new (all_read_by site indices.now)) }
     ensures noted { OnOk result (StaysRead notes.old notes.new) }
     ensures known { IfOk result (λ k. AreKnown notes.new.structures
-        (kept_at notes.old.clocks.items) (terms (map term_seen indices.now)) k) }
+        (table_at notes.old.clocks.items) (terms (map term_seen indices.now)) k) }
 {
     let mut known = None;
     for expr in indices {

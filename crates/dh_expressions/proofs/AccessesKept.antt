@@ -19,7 +19,7 @@ use Rattle.dh_expressions.specs.declared.scenes.Scene.{Scene}
 use Rattle.dh_expressions.specs.Copying.{AddsAllCopies, AreCopies, AreNone}
 use Rattle.dh_expressions.specs.Drafted.{BlockBegun, Extends, FitsStep, Names, BlockStep, word_shown, tale, told_block}
 use Rattle.dh_expressions.specs.Evaluated.{Knows, View}
-use Rattle.dh_expressions.specs.Noted.{Notes, given_in, given_then, given_to, is_bare, is_bare_of, noted_in, touched_in, touched_of}
+use Rattle.dh_expressions.specs.Noted.{Notes, given_in, given_then, given_to, has_no_operations, is_bare_of, noted_in, touched_in, touched_of}
 use Rattle.dh_expressions.specs.Standings.{IsTouched, AccessStanding, copy_places}
 use Rattle.dh_expressions.specs.Touching.{AddsTouched, IsNew, MakesCopies, TouchesAt}
 use Rattle.dh_expressions.proofs.ListPlaces.{place_of_more, place_within, set_here, set_long, set_other, some_same, there}
@@ -49,14 +49,14 @@ named_there d e k number place h more x f =
 
 -- Operations of an access.
 
-pub bare_within : (a : Accesses) (number : ℕ) → is_bare a number ≡ true → number < length a.touched.items
+pub bare_within : (a : Accesses) (number : ℕ) → has_no_operations a number ≡ true → number < length a.touched.items
 bare_within a number e = by (slice_get a.touched.items number) refl e
   where
     by : (o : Option (Option Touched)) → slice_get a.touched.items number ≡ o → is_bare_of o ≡ true → number < length a.touched.items
     by None is e = absurd (cc)
     by (Some t) is e = place_within a.touched.items number t is
 
-pub touched_already : (scene : Scene) (around : Around) (s : AccessStanding) (d : Draft) (a : Accesses) (number : ℕ) → is_bare a number ≡ false → TouchesAt scene around s d d a a number
+pub touched_already : (scene : Scene) (around : Around) (s : AccessStanding) (d : Draft) (a : Accesses) (number : ℕ) → has_no_operations a number ≡ false → TouchesAt scene around s d d a a number
 touched_already scene around s d a number e = record {
   adds = inl refl;
   fresh = inl refl;
@@ -78,7 +78,7 @@ touched_already scene around s d a number e = record {
     by (Some (Some t)) is within e = (t, refl)
 
 pub touched_first : (scene : Scene) (around : Around) (s : AccessStanding) (d e k : Draft) (before after : Accesses) (number fault : ℕ) (copies : List AccessAt) (numbers : List ℕ) (t : Touched)
-    → is_bare before number ≡ true → Names d e fault s.place → MakesCopies e k scene around numbers s copies
+    → has_no_operations before number ≡ true → Names d e fault s.place → MakesCopies e k scene around numbers s copies
     → t.fault ≡ fault → t.copies ≡ copies → t.given ≡ [] → after.touched.items ≡ slice_set before.touched.items number (Some t) → after.counts.items ≡ numbers
     → TouchesAt scene around s d k before after number
 touched_first scene around s d e k before after number fault copies numbers t bare named made fault_is copies_are given_none put counts = record {

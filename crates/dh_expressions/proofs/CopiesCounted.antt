@@ -8,7 +8,7 @@ use Rattle.std.proofs.Math.Nat.{div-mul-le_self, le-max_left, le-max_right, le_t
 use Rattle.std.proofs.lemmas.Bool.{cases_eq, cases_lt, eq-eqb, eqb-true}
 use Rattle.std.proofs.lemmas.Bool.Decides.{nat_tests}
 use Rattle.std.proofs.lemmas.Nat.{le-div}
-use Rattle.dh_events.specs.Tables.{kept_at, with_number}
+use Rattle.dh_events.specs.Tables.{table_at, with_number}
 use Rattle.dh_expressions.specs.declared.paths.Level.{Level}
 use Rattle.dh_expressions.specs.declared.tallies.Tally.{Tally}
 use Rattle.dh_expressions.specs.Counting.{IsTally, PlacesNext, carried_before, leaders_in, most_in, numbers_in, numbers_with, places_by, tally_in, tally_with}
@@ -304,7 +304,7 @@ module _ (leader bank group : ℕ → ℕ) where
           whole true = refl
           whole false = refl
 
-      pub tally_next : (leads : Bool) → (leader n == n) ≡ leads → kept_at after ≡ numbers_with numbers leads (bank n) count → IsTally leader bank group (suc n) (tally_with t leads count) after
+      pub tally_next : (leads : Bool) → (leader n == n) ≡ leads → table_at after ≡ numbers_with numbers leads (bank n) count → IsTally leader bank group (suc n) (tally_with t leads count) after
       tally_next true leads are = record {
         counts = λ own. ap (λ f. f own) are ∙ (at_bank own (bank n == own) refl ∙ sym (counts_to own));
         most_is = ap (λ m. max m (min (count + 1) (2 ^ 64 - 1))) h.most_is ∙ (ap (λ m. max (most (group n) n) m) one_more ∙ (sym (ap (λ t. if t then max (most (group n) n) (suc (led (group n) (bank n) n)) else most (group n) n) leads) ∙ (sym most_now ∙ ap (λ g. most g (suc n)) (sym h.group_is))));
@@ -322,7 +322,7 @@ module _ (leader bank group : ℕ → ℕ) where
           counts_to : (own : ℕ) → led t.group own (suc n) ≡ (if bank n == own then suc (led (group n) own n) else led (group n) own n)
           counts_to own = ap (λ g. led g own (suc n)) h.group_is ∙ (leaders_now own ∙ ap (λ p. if p && (bank n == own) then suc (led (group n) own n) else led (group n) own n) leads)
 
-          at_bank : (own : ℕ) (q : Bool) → (bank n == own) ≡ q → (if q then min (count + 1) (2 ^ 64 - 1) else kept_at numbers own) ≡ (if q then suc (led (group n) own n) else led (group n) own n)
+          at_bank : (own : ℕ) (q : Bool) → (bank n == own) ≡ q → (if q then min (count + 1) (2 ^ 64 - 1) else table_at numbers own) ≡ (if q then suc (led (group n) own n) else led (group n) own n)
           at_bank own true e = one_more ∙ ap (λ b. suc (led (group n) b n)) (eqb-true (bank n) own e)
           at_bank own false e = h.counts own
       tally_next false leads are = record {
@@ -369,7 +369,7 @@ module _ (leader bank group : ℕ → ℕ) where
 -- What a copy is counted by.
 pub placed_next : (t now next : Tally) (group bank count sum place : ℕ) (leads same : Bool) (numbers kept seen after : List ℕ)
     → same ≡ (t.group == group) → kept ≡ (if same then numbers else []) → now ≡ tally_in t group → seen ≡ kept → count ≡ slice_index seen bank → sum ≡ min (count + now.base) (2 ^ 64 - 1) → place ≡ narrowed sum
-    → next ≡ tally_with now leads count → kept_at after ≡ (if leads then with_number (kept_at kept) bank (min (count + 1) (2 ^ 64 - 1)) else kept_at kept) → PlacesNext t group bank leads numbers after next place
+    → next ≡ tally_with now leads count → table_at after ≡ (if leads then with_number (table_at kept) bank (min (count + 1) (2 ^ 64 - 1)) else table_at kept) → PlacesNext t group bank leads numbers after next place
 placed_next t now next group bank count sum place leads same numbers kept seen after same_is kept_is now_is seen_is count_is sum_is place_is next_is counts_are = record {
   place_is = place_is ∙ ap narrowed (sum_is ∙ (ap (λ m. min (m + now.base) (2 ^ 64 - 1)) counted ∙ ap (λ (u : Tally). min (slice_index (numbers_in t group numbers) bank + u.base) (2 ^ 64 - 1)) now_is));
   next_is = next_is ∙ (ap (λ (u : Tally). tally_with u leads count) now_is ∙ ap (λ m. tally_with (tally_in t group) leads m) counted);

@@ -15,7 +15,7 @@ use Rattle.dh_tree.specs.Elements.{Spot, dims_at, spot_in_bank}
 use Rattle.dh_tree.specs.PlainTrees as plain
 use Rattle.dh_tree.specs.Seen.{program_seen}
 use Rattle.dh_meaning.specs.Core.{CoreTerm, CoreTerms, Target, by_indices, by_row, by_views, read}
-use Rattle.dh_meaning.specs.Effects.{bits_at, is_row, kind_in, read_made, spot_by_indices, spot_by_row, spot_if_inside, spot_reached, value_of, values_of, write_made}
+use Rattle.dh_meaning.specs.Effects.{bits_at, is_row, kind_in, read_made, spot_by_indices, spot_by_row, spot_if_inside, spot_reached, value_of_term, values_of, write_made}
 use Rattle.dh_meaning.specs.Paths.{Path}
 use Rattle.dh_meaning.specs.Ways.{WayStep as ViewStep}
 use Rattle.dh_viewing.specs.declared.bank_sets.BankSet.{BankSet}
@@ -24,7 +24,7 @@ use Rattle.dh_plan.specs.declared.operations.OperationForm.{OperationForm}
 use Rattle.dh_plan.specs.declared.operations.OperationForm.TheVariants.{Probe, Write}
 use Rattle.dh_plan.specs.declared.operations.Reach as plans
 use Rattle.dh_plan.specs.declared.operations.ReachStep.{ReachStep}
-use Rattle.dh_plan.specs.Blocks.{BlockEvent, fails, puts, block_events, fails_outside, first_listed_bank, form_events, guarded, is_on, puts_inside, spot_in_row, spot_of_reach}
+use Rattle.dh_plan.specs.Blocks.{BlockEvent, fails, puts, block_events, fails_outside, first_listed_bank, operation_form_events, guarded, is_on, puts_inside, spot_in_row, spot_of_reach}
 use Rattle.dh_plan.specs.Passages.{indices_behind}
 use Rattle.dh_plan.proofs.ViewsPassed.{passed}
 use Rattle.dh_expressions.specs.declared.accesses.Accesses.{Accesses}
@@ -59,19 +59,19 @@ abbrev no_events : List BlockEvent
 no_events = []
 
 module _ (d e : Draft) (number : ℕ) (guard : Option ℕ) (form : OperationForm) (p : Pushes d e number guard form) where
-  pushed_tale : (x : BlockStep) → BlockBegun x d → tale x e ≡ tale x d ++ told_block x.named (if is_on x.first x.words guard then form_events x.start x.first x.words form else [])
+  pushed_tale : (x : BlockStep) → BlockBegun x d → tale x e ≡ tale x d ++ told_block x.named (if is_on x.first x.words guard then operation_form_events x.start x.first x.words form else [])
   pushed_tale x b =
       ap (λ (es : List BlockEvent). told_block x.named es) (pushed_events d e number guard form p x b)
       ∙ (told_behind x.named (block_events x.start x.first x.words (drop x.first d.operations.items)) _
       ∙ ap (λ (es : List BlockEvent). tale x d ++ told_block x.named es) (append-nil _))
 
-  pub pushed_on : (x : BlockStep) → BlockBegun x d → holds x guard → tale x e ≡ tale x d ++ told_block x.named (form_events x.start x.first x.words form)
-  pushed_on x b on = pushed_tale x b ∙ ap (λ (t : Bool). tale x d ++ told_block x.named (if t then form_events x.start x.first x.words form else [])) on
+  pub pushed_on : (x : BlockStep) → BlockBegun x d → holds x guard → tale x e ≡ tale x d ++ told_block x.named (operation_form_events x.start x.first x.words form)
+  pushed_on x b on = pushed_tale x b ∙ ap (λ (t : Bool). tale x d ++ told_block x.named (if t then operation_form_events x.start x.first x.words form else [])) on
 
   pub pushed_off : (x : BlockStep) → BlockBegun x d → fails_to_hold x guard → tale x e ≡ tale x d
-  pushed_off x b off = pushed_tale x b ∙ (ap (λ (t : Bool). tale x d ++ told_block x.named (if t then form_events x.start x.first x.words form else [])) off ∙ append-nil (tale x d))
+  pushed_off x b off = pushed_tale x b ∙ (ap (λ (t : Bool). tale x d ++ told_block x.named (if t then operation_form_events x.start x.first x.words form else [])) off ∙ append-nil (tale x d))
 
-  pub pushed_silent : (x : BlockStep) → BlockBegun x d → form_events x.start x.first x.words form ≡ [] → tale x e ≡ tale x d
+  pub pushed_silent : (x : BlockStep) → BlockBegun x d → operation_form_events x.start x.first x.words form ≡ [] → tale x e ≡ tale x d
   pushed_silent x b none =
       pushed_tale x b
       ∙ (ap (λ (es : List BlockEvent). tale x d ++ told_block x.named (if is_on x.first x.words guard then es else [])) none
@@ -122,11 +122,11 @@ module _ (lane : Lane) (v : View) (aim : Aim) (memory : ℕ) (banks : List (ℕ 
       (passed v.step.start.views steps (steps_shown v.step aim.steps) (drop n (values_of (begun_of v.step) v.variables (lane_path lane) ts)) (take n (values_of (begun_of v.step) v.variables (lane_path lane) ts)) aims.1.0)))
 
   led_by_row : (t : CoreTerm) (own : ℕ) → memory < 2 ^ 32 → AimsAt lane v aim (by_row own t)
-      → led ≡ spot_by_row v.step.start.table memory (first_listed_bank banks) (words.value_of (value_of (begun_of v.step) v.variables (lane_path lane) t))
+      → led ≡ spot_by_row v.step.start.table memory (first_listed_bank banks) (words.value_of (value_of_term (begun_of v.step) v.variables (lane_path lane) t))
   led_by_row t own small aims = by aim.row refl aims
     where
-      by : (row : Option ℕ) → aim.row ≡ row → RowIs v row (words.value_of (value_of (begun_of v.step) v.variables (lane_path lane) t))
-          → led ≡ spot_by_row v.step.start.table memory (first_listed_bank banks) (words.value_of (value_of (begun_of v.step) v.variables (lane_path lane) t))
+      by : (row : Option ℕ) → aim.row ≡ row → RowIs v row (words.value_of (value_of_term (begun_of v.step) v.variables (lane_path lane) t))
+          → led ≡ spot_by_row v.step.start.table memory (first_listed_bank banks) (words.value_of (value_of_term (begun_of v.step) v.variables (lane_path lane) t))
       by None e h = absurd h
       by (Some row) e h =
           ap (λ r. spot_in_row v.step.start v.step.first v.step.words planned r) e
@@ -140,7 +140,7 @@ read_led lane v aim memory banks place (plain.accessed r indices) (by_indices ts
 read_led lane v aim memory banks place (plain.accessed r indices) (by_views steps n ts) has small aims banked = led_by_views lane v aim memory banks place steps n ts small aims
 read_led lane v aim memory banks place (plain.in_bank r bank p row) (by_row other t) has small aims banked =
     led_by_row lane v aim memory banks place t other small aims
-    ∙ ap (λ b. spot_by_row v.step.start.table memory b (words.value_of (value_of (begun_of v.step) v.variables (lane_path lane) t))) (banked r bank p row refl ∙ sym has)
+    ∙ ap (λ b. spot_by_row v.step.start.table memory b (words.value_of (value_of_term (begun_of v.step) v.variables (lane_path lane) t))) (banked r bank p row refl ∙ sym has)
 read_led lane v aim memory banks place (plain.number negative value) target has small aims banked = elim has [ ]
 read_led lane v aim memory banks place (plain.truth_value value) target has small aims banked = elim has [ ]
 read_led lane v aim memory banks place (plain.named of) target has small aims banked = elim has [ ]
@@ -165,7 +165,7 @@ probe_led lane v aim memory fault place (plain.accessed r indices) (by_indices t
 probe_led lane v aim memory fault place (plain.accessed r indices) (by_views steps n ts) has small aims = ap (λ s. fails_outside fault s) (led_by_views lane v aim memory [] place steps n ts small aims)
 probe_led lane v aim memory fault place (plain.in_bank r bank p row) (by_row other t) has small aims =
     ap (λ s. fails_outside fault s) (led_by_row lane v aim memory [] place t other small aims)
-    ∙ fails_alike v.step.start.table memory 0 other fault (words.value_of (value_of (begun_of v.step) v.variables (lane_path lane) t))
+    ∙ fails_alike v.step.start.table memory 0 other fault (words.value_of (value_of_term (begun_of v.step) v.variables (lane_path lane) t))
 probe_led lane v aim memory fault place (plain.number negative value) target has small aims = elim has [ ]
 probe_led lane v aim memory fault place (plain.truth_value value) target has small aims = elim has [ ]
 probe_led lane v aim memory fault place (plain.named of) target has small aims = elim has [ ]
@@ -252,7 +252,7 @@ module _ (scene : Scene) (lane : Lane) (place : Place) (form : plain.TermForm) (
     (found_is : found ≡ given_by a1 (source_at (slice_get scene.shares.now aim.number) aim.number lane.number copy.leader))
     (r : Finds scene form d2 d3 memory aim copy found value) (g : Notes a1 a2 aim.number lane.number value) where
   abbrev word_read : View → Word
-  word_read v = value_of (begun_of v.step) v.variables (lane_path lane) (read (reach_at place memory aim.number) target)
+  word_read v = value_of_term (begun_of v.step) v.variables (lane_path lane) (read (reach_at place memory aim.number) target)
 
   probed : Extends d1 d2
   probed = pushed_extends d1 d2 probe (lane_guard lane) _ p

@@ -24,7 +24,7 @@ use Rattle.dh_meaning.specs.Bindings.{kind_found, kind_or_first}
 use Rattle.dh_meaning.specs.Core.{CoreTerm, CoreTerms, Target, binary, by_row, read}
 use Rattle.dh_meaning.specs.CoreOf.{core_term, core_terms, entity_number, extended, memory_of, operation_of, target_to, way_of}
 use Rattle.dh_meaning.specs.Effects as meaning
-use Rattle.dh_meaning.specs.Effects.{Event, Variables, bits_of, read_made, reads, writes, faults, spot_reached, target_events, term_events, value_of}
+use Rattle.dh_meaning.specs.Effects.{Event, Variables, bits_of, read_made, reads, writes, faults, spot_reached, target_events, term_events, value_of_term}
 use Rattle.dh_meaning.specs.Paths.{Path}
 use Rattle.dh_meaning.specs.Ways.{Way}
 use Rattle.dh_code.specs.Extended.{extension_of}
@@ -123,7 +123,7 @@ extended_word kind.Bool w = w
 extended_word (kind.Unsigned m) w = word_of (kind.Unsigned m) (words.value_of w)
 extended_word (kind.Signed m) w = word_of (kind.Signed m) (words.value_of w)
 
-pub extended_value : (b : meaning.Begun) (vs : Variables) (path : Path) (to : Kind) (t : CoreTerm) → value_of b vs path (extended to t) ≡ extended_word to (value_of b vs path t)
+pub extended_value : (b : meaning.Begun) (vs : Variables) (path : Path) (to : Kind) (t : CoreTerm) → value_of_term b vs path (extended to t) ≡ extended_word to (value_of_term b vs path t)
 extended_value b vs path kind.Bool t = refl
 extended_value b vs path (kind.Unsigned m) t = refl
 extended_value b vs path (kind.Signed m) t = refl
@@ -134,13 +134,13 @@ extended_events b vs path (kind.Unsigned m) t = refl
 extended_events b vs path (kind.Signed m) t = refl
 
 module _ (b : meaning.Begun) (vs : Variables) (path : Path) (j k : Kind) (l r : CoreTerm) where
-  both_value : (o : Op) (to : Kind) → value_of b vs path (binary o (extended to l) (extended to r)) ≡ binary_of o (extended_word to (value_of b vs path l)) (extended_word to (value_of b vs path r))
-  both_value o to = ap (λ w. binary_of o w (value_of b vs path (extended to r))) (extended_value b vs path to l) ∙ ap (λ w. binary_of o (extended_word to (value_of b vs path l)) w) (extended_value b vs path to r)
+  both_value : (o : Op) (to : Kind) → value_of_term b vs path (binary o (extended to l) (extended to r)) ≡ binary_of o (extended_word to (value_of_term b vs path l)) (extended_word to (value_of_term b vs path r))
+  both_value o to = ap (λ w. binary_of o w (value_of_term b vs path (extended to r))) (extended_value b vs path to l) ∙ ap (λ w. binary_of o (extended_word to (value_of_term b vs path l)) w) (extended_value b vs path to r)
 
   both_events : (o : Op) (to : Kind) → term_events b vs path (binary o (extended to l) (extended to r)) ≡ term_events b vs path l ++ term_events b vs path r
   both_events o to = ap (λ (es : List Event). es ++ term_events b vs path (extended to r)) (extended_events b vs path to l) ∙ ap (λ (es : List Event). term_events b vs path l ++ es) (extended_events b vs path to r)
 
-  pub operation_value : (o : Op) → binary_of o (extended_word (extension_of o j k) (value_of b vs path l)) (extended_word (extension_of o j k) (value_of b vs path r)) ≡ value_of b vs path (operation_of o j k l r)
+  pub operation_value : (o : Op) → binary_of o (extended_word (extension_of o j k) (value_of_term b vs path l)) (extended_word (extension_of o j k) (value_of_term b vs path r)) ≡ value_of_term b vs path (operation_of o j k l r)
   operation_value op.Shl = refl
   operation_value op.Shr = refl
   operation_value op.Both = refl
@@ -305,7 +305,7 @@ module _ (scene : Scene) (lane : Lane) (current : List (Option ℕ)) where
   -- counts the one and looks the other up by a name.
 
   abbrev read_value : View → Place → (memory number : ℕ) → Target → Word
-  read_value v place memory number target = value_of (begun_of v.step) v.variables (lane_path lane) (read (reach_at place memory number) target)
+  read_value v place memory number target = value_of_term (begun_of v.step) v.variables (lane_path lane) (read (reach_at place memory number) target)
 
   abbrev read_told : View → Place → (memory number : ℕ) → Target → List Event
   read_told v place memory number target =

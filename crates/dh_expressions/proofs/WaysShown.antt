@@ -15,7 +15,7 @@ use Rattle.dh_tree.specs.ViewElements.{offsets_needed}
 use Rattle.dh_tree.specs.PlainTrees.{TermForm, Terms, accessed}
 use Rattle.dh_meaning.specs.Core.{CoreTerms, count_terms, no_terms, term_and}
 use Rattle.dh_meaning.specs.CoreOf.{kept_terms, target_to, terms_both, way_of}
-use Rattle.dh_meaning.specs.Effects.{Begun as Start, Variables, value_of, values_of}
+use Rattle.dh_meaning.specs.Effects.{Begun as Start, Variables, value_of_term, values_of}
 use Rattle.dh_meaning.specs.Paths.{Path}
 use Rattle.dh_meaning.specs.Ways.{Hidden, Way, step_of, WayStep as ViewStep}
 use Rattle.dh_ways.specs.declared.ways.Hidden as ways
@@ -168,7 +168,7 @@ shown_past vs i past = subst (λ (n : ℕ). n ≤ i) (sym (length-map vs (λ (x 
 
 taken : (b : Start) (v : Variables) (path : Path) (ts us : CoreTerms) → take (count_terms ts) (values_of b v path (terms_both ts us)) ≡ values_of b v path ts
 taken b v path no_terms us = refl
-taken b v path (term_and t ts) us = ap (λ zs. words.value_of (value_of b v path t) ∷ zs) (taken b v path ts us)
+taken b v path (term_and t ts) us = ap (λ zs. words.value_of (value_of_term b v path t) ∷ zs) (taken b v path ts us)
 
 dropped : (b : Start) (v : Variables) (path : Path) (ts us : CoreTerms) → drop (count_terms ts) (values_of b v path (terms_both ts us)) ≡ values_of b v path us
 dropped b v path no_terms us = refl

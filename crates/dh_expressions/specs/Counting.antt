@@ -4,7 +4,7 @@
 -- and behind the earlier leaders of its own group on its bank. (`leader` is for each path the first one with its key,
 -- `bank` the bank of what is named that is reached there, and `group` the number of its group.)
 use Rattle.std.specs.Prelude.{◌≡◌, ℕ, zero, suc, ◌+◌, ◌-◌, ◌^◌, ◌<◌, ◌≤◌, ◌==◌, ◌&&◌, min, max, Bool, if◌then◌else◌, List, [], slice_index}
-use Rattle.dh_events.specs.Tables.{kept_at, with_number}
+use Rattle.dh_events.specs.Tables.{table_at, with_number}
 use Rattle.dh_expressions.specs.declared.tallies.Tally.{Tally}
 use Rattle.dh_expressions.specs.Numbers.{narrowed}
 
@@ -57,10 +57,10 @@ abbrev pub tally_with : Tally → (leads : Bool) → (count : ℕ) → Tally
 tally_with t leads count = if leads then record { group = t.group; base = t.base; most = max t.most (min (count + 1) (2 ^ 64 - 1)) } else t
 
 abbrev pub numbers_with : List ℕ → (leads : Bool) → (bank count : ℕ) → ℕ → ℕ
-numbers_with numbers leads bank count = if leads then with_number (kept_at numbers) bank (min (count + 1) (2 ^ 64 - 1)) else kept_at numbers
+numbers_with numbers leads bank count = if leads then with_number (table_at numbers) bank (min (count + 1) (2 ^ 64 - 1)) else table_at numbers
 
 -- the copy at the next path is counted, and has this place
 pub record PlacesNext (t : Tally) (group bank : ℕ) (leads : Bool) (numbers after : List ℕ) (next : Tally) (place : ℕ) : Type 0 where
   pub place_is : place ≡ narrowed (min (slice_index (numbers_in t group numbers) bank + (tally_in t group).base) (2 ^ 64 - 1))
   pub next_is : next ≡ tally_with (tally_in t group) leads (slice_index (numbers_in t group numbers) bank)
-  pub counts : kept_at after ≡ numbers_with (numbers_in t group numbers) leads bank (slice_index (numbers_in t group numbers) bank)
+  pub counts : table_at after ≡ numbers_with (numbers_in t group numbers) leads bank (slice_index (numbers_in t group numbers) bank)

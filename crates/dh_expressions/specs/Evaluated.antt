@@ -20,7 +20,7 @@ use Rattle.dh_meaning.specs.AccessNumbers.{term_accesses, terms_accesses}
 use Rattle.dh_meaning.specs.Bindings.{kind_or_first}
 use Rattle.dh_meaning.specs.CoreOf.{core_form, core_term, core_terms, depth_of, entity_number, memory_of, way_of}
 use Rattle.dh_meaning.specs.Effects as meaning
-use Rattle.dh_meaning.specs.Effects.{Event, Variables, term_events, terms_events, value_of, values_of}
+use Rattle.dh_meaning.specs.Effects.{Event, Variables, term_events, terms_events, value_of_term, values_of}
 use Rattle.dh_meaning.specs.Paths.{Path}
 use Rattle.dh_meaning.specs.Phases.{turn_count}
 use Rattle.dh_meaning.specs.Ways.{Hidden, Way, WayStep as ViewStep}
@@ -192,7 +192,7 @@ lane_guard lane = guard_of lane.around.guards.now lane.number
 
 -- the value of an expression whose accesses are numbered from n on, and what it reads
 abbrev pub term_value : Scene → Lane → View → (n : ℕ) → plain.Term → Word
-term_value scene lane v n t = value_of (begun_of v.step) v.variables (lane_path lane) (core_term (known_in scene) n t)
+term_value scene lane v n t = value_of_term (begun_of v.step) v.variables (lane_path lane) (core_term (known_in scene) n t)
 
 abbrev pub term_told : Scene → Lane → View → (n : ℕ) → plain.Term → List Event
 term_told scene lane v n t = term_events (begun_of v.step) v.variables (lane_path lane) (core_term (known_in scene) n t)
@@ -258,7 +258,7 @@ module _ (scene : Scene) (lane : Lane) (current : List (Option ℕ)) (v : View) 
   SeesWay r = SeesWayBy (first_view scene r) (way_of (known_in scene) r)
 
   abbrev pub read_word : (n : ℕ) → Place → Kind → plain.TermForm → Word
-  read_word n place k form = value_of (begun_of v.step) v.variables (lane_path lane) (core_form (known_in scene) n place k form)
+  read_word n place k form = value_of_term (begun_of v.step) v.variables (lane_path lane) (core_form (known_in scene) n place k form)
 
   -- the read of a form whose own number is this one
   abbrev pub Done : (n number : ℕ) → Ref → Place → Kind → plain.TermForm → Type 0

@@ -18,8 +18,8 @@ is_bare_of (Some None) = true
 is_bare_of (Some (Some t)) = false
 
 -- there is an access of this number, and it has no operations
-abbrev pub is_bare : Accesses → (number : ℕ) → Bool
-is_bare a number = is_bare_of (slice_get a.touched.items number)
+abbrev pub has_no_operations : Accesses → (number : ℕ) → Bool
+has_no_operations a number = is_bare_of (slice_get a.touched.items number)
 
 -- none of so many accesses has operations
 pub record IsUntouched (a : Accesses) (count : ℕ) : Type 0 where

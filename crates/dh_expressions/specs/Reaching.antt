@@ -7,7 +7,7 @@ use Rattle.dh_tree.specs.Indices.{form_of}
 use Rattle.dh_tree.specs.PlainTrees as plain
 use Rattle.dh_meaning.specs.CoreOf.{memory_of}
 use Rattle.dh_meaning.specs.Core.{Reach, Target, by_indices, by_row, by_views, read}
-use Rattle.dh_meaning.specs.Effects.{Event, read_made, spot_reached, value_of, values_of, write_made}
+use Rattle.dh_meaning.specs.Effects.{Event, read_made, spot_reached, value_of_term, values_of, write_made}
 use Rattle.dh_plan.specs.declared.operations.OperationForm.TheVariants.{Read}
 use Rattle.dh_plan.specs.declared.operations.Reach as plans
 use Rattle.dh_plan.specs.declared.operations.ReachStep.{ReachStep}
@@ -62,7 +62,7 @@ AimsAt lane v aim (by_indices ts) =
 AimsAt lane v aim (by_views steps n ts) =
     (numbers_shown v.step aim.indices ≡ take n (values_of (begun_of v.step) v.variables (lane_path lane) ts))
     × (AreOfSteps v.step.start.views steps (steps_shown v.step aim.steps) (drop n (values_of (begun_of v.step) v.variables (lane_path lane) ts)) × (aim.row ≡ None))
-AimsAt lane v aim (by_row bank t) = RowIs v aim.row (words.value_of (value_of (begun_of v.step) v.variables (lane_path lane) t))
+AimsAt lane v aim (by_row bank t) = RowIs v aim.row (words.value_of (value_of_term (begun_of v.step) v.variables (lane_path lane) t))
 
 -- an access names its element by indices, through views or not, or by a row of this bank
 abbrev pub FormHasTarget : plain.TermForm → Target → Type 0
@@ -85,7 +85,7 @@ module _ (scene : Scene) (lane : Lane) (place : Place) (form : plain.TermForm) (
   -- an access is made at an element, and means what the program reads there
   pub record IsRead (v : View) : Type 0 where
     pub aims : AimsAt lane v aim target
-    pub done : IsDone scene lane v memory aim.number place form (value_of (begun_of v.step) v.variables (lane_path lane) (read (reach_at place memory aim.number) target))
+    pub done : IsDone scene lane v memory aim.number place form (value_of_term (begun_of v.step) v.variables (lane_path lane) (read (reach_at place memory aim.number) target))
 
   -- so it is where the read is done
   pub record IsFairRead (v : View) : Type 0 where
@@ -95,7 +95,7 @@ module _ (scene : Scene) (lane : Lane) (place : Place) (form : plain.TermForm) (
   abbrev pub ReadsElement : (old new : Draft) → (before after : Accesses) → (value : ℕ) → Type 0
   ReadsElement old new before after value =
       Evaluates (lane_guard lane) old new before after value (λ v. IsFairRead v) (λ v. IsRead v)
-      (λ v. value_of (begun_of v.step) v.variables (lane_path lane) (read (reach_at place memory aim.number) target))
+      (λ v. value_of_term (begun_of v.step) v.variables (lane_path lane) (read (reach_at place memory aim.number) target))
       (λ v. read_made (reach_at place memory aim.number) (lane_path lane) (spot_reached (begun_of v.step) v.variables (lane_path lane) (reach_at place memory aim.number) target) ∷ [])
 
 -- the reading of the element that values name, at a path

@@ -10,7 +10,7 @@ use Rattle.dh_expressions.specs.declared.scenes.Around.{Around}
 use Rattle.dh_expressions.specs.declared.scenes.Scene.{Scene}
 use Rattle.dh_expressions.specs.Copying.{AddsAllCopies, AreCopies, AreNone, HasScopes}
 use Rattle.dh_expressions.specs.Drafted.{BlockBegun, Extends, FitsStep, Names, BlockStep, tale}
-use Rattle.dh_expressions.specs.Noted.{is_bare, touched_in}
+use Rattle.dh_expressions.specs.Noted.{has_no_operations, touched_in}
 use Rattle.dh_expressions.specs.Standings.{IsTouched, AccessStanding, copy_places, standing_at}
 use Rattle.dh_expressions.specs.Reaching.{place_written}
 
@@ -40,7 +40,7 @@ pub record TouchesAt (scene : Scene) (around : Around) (s : AccessStanding) (old
   -- nothing is added, or all of a new one
   pub adds : (new ≡ old) ⊎ ((t : Touched) × AddsTouched old new scene around s t)
   -- and that only where it has no operations yet
-  pub fresh : (new ≡ old) ⊎ (is_bare before number ≡ true)
+  pub fresh : (new ≡ old) ⊎ (has_no_operations before number ≡ true)
   pub extends : Extends old new
   pub quiet : (x : BlockStep) → FitsStep x new → BlockBegun x old → tale x new ≡ tale x old
   pub long : length after.touched.items ≡ length before.touched.items

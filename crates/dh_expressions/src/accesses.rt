@@ -3,7 +3,7 @@
 
 ghost use Rattle.std.specs.Prelude.{◌≡◌, ◌<◌, IfOk, OnOk, Some, length, slice_set};
 ghost use Rattle.dh_tree.specs.Seen.{term_seen};
-ghost use Rattle.dh_expressions.specs.Noted.{IsUntouched, Notes, copied_in, fault_in, given_in, given_then, is_bare, noted_in};
+ghost use Rattle.dh_expressions.specs.Noted.{IsUntouched, Notes, copied_in, fault_in, given_in, given_then, has_no_operations, noted_in};
 ghost use Rattle.dh_expressions.specs.Touching.{Touches};
 
 use crate::copies::{AccessAt, copies_of};
@@ -48,7 +48,7 @@ pub fn untouched(scene: &Scene<'_>) -> Result<Accesses, NoMemory>
 
 /// Whether there is an access of this number, and it has no operations.
 fn is_bare_at(accesses: &Accesses, number: u32) -> bool
-    ensures { result ≡ is_bare accesses.now number }
+    ensures { result ≡ has_no_operations accesses.now number }
 {
     match accesses.touched.get(number as usize) {
         Some(Some(_)) => false,

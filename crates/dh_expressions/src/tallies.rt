@@ -1,7 +1,7 @@
 //! How the copies of an access are counted, path by path: the place of each among those on its banks.
 
 ghost use Rattle.std.specs.Prelude.{◌≡◌, ◌==◌, [], if◌then◌else◌, IfOk, OnOk};
-ghost use Rattle.dh_events.specs.Tables.{kept_at};
+ghost use Rattle.dh_events.specs.Tables.{table_at};
 ghost use Rattle.dh_expressions.specs.Counting.{PlacesNext, numbers_with, tally_in, tally_with};
 
 use crate::kinds::narrow;
@@ -91,7 +91,7 @@ fn count_leader(
     count: usize,
 ) -> Result<(), NoMemory>
     ensures { OnOk result
-        (kept_at numbers.new.items ≡ numbers_with numbers.old.items leads bank count) }
+        (table_at numbers.new.items ≡ numbers_with numbers.old.items leads bank count) }
 {
     if leads {
         set_at(numbers, bank, count.saturating_add(1))?;

@@ -8,8 +8,8 @@ use Rattle.std.specs.List.{AllByRecursion}
 use Rattle.std.proofs.lemmas.Option.{slice_get-map}
 use Rattle.dh_value.specs.declared.kinds.Kind.{Kind}
 use Rattle.dh_plan.specs.PlainPlans.{Node, block_node, turns_node, loop_node, choice_node, threads_node, Nodes, no_nodes, node_then, NodeLists, no_lists, list_then}
-use Rattle.dh_plan.specs.PlanRuns.{PlanTodo, over, nodes_then, turn_then, test_then, again_then, pick_then, ended, at, inside, PlanPlaces, place_then, PlanNext, plan_next, plan_next_of, enter, enter_node, enter_lists, has_ended, all_ended, flag_holds, counted_up}
-use Rattle.dh_plan.specs.Ways.{GraphWay, to_state, to_end, resolve, resolve_all, places_of, leads_to, block_of_stop, way_of_join}
+use Rattle.dh_plan.specs.PlanRuns.{PlanTodo, over, nodes_then, turn_then, test_then, again_then, pick_then, ended, at, inside, PlanPlaces, place_then, PlanNext, plan_next, plan_next_of, plan_enter, enter_node, enter_lists, has_ended, all_ended, flag_holds, counted_up}
+use Rattle.dh_plan.specs.Ways.{GraphWay, to_state, to_end, resolve, resolve_all, places_of_spots, leads_to, block_of_stop, way_of_join}
 use Rattle.dh_flow.specs.declared.measuring.Entry.{Entry}
 use Rattle.dh_flow.specs.declared.measuring.Entry.TheVariants.{Nothing, State, Threads}
 use Rattle.dh_flow.specs.Footprints.{states_in, states_of, groups_in, groups_of, list_groups, list_count, entry_of, node_entry, lists_entry, entry_or}
@@ -31,16 +31,16 @@ both_ended true b e f = f
 both_ended false b e f = absurd (cc)
 
 mutual
-  enter_none : (ns : Nodes) (k : PlanTodo) (b : PlanNext) (registers : List ℕ) → entry_of ns ≡ Nothing → enter ns k b registers ≡ b
+  enter_none : (ns : Nodes) (k : PlanTodo) (b : PlanNext) (registers : List ℕ) → entry_of ns ≡ Nothing → plan_enter ns k b registers ≡ b
   enter_none no_nodes k b registers is = refl
   enter_none (node_then n ns) k b registers is =
       let both = none_behind (node_entry n) (entry_of ns) is in
-      enter_node_none n (nodes_then ns k) (enter ns k b registers) registers both.0 ∙ enter_none ns k b registers both.1
+      enter_node_none n (nodes_then ns k) (plan_enter ns k b registers) registers both.0 ∙ enter_none ns k b registers both.1
 
   enter_node_none : (n : Node) (k : PlanTodo) (b : PlanNext) (registers : List ℕ) → node_entry n ≡ Nothing → enter_node n k b registers ≡ b
   enter_node_none (block_node block) k b registers is = absurd (cc)
   enter_node_none (turns_node counter turns body) k b registers is =
-      pass_by (turns == 0) (entry_of body) b (enter body (turn_then counter turns body k) b registers) (enter_none body (turn_then counter turns body k) b registers) is
+      pass_by (turns == 0) (entry_of body) b (plan_enter body (turn_then counter turns body k) b registers) (enter_none body (turn_then counter turns body k) b registers) is
   enter_node_none (loop_node test flag body) k b registers is = absurd (cc)
   enter_node_none (choice_node test flag chosen other) k b registers is = absurd (cc)
   enter_node_none (threads_node lists) k b registers is =
@@ -50,7 +50,7 @@ mutual
   lists_ended no_lists registers is = refl
   lists_ended (list_then ns lists) registers is =
       let both = none_behind (entry_of ns) (lists_entry lists) is in
-      both_ended (has_ended (enter ns over (plan_next ended registers) registers).place) (all_ended (enter_lists lists registers))
+      both_ended (has_ended (plan_enter ns over (plan_next ended registers) registers).place) (all_ended (enter_lists lists registers))
       (ap (λ (n : PlanNext). has_ended n.place) (enter_none ns over (plan_next ended registers) registers both.0)) (lists_ended lists registers both.1)
 
 -- With one a thread has not ended.
@@ -78,16 +78,16 @@ part_by P State f one two b = one tt
 part_by P (Threads nested count) f one two b = one tt
 
 mutual
-  enter_goes : (ns : Nodes) (k : PlanTodo) (b : PlanNext) (registers : List ℕ) → Begins (entry_of ns) → has_ended (enter ns k b registers).place ≡ false
+  enter_goes : (ns : Nodes) (k : PlanTodo) (b : PlanNext) (registers : List ℕ) → Begins (entry_of ns) → has_ended (plan_enter ns k b registers).place ≡ false
   enter_goes no_nodes k b registers is = absurd is
   enter_goes (node_then n ns) k b registers is =
-      part_by (has_ended (enter_node n (nodes_then ns k) (enter ns k b registers) registers).place ≡ false) (node_entry n) (entry_of ns) (enter_node_goes n (nodes_then ns k) (enter ns k b registers) registers)
-      (λ none begins. ap (λ (x : PlanNext). has_ended x.place) (enter_node_none n (nodes_then ns k) (enter ns k b registers) registers none) ∙ enter_goes ns k b registers begins) is
+      part_by (has_ended (enter_node n (nodes_then ns k) (plan_enter ns k b registers) registers).place ≡ false) (node_entry n) (entry_of ns) (enter_node_goes n (nodes_then ns k) (plan_enter ns k b registers) registers)
+      (λ none begins. ap (λ (x : PlanNext). has_ended x.place) (enter_node_none n (nodes_then ns k) (plan_enter ns k b registers) registers none) ∙ enter_goes ns k b registers begins) is
 
   enter_node_goes : (n : Node) (k : PlanTodo) (b : PlanNext) (registers : List ℕ) → Begins (node_entry n) → has_ended (enter_node n k b registers).place ≡ false
   enter_node_goes (block_node block) k b registers is = refl
   enter_node_goes (turns_node counter turns body) k b registers is =
-      begins_by (turns == 0) (entry_of body) b (enter body (turn_then counter turns body k) b registers) (enter_goes body (turn_then counter turns body k) b registers) is
+      begins_by (turns == 0) (entry_of body) b (plan_enter body (turn_then counter turns body k) b registers) (enter_goes body (turn_then counter turns body k) b registers) is
   enter_node_goes (loop_node test flag body) k b registers is = refl
   enter_node_goes (choice_node test flag chosen other) k b registers is = refl
   enter_node_goes (threads_node lists) k b registers is =
@@ -96,7 +96,7 @@ mutual
   lists_go : (lists : NodeLists) (registers : List ℕ) → Begins (lists_entry lists) → all_ended (enter_lists lists registers) ≡ false
   lists_go no_lists registers is = absurd is
   lists_go (list_then ns lists) registers is =
-      let one = has_ended (enter ns over (plan_next ended registers) registers).place in
+      let one = has_ended (plan_enter ns over (plan_next ended registers) registers).place in
       let rest = all_ended (enter_lists lists registers) in
       part_by ((one && rest) ≡ false) (entry_of ns) (lists_entry lists) (λ begins. first_goes one rest (enter_goes ns over (plan_next ended registers) registers begins))
       (λ none begins. second_goes one rest (lists_go lists registers begins)) is
@@ -181,7 +181,7 @@ module _ (kinds : List Kind) (ps : List Placed) (fs : List Forked) where
   turns_by false e xs ys a g l x y so is h = so is h
 
   either_by : (e : Entry) (ns : Nodes) (a g : ℕ) (w : GraphWay) (k : PlanTodo) (b : PlanNext) (registers : List ℕ) → entry_of ns ≡ e → leads w registers ≡ b
-      → (Begins (entry_of ns) → leads (way_in ns a g w) registers ≡ enter ns k b registers) → leads (way_in ns a g w) registers ≡ enter ns k b registers
+      → (Begins (entry_of ns) → leads (way_in ns a g w) registers ≡ plan_enter ns k b registers) → leads (way_in ns a g w) registers ≡ plan_enter ns k b registers
   either_by Nothing ns a g w k b registers is past so = ap (λ v. leads v registers) (way_none ns a g w is) ∙ (past ∙ sym (enter_none ns k b registers is))
   either_by State ns a g w k b registers is past so = so (subst (λ (e : Entry). Begins e) (sym is) tt)
   either_by (Threads nested count) ns a g w k b registers is past so = so (subst (λ (e : Entry). Begins e) (sym is) tt)
@@ -195,28 +195,28 @@ module _ (kinds : List Kind) (ps : List Placed) (fs : List Forked) where
 
   mutual
     -- the way into nodes that begin leads where the run enters them
-    enter_leads : (ns : Nodes) (a g o : ℕ) (w v : GraphWay) (k : PlanTodo) (b : PlanNext) (registers : List ℕ) → Begins (entry_of ns) → Here ns a g o v k → leads (way_in ns a g w) registers ≡ enter ns k b registers
+    enter_leads : (ns : Nodes) (a g o : ℕ) (w v : GraphWay) (k : PlanTodo) (b : PlanNext) (registers : List ℕ) → Begins (entry_of ns) → Here ns a g o v k → leads (way_in ns a g w) registers ≡ plan_enter ns k b registers
     enter_leads no_nodes a g o w v k b registers is h = absurd is
     enter_leads (node_then n ns) a g o w v k b registers is h =
         let a' = a + states_of n in
         let g' = g + groups_of n in
-        let entered = enter_node n (nodes_then ns k) (enter ns k b registers) registers in
+        let entered = enter_node n (nodes_then ns k) (plan_enter ns k b registers) registers in
         part_by (leads (way_or (node_entry n) (way_in_node n a g) (way_in ns a g w)) registers ≡ entered) (node_entry n) (entry_of ns)
         (λ begins. ap (λ u. leads u registers) (way_begins (node_entry n) (way_in_node n a g) (way_in ns a g w) begins)
-        ∙ node_leads n a g o (way_in ns a' g' v) (nodes_then ns k) (enter ns k b registers) registers begins (here_first n ns a g o v k h))
+        ∙ node_leads n a g o (way_in ns a' g' v) (nodes_then ns k) (plan_enter ns k b registers) registers begins (here_first n ns a g o v k h))
         (λ none begins.
         let nothing = node_none n none in
         let same_a : a' ≡ a = add_none a (states_of n) nothing.0 in
         let same_g : g' ≡ g = add_none g (groups_of n) nothing.1 in
         ap (λ u. leads u registers) (way_past (node_entry n) (way_in_node n a g) (way_in ns a g w) none)
         ∙ (ap (λ x. leads (way_in ns x g w) registers) (sym same_a) ∙ (ap (λ x. leads (way_in ns a' x w) registers) (sym same_g)
-        ∙ (enter_leads ns a' g' o w v k b registers begins (here_rest n ns a g o v k h) ∙ sym (enter_node_none n (nodes_then ns k) (enter ns k b registers) registers none))))) is
+        ∙ (enter_leads ns a' g' o w v k b registers begins (here_rest n ns a g o v k h) ∙ sym (enter_node_none n (nodes_then ns k) (plan_enter ns k b registers) registers none))))) is
 
     node_leads : (n : Node) (a g o : ℕ) (v : GraphWay) (k : PlanTodo) (b : PlanNext) (registers : List ℕ) → Begins (node_entry n) → HereNode n a g o v k → leads (way_in_node n a g) registers ≡ enter_node n k b registers
     node_leads (block_node block) a g o v k b registers is h = at_state a (placed block o v k) registers (sits_first _ [] ps a h.0)
     node_leads (turns_node counter turns body) a g o v k b registers is h =
         turns_by (turns == 0) (entry_of body) (states body a g o (turn_way counter turns body a g v) (turn_then counter turns body k)) (groups body a g o (turn_way counter turns body a g v) (turn_then counter turns body k)) a g
-        (leads (way_in body a g to_end) registers) b (enter body (turn_then counter turns body k) b registers)
+        (leads (way_in body a g to_end) registers) b (plan_enter body (turn_then counter turns body k) b registers)
         (enter_leads body a g o to_end (turn_way counter turns body a g v) (turn_then counter turns body k) b registers) is h
     node_leads (loop_node test flag body) a g o v k b registers is h =
         at_state a (placed test o (loop_way flag body a g v) (test_then test flag body k)) registers (sits_first _ (states body (a + 1) g o (to_state a) (again_then test flag body k)) ps a h.0)
@@ -233,15 +233,15 @@ module _ (kinds : List Kind) (ps : List Placed) (fs : List Forked) where
         ∙ forks_by (all_ended (enter_lists lists registers)) b (plan_next (inside (enter_lists lists registers) k) registers) (lists_go lists registers begins))
 
     lists_lead : (lists : NodeLists) (a g o : ℕ) (registers : List ℕ) → HereLists lists a g o
-        → places_of (map stop_of ps) to_come to_join (resolve_all kinds (ways_in lists a g) registers) ≡ enter_lists lists registers
+        → places_of_spots (map stop_of ps) to_come to_join (resolve_all kinds (ways_in lists a g) registers) ≡ enter_lists lists registers
     lists_lead no_lists a g o registers h = refl
     lists_lead (list_then ns lists) a g o registers h =
-        ap (λ (x : PlanNext). place_then x.place (places_of (map stop_of ps) to_come to_join (resolve_all kinds (ways_in lists (a + states_in ns) (g + groups_in ns)) registers)))
+        ap (λ (x : PlanNext). place_then x.place (places_of_spots (map stop_of ps) to_come to_join (resolve_all kinds (ways_in lists (a + states_in ns) (g + groups_in ns)) registers)))
         (either_by (entry_of ns) ns a g to_end over (plan_next ended registers) registers refl refl (λ begins. enter_leads ns a g o to_end to_end over (plan_next ended registers) registers begins (here_list ns lists a g o h)))
-        ∙ ap (λ xs. place_then (enter ns over (plan_next ended registers) registers).place xs) (lists_lead lists (a + states_in ns) (g + groups_in ns) (o + 1) registers (here_lists ns lists a g o h))
+        ∙ ap (λ xs. place_then (plan_enter ns over (plan_next ended registers) registers).place xs) (lists_lead lists (a + states_in ns) (g + groups_in ns) (o + 1) registers (here_lists ns lists a g o h))
 
   -- so does the way into any nodes, or past them
-  pub enters : (ns : Nodes) (a g o : ℕ) (w v : GraphWay) (k : PlanTodo) (b : PlanNext) (registers : List ℕ) → Here ns a g o v k → leads w registers ≡ b → leads (way_in ns a g w) registers ≡ enter ns k b registers
+  pub enters : (ns : Nodes) (a g o : ℕ) (w v : GraphWay) (k : PlanTodo) (b : PlanNext) (registers : List ℕ) → Here ns a g o v k → leads w registers ≡ b → leads (way_in ns a g w) registers ≡ plan_enter ns k b registers
   enters ns a g o w v k b registers h past = either_by (entry_of ns) ns a g w k b registers refl past (λ begins. enter_leads ns a g o w v k b registers begins h)
 
   -- A way does what is to come.
@@ -295,7 +295,7 @@ module _ (kinds : List Kind) (ps : List Placed) (fs : List Forked) where
         let v = turn_way counter turns body a g w in
         let todo = turn_then counter turns body k in
         all_by (turns == 0) (states body a g o v todo) (groups body a g o v todo) a g (λ here. nodes_do body a g o v todo here (λ registers.
-        by_test (slice_index registers counter == (turns - 1)) w (way_in body a g to_end) (plan_next_of kinds k (slice_set registers counter 0)) (enter body todo (plan_next ended (counted_up kinds counter registers)) (counted_up kinds counter registers))
+        by_test (slice_index registers counter == (turns - 1)) w (way_in body a g to_end) (plan_next_of kinds k (slice_set registers counter 0)) (plan_enter body todo (plan_next ended (counted_up kinds counter registers)) (counted_up kinds counter registers))
         (slice_set registers counter 0) (counted_up kinds counter registers) (d (slice_set registers counter 0))
         (enters body a g o to_end v todo (plan_next ended (counted_up kinds counter registers)) (counted_up kinds counter registers) here refl))) h
     node_does (loop_node test flag body) a g o w k h d =
@@ -305,7 +305,7 @@ module _ (kinds : List Kind) (ps : List Placed) (fs : List Forked) where
         let here : Here body (a + 1) g o (to_state a) again = (sits_tail (placed test o (loop_way flag body a g w) todo) (states body (a + 1) g o (to_state a) again) ps a h.0, h.1) in
         let inside_do = nodes_do body (a + 1) g o (to_state a) again here (λ registers. at_state a (placed test o (loop_way flag body a g w) todo) registers first) in (
           (
-            λ registers. by_test (flag_holds registers flag) (way_in body (a + 1) g (to_state a)) w (enter body again (plan_next (at test todo) registers) registers) (plan_next_of kinds k registers) registers registers
+            λ registers. by_test (flag_holds registers flag) (way_in body (a + 1) g (to_state a)) w (plan_enter body again (plan_next (at test todo) registers) registers) (plan_next_of kinds k registers) registers registers
                 (enters body (a + 1) g o (to_state a) (to_state a) again (plan_next (at test todo) registers) registers here (at_state a (placed test o (loop_way flag body a g w) todo) registers first)) (d registers),
             inside_do.0,
           ),
@@ -323,7 +323,7 @@ module _ (kinds : List Kind) (ps : List Placed) (fs : List Forked) where
         ) in
         let both = two_do (states chosen (a + 1) g o w k) (states other b c o w k) (groups chosen (a + 1) g o w k) (groups other b c o w k) (nodes_do chosen (a + 1) g o w k here d) (nodes_do other b c o w k there d) in (
           (
-            λ registers. by_test (flag_holds registers flag) (way_in chosen (a + 1) g w) (way_in other b c w) (enter chosen k (plan_next_of kinds k registers) registers) (enter other k (plan_next_of kinds k registers) registers) registers registers
+            λ registers. by_test (flag_holds registers flag) (way_in chosen (a + 1) g w) (way_in other b c w) (plan_enter chosen k (plan_next_of kinds k registers) registers) (plan_enter other k (plan_next_of kinds k registers) registers) registers registers
                 (enters chosen (a + 1) g o w w k (plan_next_of kinds k registers) registers here (d registers)) (enters other b c o w w k (plan_next_of kinds k registers) registers there (d registers)),
             both.0,
           ),

@@ -6,7 +6,7 @@ use Rattle.dh_meaning.specs.Core.{CoreTerms, no_terms, term_and}
 use Rattle.dh_meaning.specs.CoreOf.{kept_terms, target_to, terms_both}
 use Rattle.dh_meaning.specs.Ways.{Hidden, Way}
 use Rattle.dh_plan.specs.DoneProgram.{target_products, term_products, terms_products}
-use Rattle.dh_plan.specs.PlanPhases.{target_mentions, term_mentions, terms_mention}
+use Rattle.dh_plan.specs.PlanPhases.{target_mentions, term_mentions, core_terms_mention}
 
 first_or : (a b : Bool) → a ≡ true → (a || b) ≡ true
 first_or true b e = refl
@@ -20,21 +20,21 @@ either : (a b c : Bool) → (b ≡ true → c ≡ true) → (a || b) ≡ true �
 either true b c so e = refl
 either false b c so e = so e
 
-pub mentions_front : (entity : ℕ) (ts us : CoreTerms) → terms_mention entity ts ≡ true → terms_mention entity (terms_both ts us) ≡ true
+pub mentions_front : (entity : ℕ) (ts us : CoreTerms) → core_terms_mention entity ts ≡ true → core_terms_mention entity (terms_both ts us) ≡ true
 mentions_front entity no_terms us e = absurd (cc)
-mentions_front entity (term_and t ts) us e = either (term_mentions entity t) (terms_mention entity ts) (terms_mention entity (terms_both ts us)) (λ f. mentions_front entity ts us f) e
+mentions_front entity (term_and t ts) us e = either (term_mentions entity t) (core_terms_mention entity ts) (core_terms_mention entity (terms_both ts us)) (λ f. mentions_front entity ts us f) e
 
-pub mentions_behind : (entity : ℕ) (ts us : CoreTerms) → terms_mention entity us ≡ true → terms_mention entity (terms_both ts us) ≡ true
+pub mentions_behind : (entity : ℕ) (ts us : CoreTerms) → core_terms_mention entity us ≡ true → core_terms_mention entity (terms_both ts us) ≡ true
 mentions_behind entity no_terms us e = e
-mentions_behind entity (term_and t ts) us e = other_or (term_mentions entity t) (terms_mention entity (terms_both ts us)) (mentions_behind entity ts us e)
+mentions_behind entity (term_and t ts) us e = other_or (term_mentions entity t) (core_terms_mention entity (terms_both ts us)) (mentions_behind entity ts us e)
 
 -- what indices mention the target does
-pub named_mentions : (way : Option Way) (entity : ℕ) (ts : CoreTerms) → terms_mention entity ts ≡ true → target_mentions entity (target_to way ts) ≡ true
+pub named_mentions : (way : Option Way) (entity : ℕ) (ts : CoreTerms) → core_terms_mention entity ts ≡ true → target_mentions entity (target_to way ts) ≡ true
 named_mentions None entity ts e = e
 named_mentions (Some w) entity ts e = mentions_front entity ts (kept_terms w.hidden) e
 
 -- and it mentions what keeps its offsets
-pub way_mentions : (w : Way) (entity : ℕ) (ts : CoreTerms) → terms_mention entity (kept_terms w.hidden) ≡ true → target_mentions entity (target_to (Some w) ts) ≡ true
+pub way_mentions : (w : Way) (entity : ℕ) (ts : CoreTerms) → core_terms_mention entity (kept_terms w.hidden) ≡ true → target_mentions entity (target_to (Some w) ts) ≡ true
 way_mentions w entity ts e = mentions_behind entity ts (kept_terms w.hidden) e
 
 kept_none : (hs : List Hidden) → terms_products (kept_terms hs) ≡ 0

@@ -25,7 +25,7 @@ use Rattle.dh_plan.specs.declared.operations.OperationForm.TheVariants.{Constant
 use Rattle.dh_plan.specs.declared.operations.Reach.{Reach}
 use Rattle.dh_plan.specs.declared.operations.ReachStep.{ReachStep}
 use Rattle.dh_plan.specs.DoneProgram.{product_of, target_products, term_products, terms_products}
-use Rattle.dh_plan.specs.PlanPhases.{target_mentions, term_mentions, terms_mention}
+use Rattle.dh_plan.specs.PlanPhases.{target_mentions, term_mentions, core_terms_mention}
 use Rattle.dh_expressions.specs.declared.accesses.Accesses.{Accesses}
 use Rattle.dh_expressions.specs.declared.drafts.Draft.{Draft}
 use Rattle.dh_expressions.specs.declared.elements.Aim.{Aim}
@@ -237,7 +237,7 @@ module _ (x : FormedBlock) (scene : Scene) (lane : Lane) (current : List (Option
   Mentions n t entity = term_mentions entity (core_term (known_in scene) n t) ≡ true
 
   abbrev pub AllMention : (n : ℕ) → plain.Terms → ℕ → Type 0
-  AllMention n ts entity = terms_mention entity (core_terms (known_in scene) n ts) ≡ true
+  AllMention n ts entity = core_terms_mention entity (core_terms (known_in scene) n ts) ≡ true
 
   abbrev pub NamedMention : (n : ℕ) → Ref → plain.Terms → ℕ → Type 0
   NamedMention n r ts entity = target_mentions entity (target_to (way_of (known_in scene) r) (core_terms (known_in scene) n ts)) ≡ true
@@ -380,16 +380,16 @@ module _ (x : FormedBlock) (scene : Scene) (lane : Lane) (current : List (Option
 
   -- Variables that keep offsets are mentioned behind the indices, and count nothing.
 
-  kept_each : (N : ℕ → Type 0) (hs : List Hidden) → ((e : ℕ) → terms_mention e (kept_terms hs) ≡ true → N e) → AllByRecursion (HiddenSuits x scene lane) hs
+  kept_each : (N : ℕ → Type 0) (hs : List Hidden) → ((e : ℕ) → core_terms_mention e (kept_terms hs) ≡ true → N e) → AllByRecursion (HiddenSuits x scene lane) hs
       → AllByRecursion (λ h. IsMentioned scene lane N (hidden_register scene lane h)) hs
   kept_each N [] more suits = tt
   kept_each N (h ∷ hs) more suits = (
     record {
       entity = h.entity;
-      mentioned = more h.entity (left_of (h.entity == h.entity) (terms_mention h.entity (kept_terms hs)) (itself h.entity));
+      mentioned = more h.entity (left_of (h.entity == h.entity) (core_terms_mention h.entity (kept_terms hs)) (itself h.entity));
       register_is = ap (λ (c : Option Counter). register_seen c (held_at scene.held.now h.entity) lane) (sym suits.0.counter);
     },
-    kept_each N hs (λ e q. more e (right_of (e == h.entity) (terms_mention e (kept_terms hs)) q)) suits.1,
+    kept_each N hs (λ e q. more e (right_of (e == h.entity) (core_terms_mention e (kept_terms hs)) q)) suits.1,
   )
 
   pub way_counted : (way : Option Way) (memory first n count : ℕ) (ts : CoreTerms) (old new : Draft) (steps : List ReachStep) → WaySuits x scene lane memory first way → MadeWay scene lane current old new first way steps

@@ -19,7 +19,7 @@ use Rattle.dh_code.specs.Slots.{held_at}
 use Rattle.dh_plan.specs.declared.operations.ReachStep.{ReachStep}
 use Rattle.dh_plan.specs.LegalSchedules.{greatest_number}
 use Rattle.dh_plan.specs.Ordered.{offsets_taken, one_or_none}
-use Rattle.dh_plan.specs.PlanPhases.{target_mentions, term_mentions, terms_mention}
+use Rattle.dh_plan.specs.PlanPhases.{target_mentions, term_mentions, core_terms_mention}
 use Rattle.dh_expressions.specs.declared.accesses.Accesses.{Accesses}
 use Rattle.dh_expressions.specs.declared.drafts.Draft.{Draft}
 use Rattle.dh_expressions.specs.declared.elements.Aim.{Aim}
@@ -305,12 +305,12 @@ module _ (c : BlockClocks) (scene : Scene) (lane : Lane) (current : List (Option
   abbrev HiddenAt : Levels → List Hidden → Type 0
   HiddenAt k hs = AllByRecursion (λ h. CurrentAt c (slice_get current (hidden_register scene lane h)) (k.variables h.entity)) hs
 
-  kept_at : (hs : List Hidden) (k : Levels) → Variables (λ e. terms_mention e (kept_terms hs) ≡ true) k → AllByRecursion (HiddenSuits c.block scene lane) hs → HiddenAt k hs
+  kept_at : (hs : List Hidden) (k : Levels) → Variables (λ e. core_terms_mention e (kept_terms hs) ≡ true) k → AllByRecursion (HiddenSuits c.block scene lane) hs → HiddenAt k hs
   kept_at [] k more suits = tt
   kept_at (h ∷ hs) k more suits = (
     subst (λ (o : Option Counter). VariableAt c o (held_at scene.held.now h.entity) lane current (k.variables h.entity)) suits.0.counter
-        (more h.entity (left_of (h.entity == h.entity) (terms_mention h.entity (kept_terms hs)) (itself h.entity))),
-    kept_at hs k (λ e q. more e (right_of (e == h.entity) (terms_mention e (kept_terms hs)) q)) suits.1,
+        (more h.entity (left_of (h.entity == h.entity) (core_terms_mention h.entity (kept_terms hs)) (itself h.entity))),
+    kept_at hs k (λ e q. more e (right_of (e == h.entity) (core_terms_mention e (kept_terms hs)) q)) suits.1,
   )
 
   hidden_extends : (hs : List Hidden) (old new : Draft) (values : List ℕ) → MadeHidden scene lane current hs old new values → Extends old new

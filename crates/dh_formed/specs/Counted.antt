@@ -13,7 +13,7 @@ use Rattle.dh_plan.specs.declared.operations.OperationForm.{OperationForm}
 use Rattle.dh_plan.specs.declared.operations.OperationForm.TheVariants.{Constant, Old, Compute, Convert, Select, Check, Probe, Read, Write, Set}
 use Rattle.dh_plan.specs.declared.operations.Reach.{Reach}
 use Rattle.dh_plan.specs.DoneProgram.{block_products, operations_using, probes_among, term_products, terms_products}
-use Rattle.dh_plan.specs.PlanPhases.{term_mentions, terms_mention}
+use Rattle.dh_plan.specs.PlanPhases.{term_mentions, core_terms_mention}
 use Rattle.dh_expressions.specs.declared.accesses.Accesses.{Accesses}
 use Rattle.dh_expressions.specs.declared.accesses.Touched.{Touched}
 use Rattle.dh_expressions.specs.declared.drafts.Draft.{Draft}
@@ -110,7 +110,7 @@ IsOfTerm x scene lane n t =
 
 abbrev pub IsOfTerms : FormedBlock → Scene → Lane → (n : ℕ) → plain.Terms → OperationForm → Type 0
 IsOfTerms x scene lane n ts =
-    FormIs (λ register. IsMentioned scene lane (λ entity. terms_mention entity (core_terms (known_in scene) n ts) ≡ true) register)
+    FormIs (λ register. IsMentioned scene lane (λ entity. core_terms_mention entity (core_terms (known_in scene) n ts) ≡ true) register)
     (λ r. IsAccess x n (terms_accesses ts) r) (λ r. IsLedUse x lane.number n (terms_accesses ts) r) (λ r. ⊥)
 
 -- What is noted of accesses from path to path.

@@ -8,7 +8,7 @@ use Rattle.dh_tree.specs.PlainTrees.{Term, Terms}
 use Rattle.dh_meaning.specs.AccessNumbers.{term_accesses, terms_accesses}
 use Rattle.dh_meaning.specs.CoreOf.{core_term, core_terms, memory_of, target_to, way_of}
 use Rattle.dh_meaning.specs.Levels.{Levels}
-use Rattle.dh_plan.specs.PlanPhases.{target_mentions, term_mentions, terms_mention}
+use Rattle.dh_plan.specs.PlanPhases.{target_mentions, term_mentions, core_terms_mention}
 use Rattle.dh_expressions.specs.declared.accesses.Accesses.{Accesses}
 use Rattle.dh_expressions.specs.declared.drafts.Draft.{Draft}
 use Rattle.dh_expressions.specs.declared.elements.Aim.{Aim}
@@ -81,7 +81,7 @@ IndicesInTime =
     (c : BlockClocks) (scene : Scene) (lane : Lane) (current : List (Option ℕ)) (shared : ℕ → Option ℕ) (outer : ℕ) (ts : Terms) (old new : Draft) (before after : Accesses) (n : ℕ) (aim : Aim)
     → MadeIndices scene lane current ts old new before after n aim → n + terms_accesses ts < 2 ^ 32
     → (l : Levels) → StandsInTime c old new scene lane current before shared outer n (terms_accesses ts) l → TermsSuit c.block scene lane n ts × AreNumbers ts
-    → ((entity : ℕ) → terms_mention entity (core_terms (known_in scene) n ts) ≡ true → EntityAt c scene lane current l entity)
+    → ((entity : ℕ) → core_terms_mention entity (core_terms (known_in scene) n ts) ≡ true → EntityAt c scene lane current l entity)
     → ReadsAgree c (all_leveled scene shared outer n ts l).levels (n + terms_accesses ts)
     → TimesTerms c old new after (all_leveled scene shared outer n ts l) aim.indices
 

@@ -22,7 +22,7 @@ use Rattle.dh_expressions.specs.declared.scenes.Scene.{Scene}
 use Rattle.dh_expressions.proofs.ListPlaces.{place_within}
 use Rattle.dh_gathering.specs.declared.blocks.Made.{Made}
 use Rattle.dh_gathering.specs.MadeBlocks.{counter_register, made_tie}
-use Rattle.dh_gathering.specs.LoopCounters.{AreOwnLoops, AreSlotsBy, HasCounter, IsCounting, counting_of, loops_in, loops_of}
+use Rattle.dh_gathering.specs.LoopCounters.{AreOwnLoops, AreSlotsBy, HasCounter, IsCounting, counting_of, loops_of_phase, loops_of_phases}
 use Rattle.dh_gathering.specs.Registers.{HasRegisterKind, HaveKinds, IsRegisterKind, first_among}
 use Rattle.dh_gathering.proofs.CountersApart.{apart_loops}
 use Rattle.dh_gathering.proofs.KindsOfRegisters.{first_at, first_before}
@@ -32,13 +32,13 @@ module _ (scene : Scene) (final : Made) where
   both xs ys as' bs h k = ap (λ (l : List Counting). l ++ ys) h ∙ (ap (λ (l : List Counting). map (counting_of scene) as' ++ l) k ∙ sym (map-append (counting_of scene) as' bs))
 
   mutual
-    pub countings_are : (rounds : List Round) (ps : CorePhases) (ns : Nodes) → AreNodesOf (made_tie scene final) rounds ps ns → countings ns ≡ map (counting_of scene) (loops_of ps)
+    pub countings_are : (rounds : List Round) (ps : CorePhases) (ns : Nodes) → AreNodesOf (made_tie scene final) rounds ps ns → countings ns ≡ map (counting_of scene) (loops_of_phases ps)
     countings_are rounds no_core_phases no_nodes h = refl
     countings_are rounds no_core_phases (node_then n ns) h = absurd h
     countings_are rounds (phase_and p ps) no_nodes h = absurd h
-    countings_are rounds (phase_and p ps) (node_then n ns) h = both (node_countings n) (countings ns) (loops_in p) (loops_of ps) (node_is rounds p n h.0) (countings_are rounds ps ns h.1)
+    countings_are rounds (phase_and p ps) (node_then n ns) h = both (node_countings n) (countings ns) (loops_of_phase p) (loops_of_phases ps) (node_is rounds p n h.0) (countings_are rounds ps ns h.1)
 
-    node_is : (rounds : List Round) (p : CorePhase) (n : Node) → IsNodeOf (made_tie scene final) rounds p n → node_countings n ≡ map (counting_of scene) (loops_in p)
+    node_is : (rounds : List Round) (p : CorePhase) (n : Node) → IsNodeOf (made_tie scene final) rounds p n → node_countings n ≡ map (counting_of scene) (loops_of_phase p)
     node_is rounds (straightly cs) (block_node block) h = refl
     node_is rounds (straightly cs) (turns_node counter turns ms) h = absurd h
     node_is rounds (straightly cs) (loop_node block flag ms) h = absurd h
@@ -61,7 +61,7 @@ module _ (scene : Scene) (final : Made) where
     node_is rounds (choosing test chosen other) (turns_node counter turns ms) h = absurd h
     node_is rounds (choosing test chosen other) (loop_node block flag ms) h = absurd h
     node_is rounds (choosing test chosen other) (choice_node block flag ms os) h =
-        both (countings ms) (countings os) (loops_of chosen) (loops_of other) (countings_are rounds chosen ms h.1.0) (countings_are rounds other os h.1.1)
+        both (countings ms) (countings os) (loops_of_phases chosen) (loops_of_phases other) (countings_are rounds chosen ms h.1.0) (countings_are rounds other os h.1.1)
     node_is rounds (choosing test chosen other) (threads_node lists) h = absurd h
 
 -- the element of which another is made

@@ -34,7 +34,7 @@ use Rattle.dh_laid.specs.BlockSites.{MadeEach}
 use Rattle.dh_laid.specs.LaidAccesses.{Lays}
 use Rattle.dh_laid.specs.LaidFaults.{IsFaultless}
 use Rattle.dh_laid.specs.LaidNumbers.{StoresReach}
-use Rattle.dh_laid.specs.LaidQuiet.{StandsIn}
+use Rattle.dh_laid.specs.LaidQuiet.{BlockStandsIn}
 use Rattle.dh_laid.proofs.AccessesLaid.{commands_lay, each_lays, lays_again, lays_quiet}
 use Rattle.dh_laid.proofs.CommandsNumbered.{reaching_number}
 use Rattle.dh_laid.proofs.FaultsOwn.{faults_grow}
@@ -142,7 +142,7 @@ module _ (scene : Scene) (around : Around) where
   )
 
   -- only their accesses have got operations
-  touches_all : (items : List Numbered) (first last : ℕ) (old new : Building) → StandsIn scene around → 0 < paths_counted around → AllByRecursion (λ c. c.first + accesses_of c.command < 2 ^ 32) items → AllByRecursion (λ c. StoresReach c.command) items
+  touches_all : (items : List Numbered) (first last : ℕ) (old new : Building) → BlockStandsIn scene around → 0 < paths_counted around → AllByRecursion (λ c. c.first + accesses_of c.command < 2 ^ 32) items → AllByRecursion (λ c. StoresReach c.command) items
       → AreOpen old.accesses first last items → DoesNumbered scene around items old new → TouchesWithin old.accesses new.accesses first last
   touches_all [] first last old new stands some few reach bare same = subst (λ (b : Building). TouchesWithin old.accesses b.accesses first last) (sym same) (within_none old.accesses first last)
   touches_all (c ∷ cs) first last old new stands some few reach bare (mid, (next, (one, rest))) =
@@ -267,7 +267,7 @@ module _ (scene : Scene) (paths : Paths) (old new : Made) (between after : Build
     leaves : Leaves scene around old.building between
     leaves = leaves_all scene around items old.building between some few does
 
-    stands_in : StandsIn scene around
+    stands_in : BlockStandsIn scene around
     stands_in = record { scopes = inside.told.scopes; low = low; few = few_counted around paths.count guards many }
 
     changes : Changes scene around AnyVariable old.building.values between.values

@@ -28,7 +28,7 @@ use Rattle.dh_commands.specs.Setting.{NoVariable, TestsAll}
 use Rattle.dh_commands.specs.Undone.{Changes, IsChange, given_at, undone}
 use Rattle.dh_laid.specs.LaidAccesses.{Lays}
 use Rattle.dh_laid.specs.LaidFaults.{AddsFaultless}
-use Rattle.dh_laid.specs.LaidQuiet.{StandsIn}
+use Rattle.dh_laid.specs.LaidQuiet.{BlockStandsIn}
 use Rattle.dh_laid.proofs.AccessesLaid.{lays_again, lays_quiet, tests_lay}
 use Rattle.dh_laid.proofs.CommandsNumbered.{tests_number}
 use Rattle.dh_laid.proofs.FaultsOwn.{faultless_again, faultless_pushed}
@@ -112,7 +112,7 @@ module _ (scene : Scene) (paths : Paths) (old new : Made) (between : Building) (
       (starts : new.starts.items ≡ old.starts.items ++ start ∷ []) (registers : new.registers ≡ old.registers ++ kind.Bool ∷ [])
       (flag_is : flag ≡ length old.registers) (number_is : block ≡ length old.starts.items) (start_is : start ≡ length old.building.draft.operations.items) where
     module _ (rounds : List Round) (inside : AreInside scene rounds paths) (rest : IsAtRest old) (few : n + term_accesses t < 2 ^ 32) (bare : AreUntouched old.building.accesses n (n + term_accesses t)) where
-      stands_in : StandsIn scene around
+      stands_in : BlockStandsIn scene around
       stands_in = record { scopes = inside.told.scopes; low = low; few = few_counted around paths.count guards many }
 
       -- accesses are laid behind the test, and its flag touches none

@@ -60,15 +60,15 @@ abbrev mutual
 
 -- The loops of phases, in order.
 abbrev mutual
-  pub loops_of : CorePhases → List Turning
-  loops_of no_core_phases = []
-  loops_of (phase_and q qs) = loops_in q ++ loops_of qs
+  pub loops_of_phases : CorePhases → List Turning
+  loops_of_phases no_core_phases = []
+  loops_of_phases (phase_and q qs) = loops_of_phase q ++ loops_of_phases qs
 
-  pub loops_in : CorePhase → List Turning
-  loops_in (straightly cs) = []
-  loops_in (turning loop body) = loop ∷ loops_of body
-  loops_in (looping test body) = loops_of body
-  loops_in (choosing test chosen other) = loops_of chosen ++ loops_of other
+  pub loops_of_phase : CorePhase → List Turning
+  loops_of_phase (straightly cs) = []
+  loops_of_phase (turning loop body) = loop ∷ loops_of_phases body
+  loops_of_phase (looping test body) = loops_of_phases body
+  loops_of_phase (choosing test chosen other) = loops_of_phases chosen ++ loops_of_phases other
 
 -- each of these loops counts, with an iterator that no other of them has
 pub record AreOwnLoops (scene : Scene) (p : Placing) (loops : List Turning) : Type 0 where

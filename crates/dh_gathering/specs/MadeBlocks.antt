@@ -36,7 +36,7 @@ use Rattle.dh_laid.specs.BareCommands.{AreRising, IsBare, IsBareFrom}
 use Rattle.dh_laid.specs.BlockSites.{MadeEach}
 use Rattle.dh_laid.specs.LaidAccesses.{AreLaid}
 use Rattle.dh_laid.specs.LaidNumbers.{StoresReach}
-use Rattle.dh_laid.specs.LaidQuiet.{StandsIn}
+use Rattle.dh_laid.specs.LaidQuiet.{BlockStandsIn}
 use Rattle.dh_gathering.specs.declared.blocks.Made.{Made}
 use Rattle.dh_gathering.specs.Growing.{IsClear, place_in, registers_given}
 use Rattle.dh_gathering.specs.PhasesInLoops.{StraightOf, TestOf}
@@ -124,7 +124,7 @@ pub record MadeStraight (scene : Scene) (final : Made) (rounds : List Round) (ls
   pub few : AllByRecursion AreFew ls
   pub does : DoesCommands scene around ls before between
   -- exactly what was put down
-  pub stands_in : StandsIn scene around
+  pub stands_in : BlockStandsIn scene around
   pub made : MadeEach scene around ls before between
   -- As it begins all accesses with operations are laid, where faults are few, and none is counted; its own have no
   -- operations, and stand one behind the other.
@@ -175,7 +175,7 @@ pub record MadeTest (scene : Scene) (final : Made) (rounds : List Round) (n : �
   pub tests : List ℕ
   pub value : ℕ
   pub does : TestsAll scene around before between n next t tests
-  pub stands_in : StandsIn scene around
+  pub stands_in : BlockStandsIn scene around
   pub made : MadeTests scene around n t (paths_counted around) before between next tests
   pub laid : length final.building.draft.faults ≤ 2 ^ 32 → AreLaid final.building.draft.faults before.accesses
   pub counts : AreNone before.accesses.counts.items

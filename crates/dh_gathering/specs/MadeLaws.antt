@@ -18,7 +18,7 @@ use Rattle.dh_commands.specs.Undone.{NoneGiven}
 use Rattle.dh_gathering.specs.declared.blocks.Made.{Made}
 use Rattle.dh_gathering.specs.Cutting.{AreBlocksOf}
 use Rattle.dh_gathering.specs.Growing.{registers_given}
-use Rattle.dh_gathering.specs.LoopCounters.{AreOwnLoops, AreSlotsBy, HasCounter, IsCounting, LoopsCount, apart_counters, loops_of}
+use Rattle.dh_gathering.specs.LoopCounters.{AreOwnLoops, AreSlotsBy, HasCounter, IsCounting, LoopsCount, apart_counters, loops_of_phases}
 use Rattle.dh_gathering.specs.MadeBlocks.{BlockStandsAt, made_tie}
 use Rattle.dh_gathering.specs.Registers.{AreSuccessive, HaveKinds}
 
@@ -42,8 +42,8 @@ CountersAreApart =
 -- and it is wide enough, and of no other loop
 abbrev pub CountersAreOwn : Type 0
 CountersAreOwn =
-    (scene : Scene) (p : Placing) (slots : Slots) (count : ℕ) (final : Made) (plan : PlainPlan) (qs : CorePhases) (ns : Nodes) → AreSlotsBy scene p slots → IsPlacing p count → AreOwnLoops scene p (loops_of qs)
-    → AllByRecursion (HasCounter scene plan.registers) (loops_of qs) → AreNodesOf (made_tie scene final) [] qs ns → AreCounters plan (countings ns)
+    (scene : Scene) (p : Placing) (slots : Slots) (count : ℕ) (final : Made) (plan : PlainPlan) (qs : CorePhases) (ns : Nodes) → AreSlotsBy scene p slots → IsPlacing p count → AreOwnLoops scene p (loops_of_phases qs)
+    → AllByRecursion (HasCounter scene plan.registers) (loops_of_phases qs) → AreNodesOf (made_tie scene final) [] qs ns → AreCounters plan (countings ns)
 
 -- the registers of a program's variables stand one behind the other
 abbrev pub RegistersFollow : Type 0

@@ -40,7 +40,7 @@ use Rattle.dh_expressions.specs.Drafted.{Extends, Pushes}
 use Rattle.dh_expressions.specs.Evaluated.{counter_of, known_in}
 use Rattle.dh_expressions.specs.MadeTerms.{MadeRead, MadeTerm, MadeTerms, MadeWrite, MadeWay}
 use Rattle.dh_expressions.specs.MadeValues.{MadeBy, MadeConverted}
-use Rattle.dh_expressions.specs.Noted.{Notes, copied_in, fault_in, fault_of_touched, given_then, is_bare, is_bare_of, noted_in, touched_in, touched_of}
+use Rattle.dh_expressions.specs.Noted.{Notes, copied_in, fault_in, fault_of_touched, given_then, has_no_operations, is_bare_of, noted_in, touched_in, touched_of}
 use Rattle.dh_expressions.specs.Reaching.{place_written, reach_told}
 use Rattle.dh_expressions.specs.Shown.{guard_of, is_kept, kind_written, register_at}
 use Rattle.dh_expressions.specs.Standings.{AccessStanding, standing_at, copy_places}
@@ -62,7 +62,7 @@ use Rattle.dh_commands.specs.LanesRun.{lane_of, paths_counted}
 use Rattle.dh_commands.specs.MadeCommands.{Commanding, FoldedWith, MadeActionForm, MadeActions, MadeAim, MadeArm, MadeAssigned, MadeCleared, MadeCommand, MadeGroups, MadeLanes, MadeOldOperand, MadeOperand, MadeOther, MadeReduced, MadeStored, MadeStoring, MadeView, MadeHolds, MadeKept}
 use Rattle.dh_laid.specs.LaidAccesses.{AreLaid, AreNamed, CommandsLay, EachLay, GroupsLay, IsLaid, Lays, TermsLay, TestsLay, touched_count}
 use Rattle.dh_laid.specs.LaidFaults.{AddsFaultless, HaveOwnFaults}
-use Rattle.dh_laid.specs.LaidQuiet.{StandsIn}
+use Rattle.dh_laid.specs.LaidQuiet.{BlockStandsIn}
 use Rattle.dh_laid.proofs.ArmsLaid.{arm_guards_form}
 use Rattle.dh_laid.proofs.ChoicesLaid.{choices_form}
 use Rattle.dh_laid.proofs.FaultsKept.{choices_faults, converted_faults, copies_faults, finds_faults, folded_faults, guards_faults, held_faults, number_faults, operation_faults, same_faults, variable_faults, way_faults}
@@ -238,7 +238,7 @@ count_one (x ∷ xs) (y ∷ ys) (suc k) w e kept f g =
 
 -- Accesses.
 
-module _ (scene : Scene) (around : Around) (stands : StandsIn scene around) (memory : ℕ) (place : Place) (form : plain.TermForm) (writes : Truth) where
+module _ (scene : Scene) (around : Around) (stands : BlockStandsIn scene around) (memory : ℕ) (place : Place) (form : plain.TermForm) (writes : Truth) where
   abbrev stood : AccessStanding
   stood = standing_at scene around memory place form writes
 
@@ -317,7 +317,7 @@ module _ (scene : Scene) (around : Around) (stands : StandsIn scene around) (mem
       still : new ≡ old → length new.faults + touched_count before.touched.items ≤ length old.faults + touched_count after.touched.items
       still same = not_fewer (length new.faults) (length old.faults) (touched_count before.touched.items) (touched_count after.touched.items) (ap (λ (d : Draft). length d.faults) same) (count_more before.touched.items after.touched.items (sym t.long) kept)
 
-      by : (new ≡ old) ⊎ ((u : Touched) × AddsTouched old new scene around stood u) → (new ≡ old) ⊎ (is_bare before number ≡ true) → length new.faults + touched_count before.touched.items ≤ length old.faults + touched_count after.touched.items
+      by : (new ≡ old) ⊎ ((u : Touched) × AddsTouched old new scene around stood u) → (new ≡ old) ⊎ (has_no_operations before number ≡ true) → length new.faults + touched_count before.touched.items ≤ length old.faults + touched_count after.touched.items
       by (inl same) o = still same
       by (inr a) (inl same) = still same
       by (inr (u, a)) (inr bare) =
@@ -394,7 +394,7 @@ folded_extends lane current held op t value old new v m =
 
 -- One path.
 
-module _ (scene : Scene) (lane : Lane) (stands : StandsIn scene lane.around) where
+module _ (scene : Scene) (lane : Lane) (stands : BlockStandsIn scene lane.around) where
   -- the fault of an access that got its operations
   touched_fault : (before after : Accesses) (number : ℕ) → length after.touched.items ≡ length before.touched.items → (number < length before.touched.items → (t : Touched) × (touched_in after number ≡ Some t)) → number < length after.touched.items
       → (t : Touched) × ((touched_in after number ≡ Some t) × (t.fault ≡ fault_in after number))
@@ -549,16 +549,16 @@ arm_lays Inner around holds tests old new first next lefts m inner =
 -- All commands.
 
 module _ (scene : Scene) where
-  view_lays : (hidden : List Hidden) (form : ViewPlan) (around : Around) (old new : Building) (first next : ℕ) → StandsIn scene around → MadeView scene hidden form around old new first next → Lays old.draft new.draft old.accesses new.accesses
+  view_lays : (hidden : List Hidden) (form : ViewPlan) (around : Around) (old new : Building) (first next : ℕ) → BlockStandsIn scene around → MadeView scene hidden form around old new first next → Lays old.draft new.draft old.accesses new.accesses
   view_lays [] form around old new first next s m = lays_still old new m.still
   view_lays (h ∷ hs) form around old new first next s m =
       lanes_lay (λ n b d k. MadeKept scene (lane_of around n) first h.entity (offsets_of form) b d k) (λ n b d k one. kept_lays scene (lane_of around n) s first h.entity (offsets_of form) b d k one) (paths_counted around) first old new next m
 
   mutual
-    pub command_lays : (a : Action) (around : Around) (old new : Building) (first next : ℕ) → StandsIn scene around → MadeCommand scene a around old new first next → Lays old.draft new.draft old.accesses new.accesses
+    pub command_lays : (a : Action) (around : Around) (old new : Building) (first next : ℕ) → BlockStandsIn scene around → MadeCommand scene a around old new first next → Lays old.draft new.draft old.accesses new.accesses
     command_lays (action id place form) around old new first next s m = action_lays form around old new first next s m
 
-    action_lays : (form : ActionForm) (around : Around) (old new : Building) (first next : ℕ) → StandsIn scene around → MadeActionForm scene form around old new first next → Lays old.draft new.draft old.accesses new.accesses
+    action_lays : (form : ActionForm) (around : Around) (old new : Building) (first next : ℕ) → BlockStandsIn scene around → MadeActionForm scene form around old new first next → Lays old.draft new.draft old.accesses new.accesses
     action_lays (lets name declared (Some value)) around old new first next s m =
         lanes_lay (λ n b d k. MadeAssigned scene (lane_of around n) first (entity_number name.entity) value b d k)
         (λ n b d k one. assigned_lays scene (lane_of around n) s first (entity_number name.entity) value b d k one) (paths_counted around) first old new next m
@@ -593,19 +593,19 @@ module _ (scene : Scene) where
     action_lays (repeats test body) around old new first next s m = lays_still old new m.still
     action_lays (counts iterator declared low high factor body combine combine_place) around old new first next s m = lays_still old new m.still
 
-    pub other_lays : (other : MaybeAction) (around : Around) (tests : List ℕ) (old new : Building) (first next : ℕ) (lefts : List Left) → StandsIn scene around → length tests ≡ paths_counted around
+    pub other_lays : (other : MaybeAction) (around : Around) (tests : List ℕ) (old new : Building) (first next : ℕ) (lefts : List Left) → BlockStandsIn scene around → length tests ≡ paths_counted around
         → MadeOther scene other around tests old new first next lefts → Lays old.draft new.draft old.accesses new.accesses
     other_lays no_action around tests old new first next lefts s many m = lays_still old new m.still
     other_lays (one_action a) around tests old new first next lefts s many m =
         arm_lays (MadeCommand scene a) around false tests old new first next lefts m
         (command_lays a m.arm m.begin m.inside first next (stands_arm scene (MadeCommand scene a) around false tests old new first next lefts m s many) m.command)
 
-    pub actions_lays : (part : Actions) (around : Around) (old new : Building) (first next : ℕ) → StandsIn scene around → MadeActions scene part around old new first next → Lays old.draft new.draft old.accesses new.accesses
+    pub actions_lays : (part : Actions) (around : Around) (old new : Building) (first next : ℕ) → BlockStandsIn scene around → MadeActions scene part around old new first next → Lays old.draft new.draft old.accesses new.accesses
     actions_lays no_actions around old new first next s m = lays_still old new m.still
     actions_lays (action_then a rest) around old new first next s m =
         lays_again old.draft m.middle.draft new.draft old.accesses m.middle.accesses new.accesses (command_lays a around old m.middle first m.own s m.one) (actions_lays rest around m.middle new m.own next s m.rest)
 
-    pub groups_lays : (body : Groups) (around : Around) (old new : Building) (first next : ℕ) → StandsIn scene around → MadeGroups scene body around old new first next → Lays old.draft new.draft old.accesses new.accesses
+    pub groups_lays : (body : Groups) (around : Around) (old new : Building) (first next : ℕ) → BlockStandsIn scene around → MadeGroups scene body around old new first next → Lays old.draft new.draft old.accesses new.accesses
     groups_lays no_groups around old new first next s m = lays_still old new m.still
     groups_lays (group_then g rest) around old new first next s m =
         lays_again old.draft m.middle.draft new.draft old.accesses m.middle.accesses new.accesses (actions_lays g around old m.middle first m.own s m.one) (groups_lays rest around m.middle new m.own next s m.rest)

@@ -21,7 +21,7 @@ use Rattle.dh_commands.specs.MadeCommands.{MadeCommand}
 use Rattle.dh_laid.specs.BlockSites.{MadeEach, all_there, block_sites, command_sites, one_site, places_from, site_or, sites_from, term_sites, test_sites}
 use Rattle.dh_laid.specs.LaidNumbers.{IsOutside, NumbersLaid}
 use Rattle.dh_laid.specs.LaidProbes.{AddsProbes}
-use Rattle.dh_laid.specs.LaidQuiet.{StandsIn}
+use Rattle.dh_laid.specs.LaidQuiet.{BlockStandsIn}
 use Rattle.dh_laid.specs.LaidUses.{AddsLedUses, AddsUses, AreAlong, HaveNoOperations, BlocksLead, BlocksProbe, BlocksUse, PathsLead, SharesInside, TestsLead, TestsProbe, TestsUse, WritesAlone, probed_by, used_by, used_to}
 use Rattle.dh_laid.proofs.CommandsNumbered.{command_reached}
 use Rattle.dh_laid.proofs.CommandsProbe as probe
@@ -141,7 +141,7 @@ module _ (scene : Scene) (around : Around) (sites : ℕ → Option BlockSite) (c
 
 -- Uses.
 
-module _ (scene : Scene) (around : Around) (stands : StandsIn scene around) (leads : PathsLead around) (some : 0 < paths_counted around) (sites : ℕ → Option BlockSite) (inside : SharesInside scene sites) where
+module _ (scene : Scene) (around : Around) (stands : BlockStandsIn scene around) (leads : PathsLead around) (some : 0 < paths_counted around) (sites : ℕ → Option BlockSite) (inside : SharesInside scene sites) where
   -- what stands as the commands from a number on begin
   record BeginsAt (a : Accesses) (from : ℕ) : Type 0 where
     led : AreLed sites a
@@ -276,7 +276,7 @@ tests_use scene around first t old new next tests m stands few inside bare =
 
 -- Probes.
 
-module _ (scene : Scene) (around : Around) (stands : StandsIn scene around) (some : 0 < paths_counted around) (sites : ℕ → Option BlockSite) where
+module _ (scene : Scene) (around : Around) (stands : BlockStandsIn scene around) (some : 0 < paths_counted around) (sites : ℕ → Option BlockSite) where
   abbrev probes_by : Option BlockSite → ℕ → ℕ
   probes_by site access = probed_by site (paths_counted around)
 

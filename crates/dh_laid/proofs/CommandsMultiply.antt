@@ -55,7 +55,7 @@ use Rattle.dh_commands.specs.declared.choices.Left.{Left}
 use Rattle.dh_commands.specs.LanesRun.{lane_of, paths_counted}
 use Rattle.dh_commands.specs.MadeCommands.{Commanding, FoldedWith, MadeActionForm, MadeActions, MadeAim, MadeArm, MadeArmGuard, MadeArmGuards, MadeAssigned, MadeBehind, MadeChoiceBy, MadeChoices, MadeCleared, MadeCommand, MadeGroups, MadeGuard, MadeHolds, MadeKept, MadeLanes, MadeOldOperand, MadeOperand, MadeOther, MadeOutcome, MadeReduced, MadeStored, MadeStoring, MadeTests, MadeView}
 use Rattle.dh_laid.specs.LaidProducts.{AddsProducts, CommandsHaveProducts, GroupsHaveProducts, action_products, aim_products, all_products_in, groups_products, offset_products, other_products, own_products, part_products, products_in}
-use Rattle.dh_laid.specs.LaidQuiet.{StandsIn}
+use Rattle.dh_laid.specs.LaidQuiet.{BlockStandsIn}
 use Rattle.dh_laid.proofs.ValuesLogged.{arm_long, stands_arm, tests_same}
 
 pub products_append : (xs ys : List Operation) → block_products (xs ++ ys) ≡ block_products xs + block_products ys
@@ -119,7 +119,7 @@ shown_products_added current register old new v m = products_counted old new 0 _
 
 -- Accesses.
 
-module _ (scene : Scene) (lane : Lane) (stands : StandsIn scene lane.around) where
+module _ (scene : Scene) (lane : Lane) (stands : BlockStandsIn scene lane.around) where
   touch_products_added : (access : Term) (memory : ℕ) (writes : Truth) (old new : Draft) (before after : Accesses) (number : ℕ)
       → TouchesAt scene lane.around (standing_at scene lane.around memory (place_written access) (form_of access) writes) old new before after number → AddsNone old new
   touch_products_added access memory writes old new before after number t = by t.adds
@@ -242,7 +242,7 @@ holds_products_added scene first (t ∷ ts) [] old new held m = none_none old ne
 holds_products_added scene first (t ∷ ts) (v ∷ vs) old new held (d, (h, (more, (one, (rest, is))))) =
     none_again old d new (held_products_added t (held_at scene.held.now first).kind v old d h one) (holds_products_added scene (suc first) ts vs d new more rest)
 
-module _ (scene : Scene) (lane : Lane) (stands : StandsIn scene lane.around) where
+module _ (scene : Scene) (lane : Lane) (stands : BlockStandsIn scene lane.around) where
   assigned_products_added : (first entity : ℕ) (t : Term) (old new : Building) (next : ℕ) → MadeAssigned scene lane first entity t old new next → AddsProducts old.draft new.draft (products_in t)
   assigned_products_added first entity t old new next m =
       products_within old.draft new.draft (products_in t + 0) (products_in t) (omega arith)
@@ -297,7 +297,7 @@ lanes_products_added One p each (suc n) first old new next m =
     subst (λ (i : ℕ). AddsProducts old.draft new.draft i) (times_more p n)
     (products_again old.draft (m.0).draft new.draft (p * n) p (lanes_products_added One p each n first old m.0 m.1.0 m.1.1.0) (each n m.0 new next m.1.1.1))
 
-pub tests_products_added : (scene : Scene) (around : Around) → StandsIn scene around → (first : ℕ) (t : Term) (count : ℕ) (old new : Building) (next : ℕ) (tests : List ℕ) → MadeTests scene around first t count old new next tests
+pub tests_products_added : (scene : Scene) (around : Around) → BlockStandsIn scene around → (first : ℕ) (t : Term) (count : ℕ) (old new : Building) (next : ℕ) (tests : List ℕ) → MadeTests scene around first t count old new next tests
     → AddsProducts old.draft new.draft (products_in t * count)
 tests_products_added scene around stands first t zero old new next tests m = products_within old.draft new.draft 0 (products_in t * 0) (omega arith) (none_none old.draft new.draft (ap (λ (b : Building). b.draft) m.0))
 tests_products_added scene around stands first t (suc n) old new next tests m =
@@ -363,7 +363,7 @@ both_products_added : (a b d : Draft) (p q n : ℕ) → AddsProducts a b (p * n)
 both_products_added a b d p q n h k = subst (λ (i : ℕ). AddsProducts a d i) (times_sum p q n) (products_again a b d (p * n) (q * n) h k)
 
 module _ (scene : Scene) where
-  view_products_added : (hidden : List Hidden) (form : ViewPlan) (around : Around) (old new : Building) (first next : ℕ) → StandsIn scene around → MadeView scene hidden form around old new first next
+  view_products_added : (hidden : List Hidden) (form : ViewPlan) (around : Around) (old new : Building) (first next : ℕ) → BlockStandsIn scene around → MadeView scene hidden form around old new first next
       → AddsProducts old.draft new.draft (offset_products hidden (terms (offsets_of form)) * paths_counted around)
   view_products_added [] form around old new first next s m = still_products_added old new (paths_counted around) m.still
   view_products_added (h ∷ hs) form around old new first next s m =
@@ -371,10 +371,10 @@ module _ (scene : Scene) where
       (λ n b d k one. kept_products_added scene (lane_of around n) s first h.entity (offsets_of form) b d k one) (paths_counted around) first old new next m
 
   mutual
-    command_products_added : (a : Action) (around : Around) (old new : Building) (first next : ℕ) → StandsIn scene around → MadeCommand scene a around old new first next → AddsProducts old.draft new.draft (action_products (known_in scene) a * paths_counted around)
+    command_products_added : (a : Action) (around : Around) (old new : Building) (first next : ℕ) → BlockStandsIn scene around → MadeCommand scene a around old new first next → AddsProducts old.draft new.draft (action_products (known_in scene) a * paths_counted around)
     command_products_added (action id place form) around old new first next s m = own_products_added form around old new first next s m
 
-    own_products_added : (form : ActionForm) (around : Around) (old new : Building) (first next : ℕ) → StandsIn scene around → MadeActionForm scene form around old new first next
+    own_products_added : (form : ActionForm) (around : Around) (old new : Building) (first next : ℕ) → BlockStandsIn scene around → MadeActionForm scene form around old new first next
         → AddsProducts old.draft new.draft (own_products (known_in scene) form * paths_counted around)
     own_products_added (lets name declared (Some value)) around old new first next s m =
         lanes_products_added (λ n b d k. MadeAssigned scene (lane_of around n) first (entity_number name.entity) value b d k) (products_in value)
@@ -413,21 +413,21 @@ module _ (scene : Scene) where
     own_products_added (repeats test body) around old new first next s m = still_products_added old new (paths_counted around) m.still
     own_products_added (counts iterator declared low high factor body combine combine_place) around old new first next s m = still_products_added old new (paths_counted around) m.still
 
-    other_products_added : (other : MaybeAction) (around : Around) (tests : List ℕ) (old new : Building) (first next : ℕ) (lefts : List Left) → StandsIn scene around → length tests ≡ paths_counted around
+    other_products_added : (other : MaybeAction) (around : Around) (tests : List ℕ) (old new : Building) (first next : ℕ) (lefts : List Left) → BlockStandsIn scene around → length tests ≡ paths_counted around
         → MadeOther scene other around tests old new first next lefts → AddsProducts old.draft new.draft (other_products (known_in scene) other * paths_counted around)
     other_products_added no_action around tests old new first next lefts s many m = still_products_added old new (paths_counted around) m.still
     other_products_added (one_action a) around tests old new first next lefts s many m =
         arm_products_added (MadeCommand scene a) around false tests old new first next lefts m (action_products (known_in scene) a) many
         (command_products_added a m.arm m.begin m.inside first next (stands_arm scene (MadeCommand scene a) around false tests old new first next lefts m s many) m.command)
 
-    part_products_added : (part : Actions) (around : Around) (old new : Building) (first next : ℕ) → StandsIn scene around → MadeActions scene part around old new first next
+    part_products_added : (part : Actions) (around : Around) (old new : Building) (first next : ℕ) → BlockStandsIn scene around → MadeActions scene part around old new first next
         → AddsProducts old.draft new.draft (part_products (known_in scene) part * paths_counted around)
     part_products_added no_actions around old new first next s m = still_products_added old new (paths_counted around) m.still
     part_products_added (action_then a rest) around old new first next s m =
         both_products_added old.draft m.middle.draft new.draft (action_products (known_in scene) a) (part_products (known_in scene) rest) (paths_counted around) (command_products_added a around old m.middle first m.own s m.one)
         (part_products_added rest around m.middle new m.own next s m.rest)
 
-    groups_products_added : (body : Groups) (around : Around) (old new : Building) (first next : ℕ) → StandsIn scene around → MadeGroups scene body around old new first next
+    groups_products_added : (body : Groups) (around : Around) (old new : Building) (first next : ℕ) → BlockStandsIn scene around → MadeGroups scene body around old new first next
         → AddsProducts old.draft new.draft (groups_products (known_in scene) body * paths_counted around)
     groups_products_added no_groups around old new first next s m = still_products_added old new (paths_counted around) m.still
     groups_products_added (group_then g rest) around old new first next s m =

@@ -58,7 +58,7 @@ use Rattle.dh_commands.specs.MadeCommands.{Commanding, FoldedWith, MadeActions, 
 use Rattle.dh_laid.specs.LaidCommands.{AreFewIn}
 use Rattle.dh_laid.specs.LaidNumbers.{AreStraight, AreStraightGroups, IsAccessForm, IsStraight, IsStraightOther}
 use Rattle.dh_laid.specs.LaidProbes.{AddsProbes, CommandsProbe, GroupsProbe}
-use Rattle.dh_laid.specs.LaidQuiet.{StandsIn}
+use Rattle.dh_laid.specs.LaidQuiet.{BlockStandsIn}
 use Rattle.dh_laid.proofs.CommandsNumbered.{actions_numbered, command_numbered, some_arm, tests_number}
 use Rattle.dh_laid.proofs.ValuesLogged.{arm_long, stands_arm, tests_same}
 
@@ -159,7 +159,7 @@ shown_probed current register old new v m = probes_counted old new 0 _ _ (shown_
 
 -- Accesses.
 
-module _ (scene : Scene) (lane : Lane) (stands : StandsIn scene lane.around) where
+module _ (scene : Scene) (lane : Lane) (stands : BlockStandsIn scene lane.around) where
   touch_probed : (access : Term) (memory : ℕ) (writes : Truth) (old new : Draft) (before after : Accesses) (number : ℕ)
       → TouchesAt scene lane.around (standing_at scene lane.around memory (place_written access) (form_of access) writes) old new before after number → AddsNone old new
   touch_probed access memory writes old new before after number t = by t.adds
@@ -281,7 +281,7 @@ holds_probed scene first (t ∷ ts) [] old new held m = none_none old new m.0
 holds_probed scene first (t ∷ ts) (v ∷ vs) old new held (d, (h, (more, (one, (rest, is))))) =
     none_again old d new (held_probed t (held_at scene.held.now first).kind v old d h one) (holds_probed scene (suc first) ts vs d new more rest)
 
-module _ (scene : Scene) (lane : Lane) (stands : StandsIn scene lane.around) where
+module _ (scene : Scene) (lane : Lane) (stands : BlockStandsIn scene lane.around) where
   pub assigned_probed : (first entity : ℕ) (t : Term) (old new : Building) (next : ℕ) → AreFewIn first t → MadeAssigned scene lane first entity t old new next → AddsProbes old.draft new.draft (once first (term_accesses t))
   assigned_probed first entity t old new next few m =
       probes_then_none old.draft m.middle new.draft (once first (term_accesses t))
@@ -344,7 +344,7 @@ lanes_probed One first count each (suc n) old new next m =
     probes_again old.draft (m.0).draft new.draft (often first count n) (once first count) (often first count (suc n)) (λ access. often_more first count n access)
     (lanes_probed One first count each n old m.0 m.1.0 m.1.1.0) (each n m.0 new next m.1.1.1)
 
-pub tests_probed : (scene : Scene) (around : Around) → StandsIn scene around → (first : ℕ) (t : Term) → AreFewIn first t → (paths : ℕ) (old new : Building) (next : ℕ) (tests : List ℕ) → MadeTests scene around first t paths old new next tests
+pub tests_probed : (scene : Scene) (around : Around) → BlockStandsIn scene around → (first : ℕ) (t : Term) → AreFewIn first t → (paths : ℕ) (old new : Building) (next : ℕ) (tests : List ℕ) → MadeTests scene around first t paths old new next tests
     → AddsProbes old.draft new.draft (often first (term_accesses t) paths)
 tests_probed scene around stands first t few zero old new next tests m = none_often old.draft new.draft first (term_accesses t) (none_none old.draft new.draft (ap (λ (b : Building). b.draft) m.0))
 tests_probed scene around stands first t few (suc n) old new next tests m =
@@ -416,7 +416,7 @@ inner_probed : (old new : Draft) (n c paths : ℕ) → AddsProbes old new (often
 inner_probed old new n c paths h = often_count old new n c (0 + c) paths (omega arith) h
 
 module _ (scene : Scene) where
-  view_probed : (hidden : List Hidden) (form : ViewPlan) (around : Around) (old new : Building) (first next : ℕ) → StandsIn scene around → MadeView scene hidden form around old new first next → offsets_of form ≡ [] → first + plan_accesses form < 2 ^ 32
+  view_probed : (hidden : List Hidden) (form : ViewPlan) (around : Around) (old new : Building) (first next : ℕ) → BlockStandsIn scene around → MadeView scene hidden form around old new first next → offsets_of form ≡ [] → first + plan_accesses form < 2 ^ 32
       → AddsProbes old.draft new.draft (often first (plan_accesses form + 0) (paths_counted around))
   view_probed [] form around old new first next s m is few =
       subst (λ (l : List Term). AddsProbes old.draft new.draft (often first (terms_accesses (terms l) + 0) (paths_counted around))) (sym is) (still_probed old new first (paths_counted around) m.still)
@@ -426,7 +426,7 @@ module _ (scene : Scene) where
       (λ n b d k one. kept_probed scene (lane_of around n) s first h.entity (offsets_of form) b d k few one) (paths_counted around) old new next m)
 
   mutual
-    pub command_probed : (a : Action) (around : Around) (old new : Building) (first next : ℕ) → StandsIn scene around → MadeCommand scene a around old new first next → IsStraight a → 0 < paths_counted around → first + accesses_of a < 2 ^ 32
+    pub command_probed : (a : Action) (around : Around) (old new : Building) (first next : ℕ) → BlockStandsIn scene around → MadeCommand scene a around old new first next → IsStraight a → 0 < paths_counted around → first + accesses_of a < 2 ^ 32
         → AddsProbes old.draft new.draft (often first (accesses_of a) (paths_counted around))
     command_probed (action id place (lets name declared (Some value))) around old new first next s m is some few =
         own_probed old.draft new.draft first (term_accesses value) (paths_counted around)
@@ -474,7 +474,7 @@ module _ (scene : Scene) where
     command_probed (action id place (repeats test body)) around old new first next s m is some few = absurd is
     command_probed (action id place (counts iterator declared low high factor body combine combine_place)) around old new first next s m is some few = absurd is
 
-    other_probed : (other : MaybeAction) (around : Around) (tests : List ℕ) (old new : Building) (first next : ℕ) (lefts : List Left) → StandsIn scene around → length tests ≡ paths_counted around
+    other_probed : (other : MaybeAction) (around : Around) (tests : List ℕ) (old new : Building) (first next : ℕ) (lefts : List Left) → BlockStandsIn scene around → length tests ≡ paths_counted around
         → MadeOther scene other around tests old new first next lefts → IsStraightOther other → 0 < length tests → first + other_accesses other < 2 ^ 32
         → AddsProbes old.draft new.draft (often first (other_accesses other) (paths_counted around))
     other_probed no_action around tests old new first next lefts s many m is some few = still_probed old new first (paths_counted around) m.still
@@ -483,7 +483,7 @@ module _ (scene : Scene) where
         (command_probed a m.arm m.begin m.inside first next (stands_arm scene (MadeCommand scene a) around false tests old new first next lefts m s many) m.command is
         (some_arm (MadeCommand scene a) around false tests old new first next lefts m some) few)
 
-    actions_probed : (part : Actions) (around : Around) (old new : Building) (first next : ℕ) → StandsIn scene around → MadeActions scene part around old new first next → AreStraight part → 0 < paths_counted around
+    actions_probed : (part : Actions) (around : Around) (old new : Building) (first next : ℕ) → BlockStandsIn scene around → MadeActions scene part around old new first next → AreStraight part → 0 < paths_counted around
         → first + part_accesses part < 2 ^ 32 → AddsProbes old.draft new.draft (often first (part_accesses part) (paths_counted around))
     actions_probed no_actions around old new first next s m is some few = still_probed old new first (paths_counted around) m.still
     actions_probed (action_then a rest) around old new first next s m is some few =
@@ -492,7 +492,7 @@ module _ (scene : Scene) where
         often_then old.draft m.middle.draft new.draft first m.own (accesses_of a) (part_accesses rest) (paths_counted around) own (command_probed a around old m.middle first m.own s m.one is.0 some less)
         (actions_probed rest around m.middle new m.own next s m.rest is.1 some (omega (arith, few, own)))
 
-    groups_probed : (body : Groups) (around : Around) (old new : Building) (first next : ℕ) → StandsIn scene around → MadeGroups scene body around old new first next → AreStraightGroups body → 0 < paths_counted around
+    groups_probed : (body : Groups) (around : Around) (old new : Building) (first next : ℕ) → BlockStandsIn scene around → MadeGroups scene body around old new first next → AreStraightGroups body → 0 < paths_counted around
         → first + groups_accesses body < 2 ^ 32 → AddsProbes old.draft new.draft (often first (groups_accesses body) (paths_counted around))
     groups_probed no_groups around old new first next s m is some few = still_probed old new first (paths_counted around) m.still
     groups_probed (group_then part rest) around old new first next s m is some few =

@@ -51,7 +51,7 @@ use Rattle.dh_commands.specs.declared.choices.Choice.{Choice}
 use Rattle.dh_commands.specs.declared.choices.Left.{Left}
 use Rattle.dh_commands.specs.LanesRun.{lane_of, paths_counted}
 use Rattle.dh_commands.specs.MadeCommands.{Commanding, FoldedWith, MadeActionForm, MadeActions, MadeAim, MadeArm, MadeArmGuard, MadeArmGuards, MadeAssigned, MadeBehind, MadeChoiceBy, MadeChoices, MadeCleared, MadeCommand, MadeGroups, MadeGuard, MadeHolds, MadeKept, MadeLanes, MadeOldOperand, MadeOperand, MadeOther, MadeOutcome, MadeReduced, MadeStored, MadeStoring, MadeTests, MadeView}
-use Rattle.dh_laid.specs.LaidQuiet.{AddsQuiet, CommandsAreQuiet, GroupsAreQuiet, IsQuiet, StandsIn, TermsAreQuiet, QuietSetsNone}
+use Rattle.dh_laid.specs.LaidQuiet.{AddsQuiet, CommandsAreQuiet, GroupsAreQuiet, IsQuiet, BlockStandsIn, TermsAreQuiet, QuietSetsNone}
 use Rattle.dh_laid.proofs.ValuesLogged.{stands_arm, tests_same}
 
 quiet_same : (old new : Draft) → new.operations.items ≡ old.operations.items → AddsQuiet old new
@@ -93,7 +93,7 @@ shown_quiet current register old new v m = quiet_counted old new 0 _ _ (shown_co
 
 -- Accesses.
 
-module _ (scene : Scene) (lane : Lane) (stands : StandsIn scene lane.around) where
+module _ (scene : Scene) (lane : Lane) (stands : BlockStandsIn scene lane.around) where
   touch_quiet : (access : Term) (memory : ℕ) (writes : Truth) (old new : Draft) (before after : Accesses) (number : ℕ)
       → TouchesAt scene lane.around (standing_at scene lane.around memory (place_written access) (form_of access) writes) old new before after number → AddsQuiet old new
   touch_quiet access memory writes old new before after number t = by t.adds
@@ -205,7 +205,7 @@ holds_quiet scene first (t ∷ ts) [] old new held m = quiet_none old new m.0
 holds_quiet scene first (t ∷ ts) (v ∷ vs) old new held (d, (h, (more, (one, (rest, is))))) =
     quiet_again old d new (held_quiet t (held_at scene.held.now first).kind v old d h one) (holds_quiet scene (suc first) ts vs d new more rest)
 
-module _ (scene : Scene) (lane : Lane) (stands : StandsIn scene lane.around) where
+module _ (scene : Scene) (lane : Lane) (stands : BlockStandsIn scene lane.around) where
   assigned_quiet : (first entity : ℕ) (t : Term) (old new : Building) (next : ℕ) → MadeAssigned scene lane first entity t old new next → AddsQuiet old.draft new.draft
   assigned_quiet first entity t old new next m =
       quiet_again old.draft m.middle new.draft (term_quiet scene lane stands old.values.current.items t old.draft m.middle old.accesses new.accesses first next m.value m.term)
@@ -239,7 +239,7 @@ lanes_quiet One each zero first old new next m = quiet_none old.draft new.draft 
 lanes_quiet One each (suc n) first old new next m =
     quiet_again old.draft (m.0).draft new.draft (lanes_quiet One each n first old m.0 m.1.0 m.1.1.0) (each n m.0 new next m.1.1.1)
 
-tests_quiet : (scene : Scene) (around : Around) → StandsIn scene around → (first : ℕ) (t : Term) (count : ℕ) (old new : Building) (next : ℕ) (tests : List ℕ) → MadeTests scene around first t count old new next tests
+tests_quiet : (scene : Scene) (around : Around) → BlockStandsIn scene around → (first : ℕ) (t : Term) (count : ℕ) (old new : Building) (next : ℕ) (tests : List ℕ) → MadeTests scene around first t count old new next tests
     → AddsQuiet old.draft new.draft
 tests_quiet scene around stands first t zero old new next tests m = quiet_none old.draft new.draft (ap (λ (b : Building). b.draft) m.0)
 tests_quiet scene around stands first t (suc n) old new next tests m =
@@ -290,16 +290,16 @@ arm_quiet Inner around holds tests old new first next lefts m inner =
 -- All commands.
 
 module _ (scene : Scene) where
-  view_quiet : (hidden : List Hidden) (form : ViewPlan) (around : Around) (old new : Building) (first next : ℕ) → StandsIn scene around → MadeView scene hidden form around old new first next → AddsQuiet old.draft new.draft
+  view_quiet : (hidden : List Hidden) (form : ViewPlan) (around : Around) (old new : Building) (first next : ℕ) → BlockStandsIn scene around → MadeView scene hidden form around old new first next → AddsQuiet old.draft new.draft
   view_quiet [] form around old new first next s m = quiet_none old.draft new.draft (ap (λ (b : Building). b.draft) m.still)
   view_quiet (h ∷ hs) form around old new first next s m =
       lanes_quiet (λ n b d k. MadeKept scene (lane_of around n) first h.entity (offsets_of form) b d k) (λ n b d k one. kept_quiet scene (lane_of around n) s first h.entity (offsets_of form) b d k one) (paths_counted around) first old new next m
 
   mutual
-    command_quiet : (a : Action) (around : Around) (old new : Building) (first next : ℕ) → StandsIn scene around → MadeCommand scene a around old new first next → AddsQuiet old.draft new.draft
+    command_quiet : (a : Action) (around : Around) (old new : Building) (first next : ℕ) → BlockStandsIn scene around → MadeCommand scene a around old new first next → AddsQuiet old.draft new.draft
     command_quiet (action id place form) around old new first next s m = action_quiet form around old new first next s m
 
-    action_quiet : (form : ActionForm) (around : Around) (old new : Building) (first next : ℕ) → StandsIn scene around → MadeActionForm scene form around old new first next → AddsQuiet old.draft new.draft
+    action_quiet : (form : ActionForm) (around : Around) (old new : Building) (first next : ℕ) → BlockStandsIn scene around → MadeActionForm scene form around old new first next → AddsQuiet old.draft new.draft
     action_quiet (lets name declared (Some value)) around old new first next s m =
         lanes_quiet (λ n b d k. MadeAssigned scene (lane_of around n) first (entity_number name.entity) value b d k)
         (λ n b d k one. assigned_quiet scene (lane_of around n) s first (entity_number name.entity) value b d k one) (paths_counted around) first old new next m
@@ -330,19 +330,19 @@ module _ (scene : Scene) where
     action_quiet (repeats test body) around old new first next s m = quiet_none old.draft new.draft (ap (λ (b : Building). b.draft) m.still)
     action_quiet (counts iterator declared low high factor body combine combine_place) around old new first next s m = quiet_none old.draft new.draft (ap (λ (b : Building). b.draft) m.still)
 
-    other_quiet : (other : MaybeAction) (around : Around) (tests : List ℕ) (old new : Building) (first next : ℕ) (lefts : List Left) → StandsIn scene around → length tests ≡ paths_counted around
+    other_quiet : (other : MaybeAction) (around : Around) (tests : List ℕ) (old new : Building) (first next : ℕ) (lefts : List Left) → BlockStandsIn scene around → length tests ≡ paths_counted around
         → MadeOther scene other around tests old new first next lefts → AddsQuiet old.draft new.draft
     other_quiet no_action around tests old new first next lefts s many m = quiet_none old.draft new.draft (ap (λ (b : Building). b.draft) m.still)
     other_quiet (one_action a) around tests old new first next lefts s many m =
         arm_quiet (MadeCommand scene a) around false tests old new first next lefts m
         (command_quiet a m.arm m.begin m.inside first next (stands_arm scene (MadeCommand scene a) around false tests old new first next lefts m s many) m.command)
 
-    actions_quiet : (part : Actions) (around : Around) (old new : Building) (first next : ℕ) → StandsIn scene around → MadeActions scene part around old new first next → AddsQuiet old.draft new.draft
+    actions_quiet : (part : Actions) (around : Around) (old new : Building) (first next : ℕ) → BlockStandsIn scene around → MadeActions scene part around old new first next → AddsQuiet old.draft new.draft
     actions_quiet no_actions around old new first next s m = quiet_none old.draft new.draft (ap (λ (b : Building). b.draft) m.still)
     actions_quiet (action_then a rest) around old new first next s m =
         quiet_again old.draft m.middle.draft new.draft (command_quiet a around old m.middle first m.own s m.one) (actions_quiet rest around m.middle new m.own next s m.rest)
 
-    groups_quiet : (body : Groups) (around : Around) (old new : Building) (first next : ℕ) → StandsIn scene around → MadeGroups scene body around old new first next → AddsQuiet old.draft new.draft
+    groups_quiet : (body : Groups) (around : Around) (old new : Building) (first next : ℕ) → BlockStandsIn scene around → MadeGroups scene body around old new first next → AddsQuiet old.draft new.draft
     groups_quiet no_groups around old new first next s m = quiet_none old.draft new.draft (ap (λ (b : Building). b.draft) m.still)
     groups_quiet (group_then g rest) around old new first next s m =
         quiet_again old.draft m.middle.draft new.draft (actions_quiet g around old m.middle first m.own s m.one) (groups_quiet rest around m.middle new m.own next s m.rest)

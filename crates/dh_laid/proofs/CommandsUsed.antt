@@ -29,7 +29,7 @@ use Rattle.dh_laid.specs.BlockSites.{HasSites, actions_sites, all_there, command
 use Rattle.dh_laid.specs.Laid.{aim_accesses}
 use Rattle.dh_laid.specs.LaidCommands.{AreFewIn}
 use Rattle.dh_laid.specs.LaidNumbers.{IsAccessForm, IsOutside, NumbersLaid, StoresReach, StoresReachGroups, StoresReachOther, StoresReachPart}
-use Rattle.dh_laid.specs.LaidQuiet.{StandsIn}
+use Rattle.dh_laid.specs.LaidQuiet.{BlockStandsIn}
 use Rattle.dh_laid.specs.LaidUses.{AddsLedUses, used_by, EachWrite, EachWriteActions, EachWriteGroups, EachWriteOther, IsUnshared, PathsLead, SharesInside, used_to}
 use Rattle.dh_laid.proofs.CommandsNumbered.{actions_reached, aims_within, arm_number, command_reached, groups_reached, numbers_then, other_reached, some_arm, tests_number}
 use Rattle.dh_laid.proofs.ReadsUsed.{AreLed, UsesPart, led_same}
@@ -128,7 +128,7 @@ module _ (scene : Scene) (sites : ℕ → Option BlockSite) (inside : SharesInsi
           used_more n m.0 new u (each n m.0 new next (omega (arith, within)) m.1.1.1 u.led (next_at n m.0 (omega (arith, within)) u))
 
   -- tests
-  tests_used_to : (around : Around) (first : ℕ) (t : Term) (old : Building) → StandsIn scene around → AreFewIn first t → HasSites sites first (term_sites scene around t)
+  tests_used_to : (around : Around) (first : ℕ) (t : Term) (old : Building) → BlockStandsIn scene around → AreFewIn first t → HasSites sites first (term_sites scene around t)
       → Begins scene sites (paths_counted around) old.accesses first (term_accesses t)
       → (paths : ℕ) (new : Building) (next : ℕ) (tests : List ℕ) → paths ≤ paths_counted around → MadeTests scene around first t paths old new next tests → UsedTo scene sites old new paths first (term_accesses t) (term_accesses t)
   tests_used_to around first t old stands few has begins zero new next tests within m =
@@ -279,7 +279,7 @@ module _ (scene : Scene) (sites : ℕ → Option BlockSite) (inside : SharesInsi
   none_before n = omega arith
 
   -- an expression at all paths
-  module _ (around : Around) (old new : Building) (first next : ℕ) (stands : StandsIn scene around) where
+  module _ (around : Around) (old new : Building) (first next : ℕ) (stands : BlockStandsIn scene around) where
     assigned_all : (entity : ℕ) (t : Term) → AreFewIn first t → HasSites sites first (term_sites scene around t) → Begins scene sites (paths_counted around) old.accesses first (term_accesses t + 0)
         → MadeLanes (λ n b d k. MadeAssigned scene (lane_of around n) first entity t b d k) (paths_counted around) first old new next → Used scene sites (paths_counted around) old new first (term_accesses t + 0)
     assigned_all entity t few has begins m =
@@ -358,14 +358,14 @@ module _ (scene : Scene) (sites : ℕ → Option BlockSite) (inside : SharesInsi
     tests_used t tests few has begins m =
         used_all (paths_counted around) old new first (term_accesses t) (tests_used_to around first t old stands few has begins (paths_counted around) new next tests (omega arith) m)
 
-  view_used : (hidden : List Hidden) (form : ViewPlan) (around : Around) (old new : Building) (first next : ℕ) → StandsIn scene around → MadeView scene hidden form around old new first next → first + plan_accesses form < 2 ^ 32
+  view_used : (hidden : List Hidden) (form : ViewPlan) (around : Around) (old new : Building) (first next : ℕ) → BlockStandsIn scene around → MadeView scene hidden form around old new first next → first + plan_accesses form < 2 ^ 32
       → PlacesAgree sites first (view_sites scene around hidden form) → Begins scene sites (paths_counted around) old.accesses first (plan_accesses form + 0) → Used scene sites (paths_counted around) old new first (plan_accesses form + 0)
   view_used [] form around old new first next s m few has begins = idle_used (paths_counted around) old new first (plan_accesses form + 0) m.still (no_sites sites first (plan_accesses form + 0) has) begins
   view_used (h ∷ hs) form around old new first next s m few has begins =
       kept_all around old new first next s h.entity (offsets_of form) few (all_sites sites first (terms_sites scene around (terms (offsets_of form))) has) begins m
 
   mutual
-    pub command_used : (a : Action) (around : Around) (old new : Building) (first next : ℕ) → StandsIn scene around → PathsLead around → (m : MadeCommand scene a around old new first next) → StoresReach a → 0 < paths_counted around
+    pub command_used : (a : Action) (around : Around) (old new : Building) (first next : ℕ) → BlockStandsIn scene around → PathsLead around → (m : MadeCommand scene a around old new first next) → StoresReach a → 0 < paths_counted around
         → first + accesses_of a < 2 ^ 32 → OwnWrites first a → PlacesAgree sites first (command_sites scene a around old new first next m) → Begins scene sites (paths_counted around) old.accesses first (accesses_of a)
         → Used scene sites (paths_counted around) old new first (accesses_of a)
     command_used (action id place (lets name declared (Some value))) around old new first next s leads m is some few writes has begins =
@@ -436,7 +436,7 @@ module _ (scene : Scene) (sites : ℕ → Option BlockSite) (inside : SharesInsi
         (idle_used (paths_counted around) old new first (accesses_of body + other_accesses combine) m.still (no_sites sites first (accesses_of body + other_accesses combine) has)
         (begins_count (paths_counted around) old.accesses first (0 + (accesses_of body + other_accesses combine)) (accesses_of body + other_accesses combine) (sym (none_before (accesses_of body + other_accesses combine))) begins))
 
-    other_used : (other : MaybeAction) (around : Around) (tests : List ℕ) (old new : Building) (first next : ℕ) (lefts : List Left) → StandsIn scene around → PathsLead around → length tests ≡ paths_counted around
+    other_used : (other : MaybeAction) (around : Around) (tests : List ℕ) (old new : Building) (first next : ℕ) (lefts : List Left) → BlockStandsIn scene around → PathsLead around → length tests ≡ paths_counted around
         → (m : MadeOther scene other around tests old new first next lefts) → StoresReachOther other → 0 < length tests → first + other_accesses other < 2 ^ 32
         → EachWriteOther (λ number. IsUnshared scene number) first other → PlacesAgree sites first (other_sites scene other around tests old new first next lefts m) → Begins scene sites (paths_counted around) old.accesses first (other_accesses other)
         → Used scene sites (paths_counted around) old new first (other_accesses other)
@@ -447,7 +447,7 @@ module _ (scene : Scene) (sites : ℕ → Option BlockSite) (inside : SharesInsi
         (arm_leads (MadeCommand scene a) around false tests old new first next lefts m many leads) m.command is (some_arm (MadeCommand scene a) around false tests old new first next lefts m some) few writes has
         (arm_begins (MadeCommand scene a) around false tests old new first next lefts m (accesses_of a) many begins))
 
-    pub actions_used : (part : Actions) (around : Around) (old new : Building) (first next : ℕ) → StandsIn scene around → PathsLead around → (m : MadeActions scene part around old new first next) → StoresReachPart part → 0 < paths_counted around
+    pub actions_used : (part : Actions) (around : Around) (old new : Building) (first next : ℕ) → BlockStandsIn scene around → PathsLead around → (m : MadeActions scene part around old new first next) → StoresReachPart part → 0 < paths_counted around
         → first + part_accesses part < 2 ^ 32 → EachWriteActions (λ number. IsUnshared scene number) first part → PlacesAgree sites first (actions_sites scene part around old new first next m)
         → Begins scene sites (paths_counted around) old.accesses first (part_accesses part) → Used scene sites (paths_counted around) old new first (part_accesses part)
     actions_used no_actions around old new first next s leads m is some few writes has begins = still_used (paths_counted around) old new first m.still begins
@@ -466,7 +466,7 @@ module _ (scene : Scene) (sites : ℕ → Option BlockSite) (inside : SharesInsi
         (places_behind sites first m.own own_sites rest_sites (long_is first m.own own_sites (accesses_of a) (command_sites_long scene a around old m.middle first m.own m.one is.0) own) has)
         (begins_then (paths_counted around) old m.middle first m.own (accesses_of a) (part_accesses rest) begins one number))
 
-    pub groups_used : (body : Groups) (around : Around) (old new : Building) (first next : ℕ) → StandsIn scene around → PathsLead around → (m : MadeGroups scene body around old new first next) → StoresReachGroups body → 0 < paths_counted around
+    pub groups_used : (body : Groups) (around : Around) (old new : Building) (first next : ℕ) → BlockStandsIn scene around → PathsLead around → (m : MadeGroups scene body around old new first next) → StoresReachGroups body → 0 < paths_counted around
         → first + groups_accesses body < 2 ^ 32 → EachWriteGroups (λ number. IsUnshared scene number) first body → PlacesAgree sites first (groups_sites scene body around old new first next m)
         → Begins scene sites (paths_counted around) old.accesses first (groups_accesses body) → Used scene sites (paths_counted around) old new first (groups_accesses body)
     groups_used no_groups around old new first next s leads m is some few writes has begins = still_used (paths_counted around) old new first m.still begins

@@ -25,7 +25,7 @@ use Rattle.dh_laid.specs.BlockSites.{actions_sites, all_there, command_sites, gr
 use Rattle.dh_laid.specs.LaidCommands.{AreFewIn}
 use Rattle.dh_laid.specs.LaidNumbers.{StoresReach, StoresReachGroups, StoresReachOther, StoresReachPart}
 use Rattle.dh_laid.specs.LaidProbes.{AddsProbes}
-use Rattle.dh_laid.specs.LaidQuiet.{StandsIn}
+use Rattle.dh_laid.specs.LaidQuiet.{BlockStandsIn}
 use Rattle.dh_laid.specs.LaidUses.{probed_by}
 use Rattle.dh_laid.proofs.CommandsNumbered.{actions_reached, command_reached, some_arm, tests_number}
 use Rattle.dh_laid.proofs.CommandsProbe.{assigned_probed, choices_probed, cleared_probed, guards_probed, kept_probed, lanes_probed, none_none, none_then_probes, often, probes_again, probes_then_none, reduced_probed, stored_probed, tests_probed}
@@ -117,7 +117,7 @@ module _ (scene : Scene) (sites : ℕ → Option BlockSite) where
   term_sited around old new first count ss long has h =
       probed_count old new first count (count + 0) (paths_counted around) (no_more count) (probed_often old new first count (paths_counted around) (sites_are sites first count ss long (all_sites sites first ss has)) h)
 
-  view_sited : (hidden : List Hidden) (form : ViewPlan) (around : Around) (old new : Building) (first next : ℕ) → StandsIn scene around → MadeView scene hidden form around old new first next → first + plan_accesses form < 2 ^ 32
+  view_sited : (hidden : List Hidden) (form : ViewPlan) (around : Around) (old new : Building) (first next : ℕ) → BlockStandsIn scene around → MadeView scene hidden form around old new first next → first + plan_accesses form < 2 ^ 32
       → PlacesAgree sites first (view_sites scene around hidden form) → Probed old.draft new.draft first (plan_accesses form + 0) (paths_counted around)
   view_sited [] form around old new first next s m few has = idle_sited old new first (plan_accesses form + 0) (paths_counted around) m.still (no_sites sites first (plan_accesses form + 0) has)
   view_sited (h ∷ hs) form around old new first next s m few has =
@@ -126,7 +126,7 @@ module _ (scene : Scene) (sites : ℕ → Option BlockSite) where
       (λ n b d k one. kept_probed scene (lane_of around n) s first h.entity (offsets_of form) b d k few one) (paths_counted around) old new next m)
 
   mutual
-    pub command_sited : (a : Action) (around : Around) (old new : Building) (first next : ℕ) → StandsIn scene around → (m : MadeCommand scene a around old new first next) → StoresReach a → 0 < paths_counted around → first + accesses_of a < 2 ^ 32
+    pub command_sited : (a : Action) (around : Around) (old new : Building) (first next : ℕ) → BlockStandsIn scene around → (m : MadeCommand scene a around old new first next) → StoresReach a → 0 < paths_counted around → first + accesses_of a < 2 ^ 32
         → PlacesAgree sites first (command_sites scene a around old new first next m) → Probed old.draft new.draft first (accesses_of a) (paths_counted around)
     command_sited (action id place (lets name declared (Some value))) around old new first next s m is some few has =
         term_sited around old.draft new.draft first (term_accesses value) (term_sites scene around value) (term_sites_long scene around value) has
@@ -188,7 +188,7 @@ module _ (scene : Scene) (sites : ℕ → Option BlockSite) where
         probed_count old.draft new.draft first (accesses_of body + other_accesses combine) (0 + (accesses_of body + other_accesses combine)) (paths_counted around) (none_before (accesses_of body + other_accesses combine))
         (idle_sited old new first (accesses_of body + other_accesses combine) (paths_counted around) m.still (no_sites sites first (accesses_of body + other_accesses combine) has))
 
-    other_sited : (other : MaybeAction) (around : Around) (tests : List ℕ) (old new : Building) (first next : ℕ) (lefts : List Left) → StandsIn scene around → length tests ≡ paths_counted around
+    other_sited : (other : MaybeAction) (around : Around) (tests : List ℕ) (old new : Building) (first next : ℕ) (lefts : List Left) → BlockStandsIn scene around → length tests ≡ paths_counted around
         → (m : MadeOther scene other around tests old new first next lefts) → StoresReachOther other → 0 < length tests → first + other_accesses other < 2 ^ 32
         → PlacesAgree sites first (other_sites scene other around tests old new first next lefts m) → Probed old.draft new.draft first (other_accesses other) (paths_counted around)
     other_sited no_action around tests old new first next lefts s many m is some few has = still_sited old new first (paths_counted around) m.still
@@ -197,7 +197,7 @@ module _ (scene : Scene) (sites : ℕ → Option BlockSite) where
         (command_sited a m.arm m.begin m.inside first next (stands_arm scene (MadeCommand scene a) around false tests old new first next lefts m s many) m.command is
         (some_arm (MadeCommand scene a) around false tests old new first next lefts m some) few has)
 
-    actions_sited : (part : Actions) (around : Around) (old new : Building) (first next : ℕ) → StandsIn scene around → (m : MadeActions scene part around old new first next) → StoresReachPart part → 0 < paths_counted around
+    actions_sited : (part : Actions) (around : Around) (old new : Building) (first next : ℕ) → BlockStandsIn scene around → (m : MadeActions scene part around old new first next) → StoresReachPart part → 0 < paths_counted around
         → first + part_accesses part < 2 ^ 32 → PlacesAgree sites first (actions_sites scene part around old new first next m) → Probed old.draft new.draft first (part_accesses part) (paths_counted around)
     actions_sited no_actions around old new first next s m is some few has = still_sited old new first (paths_counted around) m.still
     actions_sited (action_then a rest) around old new first next s m is some few has =
@@ -210,7 +210,7 @@ module _ (scene : Scene) (sites : ℕ → Option BlockSite) where
         (actions_sited rest around m.middle new m.own next s m.rest is.1 some (omega (arith, few, own))
         (places_behind sites first m.own own_sites rest_sites (long_is first m.own own_sites (accesses_of a) (command_sites_long scene a around old m.middle first m.own m.one is.0) own) has))
 
-    groups_sited : (body : Groups) (around : Around) (old new : Building) (first next : ℕ) → StandsIn scene around → (m : MadeGroups scene body around old new first next) → StoresReachGroups body → 0 < paths_counted around
+    groups_sited : (body : Groups) (around : Around) (old new : Building) (first next : ℕ) → BlockStandsIn scene around → (m : MadeGroups scene body around old new first next) → StoresReachGroups body → 0 < paths_counted around
         → first + groups_accesses body < 2 ^ 32 → PlacesAgree sites first (groups_sites scene body around old new first next m) → Probed old.draft new.draft first (groups_accesses body) (paths_counted around)
     groups_sited no_groups around old new first next s m is some few has = still_sited old new first (paths_counted around) m.still
     groups_sited (group_then part rest) around old new first next s m is some few has =

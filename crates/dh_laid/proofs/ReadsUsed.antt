@@ -33,7 +33,7 @@ use Rattle.dh_formed.proofs.PartsCounted.{ranged_one}
 use Rattle.dh_formed.proofs.ReadsCounted.{given_here, given_past, notes_other, notes_own, touch_gives}
 use Rattle.dh_formed.proofs.ValuesCounted.{copies_counts}
 use Rattle.dh_commands.specs.LanesRun.{paths_counted}
-use Rattle.dh_laid.specs.LaidQuiet.{StandsIn}
+use Rattle.dh_laid.specs.LaidQuiet.{BlockStandsIn}
 use Rattle.dh_laid.specs.LaidUses.{AddsLedUses, IsLeadersUse, IsUnshared, PathsLead}
 use Rattle.dh_laid.proofs.UsesAdded.{AddsNone, any_register, no_reach, none_again, none_none, none_same, none_then_uses, probe_pushed, use_pushed, uses_counted, uses_same}
 
@@ -56,7 +56,7 @@ pub led_same : (sites : ℕ → Option BlockSite) (a b : Accesses) → b ≡ a �
 led_same sites a b same h = subst (λ (c : Accesses). AreLed sites c) (sym same) h
 
 -- an access gets its copies
-module _ (sites : ℕ → Option BlockSite) (scene : Scene) (around : Around) (stands : StandsIn scene around) (site : BlockSite) (low : (p : ℕ) → site.standing.leader p ≤ p) (old new : Draft) (before after : Accesses) (number : ℕ) (at : sites number ≡ Some site) (t : TouchesAt scene around site.standing old new before after number) (h : AreLed sites before) where
+module _ (sites : ℕ → Option BlockSite) (scene : Scene) (around : Around) (stands : BlockStandsIn scene around) (site : BlockSite) (low : (p : ℕ) → site.standing.leader p ≤ p) (old new : Draft) (before after : Accesses) (number : ℕ) (at : sites number ≡ Some site) (t : TouchesAt scene around site.standing old new before after number) (h : AreLed sites before) where
   new_led : (u : Touched) → AddsTouched old new scene around site.standing u → IsLed site.standing u
   new_led u a =
       let f : FormsCopies site.standing.leader site.standing.bank (copy_places site.standing) site.standing.guards low (length site.standing.guards) a.middle new u.copies =
@@ -116,7 +116,7 @@ pub record UsesPart (scene : Scene) (sites : ℕ → Option BlockSite) (lane : L
   pub given : HaveGiven lane before after n count
   pub led : AreLed sites after
 
-module _ (scene : Scene) (sites : ℕ → Option BlockSite) (lane : Lane) (stands : StandsIn scene lane.around) (within : lane.number < paths_counted lane.around) (access : Term) (memory : ℕ) (aim : Aim) where
+module _ (scene : Scene) (sites : ℕ → Option BlockSite) (lane : Lane) (stands : BlockStandsIn scene lane.around) (within : lane.number < paths_counted lane.around) (access : Term) (memory : ℕ) (aim : Aim) where
   abbrev stood : (writes : Truth) → AccessStanding
   stood writes = standing_at scene lane.around memory (place_written access) (form_of access) writes
 

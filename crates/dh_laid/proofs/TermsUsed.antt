@@ -35,7 +35,7 @@ use Rattle.dh_commands.specs.MadeCommands.{MadeAim, MadeAssigned, MadeCleared, M
 use Rattle.dh_laid.specs.BlockSites.{HasSites, read_site, target_sites, term_sites, terms_sites, write_site}
 use Rattle.dh_laid.specs.Laid.{aim_accesses}
 use Rattle.dh_laid.specs.LaidNumbers.{IsAccessForm}
-use Rattle.dh_laid.specs.LaidQuiet.{StandsIn}
+use Rattle.dh_laid.specs.LaidQuiet.{BlockStandsIn}
 use Rattle.dh_laid.specs.LaidUses.{AddsLedUses, IsUnshared, PathsLead}
 use Rattle.dh_laid.proofs.ReadsUsed.{AreLed, UsesPart, led_same, read_used, write_gives, write_led, write_used}
 use Rattle.dh_laid.proofs.SitesLaid.{sites_behind, sites_front, sites_last, term_sites_long, terms_sites_long}
@@ -80,7 +80,7 @@ module _ (scene : Scene) (sites : ℕ → Option BlockSite) (lane : Lane) where
 pub long_is : {A : Type 0} (n own : ℕ) (ss : List A) (count : ℕ) → length ss ≡ count → own ≡ n + count → own ≡ n + length ss
 long_is n own ss count long is = is ∙ ap (λ i. n + i) (sym long)
 
-module _ (scene : Scene) (sites : ℕ → Option BlockSite) (lane : Lane) (stands : StandsIn scene lane.around) (within : lane.number < paths_counted lane.around) (current : List (Option ℕ)) where
+module _ (scene : Scene) (sites : ℕ → Option BlockSite) (lane : Lane) (stands : BlockStandsIn scene lane.around) (within : lane.number < paths_counted lane.around) (current : List (Option ℕ)) where
   -- a read behind the values that name its element
   read_behind : (place : Place) (k : Option Kind) (form : plain.TermForm) (memory : ℕ) (aim : Aim) (a b c : Draft) (x y z : Accesses) (n p v : ℕ) (ss : List BlockSite) → length ss ≡ p → aim.number ≡ n + p
       → HasSites sites n (ss ++ read_site scene lane.around memory place form ∷ []) → AreNext scene lane x n (suc p) → UsesPart scene sites lane a b x y n p → MadeRead scene lane (plain.term place k form) memory aim b c y z v
@@ -203,7 +203,7 @@ module _ (scene : Scene) (sites : ℕ → Option BlockSite) (lane : Lane) (stand
 
 -- Commands at a path.
 
-module _ (scene : Scene) (sites : ℕ → Option BlockSite) (lane : Lane) (stands : StandsIn scene lane.around) (within : lane.number < paths_counted lane.around) (first : ℕ) (old new : Building) (next : ℕ) (led : AreLed sites old.accesses) where
+module _ (scene : Scene) (sites : ℕ → Option BlockSite) (lane : Lane) (stands : BlockStandsIn scene lane.around) (within : lane.number < paths_counted lane.around) (first : ℕ) (old new : Building) (next : ℕ) (led : AreLed sites old.accesses) where
   abbrev UsesHere : (count all : ℕ) → Type 0
   UsesHere count all = UsesLane scene sites lane old.draft new.draft old.accesses new.accesses first count all
 

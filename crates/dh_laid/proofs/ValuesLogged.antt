@@ -23,7 +23,7 @@ use Rattle.dh_commands.specs.Undone.{AreReady, Assigns, EndsArm, HasRoom, lefts_
 use Rattle.dh_commands.proofs.ArmsLeft.{AreSame, lefts_given}
 use Rattle.dh_commands.proofs.ChangesBack.{logs_again, logs_none, logs_one}
 use Rattle.dh_laid.specs.LaidCommands.{AreLogged}
-use Rattle.dh_laid.specs.LaidQuiet.{StandsIn}
+use Rattle.dh_laid.specs.LaidQuiet.{BlockStandsIn}
 
 pub logged_again : (a b c : Values) → AreLogged a b → AreLogged b c → AreLogged a c
 logged_again a b c h k = logs_again (λ d. Unit {0}) a b c h k
@@ -86,7 +86,7 @@ arm_long holds guards tests (suc n) old new arm m =
 
 -- what stands round an arm stands in the scene as what is round the choice
 pub stands_arm : (scene : Scene) (Inner : Commanding) (around : Around) (holds : Truth) (tests : List ℕ) (old new : Building) (first next : ℕ) (lefts : List Left) (m : MadeArm Inner around holds tests old new first next lefts)
-    → StandsIn scene around → length tests ≡ paths_counted around → StandsIn scene m.arm
+    → BlockStandsIn scene around → length tests ≡ paths_counted around → BlockStandsIn scene m.arm
 stands_arm scene Inner around holds tests old new first next lefts m s many = record {
   scopes = s.scopes;
   low = subst (λ levels. length levels < 2 ^ 63) (sym m.levels) s.low;

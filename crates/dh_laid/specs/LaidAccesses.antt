@@ -22,7 +22,7 @@ use Rattle.dh_commands.specs.declared.buildings.Building.{Building}
 use Rattle.dh_commands.specs.MadeCommands.{MadeCommand, MadeGroups, MadeTests}
 use Rattle.dh_laid.specs.BlockSites.{MadeEach}
 use Rattle.dh_laid.specs.LaidFaults.{HaveOwnFaults}
-use Rattle.dh_laid.specs.LaidQuiet.{StandsIn}
+use Rattle.dh_laid.specs.LaidQuiet.{BlockStandsIn}
 
 abbrev pub copy_in : Touched → (path : ℕ) → AccessAt
 copy_in t path = copy_or_alone path (slice_get t.copies path)
@@ -76,24 +76,24 @@ pub record Lays (old new : Draft) (before after : Accesses) : Type 0 where
 
 abbrev pub TermsLay : Type 0
 TermsLay =
-    (scene : Scene) (lane : Lane) (current : List (Option ℕ)) (t : Term) (old new : Draft) (before after : Accesses) (n next v : ℕ) → StandsIn scene lane.around
+    (scene : Scene) (lane : Lane) (current : List (Option ℕ)) (t : Term) (old new : Draft) (before after : Accesses) (n next v : ℕ) → BlockStandsIn scene lane.around
     → MadeTerm scene lane current t old new before after n next v → Lays old new before after
 
 abbrev pub CommandsLay : Type 0
 CommandsLay =
-    (scene : Scene) (a : Action) (around : Around) (old new : Building) (first next : ℕ) → StandsIn scene around → MadeCommand scene a around old new first next
+    (scene : Scene) (a : Action) (around : Around) (old new : Building) (first next : ℕ) → BlockStandsIn scene around → MadeCommand scene a around old new first next
     → Lays old.draft new.draft old.accesses new.accesses
 
 abbrev pub GroupsLay : Type 0
 GroupsLay =
-    (scene : Scene) (body : Groups) (around : Around) (old new : Building) (first next : ℕ) → StandsIn scene around → MadeGroups scene body around old new first next
+    (scene : Scene) (body : Groups) (around : Around) (old new : Building) (first next : ℕ) → BlockStandsIn scene around → MadeGroups scene body around old new first next
     → Lays old.draft new.draft old.accesses new.accesses
 
 abbrev pub TestsLay : Type 0
 TestsLay =
-    (scene : Scene) (around : Around) (first : ℕ) (t : Term) (count : ℕ) (old new : Building) (next : ℕ) (tests : List ℕ) → StandsIn scene around
+    (scene : Scene) (around : Around) (first : ℕ) (t : Term) (count : ℕ) (old new : Building) (next : ℕ) (tests : List ℕ) → BlockStandsIn scene around
     → MadeTests scene around first t count old new next tests → Lays old.draft new.draft old.accesses new.accesses
 
 -- so the commands of a block, put down one after the other
 abbrev pub EachLay : Type 0
-EachLay = (scene : Scene) (around : Around) (cs : List Located) (old new : Building) → StandsIn scene around → MadeEach scene around cs old new → Lays old.draft new.draft old.accesses new.accesses
+EachLay = (scene : Scene) (around : Around) (cs : List Located) (old new : Building) → BlockStandsIn scene around → MadeEach scene around cs old new → Lays old.draft new.draft old.accesses new.accesses

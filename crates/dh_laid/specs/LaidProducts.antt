@@ -18,7 +18,7 @@ use Rattle.dh_commands.specs.declared.buildings.Building.{Building}
 use Rattle.dh_commands.specs.LanesRun.{paths_counted}
 use Rattle.dh_commands.specs.MadeCommands.{MadeCommand, MadeGroups}
 use Rattle.dh_laid.specs.LaidNumbers.{AreStraightGroups, IsStraight}
-use Rattle.dh_laid.specs.LaidQuiet.{StandsIn}
+use Rattle.dh_laid.specs.LaidQuiet.{BlockStandsIn}
 
 abbrev mutual
   -- the `*` of an expression
@@ -88,12 +88,12 @@ pub record AddsProducts (old new : Draft) (most : ℕ) : Type 0 where
 
 abbrev pub CommandsHaveProducts : Type 0
 CommandsHaveProducts =
-    (scene : Scene) (a : Action) (around : Around) (old new : Building) (first next : ℕ) → StandsIn scene around → MadeCommand scene a around old new first next
+    (scene : Scene) (a : Action) (around : Around) (old new : Building) (first next : ℕ) → BlockStandsIn scene around → MadeCommand scene a around old new first next
     → AddsProducts old.draft new.draft (action_products (known_in scene) a * paths_counted around)
 
 abbrev pub GroupsHaveProducts : Type 0
 GroupsHaveProducts =
-    (scene : Scene) (body : Groups) (around : Around) (old new : Building) (first next : ℕ) → StandsIn scene around → MadeGroups scene body around old new first next
+    (scene : Scene) (body : Groups) (around : Around) (old new : Building) (first next : ℕ) → BlockStandsIn scene around → MadeGroups scene body around old new first next
     → AddsProducts old.draft new.draft (groups_products (known_in scene) body * paths_counted around)
 
 -- These are those of the program's expressions and commands.

@@ -29,20 +29,20 @@ pub record AddsQuiet (old new : Draft) : Type 0 where
   pub each : AllByRecursion (λ o. IsQuiet o.form) more
 
 -- loops stand round a command so that copies of accesses can be told apart
-pub record StandsIn (scene : Scene) (around : Around) : Type 0 where
+pub record BlockStandsIn (scene : Scene) (around : Around) : Type 0 where
   pub scopes : HasScopes scene
   pub low : length around.levels.now < 2 ^ 63
   pub few : paths_counted around < 2 ^ 64
 
 abbrev pub TermsAreQuiet : Type 0
 TermsAreQuiet =
-    (scene : Scene) (lane : Lane) (current : _) (t : Term) (old new : Draft) (before after : Accesses) (n next v : ℕ) → StandsIn scene lane.around → MadeTerm scene lane current t old new before after n next v → AddsQuiet old new
+    (scene : Scene) (lane : Lane) (current : _) (t : Term) (old new : Draft) (before after : Accesses) (n next v : ℕ) → BlockStandsIn scene lane.around → MadeTerm scene lane current t old new before after n next v → AddsQuiet old new
 
 abbrev pub CommandsAreQuiet : Type 0
-CommandsAreQuiet = (scene : Scene) (a : Action) (around : Around) (old new : Building) (first next : ℕ) → StandsIn scene around → MadeCommand scene a around old new first next → AddsQuiet old.draft new.draft
+CommandsAreQuiet = (scene : Scene) (a : Action) (around : Around) (old new : Building) (first next : ℕ) → BlockStandsIn scene around → MadeCommand scene a around old new first next → AddsQuiet old.draft new.draft
 
 abbrev pub GroupsAreQuiet : Type 0
-GroupsAreQuiet = (scene : Scene) (body : Groups) (around : Around) (old new : Building) (first next : ℕ) → StandsIn scene around → MadeGroups scene body around old new first next → AddsQuiet old.draft new.draft
+GroupsAreQuiet = (scene : Scene) (body : Groups) (around : Around) (old new : Building) (first next : ℕ) → BlockStandsIn scene around → MadeGroups scene body around old new first next → AddsQuiet old.draft new.draft
 
 -- what is so sets no register, whatever values stand in its block
 abbrev pub QuietSetsNone : Type 0

@@ -29,7 +29,7 @@ use Rattle.dh_laid.specs.BlockSites.{MadeEach, block_sites, test_sites}
 use Rattle.dh_laid.specs.Laid.{aim_accesses}
 use Rattle.dh_laid.specs.LaidNumbers.{StoresReach}
 use Rattle.dh_laid.specs.LaidProbes.{AddsProbes}
-use Rattle.dh_laid.specs.LaidQuiet.{StandsIn}
+use Rattle.dh_laid.specs.LaidQuiet.{BlockStandsIn}
 
 -- Counts.
 
@@ -161,38 +161,38 @@ WritesAlone scene (c ∷ cs) = EachWrite (λ number. IsUnshared scene number) c.
 -- Blocks: each access of the block is read or written at the paths that lead, and no other is.
 abbrev pub BlocksUse : Type 0
 BlocksUse =
-    (scene : Scene) (around : Around) (cs : List Located) (old new : Building) (m : MadeEach scene around cs old new) → StandsIn scene around → PathsLead around → 0 < paths_counted around
+    (scene : Scene) (around : Around) (cs : List Located) (old new : Building) (m : MadeEach scene around cs old new) → BlockStandsIn scene around → PathsLead around → 0 < paths_counted around
     → AreAlong 0 cs → WritesAlone scene cs → SharesInside scene (block_sites scene around cs old new m) → HaveNoOperations (block_sites scene around cs old new m) old.accesses
     → AddsUses old.draft new.draft (used_to scene (block_sites scene around cs old new m) (paths_counted around))
 
 -- and each read or write is for a path that leads
 abbrev pub BlocksLead : Type 0
 BlocksLead =
-    (scene : Scene) (around : Around) (cs : List Located) (old new : Building) (m : MadeEach scene around cs old new) → StandsIn scene around → PathsLead around → 0 < paths_counted around
+    (scene : Scene) (around : Around) (cs : List Located) (old new : Building) (m : MadeEach scene around cs old new) → BlockStandsIn scene around → PathsLead around → 0 < paths_counted around
     → AreAlong 0 cs → WritesAlone scene cs → SharesInside scene (block_sites scene around cs old new m) → HaveNoOperations (block_sites scene around cs old new m) old.accesses
     → AddsLedUses scene (block_sites scene around cs old new m) old.draft new.draft (used_to scene (block_sites scene around cs old new m) (paths_counted around))
 
 -- and probed at all of them
 abbrev pub BlocksProbe : Type 0
 BlocksProbe =
-    (scene : Scene) (around : Around) (cs : List Located) (old new : Building) (m : MadeEach scene around cs old new) → StandsIn scene around → 0 < paths_counted around → AreAlong 0 cs
+    (scene : Scene) (around : Around) (cs : List Located) (old new : Building) (m : MadeEach scene around cs old new) → BlockStandsIn scene around → 0 < paths_counted around → AreAlong 0 cs
     → AddsProbes old.draft new.draft (λ access. probed_by (block_sites scene around cs old new m access) (paths_counted around))
 
 -- the same of a test
 abbrev pub TestsUse : Type 0
 TestsUse =
     (scene : Scene) (around : Around) (first : ℕ) (t : Term) (old new : Building) (next : ℕ) (tests : List ℕ) → MadeTests scene around first t (paths_counted around) old new next tests
-    → StandsIn scene around → first + term_accesses t < 2 ^ 32 → SharesInside scene (test_sites scene around first t) → HaveNoOperations (test_sites scene around first t) old.accesses
+    → BlockStandsIn scene around → first + term_accesses t < 2 ^ 32 → SharesInside scene (test_sites scene around first t) → HaveNoOperations (test_sites scene around first t) old.accesses
     → AddsUses old.draft new.draft (used_to scene (test_sites scene around first t) (paths_counted around))
 
 abbrev pub TestsLead : Type 0
 TestsLead =
     (scene : Scene) (around : Around) (first : ℕ) (t : Term) (old new : Building) (next : ℕ) (tests : List ℕ) → MadeTests scene around first t (paths_counted around) old new next tests
-    → StandsIn scene around → first + term_accesses t < 2 ^ 32 → SharesInside scene (test_sites scene around first t) → HaveNoOperations (test_sites scene around first t) old.accesses
+    → BlockStandsIn scene around → first + term_accesses t < 2 ^ 32 → SharesInside scene (test_sites scene around first t) → HaveNoOperations (test_sites scene around first t) old.accesses
     → AddsLedUses scene (test_sites scene around first t) old.draft new.draft (used_to scene (test_sites scene around first t) (paths_counted around))
 
 abbrev pub TestsProbe : Type 0
 TestsProbe =
     (scene : Scene) (around : Around) (first : ℕ) (t : Term) (old new : Building) (next : ℕ) (tests : List ℕ) → MadeTests scene around first t (paths_counted around) old new next tests
-    → StandsIn scene around → first + term_accesses t < 2 ^ 32
+    → BlockStandsIn scene around → first + term_accesses t < 2 ^ 32
     → AddsProbes old.draft new.draft (λ access. probed_by (test_sites scene around first t access) (paths_counted around))

@@ -23,7 +23,7 @@ use Rattle.dh_meaning.specs.Ways.{Hidden, hidden_in}
 use Rattle.dh_meaning.specs.Levels.{Levels, Leveled, any_assigns, arms_joined, assigns_to, choice_levels, command_leveled, commands_leveled, greatest, term_leveled, with_value, with_variables}
 use Rattle.dh_lengths.specs.declared.leads.Leads.{Leads}
 use Rattle.dh_lengths.specs.LedBy.{IsLedBy}
-use Rattle.dh_events.specs.Tables.{kept_at, with_number}
+use Rattle.dh_events.specs.Tables.{table_at, with_number}
 use Rattle.dh_events.proofs.Turns.{at_item}
 use Rattle.dh_lengths.specs.declared.held.Held.{Held}
 use Rattle.dh_lengths.specs.declared.undoing.Mark.{Mark}
@@ -84,7 +84,7 @@ gives_skipped old new outer n g = record {
   first = g.keeps.first;
   changes = [];
   log = g.keeps.log ∙ sym (append-nil old.log.items);
-  undoes = ap kept_at g.keeps.variables;
+  undoes = ap table_at g.keeps.variables;
   marks = λ e. refl;
 }
 
@@ -97,7 +97,7 @@ gives_one old new outer n c none g = record {
   first = g.keeps.first;
   changes = [];
   log = g.keeps.log ∙ sym (append-nil old.log.items);
-  undoes = ap kept_at g.keeps.variables;
+  undoes = ap table_at g.keeps.variables;
   marks = λ e. sym (ap (λ b. b || false) (none e));
 }
 
@@ -127,7 +127,7 @@ gives_assign old mid new outer depth level n entity v g a =
         first = subst (λ (m : ℕ). new.first ≤ m) (sym same) (subst (λ (m : ℕ). m ≤ count mid) (sym a.first) g.sound.first);
         small = subst (λ (m : ℕ). AreSmall m (levels_seen new)) (sym same) (subst (λ (l : Levels). AreSmall (count mid) l) (sym a.seen)
             (record {
-              variables = λ x. if_low (x == e) level (kept_at mid.variables.items x) (count mid) g.low (g.sound.small.variables x);
+              variables = λ x. if_low (x == e) level (table_at mid.variables.items x) (count mid) g.low (g.sound.small.variables x);
               reads = g.sound.small.reads;
               most = g.sound.small.most;
             }));
@@ -137,7 +137,7 @@ gives_assign old mid new outer depth level n entity v g a =
       first = a.first ∙ g.keeps.first;
       changes = mark e (variable_in mid.variables.items entity) ∷ [];
       log = a.log ∙ ap (λ l. l ++ mark e (variable_in mid.variables.items entity) ∷ []) g.keeps.log;
-      undoes = put_back (kept_at new.variables.items) (kept_at mid.variables.items) e level (ap (λ (l : Levels). l.variables) a.seen) ∙ ap kept_at g.keeps.variables;
+      undoes = put_back (table_at new.variables.items) (table_at mid.variables.items) e level (ap (λ (l : Levels). l.variables) a.seen) ∙ ap table_at g.keeps.variables;
       marks = λ x. ap (λ b. b || false) (number_swap e x);
     }
 
@@ -171,7 +171,7 @@ gives_both a b c outer m n cs ds es both g h = record {
   first = h.first ∙ g.first;
   changes = g.changes ++ h.changes;
   log = h.log ∙ (ap (λ l. l ++ h.changes) g.log ∙ append_assoc a.log.items g.changes h.changes);
-  undoes = undone_both g.changes h.changes (kept_at c.variables.items) ∙ (ap (undone g.changes) h.undoes ∙ g.undoes);
+  undoes = undone_both g.changes h.changes (table_at c.variables.items) ∙ (ap (undone g.changes) h.undoes ∙ g.undoes);
   marks = λ e. marks_both e g.changes h.changes ∙ (or_both _ _ _ _ (g.marks e) (h.marks e) ∙ sym (both.assigns e));
 }
 
@@ -317,13 +317,13 @@ pub record SameReads (old new : Held) : Type 0 where
   pub most : new.most ≡ old.most
   pub log : new.log.items ≡ old.log.items
 
-variables_put : (old new : Held) (f : ℕ → ℕ) → SameReads old new → kept_at new.variables.items ≡ f → levels_seen new ≡ with_variables (levels_seen old) f
+variables_put : (old new : Held) (f : ℕ → ℕ) → SameReads old new → table_at new.variables.items ≡ f → levels_seen new ≡ with_variables (levels_seen old) f
 variables_put old new f same is =
     ap (λ l. levels_of l new.first new.most new.variables.items) same.reads
     ∙ (ap (λ n. levels_of old.reads.items n new.most new.variables.items) same.first
     ∙ (ap (λ n. levels_of old.reads.items old.first n new.variables.items) same.most ∙ ap (λ (g : ℕ → ℕ). record { variables = g; reads = read_in old.reads.items old.first; most = old.most }) is))
 
-put_sound : (old new : Held) (f : ℕ → ℕ) → SameReads old new → kept_at new.variables.items ≡ f → ((e : ℕ) → f e ≤ count old) → IsSound old → IsSound new
+put_sound : (old new : Held) (f : ℕ → ℕ) → SameReads old new → table_at new.variables.items ≡ f → ((e : ℕ) → f e ≤ count old) → IsSound old → IsSound new
 put_sound old new f same is low s =
     let many : count new ≡ count old = ap length same.reads in
     record {
@@ -349,12 +349,12 @@ pub record Arms (old : Held) (outer : ℕ) (chosen other : CoreCommands) (level 
   pub in_is : inside ≡ max level outer
   pub one : IsSound old → inside ≤ count old → GivesCommands old b inside chosen m
   pub back : SameReads b b1
-  pub back_to : kept_at b1.variables.items ≡ undone (drop (length old.log.items) b.log.items) (kept_at b.variables.items)
+  pub back_to : table_at b1.variables.items ≡ undone (drop (length old.log.items) b.log.items) (table_at b.variables.items)
   pub two : IsSound b1 → inside ≤ count b1 → GivesCommands b1 c inside other n
   pub last : SameReads c d
-  pub joined : kept_at d.variables.items
-      ≡ joined_all level (marks_now (kept_at c.variables.items) (drop (length old.log.items) c.log.items))
-      (redone (marks_now (kept_at b.variables.items) (drop (length old.log.items) b.log.items)) (undone (drop (length b1.log.items) c.log.items) (kept_at c.variables.items)))
+  pub joined : table_at d.variables.items
+      ≡ joined_all level (marks_now (table_at c.variables.items) (drop (length old.log.items) c.log.items))
+      (redone (marks_now (table_at b.variables.items) (drop (length old.log.items) b.log.items)) (undone (drop (length b1.log.items) c.log.items) (table_at c.variables.items)))
 
 module _ (a b b1 c d : Held) (outer level inside m n : ℕ) (chosen other : CoreCommands) (s : IsSound a) (low : outer ≤ count a) (level_low : level ≤ count a) (x : Arms a outer chosen other level inside m n b b1 c d) where
   in_low : inside ≤ count a
@@ -366,14 +366,14 @@ module _ (a b b1 c d : Held) (outer level inside m n : ℕ) (chosen other : Core
   first_since : drop (length a.log.items) b.log.items ≡ first_arm.changes
   first_since = since_seam a.log.items first_arm.changes b.log.items first_arm.log
 
-  before : kept_at b1.variables.items ≡ kept_at a.variables.items
-  before = x.back_to ∙ (ap (λ l. undone l (kept_at b.variables.items)) first_since ∙ first_arm.undoes)
+  before : table_at b1.variables.items ≡ table_at a.variables.items
+  before = x.back_to ∙ (ap (λ l. undone l (table_at b.variables.items)) first_since ∙ first_arm.undoes)
 
   many_first : count a ≤ count b
   many_first = no_less (count a) (count b) m first_arm.counted
 
   back_sound : IsSound b1
-  back_sound = put_sound b b1 (kept_at a.variables.items) x.back before (λ e. low_later (kept_at a.variables.items e) (count a) (count b) (s.small.variables e) many_first) first_arm.sound
+  back_sound = put_sound b b1 (table_at a.variables.items) x.back before (λ e. low_later (table_at a.variables.items e) (count a) (count b) (s.small.variables e) many_first) first_arm.sound
 
   same_back : count b1 ≡ count b
   same_back = ap length x.back.reads
@@ -387,25 +387,25 @@ module _ (a b b1 c d : Held) (outer level inside m n : ℕ) (chosen other : Core
   second_since : drop (length b1.log.items) c.log.items ≡ second_arm.changes
   second_since = since_seam b1.log.items second_arm.changes c.log.items second_arm.log
 
-  second_undone : undone second_arm.changes (kept_at c.variables.items) ≡ kept_at a.variables.items
+  second_undone : undone second_arm.changes (table_at c.variables.items) ≡ table_at a.variables.items
   second_undone = second_arm.undoes ∙ before
 
-  again : redone (marks_now (kept_at b.variables.items) (drop (length a.log.items) b.log.items)) (undone (drop (length b1.log.items) c.log.items) (kept_at c.variables.items)) ≡ kept_at b.variables.items
+  again : redone (marks_now (table_at b.variables.items) (drop (length a.log.items) b.log.items)) (undone (drop (length b1.log.items) c.log.items) (table_at c.variables.items)) ≡ table_at b.variables.items
   again =
-      ap (λ l. redone (marks_now (kept_at b.variables.items) l) (undone (drop (length b1.log.items) c.log.items) (kept_at c.variables.items))) first_since
-      ∙ (ap (λ l. redone (marks_now (kept_at b.variables.items) first_arm.changes) (undone l (kept_at c.variables.items))) second_since
-      ∙ (ap (redone (marks_now (kept_at b.variables.items) first_arm.changes)) (second_undone ∙ sym first_arm.undoes) ∙ redone_all first_arm.changes (kept_at b.variables.items)))
+      ap (λ l. redone (marks_now (table_at b.variables.items) l) (undone (drop (length b1.log.items) c.log.items) (table_at c.variables.items))) first_since
+      ∙ (ap (λ l. redone (marks_now (table_at b.variables.items) first_arm.changes) (undone l (table_at c.variables.items))) second_since
+      ∙ (ap (redone (marks_now (table_at b.variables.items) first_arm.changes)) (second_undone ∙ sym first_arm.undoes) ∙ redone_all first_arm.changes (table_at b.variables.items)))
 
-  behind_at : (e : ℕ) → kept_at d.variables.items e ≡ (if has_mark e first_arm.changes || has_mark e second_arm.changes then max level (max (kept_at b.variables.items e) (kept_at c.variables.items e)) else kept_at a.variables.items e)
+  behind_at : (e : ℕ) → table_at d.variables.items e ≡ (if has_mark e first_arm.changes || has_mark e second_arm.changes then max level (max (table_at b.variables.items e) (table_at c.variables.items e)) else table_at a.variables.items e)
   behind_at e =
       ap (λ f. f e)
-      (x.joined ∙ (ap (λ l. joined_all level (marks_now (kept_at c.variables.items) l) (redone (marks_now (kept_at b.variables.items) (drop (length a.log.items) b.log.items)) (undone (drop (length b1.log.items) c.log.items) (kept_at c.variables.items)))) (since_seam a.log.items (first_arm.changes ++ second_arm.changes) c.log.items all_log) ∙ ap (joined_all level (marks_now (kept_at c.variables.items) (first_arm.changes ++ second_arm.changes))) again))
-      ∙ joined_both level first_arm.changes second_arm.changes (kept_at a.variables.items) (kept_at b.variables.items) (kept_at c.variables.items) first_arm.undoes e
+      (x.joined ∙ (ap (λ l. joined_all level (marks_now (table_at c.variables.items) l) (redone (marks_now (table_at b.variables.items) (drop (length a.log.items) b.log.items)) (undone (drop (length b1.log.items) c.log.items) (table_at c.variables.items)))) (since_seam a.log.items (first_arm.changes ++ second_arm.changes) c.log.items all_log) ∙ ap (joined_all level (marks_now (table_at c.variables.items) (first_arm.changes ++ second_arm.changes))) again))
+      ∙ joined_both level first_arm.changes second_arm.changes (table_at a.variables.items) (table_at b.variables.items) (table_at c.variables.items) first_arm.undoes e
 
-  arms_are : kept_at d.variables.items ≡ arms_joined level chosen other (kept_at a.variables.items) (kept_at b.variables.items) (kept_at c.variables.items)
+  arms_are : table_at d.variables.items ≡ arms_joined level chosen other (table_at a.variables.items) (table_at b.variables.items) (table_at c.variables.items)
   arms_are = fun_ext (λ e.
       behind_at e
-      ∙ ap (λ t. if t then max level (max (kept_at b.variables.items e) (kept_at c.variables.items e)) else kept_at a.variables.items e) (or_both _ _ _ _ (first_arm.marks e) (second_arm.marks e)))
+      ∙ ap (λ t. if t then max level (max (table_at b.variables.items e) (table_at c.variables.items e)) else table_at a.variables.items e) (or_both _ _ _ _ (first_arm.marks e) (second_arm.marks e)))
 
   in_order : inside ≡ max outer level
   in_order = x.in_is ∙ swap_max level outer
@@ -413,19 +413,19 @@ module _ (a b b1 c d : Held) (outer level inside m n : ℕ) (chosen other : Core
   after_first : levels_seen b ≡ commands_leveled (told a.shares.now) (max outer level) chosen (levels_seen a)
   after_first = first_arm.seen ∙ ap (λ k. commands_leveled (told a.shares.now) k chosen (levels_seen a)) in_order
 
-  after_second : levels_seen c ≡ commands_leveled (told a.shares.now) (max outer level) other (with_variables (commands_leveled (told a.shares.now) (max outer level) chosen (levels_seen a)) (kept_at a.variables.items))
+  after_second : levels_seen c ≡ commands_leveled (told a.shares.now) (max outer level) other (with_variables (commands_leveled (told a.shares.now) (max outer level) chosen (levels_seen a)) (table_at a.variables.items))
   after_second =
       second_arm.seen
       ∙ (ap (λ y. commands_leveled (told y) inside other (levels_seen b1)) (x.back.shares ∙ first_arm.shares)
       ∙ (ap (λ k. commands_leveled (told a.shares.now) k other (levels_seen b1)) in_order
-      ∙ (ap (commands_leveled (told a.shares.now) (max outer level) other) (variables_put b b1 (kept_at a.variables.items) x.back before)
-      ∙ ap (λ (l : Levels). commands_leveled (told a.shares.now) (max outer level) other (with_variables l (kept_at a.variables.items))) after_first)))
+      ∙ (ap (commands_leveled (told a.shares.now) (max outer level) other) (variables_put b b1 (table_at a.variables.items) x.back before)
+      ∙ ap (λ (l : Levels). commands_leveled (told a.shares.now) (max outer level) other (with_variables l (table_at a.variables.items))) after_first)))
 
   choice_seen : levels_seen d ≡ choice_of (told a.shares.now) outer chosen other (leveled level (levels_seen a))
   choice_seen =
       variables_put c d _ x.last arms_are
-      ∙ (ap (λ (l : Levels). with_variables (levels_seen c) (arms_joined level chosen other (kept_at a.variables.items) l.variables (kept_at c.variables.items))) after_first
-      ∙ ap (λ (l : Levels). with_variables l (arms_joined level chosen other (kept_at a.variables.items) (commands_leveled (told a.shares.now) (max outer level) chosen (levels_seen a)).variables l.variables)) after_second)
+      ∙ (ap (λ (l : Levels). with_variables (levels_seen c) (arms_joined level chosen other (table_at a.variables.items) l.variables (table_at c.variables.items))) after_first
+      ∙ ap (λ (l : Levels). with_variables l (arms_joined level chosen other (table_at a.variables.items) (commands_leveled (told a.shares.now) (max outer level) chosen (levels_seen a)).variables l.variables)) after_second)
 
   many_second : count a ≤ count c
   many_second = low_later (count a) (count b) (count c) many_first (no_less (count b) (count c) n (second_arm.counted ∙ ap (λ k. k + n) same_back))
@@ -433,13 +433,13 @@ module _ (a b b1 c d : Held) (outer level inside m n : ℕ) (chosen other : Core
   choice_sound : IsSound d
   choice_sound =
       put_sound c d _ x.last arms_are
-      (λ e. if_low (any_assigns e chosen || any_assigns e other) (max level (max (kept_at b.variables.items e) (kept_at c.variables.items e))) (kept_at a.variables.items e) (count c)
-      (three_low level (kept_at b.variables.items e) (kept_at c.variables.items e) (count c) (low_later level (count a) (count c) level_low many_second)
-      (low_later (kept_at b.variables.items e) (count b) (count c) (first_arm.sound.small.variables e) (no_less (count b) (count c) n (second_arm.counted ∙ ap (λ k. k + n) same_back))) (second_arm.sound.small.variables e))
-      (low_later (kept_at a.variables.items e) (count a) (count c) (s.small.variables e) many_second)) second_arm.sound
+      (λ e. if_low (any_assigns e chosen || any_assigns e other) (max level (max (table_at b.variables.items e) (table_at c.variables.items e))) (table_at a.variables.items e) (count c)
+      (three_low level (table_at b.variables.items e) (table_at c.variables.items e) (count c) (low_later level (count a) (count c) level_low many_second)
+      (low_later (table_at b.variables.items e) (count b) (count c) (first_arm.sound.small.variables e) (no_less (count b) (count c) n (second_arm.counted ∙ ap (λ k. k + n) same_back))) (second_arm.sound.small.variables e))
+      (low_later (table_at a.variables.items e) (count a) (count c) (s.small.variables e) many_second)) second_arm.sound
 
-  rest_same : (e : ℕ) → (has_mark e first_arm.changes || has_mark e second_arm.changes) ≡ false → kept_at d.variables.items e ≡ kept_at a.variables.items e
-  rest_same e h = behind_at e ∙ ap (λ t. if t then max level (max (kept_at b.variables.items e) (kept_at c.variables.items e)) else kept_at a.variables.items e) h
+  rest_same : (e : ℕ) → (has_mark e first_arm.changes || has_mark e second_arm.changes) ≡ false → table_at d.variables.items e ≡ table_at a.variables.items e
+  rest_same e h = behind_at e ∙ ap (λ t. if t then max level (max (table_at b.variables.items e) (table_at c.variables.items e)) else table_at a.variables.items e) h
 
 pub gives_choice : (old a b b1 c d : Held) (outer level inside k m n : ℕ) (test : CoreTerm) (chosen other : CoreCommands) → outer ≤ count old → GivesLevel old a (term_leveled (told old.shares.now) outer test (levels_seen old)) level k
     → Arms a outer chosen other level inside m n b b1 c d → GivesCommands old d outer (command_and (choose test chosen other) no_commands) (k + (m + n))
@@ -459,8 +459,8 @@ gives_choice old a b b1 c d outer level inside k m n test chosen other low t x =
       changes = g.changes ++ h.changes;
       log = x.last.log ∙ (all_log a b b1 c d outer level inside m n chosen other t.sound low_a t.low x ∙ ap (λ l. l ++ (g.changes ++ h.changes)) t.keeps.log);
       undoes =
-          both_undone g.changes h.changes (kept_at a.variables.items) (kept_at b.variables.items) (kept_at c.variables.items) (kept_at d.variables.items) g.undoes (second_undone a b b1 c d outer level inside m n chosen other t.sound low_a t.low x)
-          (rest_same a b b1 c d outer level inside m n chosen other t.sound low_a t.low x) ∙ ap kept_at t.keeps.variables;
+          both_undone g.changes h.changes (table_at a.variables.items) (table_at b.variables.items) (table_at c.variables.items) (table_at d.variables.items) g.undoes (second_undone a b b1 c d outer level inside m n chosen other t.sound low_a t.low x)
+          (rest_same a b b1 c d outer level inside m n chosen other t.sound low_a t.low x) ∙ ap table_at t.keeps.variables;
       marks = λ e. marks_both e g.changes h.changes ∙ (or_both _ _ _ _ (g.marks e) (h.marks e) ∙ sym (or_false (any_assigns e chosen || any_assigns e other)));
     }
 

@@ -8,7 +8,7 @@ use Rattle.std.proofs.Math.Seq.{get_or-append_seam}
 use Rattle.dh_meaning.specs.Core.{Reach}
 use Rattle.dh_meaning.specs.CoreOf.{entity_number}
 use Rattle.dh_meaning.specs.Levels.{Levels, Leveled, level_ground, read_at, read_leveled, with_value, with_variables}
-use Rattle.dh_events.specs.Tables.{kept_at, with_number}
+use Rattle.dh_events.specs.Tables.{table_at, with_number}
 use Rattle.dh_lengths.specs.declared.held.Held.{Held}
 use Rattle.dh_lengths.specs.SharedReads.{told}
 use Rattle.dh_lengths.specs.Undone.{mark, undone}
@@ -134,7 +134,7 @@ read_more_of old level = record { variables = (levels_seen old).variables; reads
 
 read_small : (old : Held) (level : ℕ) → IsSound old → level ≤ count old + 1 → AreSmall (count old + 1) (read_more_of old level)
 read_small old level s low = record {
-  variables = λ e. up_one (kept_at old.variables.items e) (count old) (s.small.variables e);
+  variables = λ e. up_one (table_at old.variables.items e) (count old) (s.small.variables e);
   reads = λ k. if_low (k == count old) level (read_in old.reads.items old.first k) (count old + 1) low (up_one (read_in old.reads.items old.first k) (count old) (s.small.reads k));
   most = both_low old.most level (count old + 1) (up_one old.most (count old) s.small.most) low;
 }
@@ -149,7 +149,7 @@ read_gives old new r level numbers s low added most keeps =
     ∙ (ap (λ n. levels_of (old.reads.items ++ level ∷ []) n new.most new.variables.items) keeps.first
     ∙ (ap (λ n. levels_of (old.reads.items ++ level ∷ []) old.first n new.variables.items) most
     ∙ (ap (λ l. levels_of (old.reads.items ++ level ∷ []) old.first (max old.most level) l) keeps.variables
-    ∙ ap (λ (f : ℕ → ℕ). record { variables = kept_at old.variables.items; reads = f; most = max old.most level }) (read_snoc old.reads.items old.first level s.first)))) in
+    ∙ ap (λ (f : ℕ → ℕ). record { variables = table_at old.variables.items; reads = f; most = max old.most level }) (read_snoc old.reads.items old.first level s.first)))) in
     record {
       is = refl;
       seen = seen ∙ ap (λ (n : ℕ). record { variables = (levels_seen old).variables; reads = with_value (levels_seen old).reads n level; most = max (levels_seen old).most level }) (sym numbers);
@@ -200,7 +200,7 @@ skips_gives old new n s k =
     ∙ (ap (λ m. levels_of (old.reads.items ++ zeros n) m new.most new.variables.items) k.keeps.first
     ∙ (ap (λ m. levels_of (old.reads.items ++ zeros n) old.first m new.variables.items) k.most
     ∙ (ap (λ l. levels_of (old.reads.items ++ zeros n) old.first old.most l) k.keeps.variables
-    ∙ ap (λ (f : ℕ → ℕ). record { variables = kept_at old.variables.items; reads = f; most = old.most }) (read_more old.reads.items n old.first)))) in
+    ∙ ap (λ (f : ℕ → ℕ). record { variables = table_at old.variables.items; reads = f; most = old.most }) (read_more old.reads.items n old.first)))) in
     record {
       seen = seen;
       sound = record {
@@ -213,14 +213,14 @@ skips_gives old new n s k =
 
 -- Variables.
 
-pub assigns : (old new : Held) (place before level : ℕ) → before ≡ kept_at old.variables.items place → kept_at new.variables.items ≡ with_number (kept_at old.variables.items) place level
+pub assigns : (old new : Held) (place before level : ℕ) → before ≡ table_at old.variables.items place → table_at new.variables.items ≡ with_number (table_at old.variables.items) place level
     → new.log.items ≡ old.log.items ++ mark place before ∷ [] → new.reads.items ≡ old.reads.items → new.shares.now ≡ old.shares.now → new.first ≡ old.first → new.most ≡ old.most → AssignsAt old new place level
 assigns old new place before level before_is set log reads shares first most = record {
   seen =
       ap (λ l. levels_of l new.first new.most new.variables.items) reads
       ∙ (ap (λ n. levels_of old.reads.items n new.most new.variables.items) first
       ∙ (ap (λ n. levels_of old.reads.items old.first n new.variables.items) most
-      ∙ ap (λ (f : ℕ → ℕ). record { variables = f; reads = read_in old.reads.items old.first; most = old.most }) (set ∙ one_changed (kept_at old.variables.items) place level)));
+      ∙ ap (λ (f : ℕ → ℕ). record { variables = f; reads = read_in old.reads.items old.first; most = old.most }) (set ∙ one_changed (table_at old.variables.items) place level)));
   reads = reads;
   shares = shares;
   first = first;

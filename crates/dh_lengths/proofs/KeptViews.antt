@@ -11,7 +11,7 @@ use Rattle.dh_meaning.specs.CoreOf.{Known, core_term, core_terms, kept_by}
 use Rattle.dh_meaning.specs.Levels.{Levels, any_assigns, commands_leveled, kept_leveled, term_leveled, with_value, with_variables}
 use Rattle.dh_meaning.specs.Ways.{Hidden}
 use Rattle.dh_lengths.specs.declared.leads.Leads.{Leads}
-use Rattle.dh_events.specs.Tables.{kept_at}
+use Rattle.dh_events.specs.Tables.{table_at}
 use Rattle.dh_events.proofs.Turns.{at_place}
 use Rattle.dh_lengths.specs.declared.held.Held.{Held}
 use Rattle.dh_lengths.specs.LedBy.{IsLedBy}
@@ -70,13 +70,13 @@ sets_more old mid new first v vs levels is s a =
       reads = a.reads ∙ s.reads;
       shares = a.shares ∙ s.shares;
       begun = a.first ∙ s.begun;
-      changes = s.changes ++ mark first (kept_at mid.variables.items first) ∷ [];
-      log = a.log ∙ (ap (λ l. l ++ mark first (kept_at mid.variables.items first) ∷ []) s.log ∙ append_assoc old.log.items s.changes (mark first (kept_at mid.variables.items first) ∷ []));
+      changes = s.changes ++ mark first (table_at mid.variables.items first) ∷ [];
+      log = a.log ∙ (ap (λ l. l ++ mark first (table_at mid.variables.items first) ∷ []) s.log ∙ append_assoc old.log.items s.changes (mark first (table_at mid.variables.items first) ∷ []));
       undoes =
-          undone_both s.changes (mark first (kept_at mid.variables.items first) ∷ []) (kept_at new.variables.items)
-          ∙ (ap (undone s.changes) (put_back (kept_at new.variables.items) (kept_at mid.variables.items) first v (ap (λ (l : Levels). l.variables) a.seen)) ∙ s.undoes);
+          undone_both s.changes (mark first (table_at mid.variables.items first) ∷ []) (table_at new.variables.items)
+          ∙ (ap (undone s.changes) (put_back (table_at new.variables.items) (table_at mid.variables.items) first v (ap (λ (l : Levels). l.variables) a.seen)) ∙ s.undoes);
       marks = λ e.
-          marks_both e s.changes (mark first (kept_at mid.variables.items first) ∷ [])
+          marks_both e s.changes (mark first (table_at mid.variables.items first) ∷ [])
           ∙ (ap (λ b. b || ((first == e) || false)) (s.marks e) ∙ one_more first (length vs) e);
     })
 
@@ -131,7 +131,7 @@ module _ (old mid new : Held) (outer first n : ℕ) (ts : CoreTerms) (levels : L
     first = s.begun ∙ g.keeps.first;
     changes = s.changes;
     log = s.log ∙ ap (λ l. l ++ s.changes) g.keeps.log;
-    undoes = s.undoes ∙ ap kept_at g.keeps.variables;
+    undoes = s.undoes ∙ ap table_at g.keeps.variables;
     marks = λ e.
         s.marks e
         ∙ (ap (λ k. nat_le first e && nat_lt e (first + k)) (ap length g.is ∙ each_long (told old.shares.now) outer ts (levels_seen old)) ∙ sym (assigned_so e));

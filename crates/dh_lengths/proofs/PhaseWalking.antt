@@ -21,7 +21,7 @@ use Rattle.dh_meaning.specs.Sites.{Around, in_arm, in_loop, loop_of, nothing_aro
 use Rattle.dh_meets.specs.Sharing.{shared}
 use Rattle.dh_events.specs.Stages.{stages_in, form_stages, other_stages, groups_stages, part_stages}
 use Rattle.dh_tree.specs.PhaseKinds.{phase_kind}
-use Rattle.dh_events.specs.Tables.{kept_at}
+use Rattle.dh_events.specs.Tables.{table_at}
 use Rattle.dh_events.proofs.Turns.{at_item}
 use Rattle.dh_ports.proofs.PhaseShapes.{IsFull, Shaped, no_phase, one_phase, more_phases, shape, size}
 use Rattle.dh_ports.proofs.PhaseSizes.{full, other_full, stage_size}
@@ -52,7 +52,7 @@ least_one most n e = grind (arith, e)
 
 -- The phase that is held is over.
 
-ground_seen : (old new : Held) → EndsPhase old new → undone old.log.items (kept_at old.variables.items) ≡ (λ e. 0) → levels_seen new ≡ level_ground
+ground_seen : (old new : Held) → EndsPhase old new → undone old.log.items (table_at old.variables.items) ≡ (λ e. 0) → levels_seen new ≡ level_ground
 ground_seen old new ends fresh =
     ap (λ l. levels_of l new.first new.most new.variables.items) ends.reads
     ∙ (ap (λ n. levels_of old.reads.items n new.most new.variables.items) ends.first
@@ -60,10 +60,10 @@ ground_seen old new ends fresh =
     ∙ (ap (λ (f : ℕ → ℕ). record { variables = f; reads = read_in old.reads.items (count old); most = 0 }) (ends.variables ∙ fresh)
     ∙ ap (λ (f : ℕ → ℕ). record { variables = λ e. 0; reads = f; most = 0 }) (read_end old.reads.items))))
 
-ground_fresh : (old new : Held) → EndsPhase old new → undone old.log.items (kept_at old.variables.items) ≡ (λ e. 0) → undone new.log.items (kept_at new.variables.items) ≡ (λ e. 0)
-ground_fresh old new ends fresh = ap (λ l. undone l (kept_at new.variables.items)) ends.log ∙ (ends.variables ∙ fresh)
+ground_fresh : (old new : Held) → EndsPhase old new → undone old.log.items (table_at old.variables.items) ≡ (λ e. 0) → undone new.log.items (table_at new.variables.items) ≡ (λ e. 0)
+ground_fresh old new ends fresh = ap (λ l. undone l (table_at new.variables.items)) ends.log ∙ (ends.variables ∙ fresh)
 
-ground_sound : (old new : Held) → EndsPhase old new → undone old.log.items (kept_at old.variables.items) ≡ (λ e. 0) → IsSound new
+ground_sound : (old new : Held) → EndsPhase old new → undone old.log.items (table_at old.variables.items) ≡ (λ e. 0) → IsSound new
 ground_sound old new ends fresh = record {
   first = subst (λ (n : ℕ). n ≤ count new) (sym ends.first) (subst (λ (n : ℕ). count old ≤ n) (sym (ap length ends.reads)) (same (count old)));
   small = subst (λ (l : Levels). AreSmall (count new) l) (sym (ground_seen old new ends fresh)) (record { variables = λ e. none_low (count new); reads = λ k. none_low (count new); most = none_low (count new) });
@@ -73,7 +73,7 @@ ground_sound old new ends fresh = record {
     same n = omega arith
 
 -- where nothing is open
-stands_fresh : (known : Known) (base : List ℕ) (w : Walk) → w.lengths.items ≡ base → levels_seen w.held ≡ level_ground → w.pending ≡ false → undone w.held.log.items (kept_at w.held.variables.items) ≡ (λ e. 0) → IsSound w.held → Stands known base w []
+stands_fresh : (known : Known) (base : List ℕ) (w : Walk) → w.lengths.items ≡ base → levels_seen w.held ≡ level_ground → w.pending ≡ false → undone w.held.log.items (table_at w.held.variables.items) ≡ (λ e. 0) → IsSound w.held → Stands known base w []
 stands_fresh known base w lengths seen closed fresh sound = record {
   lengths = lengths ∙ sym (append-nil base);
   seen = seen;
@@ -112,7 +112,7 @@ closes_told old mid new open_is t held lengths closed going known base line s = 
         untrue e = cc
     by (c ∷ cs) is = record {
       stands = stands_fresh known (base ++ lengths_in (told old.held.shares.now) known line) new (ap (λ (v : Vec ℕ Global). v.items) lengths ∙ (t.lengths ∙ told_lengths known base line old s c cs is)) (ap levels_seen held ∙ ground_seen old.held mid.held t.ends s.fresh) closed
-          (ap (λ (h : Held). undone h.log.items (kept_at h.variables.items)) held ∙ ground_fresh old.held mid.held t.ends s.fresh)
+          (ap (λ (h : Held). undone h.log.items (table_at h.variables.items)) held ∙ ground_fresh old.held mid.held t.ends s.fresh)
           (subst IsSound (sym held) (ground_sound old.held mid.held t.ends s.fresh));
       going = going;
       counted = ap count held ∙ ap length t.ends.reads;
@@ -130,7 +130,7 @@ closes_still old new open_is held lengths still going known base line s = by (la
     by [] is = record {
       stands = stands_fresh known (base ++ lengths_in (told old.held.shares.now) known line) new (ap (λ (v : Vec ℕ Global). v.items) lengths ∙ still_lengths known base line old s is)
           (ap levels_seen held ∙ (s.seen ∙ ap (λ x. commands_leveled (told old.held.shares.now) 0 (core_commands known x) level_ground) is)) (still ∙ open_is)
-          (ap (λ (h : Held). undone h.log.items (kept_at h.variables.items)) held ∙ s.fresh) (subst IsSound (sym held) s.sound);
+          (ap (λ (h : Held). undone h.log.items (table_at h.variables.items)) held ∙ s.fresh) (subst IsSound (sym held) s.sound);
       going = going;
       counted = ap count held;
       shares = ap (λ (h : Held). h.shares.now) held;
@@ -146,7 +146,7 @@ tested_so old a new h test level closes levels t known u base line s =
     let k = closes known base line s in
     let g = levels known u k.stands.sound (none_low (count a.held)) in
     let v : core_term known (count a.held) (term_seen test) ≡ core_term known (count old.held) (term_seen test) = ap (λ n. core_term known n (term_seen test)) k.counted in
-    let fresh : undone h.log.items (kept_at h.variables.items) ≡ (λ e. 0) = ap (λ l. undone l (kept_at h.variables.items)) g.keeps.log ∙ (ap (λ l. undone a.held.log.items (kept_at l)) g.keeps.variables ∙ k.stands.fresh) in
+    let fresh : undone h.log.items (table_at h.variables.items) ≡ (λ e. 0) = ap (λ l. undone l (table_at h.variables.items)) g.keeps.log ∙ (ap (λ l. undone a.held.log.items (table_at l)) g.keeps.variables ∙ k.stands.fresh) in
     let most : h.most ≡ (term_leveled (told old.held.shares.now) 0 (core_term known (count old.held) (term_seen test)) level_ground).levels.most =
     ap (λ (l : Levels). l.most)
     (g.seen
@@ -193,8 +193,8 @@ added known base line a new cs n d ds s g core lengths open_is =
           ∙ ap (λ l. commands_leveled (told new.held.shares.now) 0 (core_commands known l) level_ground) (sym (last_straight (front line) (last_open line ++ d ∷ ds)))))));
       open_so = open_is ∙ (sym (some_both (last_open line) ds d) ∙ ap is_some_command (sym (last_straight (front line) (last_open line ++ d ∷ ds))));
       fresh =
-          ap (λ l. undone l (kept_at new.held.variables.items)) g.log
-          ∙ (undone_both a.held.log.items g.changes (kept_at new.held.variables.items) ∙ (ap (undone a.held.log.items) g.undoes ∙ s.fresh));
+          ap (λ l. undone l (table_at new.held.variables.items)) g.log
+          ∙ (undone_both a.held.log.items g.changes (table_at new.held.variables.items) ∙ (ap (undone a.held.log.items) g.undoes ∙ s.fresh));
       sound = g.sound;
       full =
           sym (ap (λ l. l ++ one_straight (last_open (front line ++ straight (last_open line ++ d ∷ ds) ∷ []))) (front_straight (front line) (last_open line ++ d ∷ ds))
@@ -324,7 +324,7 @@ walked_none stages old new c stage skips lengths open_is going_is known u r base
             lengths = lengths ∙ (s.lengths ∙ ap (λ x. base ++ lengths_in (told x) known (front line)) (sym g.keeps.shares));
             seen = g.seen ∙ (s.seen ∙ ap (λ x. commands_leveled (told x) 0 (core_commands known (last_open line)) level_ground) (sym g.keeps.shares));
             open_so = open_is ∙ s.open_so;
-            fresh = ap (λ l. undone l (kept_at new.held.variables.items)) g.keeps.log ∙ (ap (λ l. undone old.held.log.items (kept_at l)) g.keeps.variables ∙ s.fresh);
+            fresh = ap (λ l. undone l (table_at new.held.variables.items)) g.keeps.log ∙ (ap (λ l. undone old.held.log.items (table_at l)) g.keeps.variables ∙ s.fresh);
             sound = g.sound;
             full = s.full;
           });
@@ -388,18 +388,18 @@ sum_later o a b m n e f = omega (arith, e, f)
 module _ (ways : Leads) (stages : List ℕ) (old new : Walk) (c : Command) where
   abbrev FormWalked : ActionForm → Type 0
   FormWalked f =
-      (known : Known) → IsLedBy ways known → (r : Around) (base : List ℕ) (line : List Phase) → TellInside (kept_at stages) f → are_straight (form_phases r (count old.held) c.id c.place f) ≡ false → Stands known base old line
+      (known : Known) → IsLedBy ways known → (r : Around) (base : List ℕ) (line : List Phase) → TellInside (table_at stages) f → are_straight (form_phases r (count old.held) c.id c.place f) ≡ false → Stands known base old line
       → IsWalked known base line old new (form_phases r (count old.held) c.id c.place f) (own_accesses f + inner_accesses f)
 
-  pub by_form : (f : ActionForm) → action_form_seen c.form ≡ f → (stage : ℕ) → stage ≡ kept_at stages c.id → (stage ≡ 0 → ⊥) → (stage ≡ 1 → ⊥) → FormWalked f → WalksCommand ways stages old new c
+  pub by_form : (f : ActionForm) → action_form_seen c.form ≡ f → (stage : ℕ) → stage ≡ table_at stages c.id → (stage ≡ 0 → ⊥) → (stage ≡ 1 → ⊥) → FormWalked f → WalksCommand ways stages old new c
   by_form f is stage known_stage none one walked known u r base line tells s =
       let more = more_phases_of r (count old.held) (action_seen c) (λ e. none (known_stage ∙ (tells.0 ∙ e))) (λ e. one (known_stage ∙ (tells.0 ∙ e))) in
       subst (λ (x : ActionForm). IsWalked known base line old new (form_phases r (count old.held) c.id c.place x) (own_accesses x + inner_accesses x)) (sym is)
-      (walked known u r base line (subst (λ (x : ActionForm). TellInside (kept_at stages) x) is tells.1) (subst (λ (x : ActionForm). are_straight (form_phases r (count old.held) c.id c.place x) ≡ false) is more) s)
+      (walked known u r base line (subst (λ (x : ActionForm). TellInside (table_at stages) x) is tells.1) (subst (λ (x : ActionForm). are_straight (form_phases r (count old.held) c.id c.place x) ≡ false) is more) s)
 
 -- an `if`
 pub walked_choice : {ways : Leads} (stages : List ℕ) (old w1 w2 w3 w4 new : Walk) (c x : Command) (test : Expr) (other : MaybeAction) → WalksTest ways old w1 test → WalksCommand ways stages w1 w2 x → Closes w2 w3
-    → ((known : Known) → IsLedBy ways known → (r : Around) (base : List ℕ) (line : List Phase) → TellOther (kept_at stages) other → Stands known base w3 line → IsWalked known base line w3 w4 (other_phases r (count w3.held) other) (other_accesses other)) → Closes w4 new
+    → ((known : Known) → IsLedBy ways known → (r : Around) (base : List ℕ) (line : List Phase) → TellOther (table_at stages) other → Stands known base w3 line → IsWalked known base line w3 w4 (other_phases r (count w3.held) other) (other_accesses other)) → Closes w4 new
     → FormWalked ways stages old new c (plain.decides (term_seen test) (action_seen x) other)
 walked_choice stages old w1 w2 w3 w4 new c x test other one two three four five known u r base line tells more s =
     let shared = told old.held.shares.now in
@@ -460,7 +460,7 @@ put_going w = record { held = w.held; pending = w.pending; going = true; lengths
 
 -- a `for`
 pub walked_turns : {ways : Leads} (stages : List ℕ) (old w1 w2 w3 new : Walk) (c x : Command) (iterator : _) (declared : _) (low high : _) (factor : _) (combine : MaybeAction) (combine_place : Place) → Closes old w1 → WalksCommand ways stages w1 w2 x
-    → ((known : Known) → IsLedBy ways known → (r : Around) (base : List ℕ) (line : List Phase) → TellOther (kept_at stages) combine → Stands known base (put_going w2) line → IsWalked known base line (put_going w2) w3 (other_phases r (count w2.held) combine) (other_accesses combine)) → Closes w3 new
+    → ((known : Known) → IsLedBy ways known → (r : Around) (base : List ℕ) (line : List Phase) → TellOther (table_at stages) combine → Stands known base (put_going w2) line → IsWalked known base line (put_going w2) w3 (other_phases r (count w2.held) combine) (other_accesses combine)) → Closes w3 new
     → FormWalked ways stages old new c (plain.counts iterator declared low high factor (action_seen x) combine combine_place)
 walked_turns stages old w1 w2 w3 new c x iterator declared low high factor combine combine_place one two three four known u r base line tells more s =
     let inside = in_loop r (loop_of iterator low high factor) in
@@ -497,9 +497,9 @@ pub record PartWalked (stages : List ℕ) (known : Known) (r : Around) (base : L
   pub so : puts now.going standing (parts_phases r (count now.held) (actions (map action_seen rest))) ≡ puts start.going line (parts_phases r (count start.held) (actions (map action_seen all)))
   pub counted : count now.held + part_accesses (actions (map action_seen rest)) ≡ count start.held + part_accesses (actions (map action_seen all))
   pub shares : now.held.shares.now ≡ start.held.shares.now
-  pub tells : TellPart (kept_at stages) (actions (map action_seen rest))
+  pub tells : TellPart (table_at stages) (actions (map action_seen rest))
 
-pub part_begin : (stages : List ℕ) (known : Known) (r : Around) (base : List ℕ) (line : List Phase) (w : Walk) (all : List Command) → TellPart (kept_at stages) (actions (map action_seen all)) → Stands known base w line → PartWalked stages known r base line w w all all
+pub part_begin : (stages : List ℕ) (known : Known) (r : Around) (base : List ℕ) (line : List Phase) (w : Walk) (all : List Command) → TellPart (table_at stages) (actions (map action_seen all)) → Stands known base w line → PartWalked stages known r base line w w all all
 part_begin stages known r base line w all tells s = record { standing = line; stands = s; so = refl; counted = refl; shares = refl; tells = tells }
 
 sum_next : (a b m n all : ℕ) → b ≡ a + m → a + (m + n) ≡ all → b + n ≡ all
@@ -510,7 +510,7 @@ pub part_turn : {ways : Leads} (stages : List ℕ) (known : Known) → IsLedBy w
 part_turn stages known u r base line start now next all i c within is walks h =
     let cut = at_item all i c within is in
     let a = action_seen c in
-    let tells = subst (λ (l : List Command). TellPart (kept_at stages) (actions (map action_seen l))) cut h.tells in
+    let tells = subst (λ (l : List Command). TellPart (table_at stages) (actions (map action_seen l))) cut h.tells in
     let w = walks known u r base h.standing tells.0 h.stands in
     record {
       standing = put now.going h.standing (phases r (count now.held) (action_seen c));
@@ -530,9 +530,9 @@ pub record GroupsWalked (stages : List ℕ) (known : Known) (r : Around) (base :
   pub so : standing ++ groups_phases r (count now.held) (groups (map part_seen rest)) ≡ line ++ groups_phases r (count start.held) (groups (map part_seen all))
   pub counted : count now.held + groups_accesses (groups (map part_seen rest)) ≡ count start.held + groups_accesses (groups (map part_seen all))
   pub shares : now.held.shares.now ≡ start.held.shares.now
-  pub tells : TellGroups (kept_at stages) (groups (map part_seen rest))
+  pub tells : TellGroups (table_at stages) (groups (map part_seen rest))
 
-pub groups_begin : (stages : List ℕ) (known : Known) (r : Around) (base : List ℕ) (line : List Phase) (w : Walk) (all : List (Vec Command Global)) → TellGroups (kept_at stages) (groups (map part_seen all)) → Stands known base w line → GroupsWalked stages known r base line w w all all
+pub groups_begin : (stages : List ℕ) (known : Known) (r : Around) (base : List ℕ) (line : List Phase) (w : Walk) (all : List (Vec Command Global)) → TellGroups (table_at stages) (groups (map part_seen all)) → Stands known base w line → GroupsWalked stages known r base line w w all all
 groups_begin stages known r base line w all tells s = record { standing = line; stands = s; so = refl; counted = refl; shares = refl; tells = tells }
 
 -- no phase goes on
@@ -549,12 +549,12 @@ plus_none : (n : ℕ) → n + 0 ≡ n
 plus_none n = omega arith
 
 pub groups_turn : (stages : List ℕ) (known : Known) (r : Around) (base : List ℕ) (line : List Phase) (start now next : Walk) (all : List (Vec Command Global)) (i : ℕ) (part : Vec Command Global) (cs rest : List Command) → i < length all → part ≡ get_or all i part → cs ≡ part.items → rest ≡ []
-    → (TellPart (kept_at stages) (actions (map action_seen cs)) → (l : List Phase) → Stands known base (put_released now) l → PartWalked stages known r base l (put_released now) next rest cs)
+    → (TellPart (table_at stages) (actions (map action_seen cs)) → (l : List Phase) → Stands known base (put_released now) l → PartWalked stages known r base l (put_released now) next rest cs)
     → GroupsWalked stages known r base line start now (drop i all) all → GroupsWalked stages known r base line start next (drop (i + 1) all) all
 groups_turn stages known r base line start now next all i part cs rest within is items none walks h =
     let cut = at_item all i part within is in
-    let tells = subst (λ (l : List (Vec Command Global)). TellGroups (kept_at stages) (groups (map part_seen l))) cut h.tells in
-    let w = walks (subst (λ (l : List Command). TellPart (kept_at stages) (actions (map action_seen l))) (sym items) tells.0) h.standing (released known base h.standing now h.stands) in
+    let tells = subst (λ (l : List (Vec Command Global)). TellGroups (table_at stages) (groups (map part_seen l))) cut h.tells in
+    let w = walks (subst (λ (l : List Command). TellPart (table_at stages) (actions (map action_seen l))) (sym items) tells.0) h.standing (released known base h.standing now h.stands) in
     let p = part_seen part in
     let behind = groups (map part_seen (drop (i + 1) all)) in
     let same : actions (map action_seen cs) ≡ part_seen part = ap (λ l. actions (map action_seen l)) items in
@@ -577,7 +577,7 @@ groups_turn stages known r base line start now next all i part cs rest within is
     }
 
 pub walked_block : {ways : Leads} (stages : List ℕ) (old now : Walk) (c : Command) (rest all : List (Vec Command Global)) → rest ≡ []
-    → ((known : Known) → IsLedBy ways known → (r : Around) (base : List ℕ) (line : List Phase) → TellGroups (kept_at stages) (groups (map part_seen all)) → Stands known base old line → GroupsWalked stages known r base line old now rest all)
+    → ((known : Known) → IsLedBy ways known → (r : Around) (base : List ℕ) (line : List Phase) → TellGroups (table_at stages) (groups (map part_seen all)) → Stands known base old line → GroupsWalked stages known r base line old now rest all)
     → FormWalked ways stages old (put_released now) c (plain.blocks (groups (map part_seen all)))
 walked_block stages old now c rest all none walks known u r base line tells more s =
     let h = walks known u r base line tells s in
@@ -626,10 +626,10 @@ mutual
 
 -- The whole program.
 
-numbered_none : kept_at [] ≡ (λ e. 0)
+numbered_none : table_at [] ≡ (λ e. 0)
 numbered_none = fun_ext none
   where
-    none : (e : ℕ) → kept_at [] e ≡ 0
+    none : (e : ℕ) → table_at [] e ≡ 0
     none zero = refl
     none (suc e) = refl
 
@@ -653,16 +653,16 @@ begun_stands known w shares b =
     ∙ (ap (λ l. levels_of [] 0 0 l) b.variables
     ∙ (ap (λ (f : ℕ → ℕ). record { variables = f; reads = read_in [] 0; most = 0 }) numbered_none ∙ ap (λ (f : ℕ → ℕ). record { variables = λ e. 0; reads = f; most = 0 }) (read_end []))))) in
     stands_fresh known [] w b.lengths seen b.pending
-    (ap (λ l. undone l (kept_at w.held.variables.items)) b.log ∙ (ap kept_at b.variables ∙ numbered_none))
+    (ap (λ l. undone l (table_at w.held.variables.items)) b.log ∙ (ap table_at b.variables ∙ numbered_none))
     (record {
       first = subst (λ (n : ℕ). n ≤ count w.held) (sym b.first) (none_low (count w.held));
       small = subst (λ (l : Levels). AreSmall (count w.held) l) (sym seen) (record { variables = λ e. none_low (count w.held); reads = λ k. none_low (count w.held); most = none_low (count w.held) });
     })
 
-pub all_told : {ways : Leads} (p : Program) (first : ℕ) (before stages_are : List ℕ) (shares : List (Option ℕ)) (w0 w1 w2 : Walk) (body : Command) → p.body ≡ action_seen body → IsNumbered first p.body → before ≡ [] → kept_at stages_are ≡ stages_in (action_seen body) (kept_at before)
+pub all_told : {ways : Leads} (p : Program) (first : ℕ) (before stages_are : List ℕ) (shares : List (Option ℕ)) (w0 w1 w2 : Walk) (body : Command) → p.body ≡ action_seen body → IsNumbered first p.body → before ≡ [] → table_at stages_are ≡ stages_in (action_seen body) (table_at before)
     → IsLedBy ways (known_of p) → TellsShares p shares → IsBegun w0 shares → WalksCommand ways stages_are w0 w1 body → Closes w1 w2 → w2.lengths.items ≡ lengths_of p
 all_told p first before stages_are shares w0 w1 w2 body same numbered_from none counted led tells b walks closes =
-    let tells_all = stages_tell (kept_at stages_are) (action_seen body) (stages.known first (action_seen body) (kept_at before) (kept_at stages_are) (subst (IsNumbered first) same numbered_from) (λ i w. ap (λ f. f i) counted)) in
+    let tells_all = stages_tell (table_at stages_are) (action_seen body) (stages.known first (action_seen body) (table_at before) (table_at stages_are) (subst (IsNumbered first) same numbered_from) (λ i w. ap (λ f. f i) counted)) in
     let p1 = walks (known_of p) led nothing_around [] [] tells_all (begun_stands (known_of p) w0 shares b) in
     let p2 = closes (known_of p) [] _ p1.stands in
     let line : put w0.going [] (phases nothing_around (count w0.held) (action_seen body)) ≡ phases_of p =
@@ -675,10 +675,10 @@ all_told p first before stages_are shares w0 w1 w2 body same numbered_from none 
 
 -- Cases on how many phases a command has.
 
-pub where_none : {ways : Leads} (stages_are : List ℕ) (old new : Walk) (c : Command) (stage : ℕ) → stage ≡ kept_at stages_are c.id → stage ≡ 0 → (phase_kind (action_seen c) ≡ 0 → WalksCommand ways stages_are old new c) → WalksCommand ways stages_are old new c
+pub where_none : {ways : Leads} (stages_are : List ℕ) (old new : Walk) (c : Command) (stage : ℕ) → stage ≡ table_at stages_are c.id → stage ≡ 0 → (phase_kind (action_seen c) ≡ 0 → WalksCommand ways stages_are old new c) → WalksCommand ways stages_are old new c
 where_none stages_are old new c stage is none f known u r base line tells s = f (sym tells.0 ∙ (sym is ∙ none)) known u r base line tells s
 
-pub where_one : {ways : Leads} (stages_are : List ℕ) (old new : Walk) (c : Command) (stage : ℕ) → stage ≡ kept_at stages_are c.id → stage ≡ 1 → WalksStraight ways old new c → WalksCommand ways stages_are old new c
+pub where_one : {ways : Leads} (stages_are : List ℕ) (old new : Walk) (c : Command) (stage : ℕ) → stage ≡ table_at stages_are c.id → stage ≡ 1 → WalksStraight ways old new c → WalksCommand ways stages_are old new c
 where_one stages_are old new c stage is one f known u r base line tells s = f known u r base line (sym tells.0 ∙ (sym is ∙ one)) s
 
 -- a view has one at most

@@ -20,7 +20,7 @@ use Rattle.dh_meaning.specs.Levels.{Levels, Leveled, command_leveled, greatest, 
 use Rattle.dh_lengths.specs.LedBy.{IsLedBy}
 use Rattle.dh_meaning.specs.Ways.{Hidden, Way, hidden_in}
 use Rattle.dh_lengths.specs.declared.leads.Leads.{Leads}
-use Rattle.dh_events.specs.Tables.{kept_at}
+use Rattle.dh_events.specs.Tables.{table_at}
 use Rattle.dh_events.proofs.Turns.{at_item}
 use Rattle.dh_lengths.specs.declared.held.Held.{Held}
 use Rattle.dh_lengths.specs.SharedReads.{told}
@@ -160,13 +160,13 @@ hidden_low : (f : ℕ → ℕ) (hs : List Hidden) (n : ℕ) → ((e : ℕ) → f
 hidden_low f [] n h = none_low n
 hidden_low f (x ∷ hs) n h = both_low (f x.entity) (hidden_level f hs) n (h x.entity) (hidden_low f hs n h)
 
-gives_through : (a b : Held) (i : Leveled) (first through m : ℕ) (hs : List Hidden) → GivesLevel a b i first m → through ≡ max first (hidden_level (kept_at b.variables.items) hs)
+gives_through : (a b : Held) (i : Leveled) (first through m : ℕ) (hs : List Hidden) → GivesLevel a b i first m → through ≡ max first (hidden_level (table_at b.variables.items) hs)
     → GivesLevel a b (leveled (max i.level (hidden_level i.levels.variables hs)) i.levels) through m
 gives_through a b i first through m hs g e = record {
-  is = e ∙ (ap (λ n. max n (hidden_level (kept_at b.variables.items) hs)) g.is ∙ ap (λ (l : Levels). max i.level (hidden_level l.variables hs)) g.seen);
+  is = e ∙ (ap (λ n. max n (hidden_level (table_at b.variables.items) hs)) g.is ∙ ap (λ (l : Levels). max i.level (hidden_level l.variables hs)) g.seen);
   seen = g.seen;
   sound = g.sound;
-  low = subst (λ (n : ℕ). n ≤ count b) (sym e) (both_low first (hidden_level (kept_at b.variables.items) hs) (count b) g.low (hidden_low (kept_at b.variables.items) hs (count b) g.sound.small.variables));
+  low = subst (λ (n : ℕ). n ≤ count b) (sym e) (both_low first (hidden_level (table_at b.variables.items) hs) (count b) g.low (hidden_low (table_at b.variables.items) hs (count b) g.sound.small.variables));
   counted = g.counted;
   keeps = g.keeps;
 }
@@ -213,7 +213,7 @@ pub access_level : {ways : Leads} (old mid new : Held) (outer first through leve
     → through ≡ level_through ways (levels_seen mid).variables r.entity first → ReadsNext mid new outer through level → LevelsTerm ways old new outer e level
 access_level {ways} old mid new outer first through level e r es is indices through_is reads =
     by_form old new outer e level (plain.accessed r (terms (map term_seen es))) is (λ known u s low.
-    let same : through ≡ max first (hidden_level (kept_at mid.variables.items) (hidden_in (way_of known r))) = through_is ∙ ap (λ w. max first (hidden_level (kept_at mid.variables.items) (hidden_in w))) (u.same r.entity) in
+    let same : through ≡ max first (hidden_level (table_at mid.variables.items) (hidden_in (way_of known r))) = through_is ∙ ap (λ w. max first (hidden_level (table_at mid.variables.items) (hidden_in w))) (u.same r.entity) in
     subst (λ (n : ℕ). GivesLevel old new (term_leveled (told old.shares.now) outer (core_form known (count old) e.place (kind_or_first e.kind) (plain.accessed r (terms (map term_seen es)))) (levels_seen old)) level n)
     (one_next (terms_accesses (terms (map term_seen es))))
     (subst (λ (i : Leveled). GivesLevel old new (read_leveled (told old.shares.now) outer (reach_of known (count old + terms_accesses (terms (map term_seen es))) e.place r) i) level (terms_accesses (terms (map term_seen es)) + 1))

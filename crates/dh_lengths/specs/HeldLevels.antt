@@ -10,7 +10,7 @@ use Rattle.dh_meaning.specs.Levels.{Levels, Leveled, level_ground, read_leveled,
 use Rattle.dh_lengths.specs.LedBy.{way_by, IsLedBy}
 use Rattle.dh_meaning.specs.Ways.{Hidden, hidden_in}
 use Rattle.dh_lengths.specs.declared.leads.Leads.{Leads}
-use Rattle.dh_events.specs.Tables.{kept_at}
+use Rattle.dh_events.specs.Tables.{table_at}
 use Rattle.dh_lengths.specs.declared.held.Held.{Held}
 use Rattle.dh_lengths.specs.declared.undoing.Mark.{Mark}
 use Rattle.dh_lengths.specs.SharedReads.{told}
@@ -35,10 +35,10 @@ abbrev pub read_in : (reads : List ℕ) → (first number : ℕ) → ℕ
 read_in reads first number = if nat_lt number first then 0 else slice_index reads number
 
 abbrev pub variable_in : List ℕ → Option ℕ → ℕ
-variable_in variables entity = kept_at variables (entity_number entity)
+variable_in variables entity = table_at variables (entity_number entity)
 
 abbrev pub levels_of : (reads : List ℕ) → (first most : ℕ) → (variables : List ℕ) → Levels
-levels_of reads first most variables = record { variables = kept_at variables; reads = read_in reads first; most = most }
+levels_of reads first most variables = record { variables = table_at variables; reads = read_in reads first; most = most }
 
 abbrev pub levels_seen : Held → Levels
 levels_seen h = levels_of h.reads.items h.first h.most h.variables.items
@@ -138,7 +138,7 @@ pub record AssignsAt (old new : Held) (place level : ℕ) : Type 0 where
   pub reads : new.reads.items ≡ old.reads.items
   pub shares : new.shares.now ≡ old.shares.now
   pub first : new.first ≡ old.first
-  pub log : new.log.items ≡ old.log.items ++ mark place (kept_at old.variables.items place) ∷ []
+  pub log : new.log.items ≡ old.log.items ++ mark place (table_at old.variables.items place) ∷ []
 
 abbrev pub AssignsLevel : (old new : Held) → Option ℕ → (level : ℕ) → Type 0
 AssignsLevel old new entity level = AssignsAt old new (entity_number entity) level
@@ -149,5 +149,5 @@ pub record EndsPhase (old new : Held) : Type 0 where
   pub shares : new.shares.now ≡ old.shares.now
   pub first : new.first ≡ count old
   pub most : new.most ≡ 0
-  pub variables : kept_at new.variables.items ≡ undone old.log.items (kept_at old.variables.items)
+  pub variables : table_at new.variables.items ≡ undone old.log.items (table_at old.variables.items)
   pub log : new.log.items ≡ []

@@ -12,7 +12,7 @@ use Rattle.dh_meaning.specs.CoreOf.{core_terms, kept_by, way_of}
 use Rattle.dh_meaning.specs.Levels.{Levels, term_leveled, with_value, with_variables}
 use Rattle.dh_meaning.specs.Ways.{Hidden, hidden_in}
 use Rattle.dh_lengths.specs.declared.leads.Leads.{Leads}
-use Rattle.dh_events.specs.Tables.{kept_at}
+use Rattle.dh_events.specs.Tables.{table_at}
 use Rattle.dh_lengths.specs.declared.held.Held.{Held}
 use Rattle.dh_lengths.specs.declared.undoing.Mark.{Mark}
 use Rattle.dh_lengths.specs.SharedReads.{told}
@@ -56,7 +56,7 @@ pub record SetsLevels (old new : Held) (first : ℕ) (levels : List ℕ) : Type 
   pub begun : new.first ≡ old.first
   pub changes : List Mark
   pub log : new.log.items ≡ old.log.items ++ changes
-  pub undoes : undone changes (kept_at new.variables.items) ≡ kept_at old.variables.items
+  pub undoes : undone changes (table_at new.variables.items) ≡ table_at old.variables.items
   pub marks : (e : ℕ) → has_mark e changes ≡ (nat_le first e && nat_lt e (first + length levels))
 
 -- the number of the first variable that keeps an offset on the way of a name

@@ -12,7 +12,7 @@ use Rattle.dh_meaning.specs.Core.{CoreCommands, no_commands, command_and}
 use Rattle.dh_meaning.specs.CoreOf.{Known, core_action, core_other, core_term, folded_into}
 use Rattle.dh_meaning.specs.Levels.{any_assigns, commands_leveled}
 use Rattle.dh_lengths.specs.declared.leads.Leads.{Leads}
-use Rattle.dh_events.specs.Tables.{kept_at}
+use Rattle.dh_events.specs.Tables.{table_at}
 use Rattle.dh_lengths.specs.declared.held.Held.{Held}
 use Rattle.dh_lengths.specs.declared.undoing.Mark.{Mark}
 use Rattle.dh_lengths.specs.SharedReads.{told}
@@ -28,7 +28,7 @@ pub record GivesCommands (old new : Held) (outer : ℕ) (cs : CoreCommands) (n :
   pub first : new.first ≡ old.first
   pub changes : List Mark
   pub log : new.log.items ≡ old.log.items ++ changes
-  pub undoes : undone changes (kept_at new.variables.items) ≡ kept_at old.variables.items
+  pub undoes : undone changes (table_at new.variables.items) ≡ table_at old.variables.items
   pub marks : (e : ℕ) → has_mark e changes ≡ any_assigns e cs
 
 abbrev pub LevelsCommand : (ways : Leads) → (old new : Held) → (outer : ℕ) → Command → Type 0

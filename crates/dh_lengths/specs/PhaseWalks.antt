@@ -15,7 +15,7 @@ use Rattle.dh_meaning.specs.Sites.{Around}
 use Rattle.dh_lengths.specs.declared.leads.Leads.{Leads}
 use Rattle.dh_lengths.specs.LedBy.{IsLedBy}
 use Rattle.dh_tree.specs.PhaseKinds.{phase_kind, form_phase_kind}
-use Rattle.dh_events.specs.Tables.{kept_at}
+use Rattle.dh_events.specs.Tables.{table_at}
 use Rattle.dh_lengths.specs.declared.held.Held.{Held}
 use Rattle.dh_lengths.specs.declared.lengths.Walk.{Walk}
 use Rattle.dh_lengths.specs.PhaseBlocks.{blocks_in}
@@ -110,7 +110,7 @@ pub record Stands (known : Known) (base : List ℕ) (w : Walk) (line : List Phas
   pub lengths : w.lengths.items ≡ base ++ lengths_in (told w.held.shares.now) known (front line)
   pub seen : levels_seen w.held ≡ commands_leveled (told w.held.shares.now) 0 (core_commands known (last_open line)) level_ground
   pub open_so : w.pending ≡ is_some_command (last_open line)
-  pub fresh : undone w.held.log.items (kept_at w.held.variables.items) ≡ (λ e. 0)
+  pub fresh : undone w.held.log.items (table_at w.held.variables.items) ≡ (λ e. 0)
   pub sound : IsSound w.held
   pub full : line ≡ front line ++ one_straight (last_open line)
 
@@ -164,10 +164,10 @@ WalksStraight ways old new c =
 
 abbrev pub WalksCommand : (ways : Leads) → (stages : List ℕ) → (old new : Walk) → Command → Type 0
 WalksCommand ways stages old new c =
-    (known : Known) → IsLedBy ways known → (r : Around) (base : List ℕ) (line : List Phase) → TellsStages (kept_at stages) (action_seen c) → Stands known base old line
+    (known : Known) → IsLedBy ways known → (r : Around) (base : List ℕ) (line : List Phase) → TellsStages (table_at stages) (action_seen c) → Stands known base old line
     → IsWalked known base line old new (phases r (count old.held) (action_seen c)) (accesses_of (action_seen c))
 
 abbrev pub WalksOther : (ways : Leads) → (stages : List ℕ) → (old new : Walk) → Option (Box Command Global) → Type 0
 WalksOther ways stages old new other =
-    (known : Known) → IsLedBy ways known → (r : Around) (base : List ℕ) (line : List Phase) → TellOther (kept_at stages) (maybe_seen (option_map (λ b. action_seen b.value) other)) → Stands known base old line
+    (known : Known) → IsLedBy ways known → (r : Around) (base : List ℕ) (line : List Phase) → TellOther (table_at stages) (maybe_seen (option_map (λ b. action_seen b.value) other)) → Stands known base old line
     → IsWalked known base line old new (other_phases r (count old.held) (maybe_seen (option_map (λ b. action_seen b.value) other))) (other_accesses (maybe_seen (option_map (λ b. action_seen b.value) other)))

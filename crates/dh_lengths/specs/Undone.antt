@@ -1,6 +1,6 @@
 -- The levels of variables, as functions, while they are put back and joined.
 use Rattle.std.specs.Prelude.{◌≡◌, ℕ, ◌==◌, ◌||◌, max, Bool, false, List, [], ◌∷◌, map}
-use Rattle.dh_events.specs.Tables.{kept_at, with_number}
+use Rattle.dh_events.specs.Tables.{table_at, with_number}
 use Rattle.dh_lengths.specs.declared.undoing.Mark.{Mark}
 
 abbrev pub mark : (entity level : ℕ) → Mark
@@ -26,7 +26,7 @@ joined_all test [] f = f
 joined_all test (m ∷ ms) f = joined_all test ms (with_number f m.entity (max test (max (f m.entity) m.level)))
 
 abbrev pub JoinsLevels : (test : ℕ) → List Mark → (old new : List ℕ) → Type 0
-JoinsLevels test ms old new = kept_at new ≡ joined_all test ms (kept_at old)
+JoinsLevels test ms old new = table_at new ≡ joined_all test ms (table_at old)
 
 -- a variable is marked
 abbrev pub has_mark : (entity : ℕ) → List Mark → Bool

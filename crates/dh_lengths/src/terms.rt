@@ -2,7 +2,7 @@
 
 ghost use Rattle.std.specs.Prelude.{◌≡◌, IfOk, OnOk, map, max};
 ghost use Rattle.dh_lengths.specs.HeldLevels.{hidden_level, level_through as through, levels_seen, LevelsMaybe, LevelsStore, LevelsTerm, LevelsTerms, SkipsStore};
-ghost use Rattle.dh_events.specs.Tables.{kept_at};
+ghost use Rattle.dh_events.specs.Tables.{table_at};
 ghost use Rattle.dh_ways.specs.Seen.{hidden_seen};
 
 use crate::held::Held;
@@ -16,7 +16,7 @@ use dh_ways::{Hidden, WayRef};
 /// The greatest of a level and of those of these variables.
 fn level_hidden(variables: &[usize], hidden: &[Hidden], level: usize) -> usize
     ensures { result ≡ max level
-        (hidden_level (kept_at variables.now) (map hidden_seen hidden.now)) }
+        (hidden_level (table_at variables.now) (map hidden_seen hidden.now)) }
 {
     let mut most = level;
     for one in hidden {
@@ -28,7 +28,7 @@ fn level_hidden(variables: &[usize], hidden: &[Hidden], level: usize) -> usize
 /// The greatest of a level and of those of the variables that keep the offsets on a way.
 fn level_on(variables: &[usize], way: &WayRef<'_>, level: usize) -> usize
     ensures { result ≡ max level
-        (hidden_level (kept_at variables.now) (map hidden_seen way.now.hidden)) }
+        (hidden_level (table_at variables.now) (map hidden_seen way.now.hidden)) }
 {
     let (own, behind) = way.split();
     let first = level_hidden(variables, own, level);

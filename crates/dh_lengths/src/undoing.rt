@@ -1,7 +1,7 @@
 //! The levels of variables: what they were before changes, and what they are behind the arms of an `if`.
 
 ghost use Rattle.std.specs.Prelude.{◌≡◌, drop, IfOk, OnOk};
-ghost use Rattle.dh_events.specs.Tables.{kept_at};
+ghost use Rattle.dh_events.specs.Tables.{table_at};
 ghost use Rattle.dh_lengths.specs.Undone.{marks_now, redone, undone, JoinsLevels};
 
 use dh_base::NoMemory;
@@ -26,8 +26,8 @@ pub fn since(log: &[Mark], mark: usize) -> &[Mark]
 
 /// Puts levels back to what marks say, the last of them first.
 pub fn undo(variables: &mut Vec<usize>, log: &[Mark]) -> Result<(), NoMemory>
-    ensures { OnOk result (kept_at variables.new.items
-        ≡ undone log.now (kept_at variables.old.items)) }
+    ensures { OnOk result (table_at variables.new.items
+        ≡ undone log.now (table_at variables.old.items)) }
 {
     for i in (0..log.len()).rev() {
         let mark = log[i];
@@ -38,8 +38,8 @@ pub fn undo(variables: &mut Vec<usize>, log: &[Mark]) -> Result<(), NoMemory>
 
 /// Sets levels to what marks say, in order.
 pub fn redo(variables: &mut Vec<usize>, marks: &[Mark]) -> Result<(), NoMemory>
-    ensures { OnOk result (kept_at variables.new.items
-        ≡ redone marks.now (kept_at variables.old.items)) }
+    ensures { OnOk result (table_at variables.new.items
+        ≡ redone marks.now (table_at variables.old.items)) }
 {
     for mark in marks {
         set_number(variables, mark.entity, mark.level)?;
@@ -49,7 +49,7 @@ pub fn redo(variables: &mut Vec<usize>, marks: &[Mark]) -> Result<(), NoMemory>
 
 /// The levels that the variables of marks have now.
 pub fn marks_of(alloc: Global, variables: &[usize], log: &[Mark]) -> Result<Vec<Mark>, NoMemory>
-    ensures { IfOk result (λ marks. marks.items ≡ marks_now (kept_at variables.now) log.now) }
+    ensures { IfOk result (λ marks. marks.items ≡ marks_now (table_at variables.now) log.now) }
 {
     let mut marks = Vec::new(alloc);
     for mark in log {

@@ -19,11 +19,11 @@ use Rattle.dh_plan.specs.declared.schedules.Limits.{Limits}
 use Rattle.dh_plan.specs.Blocks.{StepStart, in_memories, BlockEvent, RegisterSet, first_fault, puts_of, all_put, all_set}
 use Rattle.dh_plan.specs.LegalSchedules.{clocks_in}
 use Rattle.dh_plan.specs.PlainPlans.{first_in, operations_in}
-use Rattle.dh_plan.specs.PlanRuns.{PlanPlace, PlanNext, start_at, block_values, step_events, step_sets, blocks_at, place_after, PlanState, plan_stands_at, plan_state_after, plan_step_from, plan_state}
+use Rattle.dh_plan.specs.PlanRuns.{PlanPlace, PlanNext, start_at, block_values, step_events, step_sets, blocks_at, plan_place_after, PlanState, plan_stands_at, plan_state_after, plan_step_from, plan_state}
 use Rattle.dh_plan.specs.PlayedPlans.{longest, plan_run}
 use Rattle.dh_plan.specs.SoundPlans.{IsOneOf}
 use Rattle.dh_plan.specs.SoundRuns.{IsStepInTurns, StandsInStep}
-use Rattle.dh_plan.specs.Ways.{GraphSpot, rests, GraphLed, place_of, leads_to}
+use Rattle.dh_plan.specs.Ways.{GraphSpot, rests, GraphLed, place_of_spot, leads_to}
 use Rattle.dh_plan.proofs.BlocksSolved.{has_one_solution}
 use Rattle.dh_plan.proofs.SteppingRuns.{runs_make_steps}
 use Rattle.dh_plan.proofs.ValuesAlike.{memories_look_back}
@@ -56,7 +56,7 @@ module _ (k : Making) (limits : Limits) (net : Net) (Holds : RegisterMeaning) (c
   run_of = plan_run k.plan k.timing.lengths start
 
   abbrev pub place_in : GraphSpot → PlanPlace
-  place_in spot = place_of k.flow.states can.flows.behind can.flows.after spot
+  place_in spot = place_of_spot k.flow.states can.flows.behind can.flows.after spot
 
   -- how the step that follows n steps begins
   abbrev pub begun : ℕ → StepStart
@@ -248,10 +248,10 @@ module _ (k : Making) (limits : Limits) (net : Net) (Holds : RegisterMeaning) (c
             let goes = spot_after k.plan.registers k.flow h.spot after in
             let led_is : led_on k h.spot (state_of n).registers wires ≡ goes
             = ap (λ (ss : List RegisterSet). spot_after k.plan.registers k.flow h.spot (all_set ss (state_of n).registers)) sets_are in
-            let next_is : state_of (suc n) ≡ plan_stands_at (suc (state_of n).steps) (all_put (puts_of events) (state_of n).memories) (place_after k.plan.registers (state_of n).place after)
+            let next_is : state_of (suc n) ≡ plan_stands_at (suc (state_of n).steps) (all_put (puts_of events) (state_of n).memories) (plan_place_after k.plan.registers (state_of n).place after)
             = step_is ∙ ap (λ (f : Option ℕ). plan_state_after k.plan (state_of n) events sets f) none in
-            let leads : leads_to k.flow.states can.flows.behind can.flows.after goes ≡ place_after k.plan.registers (state_of n).place after
-            = follows k.flow k.plan can.flows h.spot after ∙ ap (λ (p : PlanPlace). place_after k.plan.registers p after) h.place in
+            let leads : leads_to k.flow.states can.flows.behind can.flows.after goes ≡ plan_place_after k.plan.registers (state_of n).place after
+            = follows k.flow k.plan can.flows h.spot after ∙ ap (λ (p : PlanPlace). plan_place_after k.plan.registers p after) h.place in
             let registers_are : goes.registers ≡ (state_of (suc n)).registers = ap (λ (x : PlanNext). x.registers) leads ∙ sym (ap (λ (x : PlanState). x.registers) next_is) in
             let seen : fault_seen k h.spot (state_of n).registers wires ≡ None = fault_is ∙ none in
             let commits : moment.commits ≡ true

@@ -16,7 +16,7 @@ use Rattle.dh_net.specs.Plays.{IsGoing, IsStuck, IsFine}
 use Rattle.dh_plan.specs.declared.operations.Operation.{Operation}
 use Rattle.dh_plan.specs.declared.operations.OperationForm.{OperationForm}
 use Rattle.dh_plan.specs.declared.operations.OperationForm.TheVariants.{Constant, Old, Compute, Convert, Select, Check, Probe, Read, Write, Set}
-use Rattle.dh_plan.specs.Blocks.{StepStart, is_on, word_at, spot_of_reach, BlockEvent, fails, puts, fails_outside, puts_inside, form_events, operation_events, block_events, RegisterSet, first_fault}
+use Rattle.dh_plan.specs.Blocks.{StepStart, is_on, word_at, spot_of_reach, BlockEvent, fails, puts, fails_outside, puts_inside, operation_form_events, operation_events, block_events, RegisterSet, first_fault}
 use Rattle.dh_plan.specs.PlainPlans.{PlainPlan, first_in, operations_in}
 use Rattle.dh_plan.specs.PlanKinds.{kinds_of, FormSuits, OperationSuits, IsFormedBlock}
 use Rattle.dh_plan.specs.PlanRuns.{PlanPlace, ended, at, inside, PlanState, start_at, blocks_at, block_values, events_of_block, step_events, step_sets, plan_outcome_at, outcome_named, plan_state_after, plan_step_from, plan_state}
@@ -131,7 +131,7 @@ module _ (plan : PlainPlan) where
   outside_named fault (Some spot) h = tt
 
   module _ (s : StepStart) (first : ℕ) (kinds : List Kind) (ws : List Word) where
-    form_named : (f : OperationForm) → FormSuits plan first kinds f → AllByRecursion IsNamedEvent (form_events s first ws f)
+    form_named : (f : OperationForm) → FormSuits plan first kinds f → AllByRecursion IsNamedEvent (operation_form_events s first ws f)
     form_named (Constant word) suits = tt
     form_named (Old register) suits = tt
     form_named (Compute op left right) suits = tt
@@ -147,7 +147,7 @@ module _ (plan : PlainPlan) where
     block_named [] suits = tt
     block_named (o ∷ os) suits =
         all_joined IsNamedEvent (operation_events s first ws o) (block_events s first ws os)
-        (pick (AllByRecursion IsNamedEvent) (is_on first ws o.guard) (form_events s first ws o.form) [] (form_named o.form (suits 0 o refl).form) tt)
+        (pick (AllByRecursion IsNamedEvent) (is_on first ws o.guard) (operation_form_events s first ws o.form) [] (form_named o.form (suits 0 o refl).form) tt)
         (block_named os (λ i p there. suits (suc i) p there))
 
   step_named : ((block : ℕ) → IsFormedBlock plan block) → (s : StepStart) (blocks : List ℕ) → AllByRecursion IsNamedEvent (step_events plan s blocks)

@@ -4,16 +4,16 @@
 use Rattle.std.proofs.Common.{◌≡◌, ℕ, Bool, true, false, if◌then◌else◌, List, refl, sym, ap, ◌∙◌}
 use Rattle.std.specs.Prelude.{slice_get}
 use Rattle.dh_plan.specs.PlainPlans.{PlainPlan}
-use Rattle.dh_plan.specs.PlanRuns.{PlanPlace, inside, PlanPlaces, PlanNext, plan_next, plan_next_of, has_ended, all_ended, PlanNextPlaces, with_first, threads_joined, place_after, places_after}
-use Rattle.dh_plan.specs.Ways.{Flow, GraphSpot, rests, in_state, in_fork, Spots, no_spots, spot_then, GraphLed, led, resolve, way_of_join, place_of, places_of, leads_to, FlowsAs}
+use Rattle.dh_plan.specs.PlanRuns.{PlanPlace, inside, PlanPlaces, PlanNext, plan_next, plan_next_of, has_ended, all_ended, PlanNextPlaces, with_first, threads_joined, plan_place_after, places_after}
+use Rattle.dh_plan.specs.Ways.{Flow, GraphSpot, rests, in_state, in_fork, Spots, no_spots, spot_then, GraphLed, led, resolve, way_of_join, place_of_spot, places_of_spots, leads_to, FlowsAs}
 use Rattle.dh_lower.specs.SpotsDone.{spot_rests, all_rest, LedAll, with_thread, spots_joined, spot_after, spots_after}
 
 module _ (g : Flow) (plan : PlainPlan) (f : FlowsAs g plan) where
   abbrev place : GraphSpot → PlanPlace
-  place spot = place_of g.states f.behind f.after spot
+  place spot = place_of_spot g.states f.behind f.after spot
 
   abbrev places : Spots → PlanPlaces
-  places ss = places_of g.states f.behind f.after ss
+  places ss = places_of_spots g.states f.behind f.after ss
 
   rests_as_ended : (spot : GraphSpot) → has_ended (place spot) ≡ spot_rests spot
   rests_as_ended rests = refl
@@ -44,7 +44,7 @@ module _ (g : Flow) (plan : PlainPlan) (f : FlowsAs g plan) where
   thread_then l n ls ns p q = ap (λ (m : PlanNext). with_first m (all_lead ls)) p ∙ ap (λ (m : PlanNextPlaces). with_first n m) q
 
   mutual
-    pub follows : (spot : GraphSpot) (registers : List ℕ) → leads_to g.states f.behind f.after (spot_after plan.registers g spot registers) ≡ place_after plan.registers (place spot) registers
+    pub follows : (spot : GraphSpot) (registers : List ℕ) → leads_to g.states f.behind f.after (spot_after plan.registers g spot registers) ≡ plan_place_after plan.registers (place spot) registers
     follows rests registers = refl
     follows (in_state state) registers = f.each state registers
     follows (in_fork fork ss) registers =
@@ -54,6 +54,6 @@ module _ (g : Flow) (plan : PlainPlan) (f : FlowsAs g plan) where
     all_follow no_spots registers = refl
     all_follow (spot_then s ss) registers =
         let here = follows s registers in
-        thread_then (spot_after plan.registers g s registers) (place_after plan.registers (place s) registers) (spots_after plan.registers g ss (spot_after plan.registers g s registers).registers)
-        (places_after plan.registers (places ss) (place_after plan.registers (place s) registers).registers) here
+        thread_then (spot_after plan.registers g s registers) (plan_place_after plan.registers (place s) registers) (spots_after plan.registers g ss (spot_after plan.registers g s registers).registers)
+        (places_after plan.registers (places ss) (plan_place_after plan.registers (place s) registers).registers) here
         (all_follow ss (spot_after plan.registers g s registers).registers ∙ ap (λ (n : PlanNext). places_after plan.registers (places ss) n.registers) here)

@@ -16,7 +16,7 @@ use Rattle.dh_plan.specs.declared.operations.Operation.{Operation}
 use Rattle.dh_plan.specs.declared.operations.OperationForm.{OperationForm}
 use Rattle.dh_plan.specs.declared.operations.OperationForm.TheVariants.{Constant, Old, Compute, Convert, Select, Check, Probe, Read, Write, Set}
 use Rattle.dh_plan.specs.declared.operations.Reach.{Reach}
-use Rattle.dh_plan.specs.Blocks.{StepStart, is_on, word_at, spot_of_reach, fails_unless, fails_outside, puts_inside, form_events, operation_events, block_events, Put, puts_of, all_put}
+use Rattle.dh_plan.specs.Blocks.{StepStart, is_on, word_at, spot_of_reach, fails_unless, fails_outside, puts_inside, operation_form_events, operation_events, block_events, Put, puts_of, all_put}
 use Rattle.dh_plan.specs.BlockLaws.{SameAt, SameAtAll}
 use Rattle.dh_plan.specs.BoundPorts.{Uses}
 use Rattle.dh_plan.specs.LegalSchedules.{Timing, clocks_in}
@@ -60,7 +60,7 @@ module _ (plan : PlainPlan) (u : Uses) (s : StepStart) where
   none_outside fault None = refl
   none_outside fault (Some spot) = refl
 
-  form_writes : (block i : ℕ) (ws : List Word) (f : OperationForm) → puts_in (form_puts plan u s block i ws f) ≡ puts_of (form_events s (first_in plan block) ws f)
+  form_writes : (block i : ℕ) (ws : List Word) (f : OperationForm) → puts_in (form_puts plan u s block i ws f) ≡ puts_of (operation_form_events s (first_in plan block) ws f)
   form_writes block i ws (Constant word) = refl
   form_writes block i ws (Old register) = refl
   form_writes block i ws (Compute op left right) = refl
@@ -75,7 +75,7 @@ module _ (plan : PlainPlan) (u : Uses) (s : StepStart) where
   operation_writes : (block i : ℕ) (ws : List Word) (o : Operation) → puts_in (operation_puts plan u s block i ws o) ≡ puts_of (operation_events s (first_in plan block) ws o)
   operation_writes block i ws o = by (is_on (first_in plan block) ws o.guard)
     where
-      by : (t : Bool) → puts_in (if t then form_puts plan u s block i ws o.form else []) ≡ puts_of (if t then form_events s (first_in plan block) ws o.form else [])
+      by : (t : Bool) → puts_in (if t then form_puts plan u s block i ws o.form else []) ≡ puts_of (if t then operation_form_events s (first_in plan block) ws o.form else [])
       by true = form_writes block i ws o.form
       by false = refl
 

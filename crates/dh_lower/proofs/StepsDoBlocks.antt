@@ -14,7 +14,7 @@ use Rattle.dh_plan.specs.PlanKinds.{Names}
 use Rattle.dh_plan.specs.PlanRuns.{PlanTodo, ended, blocks_at, blocks_at_all}
 use Rattle.dh_plan.specs.PlayedPlans.{longest}
 use Rattle.dh_plan.specs.SoundPlans.{Counting, IsOneOf, IsStepOf, IsStepOfNode, IsStepOfLists, blocks_of, node_blocks, list_blocks}
-use Rattle.dh_plan.specs.Ways.{GraphStop, GraphSpot, rests, in_state, in_fork, Spots, no_spots, spot_then, place_of, places_of}
+use Rattle.dh_plan.specs.Ways.{GraphStop, GraphSpot, rests, in_state, in_fork, Spots, no_spots, spot_then, place_of_spot, places_of_spots}
 use Rattle.dh_plan.proofs.LeastLengths.{clocks_long}
 use Rattle.dh_plan.proofs.ValuesAlike.{all_left, all_right}
 use Rattle.dh_lower.specs.ShownWords.{StandsByNeeds}
@@ -138,19 +138,19 @@ clock_at_most (o ∷ os) (c ∷ cs) (suc i) long =
 -- The blocks at a place of a graph are those at the place of the plan.
 
 mutual
-  pub blocks_are : (states : List GraphStop) (behind after : ℕ → PlanTodo) (spot : GraphSpot) → blocks_of_spot states spot ≡ blocks_at (place_of states behind after spot)
+  pub blocks_are : (states : List GraphStop) (behind after : ℕ → PlanTodo) (spot : GraphSpot) → blocks_of_spot states spot ≡ blocks_at (place_of_spot states behind after spot)
   blocks_are states behind after rests = refl
   blocks_are states behind after (in_state state) = refl
   blocks_are states behind after (in_fork fork ss) = all_blocks_are states behind after ss
 
-  all_blocks_are : (states : List GraphStop) (behind after : ℕ → PlanTodo) (ss : Spots) → blocks_of_spots states ss ≡ blocks_at_all (places_of states behind after ss)
+  all_blocks_are : (states : List GraphStop) (behind after : ℕ → PlanTodo) (ss : Spots) → blocks_of_spots states ss ≡ blocks_at_all (places_of_spots states behind after ss)
   all_blocks_are states behind after no_spots = refl
   all_blocks_are states behind after (spot_then s ss) =
       ap (λ (bs : List ℕ). bs ++ blocks_of_spots states ss) (blocks_are states behind after s)
-      ∙ ap (λ (bs : List ℕ). blocks_at (place_of states behind after s) ++ bs) (all_blocks_are states behind after ss)
+      ∙ ap (λ (bs : List ℕ). blocks_at (place_of_spot states behind after s) ++ bs) (all_blocks_are states behind after ss)
 
 -- a graph rests where the plan has ended
-pub rests_where_ended : (states : List GraphStop) (behind after : ℕ → PlanTodo) (spot : GraphSpot) → place_of states behind after spot ≡ ended → spot ≡ rests
+pub rests_where_ended : (states : List GraphStop) (behind after : ℕ → PlanTodo) (spot : GraphSpot) → place_of_spot states behind after spot ≡ ended → spot ≡ rests
 rests_where_ended states behind after rests e = refl
 rests_where_ended states behind after (in_state state) e = absurd (cc)
 rests_where_ended states behind after (in_fork fork ss) e = absurd (cc)

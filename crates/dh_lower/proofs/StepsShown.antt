@@ -9,7 +9,7 @@ use Rattle.dh_plan.specs.declared.operations.Operation.{Operation}
 use Rattle.dh_plan.specs.declared.operations.OperationForm.{OperationForm}
 use Rattle.dh_plan.specs.declared.operations.OperationForm.TheVariants.{Constant, Old, Compute, Convert, Select, Check, Probe, Read, Write, Set}
 use Rattle.dh_plan.specs.declared.operations.Reach.{Reach}
-use Rattle.dh_plan.specs.Blocks.{Look, is_on, word_at, guarded, spot_in_row, spot_of_reach, form_word, BlockEvent, fails_outside, puts_inside, form_events, operation_events, block_events, RegisterSet, block_sets}
+use Rattle.dh_plan.specs.Blocks.{Look, is_on, word_at, guarded, spot_in_row, spot_of_reach, form_word, BlockEvent, fails_outside, puts_inside, operation_form_events, operation_events, block_events, RegisterSet, block_sets}
 use Rattle.dh_plan.specs.PlainPlans.{PlainPlan, first_in, operations_in}
 use Rattle.dh_plan.specs.PlanRuns.{start_at, block_values, events_of_block, sets_of_block, step_events, step_sets}
 use Rattle.dh_plan.specs.SoundPlans.{IsOneOf}
@@ -24,7 +24,7 @@ module _ (plan : PlainPlan) (registers : List ℕ) (memories : List (List ℕ)) 
   spot_apart : (first : ℕ) (ws : List Word) (r : Reach) → spot_of_reach (start_at plan registers []) first ws r ≡ spot_of_reach (start_at plan registers memories) first ws r
   spot_apart first ws r = row_apart first ws r r.row
 
-  form_apart : (first : ℕ) (ws : List Word) (f : OperationForm) → form_events (start_at plan registers []) first ws f ≡ form_events (start_at plan registers memories) first ws f
+  form_apart : (first : ℕ) (ws : List Word) (f : OperationForm) → operation_form_events (start_at plan registers []) first ws f ≡ operation_form_events (start_at plan registers memories) first ws f
   form_apart first ws (Constant word) = refl
   form_apart first ws (Old register) = refl
   form_apart first ws (Compute op left right) = refl

@@ -7,8 +7,8 @@ use Rattle.dh_plan.specs.BlockLaws.{LooksBack}
 use Rattle.dh_plan.specs.BoundPorts.{Uses}
 use Rattle.dh_plan.specs.LegalSchedules.{value_clock, last_clock}
 use Rattle.dh_plan.specs.PlainPlans.{PlainPlan, first_in}
-use Rattle.dh_plan.specs.PlanRuns.{place_after}
-use Rattle.dh_plan.specs.Ways.{Flow, FlowsAs, GraphSpot, leads_to, place_of}
+use Rattle.dh_plan.specs.PlanRuns.{plan_place_after}
+use Rattle.dh_plan.specs.Ways.{Flow, FlowsAs, GraphSpot, leads_to, place_of_spot}
 use Rattle.dh_lower.specs.ShownWords.{in_ports, IsAtClock}
 use Rattle.dh_lower.specs.SpotsDone.{spot_after}
 
@@ -33,4 +33,4 @@ PortsLookBack = (plan : PlainPlan) (u : Uses) (held : List ℕ) (block : ℕ) �
 abbrev pub SpotsFollowPlaces : Type 0
 SpotsFollowPlaces =
     (g : Flow) (plan : PlainPlan) (f : FlowsAs g plan) (spot : GraphSpot) (registers : List ℕ)
-    → leads_to g.states f.behind f.after (spot_after plan.registers g spot registers) ≡ place_after plan.registers (place_of g.states f.behind f.after spot) registers
+    → leads_to g.states f.behind f.after (spot_after plan.registers g spot registers) ≡ plan_place_after plan.registers (place_of_spot g.states f.behind f.after spot) registers

@@ -91,25 +91,25 @@ bits_at memories (Some s) = slice_index (slice_index_or memories s.memory []) s.
 
 -- the value of an expression at a path
 abbrev mutual
-  pub value_of : Begun → Variables → Path → CoreTerm → Word
-  value_of b variables path (literal kind negative n) = with_bits kind (bits_of kind negative n)
-  value_of b variables path (truth_literal value) = operations.truth value
-  value_of b variables path (variable kind depth entity) = word_of kind (variables entity (take depth path))
-  value_of b variables path (read r target) = with_bits (kind_in b.table r.memory) (bits_at b.memories (spot_reached b variables path r target))
-  value_of b variables path (binary op left right) = binary_of op (value_of b variables path left) (value_of b variables path right)
-  value_of b variables path (convert to inner) = word_of to (words.value_of (value_of b variables path inner))
+  pub value_of_term : Begun → Variables → Path → CoreTerm → Word
+  value_of_term b variables path (literal kind negative n) = with_bits kind (bits_of kind negative n)
+  value_of_term b variables path (truth_literal value) = operations.truth value
+  value_of_term b variables path (variable kind depth entity) = word_of kind (variables entity (take depth path))
+  value_of_term b variables path (read r target) = with_bits (kind_in b.table r.memory) (bits_at b.memories (spot_reached b variables path r target))
+  value_of_term b variables path (binary op left right) = binary_of op (value_of_term b variables path left) (value_of_term b variables path right)
+  value_of_term b variables path (convert to inner) = word_of to (words.value_of (value_of_term b variables path inner))
 
   -- where an access leads, None where it is out of range
   pub spot_reached : Begun → Variables → Path → Reach → Target → Option Spot
   spot_reached b variables path r (by_indices indices) = spot_by_indices b.table r.memory (values_of b variables path indices)
   spot_reached b variables path r (by_views steps n terms) =
       spot_by_views b.table r.memory steps (take n (values_of b variables path terms)) (drop n (values_of b variables path terms))
-  spot_reached b variables path r (by_row bank row) = spot_by_row b.table r.memory bank (words.value_of (value_of b variables path row))
+  spot_reached b variables path r (by_row bank row) = spot_by_row b.table r.memory bank (words.value_of (value_of_term b variables path row))
 
   -- the values of indices, as whole numbers
   pub values_of : Begun → Variables → Path → CoreTerms → List ℤ
   values_of b variables path no_terms = []
-  values_of b variables path (term_and t ts) = words.value_of (value_of b variables path t) ∷ values_of b variables path ts
+  values_of b variables path (term_and t ts) = words.value_of (value_of_term b variables path t) ∷ values_of b variables path ts
 
 -- Accesses and faults.
 
@@ -168,7 +168,7 @@ abbrev pub store_events : Begun → Variables → Path → Reach → Target → 
 store_events b variables path r target value =
     term_events b variables path value
     ++ (target_events b variables path target
-    ++ write_made r path (kept_bits b.table r.memory (value_of b variables path value)) (spot_reached b variables path r target) ∷ [])
+    ++ write_made r path (kept_bits b.table r.memory (value_of_term b variables path value)) (spot_reached b variables path r target) ∷ [])
 
 abbrev pub stored_at : Begun → Reach → Target → CoreTerm → Path → Effect → Effect
 stored_at b r target value path e = with_events e (store_events b e.variables path r target value)
@@ -176,7 +176,7 @@ stored_at b r target value path e = with_events e (store_events b e.variables pa
 -- an assignment at a path evaluates its right side, then sets the variable
 abbrev pub assigned_at : Begun → (depth entity : ℕ) → CoreTerm → Path → Effect → Effect
 assigned_at b depth entity value path e = record {
-  variables = set_variable e.variables entity (take depth path) (words.value_of (value_of b e.variables path value));
+  variables = set_variable e.variables entity (take depth path) (words.value_of (value_of_term b e.variables path value));
   events = e.events ++ term_events b e.variables path value;
 }
 
@@ -208,7 +208,7 @@ paths_where true test (path ∷ paths) = if test path then path ∷ paths_where 
 paths_where false test (path ∷ paths) = if test path then paths_where false test paths else path ∷ paths_where false test paths
 
 abbrev pub holds_at : Begun → Variables → CoreTerm → Path → Bool
-holds_at b variables test path = operations.is_true (value_of b variables path test)
+holds_at b variables test path = operations.is_true (value_of_term b variables path test)
 
 abbrev mutual
   -- A command at these paths, in ascending order. An `if` evaluates its test at every path, then runs the

@@ -38,35 +38,35 @@ one_access place entity element writes site = accesses (record { place = place; 
 
 abbrev mutual
   -- what an expression reads
-  pub term_events : Site → Term → List SourceEvent
-  term_events site (term place kind form) = form_events site place form
+  pub source_term_events : Site → Term → List SourceEvent
+  source_term_events site (term place kind form) = form_events site place form
 
   pub form_events : Site → Place → TermForm → List SourceEvent
   form_events site place (number negative n) = []
   form_events site place (truth_value value) = []
   form_events site place (named r) = []
-  form_events site place (accessed r indices) = terms_events site indices ++ one_access place r.entity (with_indices indices) false site
-  form_events site place (in_bank r bank bank_place row) = term_events site row ++ one_access place r.entity (in_row bank row) false site
-  form_events site place (applied op left right) = term_events site left ++ term_events site right
-  form_events site place (converted inner to) = term_events site inner
+  form_events site place (accessed r indices) = source_terms_events site indices ++ one_access place r.entity (with_indices indices) false site
+  form_events site place (in_bank r bank bank_place row) = source_term_events site row ++ one_access place r.entity (in_row bank row) false site
+  form_events site place (applied op left right) = source_term_events site left ++ source_term_events site right
+  form_events site place (converted inner to) = source_term_events site inner
 
-  pub terms_events : Site → Terms → List SourceEvent
-  terms_events site no_terms = []
-  terms_events site (term_then t rest) = term_events site t ++ terms_events site rest
+  pub source_terms_events : Site → Terms → List SourceEvent
+  source_terms_events site no_terms = []
+  source_terms_events site (term_then t rest) = source_term_events site t ++ source_terms_events site rest
 
 abbrev pub maybe_events : Site → Option Term → List SourceEvent
 maybe_events site None = []
-maybe_events site (Some t) = term_events site t
+maybe_events site (Some t) = source_term_events site t
 
 -- a write: what its indices read, and the write itself; no text has another target than an access
 abbrev pub write_events : Site → Term → List SourceEvent
-write_events site (term place kind (accessed r indices)) = terms_events site indices ++ one_access place r.entity (with_indices indices) true site
-write_events site (term place kind (in_bank r bank bank_place row)) = term_events site row ++ one_access place r.entity (in_row bank row) true site
+write_events site (term place kind (accessed r indices)) = source_terms_events site indices ++ one_access place r.entity (with_indices indices) true site
+write_events site (term place kind (in_bank r bank bank_place row)) = source_term_events site row ++ one_access place r.entity (in_row bank row) true site
 write_events site (term place kind (number negative n)) = []
 write_events site (term place kind (truth_value value)) = []
 write_events site (term place kind (named r)) = []
-write_events site (term place kind (applied op left right)) = term_events site left ++ term_events site right
-write_events site (term place kind (converted inner to)) = term_events site inner
+write_events site (term place kind (applied op left right)) = source_term_events site left ++ source_term_events site right
+write_events site (term place kind (converted inner to)) = source_term_events site inner
 
 abbrev pub site_of : Around → (command : ℕ) → Site
 site_of r id = record { command = id; arms = r.arms; loops = r.loops }
@@ -79,15 +79,15 @@ abbrev mutual
   pub command_events : Around → Site → ActionForm → List SourceEvent
   command_events r site (lets name declared value) = maybe_events site value ++ assigned name.entity ∷ []
   command_events r site (lets_memory name shape shape_places value) = []
-  command_events r site (views name parent form) = terms_events site (terms (offsets_of form))
-  command_events r site (assigns target value) = term_events site value ++ assigned target.entity ∷ []
-  command_events r site (stores target value) = term_events site value ++ write_events site target
-  command_events r site (reduces target op value) = term_events site value ++ assigned target.entity ∷ []
+  command_events r site (views name parent form) = source_terms_events site (terms (offsets_of form))
+  command_events r site (assigns target value) = source_term_events site value ++ assigned target.entity ∷ []
+  command_events r site (stores target value) = source_term_events site value ++ write_events site target
+  command_events r site (reduces target op value) = source_term_events site value ++ assigned target.entity ∷ []
   command_events r site (calls function arguments) = []
   command_events r site (blocks body) = groups_events r body
   command_events r site (decides test chosen other) =
-      term_events site test ++ (events (in_arm r site.command true) chosen ++ other_events (in_arm r site.command false) other)
-  command_events r site (repeats test body) = term_events site test ++ events r body
+      source_term_events site test ++ (events (in_arm r site.command true) chosen ++ other_events (in_arm r site.command false) other)
+  command_events r site (repeats test body) = source_term_events site test ++ events r body
   command_events r site (counts iterator declared low high factor body combine combine_place) =
       assigned iterator.entity
       ∷ (events (in_loop r (loop_of iterator low high factor)) body ++ other_events (in_loop r (loop_of iterator low high factor)) combine)

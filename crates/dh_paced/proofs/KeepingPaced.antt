@@ -11,7 +11,7 @@ use Rattle.dh_meaning.specs.Core.{CoreTerms, no_terms, term_and}
 use Rattle.dh_meaning.specs.CoreOf.{core_term, core_terms}
 use Rattle.dh_meaning.specs.Levels.{Leveled, Levels, kept_leveled, term_leveled, terms_leveled, with_value}
 use Rattle.dh_code.specs.Slots.{held_at}
-use Rattle.dh_plan.specs.PlanPhases.{term_mentions, terms_mention}
+use Rattle.dh_plan.specs.PlanPhases.{term_mentions, core_terms_mention}
 use Rattle.dh_expressions.specs.declared.accesses.Accesses.{Accesses}
 use Rattle.dh_expressions.specs.declared.drafts.Draft.{Draft}
 use Rattle.dh_expressions.specs.declared.scenes.Around.{Around}
@@ -136,7 +136,7 @@ module _ (c : BlockClocks) (scene : Scene) (top : Around) (spaces : ℕ) (shared
 
     each_here : (offsets : List Term) (old mid : Draft) (before after : Accesses) (n next : ℕ) (values : List ℕ) → MadeTerms scene lane current (terms offsets) old mid before after n next values → n + terms_accesses (terms offsets) < 2 ^ 32 → (l : Levels)
         → Here old mid before l → OwnsTerms c scene top spaces shared Variable Read Own outer n (terms offsets) → AreNext scene lane before n (terms_accesses (terms offsets)) → TermsSuit c.block scene lane n (terms offsets) × AreNumbers (terms offsets)
-        → ((e : ℕ) → Variable e → terms_mention e (core_terms (known_in scene) n (terms offsets)) ≡ true → EntityAt c scene lane current l e) → ReadsAgree c (all_leveled scene shared outer n (terms offsets) l).levels (n + terms_accesses (terms offsets))
+        → ((e : ℕ) → Variable e → core_terms_mention e (core_terms (known_in scene) n (terms offsets)) ≡ true → EntityAt c scene lane current l e) → ReadsAgree c (all_leveled scene shared outer n (terms offsets) l).levels (n + terms_accesses (terms offsets))
         → AreAt c scene shared outer n offsets l values
     each_here [] old mid before after n next values m few l h owns is_next suits vars reads = m.none
     each_here (t ∷ ts) old mid before after n next values m few l h owns is_next suits vars reads =
@@ -186,13 +186,13 @@ module _ (c : BlockClocks) (scene : Scene) (top : Around) (spaces : ℕ) (shared
             own = λ i among. owns.are.own i (among.0, let b = among.1 in omega (arith, b));
             outers = λ i among. owns.are.outers i (among.0, let b = among.1 in omega (arith, b));
           };
-          names = λ e mentioned. owns.names e (left_of (term_mentions e (core_term (known_in scene) n t)) (terms_mention e (core_terms (known_in scene) (n + term_accesses t) (terms ts))) mentioned);
+          names = λ e mentioned. owns.names e (left_of (term_mentions e (core_term (known_in scene) n t)) (core_terms_mention e (core_terms (known_in scene) (n + term_accesses t) (terms ts))) mentioned);
         }
 
         one : TermHere c scene top spaces shared Variable Read Own g lane outer current old m.middle before m.between n m.own l here_one t m.a
         one =
             term_here c scene top spaces shared Variable Read Own g lane outer current old m.middle before m.between n m.own l here_one t m.a m.first few_one owns_one (next_first scene lane before n (term_accesses t) (terms_accesses (terms ts)) is_next) suits.0.0
-            (λ e v mentioned. vars e v (left_of (term_mentions e (core_term (known_in scene) n t)) (terms_mention e (core_terms (known_in scene) (n + term_accesses t) (terms ts))) mentioned))
+            (λ e v mentioned. vars e v (left_of (term_mentions e (core_term (known_in scene) n t)) (core_terms_mention e (core_terms (known_in scene) (n + term_accesses t) (terms ts))) mentioned))
             (λ i site at less. sym (behind_rest.before_them i less) ∙ reads i site at (omega (arith, less)))
 
         here_rest : Here m.middle mid m.between made.levels
@@ -214,13 +214,13 @@ module _ (c : BlockClocks) (scene : Scene) (top : Around) (spaces : ℕ) (shared
             own = λ i among. owns.are.own i (let f = among.0 in omega (arith, f), let b = among.1 in omega (arith, b));
             outers = λ i among. owns.are.outers i (let f = among.0 in omega (arith, f), let b = among.1 in omega (arith, b));
           };
-          names = λ e mentioned. owns.names e (right_of (term_mentions e (core_term (known_in scene) n t)) (terms_mention e (core_terms (known_in scene) (n + term_accesses t) (terms ts))) mentioned);
+          names = λ e mentioned. owns.names e (right_of (term_mentions e (core_term (known_in scene) n t)) (core_terms_mention e (core_terms (known_in scene) (n + term_accesses t) (terms ts))) mentioned);
         }
 
-        vars_rest : (e : ℕ) → Variable e → terms_mention e (core_terms (known_in scene) (n + term_accesses t) (terms ts)) ≡ true → EntityAt c scene lane current made.levels e
+        vars_rest : (e : ℕ) → Variable e → core_terms_mention e (core_terms (known_in scene) (n + term_accesses t) (terms ts)) ≡ true → EntityAt c scene lane current made.levels e
         vars_rest e v mentioned =
             subst (λ (i : ℕ). VariableAt c (counter_of scene e) (held_at scene.held.now e) lane current i) (sym (behind_one.variables e))
-            (vars e v (right_of (term_mentions e (core_term (known_in scene) n t)) (terms_mention e (core_terms (known_in scene) (n + term_accesses t) (terms ts))) mentioned))
+            (vars e v (right_of (term_mentions e (core_term (known_in scene) n t)) (core_terms_mention e (core_terms (known_in scene) (n + term_accesses t) (terms ts))) mentioned))
 
   -- Variables that keep them, from path to path.
   module _ (entity count : ℕ) (level : ℕ → ℕ) (l : Levels) (targets : (e : ℕ) → IsVariableAmong entity count e → IsTarget c scene top spaces shared Variable Read Own e)
@@ -434,7 +434,7 @@ module _ (c : BlockClocks) (scene : Scene) (top : Around) (spaces : ℕ) (shared
         is_next : AreNext scene lane b.accesses first accesses
         is_next = lane_next c scene top spaces shared Variable Read Own g around outer first l old s accesses accesses k b.accesses owns.are.own within h.given
 
-        vars : (e : ℕ) → Variable e → terms_mention e (core_terms (known_in scene) first (terms offsets)) ≡ true → EntityAt c scene lane b.values.current.items l e
+        vars : (e : ℕ) → Variable e → core_terms_mention e (core_terms (known_in scene) first (terms offsets)) ≡ true → EntityAt c scene lane b.values.current.items l e
         vars e v mentioned =
             entity_under c scene top spaces shared Variable Read Own g around b.values.current.items l e k s.under (by (cases_lt e entity) (cases_lt e (entity + length offsets)))
           where

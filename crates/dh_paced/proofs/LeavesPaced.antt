@@ -14,7 +14,7 @@ use Rattle.dh_code.specs.Extended.{extension_of}
 use Rattle.dh_tree.specs.Kinds.{same_kind}
 use Rattle.dh_code.specs.declared.places.Held.{Held}
 use Rattle.dh_plan.specs.declared.operations.OperationForm.TheVariants.{Convert}
-use Rattle.dh_plan.specs.PlanPhases.{term_mentions, terms_mention, target_mentions}
+use Rattle.dh_plan.specs.PlanPhases.{term_mentions, core_terms_mention, target_mentions}
 use Rattle.dh_expressions.specs.declared.accesses.Accesses.{Accesses}
 use Rattle.dh_expressions.specs.declared.drafts.Draft.{Draft}
 use Rattle.dh_expressions.specs.declared.scenes.Around.{Around}
@@ -178,7 +178,7 @@ module _ (c : BlockClocks) (scene : Scene) (top : Around) (spaces : ℕ) (shared
       pub noted : AreNotedReads c.block mid after
 
     pub terms_here : (ts : plain.Terms) (vs : List ℕ) → MadeTerms scene lane current ts old mid before after n next vs → n + terms_accesses ts < 2 ^ 32 → OwnsTerms c scene top spaces shared Variable Read Own outer n ts → AreNext scene lane before n (terms_accesses ts)
-        → TermsSuit c.block scene lane n ts × AreNumbers ts → ((e : ℕ) → Variable e → terms_mention e (core_terms (known_in scene) n ts) ≡ true → EntityAt c scene lane current l e)
+        → TermsSuit c.block scene lane n ts × AreNumbers ts → ((e : ℕ) → Variable e → core_terms_mention e (core_terms (known_in scene) n ts) ≡ true → EntityAt c scene lane current l e)
         → ReadsAgree c (all_leveled scene shared outer n ts l).levels (n + terms_accesses ts) → TermsHere ts vs
     terms_here ts vs m few own is_next suits vars reads = record {
       extends = part.extends;

@@ -15,7 +15,7 @@ use Rattle.dh_meaning.specs.CoreOf.{core_action, core_groups, core_other, core_p
 use Rattle.dh_meaning.specs.Levels.{Leveled, Levels, assigns_to}
 use Rattle.dh_meaning.specs.OnePhase.{groups_make, is_between, makes, other_makes, part_makes}
 use Rattle.dh_meaning.specs.Ways.{Hidden, hidden_in}
-use Rattle.dh_plan.specs.PlanPhases.{commands_mention, term_mentions, terms_mention, target_mentions}
+use Rattle.dh_plan.specs.PlanPhases.{commands_mention, term_mentions, core_terms_mention, target_mentions}
 use Rattle.dh_expressions.specs.declared.scenes.Around.{Around}
 use Rattle.dh_expressions.specs.declared.scenes.Scene.{Scene}
 use Rattle.dh_expressions.specs.Evaluated.{known_in}
@@ -75,7 +75,7 @@ module _ (c : BlockClocks) (scene : Scene) (top : Around) (spaces : ℕ) (shared
       wide m among = let f = among.0 in let b = among.1 in (omega (arith, from, f), omega (arith, below, b))
 
   terms_own : (outer first count n : ℕ) (ts : plain.Terms) (outers : (m : ℕ) → ℕ) (IsRead : ℕ → Type 0) (made : ℕ → Truth) (cs : CoreCommands) → Knows first count outers IsRead made cs → first ≤ n → n + terms_accesses ts ≤ first + count
-      → ((m : ℕ) → IsIn n (terms_accesses ts) m → made m ≡ true) → ((m : ℕ) → IsIn n (terms_accesses ts) m → outers m ≡ outer) → ((e : ℕ) → terms_mention e (core_terms (known_in scene) n ts) ≡ true → commands_mention e cs ≡ true) → OwnsTerms c scene top spaces shared Variable Read Own outer n ts
+      → ((m : ℕ) → IsIn n (terms_accesses ts) m → made m ≡ true) → ((m : ℕ) → IsIn n (terms_accesses ts) m → outers m ≡ outer) → ((e : ℕ) → core_terms_mention e (core_terms (known_in scene) n ts) ≡ true → commands_mention e cs ≡ true) → OwnsTerms c scene top spaces shared Variable Read Own outer n ts
   terms_own outer first count n ts outers IsRead made cs h from below makes is mentions = record {
     are = record {
       own = λ m among. h.own m (makes m among);
@@ -252,11 +252,11 @@ module _ (c : BlockClocks) (scene : Scene) (top : Around) (spaces : ℕ) (shared
   none_read first count outers made cs h m i read = h.reads m read i
 
   -- a view: what it keeps, and its variables
-  kept_mentions : (x : Hidden) (xs : List Hidden) (n e : ℕ) (offsets : List Term) → terms_mention e (core_terms (known_in scene) n (terms offsets)) ≡ true
+  kept_mentions : (x : Hidden) (xs : List Hidden) (n e : ℕ) (offsets : List Term) → core_terms_mention e (core_terms (known_in scene) n (terms offsets)) ≡ true
       → commands_mention e (kept_by (x ∷ xs) (core_terms (known_in scene) n (terms offsets)) no_commands) ≡ true
   kept_mentions x xs n e [] h = h
   kept_mentions x xs n e (t ∷ ts) h =
-      or_none _ (right_of (assigns_to e (keep x.depth x.entity (core_terms (known_in scene) n (terms (t ∷ ts))))) (terms_mention e (core_terms (known_in scene) n (terms (t ∷ ts)))) h)
+      or_none _ (right_of (assigns_to e (keep x.depth x.entity (core_terms (known_in scene) n (terms (t ∷ ts))))) (core_terms_mention e (core_terms (known_in scene) n (terms (t ∷ ts)))) h)
 
   kept_assigns : (x : Hidden) (xs : List Hidden) (n e : ℕ) (offsets : List Term) → IsVariableAmong x.entity (length offsets) e → commands_mention e (kept_by (x ∷ xs) (core_terms (known_in scene) n (terms offsets)) no_commands) ≡ true
   kept_assigns x xs n e [] h = absurd (let f = h.0 in let b = h.1 in never x.entity f b)
@@ -264,7 +264,7 @@ module _ (c : BlockClocks) (scene : Scene) (top : Around) (spaces : ℕ) (shared
       never : (k : ℕ) → k ≤ e → e < k + 0 → ⊥
       never k f b = omega (arith, f, b)
   kept_assigns x xs n e (t ∷ ts) h =
-      or_none _ (left_of (assigns_to e (keep x.depth x.entity (core_terms (known_in scene) n (terms (t ∷ ts))))) (terms_mention e (core_terms (known_in scene) n (terms (t ∷ ts))))
+      or_none _ (left_of (assigns_to e (keep x.depth x.entity (core_terms (known_in scene) n (terms (t ∷ ts))))) (core_terms_mention e (core_terms (known_in scene) n (terms (t ∷ ts))))
       (among_true x.entity (length (t ∷ ts)) (count_terms (core_terms (known_in scene) n (terms (t ∷ ts)))) e (offsets_long (known_in scene) n (t ∷ ts)) h))
 
   view_own : (hs : List Hidden) (outer first : ℕ) (form : plain.ViewPlan) → KeepsOwn scene top hs first (offsets_of form)

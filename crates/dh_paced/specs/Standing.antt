@@ -11,7 +11,7 @@ use Rattle.dh_meaning.specs.AccessNumbers.{accesses_of, other_accesses, part_acc
 use Rattle.dh_meaning.specs.CoreOf.{core_term, core_terms, entity_number, target_to, way_of}
 use Rattle.dh_meaning.specs.Levels.{Levels}
 use Rattle.dh_meaning.specs.Ways.{Hidden, hidden_in}
-use Rattle.dh_plan.specs.PlanPhases.{term_mentions, terms_mention, target_mentions}
+use Rattle.dh_plan.specs.PlanPhases.{term_mentions, core_terms_mention, target_mentions}
 use Rattle.dh_expressions.specs.declared.accesses.Accesses.{Accesses}
 use Rattle.dh_expressions.specs.declared.scenes.Around.{Around}
 use Rattle.dh_expressions.specs.declared.scenes.Scene.{Scene}
@@ -57,7 +57,7 @@ module _ (c : BlockClocks) (scene : Scene) (top : Around) (spaces : ℕ) (shared
 
   pub record OwnsTerms (outer n : ℕ) (ts : plain.Terms) : Type 0 where
     pub are : AreOwn outer n (terms_accesses ts)
-    pub names : (e : ℕ) → terms_mention e (core_terms (known_in scene) n ts) ≡ true → Variable e
+    pub names : (e : ℕ) → core_terms_mention e (core_terms (known_in scene) n ts) ≡ true → Variable e
 
   -- and with what keeps the offsets on the way of what a name stands for
   pub record OwnsNamed (outer n : ℕ) (r : Ref) (ts : plain.Terms) : Type 0 where

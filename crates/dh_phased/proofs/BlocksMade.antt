@@ -27,7 +27,7 @@ use Rattle.dh_commands.specs.MadeCommands.{MadeTests}
 use Rattle.dh_commands.specs.Undone.{NoneGiven, given_at}
 use Rattle.dh_laid.specs.BlockSites.{MadeEach}
 use Rattle.dh_laid.specs.LaidAccesses.{AreLaid}
-use Rattle.dh_laid.specs.LaidQuiet.{AddsQuiet, IsQuiet, StandsIn}
+use Rattle.dh_laid.specs.LaidQuiet.{AddsQuiet, IsQuiet, BlockStandsIn}
 use Rattle.dh_laid.proofs.CommandsQuiet.{commands_are_quiet, quiet_sets_none, terms_are_quiet}
 use Rattle.dh_blocks.specs.BlockMade.{DoEach, IsBlockMade, SetsNone, set_made, sets_made}
 use Rattle.dh_blocks.specs.TestMade.{IsTestMade, flag_made}
@@ -54,12 +54,12 @@ quiet_then a b c h k = record {
   each = all_both (λ (o : Operation). IsQuiet o.form) h.more k.more h.each k.each;
 }
 
-each_quiet : (scene : Scene) (around : Around) (cs : List Located) (old new : Building) → StandsIn scene around → MadeEach scene around cs old new → AddsQuiet old.draft new.draft
+each_quiet : (scene : Scene) (around : Around) (cs : List Located) (old new : Building) → BlockStandsIn scene around → MadeEach scene around cs old new → AddsQuiet old.draft new.draft
 each_quiet scene around [] old new stands m = quiet_same old.draft new.draft (ap (λ (b : Building). b.draft) m)
 each_quiet scene around (c ∷ cs) old new stands (mid, (next, (m, rest))) =
     quiet_then old.draft mid.draft new.draft (commands_are_quiet scene c.command around old mid c.first next stands m) (each_quiet scene around cs mid new stands rest)
 
-tests_quiet : (scene : Scene) (around : Around) (first : ℕ) (t : Term) (count : ℕ) (old new : Building) (next : ℕ) (tests : List ℕ) → StandsIn scene around → MadeTests scene around first t count old new next tests → AddsQuiet old.draft new.draft
+tests_quiet : (scene : Scene) (around : Around) (first : ℕ) (t : Term) (count : ℕ) (old new : Building) (next : ℕ) (tests : List ℕ) → BlockStandsIn scene around → MadeTests scene around first t count old new next tests → AddsQuiet old.draft new.draft
 tests_quiet scene around first t zero old new next tests stands m = quiet_same old.draft new.draft (ap (λ (b : Building). b.draft) m.0)
 tests_quiet scene around first t (suc n) old new next tests stands m =
     quiet_then old.draft (m.0).draft new.draft (tests_quiet scene around first t n old m.0 m.1.0 m.1.1.0 stands m.1.1.1.1.0)

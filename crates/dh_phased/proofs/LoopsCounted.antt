@@ -16,7 +16,7 @@ use Rattle.dh_plan.specs.Correspondence.{Round}
 use Rattle.dh_plan.specs.PlanPhases.{IsIteratorOf}
 use Rattle.dh_expressions.specs.declared.scenes.Scene.{Scene}
 use Rattle.dh_blocks.specs.SlotsOfScene.{placing_in}
-use Rattle.dh_gathering.specs.LoopCounters.{IsCounting, LoopsCount, LoopsCountIn, loops_in, loops_of}
+use Rattle.dh_gathering.specs.LoopCounters.{IsCounting, LoopsCount, LoopsCountIn, loops_of_phase, loops_of_phases}
 use Rattle.dh_gathering.specs.MadeBlocks.{IsAmong, counter_register as register_of}
 use Rattle.dh_phased.specs.ProgramLoops.{HasOwnLoops, LoopsAreOwn}
 use Rattle.dh_phased.proofs.CopiesSome.{placing_copies}
@@ -117,18 +117,18 @@ module _ (scene : Scene) (low high : ℕ) (counted : CountersFrom low high (coun
   least_of n m k e f = omega (arith, e, f)
 
   mutual
-    inside_list : (from top : ℕ) (rounds : List Round) (qs : CorePhases) → LoopsFrom all from top (loops_of qs) → AreBefore from rounds → top ≤ length scene.held.now → LoopsCount scene (placing_in scene) rounds qs
+    inside_list : (from top : ℕ) (rounds : List Round) (qs : CorePhases) → LoopsFrom all from top (loops_of_phases qs) → AreBefore from rounds → top ≤ length scene.held.now → LoopsCount scene (placing_in scene) rounds qs
     inside_list from top rounds no_core_phases h before within = tt
     inside_list from top rounds (phase_and q qs) h before within =
-        let parts = loops_split all from top (loops_in q) (loops_of qs) h in
-        let low = loops_within all from parts.middle (loops_in q) parts.front in
-        let high = loops_within all parts.middle top (loops_of qs) parts.back in
+        let parts = loops_split all from top (loops_of_phase q) (loops_of_phases qs) h in
+        let low = loops_within all from parts.middle (loops_of_phase q) parts.front in
+        let high = loops_within all parts.middle top (loops_of_phases qs) parts.back in
         (inside_one from parts.middle rounds q parts.front before (least_of parts.middle top (length scene.held.now) high within), inside_list parts.middle top rounds qs parts.back (before_more from parts.middle rounds low before) within)
 
-    inside_one : (from top : ℕ) (rounds : List Round) (q : CorePhase) → LoopsFrom all from top (loops_in q) → AreBefore from rounds → top ≤ length scene.held.now → LoopsCountIn scene (placing_in scene) rounds q
+    inside_one : (from top : ℕ) (rounds : List Round) (q : CorePhase) → LoopsFrom all from top (loops_of_phase q) → AreBefore from rounds → top ≤ length scene.held.now → LoopsCountIn scene (placing_in scene) rounds q
     inside_one from top rounds (straightly cs) h before within = tt
     inside_one from top rounds (turning loop body) h before within = (
-      is_counting loop top h.1.0 (loops_within all (suc loop.iterator) top (loops_of body) h.1.1) within,
+      is_counting loop top h.1.0 (loops_within all (suc loop.iterator) top (loops_of_phases body) h.1.1) within,
       (
         λ e. none_round loop.iterator rounds (before_more from loop.iterator rounds h.0 before) e,
         inside_list (suc loop.iterator) top (rounds ++ record { loop = loop; counter = register_of scene loop } ∷ []) body h.1.1
@@ -143,17 +143,17 @@ module _ (scene : Scene) (low high : ℕ) (counted : CountersFrom low high (coun
         next n = omega arith
     inside_one from top rounds (looping test body) h before within = inside_list from top rounds body h before within
     inside_one from top rounds (choosing test chosen other) h before within =
-        let parts = loops_split all from top (loops_of chosen) (loops_of other) h in
-        let low = loops_within all from parts.middle (loops_of chosen) parts.front in
-        let high = loops_within all parts.middle top (loops_of other) parts.back in
+        let parts = loops_split all from top (loops_of_phases chosen) (loops_of_phases other) h in
+        let low = loops_within all from parts.middle (loops_of_phases chosen) parts.front in
+        let high = loops_within all parts.middle top (loops_of_phases other) parts.back in
         (inside_list from parts.middle rounds chosen parts.front before (least_of parts.middle top (length scene.held.now) high within), inside_list parts.middle top rounds other parts.back (before_more from parts.middle rounds low before) within)
 
-  pub own_loops : LoopsFrom all low high (loops_of (core_of (program_seen scene.program.now)).phases) → HasOwnLoops scene
+  pub own_loops : LoopsFrom all low high (loops_of_phases (core_of (program_seen scene.program.now)).phases) → HasOwnLoops scene
   own_loops h = record {
     inside = inside_list low high [] (core_of (program_seen scene.program.now)).phases h tt held;
     own = record {
-      counting = counting_list low high (loops_of (core_of (program_seen scene.program.now)).phases) h held;
-      own = λ i j a b at at' e. own_list low high (loops_of (core_of (program_seen scene.program.now)).phases) h i j a b at at' e;
+      counting = counting_list low high (loops_of_phases (core_of (program_seen scene.program.now)).phases) h held;
+      own = λ i j a b at at' e. own_list low high (loops_of_phases (core_of (program_seen scene.program.now)).phases) h i j a b at at' e;
     };
   }
 

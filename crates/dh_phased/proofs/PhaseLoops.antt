@@ -3,11 +3,11 @@ use Rattle.std.proofs.Common.{◌≡◌, List, [], ◌∷◌, ◌++◌, refl, ap
 use Rattle.dh_meaning.specs.Core.{Turning}
 use Rattle.dh_meaning.specs.CoreOf.{Known, core_phase, core_phases}
 use Rattle.dh_meaning.specs.Phases.{Located, Phase, straight, turns, repeated, decided, of_list, one_straight, joined, folded}
-use Rattle.dh_gathering.specs.LoopCounters.{loops_in, loops_of}
+use Rattle.dh_gathering.specs.LoopCounters.{loops_of_phase, loops_of_phases}
 
 module _ (known : Known) where
   abbrev pub loops_in_list : List Phase → List Turning
-  loops_in_list qs = loops_of (core_phases known (of_list qs))
+  loops_in_list qs = loops_of_phases (core_phases known (of_list qs))
 
   -- those of parts, one behind the other
   abbrev pub loops_in_parts : List (List Phase) → List Turning
@@ -16,7 +16,7 @@ module _ (known : Known) where
 
   pub loops_append : (ps qs : List Phase) → loops_in_list (ps ++ qs) ≡ loops_in_list ps ++ loops_in_list qs
   loops_append [] qs = refl
-  loops_append (p ∷ ps) qs = ap (λ (l : List Turning). loops_in (core_phase known p) ++ l) (loops_append ps qs) ∙ sym (append_assoc (loops_in (core_phase known p)) (loops_in_list ps) (loops_in_list qs))
+  loops_append (p ∷ ps) qs = ap (λ (l : List Turning). loops_of_phase (core_phase known p) ++ l) (loops_append ps qs) ∙ sym (append_assoc (loops_of_phase (core_phase known p)) (loops_in_list ps) (loops_in_list qs))
 
   straight_none : (cs : List Located) → loops_in_list (one_straight cs) ≡ []
   straight_none [] = refl
@@ -45,5 +45,5 @@ module _ (known : Known) where
   loops_folded (repeated loop body ∷ []) qs = loops_append (repeated loop body ∷ []) qs
   loops_folded (decided choice chosen other ∷ []) qs = loops_append (decided choice chosen other ∷ []) qs
   loops_folded (p ∷ q ∷ ps) qs =
-      ap (λ (l : List Turning). loops_in (core_phase known p) ++ l) (loops_folded (q ∷ ps) qs)
-      ∙ sym (append_assoc (loops_in (core_phase known p)) (loops_in_list (q ∷ ps)) (loops_in_list qs))
+      ap (λ (l : List Turning). loops_of_phase (core_phase known p) ++ l) (loops_folded (q ∷ ps) qs)
+      ∙ sym (append_assoc (loops_of_phase (core_phase known p)) (loops_in_list (q ∷ ps)) (loops_in_list qs))

@@ -14,7 +14,7 @@ use Rattle.dh_expressions.specs.declared.scenes.Around.{Around}
 use Rattle.dh_expressions.specs.declared.scenes.Scene.{Scene}
 use Rattle.dh_expressions.specs.Evaluated.{known_in}
 use Rattle.dh_laid.specs.BlockSites.{MadeEach}
-use Rattle.dh_laid.specs.LaidQuiet.{StandsIn}
+use Rattle.dh_laid.specs.LaidQuiet.{BlockStandsIn}
 use Rattle.dh_blocks.specs.BlockMade.{IsBlockMade, IsTop}
 use Rattle.dh_blocks.specs.SlotsOfScene.{HoldsVariables, placing_in, slots_in}
 use Rattle.dh_blocks.specs.TestMade.{DoesTest, IsTestMade}
@@ -38,7 +38,7 @@ have_counters scene (r ∷ rounds) h = ((h.0.0.counter, h.0.0.counted), have_cou
 
 module _ (scene : Scene) (plan : PlainPlan) (count : ℕ) (final : Made) (made : HasMade plan count final) (holds : HoldsVariables scene plan count) (sound : HasSoundBlocks scene plan final) where
   -- what stands round a block
-  stands_here : (rounds : List Round) (around : Around) → IsTop rounds around → StandsIn scene around → AreCounting scene (placing_in scene) rounds → StandsInPlan scene around plan rounds count
+  stands_here : (rounds : List Round) (around : Around) → IsTop rounds around → BlockStandsIn scene around → AreCounting scene (placing_in scene) rounds → StandsInPlan scene around plan rounds count
   stands_here rounds around top stands counting = record { holds = holds; top = top; few = stands.few; counters = have_counters scene rounds counting }
 
   straight_does : (rounds : List Round) (cs : CoreCommands) (block : ℕ) → AreCounting scene (placing_in scene) rounds → IsStraightBlock scene final rounds cs block

@@ -5,12 +5,12 @@ use Rattle.dh_tree.specs.Seen.{program_seen}
 use Rattle.dh_meaning.specs.CoreOf.{core_of}
 use Rattle.dh_expressions.specs.declared.scenes.Scene.{Scene}
 use Rattle.dh_blocks.specs.SlotsOfScene.{placing_in}
-use Rattle.dh_gathering.specs.LoopCounters.{AreOwnLoops, LoopsCount, loops_of}
+use Rattle.dh_gathering.specs.LoopCounters.{AreOwnLoops, LoopsCount, loops_of_phases}
 
 -- the loops of these phases are so, inside one another and beside one another
 pub record HasOwnLoops (scene : Scene) : Type 0 where
   pub inside : LoopsCount scene (placing_in scene) [] (core_of (program_seen scene.program.now)).phases
-  pub own : AreOwnLoops scene (placing_in scene) (loops_of (core_of (program_seen scene.program.now)).phases)
+  pub own : AreOwnLoops scene (placing_in scene) (loops_of_phases (core_of (program_seen scene.program.now)).phases)
 
 -- so where names have their entities, and the scene holds them all: behind them stand variables that keep offsets
 abbrev pub LoopsAreOwn : Type 0

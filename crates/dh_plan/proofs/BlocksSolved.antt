@@ -11,7 +11,7 @@ use Rattle.std.proofs.lemmas.List.{get_or_append_left, get_or_past, ext_get_or}
 use Rattle.std.proofs.lemmas.Option.{slice_get_cases}
 use Rattle.dh_value.specs.declared.words.Word.{Word}
 use Rattle.dh_plan.specs.declared.operations.Operation.{Operation}
-use Rattle.dh_plan.specs.Blocks.{StepStart, Look, no_word, operation_word, values_behind, values_of, AreValues}
+use Rattle.dh_plan.specs.Blocks.{StepStart, Look, no_word, operation_word, values_behind, values_of_operations, AreValues}
 use Rattle.dh_plan.specs.Ordered.{operation_takes, IsBetween, TakesEarlier, IsOrdered}
 use Rattle.dh_plan.specs.BlockLaws.{SameAt, SameAtAll, LooksBack, HasOneSolution}
 use Rattle.dh_plan.proofs.ValuesAlike.{all_map, word_same}
@@ -87,9 +87,9 @@ solved_behind s look first back (p ∷ os) ws h (suc i) o e =
     (solved_behind s look first back os (ws ++ w ∷ []) ordered i o e)
 
 pub block_solves : (s : StepStart) (look : Look) (first : ℕ) → LooksBack look first → (os : List Operation) → IsOrdered first os
-    → AreValues s look first os (values_of s look first os)
+    → AreValues s look first os (values_of_operations s look first os)
 block_solves s look first back os ordered =
-    let final = values_of s look first os in
+    let final = values_of_operations s look first os in
     record {
       long = values_long s look first os [] ∙ omega arith;
       solve = record {
@@ -147,5 +147,5 @@ pub has_one_solution : (s : StepStart) (look : Look) (first : ℕ) → LooksBack
 has_one_solution s look first back os ordered =
     record {
       solves = block_solves s look first back os ordered;
-      alone = λ ws w. one_solution s look first back os ordered ws (values_of s look first os) w (block_solves s look first back os ordered);
+      alone = λ ws w. one_solution s look first back os ordered ws (values_of_operations s look first os) w (block_solves s look first back os ordered);
     }

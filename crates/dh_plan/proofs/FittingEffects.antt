@@ -16,7 +16,7 @@ use Rattle.dh_plan.specs.declared.operations.Operation.{Operation}
 use Rattle.dh_plan.specs.declared.operations.OperationForm.{OperationForm}
 use Rattle.dh_plan.specs.declared.operations.OperationForm.TheVariants.{Constant, Old, Compute, Convert, Select, Check, Probe, Read, Write, Set}
 use Rattle.dh_plan.specs.PlainPlans.{PlainPlan, first_in, operations_in}
-use Rattle.dh_plan.specs.Blocks.{StepStart, kind_at, is_on, word_at, spot_of_reach, in_memories, BlockEvent, fails, puts, fails_outside, puts_inside, form_events, operation_events, block_events, RegisterSet, form_sets, operation_sets, block_sets, Put, puts_of, all_put, all_set}
+use Rattle.dh_plan.specs.Blocks.{StepStart, kind_at, is_on, word_at, spot_of_reach, in_memories, BlockEvent, fails, puts, fails_outside, puts_inside, operation_form_events, operation_events, block_events, RegisterSet, form_sets, operation_sets, block_sets, Put, puts_of, all_put, all_set}
 use Rattle.dh_plan.specs.Correspondence.{FitKinds}
 use Rattle.dh_plan.specs.PlanKinds.{kind_of_value, kinds_of, FormSuits, OperationSuits, IsFormedBlock}
 use Rattle.dh_plan.specs.PlanRuns.{start_at, block_values, events_of_block, sets_of_block, step_events, step_sets}
@@ -72,7 +72,7 @@ module _ (plan : PlainPlan) (s : StepStart) (first : ℕ) (kinds : List Kind) (w
       (pick (AllByRecursion (SetFits plan.registers)) (is_on first ws o.guard) (form_sets first ws o.form) [] (form_sets_fit o.form (suits 0 o refl).form) tt)
       (sets_fit os (λ i p there. suits (suc i) p there))
 
-  form_events_fit : (f : OperationForm) → FormSuits plan first kinds f → AllByRecursion (EventFits plan.table) (form_events s first ws f)
+  form_events_fit : (f : OperationForm) → FormSuits plan first kinds f → AllByRecursion (EventFits plan.table) (operation_form_events s first ws f)
   form_events_fit (Constant word) suits = tt
   form_events_fit (Old register) suits = tt
   form_events_fit (Compute op left right) suits = tt
@@ -90,7 +90,7 @@ module _ (plan : PlainPlan) (s : StepStart) (first : ℕ) (kinds : List Kind) (w
   events_fit [] suits = tt
   events_fit (o ∷ os) suits =
       all_joined (EventFits plan.table) (operation_events s first ws o) (block_events s first ws os)
-      (pick (AllByRecursion (EventFits plan.table)) (is_on first ws o.guard) (form_events s first ws o.form) [] (form_events_fit o.form (suits 0 o refl).form) tt)
+      (pick (AllByRecursion (EventFits plan.table)) (is_on first ws o.guard) (operation_form_events s first ws o.form) [] (form_events_fit o.form (suits 0 o refl).form) tt)
       (events_fit os (λ i p there. suits (suc i) p there))
 
 -- Steps of several blocks.

@@ -27,7 +27,7 @@ use Rattle.dh_plan.specs.declared.operations.OperationForm.{OperationForm}
 use Rattle.dh_plan.specs.declared.operations.OperationForm.TheVariants.{Constant, Old, Compute, Convert, Select, Check, Probe, Read, Write, Set}
 use Rattle.dh_plan.specs.declared.operations.Reach.{Reach}
 use Rattle.dh_plan.specs.PlainPlans.{PlainPlan, first_in, operations_in}
-use Rattle.dh_plan.specs.Blocks.{StepStart, Look, no_word, word_at, is_on, bank_picked, spot_if_inside, spot_in_row, spot_of_reach, in_memories, form_word, guarded, operation_word, values_behind, values_of}
+use Rattle.dh_plan.specs.Blocks.{StepStart, Look, no_word, word_at, is_on, bank_picked, spot_if_inside, spot_in_row, spot_of_reach, in_memories, form_word, guarded, operation_word, values_behind, values_of_operations}
 use Rattle.dh_plan.specs.Correspondence.{FitKinds}
 use Rattle.dh_plan.specs.Ordered.{one_or_none, form_takes, operation_takes, IsBetween, TakesEarlier}
 use Rattle.dh_plan.specs.PlanKinds.{kind_of_value, form_kind, kinds_behind, kinds_of, FormSuits, OperationSuits, IsFormedBlock}
@@ -241,7 +241,7 @@ values_fit plan registers memories look first fit looks (o ∷ os) before ws h s
 -- the kinds of a block beside its values
 pub block_paired : (plan : PlainPlan) (block : ℕ) (registers : List ℕ) (memories : List (List ℕ)) (look : Look)
     → IsFormedBlock plan block → FitKinds plan.registers registers → LooksFit plan.table look
-    → ArePaired (kinds_of plan block) (values_of (start_at plan registers memories) look (first_in plan block) (operations_in plan block))
+    → ArePaired (kinds_of plan block) (values_of_operations (start_at plan registers memories) look (first_in plan block) (operations_in plan block))
 block_paired plan block registers memories look formed fit looks =
     values_fit plan registers memories look (first_in plan block) fit looks (operations_in plan block) [] [] tt
     (λ i o there. (formed.suits i o there, subst (λ (n : ℕ). TakesEarlier (first_in plan block) (first_in plan block + n) o) (none_before i) (formed.ordered.each i o there)))

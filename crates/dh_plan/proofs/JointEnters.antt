@@ -19,7 +19,7 @@ use Rattle.dh_plan.specs.PlainPlans.{Node, block_node, turns_node, loop_node, ch
 use Rattle.dh_plan.specs.Blocks.{kind_at}
 use Rattle.dh_plan.specs.Correspondence.{Slots, FitKinds, Holding, Round}
 use Rattle.dh_plan.specs.PlanPhases.{IsCounterOf, IsIteratorOf, IsLoopRegister, IsNodeOf, Tie, both_ties, does_phases}
-use Rattle.dh_plan.specs.PlanRuns.{turn_then, test_then, pick_then, ended, PlanNext, plan_next, enter, enter_node, plan_next_of, flag_holds, counted_up}
+use Rattle.dh_plan.specs.PlanRuns.{turn_then, test_then, pick_then, ended, PlanNext, plan_next, plan_enter, enter_node, plan_next_of, flag_holds, counted_up}
 use Rattle.dh_plan.specs.SoundPlans.{CountsTurns, KeepsCounter, IsNeverSet, countings, node_countings}
 use Rattle.dh_plan.proofs.ValuesAlike.{all_left, all_right}
 use Rattle.dh_plan.proofs.SourceMoves.{begun_other, begun_here}
@@ -178,7 +178,7 @@ abbrev pub IntoNodes : PlainPlan → Slots → Tie → CorePhases → Nodes → 
 IntoNodes plan slots extra ps ns =
     (k : Joint) (behind : source.RunNext) (beyond : PlanNext) (registers : List ℕ) (variables : Variables)
     → NodesRun plan slots extra (around k) ps ns → Valid plan slots extra k → Met plan slots extra behind beyond → Live plan slots extra k registers variables
-    → Met plan slots extra (source.enter (paths_at k) ps (source_todo k) behind variables) (enter ns (plan_todo k) beyond registers)
+    → Met plan slots extra (source.enter (paths_at k) ps (source_todo k) behind variables) (plan_enter ns (plan_todo k) beyond registers)
 
 abbrev pub IntoNode : PlainPlan → Slots → Tie → CorePhase → Node → Type 0
 IntoNode plan slots extra p n =
@@ -198,7 +198,7 @@ into_turns plan slots extra loop body counter turns ms inside k ps ns behind bey
     let counts = subst (λ (t : ℕ). CountsTurns plan (counting counter t)) h.0 good.0.0 in
     let vs = begins loop (paths_at k) variables in
     subst (λ (t : ℕ). Met plan slots extra (if loop.count == 0 then behind else source.enter (inner_paths (paths_at k) loop) body (source.turn_then (paths_at k) loop 0 body (source_todo kj)) behind vs)
-    (if t == 0 then beyond else enter ms (turn_then counter t ms (plan_todo kj)) beyond registers)) (sym h.0)
+    (if t == 0 then beyond else plan_enter ms (turn_then counter t ms (plan_todo kj)) beyond registers)) (sym h.0)
     (met_if plan slots extra (loop.count == 0) (loop.count == 0) refl _ _ _ _ (λ none. met)
     (λ some. inside (j_turn loop counter 0 body ms kj) behind beyond registers vs (h.1.1, (good.0.1, good.1.1)) ((h.1.0, (counts, good.1.0)), ((h.1.1, (good.0.1, good.1.1)), (runs, valid))) met
     (begin_live plan slots extra kj loop counter body ms registers variables h.1.0.0 good.1.0 (some_turns loop.count some) live)))

@@ -12,7 +12,7 @@ use Rattle.dh_plan.specs.AlikeRuns.{DoesAlike, BlocksDoAlike, PlansRunAlike}
 use Rattle.dh_plan.specs.BlockLaws.{fault_or}
 use Rattle.dh_plan.specs.Blocks.{BlockEvent, first_fault, RegisterSet, Put, puts_of, all_put, all_set}
 use Rattle.dh_plan.specs.PlainPlans.{Nodes, PlainPlan}
-use Rattle.dh_plan.specs.PlanRuns.{over, plan_next, ended, enter, place_after, start_at, blocks_at, events_of_block, sets_of_block, step_events, step_sets, PlanState, plan_stands_at, outcome_named, plan_state_after, plan_step_from, first_registers, first_plan_state, plan_state}
+use Rattle.dh_plan.specs.PlanRuns.{over, plan_next, ended, plan_enter, plan_place_after, start_at, blocks_at, events_of_block, sets_of_block, step_events, step_sets, PlanState, plan_stands_at, outcome_named, plan_state_after, plan_step_from, first_registers, first_plan_state, plan_state}
 use Rattle.dh_plan.specs.SoundPlans.{IsOneOf, IsFormed}
 use Rattle.dh_plan.specs.SoundRuns.{StandsInStep}
 use Rattle.dh_plan.proofs.Appends.{fault_behind, puts_behind}
@@ -76,9 +76,9 @@ module _ (p q : PlainPlan) (registers : List ℕ) (memories : List (List ℕ)) w
 after_same : (p q : PlainPlan) → q.registers ≡ p.registers → q.faults ≡ p.faults → (s : PlanState) (es fs : List BlockEvent) (ss ts : List RegisterSet) (fault : Option ℕ)
     → (fault ≡ None → puts_of es ≡ puts_of fs) → (fault ≡ None → ss ≡ ts) → plan_state_after q s es ss fault ≡ plan_state_after p s fs ts fault
 after_same p q kinds faults s es fs ss ts None puts sets =
-    ap (λ (ks : List Kind). plan_stands_at (suc s.steps) (all_put (puts_of es) s.memories) (place_after ks s.place (all_set ss s.registers))) kinds
-    ∙ (ap (λ (ps : List Put). plan_stands_at (suc s.steps) (all_put ps s.memories) (place_after p.registers s.place (all_set ss s.registers))) (puts refl)
-    ∙ ap (λ (rs : List RegisterSet). plan_stands_at (suc s.steps) (all_put (puts_of fs) s.memories) (place_after p.registers s.place (all_set rs s.registers))) (sets refl))
+    ap (λ (ks : List Kind). plan_stands_at (suc s.steps) (all_put (puts_of es) s.memories) (plan_place_after ks s.place (all_set ss s.registers))) kinds
+    ∙ (ap (λ (ps : List Put). plan_stands_at (suc s.steps) (all_put ps s.memories) (plan_place_after p.registers s.place (all_set ss s.registers))) (puts refl)
+    ∙ ap (λ (rs : List RegisterSet). plan_stands_at (suc s.steps) (all_put (puts_of fs) s.memories) (plan_place_after p.registers s.place (all_set rs s.registers))) (sets refl))
 after_same p q kinds faults s es fs ss ts (Some fault) puts sets =
     ap (λ (named : List (FaultKind × source.Place)). record s { outcome = outcome_named (slice_get named fault) }) faults
 
@@ -103,7 +103,7 @@ by_outcome p q kinds faults alike (Stuck memory bank place) s stands e = refl
 
 -- how a run begins, by the nodes and the registers
 abbrev begin_at : (memories : List (List ℕ)) → Nodes → (registers : List ℕ) → PlanState
-begin_at memories body registers = plan_stands_at 0 memories (enter body over (plan_next ended registers) registers)
+begin_at memories body registers = plan_stands_at 0 memories (plan_enter body over (plan_next ended registers) registers)
 
 first_same : (p q : PlainPlan) (memories : List (List ℕ)) → q.registers ≡ p.registers → q.body ≡ p.body → first_plan_state q memories ≡ first_plan_state p memories
 first_same p q memories kinds body =

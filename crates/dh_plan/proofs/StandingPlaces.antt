@@ -8,7 +8,7 @@ use Rattle.std.specs.Prelude.{[], ◌∷◌, ◌++◌, ◌==◌, ◌&&◌, Bool,
 use Rattle.std.specs.List.{AllByRecursion}
 use Rattle.std.proofs.lemmas.List.{append-nil}
 use Rattle.dh_plan.specs.PlainPlans.{Node, block_node, turns_node, loop_node, choice_node, threads_node, Nodes, no_nodes, node_then, NodeLists, no_lists, list_then, PlainPlan}
-use Rattle.dh_plan.specs.PlanRuns.{PlanTodo, over, nodes_then, turn_then, test_then, again_then, pick_then, PlanPlace, ended, at, inside, PlanPlaces, no_places, place_then, PlanNext, plan_next, has_ended, all_ended, enter, enter_node, enter_lists, flag_holds, counted_up, plan_next_of, PlanNextPlaces, place_after, places_after, blocks_at, blocks_at_all}
+use Rattle.dh_plan.specs.PlanRuns.{PlanTodo, over, nodes_then, turn_then, test_then, again_then, pick_then, PlanPlace, ended, at, inside, PlanPlaces, no_places, place_then, PlanNext, plan_next, has_ended, all_ended, plan_enter, enter_node, enter_lists, flag_holds, counted_up, plan_next_of, PlanNextPlaces, plan_place_after, places_after, blocks_at, blocks_at_all}
 use Rattle.dh_plan.specs.SoundPlans.{Counting, countings, node_countings, list_countings, AreCounters, IsStepOf, IsStepOfNode, IsStepOfLists}
 use Rattle.dh_plan.proofs.FittingEffects.{all_joined}
 use Rattle.dh_plan.proofs.JointEnters.{some_turns}
@@ -79,19 +79,19 @@ loop_at plan whole round test flag body k c t = (c.0 (test ∷ []) (loops_in rou
 mutual
   pub enter_stands : (plan : PlainPlan) (whole : Nodes) (round : List Counting) (ns : Nodes) (k : PlanTodo) (behind : PlanNext) (registers : List ℕ)
       → NodesCome plan whole round (loops_in round k) ns → TodoStands plan whole round k → NextStands plan whole round behind → RegistersStand plan registers
-      → NextStands plan whole round (enter ns k behind registers)
+      → NextStands plan whole round (plan_enter ns k behind registers)
   enter_stands plan whole round no_nodes k behind registers c t n q = n
   enter_stands plan whole round (node_then m ns) k behind registers c t n q =
       let first : NodeComes plan whole round (loops_in round k) m = ((λ bs ls s. c.0 bs ls (inl s)), all_left (IsLoopOf plan) (node_countings m) (countings ns) c.1) in
       let rest : NodesCome plan whole round (loops_in round k) ns = ((λ bs ls s. c.0 bs ls (inr s)), all_right (IsLoopOf plan) (node_countings m) (countings ns) c.1) in
-      node_stands plan whole round m (nodes_then ns k) (enter ns k behind registers) registers first (rest, t) (enter_stands plan whole round ns k behind registers rest t n q) q
+      node_stands plan whole round m (nodes_then ns k) (plan_enter ns k behind registers) registers first (rest, t) (enter_stands plan whole round ns k behind registers rest t n q) q
 
   pub node_stands : (plan : PlainPlan) (whole : Nodes) (round : List Counting) (m : Node) (k : PlanTodo) (behind : PlanNext) (registers : List ℕ)
       → NodeComes plan whole round (loops_in round k) m → TodoStands plan whole round k → NextStands plan whole round behind → RegistersStand plan registers
       → NextStands plan whole round (enter_node m k behind registers)
   node_stands plan whole round (block_node block) k behind registers c t n q = ((c.0 (block ∷ []) (loops_in round k) (refl, refl), t), q)
   node_stands plan whole round (turns_node counter turns body) k behind registers c t n q =
-      pick_by (NextStands plan whole round) (turns == 0) behind (enter body (turn_then counter turns body k) behind registers) (λ none. n)
+      pick_by (NextStands plan whole round) (turns == 0) behind (plan_enter body (turn_then counter turns body k) behind registers) (λ none. n)
       (λ some. let comes : NodesCome plan whole round (loops_in round k ++ counting counter turns ∷ []) body = ((λ bs ls s. c.0 bs ls s), c.1.1) in
       enter_stands plan whole round body (turn_then counter turns body k) behind registers comes ((c.1.0, some_turns turns some), (comes, t)) n q)
   node_stands plan whole round (loop_node test flag body) k behind registers c t n q = (loop_at plan whole round test flag body k c t, q)
@@ -122,20 +122,20 @@ behind_stands plan counters whole round (nodes_then ns k) registers t q =
 behind_stands plan counters whole round (turn_then counter turns body k) registers t q =
     let more = counted_up plan.registers counter registers in
     pick_by (NextStands plan whole round) (slice_index registers counter == turns - 1) (plan_next_of plan.registers k (slice_set registers counter 0))
-    (enter body (turn_then counter turns body k) (plan_next ended more) more)
+    (plan_enter body (turn_then counter turns body k) (plan_next ended more) more)
     (λ last. behind_stands plan counters whole round k (slice_set registers counter 0) t.1.1 (left_stands plan registers counters (counting counter turns) t.0 q))
     (λ on. let up = counted_stands plan registers counters (counting counter turns) t.0 on q in
     enter_stands plan whole round body (turn_then counter turns body k) (plan_next ended more) more t.1.0 t (tt, up) up)
 behind_stands plan counters whole round (test_then test flag body k) registers t q =
     let again = plan_next (at test (test_then test flag body k)) registers in
     let comes : NodesCome plan whole round (loops_in round k) body = ((λ bs ls s. t.0.0 bs ls (inr s)), t.0.1) in
-    pick_by (NextStands plan whole round) (flag_holds registers flag) (enter body (again_then test flag body k) again registers) (plan_next_of plan.registers k registers)
+    pick_by (NextStands plan whole round) (flag_holds registers flag) (plan_enter body (again_then test flag body k) again registers) (plan_next_of plan.registers k registers)
     (λ holds. enter_stands plan whole round body (again_then test flag body k) again registers comes t (loop_at plan whole round test flag body k t.0 t.1, q) q)
     (λ fails. behind_stands plan counters whole round k registers t.1 q)
 behind_stands plan counters whole round (again_then test flag body k) registers t q = (loop_at plan whole round test flag body k t.0 t.1, q)
 behind_stands plan counters whole round (pick_then flag chosen other k) registers t q =
     let beyond = plan_next_of plan.registers k registers in
-    pick_by (NextStands plan whole round) (flag_holds registers flag) (enter chosen k beyond registers) (enter other k beyond registers)
+    pick_by (NextStands plan whole round) (flag_holds registers flag) (plan_enter chosen k beyond registers) (plan_enter other k beyond registers)
     (λ holds. enter_stands plan whole round chosen k beyond registers t.0.0 t.1 (behind_stands plan counters whole round k registers t.1 q) q)
     (λ fails. enter_stands plan whole round other k beyond registers t.0.1 t.1 (behind_stands plan counters whole round k registers t.1 q) q)
 
@@ -146,7 +146,7 @@ NextPlacesStand plan round lists n = PlacesStand plan round lists n.places × Re
 
 mutual
   pub after_stands : (plan : PlainPlan) → AreCounters plan (countings plan.body) → (whole : Nodes) (round : List Counting) (p : PlanPlace) (registers : List ℕ)
-      → PlaceStands plan whole round p → RegistersStand plan registers → NextStands plan whole round (place_after plan.registers p registers)
+      → PlaceStands plan whole round p → RegistersStand plan registers → NextStands plan whole round (plan_place_after plan.registers p registers)
   after_stands plan counters whole round ended registers h q = (tt, q)
   after_stands plan counters whole round (at block k) registers h q = behind_stands plan counters whole round k registers h.1 q
   after_stands plan counters whole round (inside ps k) registers h q =
@@ -161,7 +161,7 @@ mutual
   places_after_stand plan counters round no_lists no_places registers h q = (tt, q)
   places_after_stand plan counters round (list_then ns lists) (place_then p ps) registers h q =
       let first = after_stands plan counters ns round p registers h.0 q in
-      let rest = places_after_stand plan counters round lists ps (place_after plan.registers p registers).registers h.1 first.1 in
+      let rest = places_after_stand plan counters round lists ps (plan_place_after plan.registers p registers).registers h.1 first.1 in
       ((first.0, rest.0), rest.1)
   places_after_stand plan counters round no_lists (place_then p ps) registers h q = absurd h
   places_after_stand plan counters round (list_then ns lists) no_places registers h q = absurd h

@@ -10,7 +10,7 @@ use Rattle.dh_base.specs.declared.places.Place as source
 use Rattle.dh_tree.specs.Tables.{Fits}
 use Rattle.dh_plan.specs.Blocks.{BlockEvent, first_fault, RegisterSet, puts_of, all_put, all_set}
 use Rattle.dh_plan.specs.PlainPlans.{PlainPlan}
-use Rattle.dh_plan.specs.PlanRuns.{over, PlanPlace, ended, at, inside, PlanNext, plan_next, has_ended, enter, place_after, start_at, blocks_at, step_events, step_sets, PlanState, plan_outcome_at, plan_stands_at, outcome_named, plan_state_after, plan_step_from, first_registers, plan_state}
+use Rattle.dh_plan.specs.PlanRuns.{over, PlanPlace, ended, at, inside, PlanNext, plan_next, has_ended, plan_enter, plan_place_after, start_at, blocks_at, step_events, step_sets, PlanState, plan_outcome_at, plan_stands_at, outcome_named, plan_state_after, plan_step_from, first_registers, plan_state}
 use Rattle.dh_plan.specs.SoundPlans.{Counting, countings, IsFormed}
 use Rattle.dh_plan.specs.SoundRuns.{RunsMakeSteps}
 use Rattle.dh_plan.proofs.FittingEffects.{step_sets_fit, step_events_fit, all_set_fit, puts_fit, all_put_fit}
@@ -55,7 +55,7 @@ step_stands plan formed s h =
     let counted = step_counted plan start formed.counters_kept blocks s.registers h.registers.1 in
     let fits = all_put_fit plan.table (puts_of events) s.memories (puts_fit plan.table events (step_events_fit plan formed.blocks s.registers s.memories h.registers.0 h.memories blocks)) h.memories in
     finish plan s events sets (first_fault events) h
-    (stands_at_next plan (suc s.steps) (all_put (puts_of events) s.memories) (place_after plan.registers s.place (all_set sets s.registers))
+    (stands_at_next plan (suc s.steps) (all_put (puts_of events) s.memories) (plan_place_after plan.registers s.place (all_set sets s.registers))
     (after_stands plan formed.counters plan.body [] s.place (all_set sets s.registers) h.place (fit, counted)) fits)
 
 by_outcome : (plan : PlainPlan) → IsFormed plan → (o : Outcome) (s : PlanState) → PlanStands plan s → PlanStands plan (plan_step_from plan s o)
@@ -72,7 +72,7 @@ own_loops (c ∷ cs) P h = (h 0 c refl, own_loops cs P (λ i d there. h (suc i) 
 runs_stand : (plan : PlainPlan) (memories : List (List ℕ)) → IsFormed plan → Fits plan.table memories → (n : ℕ) → PlanStands plan (plan_state plan memories n)
 runs_stand plan memories formed fits zero =
     let comes : NodesCome plan plan.body [] [] plan.body = ((λ bs ls s. s), own_loops (countings plan.body) (IsLoopOf plan) (λ i c there. (i, there))) in
-    stands_at_next plan 0 memories (enter plan.body over (plan_next ended (first_registers plan)) (first_registers plan))
+    stands_at_next plan 0 memories (plan_enter plan.body over (plan_next ended (first_registers plan)) (first_registers plan))
     (enter_stands plan plan.body [] plan.body over (plan_next ended (first_registers plan)) (first_registers plan) comes tt (tt, first_stands plan) (first_stands plan)) fits
 runs_stand plan memories formed fits (suc n) =
     let before = runs_stand plan memories formed fits n in

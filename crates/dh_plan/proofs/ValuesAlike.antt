@@ -10,7 +10,7 @@ use Rattle.dh_plan.specs.declared.operations.OperationForm.{OperationForm}
 use Rattle.dh_plan.specs.declared.operations.OperationForm.TheVariants.{Constant, Old, Compute, Convert, Select, Check, Probe, Read, Write, Set}
 use Rattle.dh_plan.specs.declared.operations.Reach.{Reach}
 use Rattle.dh_plan.specs.declared.operations.ReachStep.{ReachStep}
-use Rattle.dh_plan.specs.Blocks.{StepStart, Look, is_on, numbers_at, passages, bank_picked, spot_in_row, spot_of_reach, in_memories, form_word, operation_word, form_events, operation_events, block_events, form_sets, operation_sets, block_sets}
+use Rattle.dh_plan.specs.Blocks.{StepStart, Look, is_on, numbers_at, passages, bank_picked, spot_in_row, spot_of_reach, in_memories, form_word, operation_word, operation_form_events, operation_events, block_events, form_sets, operation_sets, block_sets}
 use Rattle.dh_plan.specs.BlockLaws.{SameAt, SameAtAll, LooksBack, DoesByValues}
 use Rattle.dh_plan.specs.Ordered.{one_or_none, offsets_taken, reach_takes, form_takes, operation_takes}
 
@@ -107,7 +107,7 @@ word_same s look first back ws vs number o h =
 -- Faults, writes and registers.
 
 pub form_events_same : (s : StepStart) (first : ℕ) (ws vs : List Word) (f : OperationForm)
-    → SameAtAll first ws vs (form_takes f) → form_events s first ws f ≡ form_events s first vs f
+    → SameAtAll first ws vs (form_takes f) → operation_form_events s first ws f ≡ operation_form_events s first vs f
 form_events_same s first ws vs (Constant word) h = refl
 form_events_same s first ws vs (Old register) h = refl
 form_events_same s first ws vs (Compute op left right) h = refl

@@ -5,7 +5,7 @@ use Rattle.std.specs.List.{AllByRecursion}
 use Rattle.dh_value.specs.declared.words.Word.{Word}
 use Rattle.dh_plan.specs.declared.operations.Operation.{Operation}
 use Rattle.dh_plan.specs.declared.operations.Reach.{Reach}
-use Rattle.dh_plan.specs.Blocks.{StepStart, Look, word_at, in_memories, values_of, Solves, AreValues, BlockEvent, block_events, RegisterSet, block_sets, first_fault, Put, puts_of, all_put, all_set}
+use Rattle.dh_plan.specs.Blocks.{StepStart, Look, word_at, in_memories, values_of_operations, Solves, AreValues, BlockEvent, block_events, RegisterSet, block_sets, first_fault, Put, puts_of, all_put, all_set}
 use Rattle.dh_plan.specs.Ordered.{reach_takes, operation_takes, IsOrdered}
 
 -- both lists have one value at a number
@@ -21,8 +21,8 @@ pub record LooksBack (look : Look) (first : ℕ) : Type 0 where
 
 -- the values of a block solve its equations, and no other list does
 pub record HasOneSolution (s : StepStart) (look : Look) (first : ℕ) (os : List Operation) : Type 0 where
-  pub solves : AreValues s look first os (values_of s look first os)
-  pub alone : (ws : List Word) → AreValues s look first os ws → ws ≡ values_of s look first os
+  pub solves : AreValues s look first os (values_of_operations s look first os)
+  pub alone : (ws : List Word) → AreValues s look first os ws → ws ≡ values_of_operations s look first os
 
 -- two lists with the same at all that is taken have the block do the same
 abbrev pub DoesByValues : StepStart → (first : ℕ) → (ws vs : List Word) → List Operation → Type 0

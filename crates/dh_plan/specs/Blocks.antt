@@ -109,8 +109,8 @@ values_behind s look first ws [] = ws
 values_behind s look first ws (o ∷ os) = values_behind s look first (ws ++ operation_word s look first ws (first + length ws) o ∷ []) os
 
 -- the values of a block
-abbrev pub values_of : StepStart → Look → (first : ℕ) → List Operation → List Word
-values_of s look first os = values_behind s look first [] os
+abbrev pub values_of_operations : StepStart → Look → (first : ℕ) → List Operation → List Word
+values_of_operations s look first os = values_behind s look first [] os
 
 -- The same by equations: each operation has its value by those of the others. It holds of a part of a block, too.
 pub record Solves (s : StepStart) (look : Look) (first : ℕ) (os : List Operation) (ws : List Word) : Type 0 where
@@ -141,20 +141,20 @@ abbrev pub puts_inside : (bits : ℕ) → Option Spot → List BlockEvent
 puts_inside bits None = []
 puts_inside bits (Some spot) = puts spot bits ∷ []
 
-abbrev pub form_events : StepStart → (first : ℕ) → List Word → OperationForm → List BlockEvent
-form_events s first ws (Constant word) = []
-form_events s first ws (Old register) = []
-form_events s first ws (Compute op left right) = []
-form_events s first ws (Convert inner to) = []
-form_events s first ws (Select test a b) = []
-form_events s first ws (Check ok fault) = fails_unless fault (is_true (word_at first ws ok))
-form_events s first ws (Probe r fault) = fails_outside fault (spot_of_reach s first ws r)
-form_events s first ws (Read r) = []
-form_events s first ws (Write r value) = puts_inside (word_at first ws value).bits (spot_of_reach s first ws r)
-form_events s first ws (Set register value) = []
+abbrev pub operation_form_events : StepStart → (first : ℕ) → List Word → OperationForm → List BlockEvent
+operation_form_events s first ws (Constant word) = []
+operation_form_events s first ws (Old register) = []
+operation_form_events s first ws (Compute op left right) = []
+operation_form_events s first ws (Convert inner to) = []
+operation_form_events s first ws (Select test a b) = []
+operation_form_events s first ws (Check ok fault) = fails_unless fault (is_true (word_at first ws ok))
+operation_form_events s first ws (Probe r fault) = fails_outside fault (spot_of_reach s first ws r)
+operation_form_events s first ws (Read r) = []
+operation_form_events s first ws (Write r value) = puts_inside (word_at first ws value).bits (spot_of_reach s first ws r)
+operation_form_events s first ws (Set register value) = []
 
 abbrev pub operation_events : StepStart → (first : ℕ) → List Word → Operation → List BlockEvent
-operation_events s first ws o = if is_on first ws o.guard then form_events s first ws o.form else []
+operation_events s first ws o = if is_on first ws o.guard then operation_form_events s first ws o.form else []
 
 -- the faults and writes of operations, in order
 abbrev pub block_events : StepStart → (first : ℕ) → List Word → List Operation → List BlockEvent

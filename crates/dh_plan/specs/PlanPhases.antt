@@ -65,20 +65,20 @@ abbrev mutual
   term_mentions entity (convert to inner) = term_mentions entity inner
 
   pub target_mentions : (entity : ℕ) → Target → Bool
-  target_mentions entity (by_indices indices) = terms_mention entity indices
-  target_mentions entity (by_views steps count terms) = terms_mention entity terms
+  target_mentions entity (by_indices indices) = core_terms_mention entity indices
+  target_mentions entity (by_views steps count terms) = core_terms_mention entity terms
   target_mentions entity (by_row bank row) = term_mentions entity row
 
-  pub terms_mention : (entity : ℕ) → CoreTerms → Bool
-  terms_mention entity no_terms = false
-  terms_mention entity (term_and t ts) = term_mentions entity t || terms_mention entity ts
+  pub core_terms_mention : (entity : ℕ) → CoreTerms → Bool
+  core_terms_mention entity no_terms = false
+  core_terms_mention entity (term_and t ts) = term_mentions entity t || core_terms_mention entity ts
 
 abbrev mutual
   -- so do commands, to which what they assign to counts
   pub command_mentions : (entity : ℕ) → CoreCommand → Bool
   command_mentions entity (store reach target value) = term_mentions entity value || target_mentions entity target
   command_mentions entity (assign depth other value) = (entity == other) || term_mentions entity value
-  command_mentions entity (keep depth first values) = assigns_to entity (keep depth first values) || terms_mention entity values
+  command_mentions entity (keep depth first values) = assigns_to entity (keep depth first values) || core_terms_mention entity values
   command_mentions entity (choose test chosen other) = term_mentions entity test || (commands_mention entity chosen || commands_mention entity other)
 
   pub commands_mention : (entity : ℕ) → CoreCommands → Bool

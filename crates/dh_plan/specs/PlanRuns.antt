@@ -11,7 +11,7 @@ use Rattle.dh_value.specs.declared.kinds.Kind.{Kind}
 use Rattle.dh_value.specs.declared.words.Word.{Word}
 use Rattle.dh_value.specs.Words.{width_of}
 use Rattle.dh_plan.specs.PlainPlans.{Node, block_node, turns_node, loop_node, choice_node, threads_node, Nodes, no_nodes, node_then, NodeLists, no_lists, list_then, PlainPlan, first_in, operations_in}
-use Rattle.dh_plan.specs.Blocks.{StepStart, kind_at, in_memories, values_of, BlockEvent, block_events, RegisterSet, block_sets, first_fault, puts_of, all_put, all_set}
+use Rattle.dh_plan.specs.Blocks.{StepStart, kind_at, in_memories, values_of_operations, BlockEvent, block_events, RegisterSet, block_sets, first_fault, puts_of, all_put, all_set}
 
 -- What is still to come behind a block that is done.
 pub data PlanTodo : Type 0 where
@@ -64,14 +64,14 @@ inside_or ps k behind registers = if all_ended ps then behind else plan_next (in
 abbrev mutual
   -- Into phases: to their first block, or to what lies behind where they have none. `k` is what comes behind
   -- their last block. A loop begins with its counter at 0.
-  pub enter : Nodes → (k : PlanTodo) → (behind : PlanNext) → (registers : List ℕ) → PlanNext
-  enter no_nodes k behind registers = behind
-  enter (node_then n ns) k behind registers = enter_node n (nodes_then ns k) (enter ns k behind registers) registers
+  pub plan_enter : Nodes → (k : PlanTodo) → (behind : PlanNext) → (registers : List ℕ) → PlanNext
+  plan_enter no_nodes k behind registers = behind
+  plan_enter (node_then n ns) k behind registers = enter_node n (nodes_then ns k) (plan_enter ns k behind registers) registers
 
   pub enter_node : Node → (k : PlanTodo) → (behind : PlanNext) → (registers : List ℕ) → PlanNext
   enter_node (block_node block) k behind registers = plan_next (at block k) registers
   enter_node (turns_node counter turns body) k behind registers =
-      if turns == 0 then behind else enter body (turn_then counter turns body k) behind registers
+      if turns == 0 then behind else plan_enter body (turn_then counter turns body k) behind registers
   enter_node (loop_node test flag body) k behind registers = plan_next (at test (test_then test flag body k)) registers
   enter_node (choice_node test flag chosen other) k behind registers = plan_next (at test (pick_then flag chosen other k)) registers
   enter_node (threads_node lists) k behind registers = inside_or (enter_lists lists registers) k behind registers
@@ -79,7 +79,7 @@ abbrev mutual
   -- threads begin, each at its own first block
   pub enter_lists : NodeLists → (registers : List ℕ) → PlanPlaces
   enter_lists no_lists registers = no_places
-  enter_lists (list_then ns lists) registers = place_then (enter ns over (plan_next ended registers) registers).place (enter_lists lists registers)
+  enter_lists (list_then ns lists) registers = place_then (plan_enter ns over (plan_next ended registers) registers).place (enter_lists lists registers)
 
 -- a flag holds
 abbrev pub flag_holds : (registers : List ℕ) → (flag : ℕ) → Bool
@@ -92,18 +92,18 @@ counted_up kinds counter registers = slice_set registers counter ((slice_index r
 -- behind a block that is done: to the next one, by the registers as they then are
 abbrev pub plan_next_of : List Kind → PlanTodo → (registers : List ℕ) → PlanNext
 plan_next_of kinds over registers = plan_next ended registers
-plan_next_of kinds (nodes_then ns k) registers = enter ns k (plan_next_of kinds k registers) registers
+plan_next_of kinds (nodes_then ns k) registers = plan_enter ns k (plan_next_of kinds k registers) registers
 plan_next_of kinds (turn_then counter turns body k) registers =
     if slice_index registers counter == turns - 1
     then plan_next_of kinds k (slice_set registers counter 0)
-    else enter body (turn_then counter turns body k) (plan_next ended (counted_up kinds counter registers)) (counted_up kinds counter registers)
+    else plan_enter body (turn_then counter turns body k) (plan_next ended (counted_up kinds counter registers)) (counted_up kinds counter registers)
 plan_next_of kinds (test_then test flag body k) registers =
     if flag_holds registers flag
-    then enter body (again_then test flag body k) (plan_next (at test (test_then test flag body k)) registers) registers
+    then plan_enter body (again_then test flag body k) (plan_next (at test (test_then test flag body k)) registers) registers
     else plan_next_of kinds k registers
 plan_next_of kinds (again_then test flag body k) registers = plan_next (at test (test_then test flag body k)) registers
 plan_next_of kinds (pick_then flag chosen other k) registers =
-    if flag_holds registers flag then enter chosen k (plan_next_of kinds k registers) registers else enter other k (plan_next_of kinds k registers) registers
+    if flag_holds registers flag then plan_enter chosen k (plan_next_of kinds k registers) registers else plan_enter other k (plan_next_of kinds k registers) registers
 
 -- threads that went on, and the registers there
 pub record PlanNextPlaces : Type 0 where
@@ -119,15 +119,15 @@ threads_joined kinds ns k = if all_ended ns.places then plan_next_of kinds k ns.
 
 abbrev mutual
   -- where a thread stands behind a step; registers go through threads in order
-  pub place_after : List Kind → PlanPlace → (registers : List ℕ) → PlanNext
-  place_after kinds ended registers = plan_next ended registers
-  place_after kinds (at block k) registers = plan_next_of kinds k registers
-  place_after kinds (inside ps k) registers = threads_joined kinds (places_after kinds ps registers) k
+  pub plan_place_after : List Kind → PlanPlace → (registers : List ℕ) → PlanNext
+  plan_place_after kinds ended registers = plan_next ended registers
+  plan_place_after kinds (at block k) registers = plan_next_of kinds k registers
+  plan_place_after kinds (inside ps k) registers = threads_joined kinds (places_after kinds ps registers) k
 
   pub places_after : List Kind → PlanPlaces → (registers : List ℕ) → PlanNextPlaces
   places_after kinds no_places registers = record { places = no_places; registers = registers }
   places_after kinds (place_then p ps) registers =
-      with_first (place_after kinds p registers) (places_after kinds ps (place_after kinds p registers).registers)
+      with_first (plan_place_after kinds p registers) (places_after kinds ps (plan_place_after kinds p registers).registers)
 
 -- Steps.
 
@@ -148,7 +148,7 @@ start_at plan registers memories =
 
 -- the values of a block of the plan in a step
 abbrev pub block_values : PlainPlan → StepStart → (block : ℕ) → List Word
-block_values plan s block = values_of s (in_memories s (first_in plan block)) (first_in plan block) (operations_in plan block)
+block_values plan s block = values_of_operations s (in_memories s (first_in plan block)) (first_in plan block) (operations_in plan block)
 
 -- what a block of the plan does in a step
 abbrev pub events_of_block : PlainPlan → StepStart → (block : ℕ) → List BlockEvent
@@ -191,7 +191,7 @@ outcome_named (Some f) = Faulted f.0 f.1
 -- a step with a fault makes no write; else all writes are made and all registers set
 abbrev pub plan_state_after : PlainPlan → PlanState → (events : List BlockEvent) → (sets : List RegisterSet) → (fault : Option ℕ) → PlanState
 plan_state_after plan s events sets None =
-    plan_stands_at (suc s.steps) (all_put (puts_of events) s.memories) (place_after plan.registers s.place (all_set sets s.registers))
+    plan_stands_at (suc s.steps) (all_put (puts_of events) s.memories) (plan_place_after plan.registers s.place (all_set sets s.registers))
 plan_state_after plan s events sets (Some fault) = record s { outcome = outcome_named (slice_get plan.faults fault) }
 
 -- the step of these blocks
@@ -215,7 +215,7 @@ first_registers plan = replicate (length plan.registers) 0
 
 -- how a run from these memories stands before its first step
 abbrev pub first_plan_state : PlainPlan → List (List ℕ) → PlanState
-first_plan_state plan memories = plan_stands_at 0 memories (enter plan.body over (plan_next ended (first_registers plan)) (first_registers plan))
+first_plan_state plan memories = plan_stands_at 0 memories (plan_enter plan.body over (plan_next ended (first_registers plan)) (first_registers plan))
 
 -- how it stands after n logical steps
 abbrev pub plan_state : PlainPlan → List (List ℕ) → ℕ → PlanState

@@ -12,7 +12,7 @@ use Rattle.dh_tree.specs.Tables.{Fits}
 use Rattle.dh_meaning.specs.Effects.{kind_in}
 use Rattle.dh_plan.specs.declared.operations.Reach.{Reach}
 use Rattle.dh_plan.specs.PlainPlans.{PlainPlan, first_in, operations_in}
-use Rattle.dh_plan.specs.Blocks.{Look, word_at, values_of}
+use Rattle.dh_plan.specs.Blocks.{Look, word_at, values_of_operations}
 use Rattle.dh_plan.specs.Correspondence.{FitKinds}
 use Rattle.dh_plan.specs.PlanKinds.{kind_of_value, kinds_of, IsFormedBlock}
 use Rattle.dh_plan.specs.PlanRuns.{start_at, blocks_at, block_values, PlanState, plan_state}
@@ -38,7 +38,7 @@ abbrev pub BlockValuesFit : Type 0
 BlockValuesFit =
     (plan : PlainPlan) (block : ℕ) (registers : List ℕ) (memories : List (List ℕ)) (look : Look)
     → IsFormedBlock plan block → FitKinds plan.registers registers → LooksFit plan.table look
-    → AreInKinds plan block (values_of (start_at plan registers memories) look (first_in plan block) (operations_in plan block))
+    → AreInKinds plan block (values_of_operations (start_at plan registers memories) look (first_in plan block) (operations_in plan block))
 
 -- in a plan reads show what is in memories
 abbrev pub PlanValuesFit : Type 0

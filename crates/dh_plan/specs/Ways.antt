@@ -84,17 +84,17 @@ way_of_join (Some (Some w)) = w
 abbrev mutual
   -- where a plan stands when a graph stands here, where `behind` is what is still to come behind each state, and
   -- `after` what comes behind each fork
-  pub place_of : (states : List GraphStop) → (behind after : ℕ → PlanTodo) → GraphSpot → PlanPlace
-  place_of states behind after rests = ended
-  place_of states behind after (in_state state) = at (block_of_stop (slice_get states state)) (behind state)
-  place_of states behind after (in_fork fork ss) = inside (places_of states behind after ss) (after fork)
+  pub place_of_spot : (states : List GraphStop) → (behind after : ℕ → PlanTodo) → GraphSpot → PlanPlace
+  place_of_spot states behind after rests = ended
+  place_of_spot states behind after (in_state state) = at (block_of_stop (slice_get states state)) (behind state)
+  place_of_spot states behind after (in_fork fork ss) = inside (places_of_spots states behind after ss) (after fork)
 
-  pub places_of : (states : List GraphStop) → (behind after : ℕ → PlanTodo) → Spots → PlanPlaces
-  places_of states behind after no_spots = no_places
-  places_of states behind after (spot_then s ss) = place_then (place_of states behind after s) (places_of states behind after ss)
+  pub places_of_spots : (states : List GraphStop) → (behind after : ℕ → PlanTodo) → Spots → PlanPlaces
+  places_of_spots states behind after no_spots = no_places
+  places_of_spots states behind after (spot_then s ss) = place_then (place_of_spot states behind after s) (places_of_spots states behind after ss)
 
 abbrev pub leads_to : (states : List GraphStop) → (behind after : ℕ → PlanTodo) → GraphLed → PlanNext
-leads_to states behind after l = plan_next (place_of states behind after l.spot) l.registers
+leads_to states behind after l = plan_next (place_of_spot states behind after l.spot) l.registers
 
 -- A graph does a plan: what is still to come behind each state and each fork can be told so that every decision
 -- leads where the plan goes on, whatever the registers hold.

@@ -7,7 +7,7 @@ use Rattle.std.proofs.lemmas.Bool.Decides.{nat_tests}
 use Rattle.std.proofs.lemmas.List.{drop_all}
 use Rattle.dh_events.specs.declared.events.Event.{Event}
 use Rattle.dh_events.specs.declared.events.Event.TheVariants as event
-use Rattle.dh_events.specs.Tables.{kept_at, with_number}
+use Rattle.dh_events.specs.Tables.{table_at, with_number}
 use Rattle.dh_ports.specs.declared.lasts.LastWrites.{LastWrites}
 use Rattle.dh_ports.specs.declared.moves.Move.{Move}
 use Rattle.dh_ports.specs.declared.moves.Move.TheVariants as move
@@ -35,7 +35,7 @@ over a b e = grind (arith, nat_tests)
 
 -- Banks.
 
-pub raises_set : (old new : List ℕ) (bank phase : ℕ) → nat_lt (slice_index old bank) phase ≡ true → kept_at new ≡ with_number (kept_at old) bank phase → Raises old new bank phase
+pub raises_set : (old new : List ℕ) (bank phase : ℕ) → nat_lt (slice_index old bank) phase ≡ true → table_at new ≡ with_number (table_at old) bank phase → Raises old new bank phase
 raises_set old new bank phase later set = record {
   covers = subst (λ (n : ℕ). phase ≤ n) (sym (ap (λ (f : ℕ → ℕ). f bank) set ∙ own)) (itself phase);
   keeps = λ other. subst (λ (n : ℕ). slice_index old other ≤ n) (sym (ap (λ (f : ℕ → ℕ). f other) set)) (rises other (cases_Bool (bank == other)));
@@ -47,14 +47,14 @@ raises_set old new bank phase later set = record {
     less : (a b : ℕ) → a < b → a ≤ b
     less a b e = omega (arith, e)
 
-    own : (if bank == bank then phase else kept_at old bank) ≡ phase
-    own = ap (λ (b : Bool). if b then phase else kept_at old bank) (eq-eqb bank bank refl)
+    own : (if bank == bank then phase else table_at old bank) ≡ phase
+    own = ap (λ (b : Bool). if b then phase else table_at old bank) (eq-eqb bank bank refl)
 
-    rises : (other : ℕ) → ((bank == other) ≡ true) ⊎ ((bank == other) ≡ false) → slice_index old other ≤ (if bank == other then phase else kept_at old other)
+    rises : (other : ℕ) → ((bank == other) ≡ true) ⊎ ((bank == other) ≡ false) → slice_index old other ≤ (if bank == other then phase else table_at old other)
     rises other (inl e) =
-        subst (λ (x : Bool). slice_index old other ≤ (if x then phase else kept_at old other)) (sym e)
+        subst (λ (x : Bool). slice_index old other ≤ (if x then phase else table_at old other)) (sym e)
         (subst (λ (n : ℕ). slice_index old n ≤ phase) (eqb-true bank other e) (less (slice_index old bank) phase (under (slice_index old bank) phase later)))
-    rises other (inr e) = subst (λ (x : Bool). slice_index old other ≤ (if x then phase else kept_at old other)) (sym e) (itself (slice_index old other))
+    rises other (inr e) = subst (λ (x : Bool). slice_index old other ≤ (if x then phase else table_at old other)) (sym e) (itself (slice_index old other))
 
 pub raises_none : (phases : List ℕ) (bank phase : ℕ) → nat_lt (slice_index phases bank) phase ≡ false → Raises phases phases bank phase
 raises_none phases bank phase late = record { covers = over (slice_index phases bank) phase late; keeps = λ other. itself (slice_index phases other) }

@@ -31,7 +31,7 @@ use Rattle.dh_events.specs.Noted.{event_seen, all_seen}
 use Rattle.dh_ports.specs.Scanned.{is_late, late_at, place_in, all_late, spent_place, spent_at, FindsLate, KeepsLate}
 use Rattle.dh_events.specs.Stages.{stages_in}
 use Rattle.dh_events.specs.Structures.{StructuresAreDistinct}
-use Rattle.dh_events.specs.Tables.{kept_at}
+use Rattle.dh_events.specs.Tables.{table_at}
 use Rattle.dh_meets.specs.FewCopies.{HasFewCopies}
 use Rattle.dh_base.specs.Limits.{most_copies}
 use Rattle.dh_ports.specs.Told.{TellsFirst}
@@ -182,21 +182,21 @@ few_copies p events layout few loops seen l i access writes phase round element 
     subst (λ (ls : List Counter). copies_round ls ≤ most_copies) (sym (ap (λ (f : Option ℕ → List Counter). f round) (layout_loops p layout l) ∙ w.loops n.0 _ a.0 n.1.0 a.1)) (few n.0 a.0 a.1)
 
 -- what is noted of a body
-body_seen : (p : Program) (old new : List ℕ) (events before : List Event) → old ≡ [] → kept_at new ≡ stages_in p.body (kept_at old) → before ≡ [] → all_seen events ≡ all_seen before ++ incidents (kept_at new) None closed p.body → all_seen events ≡ happenings_of p
+body_seen : (p : Program) (old new : List ℕ) (events before : List Event) → old ≡ [] → table_at new ≡ stages_in p.body (table_at old) → before ≡ [] → all_seen events ≡ all_seen before ++ incidents (table_at new) None closed p.body → all_seen events ≡ happenings_of p
 body_seen p old new events before none noted empty seen =
     seen
-    ∙ (ap (λ l. all_seen l ++ incidents (kept_at new) None closed p.body) empty
-    ∙ ap (λ f. incidents f None closed p.body) (noted ∙ ap (stages_in p.body) (ap kept_at none ∙ fun_ext nothing)))
+    ∙ (ap (λ l. all_seen l ++ incidents (table_at new) None closed p.body) empty
+    ∙ ap (λ f. incidents f None closed p.body) (noted ∙ ap (stages_in p.body) (ap table_at none ∙ fun_ext nothing)))
   where
-    nothing : (n : ℕ) → kept_at [] n ≡ no_stages n
+    nothing : (n : ℕ) → table_at [] n ≡ no_stages n
     nothing zero = refl
     nothing (suc n) = refl
 
-pub events_seen : (p q : Program) → q ≡ p → (old new shown : List ℕ) (before noted events : List Event) → old ≡ [] → kept_at new ≡ stages_in q.body (kept_at old) → shown ≡ new → before ≡ []
-    → all_seen noted ≡ all_seen before ++ incidents (kept_at shown) None closed q.body → events ≡ noted → all_seen events ≡ happenings_of p
+pub events_seen : (p q : Program) → q ≡ p → (old new shown : List ℕ) (before noted events : List Event) → old ≡ [] → table_at new ≡ stages_in q.body (table_at old) → shown ≡ new → before ≡ []
+    → all_seen noted ≡ all_seen before ++ incidents (table_at shown) None closed q.body → events ≡ noted → all_seen events ≡ happenings_of p
 events_seen p q same old new shown before noted events none counted shown_is empty seen events_are =
     ap all_seen events_are
-    ∙ (body_seen q old new noted before none counted empty (seen ∙ ap (λ l. all_seen before ++ incidents (kept_at l) None closed q.body) shown_is) ∙ ap happenings_of same)
+    ∙ (body_seen q old new noted before none counted empty (seen ∙ ap (λ l. all_seen before ++ incidents (table_at l) None closed q.body) shown_is) ∙ ap happenings_of same)
 
 -- events that were noted from nothing on, with the structures that the notes keep
 pub are_events : (p : Program) (notes : Notes) (events : List Event) → events ≡ notes.events.items → all_seen events ≡ happenings_of p → (keys : List Structure) → keys ≡ notes.structures → StructuresAreDistinct keys → IsNoted notes → AreEventsOf p events

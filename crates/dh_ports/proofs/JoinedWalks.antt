@@ -15,7 +15,7 @@ use Rattle.dh_tree.specs.ViewOffsets.{offsets_of}
 use Rattle.dh_meaning.specs.Sites.{Arm, Around, in_arm, in_loop, loop_of}
 use Rattle.dh_meets.specs.Sharing.{same_arm, same_truth}
 use Rattle.dh_meets.specs.SourceEvents as source
-use Rattle.dh_meets.specs.SourceEvents.{SourceAccess, SourceEvent, site_of, one_access, term_events, form_events, terms_events, maybe_events, write_events, events, command_events, other_events, groups_events, part_events}
+use Rattle.dh_meets.specs.SourceEvents.{SourceAccess, SourceEvent, site_of, one_access, source_term_events, form_events, source_terms_events, maybe_events, write_events, events, command_events, other_events, groups_events, part_events}
 use Rattle.dh_events.specs.declared.events.Site.{Site}
 use Rattle.dh_events.specs.declared.noting.Open.{Open}
 use Rattle.dh_events.specs.Incidents.{PortEvent, touches, assigned, arm_begins, arm_ends, begins, next, ends, site_at, term_incidents, form_incidents, terms_incidents, maybe_incidents, target_incidents, is_stepped, closed, released, phase_of, tested, inside_choice, round_inside, when_parted, arms_part, are_parts, open_after, part_open, open_combine, incidents, command_incidents, other_incidents, combine_incidents, groups_incidents, part_incidents}
@@ -217,21 +217,21 @@ module _ (R T : Arm → Type 0) (a : Arm) (arms : List Arm) (xs : List PortEvent
 
 -- expressions open no arm
 mutual
-  term_joins : (s : Site) (z : source.Site) (t : Term) → Joins Nowhere z.arms (term_incidents s t) (term_events z t)
+  term_joins : (s : Site) (z : source.Site) (t : Term) → Joins Nowhere z.arms (term_incidents s t) (source_term_events z t)
   term_joins s z (term place kind form) = form_joins s z place kind form
 
   form_joins : (s : Site) (z : source.Site) (place : Place) (kind : Option Kind) (form : TermForm) → Joins Nowhere z.arms (form_incidents s place kind form) (form_events z place form)
   form_joins s z place kind (number negative n) = joins_none Nowhere z.arms
   form_joins s z place kind (truth_value value) = joins_none Nowhere z.arms
   form_joins s z place kind (named r) = joins_none Nowhere z.arms
-  form_joins s z place kind (accessed r indices) = joins_last Nowhere z.arms (terms_incidents s indices) _ (terms_events z indices) _ (terms_joins s z indices) (joins_touch z.arms (term place kind (accessed r indices)) false s _ refl refl)
-  form_joins s z place kind (in_bank r bank bank_place row) = joins_last Nowhere z.arms (term_incidents s row) _ (term_events z row) _ (term_joins s z row) (joins_touch z.arms (term place kind (in_bank r bank bank_place row)) false s _ refl refl)
-  form_joins s z place kind (applied op left right) = joins_last Nowhere z.arms (term_incidents s left) (term_incidents s right) (term_events z left) (term_events z right) (term_joins s z left) (term_joins s z right)
+  form_joins s z place kind (accessed r indices) = joins_last Nowhere z.arms (terms_incidents s indices) _ (source_terms_events z indices) _ (terms_joins s z indices) (joins_touch z.arms (term place kind (accessed r indices)) false s _ refl refl)
+  form_joins s z place kind (in_bank r bank bank_place row) = joins_last Nowhere z.arms (term_incidents s row) _ (source_term_events z row) _ (term_joins s z row) (joins_touch z.arms (term place kind (in_bank r bank bank_place row)) false s _ refl refl)
+  form_joins s z place kind (applied op left right) = joins_last Nowhere z.arms (term_incidents s left) (term_incidents s right) (source_term_events z left) (source_term_events z right) (term_joins s z left) (term_joins s z right)
   form_joins s z place kind (converted inner to) = term_joins s z inner
 
-  terms_joins : (s : Site) (z : source.Site) (ts : Terms) → Joins Nowhere z.arms (terms_incidents s ts) (terms_events z ts)
+  terms_joins : (s : Site) (z : source.Site) (ts : Terms) → Joins Nowhere z.arms (terms_incidents s ts) (source_terms_events z ts)
   terms_joins s z no_terms = joins_none Nowhere z.arms
-  terms_joins s z (term_then t ts) = joins_last Nowhere z.arms (term_incidents s t) (terms_incidents s ts) (term_events z t) (terms_events z ts) (term_joins s z t) (terms_joins s z ts)
+  terms_joins s z (term_then t ts) = joins_last Nowhere z.arms (term_incidents s t) (terms_incidents s ts) (source_term_events z t) (source_terms_events z ts) (term_joins s z t) (terms_joins s z ts)
 
 maybe_joins : (s : Site) (z : source.Site) (t : Option Term) → Joins Nowhere z.arms (maybe_incidents s t) (maybe_events z t)
 maybe_joins s z None = joins_none Nowhere z.arms
@@ -241,9 +241,9 @@ target_joins : (s : Site) (z : source.Site) (t : Term) → Joins Nowhere z.arms 
 target_joins s z (term place kind (number negative n)) = joins_none Nowhere z.arms
 target_joins s z (term place kind (truth_value value)) = joins_none Nowhere z.arms
 target_joins s z (term place kind (named r)) = joins_none Nowhere z.arms
-target_joins s z (term place kind (accessed r indices)) = joins_last Nowhere z.arms (terms_incidents s indices) _ (terms_events z indices) _ (terms_joins s z indices) (joins_touch z.arms (term place kind (accessed r indices)) true s _ refl refl)
-target_joins s z (term place kind (in_bank r bank bank_place row)) = joins_last Nowhere z.arms (term_incidents s row) _ (term_events z row) _ (term_joins s z row) (joins_touch z.arms (term place kind (in_bank r bank bank_place row)) true s _ refl refl)
-target_joins s z (term place kind (applied op left right)) = joins_last Nowhere z.arms (term_incidents s left) (term_incidents s right) (term_events z left) (term_events z right) (term_joins s z left) (term_joins s z right)
+target_joins s z (term place kind (accessed r indices)) = joins_last Nowhere z.arms (terms_incidents s indices) _ (source_terms_events z indices) _ (terms_joins s z indices) (joins_touch z.arms (term place kind (accessed r indices)) true s _ refl refl)
+target_joins s z (term place kind (in_bank r bank bank_place row)) = joins_last Nowhere z.arms (term_incidents s row) _ (source_term_events z row) _ (term_joins s z row) (joins_touch z.arms (term place kind (in_bank r bank bank_place row)) true s _ refl refl)
+target_joins s z (term place kind (applied op left right)) = joins_last Nowhere z.arms (term_incidents s left) (term_incidents s right) (source_term_events z left) (source_term_events z right) (term_joins s z left) (term_joins s z right)
 target_joins s z (term place kind (converted inner to)) = term_joins s z inner
 
 -- arms of commands that are numbered from a first one on
@@ -315,9 +315,9 @@ two_arms : (s : Site) (z : source.Site) (b : Bool) (id inside others : ℕ) (tes
     → Joins (Under (arm_at id false) (suc id + inside) (suc id + inside + others)) z.arms os fs
     → Joins (Within id (id + suc (inside + others))) z.arms
     (term_incidents s test ++ (when_parted b begins ++ (arm_begins ∷ (cs ++ (arm_ends ∷ (when_parted b next ++ (os ++ when_parted b ends)))))))
-    (term_events z test ++ (es ++ fs))
+    (source_term_events z test ++ (es ++ fs))
 two_arms s z b id inside others test cs os es fs j k =
-    joins_first _ z.arms (term_incidents s test) _ (term_events z test) _ (term_joins s z test)
+    joins_first _ z.arms (term_incidents s test) _ (source_term_events z test) _ (term_joins s z test)
     (joins_first _ z.arms (when_parted b begins) (arm_begins ∷ (cs ++ (arm_ends ∷ (when_parted b next ++ (os ++ when_parted b ends))))) [] (es ++ fs) (joins_begins z.arms b)
     (subst (λ (l : List PortEvent). Joins (Within id (id + suc (inside + others))) z.arms (arm_begins ∷ l) (es ++ fs))
     (append_assoc cs (arm_ends ∷ []) (when_parted b next ++ (os ++ when_parted b ends)))
@@ -398,10 +398,10 @@ module _ (f : ℕ → ℕ) where
     command_joins n r round g (lets name declared value) s = plain_joins _ r.arms _ _ (joins_last Nowhere r.arms (maybe_incidents (site_at (phase_of g n) round) value) _ (maybe_events (site_of r n) value) _ (maybe_joins (site_at (phase_of g n) round) (site_of r n) value) (joins_set r.arms name.entity))
     command_joins n r round g (lets_memory name shape shape_places value) s = joins_none _ r.arms
     command_joins n r round g (views name parent form) s = plain_joins _ r.arms _ _ (terms_joins (site_at (phase_of g n) round) (site_of r n) (terms (offsets_of form)))
-    command_joins n r round g (assigns target value) s = plain_joins _ r.arms _ _ (joins_last Nowhere r.arms (term_incidents (site_at (phase_of g n) round) value) _ (term_events (site_of r n) value) _ (term_joins (site_at (phase_of g n) round) (site_of r n) value) (joins_set r.arms target.entity))
+    command_joins n r round g (assigns target value) s = plain_joins _ r.arms _ _ (joins_last Nowhere r.arms (term_incidents (site_at (phase_of g n) round) value) _ (source_term_events (site_of r n) value) _ (term_joins (site_at (phase_of g n) round) (site_of r n) value) (joins_set r.arms target.entity))
     command_joins n r round g (stores target value) s =
-        plain_joins _ r.arms _ _ (joins_last Nowhere r.arms (term_incidents (site_at (phase_of g n) round) value) _ (term_events (site_of r n) value) _ (term_joins (site_at (phase_of g n) round) (site_of r n) value) (target_joins (site_at (phase_of g n) round) (site_of r n) target))
-    command_joins n r round g (reduces target op value) s = plain_joins _ r.arms _ _ (joins_last Nowhere r.arms (term_incidents (site_at (phase_of g n) round) value) _ (term_events (site_of r n) value) _ (term_joins (site_at (phase_of g n) round) (site_of r n) value) (joins_set r.arms target.entity))
+        plain_joins _ r.arms _ _ (joins_last Nowhere r.arms (term_incidents (site_at (phase_of g n) round) value) _ (source_term_events (site_of r n) value) _ (term_joins (site_at (phase_of g n) round) (site_of r n) value) (target_joins (site_at (phase_of g n) round) (site_of r n) target))
+    command_joins n r round g (reduces target op value) s = plain_joins _ r.arms _ _ (joins_last Nowhere r.arms (term_incidents (site_at (phase_of g n) round) value) _ (source_term_events (site_of r n) value) _ (term_joins (site_at (phase_of g n) round) (site_of r n) value) (joins_set r.arms target.entity))
     command_joins n r round g (calls function arguments) s = joins_none _ r.arms
     command_joins n r round g (blocks body) s =
         joins_first _ r.arms (when_parted (are_parts body) begins) (groups_incidents f round (is_stepped f n) (are_parts body) (released (is_stepped f n) g) body ++ when_parted (are_parts body) ends) [] (groups_events r body) (joins_begins r.arms (are_parts body))
@@ -418,8 +418,8 @@ module _ (f : ℕ → ℕ) where
         past : (n m : ℕ) → n < suc n + m
         past n m = omega arith
     command_joins n r round g (repeats test body) s =
-        joins_first _ r.arms (begins ∷ []) (term_incidents (site_at n round) test ++ (next ∷ (incidents f round closed body ++ ends ∷ []))) [] (term_events (site_of r n) test ++ events r body) (joins_begins r.arms true)
-        (joins_first _ r.arms (term_incidents (site_at n round) test) (next ∷ (incidents f round closed body ++ ends ∷ [])) (term_events (site_of r n) test) (events r body) (term_joins (site_at n round) (site_of r n) test)
+        joins_first _ r.arms (begins ∷ []) (term_incidents (site_at n round) test ++ (next ∷ (incidents f round closed body ++ ends ∷ []))) [] (source_term_events (site_of r n) test ++ events r body) (joins_begins r.arms true)
+        (joins_first _ r.arms (term_incidents (site_at n round) test) (next ∷ (incidents f round closed body ++ ends ∷ [])) (source_term_events (site_of r n) test) (events r body) (term_joins (site_at n round) (site_of r n) test)
         (joins_first _ r.arms (next ∷ []) (incidents f round closed body ++ ends ∷ []) [] (events r body) (joins_next r.arms true)
         (joins_ended _ r.arms true (incidents f round closed body) (events r body)
         (inner_joins n (commands_in body) r.arms _ _ (action_joins (suc n) r round closed body s)))))

@@ -25,7 +25,7 @@ use Rattle.dh_ports.specs.Layouts.{no_rounds, AreRoundsOf, AreScopesNoted}
 use Rattle.dh_events.specs.Rounds.{rounds_in, rounds_of, AreRounds}
 use Rattle.dh_events.specs.Scopes.{scope_at, scopes_in, AreScopes}
 use Rattle.dh_events.specs.Stages.{stages_in}
-use Rattle.dh_events.specs.Tables.{kept_at}
+use Rattle.dh_events.specs.Tables.{table_at}
 use Rattle.dh_ports.proofs.SingleRounds.{single_rounds}
 
 absurd : {A : Type 0} → ⊥ → A
@@ -49,8 +49,8 @@ rounds_none p rounds empty single =
     ap (λ (l : List (Vec Counter Global)). rounds_of l) empty ∙ (fun_ext no_round ∙ sym (single_rounds [] p.body no_rounds single))
 
 -- phases that were counted from nothing on
-pub stages_noted : (p : Program) (body : Action) → body ≡ p.body → (old new : List ℕ) → old ≡ [] → kept_at new ≡ stages_in body (kept_at old) → kept_at new ≡ stages_in p.body (kept_at [])
-stages_noted p body same old new empty noted = noted ∙ (ap (λ (l : List ℕ). stages_in body (kept_at l)) empty ∙ ap (λ (a : Action). stages_in a (kept_at [])) same)
+pub stages_noted : (p : Program) (body : Action) → body ≡ p.body → (old new : List ℕ) → old ≡ [] → table_at new ≡ stages_in body (table_at old) → table_at new ≡ stages_in p.body (table_at [])
+stages_noted p body same old new empty noted = noted ∙ (ap (λ (l : List ℕ). stages_in body (table_at l)) empty ∙ ap (λ (a : Action). stages_in a (table_at [])) same)
 
 -- variables that were noted from nothing on
 pub scopes_noted : (p : Program) (body : Action) → body ≡ p.body → (old new : List (Option Scope)) → old ≡ [] → scope_at new ≡ scopes_in 0 body (scope_at old) → scope_at new ≡ scopes_in 0 p.body (scope_at [])

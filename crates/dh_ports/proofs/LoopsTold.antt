@@ -8,7 +8,7 @@ use Rattle.dh_tree.specs.Seen.{terms}
 use Rattle.dh_tree.specs.ViewOffsets.{offsets_of}
 use Rattle.dh_meaning.specs.Sites.{Around, in_arm, in_loop, loop_of}
 use Rattle.dh_meets.specs.SourceEvents as source
-use Rattle.dh_meets.specs.SourceEvents.{SourceEvent, accesses_in, site_of, term_events, form_events, terms_events, maybe_events, write_events, events, command_events, other_events, groups_events, part_events}
+use Rattle.dh_meets.specs.SourceEvents.{SourceEvent, accesses_in, site_of, source_term_events, form_events, source_terms_events, maybe_events, write_events, events, command_events, other_events, groups_events, part_events}
 use Rattle.dh_events.specs.declared.events.Site.{Site}
 use Rattle.dh_events.specs.declared.noting.Open.{Open}
 use Rattle.dh_events.specs.Incidents.{PortEvent, touches, assigned, arm_begins, arm_ends, begins, next, ends, site_at, term_incidents, form_incidents, terms_incidents, maybe_incidents, target_incidents, is_stepped, closed, released, phase_of, tested, inside_choice, round_inside, when_parted, arms_part, are_parts, open_after, part_open, open_combine, incidents, command_incidents, other_incidents, combine_incidents, groups_incidents, part_incidents}
@@ -81,33 +81,33 @@ module _ (ls : ℕ → List Counter) where
   parted_last false y xs e = ap (looped ls) (nothing_more xs)
 
   mutual
-    term_same : (s : Site) (z : source.Site) (t : Term) → loops_at ls s.round ≡ z.loops → looped ls (term_incidents s t) ≡ seen_in (term_events z t)
+    term_same : (s : Site) (z : source.Site) (t : Term) → loops_at ls s.round ≡ z.loops → looped ls (term_incidents s t) ≡ seen_in (source_term_events z t)
     term_same s z (term place kind form) h = form_same s z place kind form h
 
     form_same : (s : Site) (z : source.Site) (place : Place) (kind : Option Kind) (form : TermForm) → loops_at ls s.round ≡ z.loops → looped ls (form_incidents s place kind form) ≡ seen_in (form_events z place form)
     form_same s z place kind (number negative n) h = refl
     form_same s z place kind (truth_value value) h = refl
     form_same s z place kind (named r) h = refl
-    form_same s z place kind (accessed r indices) h = both (terms_incidents s indices) _ (terms_events z indices) _ (terms_same s z indices h) (ap (λ l. l ∷ []) h)
-    form_same s z place kind (in_bank r bank bank_place row) h = both (term_incidents s row) _ (term_events z row) _ (term_same s z row h) (ap (λ l. l ∷ []) h)
-    form_same s z place kind (applied op left right) h = both (term_incidents s left) (term_incidents s right) (term_events z left) (term_events z right) (term_same s z left h) (term_same s z right h)
+    form_same s z place kind (accessed r indices) h = both (terms_incidents s indices) _ (source_terms_events z indices) _ (terms_same s z indices h) (ap (λ l. l ∷ []) h)
+    form_same s z place kind (in_bank r bank bank_place row) h = both (term_incidents s row) _ (source_term_events z row) _ (term_same s z row h) (ap (λ l. l ∷ []) h)
+    form_same s z place kind (applied op left right) h = both (term_incidents s left) (term_incidents s right) (source_term_events z left) (source_term_events z right) (term_same s z left h) (term_same s z right h)
     form_same s z place kind (converted inner to) h = term_same s z inner h
 
-    terms_same : (s : Site) (z : source.Site) (ts : Terms) → loops_at ls s.round ≡ z.loops → looped ls (terms_incidents s ts) ≡ seen_in (terms_events z ts)
+    terms_same : (s : Site) (z : source.Site) (ts : Terms) → loops_at ls s.round ≡ z.loops → looped ls (terms_incidents s ts) ≡ seen_in (source_terms_events z ts)
     terms_same s z no_terms h = refl
-    terms_same s z (term_then t rest) h = both (term_incidents s t) (terms_incidents s rest) (term_events z t) (terms_events z rest) (term_same s z t h) (terms_same s z rest h)
+    terms_same s z (term_then t rest) h = both (term_incidents s t) (terms_incidents s rest) (source_term_events z t) (source_terms_events z rest) (term_same s z t h) (terms_same s z rest h)
 
   maybe_same : (s : Site) (z : source.Site) (t : Option Term) → loops_at ls s.round ≡ z.loops → looped ls (maybe_incidents s t) ≡ seen_in (maybe_events z t)
   maybe_same s z None h = refl
   maybe_same s z (Some t) h = term_same s z t h
 
   target_same : (s : Site) (z : source.Site) (t : Term) → loops_at ls s.round ≡ z.loops → looped ls (target_incidents s t) ≡ seen_in (write_events z t)
-  target_same s z (term place kind (accessed r indices)) h = both (terms_incidents s indices) _ (terms_events z indices) _ (terms_same s z indices h) (ap (λ l. l ∷ []) h)
-  target_same s z (term place kind (in_bank r bank bank_place row)) h = both (term_incidents s row) _ (term_events z row) _ (term_same s z row h) (ap (λ l. l ∷ []) h)
+  target_same s z (term place kind (accessed r indices)) h = both (terms_incidents s indices) _ (source_terms_events z indices) _ (terms_same s z indices h) (ap (λ l. l ∷ []) h)
+  target_same s z (term place kind (in_bank r bank bank_place row)) h = both (term_incidents s row) _ (source_term_events z row) _ (term_same s z row h) (ap (λ l. l ∷ []) h)
   target_same s z (term place kind (number negative n)) h = refl
   target_same s z (term place kind (truth_value value)) h = refl
   target_same s z (term place kind (named r)) h = refl
-  target_same s z (term place kind (applied op left right)) h = both (term_incidents s left) (term_incidents s right) (term_events z left) (term_events z right) (term_same s z left h) (term_same s z right h)
+  target_same s z (term place kind (applied op left right)) h = both (term_incidents s left) (term_incidents s right) (source_term_events z left) (source_term_events z right) (term_same s z left h) (term_same s z right h)
   target_same s z (term place kind (converted inner to)) h = term_same s z inner h
 
   -- a value and an assignment behind it
@@ -122,18 +122,18 @@ module _ (ls : ℕ → List Counter) where
     command_same f round g r id (lets name declared value) e h = assigned_same (maybe_incidents (site_at (phase_of g id) round) value) (maybe_events (site_of r id) value) name.entity (maybe_same (site_at (phase_of g id) round) (site_of r id) value e)
     command_same f round g r id (lets_memory name shape shape_places value) e h = refl
     command_same f round g r id (views name parent form) e h = terms_same (site_at (phase_of g id) round) (site_of r id) (terms (offsets_of form)) e
-    command_same f round g r id (assigns target value) e h = assigned_same (term_incidents (site_at (phase_of g id) round) value) (term_events (site_of r id) value) target.entity (term_same (site_at (phase_of g id) round) (site_of r id) value e)
+    command_same f round g r id (assigns target value) e h = assigned_same (term_incidents (site_at (phase_of g id) round) value) (source_term_events (site_of r id) value) target.entity (term_same (site_at (phase_of g id) round) (site_of r id) value e)
     command_same f round g r id (stores target value) e h =
-        both (term_incidents (site_at (phase_of g id) round) value) (target_incidents (site_at (phase_of g id) round) target) (term_events (site_of r id) value) (write_events (site_of r id) target)
+        both (term_incidents (site_at (phase_of g id) round) value) (target_incidents (site_at (phase_of g id) round) target) (source_term_events (site_of r id) value) (write_events (site_of r id) target)
         (term_same (site_at (phase_of g id) round) (site_of r id) value e) (target_same (site_at (phase_of g id) round) (site_of r id) target e)
-    command_same f round g r id (reduces target op value) e h = assigned_same (term_incidents (site_at (phase_of g id) round) value) (term_events (site_of r id) value) target.entity (term_same (site_at (phase_of g id) round) (site_of r id) value e)
+    command_same f round g r id (reduces target op value) e h = assigned_same (term_incidents (site_at (phase_of g id) round) value) (source_term_events (site_of r id) value) target.entity (term_same (site_at (phase_of g id) round) (site_of r id) value e)
     command_same f round g r id (calls function arguments) e h = refl
     command_same f round g r id (blocks body) e h =
         parted_first (are_parts body) begins _ refl
         ∙ (parted_last (are_parts body) ends (groups_incidents f round (is_stepped f id) (are_parts body) (released (is_stepped f id) g) body) refl
         ∙ groups_same f round (is_stepped f id) (are_parts body) (released (is_stepped f id) g) r body e h)
     command_same f round g r id (decides test chosen other) e h =
-        both (term_incidents (site_at (tested (is_stepped f id) g id) round) test) _ (term_events (site_of r id) test) _ (term_same (site_at (tested (is_stepped f id) g id) round) (site_of r id) test e)
+        both (term_incidents (site_at (tested (is_stepped f id) g id) round) test) _ (source_term_events (site_of r id) test) _ (term_same (site_at (tested (is_stepped f id) g id) round) (site_of r id) test e)
         (parted_first (arms_part round other) begins _ refl
         ∙ both (incidents f round (inside_choice (is_stepped f id) (tested (is_stepped f id) g id)) chosen) (arm_ends ∷ (when_parted (arms_part round other) next ++ (other_incidents f round (inside_choice (is_stepped f id) (tested (is_stepped f id) g id)) other ++ when_parted (arms_part round other) ends)))
         (events (in_arm r id true) chosen) (other_events (in_arm r id false) other)
@@ -142,7 +142,7 @@ module _ (ls : ℕ → List Counter) where
         ∙ (parted_last (arms_part round other) ends (other_incidents f round (inside_choice (is_stepped f id) (tested (is_stepped f id) g id)) other) refl
         ∙ other_same f round (inside_choice (is_stepped f id) (tested (is_stepped f id) g id)) (in_arm r id false) other e h.1)))
     command_same f round g r id (repeats test body) e h =
-        both (term_incidents (site_at id round) test) _ (term_events (site_of r id) test) (events r body) (term_same (site_at id round) (site_of r id) test e)
+        both (term_incidents (site_at id round) test) _ (source_term_events (site_of r id) test) (events r body) (term_same (site_at id round) (site_of r id) test e)
         (none_more (incidents f round closed body) ends (events r body) refl (action_same f round closed r body e h))
     command_same f round g r id (counts iterator declared low high factor body combine combine_place) e h =
         both (incidents f (round_inside round id factor.value) closed body) _ (events (in_loop r (loop_of iterator low high factor)) body) _ (action_same f (round_inside round id factor.value) closed (in_loop r (loop_of iterator low high factor)) body (inside_is ls round r id (loop_of iterator low high factor) e h.0) (subst (λ (o : List Counter). LoopsKnown ls o body) (inside_loops r (loop_of iterator low high factor)) h.1.0))

@@ -9,7 +9,7 @@ use Rattle.dh_events.specs.declared.events.Event.{Event}
 use Rattle.dh_events.specs.declared.events.Event.TheVariants as event
 use Rattle.dh_events.specs.Classes.{NumbersKey}
 use Rattle.dh_events.specs.Noted.{all_seen}
-use Rattle.dh_events.specs.Tables.{kept_at, with_number}
+use Rattle.dh_events.specs.Tables.{table_at, with_number}
 use Rattle.dh_ports.specs.declared.levels.Levels.{Levels}
 use Rattle.dh_ports.specs.declared.levels.Step.{Step}
 use Rattle.dh_ports.specs.declared.levels.Step.TheVariants as step
@@ -36,15 +36,15 @@ none_marked known marked none n k e = absurd (nothing k (ap (λ (l : List Key). 
     nothing k e = cc
 
 -- one key more, whose phase is marked
-pub marked_more : (old new : List Key) (before after : List ℕ) (phase slot : ℕ) (key : Key) → key.phase ≡ phase → kept_at after ≡ with_number (kept_at before) phase 1 → NumbersKey old new key slot → AreMarked old before → AreMarked new after
+pub marked_more : (old new : List Key) (before after : List ℕ) (phase slot : ℕ) (key : Key) → key.phase ≡ phase → table_at after ≡ with_number (table_at before) phase 1 → NumbersKey old new key slot → AreMarked old before → AreMarked new after
 marked_more old new before after phase slot key is set numbers marked n k at =
     ap (λ (f : ℕ → ℕ). f k.phase) set
     ∙ (elim (numbers.only n k at) [
       | inl e ↦ either (phase == k.phase) (marked n k e)
-      | inr e ↦ ap (λ b. if b then 1 else kept_at before k.phase) (eq-eqb phase k.phase (sym (ap (λ (x : Key). x.phase) e ∙ is)))
+      | inr e ↦ ap (λ b. if b then 1 else table_at before k.phase) (eq-eqb phase k.phase (sym (ap (λ (x : Key). x.phase) e ∙ is)))
     ])
   where
-    either : (b : Bool) → kept_at before k.phase ≡ 1 → (if b then 1 else kept_at before k.phase) ≡ 1
+    either : (b : Bool) → table_at before k.phase ≡ 1 → (if b then 1 else table_at before k.phase) ≡ 1
     either true e = refl
     either false e = e
 

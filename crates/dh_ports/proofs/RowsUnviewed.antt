@@ -18,7 +18,7 @@ use Rattle.dh_meaning.specs.Sites.{Around, nothing_around, in_arm, in_loop, loop
 use Rattle.dh_meaning.specs.Ways.{Led, way_in, ways_of}
 use Rattle.dh_ways.specs.Leading.{viewed_of_led}
 use Rattle.dh_ways.proofs.WaysLead.{ways_are_views}
-use Rattle.dh_meets.specs.SourceEvents.{Element, with_indices, in_row, Site, SourceAccess, SourceEvent, accesses, assigned, one_access, term_events, terms_events, maybe_events, write_events, site_of, events, command_events, other_events, groups_events, part_events, accesses_in, trace}
+use Rattle.dh_meets.specs.SourceEvents.{Element, with_indices, in_row, Site, SourceAccess, SourceEvent, accesses, assigned, one_access, source_term_events, source_terms_events, maybe_events, write_events, site_of, events, command_events, other_events, groups_events, part_events, accesses_in, trace}
 
 -- a row is of no view
 abbrev IsOfNone : List Viewed → (entity : Option ℕ) → Element → Type 0
@@ -41,26 +41,26 @@ both_keep known (assigned entity ∷ xs) ys h i = both_keep known xs ys h i
 
 module _ (kv : KnownViews) where
   mutual
-    term_keeps : (site : Site) (t : Term) → term_view_breaches kv t ≡ [] → EventsKeep kv.views (term_events site t)
+    term_keeps : (site : Site) (t : Term) → term_view_breaches kv t ≡ [] → EventsKeep kv.views (source_term_events site t)
     term_keeps site (term place k (number negative n)) e = tt
     term_keeps site (term place k (truth_value value)) e = tt
     term_keeps site (term place k (named r)) e = tt
     term_keeps site (term place k (accessed r indices)) e =
-        both_keep kv.views (terms_events site indices) (one_access place r.entity (with_indices indices) false site)
+        both_keep kv.views (source_terms_events site indices) (one_access place r.entity (with_indices indices) false site)
         (terms_keep site indices (second_none (access_index_breaches kv.names.counters (dims_through (view_in kv.kept r.entity)) indices) (terms_view_breaches kv indices) e)) (tt, tt)
     term_keeps site (term place k (in_bank r bank bank_place row)) e =
-        both_keep kv.views (term_events site row) (one_access place r.entity (in_row bank row) false site)
+        both_keep kv.views (source_term_events site row) (one_access place r.entity (in_row bank row) false site)
         (term_keeps site row (second_none (physical_broken (view_in kv.views r.entity) r) (term_view_breaches kv row) e))
         (not_broken (view_in kv.views r.entity) r (first_none (physical_broken (view_in kv.views r.entity) r) (term_view_breaches kv row) e), tt)
     term_keeps site (term place k (applied o left right)) e =
-        both_keep kv.views (term_events site left) (term_events site right) (term_keeps site left (first_none (term_view_breaches kv left) (term_view_breaches kv right) e))
+        both_keep kv.views (source_term_events site left) (source_term_events site right) (term_keeps site left (first_none (term_view_breaches kv left) (term_view_breaches kv right) e))
         (term_keeps site right (second_none (term_view_breaches kv left) (term_view_breaches kv right) e))
     term_keeps site (term place k (converted inner to)) e = term_keeps site inner e
 
-    terms_keep : (site : Site) (ts : Terms) → terms_view_breaches kv ts ≡ [] → EventsKeep kv.views (terms_events site ts)
+    terms_keep : (site : Site) (ts : Terms) → terms_view_breaches kv ts ≡ [] → EventsKeep kv.views (source_terms_events site ts)
     terms_keep site no_terms e = tt
     terms_keep site (term_then t rest) e =
-        both_keep kv.views (term_events site t) (terms_events site rest) (term_keeps site t (first_none (term_view_breaches kv t) (terms_view_breaches kv rest) e))
+        both_keep kv.views (source_term_events site t) (source_terms_events site rest) (term_keeps site t (first_none (term_view_breaches kv t) (terms_view_breaches kv rest) e))
         (terms_keep site rest (second_none (term_view_breaches kv t) (terms_view_breaches kv rest) e))
 
   write_keeps : (site : Site) (t : Term) → term_view_breaches kv t ≡ [] → EventsKeep kv.views (write_events site t)
@@ -68,10 +68,10 @@ module _ (kv : KnownViews) where
   write_keeps site (term place k (truth_value value)) e = tt
   write_keeps site (term place k (named r)) e = tt
   write_keeps site (term place k (accessed r indices)) e =
-      both_keep kv.views (terms_events site indices) (one_access place r.entity (with_indices indices) true site)
+      both_keep kv.views (source_terms_events site indices) (one_access place r.entity (with_indices indices) true site)
       (terms_keep site indices (second_none (access_index_breaches kv.names.counters (dims_through (view_in kv.kept r.entity)) indices) (terms_view_breaches kv indices) e)) (tt, tt)
   write_keeps site (term place k (in_bank r bank bank_place row)) e =
-      both_keep kv.views (term_events site row) (one_access place r.entity (in_row bank row) true site)
+      both_keep kv.views (source_term_events site row) (one_access place r.entity (in_row bank row) true site)
       (term_keeps site row (second_none (physical_broken (view_in kv.views r.entity) r) (term_view_breaches kv row) e))
       (not_broken (view_in kv.views r.entity) r (first_none (physical_broken (view_in kv.views r.entity) r) (term_view_breaches kv row) e), tt)
   write_keeps site (term place k (applied o left right)) e = term_keeps site (term place k (applied o left right)) e
@@ -81,10 +81,10 @@ module _ (kv : KnownViews) where
   maybe_keeps site None e = tt
   maybe_keeps site (Some t) e = term_keeps site t e
 
-  offsets_keep : (site : Site) (ts : List Term) → offsets_view_breaches kv ts ≡ [] → EventsKeep kv.views (terms_events site (terms ts))
+  offsets_keep : (site : Site) (ts : List Term) → offsets_view_breaches kv ts ≡ [] → EventsKeep kv.views (source_terms_events site (terms ts))
   offsets_keep site [] e = tt
   offsets_keep site (t ∷ ts) e =
-      both_keep kv.views (term_events site t) (terms_events site (terms ts))
+      both_keep kv.views (source_term_events site t) (source_terms_events site (terms ts))
       (term_keeps site t (second_none (term_index_breaches kv.names t) (term_view_breaches kv t) (first_none (term_index_breaches kv.names t ++ term_view_breaches kv t) (offsets_view_breaches kv ts) e)))
       (offsets_keep site ts (second_none (term_index_breaches kv.names t ++ term_view_breaches kv t) (offsets_view_breaches kv ts) e))
 
@@ -96,22 +96,22 @@ module _ (kv : KnownViews) where
     form_keeps r site (lets name declared value) e = both_keep kv.views (maybe_events site value) (assigned name.entity ∷ []) (maybe_keeps site value e) tt
     form_keeps r site (lets_memory name shape shape_places value) e = tt
     form_keeps r site (views name parent form) e = offsets_keep site (offsets_of form) e
-    form_keeps r site (assigns target value) e = both_keep kv.views (term_events site value) (assigned target.entity ∷ []) (term_keeps site value e) tt
+    form_keeps r site (assigns target value) e = both_keep kv.views (source_term_events site value) (assigned target.entity ∷ []) (term_keeps site value e) tt
     form_keeps r site (stores target value) e =
-        both_keep kv.views (term_events site value) (write_events site target) (term_keeps site value (second_none (term_view_breaches kv target) (term_view_breaches kv value) e))
+        both_keep kv.views (source_term_events site value) (write_events site target) (term_keeps site value (second_none (term_view_breaches kv target) (term_view_breaches kv value) e))
         (write_keeps site target (first_none (term_view_breaches kv target) (term_view_breaches kv value) e))
-    form_keeps r site (reduces target o value) e = both_keep kv.views (term_events site value) (assigned target.entity ∷ []) (term_keeps site value e) tt
+    form_keeps r site (reduces target o value) e = both_keep kv.views (source_term_events site value) (assigned target.entity ∷ []) (term_keeps site value e) tt
     form_keeps r site (calls function arguments) e = tt
     form_keeps r site (blocks body) e = groups_keep r body e
     form_keeps r site (decides test chosen other) e =
         let below = second_none (term_view_breaches kv test) (action_view_breaches kv chosen ++ other_view_breaches kv other) e in
-        both_keep kv.views (term_events site test) (events (in_arm r site.command true) chosen ++ other_events (in_arm r site.command false) other)
+        both_keep kv.views (source_term_events site test) (events (in_arm r site.command true) chosen ++ other_events (in_arm r site.command false) other)
         (term_keeps site test (first_none (term_view_breaches kv test) (action_view_breaches kv chosen ++ other_view_breaches kv other) e))
         (both_keep kv.views (events (in_arm r site.command true) chosen) (other_events (in_arm r site.command false) other)
         (events_keep (in_arm r site.command true) chosen (first_none (action_view_breaches kv chosen) (other_view_breaches kv other) below))
         (other_keep (in_arm r site.command false) other (second_none (action_view_breaches kv chosen) (other_view_breaches kv other) below)))
     form_keeps r site (repeats test body) e =
-        both_keep kv.views (term_events site test) (events r body) (term_keeps site test (first_none (term_view_breaches kv test) (action_view_breaches kv body) e))
+        both_keep kv.views (source_term_events site test) (events r body) (term_keeps site test (first_none (term_view_breaches kv test) (action_view_breaches kv body) e))
         (events_keep r body (second_none (term_view_breaches kv test) (action_view_breaches kv body) e))
     form_keeps r site (counts iterator declared low high factor body combine combine_place) e =
         both_keep kv.views (events (in_loop r (loop_of iterator low high factor)) body) (other_events (in_loop r (loop_of iterator low high factor)) combine)

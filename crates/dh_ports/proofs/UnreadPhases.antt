@@ -8,7 +8,7 @@ use Rattle.dh_events.specs.declared.classes.Key.{Key}
 use Rattle.dh_events.specs.declared.events.Event.{Event}
 use Rattle.dh_events.specs.declared.events.Event.TheVariants as event
 use Rattle.dh_events.specs.Classes.{ExtendsKeys}
-use Rattle.dh_events.specs.Tables.{kept_at}
+use Rattle.dh_events.specs.Tables.{table_at}
 use Rattle.dh_events.proofs.Turns.{at_place}
 use Rattle.dh_ports.specs.declared.moves.Move.{Move}
 use Rattle.dh_ports.specs.declared.moves.Move.TheVariants as move
@@ -31,7 +31,7 @@ marks_kept : (old new : List ℕ) (e : Event) → MarksRead old new e → (phase
 marks_kept old new (event.Touch true phase round access element newest) m p h = ap (λ (f : ℕ → ℕ). f p) m ∙ h
 marks_kept old new (event.Touch false phase round access element newest) m p h = ap (λ (f : ℕ → ℕ). f p) m ∙ either (phase == p)
   where
-    either : (b : Bool) → (if b then 1 else kept_at old p) ≡ 1
+    either : (b : Bool) → (if b then 1 else table_at old p) ≡ 1
     either true = refl
     either false = h
 marks_kept old new (event.Assigned entity) m p h = ap (λ (f : ℕ → ℕ). f p) m ∙ h
@@ -43,7 +43,7 @@ marks_kept old new event.Ends m p h = ap (λ (f : ℕ → ℕ). f p) m ∙ h
 
 marks_read : (old new : List ℕ) (e : Event) → MarksRead old new e → (phase : ℕ) → IsReadAt (Some e) phase → slice_index new phase ≡ 1
 marks_read old new (event.Touch true phase round access element newest) m p h = absurd h
-marks_read old new (event.Touch false phase round access element newest) m p h = ap (λ (f : ℕ → ℕ). f p) m ∙ ap (λ b. if b then 1 else kept_at old p) (eq-eqb phase p h)
+marks_read old new (event.Touch false phase round access element newest) m p h = ap (λ (f : ℕ → ℕ). f p) m ∙ ap (λ b. if b then 1 else table_at old p) (eq-eqb phase p h)
 marks_read old new (event.Assigned entity) m p h = absurd h
 marks_read old new event.ArmBegins m p h = absurd h
 marks_read old new event.ArmEnds m p h = absurd h

@@ -23,7 +23,7 @@ use Rattle.dh_ports.specs.Banks.{bank_at_path, each_below, keys_in, path_of_numb
 use Rattle.dh_shape.specs.Classified.{loops_in}
 use Rattle.dh_ports.specs.Claims.{source_of}
 use Rattle.dh_events.specs.Scopes.{AreScopes}
-use Rattle.dh_events.specs.Tables.{kept_at, with_number}
+use Rattle.dh_events.specs.Tables.{table_at, with_number}
 use Rattle.dh_meaning.specs.Paths.{copies_in}
 use Rattle.dh_base.specs.Limits.{most_copies}
 
@@ -138,21 +138,21 @@ stride_in (l ∷ ls) loops count = if loops == 0 then count else stride_in ls (l
 
 -- no pair was seen since the present moment began
 abbrev pub IsUnseen : Seen → Type 0
-IsUnseen seen = (pair : ℕ) → kept_at seen.moments.items pair < seen.moment
+IsUnseen seen = (pair : ℕ) → table_at seen.moments.items pair < seen.moment
 
 -- and none was seen later than it
 abbrev pub IsPast : Seen → Type 0
-IsPast seen = (pair : ℕ) → kept_at seen.moments.items pair ≤ seen.moment
+IsPast seen = (pair : ℕ) → table_at seen.moments.items pair ≤ seen.moment
 
 -- a pair is seen, and was not seen at this moment before
 pub record Sees (old new : Seen) (pair : ℕ) (first : Bool) : Type 0 where
-  pub told : first ≡ not (kept_at old.moments.items pair == old.moment)
-  pub seen : kept_at new.moments.items ≡ with_number (kept_at old.moments.items) pair old.moment
+  pub told : first ≡ not (table_at old.moments.items pair == old.moment)
+  pub seen : table_at new.moments.items ≡ with_number (table_at old.moments.items) pair old.moment
   pub same : new.moment ≡ old.moment
 
 -- a pair is noted at the present moment
 pub record IsMarked (old new : Seen) (pair : ℕ) : Type 0 where
-  pub seen : kept_at new.moments.items ≡ with_number (kept_at old.moments.items) pair old.moment
+  pub seen : table_at new.moments.items ≡ with_number (table_at old.moments.items) pair old.moment
   pub same : new.moment ≡ old.moment
 
 -- a bank's count rises where the pair was not seen at this moment
@@ -160,7 +160,7 @@ abbrev pub counted_at : (seen : Bool) → List ℕ → (bank : ℕ) → List ℕ
 counted_at seen counts bank = if seen then counts else slice_set counts bank (slice_index counts bank + 1)
 
 abbrev pub IsCounted : Seen → (old new : Vec ℕ Global) → (bank pair : ℕ) → Type 0
-IsCounted seen old new bank pair = new.items ≡ counted_at (kept_at seen.moments.items pair == seen.moment) old.items bank
+IsCounted seen old new bank pair = new.items ≡ counted_at (table_at seen.moments.items pair == seen.moment) old.items bank
 
 -- Counts.
 

@@ -22,7 +22,7 @@ use Rattle.dh_ports.specs.Copies.{copies_round}
 use Rattle.dh_events.specs.Rounds.{rounds_in, rounds_of}
 use Rattle.dh_events.specs.Scopes.{scope_at, scopes_in, AreScopes}
 use Rattle.dh_events.specs.Stages.{stages_in}
-use Rattle.dh_events.specs.Tables.{kept_at}
+use Rattle.dh_events.specs.Tables.{table_at}
 use Rattle.dh_base.specs.Limits.{most_copies}
 
 -- no loop is known
@@ -31,7 +31,7 @@ no_rounds id = []
 
 -- the phases of a program's commands are counted so
 abbrev pub AreStagesOf : Program → (stages : List ℕ) → Type 0
-AreStagesOf p stages = kept_at stages ≡ stages_in p.body (kept_at [])
+AreStagesOf p stages = table_at stages ≡ stages_in p.body (table_at [])
 
 -- the unrolled loops of a program are noted so
 abbrev pub AreRoundsOf : Program → List (Vec Counter Global) → Type 0

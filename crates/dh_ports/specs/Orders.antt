@@ -7,7 +7,7 @@ use Rattle.dh_ports.specs.declared.levels.Step.{Step}
 use Rattle.dh_ports.specs.declared.levels.Step.TheVariants as step
 use Rattle.dh_ports.specs.declared.moves.Move.{Move}
 use Rattle.dh_ports.specs.declared.moves.Move.TheVariants as move
-use Rattle.dh_events.specs.Tables.{kept_at, with_number}
+use Rattle.dh_events.specs.Tables.{table_at, with_number}
 use Rattle.dh_ports.specs.Scanned.{bank_key, take_of, HasRead}
 
 abbrev pub key_test : Key → Key → Bool
@@ -75,11 +75,11 @@ ReadSoFar events left marked = (phase : ℕ) → HasRead events phase → (slice
 
 -- an event marks its phase, where it is a read
 abbrev pub MarksRead : (old new : List ℕ) → Event → Type 0
-MarksRead old new (event.Touch true phase round access element newest) = kept_at new ≡ kept_at old
-MarksRead old new (event.Touch false phase round access element newest) = kept_at new ≡ with_number (kept_at old) phase 1
-MarksRead old new (event.Assigned entity) = kept_at new ≡ kept_at old
-MarksRead old new event.ArmBegins = kept_at new ≡ kept_at old
-MarksRead old new event.ArmEnds = kept_at new ≡ kept_at old
-MarksRead old new event.Begins = kept_at new ≡ kept_at old
-MarksRead old new event.Next = kept_at new ≡ kept_at old
-MarksRead old new event.Ends = kept_at new ≡ kept_at old
+MarksRead old new (event.Touch true phase round access element newest) = table_at new ≡ table_at old
+MarksRead old new (event.Touch false phase round access element newest) = table_at new ≡ with_number (table_at old) phase 1
+MarksRead old new (event.Assigned entity) = table_at new ≡ table_at old
+MarksRead old new event.ArmBegins = table_at new ≡ table_at old
+MarksRead old new event.ArmEnds = table_at new ≡ table_at old
+MarksRead old new event.Begins = table_at new ≡ table_at old
+MarksRead old new event.Next = table_at new ≡ table_at old
+MarksRead old new event.Ends = table_at new ≡ table_at old

@@ -31,7 +31,7 @@ use Rattle.dh_tree.proofs.BankElements.{place_below}
 use Rattle.dh_meaning.specs.AccessNumbers.{term_accesses}
 use Rattle.dh_meaning.specs.Bindings.{kind_or_first}
 use Rattle.dh_meaning.specs.CoreOf.{core_term, depth_of, entity_number}
-use Rattle.dh_meaning.specs.Effects.{Variables, value_of}
+use Rattle.dh_meaning.specs.Effects.{Variables, value_of_term}
 use Rattle.dh_meaning.specs.Paths.{Path}
 use Rattle.dh_meets.specs.Charges.{index_in, level_of_loop}
 use Rattle.dh_code.specs.Extended.{extension_of}
@@ -62,7 +62,7 @@ use Rattle.dh_expressions.proofs.ListPlaces.{some_same}
 use Rattle.dh_expressions.proofs.Pushing.{begun_later, computes, fits_before, pushed_extends}
 use Rattle.dh_formed.proofs.ValuesFormed.{operation_forms}
 use Rattle.dh_blocks.proofs.KindsOfValues.{IsWordOf, bits_small, kinds_same, of_word}
-use Rattle.dh_laid.specs.LaidQuiet.{StandsIn}
+use Rattle.dh_laid.specs.LaidQuiet.{BlockStandsIn}
 use Rattle.dh_laid.proofs.AccessesLaid.{converted_extends, same_extends, term_lays, terms_lay}
 use Rattle.dh_reached.specs.IndicesKept.{AllTurn, CounterTurns, IndexTurns, IndicesKeep, NameTurns}
 
@@ -165,7 +165,7 @@ is_told f g = false
 
 -- Expressions that show what the program has.
 
-module _ (x : BlockStep) (scene : Scene) (lane : Lane) (stands : StandsIn scene lane.around) (current : List (Option ℕ)) where
+module _ (x : BlockStep) (scene : Scene) (lane : Lane) (stands : BlockStandsIn scene lane.around) (current : List (Option ℕ)) where
   abbrev levels : List Level
   levels = lane.around.levels.now
 
@@ -183,7 +183,7 @@ module _ (x : BlockStep) (scene : Scene) (lane : Lane) (stands : StandsIn scene 
   Made t old new before after n next v = MadeTerm scene lane current t old new before after n next v
 
   abbrev worth : (m : ℕ) → plain.Term → Word
-  worth m t = value_of (begun_of x) vars (lane_path lane) (core_term (known_in scene) m t)
+  worth m t = value_of_term (begun_of x) vars (lane_path lane) (core_term (known_in scene) m t)
 
   abbrev ShowsTerm : plain.Term → Type 0
   ShowsTerm t = (old new : Draft) (before after : Accesses) (n next v m : ℕ) → Made t old new before after n next v → FitsStep x new → BlockBegun x old → word_shown x v ≡ worth m t

@@ -16,7 +16,7 @@ use Rattle.dh_meaning.specs.CoreOf.{way_of}
 use Rattle.dh_meaning.specs.Ways.{Hidden, hidden_in}
 use Rattle.dh_meaning.specs.Sites as stood
 use Rattle.dh_meaning.specs.Sites.{Arm, in_arm}
-use Rattle.dh_meets.specs.SourceEvents.{SourceAccess, SourceEvent, accesses, assigned, command_events, events, groups_events, other_events, part_events, site_of, term_events, terms_events, write_events}
+use Rattle.dh_meets.specs.SourceEvents.{SourceAccess, SourceEvent, accesses, assigned, command_events, events, groups_events, other_events, part_events, site_of, source_term_events, source_terms_events, write_events}
 use Rattle.dh_expressions.specs.declared.drafts.Draft.{Draft}
 use Rattle.dh_expressions.specs.declared.scenes.Around.{Around}
 use Rattle.dh_expressions.specs.declared.scenes.Scene.{Scene}
@@ -294,10 +294,10 @@ module _ (x : BlockStep) (scene : Scene) (paths : ℕ) where
           (two.on n (subst (λ (i : ℕ). n < i) (sym (arm_paths (MadeCommand scene other) around false tests after_chosen after_other behind next left o many ∙ same)) less) on_t)).1
 
   -- the offsets of a view stand in no further arm
-  view_excludes : (hs : List Hidden) (form : ViewPlan) (around : Around) (r : stood.Around) (id : ℕ) → Below id r.arms → HasOneOfEach r.arms → Excludes x paths (view_sites scene around hs form) (terms_events (site_of r id) (terms (offsets_of form)))
-  view_excludes [] form around r id w o = idle_excludes x paths (plan_accesses form + 0) (terms_events (site_of r id) (terms (offsets_of form)))
+  view_excludes : (hs : List Hidden) (form : ViewPlan) (around : Around) (r : stood.Around) (id : ℕ) → Below id r.arms → HasOneOfEach r.arms → Excludes x paths (view_sites scene around hs form) (source_terms_events (site_of r id) (terms (offsets_of form)))
+  view_excludes [] form around r id w o = idle_excludes x paths (plan_accesses form + 0) (source_terms_events (site_of r id) (terms (offsets_of form)))
   view_excludes (h ∷ hs) form around r id w o =
-      leaf x paths r id w o (all_there (terms_sites scene around (terms (offsets_of form)))) (terms_events (site_of r id) (terms (offsets_of form))) (terms_stand r id id id (terms (offsets_of form)))
+      leaf x paths r id w o (all_there (terms_sites scene around (terms (offsets_of form)))) (source_terms_events (site_of r id) (terms (offsets_of form))) (terms_stand r id id id (terms (offsets_of form)))
 
   mutual
     pub command_excludes : (a : Action) (around : Around) (old new : Building) (first next : ℕ) (m : MadeCommand scene a around old new first next) → StoresReach a → StandsSpread scene around → paths_counted around ≡ paths → FitsStep x new.draft
@@ -309,18 +309,18 @@ module _ (x : BlockStep) (scene : Scene) (paths : ℕ) where
         → FitsStep x new.draft → BlockBegun x old.draft → (r : stood.Around) (id : ℕ) → IsNumberedInside (suc id) form → Below id r.arms → HasOneOfEach r.arms
         → Excludes x paths (action_sites scene form around old new first next m) (command_events r (site_of r id) form)
     form_excludes (lets name declared (Some value)) place around old new first next m is stands same f b r id num w o =
-        leaf x paths r id w o (all_there (term_sites scene around value)) (term_events (site_of r id) value ++ assigned name.entity ∷ [])
-        (each_both (StandsWithin r id id) (term_events (site_of r id) value) (assigned name.entity ∷ []) (term_stands r id id id value) tt)
+        leaf x paths r id w o (all_there (term_sites scene around value)) (source_term_events (site_of r id) value ++ assigned name.entity ∷ [])
+        (each_both (StandsWithin r id id) (source_term_events (site_of r id) value) (assigned name.entity ∷ []) (term_stands r id id id value) tt)
     form_excludes (lets name declared None) place around old new first next m is stands same f b r id num w o = nothing_excludes x paths ([] ++ assigned name.entity ∷ [])
     form_excludes (assigns target value) place around old new first next m is stands same f b r id num w o =
-        leaf x paths r id w o (all_there (term_sites scene around value)) (term_events (site_of r id) value ++ assigned target.entity ∷ [])
-        (each_both (StandsWithin r id id) (term_events (site_of r id) value) (assigned target.entity ∷ []) (term_stands r id id id value) tt)
+        leaf x paths r id w o (all_there (term_sites scene around value)) (source_term_events (site_of r id) value ++ assigned target.entity ∷ [])
+        (each_both (StandsWithin r id id) (source_term_events (site_of r id) value) (assigned target.entity ∷ []) (term_stands r id id id value) tt)
     form_excludes (stores target value) place around old new first next m is stands same f b r id num w o =
-        leaf x paths r id w o (all_there (term_sites scene around value ++ target_sites scene around target)) (term_events (site_of r id) value ++ write_events (site_of r id) target)
-        (each_both (StandsWithin r id id) (term_events (site_of r id) value) (write_events (site_of r id) target) (term_stands r id id id value) (write_stands r id id id target))
+        leaf x paths r id w o (all_there (term_sites scene around value ++ target_sites scene around target)) (source_term_events (site_of r id) value ++ write_events (site_of r id) target)
+        (each_both (StandsWithin r id id) (source_term_events (site_of r id) value) (write_events (site_of r id) target) (term_stands r id id id value) (write_stands r id id id target))
     form_excludes (reduces target op value) place around old new first next m is stands same f b r id num w o =
-        leaf x paths r id w o (all_there (term_sites scene around value)) (term_events (site_of r id) value ++ assigned target.entity ∷ [])
-        (each_both (StandsWithin r id id) (term_events (site_of r id) value) (assigned target.entity ∷ []) (term_stands r id id id value) tt)
+        leaf x paths r id w o (all_there (term_sites scene around value)) (source_term_events (site_of r id) value ++ assigned target.entity ∷ [])
+        (each_both (StandsWithin r id id) (source_term_events (site_of r id) value) (assigned target.entity ∷ []) (term_stands r id id id value) tt)
     form_excludes (decides test chosen other) place around old new first next m is stands same f b r id num w o =
         let many : length m.tests ≡ paths_counted around = (tests_same scene around first test (paths_counted around) old m.tested m.own m.tests m.test).1 in
         let spread = spread_arm scene (MadeCommand scene chosen) around true m.tests m.tested m.after_chosen m.own m.behind m.chosen_left m.chosen stands many in
@@ -335,9 +335,9 @@ module _ (x : BlockStep) (scene : Scene) (paths : ℕ) where
         let all = action_stands r id (action id place (decides test chosen other)) (refl, num) in
         both_exclude x paths (all_there (term_sites scene around test))
         (command_sites scene chosen m.chosen.arm m.chosen.begin m.chosen.inside m.own m.behind m.chosen.command ++ other_sites scene other around m.tests m.after_chosen m.after_other m.behind next m.other_left m.other)
-        (term_events (site_of r id) test) (events (in_arm r id true) chosen ++ other_events (in_arm r id false) other)
+        (source_term_events (site_of r id) test) (events (in_arm r id true) chosen ++ other_events (in_arm r id false) other)
         (there_long (term_sites scene around test) ∙ (sites_long scene around test ∙ sym (term_counted (site_of r id) test)))
-        (leaf x paths r id w o (all_there (term_sites scene around test)) (term_events (site_of r id) test) (term_stands r id id id test))
+        (leaf x paths r id w o (all_there (term_sites scene around test)) (source_term_events (site_of r id) test) (term_stands r id id id test))
         (both_exclude x paths (command_sites scene chosen m.chosen.arm m.chosen.begin m.chosen.inside m.own m.behind m.chosen.command)
         (other_sites scene other around m.tests m.after_chosen m.after_other m.behind next m.other_left m.other) (events (in_arm r id true) chosen) (other_events (in_arm r id false) other)
         (places_long scene chosen m.chosen.arm m.chosen.begin m.chosen.inside m.own m.behind m.chosen.command is.0 ∙ sym (events_counted (in_arm r id true) chosen))
@@ -350,8 +350,8 @@ module _ (x : BlockStep) (scene : Scene) (paths : ℕ) where
         (events (in_arm r id true) chosen) (other_events (in_arm r id false) other)))
         (by_numbers x paths r id w o (all_there (term_sites scene around test))
         (command_sites scene chosen m.chosen.arm m.chosen.begin m.chosen.inside m.own m.behind m.chosen.command ++ other_sites scene other around m.tests m.after_chosen m.after_other m.behind next m.other_left m.other)
-        (term_events (site_of r id) test) (events (in_arm r id true) chosen ++ other_events (in_arm r id false) other) id id id (id + commands_in (action id place (decides test chosen other))) (omega arith) (omega arith) (inl (omega arith))
-        (term_stands r id id id test) (each_back (StandsWithin r id (id + commands_in (action id place (decides test chosen other)))) (term_events (site_of r id) test) (events (in_arm r id true) chosen ++ other_events (in_arm r id false) other) all))
+        (source_term_events (site_of r id) test) (events (in_arm r id true) chosen ++ other_events (in_arm r id false) other) id id id (id + commands_in (action id place (decides test chosen other))) (omega arith) (omega arith) (inl (omega arith))
+        (term_stands r id id id test) (each_back (StandsWithin r id (id + commands_in (action id place (decides test chosen other)))) (source_term_events (site_of r id) test) (events (in_arm r id true) chosen ++ other_events (in_arm r id false) other) all))
     form_excludes (blocks body) place around old new first next m is stands same f b r id num w o =
         groups_exclude body around old new first next m is stands same f b r (suc id) num (below_up id (suc id) r.arms (omega arith) w) o
     form_excludes (lets_memory name shape shape_places value) place around old new first next m is stands same f b r id num w o = nothing_excludes x paths []

@@ -41,7 +41,7 @@ use Rattle.dh_formed.proofs.ValuesCounted.{copies_counts}
 use Rattle.dh_commands.specs.ShownVariables.{level_factors}
 use Rattle.dh_blocks.specs.PathsOfLevels.{AreSpread}
 use Rattle.dh_blocks.proofs.PathNumbers.{kept, leader_within, leads, number_is}
-use Rattle.dh_laid.specs.LaidQuiet.{StandsIn}
+use Rattle.dh_laid.specs.LaidQuiet.{BlockStandsIn}
 use Rattle.dh_reached.specs.Puts.{AreSited, IsUse, Put, PutsAt}
 use Rattle.dh_reached.specs.ReachedBlocks.{StandsSpread}
 use Rattle.dh_reached.proofs.NoUses.{AddsNone, behind_none, none_again, none_counted, none_pushed, none_same, none_still, puts_added, puts_one}
@@ -58,7 +58,7 @@ all_lead levels spread counts all n below =
 
 -- Accesses as they stand.
 
-module _ (x : BlockStep) (sites : ℕ → Option BlockSite) (scene : Scene) (around : Around) (stands : StandsIn scene around) where
+module _ (x : BlockStep) (sites : ℕ → Option BlockSite) (scene : Scene) (around : Around) (stands : BlockStandsIn scene around) where
   -- one that gets its operations
   touch_sited : (memory : ℕ) (s : AccessStanding) (old new : Draft) (before after : Accesses) (number : ℕ) → TouchesAt scene around s old new before after number → sites number ≡ Some (record { memory = memory; standing = s })
       → FitsStep x new → BlockBegun x old → AreSited x sites before → AreSited x sites after

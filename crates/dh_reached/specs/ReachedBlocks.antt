@@ -21,14 +21,14 @@ use Rattle.dh_blocks.specs.BlockMade.{AreRising, IsBare, IsPut, step_of_block}
 use Rattle.dh_blocks.specs.PathsOfLevels.{AreSpread}
 use Rattle.dh_laid.specs.BlockSites.{MadeEach, block_sites, test_sites}
 use Rattle.dh_laid.specs.LaidNumbers.{StoresReach}
-use Rattle.dh_laid.specs.LaidQuiet.{StandsIn}
+use Rattle.dh_laid.specs.LaidQuiet.{BlockStandsIn}
 use Rattle.dh_reached.specs.IndicesKept.{BlockKeeps, TermKeeps}
 use Rattle.dh_reached.specs.ReadsTold.{BlockReads, BlockShares}
 use Rattle.dh_reached.specs.StepBanks.{BlockUses}
 
 -- What stands round a command: loops that are told apart, and as many paths as they have, which are few.
 pub record StandsSpread (scene : Scene) (around : Around) : Type 0 where
-  pub stands : StandsIn scene around
+  pub stands : BlockStandsIn scene around
   pub spread : AreSpread around.levels.now
   pub counted : paths_counted around ≡ copies_in (level_factors around.levels.now)
   pub some : 0 < paths_counted around

@@ -6,7 +6,7 @@ use Rattle.dh_tree.specs.declared.trees.counters.Counter.{Counter}
 use Rattle.dh_tree.specs.Numbers.{commands_in, commands_in_part, IsNumbered, IsNumberedInside, IsNumberedOther, AreNumberedGroups, AreNumbered}
 use Rattle.dh_tree.specs.PlainTrees.{Action, action, ActionForm, lets, lets_memory, views, assigns, stores, reduces, calls, blocks, decides, repeats, counts, MaybeAction, no_action, one_action, Actions, no_actions, action_then, Groups, no_groups, group_then, Program}
 use Rattle.dh_meaning.specs.Sites.{Arm, Around, nothing_around, in_arm, in_loop, loop_of}
-use Rattle.dh_meets.specs.SourceEvents.{SourceAccess, SourceEvent, accesses, assigned, accesses_in, site_of, term_events, maybe_events, write_events, events, command_events, other_events, groups_events, part_events, trace}
+use Rattle.dh_meets.specs.SourceEvents.{SourceAccess, SourceEvent, accesses, assigned, accesses_in, site_of, source_term_events, maybe_events, write_events, events, command_events, other_events, groups_events, part_events, trace}
 use Rattle.dh_sound.specs.OneArm.{HasOneOfEach}
 use Rattle.dh_sound.specs.PhaseFacts.{HasArm, arm_of}
 use Rattle.dh_sound.proofs.Sites.{each_both, each_so, StandsWithin, term_stands, maybe_stands, write_stands}
@@ -14,7 +14,7 @@ use Rattle.dh_sound.proofs.Trails.{below_up}
 use Rattle.dh_sound.specs.Trails.{EachAccess, ArmsWithin, Below}
 use Rattle.dh_tree.specs.Seen.{terms}
 use Rattle.dh_tree.specs.ViewOffsets.{offsets_of}
-use Rattle.dh_meets.specs.SourceEvents.{terms_events}
+use Rattle.dh_meets.specs.SourceEvents.{source_terms_events}
 use Rattle.dh_sound.proofs.Sites.{terms_stand}
 
 abbrev Once : SourceAccess → Type 0
@@ -70,20 +70,20 @@ mutual
 
   form_once : (r : Around) (m : ℕ) (x : ActionForm) → IsNumberedInside (suc m) x → Below m r.arms → HasOneOfEach r.arms → EachAccess Once (command_events r (site_of r m) x)
   form_once r m (lets name declared value) h w o = own_once r (maybe_events (site_of r m) value ++ assigned name.entity ∷ []) o (each_both _ (maybe_events (site_of r m) value) (assigned name.entity ∷ []) (maybe_stands r m 0 0 value) tt)
-  form_once r m (assigns target value) h w o = own_once r (term_events (site_of r m) value ++ assigned target.entity ∷ []) o (each_both _ (term_events (site_of r m) value) (assigned target.entity ∷ []) (term_stands r m 0 0 value) tt)
-  form_once r m (stores target value) h w o = own_once r (term_events (site_of r m) value ++ write_events (site_of r m) target) o (each_both _ (term_events (site_of r m) value) (write_events (site_of r m) target) (term_stands r m 0 0 value) (write_stands r m 0 0 target))
-  form_once r m (reduces target op value) h w o = own_once r (term_events (site_of r m) value ++ assigned target.entity ∷ []) o (each_both _ (term_events (site_of r m) value) (assigned target.entity ∷ []) (term_stands r m 0 0 value) tt)
+  form_once r m (assigns target value) h w o = own_once r (source_term_events (site_of r m) value ++ assigned target.entity ∷ []) o (each_both _ (source_term_events (site_of r m) value) (assigned target.entity ∷ []) (term_stands r m 0 0 value) tt)
+  form_once r m (stores target value) h w o = own_once r (source_term_events (site_of r m) value ++ write_events (site_of r m) target) o (each_both _ (source_term_events (site_of r m) value) (write_events (site_of r m) target) (term_stands r m 0 0 value) (write_stands r m 0 0 target))
+  form_once r m (reduces target op value) h w o = own_once r (source_term_events (site_of r m) value ++ assigned target.entity ∷ []) o (each_both _ (source_term_events (site_of r m) value) (assigned target.entity ∷ []) (term_stands r m 0 0 value) tt)
   form_once r m (lets_memory name shape shape_places value) h w o = tt
-  form_once r m (views name parent form) h w o = own_once r (terms_events (site_of r m) (terms (offsets_of form))) o (terms_stand r m 0 0 (terms (offsets_of form)))
+  form_once r m (views name parent form) h w o = own_once r (source_terms_events (site_of r m) (terms (offsets_of form))) o (terms_stand r m 0 0 (terms (offsets_of form)))
   form_once r m (calls function arguments) h w o = tt
   form_once r m (blocks body) h w o = groups_once r (suc m) body h (below_up m (suc m) r.arms (omega arith) w) o
   form_once r m (decides test chosen other) h w o =
-      each_both _ (term_events (site_of r m) test) _ (own_once r (term_events (site_of r m) test) o (term_stands r m 0 0 test))
+      each_both _ (source_term_events (site_of r m) test) _ (own_once r (source_term_events (site_of r m) test) o (term_stands r m 0 0 test))
       (each_both _ (events (in_arm r m true) chosen) _
       (action_once (in_arm r m true) (suc m) chosen h.0 (below_in m true r.arms w) (once_in m true r.arms w o))
       (other_once (in_arm r m false) (suc m + commands_in chosen) other h.1 (below_up (suc m) (suc m + commands_in chosen) (in_arm r m false).arms (omega arith) (below_in m false r.arms w)) (once_in m false r.arms w o)))
   form_once r m (repeats test body) h w o =
-      each_both _ (term_events (site_of r m) test) _ (own_once r (term_events (site_of r m) test) o (term_stands r m 0 0 test)) (action_once r (suc m) body h (below_up m (suc m) r.arms (omega arith) w) o)
+      each_both _ (source_term_events (site_of r m) test) _ (own_once r (source_term_events (site_of r m) test) o (term_stands r m 0 0 test)) (action_once r (suc m) body h (below_up m (suc m) r.arms (omega arith) w) o)
   form_once r m (counts iterator declared low high factor body combine combine_place) h w o =
       let c = loop_of iterator low high factor in
       let e = sym (loop_arms r c) in

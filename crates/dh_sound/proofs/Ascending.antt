@@ -10,7 +10,7 @@ use Rattle.dh_meaning.specs.Core.{Reach, CoreTerm, CoreCommand, choose, CoreComm
 use Rattle.dh_meaning.specs.CoreOf.{Known, entity_number, depth_of, kind_of, assigned, first_value, core_term, core_terms, store_to, folded_into, core_action, core_action_form, core_other, core_part, core_groups, core_commands, reach_of, memory_of}
 use Rattle.dh_meaning.specs.CoreOf as meaning
 use Rattle.dh_value.specs.Words as words
-use Rattle.dh_meaning.specs.Effects.{Begun, Variables, Event, reads, writes, faults, read_made, write_made, kept_bits, term_events, terms_events, spot_by_row, value_of, holds_at}
+use Rattle.dh_meaning.specs.Effects.{Begun, Variables, Event, reads, writes, faults, read_made, write_made, kept_bits, term_events, terms_events, spot_by_row, value_of_term, holds_at}
 use Rattle.dh_meaning.specs.OnePhase.{in_one_phase}
 use Rattle.dh_meaning.specs.Paths.{Path}
 use Rattle.dh_meaning.specs.Phases.{Located}
@@ -89,7 +89,7 @@ module _ (p : Program) (b : Begun) (known : Known) (path : Path) (in_block : ℕ
         (last_ascends n (n + terms_accesses ts) (n + suc (terms_accesses ts)) (n + terms_accesses ts) (terms_events b v path (core_terms known n ts)) (read_made r path s)
         (terms_ascend v n ts) (omega arith) (read_number r path s) (omega arith))
     term_ascends v n (term place k (in_bank x bank at t)) =
-        let s = spot_by_row b.table (memory_of known x) bank (words.value_of (value_of b v path (core_term known n t))) in
+        let s = spot_by_row b.table (memory_of known x) bank (words.value_of (value_of_term b v path (core_term known n t))) in
         last_ascends n (n + term_accesses t) (n + suc (term_accesses t)) (n + term_accesses t) (term_events b v path (core_term known n t)) (read_made (reach_of known (n + term_accesses t) place x) path s)
         (term_ascends v n t) (omega arith) (read_number (reach_of known (n + term_accesses t) place x) path s) (omega arith)
     term_ascends v n (term place k (applied o l m)) =
@@ -125,7 +125,7 @@ module _ (p : Program) (b : Begun) (known : Known) (path : Path) (in_block : ℕ
       let m = n + term_accesses value in
       let r = reach_of known (m + terms_accesses ts) at x in
       let s = spot_reached b v path r (target_to (way_of known x) (core_terms known m ts)) in
-      let kept = kept_bits b.table (memory_of known x) (value_of b v path (core_term known n value)) in
+      let kept = kept_bits b.table (memory_of known x) (value_of_term b v path (core_term known n value)) in
       subst (λ (es : List Event). Ascends n (term_events b v path (core_term known n value) ++ (es ++ write_made r path kept s ∷ [])) (n + (term_accesses value + suc (terms_accesses ts))))
       (sym (target_makes b v path (way_of known x) (core_terms known m ts)))
       (ascends_both n m (n + (term_accesses value + suc (terms_accesses ts))) (term_events b v path (core_term known n value)) (terms_events b v path (core_terms known m ts) ++ write_made r path kept s ∷ []) (term_ascends v n value)
@@ -134,8 +134,8 @@ module _ (p : Program) (b : Begun) (known : Known) (path : Path) (in_block : ℕ
   store_ascends v n (term at k (in_bank x bank place t)) value =
       let m = n + term_accesses value in
       let r = reach_of known (m + term_accesses t) at x in
-      let s = spot_by_row b.table (memory_of known x) bank (words.value_of (value_of b v path (core_term known m t))) in
-      let kept = kept_bits b.table (memory_of known x) (value_of b v path (core_term known n value)) in
+      let s = spot_by_row b.table (memory_of known x) bank (words.value_of (value_of_term b v path (core_term known m t))) in
+      let kept = kept_bits b.table (memory_of known x) (value_of_term b v path (core_term known n value)) in
       ascends_both n m (n + (term_accesses value + suc (term_accesses t))) (term_events b v path (core_term known n value)) (term_events b v path (core_term known m t) ++ write_made r path kept s ∷ []) (term_ascends v n value)
       (last_ascends m (m + term_accesses t) (n + (term_accesses value + suc (term_accesses t))) (m + term_accesses t) (term_events b v path (core_term known m t)) (write_made r path kept s)
       (term_ascends v m t) (omega arith) (write_number r path kept s) (omega arith))

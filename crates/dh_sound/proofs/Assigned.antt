@@ -6,7 +6,7 @@ use Rattle.std.specs.Prelude.{take, ℤ}
 use Rattle.dh_value.specs.Words as words
 use Rattle.dh_meaning.specs.Paths.{Path, same_path}
 use Rattle.dh_meaning.specs.Core.{Reach, CoreTerm, Target, CoreCommand, store, assign, choose, CoreCommands, no_commands, command_and}
-use Rattle.dh_meaning.specs.Effects.{Begun, Variables, set_variable, Effect, at_each, stored_at, assigned_at, tested_at, paths_where, holds_at, value_of, command_run, commands_run}
+use Rattle.dh_meaning.specs.Effects.{Begun, Variables, set_variable, Effect, at_each, stored_at, assigned_at, tested_at, paths_where, holds_at, value_of_term, command_run, commands_run}
 use Rattle.dh_meaning.specs.Levels.{assigns_to, any_assigns}
 use Rattle.dh_meaning.specs.Core.{CoreTerms, count_terms, keep}
 use Rattle.dh_meaning.specs.Effects.{kept_at}
@@ -37,7 +37,7 @@ module _ (b : Begun) (entity : ℕ) where
   assigned_leaves depth other value h [] e p = refl
   assigned_leaves depth other value h (path ∷ paths) e p =
       assigned_leaves depth other value h paths (assigned_at b depth other value path e) p
-      ∙ another_set e.variables entity other (take depth path) p (words.value_of (value_of b e.variables path value)) h
+      ∙ another_set e.variables entity other (take depth path) p (words.value_of (value_of_term b e.variables path value)) h
 
   kept_leaves : (depth first : ℕ) (values : CoreTerms) → (nat_le first entity && nat_lt entity (first + count_terms values)) ≡ false → (paths : List Path) (e : Effect) (p : Path)
       → (at_each (kept_at b depth first values) paths e).variables entity p ≡ e.variables entity p

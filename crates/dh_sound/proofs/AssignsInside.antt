@@ -14,7 +14,7 @@ use Rattle.dh_meaning.specs.CoreOf.{Known, store_to, core_action, core_action_fo
 use Rattle.dh_meaning.specs.Levels.{assigns_to, any_assigns}
 use Rattle.dh_meaning.specs.Phases.{Located, located, Phase, straight, turns, repeated, decided, Phases, no_phases, phase, of_list, one_straight, joined, are_straight, one_command, folded, turn_count, turn_phases, choice_phases, phases, form_phases, other_phases, groups_phases, parts_phases}
 use Rattle.dh_meaning.specs.Sites.{Around, in_arm, in_loop, loop_of}
-use Rattle.dh_sound.specs.AssignsInside.{AllInside, AssignsInside, FormAssignsInside, OtherAssignsInside, GroupsAssignInside, PartAssignsInside}
+use Rattle.dh_sound.specs.AssignsInside.{AllAssignInside, AssignsInside, FormAssignsInside, OtherAssignsInside, GroupsAssignInside, PartAssignsInside}
 use Rattle.dh_sound.specs.Deep.{IsDeep, AreDeep}
 use Rattle.dh_sound.specs.SimpleForms.{AreFolds, FoldsOnly, FormFoldsOnly, GroupsFoldOnly, PartFoldsOnly, JoinsFolds}
 use Rattle.dh_sound.proofs.SamePhase.{either}
@@ -37,7 +37,7 @@ module _ (known : Known) where
     pub done : List Located
     pub folds : List Located
     pub is : cs ≡ done ++ folds
-    pub inside : AllInside known depth done
+    pub inside : AllAssignInside known depth done
     pub quiet : AreFolds folds
 
   -- the depth inside a loop
@@ -47,7 +47,7 @@ module _ (known : Known) where
   -- phases of commands, of which those inside a `for` may have reducers behind them
   abbrev mutual
     IsOwn : (depth : ℕ) → Phase → Type 0
-    IsOwn d (straight cs) = AllInside known d cs
+    IsOwn d (straight cs) = AllAssignInside known d cs
     IsOwn d (turns loop count body) = AreSplit (inner d loop) body
     IsOwn d (repeated loop body) = AreOwn d body
     IsOwn d (decided choice chosen other) = AreOwn d chosen × AreOwn d other
@@ -90,7 +90,7 @@ module _ (known : Known) where
   PartsFold [] = Unit {0}
   PartsFold (ps ∷ parts) = ListFolds ps × PartsFold parts
 
-  own_split : (d : ℕ) (cs : List Located) → AllInside known d cs → IsSplit d cs
+  own_split : (d : ℕ) (cs : List Located) → AllAssignInside known d cs → IsSplit d cs
   own_split d cs h = record { done = cs; folds = []; is = sym (append-nil cs); inside = h; quiet = tt }
 
   phase_splits : (d : ℕ) (p : Phase) → IsOwn d p → PhaseSplit d p
@@ -127,7 +127,7 @@ module _ (known : Known) where
 
   -- one behind the other
 
-  all_inside_both : (d : ℕ) (cs ds : List Located) → AllInside known d cs → AllInside known d ds → AllInside known d (cs ++ ds)
+  all_inside_both : (d : ℕ) (cs ds : List Located) → AllAssignInside known d cs → AllAssignInside known d ds → AllAssignInside known d (cs ++ ds)
   all_inside_both d [] ds h g = g
   all_inside_both d (c ∷ cs) ds h g = (h.0, all_inside_both d cs ds h.1 g)
 
@@ -139,7 +139,7 @@ module _ (known : Known) where
   split_both d [] qs h g = g
   split_both d (p ∷ ps) qs h g = (h.0, split_both d ps qs h.1 g)
 
-  own_straight : (d : ℕ) (cs : List Located) → AllInside known d cs → ListOwn d (one_straight cs)
+  own_straight : (d : ℕ) (cs : List Located) → AllAssignInside known d cs → ListOwn d (one_straight cs)
   own_straight d [] h = tt
   own_straight d (c ∷ cs) h = (h, tt)
 
@@ -147,7 +147,7 @@ module _ (known : Known) where
   split_straight d [] h = tt
   split_straight d (c ∷ cs) h = (h, tt)
 
-  own_joined : (d : ℕ) (cs : List Located) (parts : List (List Phase)) → AllInside known d cs → PartsOwn d parts → ListOwn d (joined cs parts)
+  own_joined : (d : ℕ) (cs : List Located) (parts : List (List Phase)) → AllAssignInside known d cs → PartsOwn d parts → ListOwn d (joined cs parts)
   own_joined d cs [] h g = own_straight d cs h
   own_joined d cs ([] ∷ parts) h g = own_joined d cs parts h g.1
   own_joined d cs ((straight ds ∷ []) ∷ parts) h g = own_joined d (cs ++ ds) parts (all_inside_both d cs ds h g.0.0) g.1
@@ -221,7 +221,7 @@ module _ (known : Known) where
   join_phases (one_action a) r n h = fold_phases a r n h
 
   -- a turn: the reducers stand behind the commands of its last phase
-  behind_last : (d : ℕ) (cs : List Located) (fold : List Phase) → AllInside known d cs → ListFolds fold → ListSplit d (joined cs (fold ∷ []))
+  behind_last : (d : ℕ) (cs : List Located) (fold : List Phase) → AllAssignInside known d cs → ListFolds fold → ListSplit d (joined cs (fold ∷ []))
   behind_last d cs [] h g = split_straight d cs (own_split d cs h)
   behind_last d cs (straight ds ∷ []) h g = split_straight d (cs ++ ds) (record { done = cs; folds = ds; is = refl; inside = h; quiet = g.0 })
   behind_last d cs (turns loop count body ∷ []) h g = elim g [ ]
@@ -363,7 +363,7 @@ module _ (known : Known) where
       part_deep (action_then a behind) n rest h g = action_deep a n (core_part known (n + accesses_of a) behind rest) h.0 (part_deep behind (n + accesses_of a) rest h.1 g)
 
     -- the commands of a phase
-    pub commands_deep : (cs : List Located) → AllInside known d cs → AllDeclaredDeep d (core_commands known cs)
+    pub commands_deep : (cs : List Located) → AllAssignInside known d cs → AllDeclaredDeep d (core_commands known cs)
     commands_deep [] h = tt
     commands_deep (c ∷ cs) h = action_deep c.command c.first (core_commands known cs) h.0 (commands_deep cs h.1)
 

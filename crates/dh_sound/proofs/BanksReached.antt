@@ -31,7 +31,7 @@ use Rattle.dh_tree.specs.Shapes.{IsDim}
 use Rattle.dh_meaning.specs.AccessNumbers.{term_accesses}
 use Rattle.dh_meaning.specs.Core.{Reach, Target, by_indices, by_row}
 use Rattle.dh_meaning.specs.CoreOf.{Known, known_of, dims_by, entity_number, core_term, core_terms}
-use Rattle.dh_meaning.specs.Effects.{Begun, Variables, is_inside, is_row, spot_by_indices, spot_by_row, value_of, values_of, spot_reached}
+use Rattle.dh_meaning.specs.Effects.{Begun, Variables, is_inside, is_row, spot_by_indices, spot_by_row, value_of_term, values_of, spot_reached}
 use Rattle.dh_meaning.specs.Paths.{Path}
 use Rattle.dh_meets.specs.Charges.{level_of_loop, index_in, indices_in, bank_reached, reaches_in}
 use Rattle.dh_meets.specs.SourceEvents.{Element, with_indices, in_row, SourceAccess}
@@ -230,7 +230,7 @@ module _ (b : Begun) (v : Variables) (path : Path) (known : Known) (cs loops : L
   bank_of_indices n [] (term_then (term place kind form) ts) h k t e = refl
   bank_of_indices n (d ∷ ds) no_terms h k t e = refl
   bank_of_indices n (d ∷ ds) (term_then (term place kind form) ts) h k t e =
-      let z : ℤ = words.value_of (value_of b v path (core_term known n (term place kind form))) in
+      let z : ℤ = words.value_of (value_of_term b v path (core_term known n (term place kind form))) in
       let first = index_bank loops path d place (index_kind cs kind form) z h.0 (index_copy cs kind form copies) (first_none (one_index_breaches d place (index_kind cs kind form)) _ e) (index_value IsUnrolled b v path known cs loops n (term place kind form) k.0 t.0) in
       let rest = bank_of_indices (n + term_accesses (term place kind form)) ds ts h.1 k.1 t.1 (second_none (one_index_breaches d place (index_kind cs kind form)) _ e) in
       ap (λ x. x * banks_of ds + bank_of ds (map unsigned_abs (values_of b v path (core_terms known (n + term_accesses (term place kind form)) ts)))) first
@@ -294,7 +294,7 @@ element_bank : (b : Begun) (v : Variables) (path : Path) (known : Known) (cs loo
 element_bank b v path known cs loops n r (with_indices indices) dims s copies is h k t e f =
     let there = spot_indices b.table r.memory (values_of b v path (core_terms known n indices)) s f in
     (there.0, there.1 ∙ (ap (λ ds. bank_of ds (map unsigned_abs (values_of b v path (core_terms known n indices)))) is ∙ bank_of_indices b v path known cs loops copies n dims indices h k t e))
-element_bank b v path known cs loops n r (in_row bank row) dims s copies is h k t e f = spot_row b.table r.memory bank (words.value_of (value_of b v path (core_term known n row))) s f
+element_bank b v path known cs loops n r (in_row bank row) dims s copies is h k t e f = spot_row b.table r.memory bank (words.value_of (value_of_term b v path (core_term known n row))) s f
 
 reached_is : (cs : List Counter) (dims : List Dim) (a : SourceAccess) (path : Path) (element : Element) → element_reached cs a.site.loops dims path element ≡ bank_reached cs dims a path element
 reached_is cs dims a path (with_indices indices) = refl

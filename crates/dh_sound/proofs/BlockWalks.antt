@@ -19,7 +19,7 @@ use Rattle.dh_sound.proofs.Makes.{Within, within_is, is_within_so, two_within, m
 use Rattle.dh_sound.proofs.TermWalks.{walk_none, walk_then, walk_term, term_counted}
 use Rattle.dh_sound.proofs.StraightWalks.{Steps, starts_so, Along, along_first, along_then, walk_passed, idle_passed, Agrees, first_agrees, then_agrees, Touches, Done, done_nothing, done_then, walk_action}
 use Rattle.dh_sound.proofs.Trails.{follows_plain}
-use Rattle.dh_sound.specs.AssignsInside.{AllInside, AssignsInside}
+use Rattle.dh_sound.specs.AssignsInside.{AllAssignInside, AssignsInside}
 use Rattle.dh_sound.specs.Trails.{count, StandsBehind, of_located, Follows}
 use Rattle.dh_sound.specs.ViewTrails.{FollowsViews, StandsViews}
 
@@ -97,7 +97,7 @@ module _ (p : Program) (b : Begun) (path : Path) (in_block : ℕ → Bool)
       (along_then p b path in_block share v0 touched r bg ce rest v done.after (es ++ []) done.made c.first (c.first + count ce) along refl done.steps)))
 
   -- the commands of a phase
-  pub walk_located : (depth : ℕ) (r : Around) (before part : List SourceEvent) (v : Variables) (es : List Event) (n : ℕ) (cs : List Located) → AllInside known depth cs → FollowsViews p r before part cs → Agree n (count part) (λ k. any_makes k cs)
+  pub walk_located : (depth : ℕ) (r : Around) (before part : List SourceEvent) (v : Variables) (es : List Event) (n : ℕ) (cs : List Located) → AllAssignInside known depth cs → FollowsViews p r before part cs → Agree n (count part) (λ k. any_makes k cs)
       → Touches p b path in_block share v0 touched (core_commands known cs) → Along p b path in_block share v0 touched r before part v es n
       → Done p b path in_block share v0 touched r before part v es (core_commands known cs) no_commands
   walk_located depth r before part v es n [] all f a t s =
@@ -117,11 +117,11 @@ module _ (p : Program) (b : Begun) (path : Path) (in_block : ℕ → Bool)
     pub steps : Steps p b path in_block share v0 touched r before front v v es (term_events b v path test)
 
   test_walk : (r : Around) (before gap rest : List SourceEvent) (v : Variables) (es : List Event) (n first id : ℕ) (t : Term) → IsNamedTerm t → first ≡ count (before ++ gap)
-      → Agree n (count (gap ++ (source.term_events (site_of r id) t ++ rest))) (λ k. is_between k first (term_accesses t))
-      → Along p b path in_block share v0 touched r before (gap ++ (source.term_events (site_of r id) t ++ rest)) v es n
+      → Agree n (count (gap ++ (source.source_term_events (site_of r id) t ++ rest))) (λ k. is_between k first (term_accesses t))
+      → Along p b path in_block share v0 touched r before (gap ++ (source.source_term_events (site_of r id) t ++ rest)) v es n
       → Tested r before v es (core_term known first t)
   test_walk r before gap rest v es n first id t names first_is a s =
-      let te = source.term_events (site_of r id) t in
+      let te = source.source_term_events (site_of r id) t in
       let own = term_counted (site_of r id) t in
       let split = count_joined gap (te ++ rest) ∙ ap (λ l. count gap + l) (count_joined te rest) in
       let here = subst (λ (l : ℕ). Agree n l (λ k. is_between k first (term_accesses t))) split a in
@@ -143,11 +143,11 @@ module _ (p : Program) (b : Begun) (path : Path) (in_block : ℕ → Bool)
   no_test r before part v es n s = record { front = []; steps = walk_none p b known path in_block share v0 touched r before v es s.near s.knows }
 
   longer_test : (r : Around) (before gap behind rest : List SourceEvent) (v : Variables) (es : List Event) (n first id : ℕ) (t : Term) → IsNamedTerm t → first ≡ count (before ++ gap)
-      → Agree n (count (gap ++ ((source.term_events (site_of r id) t ++ behind) ++ rest))) (λ k. is_between k first (term_accesses t))
-      → Along p b path in_block share v0 touched r before (gap ++ ((source.term_events (site_of r id) t ++ behind) ++ rest)) v es n
+      → Agree n (count (gap ++ ((source.source_term_events (site_of r id) t ++ behind) ++ rest))) (λ k. is_between k first (term_accesses t))
+      → Along p b path in_block share v0 touched r before (gap ++ ((source.source_term_events (site_of r id) t ++ behind) ++ rest)) v es n
       → Tested r before v es (core_term known first t)
   longer_test r before gap behind rest v es n first id t names first_is a s =
-      let e = ap (λ l. gap ++ l) (append_assoc (source.term_events (site_of r id) t) behind rest) in
+      let e = ap (λ l. gap ++ l) (append_assoc (source.source_term_events (site_of r id) t) behind rest) in
       test_walk r before gap (behind ++ rest) v es n first id t names first_is
       (subst (λ (l : List SourceEvent). Agree n (count l) (λ k. is_between k first (term_accesses t))) e a)
       (subst (λ (l : List SourceEvent). Along p b path in_block share v0 touched r before l v es n) e s)

@@ -14,7 +14,7 @@ use Rattle.dh_meaning.specs.Phases.{Located, Phase, straight, turns, repeated, d
 use Rattle.dh_meaning.specs.Sites.{nothing_around}
 use Rattle.dh_meets.specs.Charges.{loop_factors}
 use Rattle.dh_meets.specs.SourceEvents.{trace}
-use Rattle.dh_sound.specs.AssignsInside.{AllInside, AssignsInside}
+use Rattle.dh_sound.specs.AssignsInside.{AllAssignInside, AssignsInside}
 use Rattle.dh_sound.specs.Blocks.{factors, StandsIn, StandsInPhase}
 use Rattle.dh_sound.specs.LoopsMatch.{unrolled_loops, EachMatches}
 use Rattle.dh_sound.specs.NamesInScope.{IsScoped}
@@ -109,7 +109,7 @@ module _ (known : Known) where
 pub record StraightFound (p : Program) (loops : List Turning) (block : Block) : Type 0 where
   pub matches : StraightMatches p loops block
   pub names : StraightNames p loops matches.of.done
-  pub inside : AllInside (known_of p) (length (factors loops)) matches.of.done
+  pub inside : AllAssignInside (known_of p) (length (factors loops)) matches.of.done
   pub views : FollowsViews p matches.of.round [] (trace p) matches.of.done
 
 -- A block is that of a test, whose loops match those round it, and whose indices name only what is in scope there.

@@ -15,7 +15,7 @@ use Rattle.dh_tree.specs.Memories.{Memory, memories_of}
 use Rattle.dh_tree.specs.PlainTrees.{Term, term, number, truth_value, named, accessed, in_bank, applied, converted, Terms, no_terms, term_then, Placed, Unrolled, Action, action, ActionForm, lets, lets_memory, views, assigns, stores, reduces, calls, blocks, decides, repeats, counts, MaybeAction, no_action, one_action, Actions, no_actions, action_then, Groups, no_groups, group_then, Program}
 use Rattle.dh_meaning.specs.Sites.{Around, nothing_around, in_arm, in_loop, loop_of}
 use Rattle.dh_meets.specs.Charges.{loop_factors}
-use Rattle.dh_meets.specs.SourceEvents.{Site, SourceAccess, SourceEvent, accesses, assigned, term_events, terms_events, maybe_events, write_events, site_of, events, command_events, other_events, groups_events, part_events, accesses_in, trace}
+use Rattle.dh_meets.specs.SourceEvents.{Site, SourceAccess, SourceEvent, accesses, assigned, source_term_events, source_terms_events, maybe_events, write_events, site_of, events, command_events, other_events, groups_events, part_events, accesses_in, trace}
 use Rattle.dh_sound.proofs.BanksReached.{first_none, second_none}
 use Rattle.dh_sound.proofs.ValuesOfIndices.{both_true}
 use Rattle.dh_meaning.specs.Paths.{copies_in}
@@ -71,26 +71,26 @@ site_few r id copies h = subst (λ n. n ≤ most_copies) (sym h.is) h.few
 
 module _ (site : Site) (few : SiteFew site) where
   mutual
-    term_few : (t : Term) → AreFew (term_events site t)
+    term_few : (t : Term) → AreFew (source_term_events site t)
     term_few (term place k (number negative n)) = tt
     term_few (term place k (truth_value value)) = tt
     term_few (term place k (named r)) = tt
-    term_few (term place k (accessed r indices)) = both_few (terms_events site indices) _ (terms_few indices) (few, tt)
-    term_few (term place k (in_bank r bank bank_place row)) = both_few (term_events site row) _ (term_few row) (few, tt)
-    term_few (term place k (applied o left right)) = both_few (term_events site left) (term_events site right) (term_few left) (term_few right)
+    term_few (term place k (accessed r indices)) = both_few (source_terms_events site indices) _ (terms_few indices) (few, tt)
+    term_few (term place k (in_bank r bank bank_place row)) = both_few (source_term_events site row) _ (term_few row) (few, tt)
+    term_few (term place k (applied o left right)) = both_few (source_term_events site left) (source_term_events site right) (term_few left) (term_few right)
     term_few (term place k (converted inner to)) = term_few inner
 
-    terms_few : (ts : Terms) → AreFew (terms_events site ts)
+    terms_few : (ts : Terms) → AreFew (source_terms_events site ts)
     terms_few no_terms = tt
-    terms_few (term_then t rest) = both_few (term_events site t) (terms_events site rest) (term_few t) (terms_few rest)
+    terms_few (term_then t rest) = both_few (source_term_events site t) (source_terms_events site rest) (term_few t) (terms_few rest)
 
   write_few : (t : Term) → AreFew (write_events site t)
   write_few (term place k (number negative n)) = tt
   write_few (term place k (truth_value value)) = tt
   write_few (term place k (named r)) = tt
-  write_few (term place k (accessed r indices)) = both_few (terms_events site indices) _ (terms_few indices) (few, tt)
-  write_few (term place k (in_bank r bank bank_place row)) = both_few (term_events site row) _ (term_few row) (few, tt)
-  write_few (term place k (applied o left right)) = both_few (term_events site left) (term_events site right) (term_few left) (term_few right)
+  write_few (term place k (accessed r indices)) = both_few (source_terms_events site indices) _ (terms_few indices) (few, tt)
+  write_few (term place k (in_bank r bank bank_place row)) = both_few (source_term_events site row) _ (term_few row) (few, tt)
+  write_few (term place k (applied o left right)) = both_few (source_term_events site left) (source_term_events site right) (term_few left) (term_few right)
   write_few (term place k (converted inner to)) = term_few inner
 
   maybe_few : (t : Option Term) → AreFew (maybe_events site t)
@@ -133,19 +133,19 @@ module _ (known : IndexContext) where
     form_few r copies h site few (lets name declared value) e l = both_few (maybe_events site value) _ (maybe_few site few value) tt
     form_few r copies h site few (lets_memory name shape shape_places value) e l = tt
     form_few r copies h site few (views name parent form) e l = terms_few site few (terms (offsets_of form))
-    form_few r copies h site few (assigns target value) e l = both_few (term_events site value) _ (term_few site few value) tt
-    form_few r copies h site few (stores target value) e l = both_few (term_events site value) (write_events site target) (term_few site few value) (write_few site few target)
-    form_few r copies h site few (reduces target o value) e l = both_few (term_events site value) _ (term_few site few value) tt
+    form_few r copies h site few (assigns target value) e l = both_few (source_term_events site value) _ (term_few site few value) tt
+    form_few r copies h site few (stores target value) e l = both_few (source_term_events site value) (write_events site target) (term_few site few value) (write_few site few target)
+    form_few r copies h site few (reduces target o value) e l = both_few (source_term_events site value) _ (term_few site few value) tt
     form_few r copies h site few (calls function arguments) e l = tt
     form_few r copies h site few (blocks body) e l = groups_few r copies h body e l
     form_few r copies h site few (decides test chosen other) e l =
         let below = second_none (term_index_breaches known test) _ e in
-        both_few (term_events site test) _ (term_few site few test)
+        both_few (source_term_events site test) _ (term_few site few test)
         (both_few (events (in_arm r site.command true) chosen) _
         (events_few (in_arm r site.command true) copies (in_arm_round r site.command copies true h) chosen (first_none (action_index_breaches known chosen) _ below) (first_of (copies_excess copies chosen) _ l))
         (other_few (in_arm r site.command false) copies (in_arm_round r site.command copies false h) other (second_none (action_index_breaches known chosen) _ below) (rest_of (copies_excess copies chosen) _ l)))
     form_few r copies h site few (repeats test body) e l =
-        both_few (term_events site test) (events r body) (term_few site few test) (events_few r copies h body (second_none (term_index_breaches known test) _ e) l)
+        both_few (source_term_events site test) (events r body) (term_few site few test) (events_few r copies h body (second_none (term_index_breaches known test) _ e) l)
     form_few r copies h site few (counts iterator declared low high factor body combine combine_place) e l =
         let some = some_factor low high factor (first_none (turns_breaches low high factor) _ e) in
         let below = second_none (turns_breaches low high factor) _ e in

@@ -8,7 +8,7 @@ use Rattle.dh_tree.specs.ViewOffsets.{offsets_of}
 use Rattle.dh_meaning.specs.Bindings.{depth_inside}
 use Rattle.dh_meaning.specs.Sites.{Around, in_arm, in_loop, loop_of}
 use Rattle.dh_meaning.specs.Ways.{Hidden, ViewSite, behind_all, behind_hidden, form_standings, groups_standings, hidden_in, other_standings, part_standings, standings, way_to}
-use Rattle.dh_meets.specs.SourceEvents.{Element, with_indices, in_row, Site, SourceEvent, command_events, events, groups_events, maybe_events, other_events, part_events, site_of, term_events, terms_events, write_events}
+use Rattle.dh_meets.specs.SourceEvents.{Element, with_indices, in_row, Site, SourceEvent, command_events, events, groups_events, maybe_events, other_events, part_events, site_of, source_term_events, source_terms_events, write_events}
 use Rattle.dh_sound.specs.BehindViews.{AccessBehind, ActionBehind, ElementBehind, FormBehind, GroupsBehind, MaybeBehind, OtherBehind, PartBehind, TermBehind, TermsBehind}
 use Rattle.dh_sound.specs.Trails.{EachAccess}
 use Rattle.dh_sound.specs.ViewTrails.{IsBehind}
@@ -58,26 +58,26 @@ module _ (p : Program) where
 
   module _ (x : ℕ) (site : Site) where
     mutual
-      pub term_seen : (t : Term) → TermBehind p x t → Behind x (term_events site t)
+      pub term_seen : (t : Term) → TermBehind p x t → Behind x (source_term_events site t)
       term_seen (term place k (number negative n)) h = tt
       term_seen (term place k (truth_value value)) h = tt
       term_seen (term place k (named r)) h = tt
-      term_seen (term place k (accessed r ts)) h = each_both _ (terms_events site ts) _ (terms_seen ts h.1) (h, tt)
-      term_seen (term place k (in_bank r bank at t)) h = each_both _ (term_events site t) _ (term_seen t h.1) (h, tt)
-      term_seen (term place k (applied o l m)) h = each_both _ (term_events site l) _ (term_seen l h.0) (term_seen m h.1)
+      term_seen (term place k (accessed r ts)) h = each_both _ (source_terms_events site ts) _ (terms_seen ts h.1) (h, tt)
+      term_seen (term place k (in_bank r bank at t)) h = each_both _ (source_term_events site t) _ (term_seen t h.1) (h, tt)
+      term_seen (term place k (applied o l m)) h = each_both _ (source_term_events site l) _ (term_seen l h.0) (term_seen m h.1)
       term_seen (term place k (converted t to)) h = term_seen t h
 
-      pub terms_seen : (ts : Terms) → TermsBehind p x ts → Behind x (terms_events site ts)
+      pub terms_seen : (ts : Terms) → TermsBehind p x ts → Behind x (source_terms_events site ts)
       terms_seen no_terms h = tt
-      terms_seen (term_then t ts) h = each_both _ (term_events site t) _ (term_seen t h.0) (terms_seen ts h.1)
+      terms_seen (term_then t ts) h = each_both _ (source_term_events site t) _ (term_seen t h.0) (terms_seen ts h.1)
 
     write_seen : (t : Term) → TermBehind p x t → Behind x (write_events site t)
     write_seen (term place k (number negative n)) h = tt
     write_seen (term place k (truth_value value)) h = tt
     write_seen (term place k (named r)) h = tt
-    write_seen (term place k (accessed r ts)) h = each_both _ (terms_events site ts) _ (terms_seen ts h.1) (h, tt)
-    write_seen (term place k (in_bank r bank at t)) h = each_both _ (term_events site t) _ (term_seen t h.1) (h, tt)
-    write_seen (term place k (applied o l m)) h = each_both _ (term_events site l) _ (term_seen l h.0) (term_seen m h.1)
+    write_seen (term place k (accessed r ts)) h = each_both _ (source_terms_events site ts) _ (terms_seen ts h.1) (h, tt)
+    write_seen (term place k (in_bank r bank at t)) h = each_both _ (source_term_events site t) _ (term_seen t h.1) (h, tt)
+    write_seen (term place k (applied o l m)) h = each_both _ (source_term_events site l) _ (term_seen l h.0) (term_seen m h.1)
     write_seen (term place k (converted t to)) h = term_seen t h
 
     maybe_seen : (m : Option Term) → MaybeBehind p x m → Behind x (maybe_events site m)
@@ -97,18 +97,18 @@ module _ (p : Program) where
     form_seen : (d x : ℕ) (r : Around) (site : Site) (f : ActionForm) → FormBehind p d x f → Behind (behind_all x (form_standings d f)) (command_events r site f)
     form_seen d x r site (lets name declared value) h = each_both _ (maybe_events site value) _ (maybe_seen x site value h.1) tt
     form_seen d x r site (lets_memory name shape shape_places value) h = tt
-    form_seen d x r site (views name parent form) h = seen_up x _ (behind_more x (form_standings d (views name parent form))) (terms_events site (terms (offsets_of form))) (terms_seen x site (terms (offsets_of form)) h.1)
-    form_seen d x r site (assigns target value) h = each_both _ (term_events site value) _ (term_seen x site value h.1) tt
-    form_seen d x r site (stores target value) h = each_both _ (term_events site value) _ (term_seen x site value h.1) (write_seen x site target h.0)
-    form_seen d x r site (reduces target op value) h = each_both _ (term_events site value) _ (term_seen x site value h.1) tt
+    form_seen d x r site (views name parent form) h = seen_up x _ (behind_more x (form_standings d (views name parent form))) (source_terms_events site (terms (offsets_of form))) (terms_seen x site (terms (offsets_of form)) h.1)
+    form_seen d x r site (assigns target value) h = each_both _ (source_term_events site value) _ (term_seen x site value h.1) tt
+    form_seen d x r site (stores target value) h = each_both _ (source_term_events site value) _ (term_seen x site value h.1) (write_seen x site target h.0)
+    form_seen d x r site (reduces target op value) h = each_both _ (source_term_events site value) _ (term_seen x site value h.1) tt
     form_seen d x r site (calls function arguments) h = tt
     form_seen d x r site (blocks body) h = groups_seen d x r body h
     form_seen d x r site (decides test chosen other) h =
-        each_both _ (term_events site test) _ (seen_up x _ (behind_more x (standings d chosen ++ other_standings d other)) (term_events site test) (term_seen x site test h.0))
+        each_both _ (source_term_events site test) _ (seen_up x _ (behind_more x (standings d chosen ++ other_standings d other)) (source_term_events site test) (term_seen x site test h.0))
         (both_seen x (standings d chosen) (other_standings d other) (events (in_arm r site.command true) chosen) (other_events (in_arm r site.command false) other)
         (action_seen d x (in_arm r site.command true) chosen h.1.0) (other_seen d (behind_all x (standings d chosen)) (in_arm r site.command false) other h.1.1))
     form_seen d x r site (repeats test body) h =
-        each_both _ (term_events site test) _ (seen_up x _ (behind_more x (standings d body)) (term_events site test) (term_seen x site test h.0)) (action_seen d x r body h.1)
+        each_both _ (source_term_events site test) _ (seen_up x _ (behind_more x (standings d body)) (source_term_events site test) (term_seen x site test h.0)) (action_seen d x r body h.1)
     form_seen d x r site (counts iterator declared low high factor body combine combine_place) h =
         let di = depth_inside d factor.value in
         let inner : Around = in_loop r (loop_of iterator low high factor) in
@@ -136,8 +136,8 @@ module _ (p : Program) where
   }
 
   -- behind a test, which keeps nothing
-  pub behind_test : (x : ℕ) (site : Site) (before : List SourceEvent) (t : Term) → IsBehind p x before → TermBehind p x t → IsBehind p x (before ++ term_events site t)
-  behind_test x site before t at h = behind_then x x before (term_events site t) (same x) at (term_seen x site t h)
+  pub behind_test : (x : ℕ) (site : Site) (before : List SourceEvent) (t : Term) → IsBehind p x before → TermBehind p x t → IsBehind p x (before ++ source_term_events site t)
+  behind_test x site before t at h = behind_then x x before (source_term_events site t) (same x) at (term_seen x site t h)
     where
       same : (n : ℕ) → n ≤ n
       same n = omega arith

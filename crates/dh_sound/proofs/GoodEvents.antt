@@ -24,7 +24,7 @@ use Rattle.dh_sound.proofs.SamePhase.{straight_has_both, test_has_both}
 use Rattle.dh_sound.proofs.Slices.{straight_either, test_either}
 use Rattle.dh_sound.proofs.StraightWalks.{Done}
 use Rattle.dh_sound.proofs.TermWalks.{IsGood}
-use Rattle.dh_sound.specs.AssignsInside.{AllInside}
+use Rattle.dh_sound.specs.AssignsInside.{AllAssignInside}
 use Rattle.dh_sound.specs.Trails.{Follows}
 use Rattle.dh_sound.specs.ViewTrails.{FollowsViews}
 
@@ -49,7 +49,7 @@ module _ (p : Program) (b : Begun) (path : Path) (cs folds : List Located) (quie
   abbrev pub IsGoodHere : Around → List Event → Event → Type 0
   IsGoodHere r es ev = IsGood p b known path phase_makes phase_shares v phase_touches r es ev
 
-  phase_done : (depth : ℕ) → AllInside known depth cs → (r : Around) → FollowsViews p r [] (trace p) cs → Done p b path phase_makes phase_shares v phase_touches r [] (trace p) v [] (core_commands known cs) no_commands
+  phase_done : (depth : ℕ) → AllAssignInside known depth cs → (r : Around) → FollowsViews p r [] (trace p) cs → Done p b path phase_makes phase_shares v phase_touches r [] (trace p) v [] (core_commands known cs) no_commands
   phase_done depth all r f =
       walk_located p b path phase_makes phase_shares v phase_touches depth r [] (trace p) v [] 0 cs all f (λ k w. refl) (λ e h. h)
       (record {
@@ -61,7 +61,7 @@ module _ (p : Program) (b : Begun) (path : Path) (cs folds : List Located) (quie
       })
 
   -- each event that they make
-  pub phase_good : (depth : ℕ) → AllInside known depth cs → (r : Around) → FollowsViews p r [] (trace p) cs → (ev : Event) → Has ev (all_made_by b path (core_commands known cs) v) → IsGoodHere r (all_made_by b path (core_commands known cs) v) ev
+  pub phase_good : (depth : ℕ) → AllAssignInside known depth cs → (r : Around) → FollowsViews p r [] (trace p) cs → (ev : Event) → Has ev (all_made_by b path (core_commands known cs) v) → IsGoodHere r (all_made_by b path (core_commands known cs) v) ev
   phase_good depth all r f ev h =
       let d = phase_done depth all r f in
       let made = d.made_is ∙ append-nil d.made in

@@ -18,7 +18,7 @@ use Rattle.dh_tree.specs.PlainTrees.{Term, term, number, truth_value, named, acc
 use Rattle.dh_tree.specs.Shapes.{IsDim}
 use Rattle.dh_tree.proofs.ShapeRules.{shape_without}
 use Rattle.dh_meaning.specs.Sites.{Around, nothing_around, in_arm, in_loop, loop_of}
-use Rattle.dh_meets.specs.SourceEvents.{Element, with_indices, in_row, Site, SourceAccess, SourceEvent, accesses, assigned, one_access, term_events, terms_events, maybe_events, write_events, site_of, events, command_events, other_events, groups_events, part_events, accesses_in, trace}
+use Rattle.dh_meets.specs.SourceEvents.{Element, with_indices, in_row, Site, SourceAccess, SourceEvent, accesses, assigned, one_access, source_term_events, source_terms_events, maybe_events, write_events, site_of, events, command_events, other_events, groups_events, part_events, accesses_in, trace}
 use Rattle.dh_meets.specs.FewCopies.{NamesBanks}
 use Rattle.dh_sound.specs.IndexValues.{element_breaches}
 use Rattle.dh_sound.proofs.BanksReached.{first_none, second_none}
@@ -154,37 +154,37 @@ module _ (known : IndexContext) where
   both_keep (assigned entity ∷ xs) ys h i = both_keep xs ys h i
 
   mutual
-    term_keeps : (site : Site) (t : Term) → term_index_breaches known t ≡ [] → EventsKeep known (term_events site t)
+    term_keeps : (site : Site) (t : Term) → term_index_breaches known t ≡ [] → EventsKeep known (source_term_events site t)
     term_keeps site (term place k (number negative n)) e = tt
     term_keeps site (term place k (truth_value value)) e = tt
     term_keeps site (term place k (named r)) e = tt
     term_keeps site (term place k (accessed r indices)) e =
-        both_keep (terms_events site indices) (one_access place r.entity (with_indices indices) false site)
+        both_keep (source_terms_events site indices) (one_access place r.entity (with_indices indices) false site)
         (terms_keep site indices (second_none (access_index_breaches known.counters (kept_dims (memory_in known.memories r.entity)) indices) _ e))
         (indices_keep known r.entity indices (first_none (access_index_breaches known.counters (kept_dims (memory_in known.memories r.entity)) indices) _ e), tt)
     term_keeps site (term place k (in_bank r bank bank_place row)) e =
-        both_keep (term_events site row) (one_access place r.entity (in_row bank row) false site)
+        both_keep (source_term_events site row) (one_access place r.entity (in_row bank row) false site)
         (term_keeps site row (second_none (physical_breaches (kept_dims (memory_in known.memories r.entity)) bank bank_place row) _ e))
         (row_keeps known r.entity bank bank_place row (first_none (physical_breaches (kept_dims (memory_in known.memories r.entity)) bank bank_place row) _ e), tt)
     term_keeps site (term place k (applied o left right)) e =
-        both_keep (term_events site left) (term_events site right) (term_keeps site left (first_none (term_index_breaches known left) _ e)) (term_keeps site right (second_none (term_index_breaches known left) _ e))
+        both_keep (source_term_events site left) (source_term_events site right) (term_keeps site left (first_none (term_index_breaches known left) _ e)) (term_keeps site right (second_none (term_index_breaches known left) _ e))
     term_keeps site (term place k (converted inner to)) e = term_keeps site inner e
 
-    terms_keep : (site : Site) (ts : Terms) → terms_index_breaches known ts ≡ [] → EventsKeep known (terms_events site ts)
+    terms_keep : (site : Site) (ts : Terms) → terms_index_breaches known ts ≡ [] → EventsKeep known (source_terms_events site ts)
     terms_keep site no_terms e = tt
     terms_keep site (term_then t rest) e =
-        both_keep (term_events site t) (terms_events site rest) (term_keeps site t (first_none (term_index_breaches known t) _ e)) (terms_keep site rest (second_none (term_index_breaches known t) _ e))
+        both_keep (source_term_events site t) (source_terms_events site rest) (term_keeps site t (first_none (term_index_breaches known t) _ e)) (terms_keep site rest (second_none (term_index_breaches known t) _ e))
 
   write_keeps : (site : Site) (t : Term) → term_index_breaches known t ≡ [] → EventsKeep known (write_events site t)
   write_keeps site (term place k (number negative n)) e = tt
   write_keeps site (term place k (truth_value value)) e = tt
   write_keeps site (term place k (named r)) e = tt
   write_keeps site (term place k (accessed r indices)) e =
-      both_keep (terms_events site indices) (one_access place r.entity (with_indices indices) true site)
+      both_keep (source_terms_events site indices) (one_access place r.entity (with_indices indices) true site)
       (terms_keep site indices (second_none (access_index_breaches known.counters (kept_dims (memory_in known.memories r.entity)) indices) _ e))
       (indices_keep known r.entity indices (first_none (access_index_breaches known.counters (kept_dims (memory_in known.memories r.entity)) indices) _ e), tt)
   write_keeps site (term place k (in_bank r bank bank_place row)) e =
-      both_keep (term_events site row) (one_access place r.entity (in_row bank row) true site)
+      both_keep (source_term_events site row) (one_access place r.entity (in_row bank row) true site)
       (term_keeps site row (second_none (physical_breaches (kept_dims (memory_in known.memories r.entity)) bank bank_place row) _ e))
       (row_keeps known r.entity bank bank_place row (first_none (physical_breaches (kept_dims (memory_in known.memories r.entity)) bank bank_place row) _ e), tt)
   write_keeps site (term place k (applied o left right)) e = term_keeps site (term place k (applied o left right)) e
@@ -214,20 +214,20 @@ module _ (kv : KnownViews) where
     form_keeps r site (lets name declared value) e w = both_keep known (maybe_events site value) (assigned name.entity ∷ []) (maybe_keeps known site value e) tt
     form_keeps r site (lets_memory name shape shape_places value) e w = tt
     form_keeps r site (views name parent form) e w = terms_keep known site (terms (offsets_of form)) (offsets_keep (offsets_of form) w)
-    form_keeps r site (assigns target value) e w = both_keep known (term_events site value) (assigned target.entity ∷ []) (term_keeps known site value e) tt
+    form_keeps r site (assigns target value) e w = both_keep known (source_term_events site value) (assigned target.entity ∷ []) (term_keeps known site value e) tt
     form_keeps r site (stores target value) e w =
-        both_keep known (term_events site value) (write_events site target) (term_keeps known site value (second_none (term_index_breaches known target) _ e)) (write_keeps known site target (first_none (term_index_breaches known target) _ e))
-    form_keeps r site (reduces target o value) e w = both_keep known (term_events site value) (assigned target.entity ∷ []) (term_keeps known site value e) tt
+        both_keep known (source_term_events site value) (write_events site target) (term_keeps known site value (second_none (term_index_breaches known target) _ e)) (write_keeps known site target (first_none (term_index_breaches known target) _ e))
+    form_keeps r site (reduces target o value) e w = both_keep known (source_term_events site value) (assigned target.entity ∷ []) (term_keeps known site value e) tt
     form_keeps r site (calls function arguments) e w = tt
     form_keeps r site (blocks body) e w = groups_keep r body e w
     form_keeps r site (decides test chosen other) e w =
         let below = second_none (term_index_breaches known test) _ e in
-        both_keep known (term_events site test) _ (term_keeps known site test (first_none (term_index_breaches known test) _ e))
+        both_keep known (source_term_events site test) _ (term_keeps known site test (first_none (term_index_breaches known test) _ e))
         (both_keep known (events (in_arm r site.command true) chosen) _
         (events_keep (in_arm r site.command true) chosen (first_none (action_index_breaches known chosen) _ below) (first_none (action_view_breaches kv chosen) _ (second_none (term_view_breaches kv test) _ w)))
         (other_keep (in_arm r site.command false) other (second_none (action_index_breaches known chosen) _ below) (second_none (action_view_breaches kv chosen) _ (second_none (term_view_breaches kv test) _ w))))
     form_keeps r site (repeats test body) e w =
-        both_keep known (term_events site test) (events r body) (term_keeps known site test (first_none (term_index_breaches known test) _ e)) (events_keep r body (second_none (term_index_breaches known test) _ e) (second_none (term_view_breaches kv test) _ w))
+        both_keep known (source_term_events site test) (events r body) (term_keeps known site test (first_none (term_index_breaches known test) _ e)) (events_keep r body (second_none (term_index_breaches known test) _ e) (second_none (term_view_breaches kv test) _ w))
     form_keeps r site (counts iterator declared low high factor body combine combine_place) e w =
         let below = second_none (turns_breaches low high factor) _ e in
         both_keep known (events (in_loop r (loop_of iterator low high factor)) body) _

@@ -17,7 +17,7 @@ use Rattle.dh_tree.specs.Views.{view_in, viewed_in}
 use Rattle.dh_tree.proofs.EmptyLists.{first_none, second_none}
 use Rattle.dh_meaning.specs.Sites.{Around, nothing_around, in_arm, in_loop, loop_of}
 use Rattle.dh_meaning.specs.Ways.{Way, way_to}
-use Rattle.dh_meets.specs.SourceEvents.{Element, with_indices, in_row, Site, SourceAccess, SourceEvent, accesses, assigned, accesses_in, command_events, events, groups_events, maybe_events, other_events, part_events, site_of, term_events, terms_events, trace, write_events}
+use Rattle.dh_meets.specs.SourceEvents.{Element, with_indices, in_row, Site, SourceAccess, SourceEvent, accesses, assigned, accesses_in, command_events, events, groups_events, maybe_events, other_events, part_events, site_of, source_term_events, source_terms_events, trace, write_events}
 use Rattle.dh_sound.specs.IndexValues.{IsByIndices, element_breaches}
 use Rattle.dh_sound.specs.Trails.{EachAccess}
 use Rattle.dh_sound.proofs.IteratorsNamed.{none_when}
@@ -34,24 +34,24 @@ module _ (kv : KnownViews) where
   Through es = EachAccess (λ a. ThroughKeeps kv a.entity a.element) es
 
   mutual
-    term_through : (site : Site) (t : Term) → term_view_breaches kv t ≡ [] → Through (term_events site t)
+    term_through : (site : Site) (t : Term) → term_view_breaches kv t ≡ [] → Through (source_term_events site t)
     term_through site (term place k (number negative n)) e = tt
     term_through site (term place k (truth_value value)) e = tt
     term_through site (term place k (named r)) e = tt
     term_through site (term place k (accessed r indices)) e =
         let own = access_index_breaches kv.names.counters (dims_through (view_in kv.kept r.entity)) indices in
-        each_both _ (terms_events site indices) _ (terms_through site indices (second_none own _ e)) (first_none own _ e, tt)
+        each_both _ (source_terms_events site indices) _ (terms_through site indices (second_none own _ e)) (first_none own _ e, tt)
     term_through site (term place k (in_bank r bank bank_place row)) e =
         let own = physical_broken (view_in kv.views r.entity) r in
-        each_both _ (term_events site row) _ (term_through site row (second_none own _ e)) (none_when (is_some (view_in kv.views r.entity)) (breach ViewFactor r.place) (first_none own _ e), tt)
+        each_both _ (source_term_events site row) _ (term_through site row (second_none own _ e)) (none_when (is_some (view_in kv.views r.entity)) (breach ViewFactor r.place) (first_none own _ e), tt)
     term_through site (term place k (applied o left right)) e =
-        each_both _ (term_events site left) _ (term_through site left (first_none (term_view_breaches kv left) _ e)) (term_through site right (second_none (term_view_breaches kv left) _ e))
+        each_both _ (source_term_events site left) _ (term_through site left (first_none (term_view_breaches kv left) _ e)) (term_through site right (second_none (term_view_breaches kv left) _ e))
     term_through site (term place k (converted inner to)) e = term_through site inner e
 
-    terms_through : (site : Site) (ts : Terms) → terms_view_breaches kv ts ≡ [] → Through (terms_events site ts)
+    terms_through : (site : Site) (ts : Terms) → terms_view_breaches kv ts ≡ [] → Through (source_terms_events site ts)
     terms_through site no_terms e = tt
     terms_through site (term_then t rest) e =
-        each_both _ (term_events site t) _ (term_through site t (first_none (term_view_breaches kv t) _ e)) (terms_through site rest (second_none (term_view_breaches kv t) _ e))
+        each_both _ (source_term_events site t) _ (term_through site t (first_none (term_view_breaches kv t) _ e)) (terms_through site rest (second_none (term_view_breaches kv t) _ e))
 
   write_through : (site : Site) (t : Term) → term_view_breaches kv t ≡ [] → Through (write_events site t)
   write_through site (term place k (number negative n)) e = tt
@@ -59,10 +59,10 @@ module _ (kv : KnownViews) where
   write_through site (term place k (named r)) e = tt
   write_through site (term place k (accessed r indices)) e =
       let own = access_index_breaches kv.names.counters (dims_through (view_in kv.kept r.entity)) indices in
-      each_both _ (terms_events site indices) _ (terms_through site indices (second_none own _ e)) (first_none own _ e, tt)
+      each_both _ (source_terms_events site indices) _ (terms_through site indices (second_none own _ e)) (first_none own _ e, tt)
   write_through site (term place k (in_bank r bank bank_place row)) e =
       let own = physical_broken (view_in kv.views r.entity) r in
-      each_both _ (term_events site row) _ (term_through site row (second_none own _ e)) (none_when (is_some (view_in kv.views r.entity)) (breach ViewFactor r.place) (first_none own _ e), tt)
+      each_both _ (source_term_events site row) _ (term_through site row (second_none own _ e)) (none_when (is_some (view_in kv.views r.entity)) (breach ViewFactor r.place) (first_none own _ e), tt)
   write_through site (term place k (applied o left right)) e = term_through site (term place k (applied o left right)) e
   write_through site (term place k (converted inner to)) e = term_through site (term place k (converted inner to)) e
 
@@ -70,11 +70,11 @@ module _ (kv : KnownViews) where
   maybe_through site None e = tt
   maybe_through site (Some t) e = term_through site t e
 
-  offsets_through : (site : Site) (ts : List Term) → offsets_view_breaches kv ts ≡ [] → Through (terms_events site (terms ts))
+  offsets_through : (site : Site) (ts : List Term) → offsets_view_breaches kv ts ≡ [] → Through (source_terms_events site (terms ts))
   offsets_through site [] e = tt
   offsets_through site (t ∷ ts) e =
       let own = first_none (term_index_breaches kv.names t ++ term_view_breaches kv t) _ e in
-      each_both _ (term_events site t) _ (term_through site t (second_none (term_index_breaches kv.names t) _ own))
+      each_both _ (source_term_events site t) _ (term_through site t (second_none (term_index_breaches kv.names t) _ own))
       (offsets_through site ts (second_none (term_index_breaches kv.names t ++ term_view_breaches kv t) _ e))
 
   mutual
@@ -85,19 +85,19 @@ module _ (kv : KnownViews) where
     form_through r site (lets name declared value) e = each_both _ (maybe_events site value) _ (maybe_through site value e) tt
     form_through r site (lets_memory name shape shape_places value) e = tt
     form_through r site (views name parent form) e = offsets_through site (offsets_of form) e
-    form_through r site (assigns target value) e = each_both _ (term_events site value) _ (term_through site value e) tt
+    form_through r site (assigns target value) e = each_both _ (source_term_events site value) _ (term_through site value e) tt
     form_through r site (stores target value) e =
-        each_both _ (term_events site value) _ (term_through site value (second_none (term_view_breaches kv target) _ e)) (write_through site target (first_none (term_view_breaches kv target) _ e))
-    form_through r site (reduces target o value) e = each_both _ (term_events site value) _ (term_through site value e) tt
+        each_both _ (source_term_events site value) _ (term_through site value (second_none (term_view_breaches kv target) _ e)) (write_through site target (first_none (term_view_breaches kv target) _ e))
+    form_through r site (reduces target o value) e = each_both _ (source_term_events site value) _ (term_through site value e) tt
     form_through r site (calls function arguments) e = tt
     form_through r site (blocks body) e = groups_through r body e
     form_through r site (decides test chosen other) e =
         let below = second_none (term_view_breaches kv test) _ e in
-        each_both _ (term_events site test) _ (term_through site test (first_none (term_view_breaches kv test) _ e))
+        each_both _ (source_term_events site test) _ (term_through site test (first_none (term_view_breaches kv test) _ e))
         (each_both _ (events (in_arm r site.command true) chosen) _ (action_through (in_arm r site.command true) chosen (first_none (action_view_breaches kv chosen) _ below))
         (other_through (in_arm r site.command false) other (second_none (action_view_breaches kv chosen) _ below)))
     form_through r site (repeats test body) e =
-        each_both _ (term_events site test) _ (term_through site test (first_none (term_view_breaches kv test) _ e)) (action_through r body (second_none (term_view_breaches kv test) _ e))
+        each_both _ (source_term_events site test) _ (term_through site test (first_none (term_view_breaches kv test) _ e)) (action_through r body (second_none (term_view_breaches kv test) _ e))
     form_through r site (counts iterator declared low high factor body combine combine_place) e =
         each_both _ (events (in_loop r (loop_of iterator low high factor)) body) _
         (action_through (in_loop r (loop_of iterator low high factor)) body (first_none (action_view_breaches kv body) _ e))

@@ -19,7 +19,7 @@ use Rattle.dh_tree.specs.Resolved.{used, resolved_term, resolved_action, resolve
 use Rattle.dh_tree.specs.Scopes.{ScopeEntry, binding, entity_of, is_visible, bind, Scope, declare, leave, past, at_end, form_at_end, other_at_end, actions_at_end, groups_at_end}
 use Rattle.dh_tree.specs.Widths.{IsSized, MaybeSized, ActionSized, FormSized, OtherSized, ActionsSized, GroupsSized}
 use Rattle.dh_meaning.specs.Sites.{Around, in_arm, in_loop, loop_of}
-use Rattle.dh_meets.specs.SourceEvents.{Site, SourceEvent, assigned, term_events, maybe_events, write_events, events, command_events, other_events, groups_events, part_events}
+use Rattle.dh_meets.specs.SourceEvents.{Site, SourceEvent, assigned, source_term_events, maybe_events, write_events, events, command_events, other_events, groups_events, part_events}
 use Rattle.dh_sound.proofs.BanksReached.{first_none, second_none}
 use Rattle.dh_sound.proofs.FactsGrow.{Extends, appended, added_last, grows, form_grows, other_grows, part_grows, groups_grow, InStep, next_in_step, past_in_step, in_step, part_in_step}
 use Rattle.dh_sound.proofs.IteratorsKnown.{AreKnownIterators}
@@ -219,7 +219,7 @@ module _ (all : Facts) (cs : List Counter) (iterators : AreKnownIterators all cs
           kinds = second_none (assigned_breaches (target_kind (fact_of facts target)) (found value) (place_of value)) _ (second_none (target_breaches (fact_of facts target) target.place) _ h.kinds);
           sized = h.sized;
         }) in
-        record { knows = k; events = both_have cs (term_events site value) (assigned target.entity ∷ []) v.events tt }
+        record { knows = k; events = both_have cs (source_term_events site value) (assigned target.entity ∷ []) v.events tt }
     form_leads facts s r site (stores target value) l k x h =
         let first : typed_term facts None target ≡ target = let eq = h.typed in cc in
         let second : typed_term facts (for_numbers (found (typed_term facts None target))) value ≡ value = let eq = h.typed in cc in
@@ -238,7 +238,7 @@ module _ (all : Facts) (cs : List Counter) (iterators : AreKnownIterators all cs
           kinds = second_none (assigned_breaches (found target) (found value) (place_of value)) _ (second_none (term_kind_breaches facts target) _ h.kinds);
           sized = h.sized.1;
         }) in
-        record { knows = k; events = both_have cs (term_events site value) (write_events site target) v.events (write_has cs site target t.events) }
+        record { knows = k; events = both_have cs (source_term_events site value) (write_events site target) v.events (write_has cs site target t.events) }
     form_leads facts s r site (reduces target o value) l k x h =
         let typed : typed_term facts (for_numbers (target_kind (fact_of facts target))) value ≡ value = let eq = h.typed in cc in
         let same : resolved_term s.visible value ≡ value = let eq = h.named in cc in
@@ -251,7 +251,7 @@ module _ (all : Facts) (cs : List Counter) (iterators : AreKnownIterators all cs
           kinds = second_none (assigned_breaches (target_kind (fact_of facts target)) (found value) (place_of value)) _ (second_none (reducer_kind_breaches (target_kind (fact_of facts target)) (found value) target.place) _ below);
           sized = h.sized;
         }) in
-        record { knows = k; events = both_have cs (term_events site value) (assigned target.entity ∷ []) v.events tt }
+        record { knows = k; events = both_have cs (source_term_events site value) (assigned target.entity ∷ []) v.events tt }
     form_leads facts s r site (calls function arguments) l k x h = record { knows = k; events = tt }
     form_leads facts s r site (blocks body) l k x h =
         groups_lead facts s r body l k x (record { typed = let eq = h.typed in cc; named = let eq = h.named in cc; visible = h.visible; kinds = h.kinds; sized = h.sized })
@@ -289,7 +289,7 @@ module _ (all : Facts) (cs : List Counter) (iterators : AreKnownIterators all cs
         }) in
         record {
           knows = still_known facts (facts_after_other (facts_after facts chosen) other) s.visible (form_grows facts (decides test chosen other)) k;
-          events = both_have cs (term_events site test) _ t.events (both_have cs (events (in_arm r site.command true) chosen) _ first.events second.events);
+          events = both_have cs (source_term_events site test) _ t.events (both_have cs (events (in_arm r site.command true) chosen) _ first.events second.events);
         }
     form_leads facts s r site (repeats test body) l k x h =
         let test_typed : typed_term facts None test ≡ test = let eq = h.typed in cc in
@@ -312,7 +312,7 @@ module _ (all : Facts) (cs : List Counter) (iterators : AreKnownIterators all cs
         }) in
         record {
           knows = still_known facts (facts_after facts body) s.visible (grows facts body) k;
-          events = both_have cs (term_events site test) (events r body) t.events inner.events;
+          events = both_have cs (source_term_events site test) (events r body) t.events inner.events;
         }
     form_leads facts s r site (counts iterator declared low high factor body combine combine_place) l k x h =
         let j : Kind = iterator_kind declared in

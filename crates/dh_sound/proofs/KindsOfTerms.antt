@@ -24,7 +24,7 @@ use Rattle.dh_tree.specs.PlainTrees.{Term, term, TermForm, number, truth_value, 
 use Rattle.dh_tree.specs.Resolved.{used, resolved_term, resolved_terms}
 use Rattle.dh_tree.specs.Scopes.{ScopeEntry, entity_of}
 use Rattle.dh_tree.specs.Widths.{IsSized, AreSized, AreAllSized}
-use Rattle.dh_meets.specs.SourceEvents.{with_indices, in_row, Site, SourceEvent, accesses, assigned, one_access, term_events, terms_events, write_events}
+use Rattle.dh_meets.specs.SourceEvents.{with_indices, in_row, Site, SourceEvent, accesses, assigned, one_access, source_term_events, source_terms_events, write_events}
 use Rattle.dh_sound.specs.IndexValues.{FitsKind, HasIntegerKind, AreSumOperands, is_sum, PartsFit, AllHaveIndexKinds, HasElementKinds}
 use Rattle.dh_sound.proofs.BanksReached.{first_none, second_none}
 use Rattle.dh_sound.proofs.FactsGrow.{Extends}
@@ -292,11 +292,11 @@ second_have cs (accesses a ∷ xs) ys h = second_have cs xs ys h.1
 second_have cs (assigned entity ∷ xs) ys h = second_have cs xs ys h
 
 -- a write has the element of a read
-pub write_has : (cs : List Counter) (site : Site) (t : Term) → EventsHave cs (term_events site t) → EventsHave cs (write_events site t)
+pub write_has : (cs : List Counter) (site : Site) (t : Term) → EventsHave cs (source_term_events site t) → EventsHave cs (write_events site t)
 write_has cs site (term place k (accessed r indices)) h =
-    both_have cs (terms_events site indices) (one_access place r.entity (with_indices indices) true site) (first_have cs (terms_events site indices) _ h) (second_have cs (terms_events site indices) _ h)
+    both_have cs (source_terms_events site indices) (one_access place r.entity (with_indices indices) true site) (first_have cs (source_terms_events site indices) _ h) (second_have cs (source_terms_events site indices) _ h)
 write_has cs site (term place k (in_bank r bank bank_place row)) h =
-    both_have cs (term_events site row) (one_access place r.entity (in_row bank row) true site) (first_have cs (term_events site row) _ h) (second_have cs (term_events site row) _ h)
+    both_have cs (source_term_events site row) (one_access place r.entity (in_row bank row) true site) (first_have cs (source_term_events site row) _ h) (second_have cs (source_term_events site row) _ h)
 write_has cs site (term place k (number negative n)) h = tt
 write_has cs site (term place k (truth_value value)) h = tt
 write_has cs site (term place k (named r)) h = tt
@@ -312,13 +312,13 @@ pub record HasKind (cs : List Counter) (site : Site) (t : Term) : Type 0 where
   pub sized : IsKind kind
   pub fits : FitsKind cs kind (form_of t)
   pub parts : PartsFit cs kind (form_of t)
-  pub events : EventsHave cs (term_events site t)
+  pub events : EventsHave cs (source_term_events site t)
 
 pub record HaveKinds (cs : List Counter) (site : Site) (ts : Terms) : Type 0 where
   pub found : all_found ts ≡ true
   pub integer : all_integer ts ≡ true
   pub kinds : AllHaveIndexKinds cs ts
-  pub events : EventsHave cs (terms_events site ts)
+  pub events : EventsHave cs (source_terms_events site ts)
 
 pub kind_sized : (cs : List Counter) (site : Site) (t : Term) → HasKind cs site t → IsSized (found t)
 kind_sized cs site t k = subst IsSized (sym k.is) k.sized
@@ -355,7 +355,7 @@ index_then cs site (term place m form) rest k h r =
       found = ap (λ x. is_some x && all_found rest) k.is ∙ r.found;
       integer = ap (λ x. all_integer (term_then (term place x form) rest)) k.is ∙ (ap (λ b. b && all_integer rest) integer ∙ r.integer);
       kinds = (record { whole = integer_of cs site (term place m form) k integer; parts = k.parts }, r.kinds);
-      events = both_have cs (term_events site (term place m form)) (terms_events site rest) k.events r.events;
+      events = both_have cs (source_term_events site (term place m form)) (source_terms_events site rest) k.events r.events;
     }
 
 same_option : {A : Type 0} (x y : A) → Some x ≡ Some y → x ≡ y
@@ -373,7 +373,7 @@ iterator_fits all facts cs r k c h x n v e =
 
 module _ (all : Facts) (cs : List Counter) (iterators : AreKnownIterators all cs) (site : Site) where
   -- a typed expression of a form of which a kind is found
-  with_kind : (facts : Facts) (want : Option Kind) (place : Place) (k : Option Kind) (form : TermForm) (m : Kind) → typed_term facts want (term place k form) ≡ term place k form → form_found facts want form ≡ Some m → IsKind m → FitsKind cs m form → PartsFit cs m form → EventsHave cs (term_events site (term place k form)) → HasKind cs site (term place k form)
+  with_kind : (facts : Facts) (want : Option Kind) (place : Place) (k : Option Kind) (form : TermForm) (m : Kind) → typed_term facts want (term place k form) ≡ term place k form → form_found facts want form ≡ Some m → IsKind m → FitsKind cs m form → PartsFit cs m form → EventsHave cs (source_term_events site (term place k form)) → HasKind cs site (term place k form)
   with_kind facts want place k form m e f s g p h = record { kind = m; is = (typed_parts facts want place k form e).1 ∙ f; sized = s; fits = g; parts = p; events = h }
 
   -- the operands of a sum
@@ -408,7 +408,7 @@ module _ (all : Facts) (cs : List Counter) (iterators : AreKnownIterators all cs
         let none = first_none (access_breaches (fact_of facts r) place indices) _ h.kinds in
         let element = access_known (fact_of facts r) name.known.fact place indices (fact_is facts r name) name.known.good none inner.found inner.integer in
         with_kind facts want place m (accessed r indices) element.0 e element.1.0 element.1.1 tt tt
-        (both_have cs (terms_events site indices) (one_access place r.entity (with_indices indices) false site) inner.events (inner.kinds, tt))
+        (both_have cs (source_terms_events site indices) (one_access place r.entity (with_indices indices) false site) inner.events (inner.kinds, tt))
     term_kinds facts bs x k want s (term place m (in_bank r bank bank_place row)) e h =
         let parts = typed_parts facts want place m (in_bank r bank bank_place row) e in
         let typed : typed_term facts None row ≡ row = let eq = parts.0 in cc in
@@ -425,7 +425,7 @@ module _ (all : Facts) (cs : List Counter) (iterators : AreKnownIterators all cs
         let integer = is_index (found row) i.kind (place_of row) i.is (first_none (index_breaches (found row) (place_of row)) _ below) in
         let element = bank_known (fact_of facts r) name.known.fact place (found row) i.kind (fact_is facts r name) name.known.good (first_none (bank_breaches (fact_of facts r) place) _ h.kinds) i.is integer in
         with_kind facts want place m (in_bank r bank bank_place row) element.0 e element.1.0 element.1.1 tt tt
-        (both_have cs (term_events site row) (one_access place r.entity (in_row bank row) false site) i.events (tt, tt))
+        (both_have cs (source_term_events site row) (one_access place r.entity (in_row bank row) false site) i.events (tt, tt))
     term_kinds facts bs x k want s (term place m (applied o left right)) e h =
         let parts = typed_parts facts want place m (applied o left right) e in
         let left_typed : typed_term facts (left_want o want (is_bare left) (is_bare right) (found (typed_term facts None right))) left ≡ left = let eq = parts.0 in cc in
@@ -452,7 +452,7 @@ module _ (all : Facts) (cs : List Counter) (iterators : AreKnownIterators all cs
         let r : HasKind cs site right = both.1 in
         let at = applied_known (place_of left) (place_of right) o (found left) (found right) l.kind r.kind l.is r.is (first_none breaches _ h.kinds) in
         with_kind facts want place m (applied o left right) (applied_kind o l.kind r.kind) e at.1 (applied_sized o l.kind r.kind l.sized r.sized) tt (parts_of o left right l r at.0)
-        (both_have cs (term_events site left) (term_events site right) l.events r.events)
+        (both_have cs (source_term_events site left) (source_term_events site right) l.events r.events)
     term_kinds facts bs x k want s (term place m (converted inner to)) e h =
         let parts = typed_parts facts want place m (converted inner to) e in
         let typed : typed_term facts (for_numbers (Some to)) inner ≡ inner = let eq = parts.0 in cc in

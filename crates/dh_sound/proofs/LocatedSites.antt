@@ -6,7 +6,7 @@ use Rattle.dh_meaning.specs.AccessNumbers.{term_accesses, accesses_of}
 use Rattle.dh_meaning.specs.Sites.{Around}
 use Rattle.dh_meaning.specs.Phases.{Located, phases_of, idle_phases_of}
 use Rattle.dh_meaning.specs.OnePhase.{makes, tests_make, test_makes}
-use Rattle.dh_meets.specs.SourceEvents.{SourceAccess, SourceEvent, accesses_in, site_of, term_events, events, trace}
+use Rattle.dh_meets.specs.SourceEvents.{SourceAccess, SourceEvent, accesses_in, site_of, source_term_events, events, trace}
 use Rattle.dh_sound.specs.PhaseFacts.{HasStraight, HasTest, StandsAmong}
 use Rattle.dh_carried.proofs.Pigeons.{Has}
 use Rattle.dh_sound.proofs.EventCounts.{term_counted, events_counted}
@@ -42,9 +42,9 @@ module _ (k : ℕ) (a : SourceAccess) where
 
   test_site : (r : Around) (n : ℕ) (c : Action) → tests_make k n c ≡ true → At n k (events r c) a → a.site ≡ site_of r (number_of c)
   test_site r n (action id place (decides test arm other)) e h =
-      term_site k a (site_of r id) test n (at_left k a n (n + term_accesses test) (term_events (site_of r id) test) _ (ap (λ x. n + x) (term_counted (site_of r id) test)) (within_span k n (term_accesses test) e).1 h)
+      term_site k a (site_of r id) test n (at_left k a n (n + term_accesses test) (source_term_events (site_of r id) test) _ (ap (λ x. n + x) (term_counted (site_of r id) test)) (within_span k n (term_accesses test) e).1 h)
   test_site r n (action id place (repeats test body)) e h =
-      term_site k a (site_of r id) test n (at_left k a n (n + term_accesses test) (term_events (site_of r id) test) _ (ap (λ x. n + x) (term_counted (site_of r id) test)) (within_span k n (term_accesses test) e).1 h)
+      term_site k a (site_of r id) test n (at_left k a n (n + term_accesses test) (source_term_events (site_of r id) test) _ (ap (λ x. n + x) (term_counted (site_of r id) test)) (within_span k n (term_accesses test) e).1 h)
   test_site r n (action id place (lets name declared value)) e h = cc
   test_site r n (action id place (lets_memory name shape shape_places value)) e h = cc
   test_site r n (action id place (views name parent form)) e h = cc

@@ -11,7 +11,7 @@ use Rattle.dh_value.specs.Words as words
 use Rattle.dh_value.specs.Words.{word_of, with_bits}
 use Rattle.dh_tree.specs.Elements.{Spot}
 use Rattle.dh_meaning.specs.Core.{Reach, CoreTerm, literal, truth_literal, variable, read, binary, convert, Target, by_indices, by_row, CoreTerms, no_terms, term_and, CoreCommand, store, assign, choose, CoreCommands, no_commands, command_and}
-use Rattle.dh_meaning.specs.Effects.{Begun, Variables, set_variable, value_of, values_of, spot_reached, spot_by_indices, spot_by_row, bits_at, kind_in, kept_bits, term_events, target_events, terms_events, read_made, write_made, Effect, Event, reads, writes, faults, with_events, store_events, at_each, stored_at, assigned_at, tested_at, paths_where, holds_at, command_run, commands_run}
+use Rattle.dh_meaning.specs.Effects.{Begun, Variables, set_variable, value_of_term, values_of, spot_reached, spot_by_indices, spot_by_row, bits_at, kind_in, kept_bits, term_events, target_events, terms_events, read_made, write_made, Effect, Event, reads, writes, faults, with_events, store_events, at_each, stored_at, assigned_at, tested_at, paths_where, holds_at, command_run, commands_run}
 use Rattle.dh_meaning.specs.Paths.{Path, same_path}
 use Rattle.dh_carried.proofs.Pigeons.{Has, NoTwice}
 use Rattle.dh_sound.proofs.Counting.{same_list}
@@ -99,7 +99,7 @@ module _ (b : Begun) (path : Path) where
 
   pub store_at : (v : Variables) (r : Reach) (target : Target) (value : CoreTerm) → AllAt path (store_events b v path r target value)
   store_at v r target value =
-      all_at_both path _ _ (term_at v value) (all_at_both path _ _ (target_at v target) (one_at (write_made r path (kept_bits b.table r.memory (value_of b v path value)) (spot_reached b v path r target)) (write_at r (kept_bits b.table r.memory (value_of b v path value)) (spot_reached b v path r target))))
+      all_at_both path _ _ (term_at v value) (all_at_both path _ _ (target_at v target) (one_at (write_made r path (kept_bits b.table r.memory (value_of_term b v path value)) (spot_reached b v path r target)) (write_at r (kept_bits b.table r.memory (value_of_term b v path value)) (spot_reached b v path r target))))
 
 -- Variables as they are seen at a path.
 abbrev pub AgreeAt : Path → Variables → Variables → Type 0
@@ -107,12 +107,12 @@ AgreeAt path v w = (e d : ℕ) → v e (take d path) ≡ w e (take d path)
 
 module _ (b : Begun) (path : Path) (v w : Variables) (a : AgreeAt path v w) where
   mutual
-    pub value_seen : (t : CoreTerm) → value_of b v path t ≡ value_of b w path t
+    pub value_seen : (t : CoreTerm) → value_of_term b v path t ≡ value_of_term b w path t
     value_seen (literal kind negative n) = refl
     value_seen (truth_literal value) = refl
     value_seen (variable kind depth entity) = ap (λ z. word_of kind z) (a entity depth)
     value_seen (read r target) = ap (λ s. with_bits (kind_in b.table r.memory) (bits_at b.memories s)) (spot_seen r target)
-    value_seen (binary op left right) = ap (λ x. binary_of op x (value_of b v path right)) (value_seen left) ∙ ap (λ x. binary_of op (value_of b w path left) x) (value_seen right)
+    value_seen (binary op left right) = ap (λ x. binary_of op x (value_of_term b v path right)) (value_seen left) ∙ ap (λ x. binary_of op (value_of_term b w path left) x) (value_seen right)
     value_seen (convert to inner) = ap (λ x. word_of to (words.value_of x)) (value_seen inner)
 
     pub spot_seen : (r : Reach) (target : Target) → spot_reached b v path r target ≡ spot_reached b w path r target
@@ -122,7 +122,7 @@ module _ (b : Begun) (path : Path) (v w : Variables) (a : AgreeAt path v w) wher
 
     pub values_seen : (ts : CoreTerms) → values_of b v path ts ≡ values_of b w path ts
     values_seen no_terms = refl
-    values_seen (term_and t ts) = ap (λ x. words.value_of x ∷ values_of b v path ts) (value_seen t) ∙ ap (λ zs. words.value_of (value_of b w path t) ∷ zs) (values_seen ts)
+    values_seen (term_and t ts) = ap (λ x. words.value_of x ∷ values_of b v path ts) (value_seen t) ∙ ap (λ zs. words.value_of (value_of_term b w path t) ∷ zs) (values_seen ts)
 
   both_parts : (es fs gs hs : List Event) → es ≡ gs → fs ≡ hs → es ++ fs ≡ gs ++ hs
   both_parts es fs gs hs e f = ap (λ l. l ++ fs) e ∙ ap (λ l. gs ++ l) f
@@ -149,7 +149,7 @@ module _ (b : Begun) (path : Path) (v w : Variables) (a : AgreeAt path v w) wher
   store_seen r target value =
       both_parts _ _ _ _ (term_events_seen value)
       (both_parts _ _ _ _ (target_events_seen target)
-      (ap (λ x. write_made r path (kept_bits b.table r.memory x) (spot_reached b v path r target) ∷ []) (value_seen value) ∙ ap (λ s. write_made r path (kept_bits b.table r.memory (value_of b w path value)) s ∷ []) (spot_seen r target)))
+      (ap (λ x. write_made r path (kept_bits b.table r.memory x) (spot_reached b v path r target) ∷ []) (value_seen value) ∙ ap (λ s. write_made r path (kept_bits b.table r.memory (value_of_term b w path value)) s ∷ []) (spot_seen r target)))
 
   holds_seen : (t : CoreTerm) → holds_at b v t path ≡ holds_at b w t path
   holds_seen t = ap operations.is_true (value_seen t)
@@ -276,11 +276,11 @@ module _ (b : Begun) (depth : ℕ) where
   }
 
   pub assign_goes : (d entity : ℕ) (value : CoreTerm) → depth ≤ d
-      → Goes depth (assigned_at b d entity value) (λ path v. set_variable v entity (take d path) (words.value_of (value_of b v path value))) (λ path v. term_events b v path value)
+      → Goes depth (assigned_at b d entity value) (λ path v. set_variable v entity (take d path) (words.value_of (value_of_term b v path value))) (λ path v. term_events b v path value)
   assign_goes d entity value deep = record { here = own; there = others }
     where
       own : (path : Path) (e : Effect) (v : Variables) → length path ≡ depth → AgreeAt path e.variables v
-          → Seen path e (assigned_at b d entity value path e) (set_variable v entity (take d path) (words.value_of (value_of b v path value))) (term_events b v path value)
+          → Seen path e (assigned_at b d entity value path e) (set_variable v entity (take d path) (words.value_of (value_of_term b v path value))) (term_events b v path value)
       own path e v l a = record {
         variables = set_own e.variables v path entity d _ _ (ap words.value_of (value_seen b path e.variables v a value)) a;
         events = events_joined path e.events _ ∙ ap (λ l. events_at path e.events ++ l) (here_all path _ (term_at b path e.variables value) ∙ term_events_seen b path e.variables v a value);

@@ -6,7 +6,7 @@ use Rattle.dh_tree.specs.PlainTrees.{Term, term, number, truth_value, named, acc
 use Rattle.dh_meaning.specs.AccessNumbers.{term_accesses, maybe_accesses, own_accesses, accesses_of, inner_accesses, other_accesses, groups_accesses, part_accesses}
 use Rattle.dh_meaning.specs.OnePhase.{is_between, makes, form_makes, other_makes, groups_make, part_makes}
 use Rattle.dh_meaning.specs.Sites.{Around, in_arm, in_loop, loop_of}
-use Rattle.dh_meets.specs.SourceEvents.{Site, assigned, site_of, term_events, terms_events, maybe_events, write_events, events, command_events, other_events, groups_events, part_events, one_access, with_indices, in_row}
+use Rattle.dh_meets.specs.SourceEvents.{Site, assigned, site_of, source_term_events, source_terms_events, maybe_events, write_events, events, command_events, other_events, groups_events, part_events, one_access, with_indices, in_row}
 use Rattle.dh_sound.specs.Straight.{IsTarget, IsNamedAction, IsNamedForm, IsNamedOther, AreNamedGroups, AreNamedActions}
 use Rattle.dh_sound.proofs.KnownReads.{count_joined}
 use Rattle.dh_sound.proofs.TermWalks.{term_counted, terms_counted}
@@ -89,8 +89,8 @@ maybe_counted site None = refl
 maybe_counted site (Some t) = term_counted site t
 
 target_counted : (site : Site) (t : Term) → IsTarget t → count (write_events site t) ≡ term_accesses t
-target_counted site (term place k (accessed r ts)) h = let c = count_joined (terms_events site ts) (one_access place r.entity (with_indices ts) true site) in let d = terms_counted site ts in omega (arith, c, d)
-target_counted site (term place k (in_bank r bank at t)) h = let c = count_joined (term_events site t) (one_access place r.entity (in_row bank t) true site) in let d = term_counted site t in omega (arith, c, d)
+target_counted site (term place k (accessed r ts)) h = let c = count_joined (source_terms_events site ts) (one_access place r.entity (with_indices ts) true site) in let d = terms_counted site ts in omega (arith, c, d)
+target_counted site (term place k (in_bank r bank at t)) h = let c = count_joined (source_term_events site t) (one_access place r.entity (in_row bank t) true site) in let d = term_counted site t in omega (arith, c, d)
 target_counted site (term place k (number negative x)) h = elim h [ ]
 target_counted site (term place k (truth_value x)) h = elim h [ ]
 target_counted site (term place k (named r)) h = elim h [ ]
@@ -105,21 +105,21 @@ mutual
   form_counted r site id (lets name declared value) h e = let c = count_joined (maybe_events site value) (assigned name.entity ∷ []) in let d = maybe_counted site value in omega (arith, c, d)
   form_counted r site id (lets_memory name shape shape_places value) h e = refl
   form_counted r site id (views name parent form) h e = let d = terms_counted site (terms (offsets_of form)) in omega (arith, d)
-  form_counted r site id (assigns target value) h e = let c = count_joined (term_events site value) (assigned target.entity ∷ []) in let d = term_counted site value in omega (arith, c, d)
+  form_counted r site id (assigns target value) h e = let c = count_joined (source_term_events site value) (assigned target.entity ∷ []) in let d = term_counted site value in omega (arith, c, d)
   form_counted r site id (stores target value) h e =
-      let c = count_joined (term_events site value) (write_events site target) in let d = term_counted site value in let t = target_counted site target h.0 in omega (arith, c, d, t)
-  form_counted r site id (reduces target op value) h e = let c = count_joined (term_events site value) (assigned target.entity ∷ []) in let d = term_counted site value in omega (arith, c, d)
+      let c = count_joined (source_term_events site value) (write_events site target) in let d = term_counted site value in let t = target_counted site target h.0 in omega (arith, c, d, t)
+  form_counted r site id (reduces target op value) h e = let c = count_joined (source_term_events site value) (assigned target.entity ∷ []) in let d = term_counted site value in omega (arith, c, d)
   form_counted r site id (calls function arguments) h e = refl
   form_counted r site id (blocks body) h e = let x = groups_counted r body h in omega (arith, x)
   form_counted r site id (decides test chosen other) h e =
-      let c = count_joined (term_events site test) (events (in_arm r site.command true) chosen ++ other_events (in_arm r site.command false) other) in
+      let c = count_joined (source_term_events site test) (events (in_arm r site.command true) chosen ++ other_events (in_arm r site.command false) other) in
       let d = count_joined (events (in_arm r site.command true) chosen) (other_events (in_arm r site.command false) other) in
       let t = term_counted site test in
       let x = action_counted (in_arm r site.command true) chosen h.1.0 in
       let y = other_counted (in_arm r site.command false) other h.1.1 in
       omega (arith, c, d, t, x, y)
   form_counted r site id (repeats test body) h e =
-      let c = count_joined (term_events site test) (events r body) in let t = term_counted site test in let x = action_counted r body h.1 in omega (arith, c, t, x)
+      let c = count_joined (source_term_events site test) (events r body) in let t = term_counted site test in let x = action_counted r body h.1 in omega (arith, c, t, x)
   form_counted r site id (counts iterator declared low high factor body combine combine_place) h e =
       let c = count_joined (events (in_loop r (loop_of iterator low high factor)) body) (other_events (in_loop r (loop_of iterator low high factor)) combine) in
       let x = action_counted (in_loop r (loop_of iterator low high factor)) body h.1.0 in

@@ -10,7 +10,7 @@ use Rattle.dh_meaning.specs.Core.{Turning}
 use Rattle.dh_meaning.specs.CoreOf.{Known}
 use Rattle.dh_meaning.specs.OnePhase.{is_between, makes, form_makes, other_makes, groups_make, part_makes, tests_make}
 use Rattle.dh_meaning.specs.Sites.{Around, in_arm}
-use Rattle.dh_meets.specs.SourceEvents.{Site, SourceAccess, SourceEvent, accesses, assigned, site_of, term_events, form_events, terms_events, maybe_events, write_events, events, command_events, other_events, groups_events, part_events}
+use Rattle.dh_meets.specs.SourceEvents.{Site, SourceAccess, SourceEvent, accesses, assigned, site_of, source_term_events, form_events, source_terms_events, maybe_events, write_events, events, command_events, other_events, groups_events, part_events}
 use Rattle.dh_sound.specs.NamesInScope.{InScope, MaybeInScope, IsScoped, FormScoped, OtherScoped, GroupsScoped, PartScoped}
 use Rattle.dh_sound.specs.SameKeys.{EachName, EachNameForm, EachNameOf, EachNameIn}
 use Rattle.dh_sound.proofs.EventCounts.{count_in, term_counted, events_counted, part_counted}
@@ -37,32 +37,32 @@ module _ (k : ℕ) (a : SourceAccess) (P : Ref → Type 0) where
 
   -- the accesses of an expression
   mutual
-    pub term_names : (site : Site) (t : Term) (n : ℕ) → EachName P t → At n k (term_events site t) a → EachNameIn P a.element
+    pub term_names : (site : Site) (t : Term) (n : ℕ) → EachName P t → At n k (source_term_events site t) a → EachNameIn P a.element
     term_names site (term place kind form) n e h = form_names site place form n e h
 
     form_names : (site : Site) (place : Place) (f : TermForm) (n : ℕ) → EachNameForm P f → At n k (form_events site place f) a → EachNameIn P a.element
     form_names site place (number negative v) n e h = elim h [ ]
     form_names site place (truth_value value) n e h = elim h [ ]
     form_names site place (named r) n e h = elim h [ ]
-    form_names site place (accessed r indices) n e h = one_names n _ (terms_events site indices) e (terms_names site indices n e) h
-    form_names site place (in_bank r bank bank_place row) n e h = one_names n _ (term_events site row) e (term_names site row n e) h
+    form_names site place (accessed r indices) n e h = one_names n _ (source_terms_events site indices) e (terms_names site indices n e) h
+    form_names site place (in_bank r bank bank_place row) n e h = one_names n _ (source_term_events site row) e (term_names site row n e) h
     form_names site place (applied op left right) n e h =
-        two_names n (term_events site left) (term_events site right) (λ m g. term_names site left m e.0 g) (λ m g. term_names site right m e.1 g) h
+        two_names n (source_term_events site left) (source_term_events site right) (λ m g. term_names site left m e.0 g) (λ m g. term_names site right m e.1 g) h
     form_names site place (converted inner to) n e h = term_names site inner n e h
 
-    terms_names : (site : Site) (ts : Terms) (n : ℕ) → EachNameOf P ts → At n k (terms_events site ts) a → EachNameIn P a.element
+    terms_names : (site : Site) (ts : Terms) (n : ℕ) → EachNameOf P ts → At n k (source_terms_events site ts) a → EachNameIn P a.element
     terms_names site no_terms n e h = elim h [ ]
     terms_names site (term_then t rest) n e h =
-        two_names n (term_events site t) (terms_events site rest) (λ m g. term_names site t m e.0 g) (λ m g. terms_names site rest m e.1 g) h
+        two_names n (source_term_events site t) (source_terms_events site rest) (λ m g. term_names site t m e.0 g) (λ m g. terms_names site rest m e.1 g) h
 
   write_names : (site : Site) (t : Term) (n : ℕ) → EachName P t → At n k (write_events site t) a → EachNameIn P a.element
-  write_names site (term place kind (accessed r indices)) n e h = one_names n _ (terms_events site indices) e (terms_names site indices n e) h
-  write_names site (term place kind (in_bank r bank bank_place row)) n e h = one_names n _ (term_events site row) e (term_names site row n e) h
+  write_names site (term place kind (accessed r indices)) n e h = one_names n _ (source_terms_events site indices) e (terms_names site indices n e) h
+  write_names site (term place kind (in_bank r bank bank_place row)) n e h = one_names n _ (source_term_events site row) e (term_names site row n e) h
   write_names site (term place kind (number negative v)) n e h = elim h [ ]
   write_names site (term place kind (truth_value value)) n e h = elim h [ ]
   write_names site (term place kind (named r)) n e h = elim h [ ]
   write_names site (term place kind (applied op left right)) n e h =
-      two_names n (term_events site left) (term_events site right) (λ m g. term_names site left m e.0 g) (λ m g. term_names site right m e.1 g) h
+      two_names n (source_term_events site left) (source_term_events site right) (λ m g. term_names site left m e.0 g) (λ m g. term_names site right m e.1 g) h
   write_names site (term place kind (converted inner to)) n e h = term_names site inner n e h
 
 module _ (k : ℕ) (a : SourceAccess) (known : Known) (loops : List Turning) where
@@ -73,12 +73,12 @@ module _ (k : ℕ) (a : SourceAccess) (known : Known) (loops : List Turning) whe
   maybe_names site None n e h = elim h [ ]
   maybe_names site (Some t) n e h = term_names k a (InScope known loops) site t n e h
 
-  own_names : (site : Site) (t : Term) (n : ℕ) → EachName (InScope known loops) t → At n k (term_events site t) a → Named
+  own_names : (site : Site) (t : Term) (n : ℕ) → EachName (InScope known loops) t → At n k (source_term_events site t) a → Named
   own_names site t n e h = term_names k a (InScope known loops) site t n e h
 
-  assign_names : (site : Site) (t : Term) (entity : Option ℕ) (n : ℕ) → EachName (InScope known loops) t → At n k (term_events site t ++ assigned entity ∷ []) a → Named
+  assign_names : (site : Site) (t : Term) (entity : Option ℕ) (n : ℕ) → EachName (InScope known loops) t → At n k (source_term_events site t ++ assigned entity ∷ []) a → Named
   assign_names site t entity n e h =
-      two_names k a (InScope known loops) n (term_events site t) (assigned entity ∷ []) (λ m g. own_names site t m e g) (λ m g. no_names k a (InScope known loops) m entity g) h
+      two_names k a (InScope known loops) n (source_term_events site t) (assigned entity ∷ []) (λ m g. own_names site t m e g) (λ m g. no_names k a (InScope known loops) m entity g) h
 
   mutual
     -- an access that a straight command makes
@@ -93,7 +93,7 @@ module _ (k : ℕ) (a : SourceAccess) (known : Known) (loops : List Turning) whe
     command_names r n id (views name parent form) e m h = terms_names k a (InScope known loops) (site_of r id) (terms (offsets_of form)) n e h
     command_names r n id (assigns target value) e m h = assign_names (site_of r id) value target.entity n e h
     command_names r n id (stores target value) e m h =
-        two_names k a (InScope known loops) n (term_events (site_of r id) value) (write_events (site_of r id) target) (λ i g. own_names (site_of r id) value i e.1 g)
+        two_names k a (InScope known loops) n (source_term_events (site_of r id) value) (write_events (site_of r id) target) (λ i g. own_names (site_of r id) value i e.1 g)
         (λ i g. write_names k a (InScope known loops) (site_of r id) target i e.0 g) h
     command_names r n id (reduces target op value) e m h = assign_names (site_of r id) value target.entity n e h
     command_names r n id (calls function arguments) e m h = elim h [ ]
@@ -108,19 +108,19 @@ module _ (k : ℕ) (a : SourceAccess) (known : Known) (loops : List Turning) whe
             → Named
         by (inl w) f g =
             own_names (site_of r id) test n e.0
-            (first_of k a n (term_accesses test) (term_events (site_of r id) test) _ (term_counted (site_of r id) test) (within_span k n (term_accesses test) w) h)
+            (first_of k a n (term_accesses test) (source_term_events (site_of r id) test) _ (term_counted (site_of r id) test) (within_span k n (term_accesses test) w) h)
         by (inr w) f g = side (either (makes k (n + term_accesses test) arm) _ w)
           where
             side : (makes k (n + term_accesses test) arm ≡ true) ⊎ (other_makes k (n + term_accesses test + accesses_of arm) other ≡ true) → Named
             side (inl d) =
                 let w = makes_within k (n + term_accesses test) arm d in
                 f d (first_of k a (n + term_accesses test) (accesses_of arm) (events (in_arm r id true) arm) _ (events_counted (in_arm r id true) arm) w
-                (second_of k a n (term_accesses test) (term_events (site_of r id) test) (events (in_arm r id true) arm ++ other_events (in_arm r id false) other) (term_counted (site_of r id) test) w.0 h))
+                (second_of k a n (term_accesses test) (source_term_events (site_of r id) test) (events (in_arm r id true) arm ++ other_events (in_arm r id false) other) (term_counted (site_of r id) test) w.0 h))
             side (inr d) =
                 let w = other_makes_within k (n + term_accesses test + accesses_of arm) other d in
                 let v = w.0 in
                 g d (second_of k a (n + term_accesses test) (accesses_of arm) (events (in_arm r id true) arm) (other_events (in_arm r id false) other) (events_counted (in_arm r id true) arm) w.0
-                (second_of k a n (term_accesses test) (term_events (site_of r id) test) (events (in_arm r id true) arm ++ other_events (in_arm r id false) other) (term_counted (site_of r id) test) (omega (arith, v)) h))
+                (second_of k a n (term_accesses test) (source_term_events (site_of r id) test) (events (in_arm r id true) arm ++ other_events (in_arm r id false) other) (term_counted (site_of r id) test) (omega (arith, v)) h))
     command_names r n id (repeats test body) e m h = absurd cc
     command_names r n id (counts iterator declared low high factor body combine combine_place) e m h = absurd cc
 
@@ -147,9 +147,9 @@ module _ (k : ℕ) (a : SourceAccess) (known : Known) (loops : List Turning) whe
   -- an access that the test of a command makes
   pub tested_names : (r : Around) (n : ℕ) (c : Action) → IsScoped known loops c → tests_make k n c ≡ true → At n k (events r c) a → Named
   tested_names r n (action id place (decides test arm other)) e m h =
-      own_names (site_of r id) test n e.0 (first_of k a n (term_accesses test) (term_events (site_of r id) test) _ (term_counted (site_of r id) test) (within_span k n (term_accesses test) m) h)
+      own_names (site_of r id) test n e.0 (first_of k a n (term_accesses test) (source_term_events (site_of r id) test) _ (term_counted (site_of r id) test) (within_span k n (term_accesses test) m) h)
   tested_names r n (action id place (repeats test body)) e m h =
-      own_names (site_of r id) test n e.0 (first_of k a n (term_accesses test) (term_events (site_of r id) test) _ (term_counted (site_of r id) test) (within_span k n (term_accesses test) m) h)
+      own_names (site_of r id) test n e.0 (first_of k a n (term_accesses test) (source_term_events (site_of r id) test) _ (term_counted (site_of r id) test) (within_span k n (term_accesses test) m) h)
   tested_names r n (action id place (lets name declared value)) e m h = absurd cc
   tested_names r n (action id place (lets_memory name shape shape_places value)) e m h = absurd cc
   tested_names r n (action id place (views name parent form)) e m h = absurd cc

@@ -291,9 +291,9 @@ module _ (p : Program) (b : Begun) (known : Known) (path : Path) (v0 : Variables
     form_sided : (r : Around) (v : Variables) (n m : ℕ) (x : ActionForm) → IsNumberedInside (suc m) x → Free r.arms → Told f n (command_events r (site_of r m) x)
         → Sided (all_made_by b path (core_action_form known n x no_commands) v)
     form_sided r v n m (lets name declared value) h free t = leaf r v n m (lets name declared value) (each_both _ (maybe_events (site_of r m) value) _ (maybe_stands r m 0 0 value) tt) free t
-    form_sided r v n m (assigns target value) h free t = leaf r v n m (assigns target value) (each_both _ (source.term_events (site_of r m) value) _ (term_stands r m 0 0 value) tt) free t
-    form_sided r v n m (stores target value) h free t = leaf r v n m (stores target value) (each_both _ (source.term_events (site_of r m) value) _ (term_stands r m 0 0 value) (write_stands r m 0 0 target)) free t
-    form_sided r v n m (reduces target op value) h free t = leaf r v n m (reduces target op value) (each_both _ (source.term_events (site_of r m) value) _ (term_stands r m 0 0 value) tt) free t
+    form_sided r v n m (assigns target value) h free t = leaf r v n m (assigns target value) (each_both _ (source.source_term_events (site_of r m) value) _ (term_stands r m 0 0 value) tt) free t
+    form_sided r v n m (stores target value) h free t = leaf r v n m (stores target value) (each_both _ (source.source_term_events (site_of r m) value) _ (term_stands r m 0 0 value) (write_stands r m 0 0 target)) free t
+    form_sided r v n m (reduces target op value) h free t = leaf r v n m (reduces target op value) (each_both _ (source.source_term_events (site_of r m) value) _ (term_stands r m 0 0 value) tt) free t
     form_sided r v n m (lets_memory name shape shape_places value) h free t = (true, tt)
     form_sided r v n m (views name parent form) h free t = leaf r v n m (views name parent form) (terms_stand r m 0 0 (terms (offsets_of form))) free t
     form_sided r v n m (calls function arguments) h free t = (true, tt)
@@ -303,7 +303,7 @@ module _ (p : Program) (b : Begun) (known : Known) (path : Path) (v0 : Variables
     form_sided r v n m (decides test chosen other) h free t =
         let n1 = n + term_accesses test in
         let n2 = n1 + accesses_of chosen in
-        let te = source.term_events (site_of r m) test in
+        let te = source.source_term_events (site_of r m) test in
         let ce = events (in_arm r m true) chosen in
         let oe = other_events (in_arm r m false) other in
         let ct = core_term known n test in

@@ -3,7 +3,7 @@
 use Rattle.std.proofs.Common.{◌≡◌, if◌then◌else◌, List, [], ◌++◌, take, refl, ◌∙◌, ap}
 use Rattle.dh_value.specs.Words as words
 use Rattle.dh_meaning.specs.Core.{CoreCommand, store, assign, choose, CoreCommands, no_commands, command_and}
-use Rattle.dh_meaning.specs.Effects.{Begun, Variables, set_variable, value_of, term_events, Effect, Event, store_events, holds_at, command_run, commands_run}
+use Rattle.dh_meaning.specs.Effects.{Begun, Variables, set_variable, value_of_term, term_events, Effect, Event, store_events, holds_at, command_run, commands_run}
 use Rattle.dh_meaning.specs.Paths.{Path}
 use Rattle.dh_meaning.specs.Core.{keep}
 use Rattle.dh_meaning.specs.Effects.{set_from, terms_events, values_of}
@@ -12,7 +12,7 @@ module _ (b : Begun) (path : Path) where
   abbrev mutual
     pub left_by : CoreCommand → Variables → Variables
     left_by (store r target value) v = v
-    left_by (assign depth entity value) v = set_variable v entity (take depth path) (words.value_of (value_of b v path value))
+    left_by (assign depth entity value) v = set_variable v entity (take depth path) (words.value_of (value_of_term b v path value))
     left_by (keep depth first values) v = set_from v first (take depth path) (values_of b v path values)
     left_by (choose test chosen other) v = if holds_at b v test path then all_left_by chosen v else all_left_by other v
 

@@ -12,7 +12,7 @@ use Rattle.dh_meaning.specs.AccessNumbers.{term_accesses, accesses_of, other_acc
 use Rattle.dh_meaning.specs.Sites.{Arm, Around, nothing_around, in_arm, in_loop, loop_of}
 use Rattle.dh_meaning.specs.Phases.{Located, Phase, straight, turns, repeated, decided, of_list, one_straight, joined, are_straight, one_command, folded, turn_phases, choice_phases, located, phases, form_phases, other_phases, groups_phases, parts_phases, phases_of}
 use Rattle.dh_meaning.specs.OnePhase.{is_between, makes, other_makes, any_makes}
-use Rattle.dh_meets.specs.SourceEvents.{SourceAccess, SourceEvent, accesses_in, term_events, site_of, events, other_events, groups_events, part_events, trace}
+use Rattle.dh_meets.specs.SourceEvents.{SourceAccess, SourceEvent, accesses_in, source_term_events, site_of, events, other_events, groups_events, part_events, trace}
 use Rattle.dh_meets.specs.MayMeet.{row_of_accesses, arms_meet, meets, command_meets, other_meets, groups_meet, part_meets, meets_in}
 use Rattle.dh_sound.specs.PhaseFacts.{HasStraightIn, HaveStraight, HasStraight, HasArm, arm_of, InOppositeArms}
 use Rattle.dh_sound.proofs.EventCounts.{count_in, count_joined, term_counted, events_counted, other_counted, groups_counted, part_counted}
@@ -427,20 +427,20 @@ module _ (j k : ℕ) where
               | inr d ↦ d
             ]
 
-    after_test : n + count_in (term_events (site_of r id) test) ≡ n + count
+    after_test : n + count_in (source_term_events (site_of r id) test) ≡ n + count
     after_test = ap (λ m. n + m) (term_counted (site_of r id) test)
 
-    chosen_at : (i : ℕ) (a : SourceAccess) → Within i (n + count) (accesses_of arm) → At n i (term_events (site_of r id) test ++ (chosen_events ++ other_side)) a → At (n + count) i chosen_events a
+    chosen_at : (i : ℕ) (a : SourceAccess) → Within i (n + count) (accesses_of arm) → At n i (source_term_events (site_of r id) test ++ (chosen_events ++ other_side)) a → At (n + count) i chosen_events a
     chosen_at i a w h =
         at_left i a (n + count) (n + count + accesses_of arm) chosen_events other_side (ap (λ m. n + count + m) (events_counted (in_arm r id true) arm)) w.1
-        (at_right i a n (n + count) (term_events (site_of r id) test) (chosen_events ++ other_side) after_test w.0 h)
+        (at_right i a n (n + count) (source_term_events (site_of r id) test) (chosen_events ++ other_side) after_test w.0 h)
 
-    side_at : (i : ℕ) (a : SourceAccess) → Within i (n + count + accesses_of arm) (other_accesses other) → At n i (term_events (site_of r id) test ++ (chosen_events ++ other_side)) a
+    side_at : (i : ℕ) (a : SourceAccess) → Within i (n + count + accesses_of arm) (other_accesses other) → At n i (source_term_events (site_of r id) test ++ (chosen_events ++ other_side)) a
         → At (n + count + accesses_of arm) i other_side a
     side_at i a w h =
         let l = w.0 in
         at_right i a (n + count) (n + count + accesses_of arm) chosen_events other_side (ap (λ m. n + count + m) (events_counted (in_arm r id true) arm)) w.0
-        (at_right i a n (n + count) (term_events (site_of r id) test) (chosen_events ++ other_side) after_test (omega (arith, l)) h)
+        (at_right i a n (n + count) (source_term_events (site_of r id) test) (chosen_events ++ other_side) after_test (omega (arith, l)) h)
 
     in_chosen : (i : ℕ) (a : SourceAccess) → Within i (n + count) (accesses_of arm) → At n i (events r choice.command) a → HasArm (arm_of id true) a.site.arms
     in_chosen i a w h = arms_kept i a (arm_of id true) (in_arm r id true) (last_arm r.arms (arm_of id true)) arm (n + count) (chosen_at i a w h)
@@ -453,7 +453,7 @@ module _ (j k : ℕ) where
           → (a b : SourceAccess) → At n j (events r choice.command) a → At n k (events r choice.command) b → InOppositeArms a b
       decided_tell h =
           both_tell [] (chosen_phases ++ side_phases) (row_of_accesses n count) (arms_meet u chosen_meets side_meets) (all (row_of_accesses n count) (arms_meet u chosen_meets side_meets)) n count (accesses_of arm + other_accesses other)
-          (term_events (site_of r id) test) (chosen_events ++ other_side) (test_part n count (term_events (site_of r id) test) (term_counted (site_of r id) test))
+          (source_term_events (site_of r id) test) (chosen_events ++ other_side) (test_part n count (source_term_events (site_of r id) test) (term_counted (site_of r id) test))
           (both_parts chosen_phases side_phases chosen_meets side_meets (arms_meet u chosen_meets side_meets) (n + count) (accesses_of arm) (other_accesses other) chosen_events other_side p q
           (arms_split u chosen_meets side_meets) (λ i. arms_in i u chosen_meets side_meets)) (all_splits (row_of_accesses n count) (arms_meet u chosen_meets side_meets)) (decided_has choice chosen_phases side_phases h)
 
@@ -576,8 +576,8 @@ module _ (j k : ℕ) where
         (other_part (in_arm r id false) u (n + term_accesses test + accesses_of arm) other (other_tells (in_arm r id false) u (n + term_accesses test + accesses_of arm) other single)) h apart
     form_tells r u n id place (repeats test body) single h apart =
         both_tell [] (phases r (n + term_accesses test) body) (row_of_accesses n (term_accesses test)) (meets u (n + term_accesses test) body) (one (row_of_accesses n (term_accesses test)) (meets u (n + term_accesses test) body))
-        n (term_accesses test) (accesses_of body) (term_events (site_of r id) test) (events r body)
-        (test_part n (term_accesses test) (term_events (site_of r id) test) (term_counted (site_of r id) test))
+        n (term_accesses test) (accesses_of body) (source_term_events (site_of r id) test) (events r body)
+        (test_part n (term_accesses test) (source_term_events (site_of r id) test) (term_counted (site_of r id) test))
         (command_part r u (n + term_accesses test) body (tells r u (n + term_accesses test) body single))
         (one_splits (row_of_accesses n (term_accesses test)) (meets u (n + term_accesses test) body)) (repeated_has _ (phases r (n + term_accesses test) body) h) apart
     form_tells r u n id place (counts iterator declared low high factor body combine combine_place) single h apart =

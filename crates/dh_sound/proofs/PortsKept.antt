@@ -48,7 +48,7 @@ use Rattle.dh_sound.proofs.TermWalks.{IsGood, IsMadeOf, as_read, as_write}
 use Rattle.dh_sound.proofs.TestsMeet.{test_together}
 use Rattle.dh_sound.specs.BlocksOfPhases.{OfStraight, OfTest, StraightTold, TestTold, TellsBlocks}
 use Rattle.dh_sound.specs.BlocksCovered.{AreCovered, events_in, BlocksCovered, BlocksKept}
-use Rattle.dh_sound.specs.AssignsInside.{AllInside}
+use Rattle.dh_sound.specs.AssignsInside.{AllAssignInside}
 use Rattle.dh_sound.specs.Trails.{count}
 use Rattle.dh_sound.specs.ViewTrails.{FollowsViews}
 use Rattle.dh_sound.specs.Deep.{AreDeep}
@@ -84,7 +84,7 @@ module _ (p : Program) (typed : IsTypedProgram p) (rules : KeepsIndexRules p) (d
     (b : Begun) (table : b.table ≡ table_of p) (loops : List Turning) (v : Variables) where
   -- The commands of a Straight phase.
   module _ (block : Block) (o : OfStraight p loops block) (deep : AreDeep (length (factors loops)) (core_commands (known_of p) o.done))
-      (views : FollowsViews p o.round [] (trace p) o.done) (all : AllInside (known_of p) (length (factors loops)) o.done)
+      (views : FollowsViews p o.round [] (trace p) o.done) (all : AllAssignInside (known_of p) (length (factors loops)) o.done)
       (indices : IndicesTold p (λ k. any_makes k o.done) (λ e. any_assigns e (core_commands (known_of p) o.done)) (paths_inside loops) v) where
     abbrev phase_commands : CoreCommands
     phase_commands = core_commands (known_of p) o.done

@@ -14,7 +14,7 @@ use Rattle.dh_tree.specs.PlainTrees.{Term, ViewPlan, Action, action, ActionForm,
 use Rattle.dh_tree.specs.Resolved.{declares, resolved_term, resolved_action, resolved_form, resolved_other, resolved_actions, resolved_groups}
 use Rattle.dh_tree.specs.Scopes.{Scope, entity, declare, leave, past, at_end, form_at_end, other_at_end, actions_at_end, groups_at_end}
 use Rattle.dh_meaning.specs.Sites.{Around, in_arm, in_loop, loop_of}
-use Rattle.dh_meets.specs.SourceEvents.{SourceEvent, assigned, site_of, term_events, maybe_events, write_events, events, command_events, other_events, groups_events, part_events}
+use Rattle.dh_meets.specs.SourceEvents.{SourceEvent, assigned, site_of, source_term_events, maybe_events, write_events, events, command_events, other_events, groups_events, part_events}
 use Rattle.dh_sound.proofs.FactsGrow.{Extends, added_last, other_grows, part_grows, groups_grow, InStep, next_in_step, past_in_step, in_step, part_in_step}
 use Rattle.dh_sound.proofs.IteratorsKnown.{AreKnownIterators}
 use Rattle.dh_sound.proofs.RoundLevels.{AreBelow, raised, first_counter, later_counter, Sees, sees_later, NamesRound, IsOther, declared_round, inside_round, inside_below, EventsRound, both_round, term_round, write_round, maybe_round}
@@ -111,15 +111,15 @@ module _ (all : Facts) (cs : List Counter) (iterators : AreKnownIterators all cs
         (terms_round cs (site_of r id) s.visible h (terms (offsets_of form)) (offsets_named s.visible form plan))
     form_tells facts s r id after (assigns target value) l x e h b sees =
         let named : resolved_term s.visible value ≡ value = cc in
-        nothing s r after _ h sees (both_round cs (term_events (site_of r id) value) (assigned target.entity ∷ []) (term_round cs (site_of r id) s.visible h value named) tt)
+        nothing s r after _ h sees (both_round cs (source_term_events (site_of r id) value) (assigned target.entity ∷ []) (term_round cs (site_of r id) s.visible h value named) tt)
     form_tells facts s r id after (stores target value) l x e h b sees =
         let first : resolved_term s.visible target ≡ target = cc in
         let second : resolved_term s.visible value ≡ value = cc in
         nothing s r after _ h sees
-        (both_round cs (term_events (site_of r id) value) (write_events (site_of r id) target) (term_round cs (site_of r id) s.visible h value second) (write_round cs (site_of r id) s.visible h target first))
+        (both_round cs (source_term_events (site_of r id) value) (write_events (site_of r id) target) (term_round cs (site_of r id) s.visible h value second) (write_round cs (site_of r id) s.visible h target first))
     form_tells facts s r id after (reduces target o value) l x e h b sees =
         let named : resolved_term s.visible value ≡ value = cc in
-        nothing s r after _ h sees (both_round cs (term_events (site_of r id) value) (assigned target.entity ∷ []) (term_round cs (site_of r id) s.visible h value named) tt)
+        nothing s r after _ h sees (both_round cs (source_term_events (site_of r id) value) (assigned target.entity ∷ []) (term_round cs (site_of r id) s.visible h value named) tt)
     form_tells facts s r id after (calls function arguments) l x e h b sees = nothing s r after [] h sees tt
     form_tells facts s r id after (blocks body) l x e h b sees = let named : resolved_groups s body ≡ body = cc in groups_tell facts s r after body l x named h b sees
     form_tells facts s r id after (decides test chosen other) l x e h b sees =
@@ -133,7 +133,7 @@ module _ (all : Facts) (cs : List Counter) (iterators : AreKnownIterators all cs
           names = h;
           sees = second.sees;
           longer = let i = first.longer in let j = second.longer in omega (arith, i, j);
-          events = both_round cs (term_events (site_of r id) test) _ (term_round cs (site_of r id) s.visible h test test_named) (both_round cs (events (in_arm r id true) chosen) _ first.events second.events);
+          events = both_round cs (source_term_events (site_of r id) test) _ (term_round cs (site_of r id) s.visible h test test_named) (both_round cs (events (in_arm r id true) chosen) _ first.events second.events);
         }
     form_tells facts s r id after (repeats test body) l x e h b sees =
         let test_named : resolved_term s.visible test ≡ test = cc in
@@ -143,7 +143,7 @@ module _ (all : Facts) (cs : List Counter) (iterators : AreKnownIterators all cs
           names = h;
           sees = inner.sees;
           longer = inner.longer;
-          events = both_round cs (term_events (site_of r id) test) (events r body) (term_round cs (site_of r id) s.visible h test test_named) inner.events;
+          events = both_round cs (source_term_events (site_of r id) test) (events r body) (term_round cs (site_of r id) s.visible h test test_named) inner.events;
         }
     form_tells facts s r id after (counts iterator declared low high factor body combine combine_place) l x e h b sees =
         let c : Counter = loop_of iterator low high factor in

@@ -19,7 +19,7 @@ use Rattle.dh_tree.specs.Resolved.{used, resolved_term, resolved_terms}
 use Rattle.dh_tree.specs.Scopes.{ScopeEntry, binding, entity_of, is_visible, bind, Scope, entity, declare}
 use Rattle.dh_meaning.specs.Sites.{Around, in_loop}
 use Rattle.dh_meets.specs.Charges.{level_of_loop}
-use Rattle.dh_meets.specs.SourceEvents.{with_indices, in_row, Site, SourceEvent, accesses, assigned, one_access, term_events, terms_events, maybe_events, write_events}
+use Rattle.dh_meets.specs.SourceEvents.{with_indices, in_row, Site, SourceEvent, accesses, assigned, one_access, source_term_events, source_terms_events, maybe_events, write_events}
 use Rattle.dh_sound.specs.LoopsRound.{IsRound, EntityRound, OperandRound, FormRound, AllRound, ElementRound}
 use Rattle.dh_sound.proofs.FactsGrow.{appended, added_last}
 use Rattle.dh_sound.proofs.IteratorsKnown.{AreKnownIterators, found_iterator}
@@ -218,28 +218,28 @@ module _ (cs : List Counter) (site : Site) (bs : List ScopeEntry) (h : NamesRoun
       (form_round t first, all_round rest second)
 
   mutual
-    pub term_round : (t : Term) → resolved_term bs t ≡ t → EventsRound cs (term_events site t)
+    pub term_round : (t : Term) → resolved_term bs t ≡ t → EventsRound cs (source_term_events site t)
     term_round (term place k (number negative n)) e = tt
     term_round (term place k (truth_value value)) e = tt
     term_round (term place k (named r)) e = tt
     term_round (term place k (accessed r indices)) e =
         let named : resolved_terms bs indices ≡ indices = cc in
-        both_round cs (terms_events site indices) (one_access place r.entity (with_indices indices) false site) (terms_round indices named) (all_round indices named, tt)
+        both_round cs (source_terms_events site indices) (one_access place r.entity (with_indices indices) false site) (terms_round indices named) (all_round indices named, tt)
     term_round (term place k (in_bank r bank bank_place row)) e =
         let named : resolved_term bs row ≡ row = cc in
-        both_round cs (term_events site row) (one_access place r.entity (in_row bank row) false site) (term_round row named) (tt, tt)
+        both_round cs (source_term_events site row) (one_access place r.entity (in_row bank row) false site) (term_round row named) (tt, tt)
     term_round (term place k (applied o left right)) e =
         let first : resolved_term bs left ≡ left = cc in
         let second : resolved_term bs right ≡ right = cc in
-        both_round cs (term_events site left) (term_events site right) (term_round left first) (term_round right second)
+        both_round cs (source_term_events site left) (source_term_events site right) (term_round left first) (term_round right second)
     term_round (term place k (converted inner to)) e = let named : resolved_term bs inner ≡ inner = cc in term_round inner named
 
-    pub terms_round : (ts : Terms) → resolved_terms bs ts ≡ ts → EventsRound cs (terms_events site ts)
+    pub terms_round : (ts : Terms) → resolved_terms bs ts ≡ ts → EventsRound cs (source_terms_events site ts)
     terms_round no_terms e = tt
     terms_round (term_then t rest) e =
         let first : resolved_term bs t ≡ t = cc in
         let second : resolved_terms bs rest ≡ rest = cc in
-        both_round cs (term_events site t) (terms_events site rest) (term_round t first) (terms_round rest second)
+        both_round cs (source_term_events site t) (source_terms_events site rest) (term_round t first) (terms_round rest second)
 
   pub write_round : (t : Term) → resolved_term bs t ≡ t → EventsRound cs (write_events site t)
   write_round (term place k (number negative n)) e = tt
@@ -247,10 +247,10 @@ module _ (cs : List Counter) (site : Site) (bs : List ScopeEntry) (h : NamesRoun
   write_round (term place k (named r)) e = tt
   write_round (term place k (accessed r indices)) e =
       let named : resolved_terms bs indices ≡ indices = cc in
-      both_round cs (terms_events site indices) (one_access place r.entity (with_indices indices) true site) (terms_round indices named) (all_round indices named, tt)
+      both_round cs (source_terms_events site indices) (one_access place r.entity (with_indices indices) true site) (terms_round indices named) (all_round indices named, tt)
   write_round (term place k (in_bank r bank bank_place row)) e =
       let named : resolved_term bs row ≡ row = cc in
-      both_round cs (term_events site row) (one_access place r.entity (in_row bank row) true site) (term_round row named) (tt, tt)
+      both_round cs (source_term_events site row) (one_access place r.entity (in_row bank row) true site) (term_round row named) (tt, tt)
   write_round (term place k (applied o left right)) e = term_round (term place k (applied o left right)) e
   write_round (term place k (converted inner to)) e = let named : resolved_term bs inner ≡ inner = cc in term_round inner named
 

@@ -11,7 +11,7 @@ use Rattle.dh_tree.specs.PlainTrees.{Term, term, number, truth_value, named, acc
 use Rattle.dh_meaning.specs.AccessNumbers.{term_accesses}
 use Rattle.dh_meaning.specs.Bindings.{kind_or_first, kind_found}
 use Rattle.dh_meaning.specs.CoreOf.{Known, core_term, core_terms}
-use Rattle.dh_meaning.specs.Effects.{Begun, Variables, value_of, values_of, spot_by_row}
+use Rattle.dh_meaning.specs.Effects.{Begun, Variables, value_of_term, values_of, spot_by_row}
 use Rattle.dh_meaning.specs.Paths.{Path}
 use Rattle.dh_meets.specs.Charges.{entity_depends, term_depends, terms_depend, element_depends, depends, picked, key_of}
 use Rattle.dh_meets.specs.SourceEvents.{Element, with_indices, in_row, SourceAccess}
@@ -75,7 +75,7 @@ module _ (b : Begun) (known : Known) (v w : Variables) (p q : Path)
 
   mutual
     pub settled_value : (n : ℕ) (t : Term) → EachName (IsSettledName known v w p q) t → CopiesAgree (λ l. term_depends known.bindings l t) p q
-        → value_of b v p (core_term known n t) ≡ value_of b w q (core_term known n t)
+        → value_of_term b v p (core_term known n t) ≡ value_of_term b w q (core_term known n t)
     settled_value n (term place k (number negative x)) s a = refl
     settled_value n (term place k (truth_value x)) s a = refl
     settled_value n (term place k (named r)) s a = ap (λ z. word_of (kind_or_first k) z) (s a)
@@ -99,7 +99,7 @@ module _ (b : Begun) (known : Known) (v w : Variables) (p q : Path)
     settled_values n (term_then t ts) s a =
         ap (λ x. words.value_of x ∷ values_of b v p (core_terms known (n + term_accesses t) ts))
         (settled_value n t s.0 (agree_left (λ i. term_depends known.bindings i t) (λ i. terms_depend known.bindings i ts) p q a))
-        ∙ ap (λ zs. words.value_of (value_of b w q (core_term known n t)) ∷ zs)
+        ∙ ap (λ zs. words.value_of (value_of_term b w q (core_term known n t)) ∷ zs)
         (settled_values (n + term_accesses t) ts s.1 (agree_right (λ i. term_depends known.bindings i t) (λ i. terms_depend known.bindings i ts) p q a))
 
   -- an access whose indices are settled leads to one element at paths that agree where it depends

@@ -9,7 +9,7 @@ use Rattle.dh_meaning.specs.AccessNumbers.{term_accesses, accesses_of, other_acc
 use Rattle.dh_meaning.specs.Sites.{Arm, Around, nothing_around, in_arm, in_loop, loop_of}
 use Rattle.dh_meaning.specs.Phases.{phases, groups_phases, parts_phases}
 use Rattle.dh_meaning.specs.OnePhase.{is_between, makes, form_makes, other_makes, groups_make, part_makes}
-use Rattle.dh_meets.specs.SourceEvents.{Site, SourceAccess, SourceEvent, accesses, assigned, accesses_in, term_events, form_events, terms_events, maybe_events, write_events, site_of, events, command_events, other_events, groups_events, part_events}
+use Rattle.dh_meets.specs.SourceEvents.{Site, SourceAccess, SourceEvent, accesses, assigned, accesses_in, source_term_events, form_events, source_terms_events, maybe_events, write_events, site_of, events, command_events, other_events, groups_events, part_events}
 use Rattle.dh_sound.specs.PhaseFacts.{HasArm}
 use Rattle.dh_sound.proofs.EventCounts.{count_in, term_counted, events_counted, part_counted}
 use Rattle.dh_sound.proofs.SamePhase.{either, bit_true}
@@ -81,43 +81,43 @@ module _ (k : ℕ) (a : SourceAccess) where
   no_site n entity site h = elim h [ ]
 
   mutual
-    pub term_site : (site : Site) (t : Term) (n : ℕ) → At n k (term_events site t) a → a.site ≡ site
+    pub term_site : (site : Site) (t : Term) (n : ℕ) → At n k (source_term_events site t) a → a.site ≡ site
     term_site site (term place kind form) n h = form_site site place form n h
 
     form_site : (site : Site) (place : _) (f : TermForm) (n : ℕ) → At n k (form_events site place f) a → a.site ≡ site
     form_site site place (number negative v) n h = elim h [ ]
     form_site site place (truth_value value) n h = elim h [ ]
     form_site site place (named r) n h = elim h [ ]
-    form_site site place (accessed r indices) n h = one_site n site _ (terms_events site indices) refl (terms_site site indices n) h
-    form_site site place (in_bank r bank bank_place row) n h = one_site n site _ (term_events site row) refl (term_site site row n) h
-    form_site site place (applied op left right) n h = two_sites n site (term_events site left) (term_events site right) (term_site site left) (term_site site right) h
+    form_site site place (accessed r indices) n h = one_site n site _ (source_terms_events site indices) refl (terms_site site indices n) h
+    form_site site place (in_bank r bank bank_place row) n h = one_site n site _ (source_term_events site row) refl (term_site site row n) h
+    form_site site place (applied op left right) n h = two_sites n site (source_term_events site left) (source_term_events site right) (term_site site left) (term_site site right) h
     form_site site place (converted inner to) n h = term_site site inner n h
 
-    terms_site : (site : Site) (ts : Terms) (n : ℕ) → At n k (terms_events site ts) a → a.site ≡ site
+    terms_site : (site : Site) (ts : Terms) (n : ℕ) → At n k (source_terms_events site ts) a → a.site ≡ site
     terms_site site no_terms n h = elim h [ ]
-    terms_site site (term_then t rest) n h = two_sites n site (term_events site t) (terms_events site rest) (term_site site t) (terms_site site rest) h
+    terms_site site (term_then t rest) n h = two_sites n site (source_term_events site t) (source_terms_events site rest) (term_site site t) (terms_site site rest) h
 
   maybe_site : (site : Site) (o : Option Term) (n : ℕ) → At n k (maybe_events site o) a → a.site ≡ site
   maybe_site site None n h = elim h [ ]
   maybe_site site (Some t) n h = term_site site t n h
 
   write_site : (site : Site) (t : Term) (n : ℕ) → At n k (write_events site t) a → a.site ≡ site
-  write_site site (term place kind (accessed r indices)) n h = one_site n site _ (terms_events site indices) refl (terms_site site indices n) h
-  write_site site (term place kind (in_bank r bank bank_place row)) n h = one_site n site _ (term_events site row) refl (term_site site row n) h
+  write_site site (term place kind (accessed r indices)) n h = one_site n site _ (source_terms_events site indices) refl (terms_site site indices n) h
+  write_site site (term place kind (in_bank r bank bank_place row)) n h = one_site n site _ (source_term_events site row) refl (term_site site row n) h
   write_site site (term place kind (number negative v)) n h = elim h [ ]
   write_site site (term place kind (truth_value value)) n h = elim h [ ]
   write_site site (term place kind (named r)) n h = elim h [ ]
-  write_site site (term place kind (applied op left right)) n h = two_sites n site (term_events site left) (term_events site right) (term_site site left) (term_site site right) h
+  write_site site (term place kind (applied op left right)) n h = two_sites n site (source_term_events site left) (source_term_events site right) (term_site site left) (term_site site right) h
   write_site site (term place kind (converted inner to)) n h = term_site site inner n h
 
   let_site : (site : Site) (o : Option Term) (entity : Option ℕ) (n : ℕ) → At n k (maybe_events site o ++ assigned entity ∷ []) a → a.site ≡ site
   let_site site o entity n h = two_sites n site (maybe_events site o) (assigned entity ∷ []) (maybe_site site o) (λ m g. no_site m entity site g) h
 
-  assign_site : (site : Site) (t : Term) (entity : Option ℕ) (n : ℕ) → At n k (term_events site t ++ assigned entity ∷ []) a → a.site ≡ site
-  assign_site site t entity n h = two_sites n site (term_events site t) (assigned entity ∷ []) (term_site site t) (λ m g. no_site m entity site g) h
+  assign_site : (site : Site) (t : Term) (entity : Option ℕ) (n : ℕ) → At n k (source_term_events site t ++ assigned entity ∷ []) a → a.site ≡ site
+  assign_site site t entity n h = two_sites n site (source_term_events site t) (assigned entity ∷ []) (term_site site t) (λ m g. no_site m entity site g) h
 
-  store_site : (site : Site) (t u : Term) (n : ℕ) → At n k (term_events site t ++ write_events site u) a → a.site ≡ site
-  store_site site t u n h = two_sites n site (term_events site t) (write_events site u) (term_site site t) (write_site site u) h
+  store_site : (site : Site) (t u : Term) (n : ℕ) → At n k (source_term_events site t ++ write_events site u) a → a.site ≡ site
+  store_site site t u n h = two_sites n site (source_term_events site t) (write_events site u) (term_site site t) (write_site site u) h
 
   -- arms
   module _ (arm : Arm) where
@@ -153,10 +153,10 @@ module _ (k : ℕ) (a : SourceAccess) where
       form_kept r h id (calls function arguments) n g = elim g [ ]
       form_kept r h id (blocks body) n g = groups_kept r h body n g
       form_kept r h id (decides test yes_arm other) n g =
-          two_arms n (term_events (site_of r id) test) (events (in_arm r id true) yes_arm ++ other_events (in_arm r id false) other) (λ m x. of_site r id h (term_site (site_of r id) test m x))
+          two_arms n (source_term_events (site_of r id) test) (events (in_arm r id true) yes_arm ++ other_events (in_arm r id false) other) (λ m x. of_site r id h (term_site (site_of r id) test m x))
           (λ m x. two_arms m (events (in_arm r id true) yes_arm) (other_events (in_arm r id false) other) (arms_kept (in_arm r id true) (has_front r.arms _ h) yes_arm) (other_kept (in_arm r id false) (has_front r.arms _ h) other) x) g
       form_kept r h id (repeats test body) n g =
-          two_arms n (term_events (site_of r id) test) (events r body) (λ m x. of_site r id h (term_site (site_of r id) test m x)) (arms_kept r h body) g
+          two_arms n (source_term_events (site_of r id) test) (events r body) (λ m x. of_site r id h (term_site (site_of r id) test m x)) (arms_kept r h body) g
       form_kept r h id (counts iterator declared low high factor body combine combine_place) n g =
           two_arms n (events (in_loop r (loop_of iterator low high factor)) body) (other_events (in_loop r (loop_of iterator low high factor)) combine)
           (arms_kept (in_loop r (loop_of iterator low high factor)) (of_loop r (loop_of iterator low high factor) h) body)
@@ -237,19 +237,19 @@ module _ (k : ℕ) (a : SourceAccess) where
             → (other_makes k (n + term_accesses test + accesses_of arm) other ≡ true → At (n + term_accesses test + accesses_of arm) k (other_events (in_arm r id false) other) a → a.site.loops ≡ r.loops)
             → a.site.loops ≡ r.loops
         by (inl e) f g =
-            site_loops r id (term_site k a (site_of r id) test n (first_of n (term_accesses test) (term_events (site_of r id) test) _ (term_counted (site_of r id) test) (within_span k n (term_accesses test) e) h))
+            site_loops r id (term_site k a (site_of r id) test n (first_of n (term_accesses test) (source_term_events (site_of r id) test) _ (term_counted (site_of r id) test) (within_span k n (term_accesses test) e) h))
         by (inr e) f g = side (either (makes k (n + term_accesses test) arm) _ e)
           where
             side : (makes k (n + term_accesses test) arm ≡ true) ⊎ (other_makes k (n + term_accesses test + accesses_of arm) other ≡ true) → a.site.loops ≡ r.loops
             side (inl d) =
                 let w = makes_within k (n + term_accesses test) arm d in
                 f d (first_of (n + term_accesses test) (accesses_of arm) (events (in_arm r id true) arm) _ (events_counted (in_arm r id true) arm) w
-                (second_of n (term_accesses test) (term_events (site_of r id) test) (events (in_arm r id true) arm ++ other_events (in_arm r id false) other) (term_counted (site_of r id) test) w.0 h))
+                (second_of n (term_accesses test) (source_term_events (site_of r id) test) (events (in_arm r id true) arm ++ other_events (in_arm r id false) other) (term_counted (site_of r id) test) w.0 h))
             side (inr d) =
                 let w = other_makes_within k (n + term_accesses test + accesses_of arm) other d in
                 let v = w.0 in
                 g d (second_of (n + term_accesses test) (accesses_of arm) (events (in_arm r id true) arm) (other_events (in_arm r id false) other) (events_counted (in_arm r id true) arm) w.0
-                (second_of n (term_accesses test) (term_events (site_of r id) test) (events (in_arm r id true) arm ++ other_events (in_arm r id false) other) (term_counted (site_of r id) test) (omega (arith, v)) h))
+                (second_of n (term_accesses test) (source_term_events (site_of r id) test) (events (in_arm r id true) arm ++ other_events (in_arm r id false) other) (term_counted (site_of r id) test) (omega (arith, v)) h))
     form_loops r n id (repeats test body) m h = cc
     form_loops r n id (counts iterator declared low high factor body combine combine_place) m h = cc
 

@@ -8,7 +8,7 @@ use Rattle.dh_tree.specs.Numbers.{commands_in, commands_inside, commands_in_othe
 use Rattle.dh_tree.specs.declared.trees.counters.Counter.{Counter}
 use Rattle.dh_tree.specs.PlainTrees.{Term, term, number, truth_value, named, accessed, in_bank, applied, converted, Terms, no_terms, term_then, Action, action, ActionForm, lets, lets_memory, views, assigns, stores, reduces, calls, blocks, decides, repeats, counts, MaybeAction, no_action, one_action, Actions, no_actions, action_then, Groups, no_groups, group_then}
 use Rattle.dh_meaning.specs.Sites.{Arm, Around, in_arm, in_loop, loop_of}
-use Rattle.dh_meets.specs.SourceEvents.{Element, SourceAccess, SourceEvent, accesses, assigned, site_of, term_events, terms_events, maybe_events, write_events, events, command_events, other_events, groups_events, part_events}
+use Rattle.dh_meets.specs.SourceEvents.{Element, SourceAccess, SourceEvent, accesses, assigned, site_of, source_term_events, source_terms_events, maybe_events, write_events, events, command_events, other_events, groups_events, part_events}
 use Rattle.dh_sound.specs.Trails.{ArmsWithin, EachAccess}
 use Rattle.dh_tree.specs.Seen.{terms}
 use Rattle.dh_tree.specs.ViewOffsets.{offsets_of}
@@ -40,30 +40,30 @@ here_stands r id low high place entity e w = record { arms = []; loops = []; arm
 
 module _ (r : Around) (id low high : ℕ) where
   mutual
-    pub term_stands : (t : Term) → EachAccess (StandsWithin r low high) (term_events (site_of r id) t)
+    pub term_stands : (t : Term) → EachAccess (StandsWithin r low high) (source_term_events (site_of r id) t)
     term_stands (term place k (number negative x)) = tt
     term_stands (term place k (truth_value x)) = tt
     term_stands (term place k (named x)) = tt
-    term_stands (term place k (accessed x ts)) = each_both _ (terms_events (site_of r id) ts) _ (terms_stand ts) (here_stands r id low high place _ _ _, tt)
-    term_stands (term place k (in_bank x bank at t)) = each_both _ (term_events (site_of r id) t) _ (term_stands t) (here_stands r id low high place _ _ _, tt)
-    term_stands (term place k (applied o l m)) = each_both _ (term_events (site_of r id) l) _ (term_stands l) (term_stands m)
+    term_stands (term place k (accessed x ts)) = each_both _ (source_terms_events (site_of r id) ts) _ (terms_stand ts) (here_stands r id low high place _ _ _, tt)
+    term_stands (term place k (in_bank x bank at t)) = each_both _ (source_term_events (site_of r id) t) _ (term_stands t) (here_stands r id low high place _ _ _, tt)
+    term_stands (term place k (applied o l m)) = each_both _ (source_term_events (site_of r id) l) _ (term_stands l) (term_stands m)
     term_stands (term place k (converted t to)) = term_stands t
 
-    pub terms_stand : (ts : Terms) → EachAccess (StandsWithin r low high) (terms_events (site_of r id) ts)
+    pub terms_stand : (ts : Terms) → EachAccess (StandsWithin r low high) (source_terms_events (site_of r id) ts)
     terms_stand no_terms = tt
-    terms_stand (term_then t ts) = each_both _ (term_events (site_of r id) t) _ (term_stands t) (terms_stand ts)
+    terms_stand (term_then t ts) = each_both _ (source_term_events (site_of r id) t) _ (term_stands t) (terms_stand ts)
 
   pub maybe_stands : (t : Option Term) → EachAccess (StandsWithin r low high) (maybe_events (site_of r id) t)
   maybe_stands None = tt
   maybe_stands (Some t) = term_stands t
 
   pub write_stands : (t : Term) → EachAccess (StandsWithin r low high) (write_events (site_of r id) t)
-  write_stands (term place k (accessed x ts)) = each_both _ (terms_events (site_of r id) ts) _ (terms_stand ts) (here_stands r id low high place _ _ _, tt)
-  write_stands (term place k (in_bank x bank at t)) = each_both _ (term_events (site_of r id) t) _ (term_stands t) (here_stands r id low high place _ _ _, tt)
+  write_stands (term place k (accessed x ts)) = each_both _ (source_terms_events (site_of r id) ts) _ (terms_stand ts) (here_stands r id low high place _ _ _, tt)
+  write_stands (term place k (in_bank x bank at t)) = each_both _ (source_term_events (site_of r id) t) _ (term_stands t) (here_stands r id low high place _ _ _, tt)
   write_stands (term place k (number negative x)) = tt
   write_stands (term place k (truth_value x)) = tt
   write_stands (term place k (named x)) = tt
-  write_stands (term place k (applied o l m)) = each_both _ (term_events (site_of r id) l) _ (term_stands l) (term_stands m)
+  write_stands (term place k (applied o l m)) = each_both _ (source_term_events (site_of r id) l) _ (term_stands l) (term_stands m)
   write_stands (term place k (converted t to)) = term_stands t
 
   -- what stands in an arm of the command stands round it, too
@@ -94,18 +94,18 @@ mutual
   form_stands r low high m (lets name declared value) h l u = each_both _ (maybe_events (site_of r m) value) _ (maybe_stands r m low high value) tt
   form_stands r low high m (lets_memory name shape shape_places value) h l u = tt
   form_stands r low high m (views name parent form) h l u = terms_stand r m low high (terms (offsets_of form))
-  form_stands r low high m (assigns target value) h l u = each_both _ (term_events (site_of r m) value) _ (term_stands r m low high value) tt
-  form_stands r low high m (stores target value) h l u = each_both _ (term_events (site_of r m) value) _ (term_stands r m low high value) (write_stands r m low high target)
-  form_stands r low high m (reduces target op value) h l u = each_both _ (term_events (site_of r m) value) _ (term_stands r m low high value) tt
+  form_stands r low high m (assigns target value) h l u = each_both _ (source_term_events (site_of r m) value) _ (term_stands r m low high value) tt
+  form_stands r low high m (stores target value) h l u = each_both _ (source_term_events (site_of r m) value) _ (term_stands r m low high value) (write_stands r m low high target)
+  form_stands r low high m (reduces target op value) h l u = each_both _ (source_term_events (site_of r m) value) _ (term_stands r m low high value) tt
   form_stands r low high m (calls function arguments) h l u = tt
   form_stands r low high m (blocks body) h l u = each_so _ _ (groups_events r body) (λ a s. wider_stands r (suc m) (suc m + commands_in_groups body) low high (omega (arith, l)) (omega (arith, u)) a s) (groups_stand r (suc m) body h)
   form_stands r low high m (decides test chosen other) h l u =
-      each_both _ (term_events (site_of r m) test) _ (term_stands r m low high test)
+      each_both _ (source_term_events (site_of r m) test) _ (term_stands r m low high test)
       (each_both _ (events (in_arm r m true) chosen) _
       (each_so _ _ (events (in_arm r m true) chosen) (λ a s. arm_stands r m low high true (suc m) (suc m + commands_in chosen) a l (omega (arith, u)) (omega (arith, l)) (omega (arith, u)) s) (action_stands (in_arm r m true) (suc m) chosen h.0))
       (each_so _ _ (other_events (in_arm r m false) other) (λ a s. arm_stands r m low high false (suc m + commands_in chosen) (suc m + commands_in chosen + commands_in_other other) a l (omega (arith, u)) (omega (arith, l)) (omega (arith, u)) s) (other_stands (in_arm r m false) (suc m + commands_in chosen) other h.1)))
   form_stands r low high m (repeats test body) h l u =
-      each_both _ (term_events (site_of r m) test) _ (term_stands r m low high test)
+      each_both _ (source_term_events (site_of r m) test) _ (term_stands r m low high test)
       (each_so _ _ (events r body) (λ a s. wider_stands r (suc m) (suc m + commands_in body) low high (omega (arith, l)) (omega (arith, u)) a s) (action_stands r (suc m) body h))
   form_stands r low high m (counts iterator declared lo hi factor body combine combine_place) h l u =
       each_both _ (events (in_loop r (loop_of iterator lo hi factor)) body) _

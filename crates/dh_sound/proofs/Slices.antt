@@ -8,7 +8,7 @@ use Rattle.dh_tree.specs.PlainTrees.{shrinks, splits, suffixes, shifts, Term, Ac
 use Rattle.dh_meaning.specs.AccessNumbers.{term_accesses, accesses_of, part_accesses}
 use Rattle.dh_meaning.specs.Sites.{Around, nothing_around, in_arm, in_loop, loop_of}
 use Rattle.dh_meaning.specs.Phases.{Located, Phase, straight, turns, repeated, decided, Phases, no_phases, phase, of_list, one_straight, joined, are_straight, one_command, folded, turn_phases, choice_phases, located, phases, form_phases, other_phases, groups_phases, parts_phases, phases_of, unless_turns, idle_phases, idle_form_phases, idle_other_phases, idle_groups_phases, idle_part_phases, idle_phases_of}
-use Rattle.dh_meets.specs.SourceEvents.{Site, SourceEvent, assigned, accesses_in, term_events, site_of, events, other_events, groups_events, part_events, trace}
+use Rattle.dh_meets.specs.SourceEvents.{Site, SourceEvent, assigned, accesses_in, source_term_events, site_of, events, other_events, groups_events, part_events, trace}
 use Rattle.dh_sound.specs.PhaseFacts.{HasStraightIn, HaveStraight, HasStraight, HasTestIn, HaveTest, HasTest, StandsAmong}
 use Rattle.dh_carried.proofs.Pigeons.{Has}
 use Rattle.dh_sound.proofs.EventCounts.{count_in, count_joined, term_counted, events_counted, part_counted}
@@ -189,7 +189,7 @@ every_left n es fs ps h = every_more (StandsAmong n es) (StandsAmong n (es ++ fs
 every_right : (n m : ℕ) (es fs : List SourceEvent) (ps : List Phase) → n + count_in es ≡ m → Every (StandsAmong m fs) ps → Every (StandsAmong n (es ++ fs)) ps
 every_right n m es fs ps e h = every_more (StandsAmong m fs) (StandsAmong n (es ++ fs)) (among_right n m es fs e) ps h
 
-after_term : (n : ℕ) (site : Site) (t : Term) → n + count_in (term_events site t) ≡ n + term_accesses t
+after_term : (n : ℕ) (site : Site) (t : Term) → n + count_in (source_term_events site t) ≡ n + term_accesses t
 after_term n site t = ap (λ x. n + x) (term_counted site t)
 
 after_events : (n : ℕ) (r : Around) (a : Action) → n + count_in (events r a) ≡ n + accesses_of a
@@ -229,16 +229,16 @@ mutual
   form_stands r n id place (reduces target op value) = ((among_whole r n (action id place (reduces target op value)), tt), tt)
   form_stands r n id place (decides test arm other) =
       every_choice (StandsAmong n (events r (action id place (decides test arm other)))) _ _ _ (among_whole r n (action id place (decides test arm other)))
-      (every_right n (n + term_accesses test) (term_events (site_of r id) test) (events (in_arm r id true) arm ++ other_events (in_arm r id false) other) _ (after_term n _ test)
+      (every_right n (n + term_accesses test) (source_term_events (site_of r id) test) (events (in_arm r id true) arm ++ other_events (in_arm r id false) other) _ (after_term n _ test)
       (every_left _ (events (in_arm r id true) arm) (other_events (in_arm r id false) other) _ (phases_stand (in_arm r id true) (n + term_accesses test) arm)))
-      (every_right n (n + term_accesses test) (term_events (site_of r id) test) (events (in_arm r id true) arm ++ other_events (in_arm r id false) other) _ (after_term n _ test)
+      (every_right n (n + term_accesses test) (source_term_events (site_of r id) test) (events (in_arm r id true) arm ++ other_events (in_arm r id false) other) _ (after_term n _ test)
       (every_right _ (n + term_accesses test + accesses_of arm) (events (in_arm r id true) arm) (other_events (in_arm r id false) other) _ (after_events _ (in_arm r id true) arm)
       (other_stands (in_arm r id false) (n + term_accesses test + accesses_of arm) other)))
   form_stands r n id place (repeats test body) = (
     (
       among_whole r n (action id place (repeats test body)),
       every_listed _ _
-          (every_right n (n + term_accesses test) (term_events (site_of r id) test) (events r body) _ (after_term n _ test) (phases_stand r (n + term_accesses test) body)),
+          (every_right n (n + term_accesses test) (source_term_events (site_of r id) test) (events r body) _ (after_term n _ test) (phases_stand r (n + term_accesses test) body)),
     ),
     tt,
   )
@@ -283,13 +283,13 @@ mutual
   idle_form_stands r n id place (views name parent form) = tt
   idle_form_stands r n id place (calls function arguments) = tt
   idle_form_stands r n id place (decides test arm other) =
-      every_right n (n + term_accesses test) (term_events (site_of r id) test) (events (in_arm r id true) arm ++ other_events (in_arm r id false) other) _ (after_term n _ test)
+      every_right n (n + term_accesses test) (source_term_events (site_of r id) test) (events (in_arm r id true) arm ++ other_events (in_arm r id false) other) _ (after_term n _ test)
       (every_joined _ _ _
       (every_left _ (events (in_arm r id true) arm) (other_events (in_arm r id false) other) _ (idle_stand (in_arm r id true) (n + term_accesses test) arm))
       (every_right _ (n + term_accesses test + accesses_of arm) (events (in_arm r id true) arm) (other_events (in_arm r id false) other) _ (after_events _ (in_arm r id true) arm)
       (idle_other_stands (in_arm r id false) (n + term_accesses test + accesses_of arm) other)))
   idle_form_stands r n id place (repeats test body) =
-      every_right n (n + term_accesses test) (term_events (site_of r id) test) (events r body) _ (after_term n _ test) (idle_stand r (n + term_accesses test) body)
+      every_right n (n + term_accesses test) (source_term_events (site_of r id) test) (events r body) _ (after_term n _ test) (idle_stand r (n + term_accesses test) body)
   idle_form_stands r n id place (counts iterator declared low high factor body combine combine_place) =
       every_joined _ _ _
       (every_unless _ _ (form_phases r n id place (counts iterator declared low high factor body combine combine_place))

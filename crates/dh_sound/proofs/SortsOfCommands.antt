@@ -22,7 +22,7 @@ use Rattle.dh_tree.proofs.EmptyLists.{first_none, second_none}
 use Rattle.dh_meaning.specs.Bindings.{depth_inside, binding_in, depth_bound}
 use Rattle.dh_meaning.specs.CoreOf.{known_of, entity_number}
 use Rattle.dh_meaning.specs.Sites.{Around, in_arm, in_loop, loop_of}
-use Rattle.dh_meets.specs.SourceEvents.{Site, SourceEvent, site_of, term_events, maybe_events, events, command_events, other_events, groups_events, part_events}
+use Rattle.dh_meets.specs.SourceEvents.{Site, SourceEvent, site_of, source_term_events, maybe_events, events, command_events, other_events, groups_events, part_events}
 use Rattle.dh_sound.specs.AssignsInside.{KeepsInside, AssignsInside, FormAssignsInside, OtherAssignsInside, GroupsAssignInside, PartAssignsInside}
 use Rattle.dh_sound.specs.BlockTold.{IsOfMemory}
 use Rattle.dh_sound.specs.OuterWrites.{first_inside, outer_breaches, outer_form_breaches, outer_other_breaches, outer_part_breaches, outer_groups_breaches}
@@ -72,7 +72,7 @@ module _ (p : Program) (ready : IsReady p) where
       (iterator_is k (next_fact facts s (of_iterator k) l) (λ m. no_less _ (depth_inside d factor) q))
 
   -- reducers that join copies make no access
-  value_told : (t : Term) (site : Site) → IsVariable t → EachAccess (IsOfMemory p) (term_events site t)
+  value_told : (t : Term) (site : Site) → IsVariable t → EachAccess (IsOfMemory p) (source_term_events site t)
   value_told (term place k (named r)) site h = tt
   value_told (term place k (number negative y)) site h = elim h [ ]
   value_told (term place k (truth_value y)) site h = elim h [ ]
@@ -86,7 +86,7 @@ module _ (p : Program) (ready : IsReady p) where
     folds_told (action id place form) r h = form_folds_told form r id h
 
     form_folds_told : (f : ActionForm) (r : Around) (id : ℕ) → FormFoldsOnly f → EachAccess (IsOfMemory p) (command_events r (site_of r id) f)
-    form_folds_told (reduces target o value) r id h = each_both _ (term_events (site_of r id) value) _ (value_told value (site_of r id) h) tt
+    form_folds_told (reduces target o value) r id h = each_both _ (source_term_events (site_of r id) value) _ (value_told value (site_of r id) h) tt
     form_folds_told (blocks body) r id h = groups_folds_told body r h
     form_folds_told (lets name declared value) r id h = elim h [ ]
     form_folds_told (lets_memory name shape shape_places value) r id h = elim h [ ]
@@ -167,7 +167,7 @@ module _ (p : Program) (ready : IsReady p) where
         let stands = used_stands s.visible target left (first_none (unknown s.visible target) _ v) in
         record {
           names = k;
-          events = each_both _ (term_events (site_of r id) value) _
+          events = each_both _ (source_term_events (site_of r id) value) _
               (term_told p leads facts first d s.visible k (site_of r id) value right (second_none (unknown s.visible target) _ v)
               (second_none (assigned_breaches (target_kind (fact_of facts target)) (found value) (place_of value)) _ (second_none (target_breaches (fact_of facts target) target.place) _ b))) tt;
           inside = target_inside p leads facts first d target stands.0 stands.1 (k target.name stands.0 (left ∙ stands.1)) (first_none (target_breaches (fact_of facts target) target.place) _ b) o;
@@ -177,7 +177,7 @@ module _ (p : Program) (ready : IsReady p) where
         let right : resolved_term s.visible value ≡ value = cc in
         record {
           names = k;
-          events = each_both _ (term_events (site_of r id) value) _
+          events = each_both _ (source_term_events (site_of r id) value) _
               (term_told p leads facts first d s.visible k (site_of r id) value right (second_none (term_breaches s.visible target) _ v)
               (second_none (assigned_breaches (found target) (found value) (place_of value)) _ (second_none (term_kind_breaches facts target) _ b)))
               (write_told p leads facts first d s.visible k (site_of r id) target left (first_none (term_breaches s.visible target) _ v) (first_none (term_kind_breaches facts target) _ b));
@@ -200,7 +200,7 @@ module _ (p : Program) (ready : IsReady p) where
         (second_none (outer_breaches first chosen) _ o) q.1 (λ m h. w m (has_right m (locals chosen) (other_locals other) h)) (λ y h. z y (has_right y (standings d chosen) (other_standings d other) h)) in
         record {
           names = all_later p facts (facts_after_other (facts_after facts chosen) other) first d s.visible (form_grows facts (decides test chosen other)) k;
-          events = each_both _ (term_events (site_of r id) test) _
+          events = each_both _ (source_term_events (site_of r id) test) _
               (term_told p leads facts first d s.visible k (site_of r id) test test_same (first_none (term_breaches s.visible test) _ v)
               (second_none (truth_breaches (found test) (place_of test)) _ (first_none (condition_breaches facts test) _ b)))
               (each_both _ (events (in_arm r id true) chosen) _ one.events two.events);
@@ -212,7 +212,7 @@ module _ (p : Program) (ready : IsReady p) where
         let one = told body facts s r first d l k body_same (second_none (term_breaches s.visible test) _ v) (second_none (condition_breaches facts test) _ b) x o q w z in
         record {
           names = all_later p facts (facts_after facts body) first d s.visible (grows facts body) k;
-          events = each_both _ (term_events (site_of r id) test) _
+          events = each_both _ (source_term_events (site_of r id) test) _
               (term_told p leads facts first d s.visible k (site_of r id) test test_same (first_none (term_breaches s.visible test) _ v)
               (second_none (truth_breaches (found test) (place_of test)) _ (first_none (condition_breaches facts test) _ b)))
               one.events;

@@ -25,7 +25,7 @@ use Rattle.dh_tree.specs.Scopes.{ScopeEntry, binding, entity_of, is_visible, bin
 use Rattle.dh_tree.proofs.EmptyLists.{first_none, second_none, not_none}
 use Rattle.dh_meaning.specs.Bindings.{binding_in, depth_bound}
 use Rattle.dh_meaning.specs.CoreOf.{known_of, entity_number, depth_of}
-use Rattle.dh_meets.specs.SourceEvents.{with_indices, in_row, Site, one_access, term_events, terms_events, maybe_events, write_events}
+use Rattle.dh_meets.specs.SourceEvents.{with_indices, in_row, Site, one_access, source_term_events, source_terms_events, maybe_events, write_events}
 use Rattle.dh_sound.specs.BlockTold.{IsOfMemory}
 use Rattle.dh_sound.specs.OuterWrites.{is_from_outside}
 use Rattle.dh_sound.specs.Trails.{EachAccess}
@@ -249,38 +249,38 @@ module _ (p : Program) (leads : (entity : Option ℕ) (w : Way) → way_to p ent
         (record { entity = m.0; is = m.1.0; memory = m.1.1.0; declared = m.1.1.1 }, tt)
 
     mutual
-      pub term_told : (t : Term) → resolved_term bs t ≡ t → term_breaches bs t ≡ [] → term_kind_breaches facts t ≡ [] → EachAccess (IsOfMemory p) (term_events site t)
+      pub term_told : (t : Term) → resolved_term bs t ≡ t → term_breaches bs t ≡ [] → term_kind_breaches facts t ≡ [] → EachAccess (IsOfMemory p) (source_term_events site t)
       term_told (term place k (number negative x)) e v b = tt
       term_told (term place k (truth_value x)) e v b = tt
       term_told (term place k (named r)) e v b = tt
       term_told (term place k (accessed r ts)) e v b =
           let name : entity_of bs r.name ≡ r.entity = cc in
           let same : resolved_terms bs ts ≡ ts = cc in
-          each_both _ (terms_events site ts) _ (terms_told ts same (second_none (unknown bs r) _ v) (second_none (access_breaches (fact_of facts r) place ts) _ b))
+          each_both _ (source_terms_events site ts) _ (terms_told ts same (second_none (unknown bs r) _ v) (second_none (access_breaches (fact_of facts r) place ts) _ b))
           (access_told place r ts false name (first_none (unknown bs r) _ v) (first_none (access_breaches (fact_of facts r) place ts) _ b))
       term_told (term place k (in_bank r bank at t)) e v b =
           let name : entity_of bs r.name ≡ r.entity = cc in
           let same : resolved_term bs t ≡ t = cc in
-          each_both _ (term_events site t) _
+          each_both _ (source_term_events site t) _
           (term_told t same (second_none (unknown bs r) _ v) (second_none (index_breaches (found t) (place_of t)) _ (second_none (bank_breaches (fact_of facts r) place) _ b)))
           (bank_told place r bank t false name (first_none (unknown bs r) _ v) (first_none (bank_breaches (fact_of facts r) place) _ b))
       term_told (term place k (applied o l r)) e v b =
           let first_same : resolved_term bs l ≡ l = cc in
           let second_same : resolved_term bs r ≡ r = cc in
           let below = second_none (applied_breaches o (place_of l) (place_of r) (found l) (found r)) _ b in
-          each_both _ (term_events site l) _ (term_told l first_same (first_none (term_breaches bs l) _ v) (first_none (term_kind_breaches facts l) _ below))
+          each_both _ (source_term_events site l) _ (term_told l first_same (first_none (term_breaches bs l) _ v) (first_none (term_kind_breaches facts l) _ below))
           (term_told r second_same (second_none (term_breaches bs l) _ v) (second_none (term_kind_breaches facts l) _ below))
       term_told (term place k (converted t to)) e v b =
           let same : resolved_term bs t ≡ t = cc in
           term_told t same v (second_none (cast_breaches place (found t) to) _ b)
 
-      pub terms_told : (ts : Terms) → resolved_terms bs ts ≡ ts → terms_breaches bs ts ≡ [] → indices_kind_breaches facts ts ≡ [] → EachAccess (IsOfMemory p) (terms_events site ts)
+      pub terms_told : (ts : Terms) → resolved_terms bs ts ≡ ts → terms_breaches bs ts ≡ [] → indices_kind_breaches facts ts ≡ [] → EachAccess (IsOfMemory p) (source_terms_events site ts)
       terms_told no_terms e v b = tt
       terms_told (term_then t ts) e v b =
           let first_same : resolved_term bs t ≡ t = cc in
           let second_same : resolved_terms bs ts ≡ ts = cc in
           let below = second_none (index_breaches (found t) (place_of t)) _ b in
-          each_both _ (term_events site t) _ (term_told t first_same (first_none (term_breaches bs t) _ v) (first_none (term_kind_breaches facts t) _ below))
+          each_both _ (source_term_events site t) _ (term_told t first_same (first_none (term_breaches bs t) _ v) (first_none (term_kind_breaches facts t) _ below))
           (terms_told ts second_same (second_none (term_breaches bs t) _ v) (second_none (term_kind_breaches facts t) _ below))
 
     pub write_told : (t : Term) → resolved_term bs t ≡ t → term_breaches bs t ≡ [] → term_kind_breaches facts t ≡ [] → EachAccess (IsOfMemory p) (write_events site t)
@@ -290,12 +290,12 @@ module _ (p : Program) (leads : (entity : Option ℕ) (w : Way) → way_to p ent
     write_told (term place k (accessed r ts)) e v b =
         let name : entity_of bs r.name ≡ r.entity = cc in
         let same : resolved_terms bs ts ≡ ts = cc in
-        each_both _ (terms_events site ts) _ (terms_told ts same (second_none (unknown bs r) _ v) (second_none (access_breaches (fact_of facts r) place ts) _ b))
+        each_both _ (source_terms_events site ts) _ (terms_told ts same (second_none (unknown bs r) _ v) (second_none (access_breaches (fact_of facts r) place ts) _ b))
         (access_told place r ts true name (first_none (unknown bs r) _ v) (first_none (access_breaches (fact_of facts r) place ts) _ b))
     write_told (term place k (in_bank r bank at t)) e v b =
         let name : entity_of bs r.name ≡ r.entity = cc in
         let same : resolved_term bs t ≡ t = cc in
-        each_both _ (term_events site t) _
+        each_both _ (source_term_events site t) _
         (term_told t same (second_none (unknown bs r) _ v) (second_none (index_breaches (found t) (place_of t)) _ (second_none (bank_breaches (fact_of facts r) place) _ b)))
         (bank_told place r bank t true name (first_none (unknown bs r) _ v) (first_none (bank_breaches (fact_of facts r) place) _ b))
     write_told (term place k (applied o l r)) e v b = term_told (term place k (applied o l r)) e v b

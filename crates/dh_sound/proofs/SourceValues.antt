@@ -20,7 +20,7 @@ use Rattle.dh_meaning.specs.AccessNumbers.{term_accesses, terms_accesses}
 use Rattle.dh_meaning.specs.Bindings.{kind_or_first, kind_found, binding_in, depth_bound}
 use Rattle.dh_meaning.specs.Core.{CoreTerm}
 use Rattle.dh_meaning.specs.CoreOf.{reach_of, way_of, Known, entity_number, depth_of, extended, extended_both, operation_of, core_term, core_form, core_terms}
-use Rattle.dh_meaning.specs.Effects.{Begun, Variables, value_of, values_of, spot_by_row, bits_at, kind_in}
+use Rattle.dh_meaning.specs.Effects.{Begun, Variables, value_of_term, values_of, spot_by_row, bits_at, kind_in}
 use Rattle.dh_meaning.specs.Paths.{Path}
 use Rattle.dh_sound.specs.Straight.{IsNamedTerm, AreNamedTerms}
 use Rattle.dh_meets.specs.SourceEvents.{Element, with_indices, in_row}
@@ -38,31 +38,31 @@ extended_value (kind.Unsigned n) w = word_of (kind.Unsigned n) (words.value_of w
 extended_value (kind.Signed n) w = word_of (kind.Signed n) (words.value_of w)
 
 module _ (b : Begun) where
-  extended_is : (v : Variables) (path : Path) (k : Kind) (t : CoreTerm) → value_of b v path (extended k t) ≡ extended_value k (value_of b v path t)
+  extended_is : (v : Variables) (path : Path) (k : Kind) (t : CoreTerm) → value_of_term b v path (extended k t) ≡ extended_value k (value_of_term b v path t)
   extended_is v path kind.Bool t = refl
   extended_is v path (kind.Unsigned n) t = refl
   extended_is v path (kind.Signed n) t = refl
 
   both_is : (v : Variables) (path : Path) (o : Op) (j k : Kind) (l r : CoreTerm)
-      → value_of b v path (extended_both o j k l r) ≡ binary_of o (extended_value (wider j k) (value_of b v path l)) (extended_value (wider j k) (value_of b v path r))
+      → value_of_term b v path (extended_both o j k l r) ≡ binary_of o (extended_value (wider j k) (value_of_term b v path l)) (extended_value (wider j k) (value_of_term b v path r))
   both_is v path o j k l r =
-      ap (λ x. binary_of o x (value_of b v path (extended (wider j k) r))) (extended_is v path (wider j k) l)
-      ∙ ap (λ x. binary_of o (extended_value (wider j k) (value_of b v path l)) x) (extended_is v path (wider j k) r)
+      ap (λ x. binary_of o x (value_of_term b v path (extended (wider j k) r))) (extended_is v path (wider j k) l)
+      ∙ ap (λ x. binary_of o (extended_value (wider j k) (value_of_term b v path l)) x) (extended_is v path (wider j k) r)
 
   -- operations of operands with equal values have equal values
-  both_same : (v w : Variables) (path other : Path) (o : Op) (j k : Kind) (l r m n : CoreTerm) → value_of b v path l ≡ value_of b w other m → value_of b v path r ≡ value_of b w other n
-      → value_of b v path (extended_both o j k l r) ≡ value_of b w other (extended_both o j k m n)
+  both_same : (v w : Variables) (path other : Path) (o : Op) (j k : Kind) (l r m n : CoreTerm) → value_of_term b v path l ≡ value_of_term b w other m → value_of_term b v path r ≡ value_of_term b w other n
+      → value_of_term b v path (extended_both o j k l r) ≡ value_of_term b w other (extended_both o j k m n)
   both_same v w path other o j k l r m n e f =
       both_is v path o j k l r
-      ∙ (ap (λ x. binary_of o (extended_value (wider j k) x) (extended_value (wider j k) (value_of b v path r))) e
-      ∙ (ap (λ x. binary_of o (extended_value (wider j k) (value_of b w other m)) (extended_value (wider j k) x)) f ∙ sym (both_is w other o j k m n)))
+      ∙ (ap (λ x. binary_of o (extended_value (wider j k) x) (extended_value (wider j k) (value_of_term b v path r))) e
+      ∙ (ap (λ x. binary_of o (extended_value (wider j k) (value_of_term b w other m)) (extended_value (wider j k) x)) f ∙ sym (both_is w other o j k m n)))
 
-  pub operation_same : (v w : Variables) (path other : Path) (o : Op) (j k : Kind) (l r m n : CoreTerm) → value_of b v path l ≡ value_of b w other m → value_of b v path r ≡ value_of b w other n
-      → value_of b v path (operation_of o j k l r) ≡ value_of b w other (operation_of o j k m n)
-  operation_same v w path other op.Shl j k l r m n e f = ap (λ x. binary_of op.Shl x (value_of b v path r)) e ∙ ap (λ x. binary_of op.Shl (value_of b w other m) x) f
-  operation_same v w path other op.Shr j k l r m n e f = ap (λ x. binary_of op.Shr x (value_of b v path r)) e ∙ ap (λ x. binary_of op.Shr (value_of b w other m) x) f
-  operation_same v w path other op.Both j k l r m n e f = ap (λ x. binary_of op.Both x (value_of b v path r)) e ∙ ap (λ x. binary_of op.Both (value_of b w other m) x) f
-  operation_same v w path other op.Either j k l r m n e f = ap (λ x. binary_of op.Either x (value_of b v path r)) e ∙ ap (λ x. binary_of op.Either (value_of b w other m) x) f
+  pub operation_same : (v w : Variables) (path other : Path) (o : Op) (j k : Kind) (l r m n : CoreTerm) → value_of_term b v path l ≡ value_of_term b w other m → value_of_term b v path r ≡ value_of_term b w other n
+      → value_of_term b v path (operation_of o j k l r) ≡ value_of_term b w other (operation_of o j k m n)
+  operation_same v w path other op.Shl j k l r m n e f = ap (λ x. binary_of op.Shl x (value_of_term b v path r)) e ∙ ap (λ x. binary_of op.Shl (value_of_term b w other m) x) f
+  operation_same v w path other op.Shr j k l r m n e f = ap (λ x. binary_of op.Shr x (value_of_term b v path r)) e ∙ ap (λ x. binary_of op.Shr (value_of_term b w other m) x) f
+  operation_same v w path other op.Both j k l r m n e f = ap (λ x. binary_of op.Both x (value_of_term b v path r)) e ∙ ap (λ x. binary_of op.Both (value_of_term b w other m) x) f
+  operation_same v w path other op.Either j k l r m n e f = ap (λ x. binary_of op.Either x (value_of_term b v path r)) e ∙ ap (λ x. binary_of op.Either (value_of_term b w other m) x) f
   operation_same v w path other op.Add j k l r m n e f = both_same v w path other op.Add j k l r m n e f
   operation_same v w path other op.Sub j k l r m n e f = both_same v w path other op.Sub j k l r m n e f
   operation_same v w path other op.Mul j k l r m n e f = both_same v w path other op.Mul j k l r m n e f
@@ -79,7 +79,7 @@ module _ (b : Begun) where
   -- Values by the expression alone, with numbers from 0.
   module _ (known : Known) where
     abbrev pub source_value : Variables → Path → Term → Word
-    source_value v path t = value_of b v path (core_term known 0 t)
+    source_value v path t = value_of_term b v path (core_term known 0 t)
 
     abbrev pub source_values : Variables → Path → Terms → List ℤ
     source_values v path ts = values_of b v path (core_terms known 0 ts)
@@ -105,12 +105,12 @@ module _ (b : Begun) where
 
     -- the value of an access by indices
     pub accessed_is : (v : Variables) (path : Path) (n : ℕ) (place : Place) (k : Option Kind) (r : Ref) (ts : Terms)
-        → value_of b v path (core_term known n (term place k (accessed r ts))) ≡ read_value r.entity (spot_named v path r.entity (values_of b v path (core_terms known n ts)))
+        → value_of_term b v path (core_term known n (term place k (accessed r ts))) ≡ read_value r.entity (spot_named v path r.entity (values_of b v path (core_terms known n ts)))
     accessed_is v path n place k r ts = ap (λ s. read_value r.entity s) (target_is b v path (reach_of known (n + terms_accesses ts) place r) (way_of known r) (core_terms known n ts))
 
     -- What holds of two readings of expressions: by variables, paths and numbers.
     mutual
-      pub numbers_aside : (v : Variables) (path : Path) (m n : ℕ) (t : Term) → value_of b v path (core_term known m t) ≡ value_of b v path (core_term known n t)
+      pub numbers_aside : (v : Variables) (path : Path) (m n : ℕ) (t : Term) → value_of_term b v path (core_term known m t) ≡ value_of_term b v path (core_term known n t)
       numbers_aside v path m n (term place k (number negative x)) = refl
       numbers_aside v path m n (term place k (truth_value x)) = refl
       numbers_aside v path m n (term place k (named r)) = refl
@@ -124,7 +124,7 @@ module _ (b : Begun) where
       all_numbers_aside v path m n no_terms = refl
       all_numbers_aside v path m n (term_then t ts) =
           ap (λ x. words.value_of x ∷ values_of b v path (core_terms known (m + term_accesses t) ts)) (numbers_aside v path m n t)
-          ∙ ap (λ zs. words.value_of (value_of b v path (core_term known n t)) ∷ zs) (all_numbers_aside v path (m + term_accesses t) (n + term_accesses t) ts)
+          ∙ ap (λ zs. words.value_of (value_of_term b v path (core_term known n t)) ∷ zs) (all_numbers_aside v path (m + term_accesses t) (n + term_accesses t) ts)
 
     -- a variable is set that an expression does not mention
     or_false : (x y : Bool) → (x || y) ≡ false → (x ≡ false) × (y ≡ false)
@@ -147,7 +147,7 @@ module _ (b : Begun) where
     named_same v w path entity (Some x) e is m h d = h x (take d path) m
 
     mutual
-      pub unmentioned : (v w : Variables) (path : Path) (entity n : ℕ) (t : Term) → AgreeBut entity v w → SameOffsets v w path → IsNamedTerm t → mentions (Some entity) t ≡ false → value_of b v path (core_term known n t) ≡ value_of b w path (core_term known n t)
+      pub unmentioned : (v w : Variables) (path : Path) (entity n : ℕ) (t : Term) → AgreeBut entity v w → SameOffsets v w path → IsNamedTerm t → mentions (Some entity) t ≡ false → value_of_term b v path (core_term known n t) ≡ value_of_term b w path (core_term known n t)
       unmentioned v w path entity n (term place k (number negative x)) a o h m = refl
       unmentioned v w path entity n (term place k (truth_value x)) a o h m = refl
       unmentioned v w path entity n (term place k (named r)) a o h m = ap (λ z. word_of (kind_or_first k) z) (named_same v w path entity r.entity h.0 h.1 m a (depth_of known r))
@@ -166,7 +166,7 @@ module _ (b : Begun) where
       all_unmentioned v w path entity n (term_then t ts) a o h m =
           let e = or_false (mentions (Some entity) t) (terms_mention (Some entity) ts) m in
           ap (λ x. words.value_of x ∷ values_of b v path (core_terms known (n + term_accesses t) ts)) (unmentioned v w path entity n t a o h.0 e.0)
-          ∙ ap (λ zs. words.value_of (value_of b w path (core_term known n t)) ∷ zs) (all_unmentioned v w path entity (n + term_accesses t) ts a o h.1 e.1)
+          ∙ ap (λ zs. words.value_of (value_of_term b w path (core_term known n t)) ∷ zs) (all_unmentioned v w path entity (n + term_accesses t) ts a o h.1 e.1)
 
     -- the names in an access's indices
     abbrev pub IsNamedElement : Element → Type 0
@@ -247,18 +247,18 @@ module _ (b : Begun) where
     found_is (term p j f) (term q k g) e = ap kind_or_first (maybe_kind_is j k (both_so (same_maybe_kind j k) (alike_forms f g) e).0)
 
     mutual
-      pub alike_value : (v : Variables) (path : Path) (n : ℕ) (s t : Term) → alike s t ≡ true → value_of b v path (core_term known n s) ≡ value_of b v path (core_term known n t)
+      pub alike_value : (v : Variables) (path : Path) (n : ℕ) (s t : Term) → alike s t ≡ true → value_of_term b v path (core_term known n s) ≡ value_of_term b v path (core_term known n t)
       alike_value v path n (term p j f) (term q k g) e =
           let h = both_so (same_maybe_kind j k) (alike_forms f g) e in
           alike_form_value v path n p q (kind_or_first j) (kind_or_first k) f g (ap kind_or_first (maybe_kind_is j k h.0)) h.1
 
-      alike_form_value : (v : Variables) (path : Path) (n : ℕ) (p q : Place) (j k : Kind) (f g : TermForm) → j ≡ k → alike_forms f g ≡ true → value_of b v path (core_form known n p j f) ≡ value_of b v path (core_form known n q k g)
+      alike_form_value : (v : Variables) (path : Path) (n : ℕ) (p q : Place) (j k : Kind) (f g : TermForm) → j ≡ k → alike_forms f g ≡ true → value_of_term b v path (core_form known n p j f) ≡ value_of_term b v path (core_form known n q k g)
       alike_form_value v path n p q j k (number s x) (number t y) e h =
           let a = both_so (same_truth s t) (nat_eq x y) h in
           let c = truth_is s t a.0 in let d = number_is x y a.1 in cc
       alike_form_value v path n p q j k (truth_value x) (truth_value y) e h = let c = truth_is x y h in cc
       alike_form_value v path n p q j k (named r) (named s) e h = let c = entity_is r.entity s.entity h in
-          subst (λ (kk : Kind). value_of b v path (core_form known n p j (named r)) ≡ word_of kk (v (entity_number s.entity) (take (depth_of known s) path))) e (ap (λ o. word_of j (v (entity_number o) (take (depth_bound (binding_in known.bindings (entity_number o))) path))) c)
+          subst (λ (kk : Kind). value_of_term b v path (core_form known n p j (named r)) ≡ word_of kk (v (entity_number s.entity) (take (depth_of known s) path))) e (ap (λ o. word_of j (v (entity_number o) (take (depth_bound (binding_in known.bindings (entity_number o))) path))) c)
       alike_form_value v path n p q j k (accessed r ts) (accessed s us) e h =
           let a = both_so (same_entity r.entity s.entity) (all_alike ts us) h in
           accessed_is v path n p (Some j) r ts
@@ -267,20 +267,20 @@ module _ (b : Begun) where
       alike_form_value v path n p q j k (in_bank r x at t) (in_bank s y other u) e h =
           let a = both_so (same_entity r.entity s.entity) (nat_eq x y && alike t u) h in
           let c = both_so (nat_eq x y) (alike t u) a.1 in
-          ap (λ o. read_value o (spot_by_row b.table (memory_at o) x (words.value_of (value_of b v path (core_term known n t))))) (entity_is r.entity s.entity a.0)
-          ∙ (ap (λ z. read_value s.entity (spot_by_row b.table (memory_at s.entity) z (words.value_of (value_of b v path (core_term known n t))))) (number_is x y c.0)
+          ap (λ o. read_value o (spot_by_row b.table (memory_at o) x (words.value_of (value_of_term b v path (core_term known n t))))) (entity_is r.entity s.entity a.0)
+          ∙ (ap (λ z. read_value s.entity (spot_by_row b.table (memory_at s.entity) z (words.value_of (value_of_term b v path (core_term known n t))))) (number_is x y c.0)
           ∙ ap (λ z. read_value s.entity (spot_by_row b.table (memory_at s.entity) y (words.value_of z))) (alike_value v path n t u c.1))
       alike_form_value v path n p q j k (applied o l r) (applied x m s) e h =
           let a = both_so (nat_eq (number_of_op o) (number_of_op x)) (alike l m && alike r s) h in
           let c = both_so (alike l m) (alike r s) a.1 in
           operation_same v v path path o (kind_found l) (kind_found r) (core_term known n l) (core_term known (n + term_accesses l) r) (core_term known n m) (core_term known (n + term_accesses m) s)
           (alike_value v path n l m c.0) (numbers_aside v path (n + term_accesses l) (n + term_accesses m) r ∙ alike_value v path (n + term_accesses m) r s c.1)
-          ∙ (ap (λ z. value_of b v path (operation_of z (kind_found l) (kind_found r) (core_term known n m) (core_term known (n + term_accesses m) s))) (op_is o x a.0)
-          ∙ (ap (λ z. value_of b v path (operation_of x z (kind_found r) (core_term known n m) (core_term known (n + term_accesses m) s))) (found_is l m c.0)
-          ∙ ap (λ z. value_of b v path (operation_of x (kind_found m) z (core_term known n m) (core_term known (n + term_accesses m) s))) (found_is r s c.1)))
+          ∙ (ap (λ z. value_of_term b v path (operation_of z (kind_found l) (kind_found r) (core_term known n m) (core_term known (n + term_accesses m) s))) (op_is o x a.0)
+          ∙ (ap (λ z. value_of_term b v path (operation_of x z (kind_found r) (core_term known n m) (core_term known (n + term_accesses m) s))) (found_is l m c.0)
+          ∙ ap (λ z. value_of_term b v path (operation_of x (kind_found m) z (core_term known n m) (core_term known (n + term_accesses m) s))) (found_is r s c.1)))
       alike_form_value v path n p q j k (converted t x) (converted u y) e h =
           let a = both_so (same_kind x y) (alike t u) h in
-          ap (λ z. word_of z (words.value_of (value_of b v path (core_term known n t)))) (kind_is x y a.0) ∙ ap (λ z. word_of y (words.value_of z)) (alike_value v path n t u a.1)
+          ap (λ z. word_of z (words.value_of (value_of_term b v path (core_term known n t)))) (kind_is x y a.0) ∙ ap (λ z. word_of y (words.value_of z)) (alike_value v path n t u a.1)
       alike_form_value v path n p q j k (number s x) (truth_value y) e h = cc
       alike_form_value v path n p q j k (number s x) (named r) e h = cc
       alike_form_value v path n p q j k (number s x) (accessed r ts) e h = cc
@@ -331,7 +331,7 @@ module _ (b : Begun) where
       all_alike_values v path n (term_then t ts) (term_then u us) e =
           let a = both_so (alike t u) (all_alike ts us) e in
           ap (λ x. words.value_of x ∷ values_of b v path (core_terms known (n + term_accesses t) ts)) (alike_value v path n t u a.0)
-          ∙ (ap (λ zs. words.value_of (value_of b v path (core_term known n u)) ∷ zs) (all_numbers_aside v path (n + term_accesses t) (n + term_accesses u) ts ∙ all_alike_values v path (n + term_accesses u) ts us a.1))
+          ∙ (ap (λ zs. words.value_of (value_of_term b v path (core_term known n u)) ∷ zs) (all_numbers_aside v path (n + term_accesses t) (n + term_accesses u) ts ∙ all_alike_values v path (n + term_accesses u) ts us a.1))
 
     pub spot_alike : (v : Variables) (path : Path) (of other : Option ℕ) (e f : Element) → same_entity of other ≡ true → alike_elements e f ≡ true → source_spot v path of e ≡ source_spot v path other f
     spot_alike v path of other (with_indices ts) (with_indices us) s a =

@@ -14,7 +14,7 @@ use Rattle.dh_meaning.specs.Bindings.{kind_found}
 use Rattle.dh_meaning.specs.Core.{CoreTerm, CoreTerms, CoreCommand, choose, keep, CoreCommands, no_commands, command_and}
 use Rattle.dh_meaning.specs.CoreOf.{Known, known_of, entity_number, depth_of, assigned, first_value, core_term, core_terms, store_to, folded_into, core_action, core_action_form, core_other, core_part, core_groups}
 use Rattle.dh_meaning.specs.CoreOf as meaning
-use Rattle.dh_meaning.specs.Effects.{Begun, Variables, set_from, values_of, set_variable, Event, write_made, value_of, term_events, kept_bits, spot_by_row, holds_at}
+use Rattle.dh_meaning.specs.Effects.{Begun, Variables, set_from, values_of, set_variable, Event, write_made, value_of_term, term_events, kept_bits, spot_by_row, holds_at}
 use Rattle.dh_meaning.specs.Levels.{assigns_to, any_assigns}
 use Rattle.dh_meaning.specs.OnePhase.{in_one_phase, is_between, makes, form_makes, other_makes, groups_make, part_makes}
 use Rattle.dh_meaning.specs.Paths.{Path, same_path}
@@ -250,13 +250,13 @@ module _ (p : Program) (b : Begun) (path : Path) (in_block : ℕ → Bool)
   }
     where
       w : Variables
-      w = set_variable v (entity_number x.entity) (take (depth_of known x) path) (words.value_of (value_of b v path value))
+      w = set_variable v (entity_number x.entity) (take (depth_of known x) path) (words.value_of (value_of_term b v path value))
 
       near : IsNear p b known path in_block share v0 touched w
       near = set_near v (entity_number x.entity) _ _ (t (entity_number x.entity) (or_left (nat_eq (entity_number x.entity) (entity_number x.entity)) _ (nat_eq_equiv.refl (entity_number x.entity)))) s.near
 
       agree : AgreeBut b known entity v w
-      agree = subst (λ (n : ℕ). AgreeBut b known n v w) (ap entity_number is) (set_agrees v (entity_number x.entity) (take (depth_of known x) path) (words.value_of (value_of b v path value)))
+      agree = subst (λ (n : ℕ). AgreeBut b known n v w) (ap entity_number is) (set_agrees v (entity_number x.entity) (take (depth_of known x) path) (words.value_of (value_of_term b v path value)))
 
   -- Straight commands.
 
@@ -303,21 +303,21 @@ module _ (p : Program) (b : Begun) (path : Path) (in_block : ℕ → Bool)
 
   -- the write of a store
   pub write_steps : (r : Around) (m : ℕ) (before : List SourceEvent) (v : Variables) (es : List Event) (n n2 : ℕ) (target value : Term) → IsTarget target → IsNamedTerm value → n2 ≡ n + term_accesses value
-      → Begins r before (source.term_events (site_of r m) value ++ write_events (site_of r m) target) v es n
-      → Steps r before (source.term_events (site_of r m) value ++ write_events (site_of r m) target) v v es (made_by b path (store_to known n2 target (core_term known n value)) v)
+      → Begins r before (source.source_term_events (site_of r m) value ++ write_events (site_of r m) target) v es n
+      → Steps r before (source.source_term_events (site_of r m) value ++ write_events (site_of r m) target) v v es (made_by b path (store_to known n2 target (core_term known n value)) v)
   write_steps r m before v es n n2 (term at k (accessed x ts)) value t nv e s =
       let w = walk_term p b known path in_block share v0 touched r m before v es n value nv (first_starts p b known path in_block share v0 touched r before _ (write_events (site_of r m) (term at k (accessed x ts))) v es n s) in
       let s2 = then_starts p b known path in_block share v0 touched r before _ (write_events (site_of r m) (term at k (accessed x ts))) v v es _ n n2 s (e ∙ ap (λ c. n + c) (sym (term_counted (site_of r m) value))) w in
       let w2 = walk_terms p b known path in_block share v0 touched r m _ v _ n2 ts t (first_starts p b known path in_block share v0 touched r _ _ (one_access at x.entity (with_indices ts) true (site_of r m)) v _ n2 s2) in
       let s3 = then_starts p b known path in_block share v0 touched r _ _ (one_access at x.entity (with_indices ts) true (site_of r m)) v v _ _ n2 (n2 + terms_accesses ts) s2 (ap (λ c. n2 + c) (sym (terms_counted (site_of r m) ts))) w2 in
       let reach = reach_of known (n2 + terms_accesses ts) at x in
-      let last = write_made reach path (kept_bits b.table reach.memory (value_of b v path (core_term known n value))) (spot_reached b v path reach (target_to (way_of known x) (core_terms known n2 ts))) in
-      subst (λ (l : List Event). Steps r before (source.term_events (site_of r m) value ++ write_events (site_of r m) (term at k (accessed x ts))) v v es (term_events b v path (core_term known n value) ++ (l ++ last ∷ [])))
+      let last = write_made reach path (kept_bits b.table reach.memory (value_of_term b v path (core_term known n value))) (spot_reached b v path reach (target_to (way_of known x) (core_terms known n2 ts))) in
+      subst (λ (l : List Event). Steps r before (source.source_term_events (site_of r m) value ++ write_events (site_of r m) (term at k (accessed x ts))) v v es (term_events b v path (core_term known n value) ++ (l ++ last ∷ [])))
       (sym (target_makes b v path (way_of known x) (core_terms known n2 ts)))
       (walk_then p b known path in_block share v0 touched r before _ _ v v v es _ _ w
       (walk_then p b known path in_block share v0 touched r _ _ _ v v v _ (terms_events b v path (core_terms known n2 ts)) (last ∷ []) w2
       (read_here p b known path in_block share v0 touched r m _ v _ (n2 + terms_accesses ts) at x.entity (with_indices ts) true _ t
-      (as_write refl _ (ap (λ s. write_made (record { number = n2 + terms_accesses ts; place = at; memory = memory_at b known x.entity }) path (kept_bits b.table (memory_at b known x.entity) (value_of b v path (core_term known n value))) s) (target_is b v path (reach_of known (n2 + terms_accesses ts) at x) (way_of known x) (core_terms known n2 ts) ∙ ap (λ zs. spot_named b known v path x.entity zs) (all_numbers_aside b known v path n2 0 ts))))
+      (as_write refl _ (ap (λ s. write_made (record { number = n2 + terms_accesses ts; place = at; memory = memory_at b known x.entity }) path (kept_bits b.table (memory_at b known x.entity) (value_of_term b v path (core_term known n value))) s) (target_is b v path (reach_of known (n2 + terms_accesses ts) at x) (way_of known x) (core_terms known n2 ts) ∙ ap (λ zs. spot_named b known v path x.entity zs) (all_numbers_aside b known v path n2 0 ts))))
       s3)))
   write_steps r m before v es n n2 (term at k (in_bank x bank bp t)) value tn nv e s =
       let w = walk_term p b known path in_block share v0 touched r m before v es n value nv (first_starts p b known path in_block share v0 touched r before _ (write_events (site_of r m) (term at k (in_bank x bank bp t))) v es n s) in
@@ -327,7 +327,7 @@ module _ (p : Program) (b : Begun) (path : Path) (in_block : ℕ → Bool)
       walk_then p b known path in_block share v0 touched r before _ _ v v v es _ _ w
       (walk_then p b known path in_block share v0 touched r _ _ _ v v v _ _ _ w2
       (read_here p b known path in_block share v0 touched r m _ v _ (n2 + term_accesses t) at x.entity (in_row bank t) true _ tn
-      (as_write refl _ (ap (λ z. write_made (record { number = n2 + term_accesses t; place = at; memory = memory_at b known x.entity }) path (kept_bits b.table (memory_at b known x.entity) (value_of b v path (core_term known n value))) (spot_by_row b.table (memory_at b known x.entity) bank (words.value_of z))) (numbers_aside b known v path n2 0 t)))
+      (as_write refl _ (ap (λ z. write_made (record { number = n2 + term_accesses t; place = at; memory = memory_at b known x.entity }) path (kept_bits b.table (memory_at b known x.entity) (value_of_term b v path (core_term known n value))) (spot_by_row b.table (memory_at b known x.entity) bank (words.value_of z))) (numbers_aside b known v path n2 0 t)))
       s3))
   write_steps r m before v es n n2 (term at k (number negative x)) value t nv e s = elim t [ ]
   write_steps r m before v es n n2 (term at k (truth_value x)) value t nv e s = elim t [ ]
@@ -394,9 +394,9 @@ module _ (p : Program) (b : Begun) (path : Path) (in_block : ℕ → Bool)
       done_nothing r before part v es rest (walk_passed r before part v es n (idle_passed r n part (λ k l u. a k (l, omega (arith, u, e)))) s) t
 
   value_start : (r : Around) (m : ℕ) (before : List SourceEvent) (v : Variables) (es : List Event) (n : ℕ) (t : Term) (two : List SourceEvent) (c : ℕ) → Agrees n c (λ k. is_between k n (term_accesses t)) → term_accesses t ≤ c
-      → Along r before (source.term_events (site_of r m) t ++ two) v es n → Begins r before (source.term_events (site_of r m) t) v es n
+      → Along r before (source.source_term_events (site_of r m) t ++ two) v es n → Begins r before (source.source_term_events (site_of r m) t) v es n
   value_start r m before v es n t two c a l s =
-      starts_so r before (source.term_events (site_of r m) t) v es n (λ k x y. own_inside n (term_accesses t) c a l k x (let d = term_counted (site_of r m) t in omega (arith, y, d))) (along_first r before (source.term_events (site_of r m) t) two v es n s)
+      starts_so r before (source.source_term_events (site_of r m) t) v es n (λ k x y. own_inside n (term_accesses t) c a l k x (let d = term_counted (site_of r m) t in omega (arith, y, d))) (along_first r before (source.source_term_events (site_of r m) t) two v es n s)
 
   -- a view keeps its offsets in variables behind all that is known
   abbrev HeadIs : (x : ℕ) → List Hidden → List Term → Type 0
@@ -432,14 +432,14 @@ module _ (p : Program) (b : Begun) (path : Path) (in_block : ℕ → Bool)
 
   walk_kept : (r : Around) (m d x e : ℕ) (before : List SourceEvent) (v : Variables) (es : List Event) (n : ℕ) (hs : List Hidden) (ts : List Term) (rest : CoreCommands)
       → HeadIs x hs ts → TermsBehind p x (terms ts) → KeepsInside known e hs (length ts) → AreNamedTerms (terms ts) → IsBehind p x before
-      → Touches (kept_by hs (core_terms known n (terms ts)) rest) → Begins r before (source.terms_events (site_of r m) (terms ts)) v es n
-      → Done r before (source.terms_events (site_of r m) (terms ts)) v es (kept_by hs (core_terms known n (terms ts)) rest) rest
+      → Touches (kept_by hs (core_terms known n (terms ts)) rest) → Begins r before (source.source_terms_events (site_of r m) (terms ts)) v es n
+      → Done r before (source.source_terms_events (site_of r m) (terms ts)) v es (kept_by hs (core_terms known n (terms ts)) rest) rest
   walk_kept r m d x e before v es n hs [] rest first hb ins nv seen t s = done_nothing r before [] v es rest (walk_none p b known path in_block share v0 touched r before v es s.near s.knows) t
   walk_kept r m d x e before v es n [] (u ∷ ts) rest first hb ins nv seen t s = elim ins [ ]
   walk_kept r m d x e before v es n (h ∷ hs) (u ∷ ts) rest first hb ins nv seen t s =
       let all = terms (u ∷ ts) in
       let vs = core_terms known n all in
-      let part = source.terms_events (site_of r m) all in
+      let part = source.source_terms_events (site_of r m) all in
       let walk = walk_terms p b known path in_block share v0 touched r m before v es n all nv s in
       let behind : IsBehind p x (before ++ part) = behind_then p x x before part (omega arith) seen (terms_seen p x (site_of r m) all hb) in
       let zs = values_of b v path vs in
@@ -535,7 +535,7 @@ module _ (p : Program) (b : Begun) (path : Path) (in_block : ℕ → Bool)
       → Done (in_arm r m false) before' (other_events (in_arm r m false) other) v' es' (core_other known n' other) no_commands)
       → Done r before (command_events r (site_of r m) (decides test chosen other)) v es (core_action_form known n (decides test chosen other) rest) rest
   walk_choice r m d x before v es n test chosen other rest h nv a hb below fresh seen t s first second =
-      let te = source.term_events (site_of r m) test in
+      let te = source.source_term_events (site_of r m) test in
       let ce = events (in_arm r m true) chosen in
       let oe = other_events (in_arm r m false) other in
       let n1 = n + term_accesses test in
@@ -582,13 +582,13 @@ module _ (p : Program) (b : Begun) (path : Path) (in_block : ℕ → Bool)
     walk_form r m d x e before v es n (stores target value) rest hb ins h nv a below fresh seen t s =
         command_done r before _ v es (store_to known (n + term_accesses value) target (core_term known n value)) rest (store_left (n + term_accesses value) target (core_term known n value) v nv.0) t
         (write_steps r m before v es n (n + term_accesses value) target value nv.0 nv.1 refl
-        (starts_so r before (source.term_events (site_of r m) value ++ write_events (site_of r m) target) v es n
+        (starts_so r before (source.source_term_events (site_of r m) value ++ write_events (site_of r m) target) v es n
         (λ k l u. own_inside n (term_accesses value + term_accesses target) (term_accesses value + term_accesses target + 0) a (omega arith) k l
         (let c = form_counted r (site_of r m) m (stores target value) nv refl in omega (arith, u, c))) s))
     walk_form r m d x e before v es n (lets_memory name shape shape_places value) rest hb ins h nv a below fresh seen t s = done_nothing r before [] v es rest (walk_none p b known path in_block share v0 touched r before v es s.near s.knows) t
     walk_form r m d x e before v es n (views name parent form) rest hb ins h nv a below fresh seen t s =
         walk_kept r m d x e before v es n (hidden_in (way_of known name)) (offsets_of form) rest (head_is d x name.entity form hb.0) hb.1 ins nv seen t
-        (starts_so r before (source.terms_events (site_of r m) (terms (offsets_of form))) v es n
+        (starts_so r before (source.source_terms_events (site_of r m) (terms (offsets_of form))) v es n
         (λ k l u. own_inside n (terms_accesses (terms (offsets_of form))) (terms_accesses (terms (offsets_of form)) + 0) a (omega arith) k l
         (let c = terms_counted (site_of r m) (terms (offsets_of form)) in omega (arith, u, c))) s)
     walk_form r m d x e before v es n (calls function arguments) rest hb ins h nv a below fresh seen t s = done_nothing r before [] v es rest (walk_none p b known path in_block share v0 touched r before v es s.near s.knows) t

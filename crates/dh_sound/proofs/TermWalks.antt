@@ -36,18 +36,18 @@ use Rattle.dh_meaning.specs.Effects.{spot_reached}
 
 -- How many accesses the trace has for an expression.
 mutual
-  pub term_counted : (site : Site) (t : Term) → count (source.term_events site t) ≡ term_accesses t
+  pub term_counted : (site : Site) (t : Term) → count (source.source_term_events site t) ≡ term_accesses t
   term_counted site (term place k (number negative x)) = refl
   term_counted site (term place k (truth_value x)) = refl
   term_counted site (term place k (named r)) = refl
-  term_counted site (term place k (accessed r ts)) = let c = count_joined (source.terms_events site ts) (one_access place r.entity (with_indices ts) false site) in let h = terms_counted site ts in omega (arith, c, h)
-  term_counted site (term place k (in_bank r bank at t)) = let c = count_joined (source.term_events site t) (one_access place r.entity (in_row bank t) false site) in let h = term_counted site t in omega (arith, c, h)
-  term_counted site (term place k (applied o l r)) = count_joined (source.term_events site l) (source.term_events site r) ∙ (ap (λ n. n + count (source.term_events site r)) (term_counted site l) ∙ ap (λ n. term_accesses l + n) (term_counted site r))
+  term_counted site (term place k (accessed r ts)) = let c = count_joined (source.source_terms_events site ts) (one_access place r.entity (with_indices ts) false site) in let h = terms_counted site ts in omega (arith, c, h)
+  term_counted site (term place k (in_bank r bank at t)) = let c = count_joined (source.source_term_events site t) (one_access place r.entity (in_row bank t) false site) in let h = term_counted site t in omega (arith, c, h)
+  term_counted site (term place k (applied o l r)) = count_joined (source.source_term_events site l) (source.source_term_events site r) ∙ (ap (λ n. n + count (source.source_term_events site r)) (term_counted site l) ∙ ap (λ n. term_accesses l + n) (term_counted site r))
   term_counted site (term place k (converted t to)) = term_counted site t
 
-  pub terms_counted : (site : Site) (ts : Terms) → count (source.terms_events site ts) ≡ terms_accesses ts
+  pub terms_counted : (site : Site) (ts : Terms) → count (source.source_terms_events site ts) ≡ terms_accesses ts
   terms_counted site no_terms = refl
-  terms_counted site (term_then t ts) = count_joined (source.term_events site t) (source.terms_events site ts) ∙ (ap (λ n. n + count (source.terms_events site ts)) (term_counted site t) ∙ ap (λ n. term_accesses t + n) (terms_counted site ts))
+  terms_counted site (term_then t ts) = count_joined (source.source_term_events site t) (source.source_terms_events site ts) ∙ (ap (λ n. n + count (source.source_terms_events site ts)) (term_counted site t) ∙ ap (λ n. term_accesses t + n) (terms_counted site ts))
 
 -- the access at a place of the trace
 pub listed_at : (es before after : List SourceEvent) (a : SourceAccess) → es ≡ before ++ accesses a ∷ after → slice_get (accesses_in es) (count before) ≡ Some a
@@ -262,8 +262,8 @@ module _ (p : Program) (b : Begun) (known : Known) (path : Path) (in_block : ℕ
       (subst (λ (k : ℕ). IsMadeOf (record { place = place; entity = entity; element = e; writes = writes; site = site_of r id }) k v ev) s.number made) s.knows
 
   mutual
-    pub walk_term : (r : Around) (id : ℕ) (before : List SourceEvent) (v : Variables) (es : List Event) (n : ℕ) (t : Term) → IsNamedTerm t → Starts r before (source.term_events (site_of r id) t) v es n
-        → Walk r before (source.term_events (site_of r id) t) v v es (term_events b v path (core_term known n t))
+    pub walk_term : (r : Around) (id : ℕ) (before : List SourceEvent) (v : Variables) (es : List Event) (n : ℕ) (t : Term) → IsNamedTerm t → Starts r before (source.source_term_events (site_of r id) t) v es n
+        → Walk r before (source.source_term_events (site_of r id) t) v v es (term_events b v path (core_term known n t))
     walk_term r id before v es n (term place k (number negative x)) names s = walk_none r before v es s.near s.knows
     walk_term r id before v es n (term place k (truth_value x)) names s = walk_none r before v es s.near s.knows
     walk_term r id before v es n (term place k (named x)) names s = walk_none r before v es s.near s.knows
@@ -271,7 +271,7 @@ module _ (p : Program) (b : Begun) (known : Known) (path : Path) (in_block : ℕ
         let w = walk_terms r id before v es n ts names (first_starts r before _ (one_access place x.entity (with_indices ts) false (site_of r id)) v es n s) in
         let to = target_to (way_of known x) (core_terms known n ts) in
         let reach = reach_of known (n + terms_accesses ts) place x in
-        subst (λ (l : List Event). Walk r before (source.term_events (site_of r id) (term place k (accessed x ts))) v v es (l ++ read_made reach path (spot_reached b v path reach to) ∷ []))
+        subst (λ (l : List Event). Walk r before (source.source_term_events (site_of r id) (term place k (accessed x ts))) v v es (l ++ read_made reach path (spot_reached b v path reach to) ∷ []))
         (sym (target_makes b v path (way_of known x) (core_terms known n ts)))
         (walk_then r before _ _ v v v es (terms_events b v path (core_terms known n ts)) (read_made reach path (spot_reached b v path reach to) ∷ []) w
         (read_here r id _ v _ (n + terms_accesses ts) place x.entity (with_indices ts) false _ names
@@ -284,17 +284,17 @@ module _ (p : Program) (b : Begun) (known : Known) (path : Path) (in_block : ℕ
         (as_read refl (ap (λ z. read_made (record { number = n + term_accesses t; place = place; memory = memory_at b known x.entity }) path (spot_by_row b.table (memory_at b known x.entity) bank (words.value_of z))) (numbers_aside b known v path n 0 t)))
         (then_starts r before _ (one_access place x.entity (in_row bank t) false (site_of r id)) v v es _ n _ s (ap (λ c. n + c) (sym (term_counted (site_of r id) t))) w))
     walk_term r id before v es n (term place k (applied o l m)) names s =
-        let w = walk_term r id before v es n l names.0 (first_starts r before _ (source.term_events (site_of r id) m) v es n s) in
-        subst (λ (fs : List Event). Walk r before (source.term_events (site_of r id) (term place k (applied o l m))) v v es fs)
+        let w = walk_term r id before v es n l names.0 (first_starts r before _ (source.source_term_events (site_of r id) m) v es n s) in
+        subst (λ (fs : List Event). Walk r before (source.source_term_events (site_of r id) (term place k (applied o l m))) v v es fs)
         (sym (operation_events v o (kind_found l) (kind_found m) (core_term known n l) (core_term known (n + term_accesses l) m)))
         (walk_then r before _ _ v v v es _ _ w
-        (walk_term r id _ v _ (n + term_accesses l) m names.1 (then_starts r before _ (source.term_events (site_of r id) m) v v es _ n _ s (ap (λ c. n + c) (sym (term_counted (site_of r id) l))) w)))
+        (walk_term r id _ v _ (n + term_accesses l) m names.1 (then_starts r before _ (source.source_term_events (site_of r id) m) v v es _ n _ s (ap (λ c. n + c) (sym (term_counted (site_of r id) l))) w)))
     walk_term r id before v es n (term place k (converted t to)) names s = walk_term r id before v es n t names s
 
-    pub walk_terms : (r : Around) (id : ℕ) (before : List SourceEvent) (v : Variables) (es : List Event) (n : ℕ) (ts : Terms) → AreNamedTerms ts → Starts r before (source.terms_events (site_of r id) ts) v es n
-        → Walk r before (source.terms_events (site_of r id) ts) v v es (terms_events b v path (core_terms known n ts))
+    pub walk_terms : (r : Around) (id : ℕ) (before : List SourceEvent) (v : Variables) (es : List Event) (n : ℕ) (ts : Terms) → AreNamedTerms ts → Starts r before (source.source_terms_events (site_of r id) ts) v es n
+        → Walk r before (source.source_terms_events (site_of r id) ts) v v es (terms_events b v path (core_terms known n ts))
     walk_terms r id before v es n no_terms names s = walk_none r before v es s.near s.knows
     walk_terms r id before v es n (term_then t ts) names s =
-        let w = walk_term r id before v es n t names.0 (first_starts r before _ (source.terms_events (site_of r id) ts) v es n s) in
+        let w = walk_term r id before v es n t names.0 (first_starts r before _ (source.source_terms_events (site_of r id) ts) v es n s) in
         walk_then r before _ _ v v v es _ _ w
-        (walk_terms r id _ v _ (n + term_accesses t) ts names.1 (then_starts r before _ (source.terms_events (site_of r id) ts) v v es _ n _ s (ap (λ c. n + c) (sym (term_counted (site_of r id) t))) w))
+        (walk_terms r id _ v _ (n + term_accesses t) ts names.1 (then_starts r before _ (source.source_terms_events (site_of r id) ts) v v es _ n _ s (ap (λ c. n + c) (sym (term_counted (site_of r id) t))) w))

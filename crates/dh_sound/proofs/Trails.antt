@@ -10,7 +10,7 @@ use Rattle.dh_tree.specs.PlainTrees.{shrinks, splits, suffixes, shifts, Action, 
 use Rattle.dh_meaning.specs.AccessNumbers.{term_accesses, accesses_of, part_accesses}
 use Rattle.dh_meaning.specs.Phases.{Located, located, Phase, straight, turns, repeated, decided, Phases, no_phases, phase, of_list, one_straight, joined, are_straight, one_command, folded, turn_phases, choice_phases, phases, form_phases, other_phases, groups_phases, parts_phases, phases_of}
 use Rattle.dh_meaning.specs.Sites.{Arm, Around, nothing_around, in_arm, in_loop, loop_of}
-use Rattle.dh_meets.specs.SourceEvents.{SourceEvent, assigned, site_of, term_events, events, command_events, other_events, groups_events, part_events, trace}
+use Rattle.dh_meets.specs.SourceEvents.{SourceEvent, assigned, site_of, source_term_events, events, command_events, other_events, groups_events, part_events, trace}
 use Rattle.dh_sound.specs.Straight.{IsNamedAction, IsNamedForm, IsNamedOther, AreNamedGroups, AreNamedActions}
 use Rattle.dh_sound.proofs.KnownReads.{count_joined}
 use Rattle.dh_sound.proofs.Makes.{action_counted, part_counted}
@@ -355,7 +355,7 @@ module _ (p : Program) where
     form_tops r m n d x before place (blocks body) h nv hb s seen =
         groups_tops r (suc m) n d x before body h nv hb (record { first = s.first; arms = below_up m (suc m) r.arms (omega arith) s.arms; fresh = all_up m (suc m) before (omega arith) s.fresh }) seen
     form_tops r m n d x before place (decides test chosen other) h nv hb s seen =
-        let te = term_events (site_of r m) test in
+        let te = source_term_events (site_of r m) test in
         let st = sited_then r m (suc m) n (term_accesses test) before te s (omega arith) (term_counted (site_of r m) test) (stands_below r (suc m) (suc m) te (below_up m (suc m) r.arms (omega arith) s.arms) (term_stands r m (suc m) (suc m) test)) in
         let so = sited_then (in_arm r m true) (suc m) (suc m + commands_in chosen) (n + term_accesses test) (accesses_of chosen) (before ++ te) (events (in_arm r m true) chosen)
         (sited_arm r m (suc m) (n + term_accesses test) true (before ++ te) (omega arith) s.arms st) (omega arith) (action_counted (in_arm r m true) chosen nv.1.0)
@@ -368,7 +368,7 @@ module _ (p : Program) where
         (record { first = so.first; arms = arm_up m (suc m + commands_in chosen) r.arms false (omega arith) s.arms; fresh = so.fresh })
         (behind_action p d x (in_arm r m true) (before ++ te) chosen tested hb.1.0))
     form_tops r m n d x before place (repeats test body) h nv hb s seen =
-        let te = term_events (site_of r m) test in
+        let te = source_term_events (site_of r m) test in
         let st = sited_then r m (suc m) n (term_accesses test) before te s (omega arith) (term_counted (site_of r m) test) (stands_below r (suc m) (suc m) te (below_up m (suc m) r.arms (omega arith) s.arms) (term_stands r m (suc m) (suc m) test)) in (
           (
             (r, alone r m n d x before (action m place (repeats test body)) (refl, h) nv hb s seen),

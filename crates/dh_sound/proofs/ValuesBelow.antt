@@ -11,7 +11,7 @@ use Rattle.dh_tree.specs.PlainTrees.{Term, term, number, truth_value, named, acc
 use Rattle.dh_meaning.specs.AccessNumbers.{term_accesses}
 use Rattle.dh_meaning.specs.Bindings.{kind_found, kind_or_first}
 use Rattle.dh_meaning.specs.CoreOf.{core_term, core_terms, depth_of, entity_number, known_of}
-use Rattle.dh_meaning.specs.Effects.{Begun, Variables, set_from, spot_by_row, value_of, values_of}
+use Rattle.dh_meaning.specs.Effects.{Begun, Variables, set_from, spot_by_row, value_of_term, values_of}
 use Rattle.dh_meaning.specs.Paths.{Path}
 use Rattle.dh_meaning.specs.Ways.{Hidden, hidden_in, way_to}
 use Rattle.dh_meets.specs.SourceEvents.{Element, with_indices, in_row}
@@ -52,7 +52,7 @@ module _ (p : Program) (b : Begun) where
     spot_below entity below zs = ap (λ os. spot_to b.table (memory_at b (known_of p) entity) (way_to p entity) zs os) (offsets_below entity below)
 
     mutual
-      pub value_behind : (n : ℕ) (t : Term) → TermBehind p x t → value_of b v path (core_term (known_of p) n t) ≡ value_of b w path (core_term (known_of p) n t)
+      pub value_behind : (n : ℕ) (t : Term) → TermBehind p x t → value_of_term b v path (core_term (known_of p) n t) ≡ value_of_term b w path (core_term (known_of p) n t)
       value_behind n (term place k (number negative z)) h = refl
       value_behind n (term place k (truth_value z)) h = refl
       value_behind n (term place k (named r)) h = ap (λ z. word_of (kind_or_first k) z) (own_same r (depth_of (known_of p) r) h)
@@ -70,7 +70,7 @@ module _ (p : Program) (b : Begun) where
       values_behind n no_terms h = refl
       values_behind n (term_then t ts) h =
           ap (λ z. words.value_of z ∷ values_of b v path (core_terms (known_of p) (n + term_accesses t) ts)) (value_behind n t h.0)
-          ∙ ap (λ zs. words.value_of (value_of b w path (core_term (known_of p) n t)) ∷ zs) (values_behind (n + term_accesses t) ts h.1)
+          ∙ ap (λ zs. words.value_of (value_of_term b w path (core_term (known_of p) n t)) ∷ zs) (values_behind (n + term_accesses t) ts h.1)
 
     pub spot_behind : (entity : Option ℕ) (e : Element) → WayBelow p x entity → ElementBehind p x e → source_spot b (known_of p) v path entity e ≡ source_spot b (known_of p) w path entity e
     spot_behind entity (with_indices ts) below h =

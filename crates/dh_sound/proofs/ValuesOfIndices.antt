@@ -27,7 +27,7 @@ use Rattle.dh_tree.specs.PlainTrees.{Term, term, number, truth_value, named, acc
 use Rattle.dh_meaning.specs.Bindings.{kind_or_first, kind_found}
 use Rattle.dh_meaning.specs.Core.{CoreTerm, binary}
 use Rattle.dh_meaning.specs.CoreOf.{Known, extended, extended_both, core_term}
-use Rattle.dh_meaning.specs.Effects.{Begun, Variables, bits_of, value_of}
+use Rattle.dh_meaning.specs.Effects.{Begun, Variables, bits_of, value_of_term}
 use Rattle.dh_meaning.specs.Paths.{Path}
 use Rattle.dh_sound.specs.IndexValues.{is_sum, HasIntegerKind, AreSumOperands, HasIndexKinds, IsInTurn, copy_at, name_value, NameInTurn, OperandInTurn, FormInTurn, IsIndexValue}
 
@@ -144,32 +144,32 @@ word_sum f a b k x y e g h i v =
     ∙ value_again k (f x y) i v))
 
 module _ (b : Begun) (v : Variables) (path : Path) where
-  extended_kind : (k : Kind) (t : CoreTerm) → IsInteger k → (value_of b v path (extended k t)).kind ≡ k
+  extended_kind : (k : Kind) (t : CoreTerm) → IsInteger k → (value_of_term b v path (extended k t)).kind ≡ k
   extended_kind kind.Bool t i = absurd i
   extended_kind (kind.Unsigned w) t i = refl
   extended_kind (kind.Signed w) t i = refl
 
-  extended_value : (k : Kind) (t : CoreTerm) (x : ℤ) → IsInteger k → words.value_of (value_of b v path t) ≡ x → IsValue k x → words.value_of (value_of b v path (extended k t)) ≡ x
+  extended_value : (k : Kind) (t : CoreTerm) (x : ℤ) → IsInteger k → words.value_of (value_of_term b v path t) ≡ x → IsValue k x → words.value_of (value_of_term b v path (extended k t)) ≡ x
   extended_value kind.Bool t x i e h = absurd i
   extended_value (kind.Unsigned w) t x i e h = ap (λ z. words.value_of (word_of (kind.Unsigned w) z)) e ∙ value_again (kind.Unsigned w) x i h
   extended_value (kind.Signed w) t x i e h = ap (λ z. words.value_of (word_of (kind.Signed w) z)) e ∙ value_again (kind.Signed w) x i h
 
-  module _ (j k m : Kind) (left right : CoreTerm) (x y : ℤ) (e : wider j k ≡ m) (i : IsInteger m) (f : words.value_of (value_of b v path left) ≡ x) (g : words.value_of (value_of b v path right) ≡ y) (p : IsValue j x) (q : IsValue k y) where
-    first_extended : words.value_of (value_of b v path (extended m left)) ≡ x
+  module _ (j k m : Kind) (left right : CoreTerm) (x y : ℤ) (e : wider j k ≡ m) (i : IsInteger m) (f : words.value_of (value_of_term b v path left) ≡ x) (g : words.value_of (value_of_term b v path right) ≡ y) (p : IsValue j x) (q : IsValue k y) where
+    first_extended : words.value_of (value_of_term b v path (extended m left)) ≡ x
     first_extended = extended_value m left x i f (widened j m x (wider_widens j k m e i).0 p)
 
-    second_extended : words.value_of (value_of b v path (extended m right)) ≡ y
+    second_extended : words.value_of (value_of_term b v path (extended m right)) ≡ y
     second_extended = extended_value m right y i g (widened k m y (wider_widens j k m e i).1 q)
 
-    sum_value : IsValue m (x +ℤ y) → words.value_of (value_of b v path (extended_both op.Add j k left right)) ≡ x +ℤ y
+    sum_value : IsValue m (x +ℤ y) → words.value_of (value_of_term b v path (extended_both op.Add j k left right)) ≡ x +ℤ y
     sum_value s =
-        subst (λ (w : Kind). words.value_of (value_of b v path (binary op.Add (extended w left) (extended w right))) ≡ x +ℤ y) (sym e)
-        (word_sum (λ z u. z +ℤ u) (value_of b v path (extended m left)) (value_of b v path (extended m right)) m x y (extended_kind m left i) first_extended second_extended i s)
+        subst (λ (w : Kind). words.value_of (value_of_term b v path (binary op.Add (extended w left) (extended w right))) ≡ x +ℤ y) (sym e)
+        (word_sum (λ z u. z +ℤ u) (value_of_term b v path (extended m left)) (value_of_term b v path (extended m right)) m x y (extended_kind m left i) first_extended second_extended i s)
 
-    difference_value : IsValue m (x -ℤ y) → words.value_of (value_of b v path (extended_both op.Sub j k left right)) ≡ x -ℤ y
+    difference_value : IsValue m (x -ℤ y) → words.value_of (value_of_term b v path (extended_both op.Sub j k left right)) ≡ x -ℤ y
     difference_value s =
-        subst (λ (w : Kind). words.value_of (value_of b v path (binary op.Sub (extended w left) (extended w right))) ≡ x -ℤ y) (sym e)
-        (word_sum (λ z u. z -ℤ u) (value_of b v path (extended m left)) (value_of b v path (extended m right)) m x y (extended_kind m left i) first_extended second_extended i s)
+        subst (λ (w : Kind). words.value_of (value_of_term b v path (binary op.Sub (extended w left) (extended w right))) ≡ x -ℤ y) (sym e)
+        (word_sum (λ z u. z -ℤ u) (value_of_term b v path (extended m left)) (value_of_term b v path (extended m right)) m x y (extended_kind m left i) first_extended second_extended i s)
 
 -- Indices.
 
@@ -178,7 +178,7 @@ kind_of_found (term place k form) j e = ap kind_or_first e
 
 module _ (Asked : Counter → Type 0) (b : Begun) (v : Variables) (path : Path) (known : Known) (cs loops : List Counter) where
   abbrev term_value : (n : ℕ) → Term → ℤ
-  term_value n t = words.value_of (value_of b v path (core_term known n t))
+  term_value n t = words.value_of (value_of_term b v path (core_term known n t))
 
   -- a literal
   number_value : (n : ℕ) (place : Place) (k : Option Kind) (negative : Bool) (m : ℕ) → HasIntegerKind cs (term place k (number negative m)) → term_value n (term place k (number negative m)) ≡ signed_number negative m
@@ -212,19 +212,19 @@ module _ (Asked : Counter → Type 0) (b : Begun) (v : Variables) (path : Path) 
   operand_fits place k r h c e t = subst (λ (z : ℤ). IsValue h.kind z) (nothing_added (name_value known v path r)) (fits_there loops path h.kind c (pos 0) (name_value known v path r) (h.fits c e) t).value
 
   -- the kinds of operands as the core of a program takes them
-  operands_are : (o : Op) (left right : Term) (a c : CoreTerm) (j k : Kind) (z : ℤ) → found left ≡ Some j → found right ≡ Some k → words.value_of (value_of b v path (extended_both o j k a c)) ≡ z → words.value_of (value_of b v path (extended_both o (kind_found left) (kind_found right) a c)) ≡ z
+  operands_are : (o : Op) (left right : Term) (a c : CoreTerm) (j k : Kind) (z : ℤ) → found left ≡ Some j → found right ≡ Some k → words.value_of (value_of_term b v path (extended_both o j k a c)) ≡ z → words.value_of (value_of_term b v path (extended_both o (kind_found left) (kind_found right) a c)) ≡ z
   operands_are o left right a c j k z e f g =
-      ap (λ x. words.value_of (value_of b v path (extended_both o x (kind_found right) a c))) (kind_of_found left j e)
-      ∙ (ap (λ x. words.value_of (value_of b v path (extended_both o j x a c))) (kind_of_found right k f) ∙ g)
+      ap (λ x. words.value_of (value_of_term b v path (extended_both o x (kind_found right) a c))) (kind_of_found left j e)
+      ∙ (ap (λ x. words.value_of (value_of_term b v path (extended_both o j x a c))) (kind_of_found right k f) ∙ g)
 
   module _ (n : ℕ) (at to : Place) (k l : Option Kind) (r : Ref) (negative : Bool) (m : ℕ) (w : Kind) (i : IsInteger w) (t : NameInTurn Asked known cs loops path v r) (o : Option Kind) (is : o ≡ Some w) where
     -- an iterator and a number
     iterator_number : (h : AreSumOperands cs w (term at k (named r)) (term to l (number negative m)))
-        → IsIndexValue Asked loops path (counted o (counter_in cs r.entity) (signed_number negative m)) (words.value_of (value_of b v path (extended_both op.Add (kind_found (term at k (named r))) (kind_found (term to l (number negative m))) (core_term known n (term at k (named r))) (core_term known n (term to l (number negative m))))))
+        → IsIndexValue Asked loops path (counted o (counter_in cs r.entity) (signed_number negative m)) (words.value_of (value_of_term b v path (extended_both op.Add (kind_found (term at k (named r))) (kind_found (term to l (number negative m))) (core_term known n (term at k (named r))) (core_term known n (term to l (number negative m))))))
     iterator_number h = counted_value o w r (signed_number negative m) _ is t sum
       where
         sum : (c : Counter) → counter_in cs r.entity ≡ Some c → IsInTurn loops path c (name_value known v path r) → IsValue w (name_value known v path r +ℤ signed_number negative m)
-            → words.value_of (value_of b v path (extended_both op.Add (kind_found (term at k (named r))) (kind_found (term to l (number negative m))) (core_term known n (term at k (named r))) (core_term known n (term to l (number negative m))))) ≡ name_value known v path r +ℤ signed_number negative m
+            → words.value_of (value_of_term b v path (extended_both op.Add (kind_found (term at k (named r))) (kind_found (term to l (number negative m))) (core_term known n (term at k (named r))) (core_term known n (term to l (number negative m))))) ≡ name_value known v path r +ℤ signed_number negative m
         sum c e f g =
             let p = operand_fits at k r h.first c e f in
             operands_are op.Add (term at k (named r)) (term to l (number negative m)) (core_term known n (term at k (named r))) (core_term known n (term to l (number negative m))) h.first.kind h.second.kind _ h.first.is h.second.is
@@ -233,14 +233,14 @@ module _ (Asked : Counter → Type 0) (b : Begun) (v : Variables) (path : Path) 
 
     -- a number and an iterator
     number_iterator : (h : AreSumOperands cs w (term to l (number negative m)) (term at k (named r)))
-        → IsIndexValue Asked loops path (counted o (counter_in cs r.entity) (signed_number negative m)) (words.value_of (value_of b v path (extended_both op.Add (kind_found (term to l (number negative m))) (kind_found (term at k (named r))) (core_term known n (term to l (number negative m))) (core_term known n (term at k (named r))))))
+        → IsIndexValue Asked loops path (counted o (counter_in cs r.entity) (signed_number negative m)) (words.value_of (value_of_term b v path (extended_both op.Add (kind_found (term to l (number negative m))) (kind_found (term at k (named r))) (core_term known n (term to l (number negative m))) (core_term known n (term at k (named r))))))
     number_iterator h = counted_value o w r (signed_number negative m) _ is t sum
       where
         turned : (x y : ℤ) → y +ℤ x ≡ x +ℤ y
         turned x y = omega (arith, ints)
 
         sum : (c : Counter) → counter_in cs r.entity ≡ Some c → IsInTurn loops path c (name_value known v path r) → IsValue w (name_value known v path r +ℤ signed_number negative m)
-            → words.value_of (value_of b v path (extended_both op.Add (kind_found (term to l (number negative m))) (kind_found (term at k (named r))) (core_term known n (term to l (number negative m))) (core_term known n (term at k (named r))))) ≡ name_value known v path r +ℤ signed_number negative m
+            → words.value_of (value_of_term b v path (extended_both op.Add (kind_found (term to l (number negative m))) (kind_found (term at k (named r))) (core_term known n (term to l (number negative m))) (core_term known n (term at k (named r))))) ≡ name_value known v path r +ℤ signed_number negative m
         sum c e f g =
             let p = operand_fits at k r h.second c e f in
             let same = turned (name_value known v path r) (signed_number negative m) in
@@ -251,14 +251,14 @@ module _ (Asked : Counter → Type 0) (b : Begun) (v : Variables) (path : Path) 
 
     -- an iterator less a number
     iterator_less : (h : AreSumOperands cs w (term at k (named r)) (term to l (number negative m)))
-        → IsIndexValue Asked loops path (counted o (counter_in cs r.entity) (neg_ℤ (signed_number negative m))) (words.value_of (value_of b v path (extended_both op.Sub (kind_found (term at k (named r))) (kind_found (term to l (number negative m))) (core_term known n (term at k (named r))) (core_term known n (term to l (number negative m))))))
+        → IsIndexValue Asked loops path (counted o (counter_in cs r.entity) (neg_ℤ (signed_number negative m))) (words.value_of (value_of_term b v path (extended_both op.Sub (kind_found (term at k (named r))) (kind_found (term to l (number negative m))) (core_term known n (term at k (named r))) (core_term known n (term to l (number negative m))))))
     iterator_less h = counted_value o w r (neg_ℤ (signed_number negative m)) _ is t sum
       where
         less : (x y : ℤ) → x -ℤ y ≡ x +ℤ neg_ℤ y
         less x y = omega (arith, ints)
 
         sum : (c : Counter) → counter_in cs r.entity ≡ Some c → IsInTurn loops path c (name_value known v path r) → IsValue w (name_value known v path r +ℤ neg_ℤ (signed_number negative m))
-            → words.value_of (value_of b v path (extended_both op.Sub (kind_found (term at k (named r))) (kind_found (term to l (number negative m))) (core_term known n (term at k (named r))) (core_term known n (term to l (number negative m))))) ≡ name_value known v path r +ℤ neg_ℤ (signed_number negative m)
+            → words.value_of (value_of_term b v path (extended_both op.Sub (kind_found (term at k (named r))) (kind_found (term to l (number negative m))) (core_term known n (term at k (named r))) (core_term known n (term to l (number negative m))))) ≡ name_value known v path r +ℤ neg_ℤ (signed_number negative m)
         sum c e f g =
             let p = operand_fits at k r h.first c e f in
             let same = less (name_value known v path r) (signed_number negative m) in

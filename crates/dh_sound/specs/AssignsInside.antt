@@ -48,6 +48,6 @@ abbrev mutual
   PartAssignsInside known d (action_then a rest) = AssignsInside known d a × PartAssignsInside known d rest
 
 -- each of these commands assigns to variables of this depth or more
-abbrev pub AllInside : Known → (depth : ℕ) → List Located → Type 0
-AllInside known d [] = Unit {0}
-AllInside known d (c ∷ cs) = AssignsInside known d c.command × AllInside known d cs
+abbrev pub AllAssignInside : Known → (depth : ℕ) → List Located → Type 0
+AllAssignInside known d [] = Unit {0}
+AllAssignInside known d (c ∷ cs) = AssignsInside known d c.command × AllAssignInside known d cs

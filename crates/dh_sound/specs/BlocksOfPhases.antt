@@ -11,7 +11,7 @@ use Rattle.dh_meaning.specs.Phases.{Located, phases_of}
 use Rattle.dh_meaning.specs.Sites.{Around}
 use Rattle.dh_meets.specs.Charges.{loop_factors}
 use Rattle.dh_meets.specs.SourceEvents.{trace}
-use Rattle.dh_sound.specs.AssignsInside.{AllInside}
+use Rattle.dh_sound.specs.AssignsInside.{AllAssignInside}
 use Rattle.dh_sound.specs.Blocks.{factors, paths_inside, StandsIn, AreInTurn}
 use Rattle.dh_sound.specs.BlockTold.{IndicesTold}
 use Rattle.dh_sound.specs.Deep.{AreDeep}
@@ -47,7 +47,7 @@ pub record OfTest (p : Program) (loops : List Turning) (block : Block) : Type 0 
 pub record StraightTold (p : Program) (loops : List Turning) (block : Block) : Type 0 where
   pub of : OfStraight p loops block
   pub views : FollowsViews p of.round [] (trace p) of.done
-  pub inside : AllInside (known_of p) (length (factors loops)) of.done
+  pub inside : AllAssignInside (known_of p) (length (factors loops)) of.done
   pub deep : AreDeep (length (factors loops)) (core_commands (known_of p) of.done)
   pub indices : (v : Variables) → AreInTurn [] loops v → IndicesTold p (λ k. any_makes k of.done) (λ e. any_assigns e (core_commands (known_of p) of.done)) (paths_inside loops) v
 

@@ -24,7 +24,7 @@ use Rattle.dh_laid.specs.BlockSites.{MadeEach, block_sites, command_sites, one_s
 use Rattle.dh_laid.specs.Laid.{HadKind, StandsRound}
 use Rattle.dh_laid.specs.LaidCommands.{StandsHeld}
 use Rattle.dh_laid.specs.LaidNumbers.{StoresReach}
-use Rattle.dh_laid.specs.LaidQuiet.{StandsIn}
+use Rattle.dh_laid.specs.LaidQuiet.{BlockStandsIn}
 use Rattle.dh_laid.proofs.SitesLaid.{command_sites_long, term_sites_long}
 use Rattle.dh_gathering.specs.Growing.{IsClear}
 
@@ -36,7 +36,7 @@ none_at (suc n) zero guard e = let f : None ≡ guard = cc in sym f
 none_at (suc n) (suc path) guard e = none_at n path guard e
 
 -- no guard stands round a block
-pub round_begins : (x : FormedBlock) (d : Draft) (scene : Scene) (around : Around) (n : ℕ) → around.guards.now ≡ replicate n None → StandsIn scene around → StandsRound x d scene around
+pub round_begins : (x : FormedBlock) (d : Draft) (scene : Scene) (around : Around) (n : ℕ) → around.guards.now ≡ replicate n None → BlockStandsIn scene around → StandsRound x d scene around
 round_begins x d scene around n free h = record {
   guards = λ path guard e. subst (λ (g : Option ℕ). IsGuard x d g) (sym (none_at n path guard (ap (λ (gs : List (Option ℕ)). slice_get gs path) (sym free) ∙ e))) tt;
   scopes = h.scopes;

@@ -18,7 +18,7 @@ use Rattle.dh_commands.specs.declared.buildings.Building.{Building}
 use Rattle.dh_commands.specs.LanesRun.{lane_of}
 use Rattle.dh_commands.specs.MadeCommands.{MadeTests}
 use Rattle.dh_laid.specs.BlockSites.{MadeEach}
-use Rattle.dh_laid.specs.LaidQuiet.{StandsIn}
+use Rattle.dh_laid.specs.LaidQuiet.{BlockStandsIn}
 use Rattle.dh_laid.proofs.CommandsQuiet.{commands_are_quiet, terms_are_quiet}
 use Rattle.dh_gathering.specs.declared.blocks.Made.{Made}
 use Rattle.dh_gathering.specs.MadeBlocks.{AddsFlag, BlockStandsAt}
@@ -35,13 +35,13 @@ adds_none old new same = ([], ap (λ (d : Draft). d.operations.items) same ∙ s
 pub adds_then : (a b c : Draft) → OnlyAdds a b → OnlyAdds b c → OnlyAdds a c
 adds_then a b c h k = (h.0 ++ k.0, k.1 ∙ (ap (λ (os : List Operation). os ++ k.0) h.1 ∙ append_assoc a.operations.items h.0 k.0))
 
-pub each_adds : (scene : Scene) (around : Around) (cs : List Located) (old new : Building) → StandsIn scene around → MadeEach scene around cs old new → OnlyAdds old.draft new.draft
+pub each_adds : (scene : Scene) (around : Around) (cs : List Located) (old new : Building) → BlockStandsIn scene around → MadeEach scene around cs old new → OnlyAdds old.draft new.draft
 each_adds scene around [] old new stands m = adds_none old.draft new.draft (ap (λ (b : Building). b.draft) m)
 each_adds scene around (c ∷ cs) old new stands (mid, (next, (m, rest))) =
     let q = commands_are_quiet scene c.command around old mid c.first next stands m in
     adds_then old.draft mid.draft new.draft (q.more, q.adds) (each_adds scene around cs mid new stands rest)
 
-pub tests_add : (scene : Scene) (around : Around) (first : ℕ) (t : Term) (count : ℕ) (old new : Building) (next : ℕ) (tests : List ℕ) → StandsIn scene around → MadeTests scene around first t count old new next tests → OnlyAdds old.draft new.draft
+pub tests_add : (scene : Scene) (around : Around) (first : ℕ) (t : Term) (count : ℕ) (old new : Building) (next : ℕ) (tests : List ℕ) → BlockStandsIn scene around → MadeTests scene around first t count old new next tests → OnlyAdds old.draft new.draft
 tests_add scene around first t zero old new next tests stands m = adds_none old.draft new.draft (ap (λ (b : Building). b.draft) m.0)
 tests_add scene around first t (suc n) old new next tests stands m =
     let q = terms_are_quiet scene (lane_of around n) (m.0).values.current.items t (m.0).draft new.draft (m.0).accesses new.accesses first next m.1.1.1.0 stands (m.1.1.1.1.1.0).term in

@@ -35,7 +35,7 @@ use Rattle.dh_blocks.proofs.VariablesPlaced.{are_placed, register_small}
 use Rattle.dh_laid.specs.BareCommands.{IsBare, IsBareFrom}
 use Rattle.dh_laid.specs.BlockSites.{block_sites, term_sites, test_sites}
 use Rattle.dh_laid.specs.LaidNumbers.{StoresReach}
-use Rattle.dh_laid.specs.LaidQuiet.{StandsIn}
+use Rattle.dh_laid.specs.LaidQuiet.{BlockStandsIn}
 use Rattle.dh_paced.specs.BlockLengths.{AssignsOwn, AssignsTo, HaveRegisters}
 use Rattle.dh_paced.specs.Paced.{IsIn}
 use Rattle.dh_paced.proofs.BlocksPaced.{straights_are_long, tests_are_long}
@@ -106,7 +106,7 @@ module _ (x : FormedBlock) (scene : Scene) (around : Around) (rounds : List Roun
 
   -- Registers.
 
-  module _ (count : ℕ) (stands : StandsSo x scene count around) (in_scene : StandsIn scene around) where
+  module _ (count : ℕ) (stands : StandsSo x scene count around) (in_scene : BlockStandsIn scene around) where
     placed : ArePlaced scene around
     placed = are_placed scene around count stands.holds.placing stands.holds.small stands.spread stands.counted
 

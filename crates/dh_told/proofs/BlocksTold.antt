@@ -42,7 +42,7 @@ use Rattle.dh_blocks.specs.SoundCommands.{SoundAction}
 use Rattle.dh_blocks.specs.SoundTerms.{IsSound}
 use Rattle.dh_laid.specs.BlockSites.{block_sites, test_sites}
 use Rattle.dh_laid.specs.LaidNumbers.{StoresReach}
-use Rattle.dh_laid.specs.LaidQuiet.{StandsIn}
+use Rattle.dh_laid.specs.LaidQuiet.{BlockStandsIn}
 use Rattle.dh_typed_blocks.specs.ScenesTold.{TellsScene}
 use Rattle.dh_typed_blocks.specs.SoundBlocks.{IsPlaceTold, loops_of}
 use Rattle.dh_typed_blocks.specs.TypedTerms.{ActionTyped}
@@ -107,7 +107,7 @@ module _ (scene : Scene) (count : ℕ) (plan : PlainPlan) (final : Made) (h : Is
   shares_told k j e = sym (h.shares.all k) ∙ ap (λ o. share_told o) e
 
   -- where a block stands
-  module _ (rounds : List Round) (around : Around) (round : IsRoundBlock rounds around) (stands : StandsIn scene around) (counting : AreCounting scene (placing_in scene) rounds) where
+  module _ (rounds : List Round) (around : Around) (round : IsRoundBlock rounds around) (stands : BlockStandsIn scene around) (counting : AreCounting scene (placing_in scene) rounds) where
     top : IsTop rounds around
     top = rounds_are_top scene rounds around round stands
 

@@ -22,7 +22,7 @@ use Rattle.dh_meaning.specs.Ways.{Hidden, Way, base_of, behind_all, hidden_from,
 use Rattle.dh_meaning.specs.Phases.{Located}
 use Rattle.dh_meaning.specs.Sites as source
 use Rattle.dh_meaning.specs.Sites.{in_arm}
-use Rattle.dh_meets.specs.SourceEvents.{Element, Site, SourceAccess, SourceEvent, accesses, accesses_in, assigned, events, groups_events, in_row, one_access, other_events, part_events, site_of, term_events, terms_events, trace, with_indices, write_events}
+use Rattle.dh_meets.specs.SourceEvents.{Element, Site, SourceAccess, SourceEvent, accesses, accesses_in, assigned, events, groups_events, in_row, one_access, other_events, part_events, site_of, source_term_events, source_terms_events, trace, with_indices, write_events}
 use Rattle.dh_sound.specs.BehindViews.{ActionBehind, FormBehind, GroupsBehind, IsOwn, KeepsFrom, OtherBehind, PartBehind, TermsBehind}
 use Rattle.dh_sound.specs.BlockTold.{IsOfMemory}
 use Rattle.dh_sound.specs.IndexValues.{AllHaveIndexKinds, HasElementKinds, element_breaches}
@@ -159,29 +159,29 @@ module _ (x : BlockStep) (scene : Scene) (levels : List Level) (table : List Mem
 
   module _ (Sets : ℕ → Type 0) where
     mutual
-      pub term_keeps : (site : Site) (t : plain.Term) → IsSound (known_in scene) table Name t → TermFree scene Sets t → EachAccess (AccessOk scene) (term_events site t) → TermKeeps x scene levels Sets t
+      pub term_keeps : (site : Site) (t : plain.Term) → IsSound (known_in scene) table Name t → TermFree scene Sets t → EachAccess (AccessOk scene) (source_term_events site t) → TermKeeps x scene levels Sets t
       term_keeps site (plain.term place kind (plain.number negative z)) s free ok = tt
       term_keeps site (plain.term place kind (plain.truth_value b)) s free ok = tt
       term_keeps site (plain.term place kind (plain.named r)) s free ok = tt
       term_keeps site (plain.term place kind (plain.accessed r ts)) s free ok = (
-        terms_keep site ts s.0.0 free.0 (each_front (AccessOk scene) (terms_events site ts) (one_access place r.entity (with_indices ts) false site) ok),
+        terms_keep site ts s.0.0 free.0 (each_front (AccessOk scene) (source_terms_events site ts) (one_access place r.entity (with_indices ts) false site) ok),
         (
-          indices_keep r ts s.1.0 s.0.0 (each_back (AccessOk scene) (terms_events site ts) (one_access place r.entity (with_indices ts) false site) ok).0,
+          indices_keep r ts s.1.0 s.0.0 (each_back (AccessOk scene) (source_terms_events site ts) (one_access place r.entity (with_indices ts) false site) ok).0,
           access_keeps_so Sets r s.0.1 free.1,
         ),
       )
-      term_keeps site (plain.term place kind (plain.in_bank r bank at row)) s free ok = term_keeps site row s.0 free (each_front (AccessOk scene) (term_events site row) (one_access place r.entity (in_row bank row) false site) ok)
+      term_keeps site (plain.term place kind (plain.in_bank r bank at row)) s free ok = term_keeps site row s.0 free (each_front (AccessOk scene) (source_term_events site row) (one_access place r.entity (in_row bank row) false site) ok)
       term_keeps site (plain.term place kind (plain.applied o left right)) s free ok = (
-        term_keeps site left s.0.0 free.0 (each_front (AccessOk scene) (term_events site left) (term_events site right) ok),
-        term_keeps site right s.0.1 free.1 (each_back (AccessOk scene) (term_events site left) (term_events site right) ok),
+        term_keeps site left s.0.0 free.0 (each_front (AccessOk scene) (source_term_events site left) (source_term_events site right) ok),
+        term_keeps site right s.0.1 free.1 (each_back (AccessOk scene) (source_term_events site left) (source_term_events site right) ok),
       )
       term_keeps site (plain.term place kind (plain.converted inner to)) s free ok = term_keeps site inner s.0 free ok
 
-      terms_keep : (site : Site) (ts : plain.Terms) → AreSound (known_in scene) table Name ts → TermsFree scene Sets ts → EachAccess (AccessOk scene) (terms_events site ts) → TermsKeep x scene levels Sets ts
+      terms_keep : (site : Site) (ts : plain.Terms) → AreSound (known_in scene) table Name ts → TermsFree scene Sets ts → EachAccess (AccessOk scene) (source_terms_events site ts) → TermsKeep x scene levels Sets ts
       terms_keep site plain.no_terms s free ok = tt
       terms_keep site (plain.term_then t ts) s free ok = (
-        term_keeps site t s.0 free.0 (each_front (AccessOk scene) (term_events site t) (terms_events site ts) ok),
-        terms_keep site ts s.1 free.1 (each_back (AccessOk scene) (term_events site t) (terms_events site ts) ok),
+        term_keeps site t s.0 free.0 (each_front (AccessOk scene) (source_term_events site t) (source_terms_events site ts) ok),
+        terms_keep site ts s.1 free.1 (each_back (AccessOk scene) (source_term_events site t) (source_terms_events site ts) ok),
       )
 
   -- where nothing is set
@@ -190,13 +190,13 @@ module _ (x : BlockStep) (scene : Scene) (levels : List Level) (table : List Mem
 
   target_keeps : (site : Site) (t : plain.Term) → IsSoundTarget (known_in scene) table Name t → EachAccess (AccessOk scene) (write_events site t) → TermKeeps x scene levels (λ e. ⊥) t
   target_keeps site (plain.term place kind (plain.accessed r ts)) s ok = (
-    terms_keep (λ e. ⊥) site ts s.0.0 (all_free_of scene (λ e. ⊥) (none_free scene) ts) (each_front (AccessOk scene) (terms_events site ts) (one_access place r.entity (with_indices ts) true site) ok),
+    terms_keep (λ e. ⊥) site ts s.0.0 (all_free_of scene (λ e. ⊥) (none_free scene) ts) (each_front (AccessOk scene) (source_terms_events site ts) (one_access place r.entity (with_indices ts) true site) ok),
     (
-      indices_keep r ts s.1 s.0.0 (each_back (AccessOk scene) (terms_events site ts) (one_access place r.entity (with_indices ts) true site) ok).0,
+      indices_keep r ts s.1 s.0.0 (each_back (AccessOk scene) (source_terms_events site ts) (one_access place r.entity (with_indices ts) true site) ok).0,
       access_keeps_so (λ e. ⊥) r s.0.1 (none_free scene r),
     ),
   )
-  target_keeps site (plain.term place kind (plain.in_bank r bank at row)) s ok = term_keeps (λ e. ⊥) site row s.0 (none_set row) (each_front (AccessOk scene) (term_events site row) (one_access place r.entity (in_row bank row) true site) ok)
+  target_keeps site (plain.term place kind (plain.in_bank r bank at row)) s ok = term_keeps (λ e. ⊥) site row s.0 (none_set row) (each_front (AccessOk scene) (source_term_events site row) (one_access place r.entity (in_row bank row) true site) ok)
   target_keeps site (plain.term place kind (plain.number negative z)) s ok = absurd s
   target_keeps site (plain.term place kind (plain.truth_value b)) s ok = absurd s
   target_keeps site (plain.term place kind (plain.named r)) s ok = absurd s
@@ -227,10 +227,10 @@ module _ (x : BlockStep) (scene : Scene) (levels : List Level) (table : List Mem
   not_among first n count e same l among = let low = among.0 in omega (arith, same, l, low)
 
   view_keeps : (hs : List Hidden) (site : Site) (d n : ℕ) (form : ViewPlan) (rest : List Hidden) → hs ≡ hidden_from n d (offsets_of form) ++ rest → CanKeep scene levels table Name hs (offsets_of form) → TermsBehind (program_seen scene.program.now) n (terms (offsets_of form))
-      → EachAccess (AccessOk scene) (terms_events site (terms (offsets_of form))) → ViewKeeps x scene levels hs (offsets_of form)
+      → EachAccess (AccessOk scene) (source_terms_events site (terms (offsets_of form))) → ViewKeeps x scene levels hs (offsets_of form)
   view_keeps hs site d n form rest is s behind ok = by hs (offsets_of form) is s behind ok
     where
-      by : (gs : List Hidden) (os : List plain.Term) → gs ≡ hidden_from n d os ++ rest → CanKeep scene levels table Name gs os → TermsBehind (program_seen scene.program.now) n (terms os) → EachAccess (AccessOk scene) (terms_events site (terms os)) → ViewKeeps x scene levels gs os
+      by : (gs : List Hidden) (os : List plain.Term) → gs ≡ hidden_from n d os ++ rest → CanKeep scene levels table Name gs os → TermsBehind (program_seen scene.program.now) n (terms os) → EachAccess (AccessOk scene) (source_terms_events site (terms os)) → ViewKeeps x scene levels gs os
       by [] [] is s behind ok = refl
       by [] (o ∷ os) is s behind ok = elim s [ ]
       by (h ∷ gs) [] is s behind ok = (tt, tt)
@@ -246,7 +246,7 @@ module _ (x : BlockStep) (scene : Scene) (levels : List Level) (table : List Mem
   none_keeps (o ∷ os) s = elim s [ ]
 
   named_keeps : (name parent : Ref) (form : ViewPlan) (site : Site) (d n : ℕ) → FormBehind (program_seen scene.program.now) d n (views name parent form) → CanKeep scene levels table Name (hidden_in (way_of (known_in scene) name)) (offsets_of form)
-      → EachAccess (AccessOk scene) (terms_events site (terms (offsets_of form))) → ViewKeeps x scene levels (hidden_in (way_of (known_in scene) name)) (offsets_of form)
+      → EachAccess (AccessOk scene) (source_terms_events site (terms (offsets_of form))) → ViewKeeps x scene levels (hidden_in (way_of (known_in scene) name)) (offsets_of form)
   named_keeps name parent form site d n behind s ok = by (way_of (known_in scene) name) refl s
     where
       by : (o : Option Way) → way_of (known_in scene) name ≡ o → CanKeep scene levels table Name (hidden_in o) (offsets_of form) → ViewKeeps x scene levels (hidden_in o) (offsets_of form)
@@ -265,19 +265,19 @@ module _ (x : BlockStep) (scene : Scene) (levels : List Level) (table : List Mem
   mutual
     pub command_keeps : (Folds : ℕ → Type 0) → FoldsSeen Folds → (a : Action) (r : source.Around) (d n : ℕ) → ActionBehind (program_seen scene.program.now) d n a → SoundAction scene levels table Name Folds a → EachAccess (AccessOk scene) (events r a) → CommandKeeps x scene levels a
     command_keeps Folds folded (action id place (lets name declared (Some t))) r d n b s ok =
-        (term_keeps (λ e. e ≡ entity_number name.entity) (site_of r id) t s.0 (own_set name b.0 t) (each_front (AccessOk scene) (term_events (site_of r id) t) (assigned name.entity ∷ []) ok), s.1.0.seen)
+        (term_keeps (λ e. e ≡ entity_number name.entity) (site_of r id) t s.0 (own_set name b.0 t) (each_front (AccessOk scene) (source_term_events (site_of r id) t) (assigned name.entity ∷ []) ok), s.1.0.seen)
     command_keeps Folds folded (action id place (lets name declared None)) r d n b s ok = tt
     command_keeps Folds folded (action id place (assigns target t)) r d n b s ok =
-        (term_keeps (λ e. e ≡ entity_number target.entity) (site_of r id) t s.0 (own_set target b.0 t) (each_front (AccessOk scene) (term_events (site_of r id) t) (assigned target.entity ∷ []) ok), s.1.0.seen)
+        (term_keeps (λ e. e ≡ entity_number target.entity) (site_of r id) t s.0 (own_set target b.0 t) (each_front (AccessOk scene) (source_term_events (site_of r id) t) (assigned target.entity ∷ []) ok), s.1.0.seen)
     command_keeps Folds folded (action id place (stores target t)) r d n b s ok = (
-      term_keeps (λ e. ⊥) (site_of r id) t s.0.0 (none_set t) (each_front (AccessOk scene) (term_events (site_of r id) t) (write_events (site_of r id) target) ok),
-      target_keeps (site_of r id) target s.0.1 (each_back (AccessOk scene) (term_events (site_of r id) t) (write_events (site_of r id) target) ok),
+      term_keeps (λ e. ⊥) (site_of r id) t s.0.0 (none_set t) (each_front (AccessOk scene) (source_term_events (site_of r id) t) (write_events (site_of r id) target) ok),
+      target_keeps (site_of r id) target s.0.1 (each_back (AccessOk scene) (source_term_events (site_of r id) t) (write_events (site_of r id) target) ok),
     )
     command_keeps Folds folded (action id place (reduces target o t)) r d n b s ok =
-        (term_keeps (λ e. e ≡ entity_number target.entity) (site_of r id) t s.0.0 (own_set target b.0 t) (each_front (AccessOk scene) (term_events (site_of r id) t) (assigned target.entity ∷ []) ok), folded (entity_number target.entity) s.0.1)
+        (term_keeps (λ e. e ≡ entity_number target.entity) (site_of r id) t s.0.0 (own_set target b.0 t) (each_front (AccessOk scene) (source_term_events (site_of r id) t) (assigned target.entity ∷ []) ok), folded (entity_number target.entity) s.0.1)
     command_keeps Folds folded (action id place (decides test chosen other)) r d n b s ok =
-        let arms = each_back (AccessOk scene) (term_events (site_of r id) test) (events (in_arm r id true) chosen ++ other_events (in_arm r id false) other) ok in (
-          term_keeps (λ e. ⊥) (site_of r id) test s.0 (none_set test) (each_front (AccessOk scene) (term_events (site_of r id) test) (events (in_arm r id true) chosen ++ other_events (in_arm r id false) other) ok),
+        let arms = each_back (AccessOk scene) (source_term_events (site_of r id) test) (events (in_arm r id true) chosen ++ other_events (in_arm r id false) other) ok in (
+          term_keeps (λ e. ⊥) (site_of r id) test s.0 (none_set test) (each_front (AccessOk scene) (source_term_events (site_of r id) test) (events (in_arm r id true) chosen ++ other_events (in_arm r id false) other) ok),
           (
             command_keeps (λ entity. ⊥) no_folds chosen (in_arm r id true) d n b.1.0 s.1.0 (each_front (AccessOk scene) (events (in_arm r id true) chosen) (other_events (in_arm r id false) other) arms),
             other_keeps (λ entity. ⊥) no_folds other (in_arm r id false) d (behind_all n (standings d chosen)) b.1.1 s.1.1 (each_back (AccessOk scene) (events (in_arm r id true) chosen) (other_events (in_arm r id false) other) arms),

@@ -11,7 +11,7 @@ use Rattle.dh_meaning.specs.OnePhase.{any_makes, test_makes}
 use Rattle.dh_meaning.specs.Phases.{Located, phases_of}
 use Rattle.dh_meaning.specs.Sites as source
 use Rattle.dh_meaning.specs.Sites.{in_arm}
-use Rattle.dh_meets.specs.SourceEvents.{Site, events, other_events, site_of, term_events, trace}
+use Rattle.dh_meets.specs.SourceEvents.{Site, events, other_events, site_of, source_term_events, trace}
 use Rattle.dh_plan.specs.Correspondence.{Round}
 use Rattle.dh_plan.specs.PlainPlans.{PlainPlan}
 use Rattle.dh_sound.specs.PhaseFacts.{StandsAmong}
@@ -60,14 +60,14 @@ use Rattle.dh_told.proofs.WaysKept.{all_free, none_free, seen_so}
 -- the events of a test are among those of its command
 record TestOk (scene : Scene) (t : Term) : Type 0 where
   site : Site
-  ok : EachAccess (AccessOk scene) (term_events site t)
+  ok : EachAccess (AccessOk scene) (source_term_events site t)
 
 test_ok : (scene : Scene) (a : Action) (r : source.Around) (t : Term) → test_of (action_form_of a) ≡ Some t → EachAccess (AccessOk scene) (events r a) → TestOk scene t
 test_ok scene (action id place (decides test chosen other)) r t is ok =
     subst (λ (q : Term). TestOk scene q) (some_same test t is)
-    (record { site = site_of r id; ok = each_front (AccessOk scene) (term_events (site_of r id) test) (events (in_arm r id true) chosen ++ other_events (in_arm r id false) other) ok })
+    (record { site = site_of r id; ok = each_front (AccessOk scene) (source_term_events (site_of r id) test) (events (in_arm r id true) chosen ++ other_events (in_arm r id false) other) ok })
 test_ok scene (action id place (repeats test body)) r t is ok =
-    subst (λ (q : Term). TestOk scene q) (some_same test t is) (record { site = site_of r id; ok = each_front (AccessOk scene) (term_events (site_of r id) test) (events r body) ok })
+    subst (λ (q : Term). TestOk scene q) (some_same test t is) (record { site = site_of r id; ok = each_front (AccessOk scene) (source_term_events (site_of r id) test) (events r body) ok })
 test_ok scene (action id place (lets name declared value)) r t is ok = absurd (cc)
 test_ok scene (action id place (lets_memory name shape shape_places value)) r t is ok = absurd (cc)
 test_ok scene (action id place (views name parent form)) r t is ok = absurd (cc)

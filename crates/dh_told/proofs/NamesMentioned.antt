@@ -19,7 +19,7 @@ use Rattle.dh_meaning.specs.Core.{CoreTerms, count_terms, keep, no_commands, no_
 use Rattle.dh_meaning.specs.CoreOf.{core_action, core_form, core_groups, core_other, core_part, core_term, core_terms, depth_of, entity_number, kept_by, kept_terms, kind_of, target_to, terms_both, way_of}
 use Rattle.dh_meaning.specs.Levels.{assigns_to}
 use Rattle.dh_meaning.specs.Ways.{Hidden, Way, hidden_in}
-use Rattle.dh_plan.specs.PlanPhases.{commands_mention, target_mentions, term_mentions, terms_mention}
+use Rattle.dh_plan.specs.PlanPhases.{commands_mention, target_mentions, term_mentions, core_terms_mention}
 use Rattle.dh_sound.specs.SimpleForms.{GroupsFoldInJoins, FoldsInJoins, PartFoldsInJoins}
 use Rattle.dh_expressions.specs.declared.paths.Level.{Level}
 use Rattle.dh_expressions.specs.declared.scenes.Around.{Around}
@@ -49,17 +49,17 @@ alone_of false h = h
 
 module _ (scene : Scene) (table : List MemEntry) (Name : Ref → Kind → Type 0) (P : ℕ → Type 0) (named : (r : Ref) (k : Kind) → Name r k → P (entity_number r.entity)) where
   -- variables that keep offsets, which a target has behind its indices
-  kept_names : (r : Ref) (hs : List Hidden) → AllByRecursion (λ (h : Hidden). IsSoundHidden (known_in scene) table Name r h) hs → (e : ℕ) → terms_mention e (kept_terms hs) ≡ true → P e
+  kept_names : (r : Ref) (hs : List Hidden) → AllByRecursion (λ (h : Hidden). IsSoundHidden (known_in scene) table Name r h) hs → (e : ℕ) → core_terms_mention e (kept_terms hs) ≡ true → P e
   kept_names r [] s e h = absurd cc
-  kept_names r (k ∷ hs) s e h = by (either_of (e == k.entity) (terms_mention e (kept_terms hs)) h) (λ m. kept_names r hs s.1 e m)
+  kept_names r (k ∷ hs) s e h = by (either_of (e == k.entity) (core_terms_mention e (kept_terms hs)) h) (λ m. kept_names r hs s.1 e m)
     where
-      by : ((e == k.entity) ≡ true) ⊎ (terms_mention e (kept_terms hs) ≡ true) → (terms_mention e (kept_terms hs) ≡ true → P e) → P e
+      by : ((e == k.entity) ≡ true) ⊎ (core_terms_mention e (kept_terms hs) ≡ true) → (core_terms_mention e (kept_terms hs) ≡ true → P e) → P e
       by (inl m) behind = subst P (sym (equal e k.entity m)) (named (kept_name k) k.kind s.0.named)
       by (inr m) behind = behind m
 
-  both_mention : (e : ℕ) (ts us : CoreTerms) → terms_mention e (terms_both ts us) ≡ true → (terms_mention e ts ≡ true) ⊎ (terms_mention e us ≡ true)
+  both_mention : (e : ℕ) (ts us : CoreTerms) → core_terms_mention e (terms_both ts us) ≡ true → (core_terms_mention e ts ≡ true) ⊎ (core_terms_mention e us ≡ true)
   both_mention e no_terms us h = inr h
-  both_mention e (term_and t ts) us h = by (either_of (term_mentions e t) (terms_mention e (terms_both ts us)) h) (λ m. both_mention e ts us m)
+  both_mention e (term_and t ts) us h = by (either_of (term_mentions e t) (core_terms_mention e (terms_both ts us)) h) (λ m. both_mention e ts us m)
     where
       first : (a b : Truth) → a ≡ true → (a || b) ≡ true
       first true b g = refl
@@ -69,20 +69,20 @@ module _ (scene : Scene) (table : List MemEntry) (Name : Ref → Kind → Type 0
       second true b g = refl
       second false b g = g
 
-      deeper : (terms_mention e ts ≡ true) ⊎ (terms_mention e us ≡ true) → (terms_mention e (term_and t ts) ≡ true) ⊎ (terms_mention e us ≡ true)
-      deeper (inl m) = inl (second (term_mentions e t) (terms_mention e ts) m)
+      deeper : (core_terms_mention e ts ≡ true) ⊎ (core_terms_mention e us ≡ true) → (core_terms_mention e (term_and t ts) ≡ true) ⊎ (core_terms_mention e us ≡ true)
+      deeper (inl m) = inl (second (term_mentions e t) (core_terms_mention e ts) m)
       deeper (inr m) = inr m
 
-      by : (term_mentions e t ≡ true) ⊎ (terms_mention e (terms_both ts us) ≡ true) → (terms_mention e (terms_both ts us) ≡ true → (terms_mention e ts ≡ true) ⊎ (terms_mention e us ≡ true))
-          → (terms_mention e (term_and t ts) ≡ true) ⊎ (terms_mention e us ≡ true)
-      by (inl m) behind = inl (first (term_mentions e t) (terms_mention e ts) m)
+      by : (term_mentions e t ≡ true) ⊎ (core_terms_mention e (terms_both ts us) ≡ true) → (core_terms_mention e (terms_both ts us) ≡ true → (core_terms_mention e ts ≡ true) ⊎ (core_terms_mention e us ≡ true))
+          → (core_terms_mention e (term_and t ts) ≡ true) ⊎ (core_terms_mention e us ≡ true)
+      by (inl m) behind = inl (first (term_mentions e t) (core_terms_mention e ts) m)
       by (inr m) behind = deeper (behind m)
 
-  aimed_names : (r : Ref) (o : Option Way) (ts : CoreTerms) → AllByRecursion (λ (h : Hidden). IsSoundHidden (known_in scene) table Name r h) (hidden_in o) → (e : ℕ) → (terms_mention e ts ≡ true → P e) → target_mentions e (target_to o ts) ≡ true → P e
+  aimed_names : (r : Ref) (o : Option Way) (ts : CoreTerms) → AllByRecursion (λ (h : Hidden). IsSoundHidden (known_in scene) table Name r h) (hidden_in o) → (e : ℕ) → (core_terms_mention e ts ≡ true → P e) → target_mentions e (target_to o ts) ≡ true → P e
   aimed_names r None ts s e own h = own h
   aimed_names r (Some w) ts s e own h = by (both_mention e ts (kept_terms w.hidden) h)
     where
-      by : (terms_mention e ts ≡ true) ⊎ (terms_mention e (kept_terms w.hidden) ≡ true) → P e
+      by : (core_terms_mention e ts ≡ true) ⊎ (core_terms_mention e (kept_terms w.hidden) ≡ true) → P e
       by (inl m) = own m
       by (inr m) = kept_names r w.hidden s e m
 
@@ -106,10 +106,10 @@ module _ (scene : Scene) (table : List MemEntry) (Name : Ref → Kind → Type 0
         by (inr b) f g = g b
     form_names n place k (plain.converted inner to) s e h = term_names n inner s.0 e h
 
-    pub terms_names : (n : ℕ) (ts : plain.Terms) → AreSound (known_in scene) table Name ts → (e : ℕ) → terms_mention e (core_terms (known_in scene) n ts) ≡ true → P e
+    pub terms_names : (n : ℕ) (ts : plain.Terms) → AreSound (known_in scene) table Name ts → (e : ℕ) → core_terms_mention e (core_terms (known_in scene) n ts) ≡ true → P e
     terms_names n plain.no_terms s e h = absurd cc
     terms_names n (plain.term_then t ts) s e h =
-        by (either_of (term_mentions e (core_term (known_in scene) n t)) (terms_mention e (core_terms (known_in scene) (n + term_accesses t) ts)) h)
+        by (either_of (term_mentions e (core_term (known_in scene) n t)) (core_terms_mention e (core_terms (known_in scene) (n + term_accesses t) ts)) h)
         (λ m. term_names n t s.0 e m) (λ m. terms_names (n + term_accesses t) ts s.1 e m)
       where
         by : {A B C : Type 0} → A ⊎ B → (A → C) → (B → C) → C
@@ -167,7 +167,7 @@ module _ (scene : Scene) (table : List MemEntry) (Name : Ref → Kind → Type 0
     view_names n hs [] s e h = absurd cc
     view_names n [] (o ∷ os) s e h = absurd s
     view_names n (k ∷ hs) (o ∷ os) s e h =
-        either (either_of (assigns_to e (keep k.depth k.entity (core_terms (known_in scene) n (terms (o ∷ os))))) (terms_mention e (core_terms (known_in scene) n (terms (o ∷ os)))) (alone_of _ h))
+        either (either_of (assigns_to e (keep k.depth k.entity (core_terms (known_in scene) n (terms (o ∷ os))))) (core_terms_mention e (core_terms (known_in scene) n (terms (o ∷ os)))) (alone_of _ h))
         (λ m.
         let b = bounds e k.entity (count_terms (core_terms (known_in scene) n (terms (o ∷ os)))) m in
         among_names k.depth k.entity (o ∷ os) s.1 e b.0 (subst (λ (c : ℕ). e < k.entity + c) (offsets_long (known_in scene) n (o ∷ os)) b.1))

@@ -37,7 +37,7 @@ use Rattle.dh_expressions.specs.Shown.{is_read_term}
 use Rattle.dh_formed.specs.Formed.{BlockSite}
 use Rattle.dh_laid.specs.BlockSites.{block_sites, test_sites}
 use Rattle.dh_laid.specs.LaidNumbers.{StoresReach}
-use Rattle.dh_laid.specs.LaidQuiet.{StandsIn}
+use Rattle.dh_laid.specs.LaidQuiet.{BlockStandsIn}
 use Rattle.dh_laid.specs.LaidUses.{AreAlong, HaveNoOperations}
 use Rattle.dh_laid.proofs.SitesLaid.{along_reach}
 use Rattle.dh_blocks.specs.BlockMade.{IsTop}
@@ -100,7 +100,7 @@ module _ (scene : Scene) (final : Made) (plan : PlainPlan) (is : IsMadeOf scene 
   abbrev p : Program
   p = program_seen scene.program.now
 
-  module _ (rounds : List Round) (around : Around) (round : IsRoundBlock rounds around) (stands : StandsIn scene around) where
+  module _ (rounds : List Round) (around : Around) (round : IsRoundBlock rounds around) (stands : BlockStandsIn scene around) where
     top : IsTop rounds around
     top = rounds_are_top scene rounds around round stands
 

@@ -21,7 +21,7 @@ use Rattle.dh_expressions.specs.Shown.{is_read_term}
 use Rattle.dh_commands.specs.LanesRun.{paths_counted}
 use Rattle.dh_sound.specs.Straight.{IsKeptAction}
 use Rattle.dh_laid.specs.LaidProducts.{AddsProducts, products_in}
-use Rattle.dh_laid.specs.LaidQuiet.{StandsIn}
+use Rattle.dh_laid.specs.LaidQuiet.{BlockStandsIn}
 use Rattle.dh_laid.proofs.ProductsOfCore.{terms_multiply}
 use Rattle.dh_blocks.proofs.RoundsTurned.{rounds_paths}
 use Rattle.dh_gathering.specs.declared.blocks.Made.{Made}
@@ -81,7 +81,7 @@ module _ (scene : Scene) (final : Made) (plan : PlainPlan) (is : IsMadeOf scene 
   p = program_seen scene.program.now
 
   -- as many paths as are inside the loops round a block
-  paths_long : (rounds : List Round) (around : Around) → IsRoundBlock rounds around → StandsIn scene around → paths_counted around ≡ length (paths_of_rounds rounds)
+  paths_long : (rounds : List Round) (around : Around) → IsRoundBlock rounds around → BlockStandsIn scene around → paths_counted around ≡ length (paths_of_rounds rounds)
   paths_long rounds around round stands =
       let top = rounds_are_top scene rounds around round stands in
       top.counted ∙ (ap copies_in top.factors_are ∙ sym (ap length (rounds_paths rounds) ∙ length_paths _))

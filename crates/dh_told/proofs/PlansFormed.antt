@@ -39,7 +39,7 @@ use Rattle.dh_expressions.specs.Numbers.{narrowed}
 use Rattle.dh_expressions.proofs.ListPlaces.{place_within}
 use Rattle.dh_blocks.specs.SlotsOfScene.{placing_in, slots_in}
 use Rattle.dh_gathering.specs.declared.blocks.Made.{Made}
-use Rattle.dh_gathering.specs.LoopCounters.{AreCounting, HasCounter, IsCounting, LoopsCount, LoopsCountIn, loops_of}
+use Rattle.dh_gathering.specs.LoopCounters.{AreCounting, HasCounter, IsCounting, LoopsCount, LoopsCountIn, loops_of_phases}
 use Rattle.dh_gathering.specs.MadeBlocks.{IsFlagOf, IsStraightBlock, IsTestBlock, counter_register, made_tie}
 use Rattle.dh_gathering.specs.Registers.{IsRegisterKind, first_among}
 use Rattle.dh_gathering.proofs.CountersWide.{counters_are, countings_are}
@@ -306,9 +306,9 @@ module _ (scene : Scene) (count : ℕ) (plan : PlainPlan) (final : Made) (h : Is
     one_memory = memory_one;
     threads = told.threads;
     counters =
-        counters_are scene (placing_in scene) (slots_in scene) count (slots_told scene) (holds scene count plan final h.of).placing plan (countings plan.body) (loops_of (core_of (program_seen scene.program.now)).phases)
+        counters_are scene (placing_in scene) (slots_in scene) count (slots_told scene) (holds scene count plan final h.of).placing plan (countings plan.body) (loops_of_phases (core_of (program_seen scene.program.now)).phases)
         (countings_are scene final [] (core_of (program_seen scene.program.now)).phases plan.body h.nodes) own.own
-        (all_counters scene count plan.registers h.of.order h.of.kinds (loops_of (core_of (program_seen scene.program.now)).phases) own.own.counting);
+        (all_counters scene count plan.registers h.of.order h.of.kinds (loops_of_phases (core_of (program_seen scene.program.now)).phases) own.own.counting);
     counters_kept = map_all (IsToldLoop scene count plan final h.of) (KeepsCounter plan) (countings plan.body) counter_kept told.loops;
     flags = map_all (IsFlagOf final) (IsFlag plan) (flags_of plan.body) flag_is h.named.flags;
   }

@@ -11,7 +11,7 @@ use Rattle.dh_expressions.specs.declared.scenes.Around.{Around}
 use Rattle.dh_expressions.specs.declared.scenes.Scene.{Scene}
 use Rattle.dh_commands.specs.declared.assignments.Change.{Change}
 use Rattle.dh_commands.specs.Undone.{given_at}
-use Rattle.dh_laid.specs.LaidQuiet.{StandsIn}
+use Rattle.dh_laid.specs.LaidQuiet.{BlockStandsIn}
 use Rattle.dh_blocks.specs.BlockMade.{IsTop, set_made, sets_made}
 use Rattle.dh_blocks.specs.SlotsOfScene.{HoldsVariables}
 use Rattle.dh_blocks.specs.TestMade.{flag_made}
@@ -22,7 +22,7 @@ use Rattle.dh_phased.proofs.RoundsTop.{rounds_are_top}
 use Rattle.dh_reached.specs.ReachedBlocks.{AreUnused, StandsSpread}
 use Rattle.dh_told.proofs.CopiesOfPhases.{FewRound}
 
-pub stands_spread : (scene : Scene) (count : ℕ) (plan : PlainPlan) → HoldsVariables scene plan count → (rounds : List Round) (around : Around) → IsRoundBlock rounds around → StandsIn scene around → FewRound (loops_round rounds) → StandsSpread scene around
+pub stands_spread : (scene : Scene) (count : ℕ) (plan : PlainPlan) → HoldsVariables scene plan count → (rounds : List Round) (around : Around) → IsRoundBlock rounds around → BlockStandsIn scene around → FewRound (loops_round rounds) → StandsSpread scene around
 stands_spread scene count plan holds rounds around round stands few = record {
   stands = stands;
   spread = top.spread;

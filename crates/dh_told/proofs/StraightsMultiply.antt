@@ -20,7 +20,7 @@ use Rattle.dh_commands.specs.declared.buildings.Building.{Building}
 use Rattle.dh_commands.specs.LanesRun.{paths_counted}
 use Rattle.dh_laid.specs.BlockSites.{MadeEach}
 use Rattle.dh_laid.specs.LaidProducts.{AddsProducts, action_products, groups_products, other_products, part_products, products_in}
-use Rattle.dh_laid.specs.LaidQuiet.{StandsIn}
+use Rattle.dh_laid.specs.LaidQuiet.{BlockStandsIn}
 use Rattle.dh_laid.proofs.CommandsMultiply.{commands_have_products, products_again}
 use Rattle.dh_laid.proofs.ProductsOfCore.{commands_multiply, kept_products, terms_multiply}
 use Rattle.dh_used.proofs.NamedStores.{target_reaches}
@@ -84,7 +84,7 @@ pub each_reaching : (known : Known) (cs : List Located) → AllByRecursion (λ (
 each_reaching known [] h = refl
 each_reaching known (c ∷ cs) h = action_reaching known c.first c.command (core_commands known cs) h.0 ∙ ap (λ (n : ℕ). action_products known c.command + n) (each_reaching known cs h.1)
 
-pub each_multiply : (scene : Scene) (around : Around) (cs : List Located) (old new : Building) → StandsIn scene around → MadeEach scene around cs old new → AddsProducts old.draft new.draft (each_products (known_in scene) cs * paths_counted around)
+pub each_multiply : (scene : Scene) (around : Around) (cs : List Located) (old new : Building) → BlockStandsIn scene around → MadeEach scene around cs old new → AddsProducts old.draft new.draft (each_products (known_in scene) cs * paths_counted around)
 each_multiply scene around [] old new stands m = record {
   more = [];
   adds = ap (λ (b : Building). b.draft.operations.items) m ∙ sym (append-nil old.draft.operations.items);

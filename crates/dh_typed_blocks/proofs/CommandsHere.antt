@@ -17,7 +17,7 @@ use Rattle.dh_meaning.specs.Phases.{Located, turn_count}
 use Rattle.dh_meaning.specs.Ways.{Hidden, hidden_in}
 use Rattle.dh_plan.specs.Correspondence.{Round}
 use Rattle.dh_runnable.specs.ActionsRun.{table_known}
-use Rattle.dh_sound.specs.AssignsInside.{AllInside, AssignsInside, KeepsInside, OtherAssignsInside, GroupsAssignInside, PartAssignsInside}
+use Rattle.dh_sound.specs.AssignsInside.{AllAssignInside, AssignsInside, KeepsInside, OtherAssignsInside, GroupsAssignInside, PartAssignsInside}
 use Rattle.dh_sound.specs.Blocks.{factors}
 use Rattle.dh_sound.specs.SimpleForms.{FoldsInJoins, OtherFoldsInJoins, GroupsFoldInJoins, PartFoldsInJoins}
 use Rattle.dh_sound.proofs.DepthsNamed.{inside_count}
@@ -100,7 +100,7 @@ module _ (known : Known) (p : Placing) where
     part_inside no_actions ts s h = tt
     part_inside (action_then a rest) ts s h = (fits_inside a ts s.0 h.0, part_inside rest ts s.1 h.1)
 
-  pub all_inside : (ts : List Turning) (cs : List Located) → EachOf (SimpleFits known p) ts cs → AllInside known (length (factors ts)) cs
+  pub all_inside : (ts : List Turning) (cs : List Located) → EachOf (SimpleFits known p) ts cs → AllAssignInside known (length (factors ts)) cs
   all_inside ts [] h = tt
   all_inside ts (c ∷ cs) h = (fits_inside c.command ts h.0.0 h.0.1, all_inside ts cs h.1)
 

@@ -14,7 +14,7 @@ use Rattle.dh_meaning.specs.AccessNumbers.{term_accesses, terms_accesses}
 use Rattle.dh_meaning.specs.Bindings.{kind_or_first}
 use Rattle.dh_meaning.specs.CoreOf.{entity_number, memory_of, way_of}
 use Rattle.dh_meaning.specs.Ways.{Way}
-use Rattle.dh_meets.specs.SourceEvents.{Element, with_indices, in_row, Site, SourceAccess, SourceEvent, accesses, accesses_in, one_access, term_events, terms_events}
+use Rattle.dh_meets.specs.SourceEvents.{Element, with_indices, in_row, Site, SourceAccess, SourceEvent, accesses, accesses_in, one_access, source_term_events, source_terms_events}
 use Rattle.dh_code.specs.Slots.{held_at}
 use Rattle.dh_plan.specs.declared.operations.Operation.{Operation}
 use Rattle.dh_plan.specs.declared.operations.OperationForm.{OperationForm}
@@ -46,7 +46,7 @@ use Rattle.dh_expressions.proofs.Pushing.{in_front, pushed_there}
 use Rattle.dh_formed.specs.Formed as formed
 use Rattle.dh_formed.proofs.TermsFormed.{all_numbered, numbered}
 use Rattle.dh_formed.proofs.ValuesCounted.{copies_counts, number_counts, operation_counts, sees_any, variable_counts, way_counts}
-use Rattle.dh_laid.specs.LaidQuiet.{StandsIn}
+use Rattle.dh_laid.specs.LaidQuiet.{BlockStandsIn}
 use Rattle.dh_laid.specs.LaidUses.{IsSitesReach}
 use Rattle.dh_laid.proofs.FaultsOwn.{each_place, in_either}
 use Rattle.dh_laid.proofs.SitesLaid.{behind_place}
@@ -174,7 +174,7 @@ module _ (scene : Scene) where
 
   -- One path.
 
-  module _ (lane : Lane) (stands : StandsIn scene lane.around) where
+  module _ (lane : Lane) (stands : BlockStandsIn scene lane.around) where
     touch_aims : (access : Term) (memory : ℕ) (writes : Truth) (old new : Draft) (before after : Accesses) (number : ℕ)
         → TouchesAt scene lane.around (standing_at scene lane.around memory (place_written access) (form_of access) writes) old new before after number → Aims old new
     touch_aims access memory writes old new before after number t = by t.adds
@@ -244,7 +244,7 @@ module _ (scene : Scene) where
 
       module _ (site : Site) where
         mutual
-          pub term_aims : (t : Term) (old new : Draft) (before after : Accesses) (n next v : ℕ) → MadeTerm scene lane current t old new before after n next v → n + term_accesses t < 2 ^ 32 → AreAccesses n (term_events site t) → AimsTerm t old new v
+          pub term_aims : (t : Term) (old new : Draft) (before after : Accesses) (n next v : ℕ) → MadeTerm scene lane current t old new before after n next v → n + term_accesses t < 2 ^ 32 → AreAccesses n (source_term_events site t) → AimsTerm t old new v
           term_aims (plain.term place k (plain.number negative z)) old new before after n next v m few has = record {
             aims = aims_plain old new (uses_counted scene no_sites old new 0 _ _ (number_counts any_register no_reach no_reach no_reach (kind_or_first k) negative z old new v m.part));
             holds = ((m.part).word, (pushed_there old new v None (Constant (m.part).word) (m.part).pushes, (m.part).is));
@@ -260,9 +260,9 @@ module _ (scene : Scene) where
           term_aims (plain.term place k (plain.accessed r ts)) old new before after n next v m few has =
               let less : n + terms_accesses ts < 2 ^ 32 = omega (arith, few) in
               let own = all_numbered scene lane current ts old m.named before m.between n m.aim.number m.aim.indices m.indices less in
-              let one : AimsTerms ts old m.named m.aim.indices = terms_aim ts old m.named before m.between n m.aim.number m.aim.indices m.indices less (events_front n (terms_events site ts) (one_access place r.entity (with_indices ts) false site) has) in
+              let one : AimsTerms ts old m.named m.aim.indices = terms_aim ts old m.named before m.between n m.aim.number m.aim.indices m.indices less (events_front n (source_terms_events site ts) (one_access place r.entity (with_indices ts) false site) has) in
               let two : Aims m.named m.middle = way_aims r m.named m.middle m.aim.steps m.steps in
-              let at = events_last n m.aim.number (terms_events site ts) _ (terms_accesses ts) (terms_counted site ts) own has in
+              let at = events_last n m.aim.number (source_terms_events site ts) _ (terms_accesses ts) (terms_counted site ts) own has in
               record {
                 aims = aims_again old m.middle new (aims_again old m.named m.middle one.aims two)
                     (read_aims (plain.term place k (plain.accessed r ts)) (memory_of (known_in scene) r) m.aim m.middle _ at r refl
@@ -273,8 +273,8 @@ module _ (scene : Scene) where
           term_aims (plain.term place k (plain.in_bank r bank at row)) old new before after n next v m few has =
               let less : n + term_accesses row < 2 ^ 32 = omega (arith, few) in
               let own = numbered scene lane current row old m.middle before m.between n m.aim.number m.value m.row less in
-              let one : AimsTerm row old m.middle m.value = term_aims row old m.middle before m.between n m.aim.number m.value m.row less (events_front n (term_events site row) (one_access place r.entity (in_row bank row) false site) has) in
-              let there = events_last n m.aim.number (term_events site row) _ (term_accesses row) (term_counted site row) own has in
+              let one : AimsTerm row old m.middle m.value = term_aims row old m.middle before m.between n m.aim.number m.value m.row less (events_front n (source_term_events site row) (one_access place r.entity (in_row bank row) false site) has) in
+              let there = events_last n m.aim.number (source_term_events site row) _ (term_accesses row) (term_counted site row) own has in
               record {
                 aims = aims_again old m.middle new one.aims
                     (read_aims (plain.term place k (plain.in_bank r bank at row)) (memory_of (known_in scene) r) m.aim m.middle _ there r refl (λ banks. (m.value, (m.row_is, one.holds))) new m.between after v m.reads);
@@ -283,9 +283,9 @@ module _ (scene : Scene) where
           term_aims (plain.term place k (plain.applied op left right)) old new before after n next v m few has =
               let less : n + term_accesses left < 2 ^ 32 = omega (arith, few) in
               let own = numbered scene lane current left old m.middle before m.between n m.own m.a m.first less in
-              let one : AimsTerm left old m.middle m.a = term_aims left old m.middle before m.between n m.own m.a m.first less (events_front n (term_events site left) (term_events site right) has) in
+              let one : AimsTerm left old m.middle m.a = term_aims left old m.middle before m.between n m.own m.a m.first less (events_front n (source_term_events site left) (source_term_events site right) has) in
               let two : AimsTerm right m.middle m.end m.b =
-              term_aims right m.middle m.end m.between after m.own next m.b m.second (omega (arith, few, own)) (events_behind n m.own (term_events site left) (term_events site right) (term_accesses left) (term_counted site left) own has) in
+              term_aims right m.middle m.end m.between after m.own next m.b m.second (omega (arith, few, own)) (events_behind n m.own (source_term_events site left) (source_term_events site right) (term_accesses left) (term_counted site left) own has) in
               record {
                 aims = aims_again old m.middle new one.aims
                     (aims_again m.middle m.end new two.aims (aims_plain m.end new (uses_counted scene no_sites m.end new (product_of op) _ _ (operation_counts any_register no_reach no_reach no_reach op left right m.a m.b m.end new v m.operation))));
@@ -295,15 +295,15 @@ module _ (scene : Scene) where
               let one : AimsTerm inner old m.middle m.a = term_aims inner old m.middle before after n next m.a m.operand few has in
               record { aims = aims_again old m.middle new one.aims (aims_plain m.middle new (converted_used scene no_sites (is_kept inner to) to m.a m.middle new v m.converts)); holds = tt }
 
-          pub terms_aim : (ts : plain.Terms) (old new : Draft) (before after : Accesses) (n next : ℕ) (vs : List ℕ) → MadeTerms scene lane current ts old new before after n next vs → n + terms_accesses ts < 2 ^ 32 → AreAccesses n (terms_events site ts)
+          pub terms_aim : (ts : plain.Terms) (old new : Draft) (before after : Accesses) (n next : ℕ) (vs : List ℕ) → MadeTerms scene lane current ts old new before after n next vs → n + terms_accesses ts < 2 ^ 32 → AreAccesses n (source_terms_events site ts)
               → AimsTerms ts old new vs
           terms_aim plain.no_terms old new before after n next vs m few has = record { aims = aims_none old new m.still; hold = m.none }
           terms_aim (plain.term_then t ts) old new before after n next vs m few has =
               let less : n + term_accesses t < 2 ^ 32 = omega (arith, few) in
               let own = numbered scene lane current t old m.middle before m.between n m.own m.a m.first less in
-              let one : AimsTerm t old m.middle m.a = term_aims t old m.middle before m.between n m.own m.a m.first less (events_front n (term_events site t) (terms_events site ts) has) in
+              let one : AimsTerm t old m.middle m.a = term_aims t old m.middle before m.between n m.own m.a m.first less (events_front n (source_term_events site t) (source_terms_events site ts) has) in
               let two : AimsTerms ts m.middle new m.more =
-              terms_aim ts m.middle new m.between after m.own next m.more m.rest (omega (arith, few, own)) (events_behind n m.own (term_events site t) (terms_events site ts) (term_accesses t) (term_counted site t) own has) in
+              terms_aim ts m.middle new m.between after m.own next m.more m.rest (omega (arith, few, own)) (events_behind n m.own (source_term_events site t) (source_terms_events site ts) (term_accesses t) (term_counted site t) own has) in
               record {
                 aims = aims_again old m.middle new one.aims two.aims;
                 hold = (m.a, (m.more, (m.values_are, (term_stays m.middle.operations.items new.operations.items (adds_stay m.middle new two.aims) t m.a one.holds, two.hold))));

@@ -16,7 +16,7 @@ use Rattle.dh_meaning.specs.Phases.{Located, idle_phases_of, phases_of}
 use Rattle.dh_meaning.specs.Sites as source
 use Rattle.dh_meaning.specs.Sites.{in_arm}
 use Rattle.dh_meaning.specs.Ways.{Hidden, hidden_in}
-use Rattle.dh_meets.specs.SourceEvents.{Site, SourceAccess, SourceEvent, assigned, accesses_in, events, groups_events, in_row, one_access, other_events, part_events, site_of, term_events, terms_events, trace, with_indices, write_events}
+use Rattle.dh_meets.specs.SourceEvents.{Site, SourceAccess, SourceEvent, assigned, accesses_in, events, groups_events, in_row, one_access, other_events, part_events, site_of, source_term_events, source_terms_events, trace, with_indices, write_events}
 use Rattle.dh_code.specs.Slots.{held_at}
 use Rattle.dh_sound.specs.PhaseFacts.{HasStraight, HasTest, StandsAmong}
 use Rattle.dh_sound.proofs.EventCounts.{accesses_joined, events_counted, part_counted, term_counted, terms_counted}
@@ -38,7 +38,7 @@ use Rattle.dh_commands.specs.MadeCommands.{Commanding, MadeActions, MadeAim, Mad
 use Rattle.dh_laid.specs.BlockSites.{MadeEach}
 use Rattle.dh_laid.specs.LaidCommands.{AreFewIn}
 use Rattle.dh_laid.specs.LaidNumbers.{IsAccessForm, StoresReach, StoresReachGroups, StoresReachOther, StoresReachPart}
-use Rattle.dh_laid.specs.LaidQuiet.{StandsIn}
+use Rattle.dh_laid.specs.LaidQuiet.{BlockStandsIn}
 use Rattle.dh_laid.specs.LaidUses.{AreAlong}
 use Rattle.dh_laid.proofs.CommandsNumbered.{actions_reached, command_reached, some_arm, tests_number}
 use Rattle.dh_laid.proofs.SitesLaid.{behind_place}
@@ -57,8 +57,8 @@ module _ (scene : Scene) where
 
   -- One path.
 
-  module _ (lane : Lane) (stands : StandsIn scene lane.around) (site : Site) where
-    assigned_aims : (first entity : ℕ) (t : Term) (old new : Building) (next : ℕ) → MadeAssigned scene lane first entity t old new next → AreFewIn first t → AreAccesses scene first (term_events site t) → Aims scene old.draft new.draft
+  module _ (lane : Lane) (stands : BlockStandsIn scene lane.around) (site : Site) where
+    assigned_aims : (first entity : ℕ) (t : Term) (old new : Building) (next : ℕ) → MadeAssigned scene lane first entity t old new next → AreFewIn first t → AreAccesses scene first (source_term_events site t) → Aims scene old.draft new.draft
     assigned_aims first entity t old new next m few has =
         let one : AimsTerm scene lane stands old.values.current.items t old.draft m.middle m.value = term_aims scene lane stands old.values.current.items site t old.draft m.middle old.accesses new.accesses first next m.value m.term few has in
         aims_again scene old.draft m.middle new.draft one.aims (aims_plain scene m.middle new.draft (held_used scene (no_sites scene) t (held_at scene.held.now entity).kind m.value m.middle new.draft m.held m.holds))
@@ -68,12 +68,12 @@ module _ (scene : Scene) where
         aims_plain scene old.draft new.draft
         (uses_counted scene (no_sites scene) old.draft new.draft 0 _ _ (number_counts any_register no_reach no_reach no_reach (held_at scene.held.now entity).kind false 0 old.draft new.draft m.value m.number))
 
-    reduced_aims : (first entity : ℕ) (op : Op) (t : Term) (old new : Building) (next : ℕ) → MadeReduced scene lane first entity op t old new next → AreFewIn first t → AreAccesses scene first (term_events site t) → Aims scene old.draft new.draft
+    reduced_aims : (first entity : ℕ) (op : Op) (t : Term) (old new : Building) (next : ℕ) → MadeReduced scene lane first entity op t old new next → AreFewIn first t → AreAccesses scene first (source_term_events site t) → Aims scene old.draft new.draft
     reduced_aims first entity op t old new next m few has =
         let one : AimsTerm scene lane stands old.values.current.items t old.draft m.middle m.value = term_aims scene lane stands old.values.current.items site t old.draft m.middle old.accesses new.accesses first next m.value m.term few has in
         aims_again scene old.draft m.middle new.draft one.aims (aims_plain scene m.middle new.draft (folded_used scene (no_sites scene) lane old.values.current.items (held_at scene.held.now entity) op t m.value m.middle new.draft m.folded m.folds))
 
-    kept_aims : (first entity : ℕ) (offsets : List Term) (old new : Building) (next : ℕ) → MadeKept scene lane first entity offsets old new next → first + terms_accesses (terms offsets) < 2 ^ 32 → AreAccesses scene first (terms_events site (terms offsets))
+    kept_aims : (first entity : ℕ) (offsets : List Term) (old new : Building) (next : ℕ) → MadeKept scene lane first entity offsets old new next → first + terms_accesses (terms offsets) < 2 ^ 32 → AreAccesses scene first (source_terms_events site (terms offsets))
         → Aims scene old.draft new.draft
     kept_aims first entity offsets old new next m few has =
         let one : AimsTerms scene lane stands old.values.current.items (terms offsets) old.draft m.middle m.values =
@@ -89,10 +89,10 @@ module _ (scene : Scene) where
           let less : n + terms_accesses ts < 2 ^ 32 = omega (arith, few) in
           let own = all_numbered scene lane current ts old m.0.middle before behind n aim.number aim.indices m.0.indices less in
           let one : AimsTerms scene lane stands current ts old m.0.middle aim.indices =
-          terms_aim scene lane stands current site ts old m.0.middle before behind n aim.number aim.indices m.0.indices less (events_front scene n (terms_events site ts) (one_access place r.entity (with_indices ts) true site) has) in
+          terms_aim scene lane stands current site ts old m.0.middle before behind n aim.number aim.indices m.0.indices less (events_front scene n (source_terms_events site ts) (one_access place r.entity (with_indices ts) true site) has) in
           let two : Aims scene m.0.middle middle = way_aims scene lane stands current r m.0.middle middle aim.steps m.0.steps in
           let three : Aims scene middle s.0 = aims_plain scene middle s.0 (held_used scene (no_sites scene) t _ value middle s.0 s.1.0 s.1.1.0) in
-          let at = events_last scene n aim.number (terms_events site ts) _ (terms_accesses ts) (terms_counted site ts) own has in
+          let at = events_last scene n aim.number (source_terms_events site ts) _ (terms_accesses ts) (terms_counted site ts) own has in
           let stays = terms_stay middle.operations.items (s.0).operations.items (adds_stay scene middle s.0 three) ts aim.indices
           (terms_stay m.0.middle.operations.items middle.operations.items (adds_stay scene m.0.middle middle two) ts aim.indices one.hold) in
           aims_again scene old m.0.middle new.draft one.aims
@@ -105,9 +105,9 @@ module _ (scene : Scene) where
           let less : n + term_accesses row < 2 ^ 32 = omega (arith, few) in
           let own = numbered scene lane current row old middle before behind n aim.number m.0.value m.0.row less in
           let one : AimsTerm scene lane stands current row old middle m.0.value =
-          term_aims scene lane stands current site row old middle before behind n aim.number m.0.value m.0.row less (events_front scene n (term_events site row) (one_access place r.entity (in_row bank row) true site) has) in
+          term_aims scene lane stands current site row old middle before behind n aim.number m.0.value m.0.row less (events_front scene n (source_term_events site row) (one_access place r.entity (in_row bank row) true site) has) in
           let two : Aims scene middle s.0 = aims_plain scene middle s.0 (held_used scene (no_sites scene) t _ value middle s.0 s.1.0 s.1.1.0) in
-          let there = events_last scene n aim.number (term_events site row) _ (term_accesses row) (term_counted site row) own has in
+          let there = events_last scene n aim.number (source_term_events site row) _ (term_accesses row) (term_counted site row) own has in
           aims_again scene old middle new.draft one.aims
           (aims_again scene middle s.0 new.draft two
           (write_aims scene lane stands (plain.term place k (plain.in_bank r bank at row)) memory aim s.0 _ there r refl
@@ -120,15 +120,15 @@ module _ (scene : Scene) where
       target_aims (plain.term place k (plain.converted inner to)) t value aimed old middle before behind n new next m s is few has = absurd is
 
     stored_aims : (first : ℕ) (target t : Term) (old new : Building) (next : ℕ) → MadeStored scene lane first target t old new next → IsAccessForm (form_of target) → first + (term_accesses t + term_accesses target) < 2 ^ 32
-        → AreAccesses scene first (term_events site t ++ write_events site target) → Aims scene old.draft new.draft
+        → AreAccesses scene first (source_term_events site t ++ write_events site target) → Aims scene old.draft new.draft
     stored_aims first target t old new next m is few has =
         let less : AreFewIn first t = omega (arith, few) in
         let own = numbered scene lane old.values.current.items t old.draft m.middle old.accesses m.between first m.own m.value m.term less in
         let one : AimsTerm scene lane stands old.values.current.items t old.draft m.middle m.value =
-        term_aims scene lane stands old.values.current.items site t old.draft m.middle old.accesses m.between first m.own m.value m.term less (events_front scene first (term_events site t) (write_events site target) has) in
+        term_aims scene lane stands old.values.current.items site t old.draft m.middle old.accesses m.between first m.own m.value m.term less (events_front scene first (source_term_events site t) (write_events site target) has) in
         aims_again scene old.draft m.middle new.draft one.aims
         (target_aims old.values.current.items target t m.value m.aimed m.middle m.end m.between m.behind m.own new next m.aims m.stores is (omega (arith, few, own))
-        (events_behind scene first m.own (term_events site t) (write_events site target) (term_accesses t) (term_counted site t) own has))
+        (events_behind scene first m.own (source_term_events site t) (write_events site target) (term_accesses t) (term_counted site t) own has))
 
   -- All paths.
 
@@ -137,7 +137,7 @@ module _ (scene : Scene) where
   lanes_aim One each zero first old new next m = aims_none scene old.draft new.draft (ap (λ (b : Building). b.draft) m.0)
   lanes_aim One each (suc n) first old new next m = aims_again scene old.draft (m.0).draft new.draft (lanes_aim One each n first old m.0 m.1.0 m.1.1.0) (each n m.0 new next m.1.1.1)
 
-  pub tests_aim : (around : Around) → StandsIn scene around → (site : Site) (first : ℕ) (t : Term) → AreFewIn first t → AreAccesses scene first (term_events site t) → (count : ℕ) (old new : Building) (next : ℕ) (tests : List ℕ) → MadeTests scene around first t count old new next tests
+  pub tests_aim : (around : Around) → BlockStandsIn scene around → (site : Site) (first : ℕ) (t : Term) → AreFewIn first t → AreAccesses scene first (source_term_events site t) → (count : ℕ) (old new : Building) (next : ℕ) (tests : List ℕ) → MadeTests scene around first t count old new next tests
       → Aims scene old.draft new.draft
   tests_aim around stands site first t few has zero old new next tests m = aims_none scene old.draft new.draft (ap (λ (b : Building). b.draft) m.0)
   tests_aim around stands site first t few has (suc n) old new next tests m =
@@ -155,8 +155,8 @@ module _ (scene : Scene) where
   still_aims : (old new : Building) → new ≡ old → Aims scene old.draft new.draft
   still_aims old new still = aims_none scene old.draft new.draft (ap (λ (b : Building). b.draft) still)
 
-  view_aims : (hidden : List Hidden) (form : ViewPlan) (around : Around) (site : Site) (old new : Building) (first next : ℕ) → StandsIn scene around → MadeView scene hidden form around old new first next → first + plan_accesses form < 2 ^ 32
-      → AreAccesses scene first (terms_events site (terms (offsets_of form))) → Aims scene old.draft new.draft
+  view_aims : (hidden : List Hidden) (form : ViewPlan) (around : Around) (site : Site) (old new : Building) (first next : ℕ) → BlockStandsIn scene around → MadeView scene hidden form around old new first next → first + plan_accesses form < 2 ^ 32
+      → AreAccesses scene first (source_terms_events site (terms (offsets_of form))) → Aims scene old.draft new.draft
   view_aims [] form around site old new first next s m few has = still_aims old new m.still
   view_aims (h ∷ hs) form around site old new first next s m few has =
       lanes_aim (λ n b d k. MadeKept scene (lane_of around n) first h.entity (offsets_of form) b d k) (λ n b d k one. kept_aims (lane_of around n) s site first h.entity (offsets_of form) b d k one few has) (paths_counted around) first old new next m
@@ -164,23 +164,23 @@ module _ (scene : Scene) where
   -- All commands.
 
   mutual
-    command_aims : (a : Action) (r : source.Around) (around : Around) (old new : Building) (first next : ℕ) → StandsIn scene around → (m : MadeCommand scene a around old new first next) → StoresReach a → 0 < paths_counted around → first + accesses_of a < 2 ^ 32
+    command_aims : (a : Action) (r : source.Around) (around : Around) (old new : Building) (first next : ℕ) → BlockStandsIn scene around → (m : MadeCommand scene a around old new first next) → StoresReach a → 0 < paths_counted around → first + accesses_of a < 2 ^ 32
         → AreAccesses scene first (events r a) → Aims scene old.draft new.draft
     command_aims (action id place (lets name declared (Some value))) r around old new first next s m is some few has =
         lanes_aim (λ n b d k. MadeAssigned scene (lane_of around n) first (entity_number name.entity) value b d k)
-        (λ n b d k one. assigned_aims (lane_of around n) s (site_of r id) first (entity_number name.entity) value b d k one (omega (arith, few)) (events_front scene first (term_events (site_of r id) value) (assigned name.entity ∷ []) has)) (paths_counted around) first old new next m
+        (λ n b d k one. assigned_aims (lane_of around n) s (site_of r id) first (entity_number name.entity) value b d k one (omega (arith, few)) (events_front scene first (source_term_events (site_of r id) value) (assigned name.entity ∷ []) has)) (paths_counted around) first old new next m
     command_aims (action id place (lets name declared None)) r around old new first next s m is some few has =
         lanes_aim (λ n b d k. MadeCleared scene (lane_of around n) (entity_number name.entity) b d × (k ≡ first))
         (λ n b d k one. cleared_aims (lane_of around n) s (site_of r id) (entity_number name.entity) b d one.0) (paths_counted around) first old new next m
     command_aims (action id place (assigns target value)) r around old new first next s m is some few has =
         lanes_aim (λ n b d k. MadeAssigned scene (lane_of around n) first (entity_number target.entity) value b d k)
-        (λ n b d k one. assigned_aims (lane_of around n) s (site_of r id) first (entity_number target.entity) value b d k one (omega (arith, few)) (events_front scene first (term_events (site_of r id) value) (assigned target.entity ∷ []) has)) (paths_counted around) first old new next m
+        (λ n b d k one. assigned_aims (lane_of around n) s (site_of r id) first (entity_number target.entity) value b d k one (omega (arith, few)) (events_front scene first (source_term_events (site_of r id) value) (assigned target.entity ∷ []) has)) (paths_counted around) first old new next m
     command_aims (action id place (stores target value)) r around old new first next s m is some few has =
         lanes_aim (λ n b d k. MadeStored scene (lane_of around n) first target value b d k)
         (λ n b d k one. stored_aims (lane_of around n) s (site_of r id) first target value b d k one is (omega (arith, few)) has) (paths_counted around) first old new next m
     command_aims (action id place (reduces target op value)) r around old new first next s m is some few has =
         lanes_aim (λ n b d k. MadeReduced scene (lane_of around n) first (entity_number target.entity) op value b d k)
-        (λ n b d k one. reduced_aims (lane_of around n) s (site_of r id) first (entity_number target.entity) op value b d k one (omega (arith, few)) (events_front scene first (term_events (site_of r id) value) (assigned target.entity ∷ []) has)) (paths_counted around) first old new next m
+        (λ n b d k one. reduced_aims (lane_of around n) s (site_of r id) first (entity_number target.entity) op value b d k one (omega (arith, few)) (events_front scene first (source_term_events (site_of r id) value) (assigned target.entity ∷ []) has)) (paths_counted around) first old new next m
     command_aims (action id place (decides test chosen other)) r around old new first next s m is some few has =
         let less : AreFewIn first test = omega (arith, few) in
         let many : length m.tests ≡ paths_counted around = (tests_same scene around first test (paths_counted around) old m.tested m.own m.tests m.test).1 in
@@ -189,7 +189,7 @@ module _ (scene : Scene) where
         let some_in : 0 < paths_counted m.chosen.arm = some_arm (MadeCommand scene chosen) around true m.tests m.tested m.after_chosen m.own m.behind m.chosen_left m.chosen some_tests in
         let few_in : m.own + accesses_of chosen < 2 ^ 32 = omega (arith, few, own) in
         let behind = (command_reached scene chosen m.chosen.arm m.chosen.begin m.chosen.inside m.own m.behind m.chosen.command is.0 some_in few_in).1.next_is in
-        let test_events = term_events (site_of r id) test in
+        let test_events = source_term_events (site_of r id) test in
         let one = events (in_arm r id true) chosen in
         let two = other_events (in_arm r id false) other in
         let has_arms = events_behind scene first m.own test_events (one ++ two) (term_accesses test) (term_counted (site_of r id) test) own has in
@@ -210,7 +210,7 @@ module _ (scene : Scene) where
     command_aims (action id place (repeats test body)) r around old new first next s m is some few has = still_aims old new m.still
     command_aims (action id place (counts iterator declared low high factor body combine combine_place)) r around old new first next s m is some few has = still_aims old new m.still
 
-    other_aims : (other : MaybeAction) (r : source.Around) (around : Around) (tests : List ℕ) (old new : Building) (first next : ℕ) (lefts : List Left) → StandsIn scene around → length tests ≡ paths_counted around
+    other_aims : (other : MaybeAction) (r : source.Around) (around : Around) (tests : List ℕ) (old new : Building) (first next : ℕ) (lefts : List Left) → BlockStandsIn scene around → length tests ≡ paths_counted around
         → (m : MadeOther scene other around tests old new first next lefts) → StoresReachOther other → 0 < length tests → first + other_accesses other < 2 ^ 32 → AreAccesses scene first (other_events r other) → Aims scene old.draft new.draft
     other_aims no_action r around tests old new first next lefts s many m is some few has = still_aims old new m.still
     other_aims (one_action a) r around tests old new first next lefts s many m is some few has =
@@ -218,7 +218,7 @@ module _ (scene : Scene) where
         (command_aims a r m.arm m.begin m.inside first next (stands_arm scene (MadeCommand scene a) around false tests old new first next lefts m s many) m.command is
         (some_arm (MadeCommand scene a) around false tests old new first next lefts m some) few has)
 
-    actions_aim : (part : Actions) (r : source.Around) (around : Around) (old new : Building) (first next : ℕ) → StandsIn scene around → (m : MadeActions scene part around old new first next) → StoresReachPart part → 0 < paths_counted around
+    actions_aim : (part : Actions) (r : source.Around) (around : Around) (old new : Building) (first next : ℕ) → BlockStandsIn scene around → (m : MadeActions scene part around old new first next) → StoresReachPart part → 0 < paths_counted around
         → first + part_accesses part < 2 ^ 32 → AreAccesses scene first (part_events r part) → Aims scene old.draft new.draft
     actions_aim no_actions r around old new first next s m is some few has = still_aims old new m.still
     actions_aim (action_then a rest) r around old new first next s m is some few has =
@@ -227,7 +227,7 @@ module _ (scene : Scene) where
         aims_again scene old.draft m.middle.draft new.draft (command_aims a r around old m.middle first m.own s m.one is.0 some less (events_front scene first (events r a) (part_events r rest) has))
         (actions_aim rest r around m.middle new m.own next s m.rest is.1 some (omega (arith, few, own)) (events_behind scene first m.own (events r a) (part_events r rest) (accesses_of a) (events_counted r a) own has))
 
-    groups_aim : (body : Groups) (r : source.Around) (around : Around) (old new : Building) (first next : ℕ) → StandsIn scene around → (m : MadeGroups scene body around old new first next) → StoresReachGroups body → 0 < paths_counted around
+    groups_aim : (body : Groups) (r : source.Around) (around : Around) (old new : Building) (first next : ℕ) → BlockStandsIn scene around → (m : MadeGroups scene body around old new first next) → StoresReachGroups body → 0 < paths_counted around
         → first + groups_accesses body < 2 ^ 32 → AreAccesses scene first (groups_events r body) → Aims scene old.draft new.draft
     groups_aim no_groups r around old new first next s m is some few has = still_aims old new m.still
     groups_aim (group_then part rest) r around old new first next s m is some few has =
@@ -262,7 +262,7 @@ module _ (scene : Scene) where
   pub test_among : (tested : Located) → HasTest (phases_of (program_seen scene.program.now)) tested → StandsAmong 0 (trace (program_seen scene.program.now)) tested
   test_among tested has = test_stands (program_seen scene.program.now) tested (test_either (phases_of (program_seen scene.program.now)) (idle_phases_of (program_seen scene.program.now)) tested (inl has))
 
-  pub blocks_aim : (around : Around) → StandsIn scene around → 0 < paths_counted around → (cs : List Located) (from : ℕ) (old new : Building) → MadeEach scene around cs old new → AreAlong from cs
+  pub blocks_aim : (around : Around) → BlockStandsIn scene around → 0 < paths_counted around → (cs : List Located) (from : ℕ) (old new : Building) → MadeEach scene around cs old new → AreAlong from cs
       → AllByRecursion (λ (c : Located). StandsAmong 0 (trace (program_seen scene.program.now)) c) cs → Aims scene old.draft new.draft
   blocks_aim around stands some [] from old new m along stand = still_aims old new m
   blocks_aim around stands some (c ∷ cs) from old new (mid, (next, (m, rest))) along stand =
@@ -270,8 +270,8 @@ module _ (scene : Scene) where
       (blocks_aim around stands some cs (c.first + accesses_of c.command) mid new rest along.1 stand.1)
 
   -- the test of a command
-  pub test_aims : (around : Around) → StandsIn scene around → (tested : Located) (t : Term) → core.test_of (core.action_form_of tested.command) ≡ Some t → StandsAmong 0 (trace (program_seen scene.program.now)) tested → AreFewIn tested.first t
+  pub test_aims : (around : Around) → BlockStandsIn scene around → (tested : Located) (t : Term) → core.test_of (core.action_form_of tested.command) ≡ Some t → StandsAmong 0 (trace (program_seen scene.program.now)) tested → AreFewIn tested.first t
       → (count : ℕ) (old new : Building) (next : ℕ) (tests : List ℕ) → MadeTests scene around tested.first t count old new next tests → Aims scene old.draft new.draft
   test_aims around stands tested t has stand few count old new next tests m =
       let b = test_begins tested.around tested.command t has in
-      tests_aim around stands b.site tested.first t few (events_front scene tested.first (term_events b.site t) b.rest (subst (λ (es : List SourceEvent). AreAccesses scene tested.first es) b.are (stand_accesses tested stand))) count old new next tests m
+      tests_aim around stands b.site tested.first t few (events_front scene tested.first (source_term_events b.site t) b.rest (subst (λ (es : List SourceEvent). AreAccesses scene tested.first es) b.are (stand_accesses tested stand))) count old new next tests m

@@ -40,7 +40,7 @@ use Rattle.dh_expressions.specs.Noted.{touched_in}
 use Rattle.dh_expressions.specs.Shown.{is_read_term}
 use Rattle.dh_laid.specs.BareCommands.{AreRising, IsBare, IsBareFrom}
 use Rattle.dh_laid.specs.BlockSites.{block_sites, test_sites}
-use Rattle.dh_laid.specs.LaidQuiet.{StandsIn}
+use Rattle.dh_laid.specs.LaidQuiet.{BlockStandsIn}
 use Rattle.dh_laid.specs.LaidUses.{AreAlong, HaveNoOperations}
 use Rattle.dh_blocks.specs.BlockMade.{IsTop}
 use Rattle.dh_gathering.specs.declared.blocks.Made.{Made}
@@ -241,7 +241,7 @@ module _ (scene : Scene) (final : Made) (plan : PlainPlan) (is : IsMadeOf scene 
   pub body_inside : ListInside (known_in scene) [] (phases_of p)
   body_inside = action_inside (known_in scene) nothing_around [] 0 p.body (kept_named (known_of p) p.body is.named) tt
 
-  module _ (rounds : List Round) (around : Around) (round : IsRoundBlock rounds around) (stands : StandsIn scene around) where
+  module _ (rounds : List Round) (around : Around) (round : IsRoundBlock rounds around) (stands : BlockStandsIn scene around) where
     top : IsTop rounds around
     top = rounds_are_top scene rounds around round stands
 

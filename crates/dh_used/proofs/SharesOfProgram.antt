@@ -14,7 +14,7 @@ use Rattle.dh_meaning.specs.Phases.{Located}
 use Rattle.dh_meaning.specs.Sites as source
 use Rattle.dh_meaning.specs.Sites.{in_arm, nothing_around}
 use Rattle.dh_meets.specs.Sharing.{shared}
-use Rattle.dh_meets.specs.SourceEvents.{with_indices, SourceAccess, SourceEvent, accesses, assigned, accesses_in, events, groups_events, other_events, part_events, site_of, term_events, terms_events, trace, write_events}
+use Rattle.dh_meets.specs.SourceEvents.{with_indices, SourceAccess, SourceEvent, accesses, assigned, accesses_in, events, groups_events, other_events, part_events, site_of, source_term_events, source_terms_events, trace, write_events}
 use Rattle.dh_used.proofs.SharedReads.{shared_before, shared_there}
 use Rattle.dh_sound.specs.PhaseFacts.{StandsAmong}
 use Rattle.dh_sound.specs.ToldEvents.{access_at}
@@ -103,11 +103,11 @@ module _ (P : (number : ℕ) → Type 0) where
       moved n own m i e = omega (arith, e)
 
   target_written : (site : _) (n : ℕ) (t : Term) → IsAccessForm (indices.form_of t) → Holds n (write_events site t) → P (n + aim_accesses (indices.form_of t))
-  target_written site n (plain.term place k (plain.accessed r ts)) is h = h (aim_accesses (plain.accessed r ts)) _ (ap (λ m. slice_get (accesses_in (write_events site (plain.term place k (plain.accessed r ts)))) m) (none (aim_accesses (plain.accessed r ts))) ∙ then_of (terms_events site ts) _ (aim_accesses (plain.accessed r ts)) 0 _ (terms_counted site ts) refl) refl
+  target_written site n (plain.term place k (plain.accessed r ts)) is h = h (aim_accesses (plain.accessed r ts)) _ (ap (λ m. slice_get (accesses_in (write_events site (plain.term place k (plain.accessed r ts)))) m) (none (aim_accesses (plain.accessed r ts))) ∙ then_of (source_terms_events site ts) _ (aim_accesses (plain.accessed r ts)) 0 _ (terms_counted site ts) refl) refl
     where
       none : (m : ℕ) → m ≡ m + 0
       none m = omega arith
-  target_written site n (plain.term place k (plain.in_bank r bank at row)) is h = h (aim_accesses (plain.in_bank r bank at row)) _ (ap (λ m. slice_get (accesses_in (write_events site (plain.term place k (plain.in_bank r bank at row)))) m) (none (aim_accesses (plain.in_bank r bank at row))) ∙ then_of (term_events site row) _ (aim_accesses (plain.in_bank r bank at row)) 0 _ (term_counted site row) refl) refl
+  target_written site n (plain.term place k (plain.in_bank r bank at row)) is h = h (aim_accesses (plain.in_bank r bank at row)) _ (ap (λ m. slice_get (accesses_in (write_events site (plain.term place k (plain.in_bank r bank at row)))) m) (none (aim_accesses (plain.in_bank r bank at row))) ∙ then_of (source_term_events site row) _ (aim_accesses (plain.in_bank r bank at row)) 0 _ (term_counted site row) refl) refl
     where
       none : (m : ℕ) → m ≡ m + 0
       none m = omega arith
@@ -123,11 +123,11 @@ module _ (P : (number : ℕ) → Type 0) where
     writes_told (action id place (assigns target value)) r n is h = tt
     writes_told (action id place (stores target value)) r n is h =
         target_written (site_of r id) (n + term_accesses value) target is
-        (holds_then n (n + term_accesses value) (term_events (site_of r id) value) (write_events (site_of r id) target) (term_accesses value) (term_counted (site_of r id) value) refl h)
+        (holds_then n (n + term_accesses value) (source_term_events (site_of r id) value) (write_events (site_of r id) target) (term_accesses value) (term_counted (site_of r id) value) refl h)
     writes_told (action id place (reduces target op value)) r n is h = tt
     writes_told (action id place (decides test chosen other)) r n is h =
         let arms : Holds (n + term_accesses test) (events (in_arm r id true) chosen ++ other_events (in_arm r id false) other) =
-        holds_then n (n + term_accesses test) (term_events (site_of r id) test) (events (in_arm r id true) chosen ++ other_events (in_arm r id false) other) (term_accesses test) (term_counted (site_of r id) test) refl h in (
+        holds_then n (n + term_accesses test) (source_term_events (site_of r id) test) (events (in_arm r id true) chosen ++ other_events (in_arm r id false) other) (term_accesses test) (term_counted (site_of r id) test) refl h in (
           writes_told chosen (in_arm r id true) (n + term_accesses test) is.0 (holds_first (n + term_accesses test) (events (in_arm r id true) chosen) (other_events (in_arm r id false) other) arms),
           other_told other (in_arm r id false) (n + term_accesses test + accesses_of chosen) is.1
               (holds_then (n + term_accesses test) (n + term_accesses test + accesses_of chosen) (events (in_arm r id true) chosen) (other_events (in_arm r id false) other) (accesses_of chosen) (events_counted (in_arm r id true) chosen) refl arms),

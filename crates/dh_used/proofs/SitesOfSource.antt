@@ -21,7 +21,7 @@ use Rattle.dh_meaning.specs.Phases.{Located}
 use Rattle.dh_meaning.specs.Ways.{Hidden, hidden_in}
 use Rattle.dh_meaning.specs.Sites as source
 use Rattle.dh_meaning.specs.Sites.{in_arm}
-use Rattle.dh_meets.specs.SourceEvents.{SourceAccess, SourceEvent, assigned, accesses_in, command_events, events, groups_events, one_access, other_events, part_events, site_of, term_events, terms_events, trace, write_events}
+use Rattle.dh_meets.specs.SourceEvents.{SourceAccess, SourceEvent, assigned, accesses_in, command_events, events, groups_events, one_access, other_events, part_events, site_of, source_term_events, source_terms_events, trace, write_events}
 use Rattle.dh_meets.specs.SourceEvents as events
 use Rattle.dh_events.specs.Accesses.{element_in, entity_in}
 use Rattle.dh_sound.specs.PhaseFacts.{StandsAmong}
@@ -81,23 +81,23 @@ module _ (scene : Scene) (levels : List Level) (paths : ℕ) where
     write_sited place r form access named = (record { around = around; levels_are = levels_are; long = long; ref = r; entity_is = refl; form = form; access = access; named_is = named; element_is = refl; is = refl }, tt)
 
     mutual
-      term_sited : (t : Term) → SitesAre (all_there (term_sites scene around t)) (accesses_in (term_events site t))
+      term_sited : (t : Term) → SitesAre (all_there (term_sites scene around t)) (accesses_in (source_term_events site t))
       term_sited (plain.term place k (plain.number negative z)) = tt
       term_sited (plain.term place k (plain.truth_value b)) = tt
       term_sited (plain.term place k (plain.named r)) = tt
-      term_sited (plain.term place k (plain.accessed r ts)) = sites_joined (terms_sites scene around ts) _ (terms_events site ts) _ (terms_sited ts) (read_sited place r (plain.accessed r ts) tt refl)
-      term_sited (plain.term place k (plain.in_bank r bank at row)) = sites_joined (term_sites scene around row) _ (term_events site row) _ (term_sited row) (read_sited place r (plain.in_bank r bank at row) tt refl)
+      term_sited (plain.term place k (plain.accessed r ts)) = sites_joined (terms_sites scene around ts) _ (source_terms_events site ts) _ (terms_sited ts) (read_sited place r (plain.accessed r ts) tt refl)
+      term_sited (plain.term place k (plain.in_bank r bank at row)) = sites_joined (term_sites scene around row) _ (source_term_events site row) _ (term_sited row) (read_sited place r (plain.in_bank r bank at row) tt refl)
       term_sited (plain.term place k (plain.applied op left right)) =
-          sites_joined (term_sites scene around left) (term_sites scene around right) (term_events site left) (term_events site right) (term_sited left) (term_sited right)
+          sites_joined (term_sites scene around left) (term_sites scene around right) (source_term_events site left) (source_term_events site right) (term_sited left) (term_sited right)
       term_sited (plain.term place k (plain.converted inner to)) = term_sited inner
 
-      terms_sited : (ts : plain.Terms) → SitesAre (all_there (terms_sites scene around ts)) (accesses_in (terms_events site ts))
+      terms_sited : (ts : plain.Terms) → SitesAre (all_there (terms_sites scene around ts)) (accesses_in (source_terms_events site ts))
       terms_sited plain.no_terms = tt
-      terms_sited (plain.term_then t ts) = sites_joined (term_sites scene around t) (terms_sites scene around ts) (term_events site t) (terms_events site ts) (term_sited t) (terms_sited ts)
+      terms_sited (plain.term_then t ts) = sites_joined (term_sites scene around t) (terms_sites scene around ts) (source_term_events site t) (source_terms_events site ts) (term_sited t) (terms_sited ts)
 
     target_sited : (t : Term) → IsAccessForm (indices.form_of t) → SitesAre (all_there (target_sites scene around t)) (accesses_in (write_events site t))
-    target_sited (plain.term place k (plain.accessed r ts)) is = sites_joined (terms_sites scene around ts) _ (terms_events site ts) _ (terms_sited ts) (write_sited place r (plain.accessed r ts) tt refl)
-    target_sited (plain.term place k (plain.in_bank r bank at row)) is = sites_joined (term_sites scene around row) _ (term_events site row) _ (term_sited row) (write_sited place r (plain.in_bank r bank at row) tt refl)
+    target_sited (plain.term place k (plain.accessed r ts)) is = sites_joined (terms_sites scene around ts) _ (source_terms_events site ts) _ (terms_sited ts) (write_sited place r (plain.accessed r ts) tt refl)
+    target_sited (plain.term place k (plain.in_bank r bank at row)) is = sites_joined (term_sites scene around row) _ (source_term_events site row) _ (term_sited row) (write_sited place r (plain.in_bank r bank at row) tt refl)
     target_sited (plain.term place k (plain.number negative z)) is = absurd is
     target_sited (plain.term place k (plain.truth_value b)) is = absurd is
     target_sited (plain.term place k (plain.named r)) is = absurd is
@@ -122,18 +122,18 @@ module _ (scene : Scene) (levels : List Level) (paths : ℕ) where
     command_sited : (a : Action) (r : source.Around) (around : Around) (old new : Building) (first next : ℕ) (m : MadeCommand scene a around old new first next) → around.levels.now ≡ levels → paths_counted around ≡ paths → StoresReach a
         → SitesAre (command_sites scene a around old new first next m) (accesses_in (events r a))
     command_sited (action id place (lets name declared (Some value))) r around old new first next m inside long is =
-        then_assigned (all_there (term_sites scene around value)) (term_events (site_of r id) value) name.entity (term_sited around inside long (site_of r id) value)
+        then_assigned (all_there (term_sites scene around value)) (source_term_events (site_of r id) value) name.entity (term_sited around inside long (site_of r id) value)
     command_sited (action id place (lets name declared None)) r around old new first next m inside long is = tt
     command_sited (action id place (assigns target value)) r around old new first next m inside long is =
-        then_assigned (all_there (term_sites scene around value)) (term_events (site_of r id) value) target.entity (term_sited around inside long (site_of r id) value)
+        then_assigned (all_there (term_sites scene around value)) (source_term_events (site_of r id) value) target.entity (term_sited around inside long (site_of r id) value)
     command_sited (action id place (stores target value)) r around old new first next m inside long is =
-        sites_joined (term_sites scene around value) (target_sites scene around target) (term_events (site_of r id) value) (write_events (site_of r id) target) (term_sited around inside long (site_of r id) value)
+        sites_joined (term_sites scene around value) (target_sites scene around target) (source_term_events (site_of r id) value) (write_events (site_of r id) target) (term_sited around inside long (site_of r id) value)
         (target_sited around inside long (site_of r id) target is)
     command_sited (action id place (reduces target op value)) r around old new first next m inside long is =
-        then_assigned (all_there (term_sites scene around value)) (term_events (site_of r id) value) target.entity (term_sited around inside long (site_of r id) value)
+        then_assigned (all_there (term_sites scene around value)) (source_term_events (site_of r id) value) target.entity (term_sited around inside long (site_of r id) value)
     command_sited (action id place (decides test chosen other)) r around old new first next m inside long is =
         let many : length m.tests ≡ paths = (tests_same scene around first test (paths_counted around) old m.tested m.own m.tests m.test).1 ∙ long in
-        places_joined (all_there (term_sites scene around test)) _ (term_events (site_of r id) test) (events (in_arm r id true) chosen ++ other_events (in_arm r id false) other) (term_sited around inside long (site_of r id) test)
+        places_joined (all_there (term_sites scene around test)) _ (source_term_events (site_of r id) test) (events (in_arm r id true) chosen ++ other_events (in_arm r id false) other) (term_sited around inside long (site_of r id) test)
         (places_joined (command_sites scene chosen m.chosen.arm m.chosen.begin m.chosen.inside m.own m.behind m.chosen.command) (other_sites scene other around m.tests m.after_chosen m.after_other m.behind next m.other_left m.other)
         (events (in_arm r id true) chosen) (other_events (in_arm r id false) other)
         (command_sited chosen (in_arm r id true) m.chosen.arm m.chosen.begin m.chosen.inside m.own m.behind m.chosen.command
@@ -436,18 +436,18 @@ blocks_are_sited scene around cs old new m is stand = record {
 pub record BeginsWithTest (r : source.Around) (c : Action) (t : Term) : Type 0 where
   pub site : events.Site
   pub rest : List SourceEvent
-  pub are : events r c ≡ term_events site t ++ rest
+  pub are : events r c ≡ source_term_events site t ++ rest
 
 pub test_begins : (r : source.Around) (c : Action) (t : Term) → test_of (action_form_of c) ≡ Some t → BeginsWithTest r c t
 test_begins r (action id place (decides test chosen other)) t e = let same : test ≡ t = cc in record {
   site = site_of r id;
   rest = events (in_arm r id true) chosen ++ other_events (in_arm r id false) other;
-  are = ap (λ (u : Term). term_events (site_of r id) u ++ (events (in_arm r id true) chosen ++ other_events (in_arm r id false) other)) same;
+  are = ap (λ (u : Term). source_term_events (site_of r id) u ++ (events (in_arm r id true) chosen ++ other_events (in_arm r id false) other)) same;
 }
 test_begins r (action id place (repeats test body)) t e = let same : test ≡ t = cc in record {
   site = site_of r id;
   rest = events r body;
-  are = ap (λ (u : Term). term_events (site_of r id) u ++ events r body) same;
+  are = ap (λ (u : Term). source_term_events (site_of r id) u ++ events r body) same;
 }
 test_begins r (action id place (lets name declared value)) t e = absurd (cc)
 test_begins r (action id place (lets_memory name shape shape_places value)) t e = absurd (cc)
@@ -485,12 +485,12 @@ module _ (scene : Scene) (around : Around) (tested : Located) (t : Term) (has : 
   test_told k s a e at =
       let b = test_begins tested.around tested.command t has in
       let p = place_of tested.first places k s (sym (test_places tested.first (term_sites scene around t) k) ∙ e) in
-      let whole : accesses_in (events tested.around tested.command) ≡ accesses_in (term_events b.site t) ++ accesses_in b.rest = ap accesses_in b.are ∙ accesses_joined (term_events b.site t) b.rest in
-      let less : k - tested.first < length (accesses_in (term_events b.site t)) = shorter (length places) (length (accesses_in (term_events b.site t))) (test_places_long scene around t ∙ sym (term_counted b.site t)) p.0 p.1.0 in
-      site_at scene around.levels.now (paths_counted around) places (accesses_in (term_events b.site t)) (term_sited scene around.levels.now (paths_counted around) around refl refl b.site t) (k - tested.first) s a p.1.1
-      (sym (in_front_of (accesses_in (term_events b.site t)) (accesses_in b.rest) (k - tested.first) less)
+      let whole : accesses_in (events tested.around tested.command) ≡ accesses_in (source_term_events b.site t) ++ accesses_in b.rest = ap accesses_in b.are ∙ accesses_joined (source_term_events b.site t) b.rest in
+      let less : k - tested.first < length (accesses_in (source_term_events b.site t)) = shorter (length places) (length (accesses_in (source_term_events b.site t))) (test_places_long scene around t ∙ sym (term_counted b.site t)) p.0 p.1.0 in
+      site_at scene around.levels.now (paths_counted around) places (accesses_in (source_term_events b.site t)) (term_sited scene around.levels.now (paths_counted around) around refl refl b.site t) (k - tested.first) s a p.1.1
+      (sym (in_front_of (accesses_in (source_term_events b.site t)) (accesses_in b.rest) (k - tested.first) less)
       ∙ (ap (λ (ls : List SourceAccess). slice_get ls (k - tested.first)) (sym whole)
-      ∙ own_access (trace (program_seen scene.program.now)) tested k a stand p.0 (inside (length (accesses_in (term_events b.site t))) (length (accesses_in b.rest)) p.0 less (ap length whole ∙ length-append (accesses_in (term_events b.site t)) (accesses_in b.rest))) at))
+      ∙ own_access (trace (program_seen scene.program.now)) tested k a stand p.0 (inside (length (accesses_in (source_term_events b.site t))) (length (accesses_in b.rest)) p.0 less (ap length whole ∙ length-append (accesses_in (source_term_events b.site t)) (accesses_in b.rest))) at))
     where
       shorter : (n m : ℕ) → n ≡ m → tested.first ≤ k → k < tested.first + n → k - tested.first < m
       shorter n m e from below = omega (arith, e, from, below)

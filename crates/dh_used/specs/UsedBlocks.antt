@@ -30,7 +30,7 @@ use Rattle.dh_commands.specs.MadeCommands.{MadeTests}
 use Rattle.dh_commands.specs.ShownVariables.{level_factors}
 use Rattle.dh_blocks.specs.PathsOfLevels.{AreSpread}
 use Rattle.dh_laid.specs.BlockSites.{MadeEach, block_sites, test_sites}
-use Rattle.dh_laid.specs.LaidQuiet.{StandsIn}
+use Rattle.dh_laid.specs.LaidQuiet.{BlockStandsIn}
 use Rattle.dh_laid.specs.LaidUses.{AreAlong, HaveNoOperations}
 
 -- a block makes the accesses of these numbers, each as often as is wanted
@@ -40,7 +40,7 @@ pub record UsesAsMade (p : Program) (plan : PlainPlan) (block : ℕ) (makes : �
 
 -- What stands round a block: the paths are those inside its loops, and these are the loops round each access that it makes.
 pub record IsInLoops (scene : Scene) (around : Around) (makes : ℕ → Bool) : Type 0 where
-  pub stands : StandsIn scene around
+  pub stands : BlockStandsIn scene around
   pub spread : AreSpread around.levels.now
   pub counted : paths_counted around ≡ copies_in (level_factors around.levels.now)
   pub loops : (number : ℕ) (a : SourceAccess) → makes number ≡ true → access_at (program_seen scene.program.now) number ≡ Some a → charges.loop_factors a.site.loops ≡ level_factors around.levels.now

@@ -5,7 +5,7 @@ use Rattle.dh_value.specs.Words as words
 use Rattle.dh_value.specs.Words.{word_of}
 use Rattle.dh_meaning.specs.Core.{Reach, CoreTerms, no_terms, term_and, count_terms}
 use Rattle.dh_meaning.specs.CoreOf.{kept_terms, terms_both, target_to}
-use Rattle.dh_meaning.specs.Effects.{Begun, Variables, value_of, values_of, spot_by_views, spot_reached, term_events, terms_events, target_events}
+use Rattle.dh_meaning.specs.Effects.{Begun, Variables, value_of_term, values_of, spot_by_views, spot_reached, term_events, terms_events, target_events}
 use Rattle.dh_meaning.specs.Paths.{Path}
 use Rattle.dh_meaning.specs.Ways.{Hidden, Way}
 use Rattle.dh_ways.specs.SpotsThrough.{spot_to, offsets_at}
@@ -13,7 +13,7 @@ use Rattle.dh_ways.specs.SpotsThrough.{spot_to, offsets_at}
 module _ (b : Begun) (v : Variables) (path : Path) where
   taken : (ts us : CoreTerms) → take (count_terms ts) (values_of b v path (terms_both ts us)) ≡ values_of b v path ts
   taken no_terms us = refl
-  taken (term_and t ts) us = ap (λ zs. words.value_of (value_of b v path t) ∷ zs) (taken ts us)
+  taken (term_and t ts) us = ap (λ zs. words.value_of (value_of_term b v path t) ∷ zs) (taken ts us)
 
   dropped : (ts us : CoreTerms) → drop (count_terms ts) (values_of b v path (terms_both ts us)) ≡ values_of b v path us
   dropped no_terms us = refl

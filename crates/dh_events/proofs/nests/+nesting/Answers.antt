@@ -5,7 +5,7 @@ use Rattle.dh_events.specs.Rounds.{form_rounds, other_rounds, part_rounds, round
 use Rattle.dh_events.specs.Scopes.{form_scopes, other_scopes, part_scopes, scope_at, scopes_in}
 use Rattle.dh_events.specs.Stages.{form_stages, other_stages, part_stages, stages_in}
 use Rattle.dh_tree.specs.PhaseKinds.{phase_kind}
-use Rattle.dh_events.specs.Tables.{kept_at}
+use Rattle.dh_events.specs.Tables.{table_at}
 use Rattle.dh_events.proofs.NestFacts.{more_done, both_done, loop_stands, loop_within, loop_rounds, loop_scopes}
 use Rattle.dh_events.proofs.StageFacts.{few_stages, more_stages}
 use Rattle.dh_events.proofs.Turns.{at_item}
@@ -19,7 +19,7 @@ note_parts-loop-command-preserved t c =
     let is = at_item c.as_slice-command-items.result.now c.loop-command.command-index c.command-item.result c.loop-command-test.true c.command-item.is in
     let made = c.in_ok-note_nests.ensures in record {
       own = more_stages _ _ _ _ _ _ c.command-item.result is made.own c.max-most.ensures c.loop-command.invariant.own;
-      stages = more_done stages_in part_stages (λ a rest x. refl) (kept_at c.loop-command.nests.stages.items) _ _ _ _ c.command-item.result is made.noted c.loop-command.invariant.stages;
+      stages = more_done stages_in part_stages (λ a rest x. refl) (table_at c.loop-command.nests.stages.items) _ _ _ _ c.command-item.result is made.noted c.loop-command.invariant.stages;
       rounds = more_done (rounds_in c.args.outer.now) (part_rounds c.args.outer.now) (λ a rest x. refl) (rounds_of c.loop-command.nests.rounds.items) _ _ _ _ c.command-item.result is made.rounds c.loop-command.invariant.rounds;
       scopes = more_done (scopes_in c.args.depth) (part_scopes c.args.depth) (λ a rest x. refl) (scope_at c.loop-command.nests.scopes.items) _ _ _ _ c.command-item.result is made.scopes c.loop-command.invariant.scopes;
     }
@@ -30,8 +30,8 @@ note_form-returns-in_ok-declare-in-Let-clause-scopes t c =
 
 pub note_form-returns-in_ok-others-in-If-clause-noted : goal.note_form-returns-in_ok-others-in-If-clause-noted
 note_form-returns-in_ok-others-in-If-clause-noted t c =
-    both_done stages_in other_stages (form_stages (action_form_seen c.args.form.now)) (action_seen c.in-If.then.value) (maybe_block_seen c.in-If.other) (λ x. ap (λ y. form_stages y x) (sym (ap action_form_seen c.in-If.is ∙ if_is _ _ _))) (kept_at c.args.nests.now.stages.items) _ _
-    (c.in_ok-chosen-in-If.ensures.noted ∙ ap (λ x. stages_in (action_seen x) (kept_at c.args.nests.now.stages.items)) c.deref.ensures)
+    both_done stages_in other_stages (form_stages (action_form_seen c.args.form.now)) (action_seen c.in-If.then.value) (maybe_block_seen c.in-If.other) (λ x. ap (λ y. form_stages y x) (sym (ap action_form_seen c.in-If.is ∙ if_is _ _ _))) (table_at c.args.nests.now.stages.items) _ _
+    (c.in_ok-chosen-in-If.ensures.noted ∙ ap (λ x. stages_in (action_seen x) (table_at c.args.nests.now.stages.items)) c.deref.ensures)
     c.in_ok-others-in-If.ensures.noted
 
 pub note_form-returns-in_ok-others-in-If-clause-rounds : goal.note_form-returns-in_ok-others-in-If-clause-rounds
@@ -52,8 +52,8 @@ pub note_form-returns-in_ok-set_own-in-For-clause-noted : goal.note_form-returns
 note_form-returns-in_ok-set_own-in-For-clause-noted t c =
     let h = c.as_ref-header.result.now in
     let is = ap action_form_seen c.in-For.is ∙ for_at c.in-For.header c.in-For.body c.in-For.combine h c.in-For.body.value c.as_ref-header.ensures refl in
-    both_done stages_in other_stages (form_stages (action_form_seen c.args.form.now)) (action_seen c.in-For.body.value) (maybe_block_seen c.in-For.combine) (λ x. ap (λ y. form_stages y x) (sym is)) (kept_at c.args.nests.now.stages.items) _ _
-    (c.in_ok-turn-in-For.ensures.noted ∙ ap (λ x. stages_in (action_seen x) (kept_at c.args.nests.now.stages.items)) c.deref-in-For.ensures)
+    both_done stages_in other_stages (form_stages (action_form_seen c.args.form.now)) (action_seen c.in-For.body.value) (maybe_block_seen c.in-For.combine) (λ x. ap (λ y. form_stages y x) (sym is)) (table_at c.args.nests.now.stages.items) _ _
+    (c.in_ok-turn-in-For.ensures.noted ∙ ap (λ x. stages_in (action_seen x) (table_at c.args.nests.now.stages.items)) c.deref-in-For.ensures)
     c.in_ok-joins-in-For.ensures.noted
 
 pub note_form-returns-in_ok-set_own-in-For-clause-own : goal.note_form-returns-in_ok-set_own-in-For-clause-own

@@ -9,7 +9,7 @@ use Rattle.dh_tree.proofs.SeenActions.{assign_at, block_is, call_is, for_is, if_
 use Rattle.dh_meaning.specs.AccessNumbers.{accesses_of, maybe_accesses, other_accesses, part_accesses, plan_accesses, term_accesses}
 use Rattle.dh_meaning.specs.Core.{CoreCommands, no_commands}
 use Rattle.dh_meaning.specs.CoreOf.{core_action, core_action_form, core_other, core_part, core_term, depth_of, first_value}
-use Rattle.dh_events.specs.Tables.{kept_at}
+use Rattle.dh_events.specs.Tables.{table_at}
 use Rattle.dh_lengths.specs.Undone.{marks_now, undone}
 use Rattle.dh_lengths.specs.HeldLevels.{count}
 use Rattle.dh_lengths.specs.LeveledCommands.{GivesCommands}
@@ -66,19 +66,19 @@ level_command-returns-in_ok-redo-in-If t c = on_ok_weaker c.join.result (λ join
       one = λ sound within. subst (λ (x : Command). GivesCommands c.level_term-in-If.new.held c.level_command.new.held c.max-inside.result (core_action known (count c.args.held.now + k) (action_seen x) no_commands) (accesses_of (action_seen x))) c.deref-in-If-2.ensures
           (subst (λ (n : ℕ). GivesCommands c.level_term-in-If.new.held c.level_command.new.held c.max-inside.result (core_action known n (action_seen c.deref-in-If-2.result.now) no_commands) (accesses_of (action_seen c.deref-in-If-2.result.now))) tested.counted (c.in_ok-level_command-in-If.ensures known u sound within));
       back = record { reads = refl; shares = refl; first = refl; most = refl; log = refl };
-      back_to = c.in_ok-undo-in-If.ensures ∙ ap (λ l. undone l (kept_at c.level_command.new.held.variables.items)) arm;
+      back_to = c.in_ok-undo-in-If.ensures ∙ ap (λ l. undone l (table_at c.level_command.new.held.variables.items)) arm;
       two = λ sound within.
           subst (λ (n : ℕ). GivesCommands (put_variables c.level_command.new.held c.undo.new.variables) c.level_other.new.held c.max-inside.result (core_other known n (maybe_seen (option_map (λ b. action_seen b.value) c.in-If.other))) (other_accesses (maybe_seen (option_map (λ b. action_seen b.value) c.in-If.other))))
           (counts_arm (count c.args.held.now) (count c.level_term-in-If.new.held) (count c.level_command.new.held) k (accesses_of (action_seen c.in-If.then.value)) tested.counted
           (first.counted ∙ ap (λ (x : Command). count c.level_term-in-If.new.held + accesses_of (action_seen x)) c.deref-in-If-2.ensures)) (c.in_ok-level_other-in-If.ensures known u sound within);
       last = record { reads = refl; shares = refl; first = refl; most = refl; log = refl };
       joined =
-          all_joined c.in_ok-level-in-If.level _ _ _ (kept_at c.level_command.new.held.variables.items) (kept_at c.level_other.new.held.variables.items) c.as_slice-in-If-6.result.now c.as_slice-in-If-5.result.now _ _ _ joined
-          (c.as_slice-in-If-6.ensures.value ∙ (c.in_ok-others-in-If.ensures ∙ (ap (λ l. marks_now (kept_at l) c.since-both.result.now) c.as_slice-in-If-3.ensures.value
-          ∙ ap (marks_now (kept_at c.level_other.new.held.variables.items)) (since_is c.as_slice-in-If-2.result.now c.level_other.new.held.log.items c.since-both.result.now c.len-begin.result (length c.level_term-in-If.new.held.log.items) c.since-both.ensures c.as_slice-in-If-2.ensures.value (c.len-begin.ensures ∙ c.level_term-in-If.new.held.log.ok.0)))))
+          all_joined c.in_ok-level-in-If.level _ _ _ (table_at c.level_command.new.held.variables.items) (table_at c.level_other.new.held.variables.items) c.as_slice-in-If-6.result.now c.as_slice-in-If-5.result.now _ _ _ joined
+          (c.as_slice-in-If-6.ensures.value ∙ (c.in_ok-others-in-If.ensures ∙ (ap (λ l. marks_now (table_at l) c.since-both.result.now) c.as_slice-in-If-3.ensures.value
+          ∙ ap (marks_now (table_at c.level_other.new.held.variables.items)) (since_is c.as_slice-in-If-2.result.now c.level_other.new.held.log.items c.since-both.result.now c.len-begin.result (length c.level_term-in-If.new.held.log.items) c.since-both.ensures c.as_slice-in-If-2.ensures.value (c.len-begin.ensures ∙ c.level_term-in-If.new.held.log.ok.0)))))
           c.in_ok-redo-in-If.ensures
-          (c.as_slice-in-If-5.ensures.value ∙ (c.in_ok-chosen-in-If.ensures ∙ (ap (λ l. marks_now (kept_at l) c.since-arm.result.now) c.as_slice-in-If.ensures.value ∙ ap (marks_now (kept_at c.level_command.new.held.variables.items)) arm)))
-          (c.in_ok-undo-in-If-2.ensures ∙ ap (λ l. undone l (kept_at c.level_other.new.held.variables.items))
+          (c.as_slice-in-If-5.ensures.value ∙ (c.in_ok-chosen-in-If.ensures ∙ (ap (λ l. marks_now (table_at l) c.since-arm.result.now) c.as_slice-in-If.ensures.value ∙ ap (marks_now (table_at c.level_command.new.held.variables.items)) arm)))
+          (c.in_ok-undo-in-If-2.ensures ∙ ap (λ l. undone l (table_at c.level_other.new.held.variables.items))
           (since_is c.as_slice-in-If-4.result.now c.level_other.new.held.log.items c.since.result.now c.len-middle.result (length c.level_command.new.held.log.items) c.since.ensures c.as_slice-in-If-4.ensures.value (c.len-middle.ensures ∙ c.level_command.new.held.log.ok.0)));
     }))) c.join.ensures
 

@@ -2,7 +2,7 @@ use Rattle.std.proofs.Common.{◌≡◌, ℕ, ◌+◌, ◌<◌, ◌≤◌, List,
 use Rattle.std.specs.Prelude.{Vec}
 use Rattle.std.specs.Global.{Global}
 use Rattle.std.specs.List.{AllByRecursion}
-use Rattle.dh_events.specs.Tables.{kept_at}
+use Rattle.dh_events.specs.Tables.{table_at}
 use Rattle.dh_ports.specs.declared.copies.Lane.{Lane}
 use Rattle.dh_ports.specs.declared.copies.Level.{Level}
 use Rattle.dh_ports.specs.declared.counting.Seen.{Seen}
@@ -13,7 +13,7 @@ use Rattle.dh_ports.proofs.counting.count_paths.Goals.{then-bank-banks+in_ok-cou
 use Rattle.dh_ports.proofs.counting.count_paths.Goals as goal
 
 pub loop-step-init : goal.loop-step-init
-loop-step-init c = range_none c.args.reach.now c.args.from c.args.banks c.args.seen.now.moment c.args.counts.now.items (kept_at c.args.seen.now.moments.items) c.requires.none c.requires.unseen
+loop-step-init c = range_none c.args.reach.now c.args.from c.args.banks c.args.seen.now.moment c.args.counts.now.items (table_at c.args.seen.now.moments.items) c.requires.none c.requires.unseen
 
 pub overflow_add-number : goal.overflow_add-number
 overflow_add-number c =
@@ -72,7 +72,7 @@ pub count_pair-requires-clause-few : goal.count_pair-requires-clause-few
 count_pair-requires-clause-few c =
     let some : 1 ≤ c.args.many = omega (arith, c.loop-step-test.true) in
     let tells : TellsPaths c.args.reach.now = c.requires.tells some in
-    let few = range_few c.args.reach.now c.args.from c.args.banks c.loop-step.seen.moment c.loop-step.step c.loop-step.counts.items (kept_at c.loop-step.seen.moments.items) tells c.loop-step.invariant c.bank_of-bank.result c.if-bank-banks.true in
+    let few = range_few c.args.reach.now c.args.from c.args.banks c.loop-step.seen.moment c.loop-step.step c.loop-step.counts.items (table_at c.loop-step.seen.moments.items) tells c.loop-step.invariant c.bank_of-bank.result c.if-bank-banks.true in
     let range : c.args.from + c.args.many ≤ 256 = c.requires.range in
     omega (arith, few, range, c.loop-step-test.true)
 
@@ -89,20 +89,20 @@ loop-step-preserved c =
     elim c.if-bank-banks.branch [
       | then-bank-banks+in_ok-count_pair w ↦
           let same : c.if-bank-banks.seen.moment ≡ c.loop-step.seen.moment = ap (λ (s : Seen). s.moment) w.seen-is ∙ w.in_ok-count_pair.ensures.seen.same in
-          subst (λ (moment : ℕ). RangeCounted c.args.reach.now c.args.from c.args.banks moment (c.loop-step.step + 1) c.if-bank-banks.counts.items (kept_at c.if-bank-banks.seen.moments.items)) (sym same)
-          (range_turn c.args.reach.now c.args.from c.args.banks c.loop-step.seen.moment c.loop-step.step c.loop-step.counts.items (kept_at c.loop-step.seen.moments.items) tells c.loop-step.invariant
-          c.bank_of-bank.result c.key_at-key.result w.pair_of-pair.result c.if-bank-banks.counts.items (kept_at c.if-bank-banks.seen.moments.items) is keyed w.pair_of-pair.ensures w.if-bank-banks.true
-          (ap (λ (v : Vec ℕ Global). v.items) w.counts-is ∙ w.in_ok-count_pair.ensures.counts) (ap (λ (s : Seen). kept_at s.moments.items) w.seen-is ∙ w.in_ok-count_pair.ensures.seen.seen))
+          subst (λ (moment : ℕ). RangeCounted c.args.reach.now c.args.from c.args.banks moment (c.loop-step.step + 1) c.if-bank-banks.counts.items (table_at c.if-bank-banks.seen.moments.items)) (sym same)
+          (range_turn c.args.reach.now c.args.from c.args.banks c.loop-step.seen.moment c.loop-step.step c.loop-step.counts.items (table_at c.loop-step.seen.moments.items) tells c.loop-step.invariant
+          c.bank_of-bank.result c.key_at-key.result w.pair_of-pair.result c.if-bank-banks.counts.items (table_at c.if-bank-banks.seen.moments.items) is keyed w.pair_of-pair.ensures w.if-bank-banks.true
+          (ap (λ (v : Vec ℕ Global). v.items) w.counts-is ∙ w.in_ok-count_pair.ensures.counts) (ap (λ (s : Seen). table_at s.moments.items) w.seen-is ∙ w.in_ok-count_pair.ensures.seen.seen))
       | else-bank-banks w ↦
-          subst (λ (v : Vec ℕ Global). RangeCounted c.args.reach.now c.args.from c.args.banks c.if-bank-banks.seen.moment (c.loop-step.step + 1) v.items (kept_at c.if-bank-banks.seen.moments.items)) (sym w.counts-is)
-          (subst (λ (s : Seen). RangeCounted c.args.reach.now c.args.from c.args.banks s.moment (c.loop-step.step + 1) c.loop-step.counts.items (kept_at s.moments.items)) (sym w.seen-is)
-          (range_beyond c.args.reach.now c.args.from c.args.banks c.loop-step.seen.moment c.loop-step.step c.loop-step.counts.items (kept_at c.loop-step.seen.moments.items) tells c.loop-step.invariant c.bank_of-bank.result is w.if-bank-banks.false))
+          subst (λ (v : Vec ℕ Global). RangeCounted c.args.reach.now c.args.from c.args.banks c.if-bank-banks.seen.moment (c.loop-step.step + 1) v.items (table_at c.if-bank-banks.seen.moments.items)) (sym w.counts-is)
+          (subst (λ (s : Seen). RangeCounted c.args.reach.now c.args.from c.args.banks s.moment (c.loop-step.step + 1) c.loop-step.counts.items (table_at s.moments.items)) (sym w.seen-is)
+          (range_beyond c.args.reach.now c.args.from c.args.banks c.loop-step.seen.moment c.loop-step.step c.loop-step.counts.items (table_at c.loop-step.seen.moments.items) tells c.loop-step.invariant c.bank_of-bank.result is w.if-bank-banks.false))
     ]
 
 pub returns-clause-counts : goal.returns-clause-counts
 returns-clause-counts c =
     let all : c.loop-step.step ≡ c.args.many = omega (arith, c.loop-step-test.false, c.loop-step.auto.step-end) in
-    range_done c.args.reach.now c.args.from c.args.banks c.loop-step.seen.moment c.args.many c.loop-step.step c.loop-step.counts.items (kept_at c.loop-step.seen.moments.items) all c.loop-step.invariant
+    range_done c.args.reach.now c.args.from c.args.banks c.loop-step.seen.moment c.args.many c.loop-step.step c.loop-step.counts.items (table_at c.loop-step.seen.moments.items) all c.loop-step.invariant
 
 pub returns-clause-past : goal.returns-clause-past
-returns-clause-past c = range_past c.args.reach.now c.args.from c.args.banks c.loop-step.seen.moment c.loop-step.step c.loop-step.counts.items (kept_at c.loop-step.seen.moments.items) c.loop-step.invariant
+returns-clause-past c = range_past c.args.reach.now c.args.from c.args.banks c.loop-step.seen.moment c.loop-step.step c.loop-step.counts.items (table_at c.loop-step.seen.moments.items) c.loop-step.invariant
