@@ -69,7 +69,7 @@ past before (action id place (assigns target value)) inside = inside
 past before (action id place (stores target value)) inside = inside
 past before (action id place (reduces target op value)) inside = inside
 past before (action id place (calls function arguments)) inside = inside
-past before (action id place (decides test yes other)) inside = inside
+past before (action id place (decides test chosen other)) inside = inside
 past before (action id place (repeats test body)) inside = inside
 past before (action id place (counts iterator declared low high factor body combine combine_place)) inside = inside
 
