@@ -18,10 +18,10 @@ pub struct Bindings {
 
 impl Model for Bindings {
     ghost use Rattle.std.specs.Prelude.{List, map};
-    ghost use Rattle.dh_tree.specs.Scopes.{Binding};
+    ghost use Rattle.dh_tree.specs.Scopes.{ScopeEntry};
     ghost use Rattle.dh_names.specs.Entries.{bound};
 
-    ghost Value = { List Binding };
+    ghost Value = { List ScopeEntry };
 
     ghost view = { λ b. map bound b.numbers.entries };
 }

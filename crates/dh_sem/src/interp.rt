@@ -42,9 +42,9 @@ pub struct Interp<'a> {
 }
 
 impl<'a> Model for Interp<'a> {
-    ghost use Rattle.dh_sem.specs.Runs.{Run, IsSteady};
+    ghost use Rattle.dh_sem.specs.Runs.{InterpreterState, IsSteady};
 
-    ghost Value = { Run };
+    ghost Value = { InterpreterState };
 
     ghost view = { λ i. record {
       table = i.entries.now;

@@ -116,10 +116,10 @@ pub struct WayRef<'a> {
 }
 
 impl<'a> Model for WayRef<'a> {
-    ghost use Rattle.dh_ways.specs.Kept.{Way};
+    ghost use Rattle.dh_ways.specs.Kept.{KeptWay};
     ghost use Rattle.dh_ways.specs.Linked.{IsLinkAt, way_linked, ways_linked};
 
-    ghost Value = { Way };
+    ghost Value = { KeptWay };
 
     ghost view = { λ w. way_linked (ways_linked w.links.now) w.link.now };
 

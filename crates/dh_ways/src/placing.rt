@@ -70,11 +70,11 @@ pub struct WayTable {
 
 impl Model for WayTable {
     ghost use Rattle.std.specs.Prelude.{List};
-    ghost use Rattle.dh_ways.specs.Kept.{Led};
+    ghost use Rattle.dh_ways.specs.Kept.{KeptLed};
     ghost use Rattle.dh_ways.specs.Linked.{AreLinked, ways_linked};
     ghost use Rattle.dh_ways.specs.Placed.{ArePlaced};
 
-    ghost Value = { List Led };
+    ghost Value = { List KeptLed };
 
     ghost view = { λ t. ways_linked t.links };
 
