@@ -1,23 +1,23 @@
--- A program that breaks no rule on reducers (K17) has them only in blocks that join copies, each with a variable on the
--- right and none for an iterator; and it makes no call where calls are not built. By one walk over commands for each.
-use Rattle.std.proofs.Common.{◌≡◌, ◌&&◌, ◌||◌, not, Bool, true, false, if◌then◌else◌, ℕ, List, [], ◌∷◌, Option, Some, None, refl}
+-- A program that breaks no rule on placements has reducers only in blocks that join copies, each with a variable on the
+-- right and none for an iterator; and it makes no call where calls are not built. By one walk over commands for each, with
+-- what is round each.
+use Rattle.std.proofs.Common.{◌≡◌, ◌&&◌, ◌||◌, not, Bool, true, false, if◌then◌else◌, ℕ, List, [], ◌∷◌, Option, Some, None, refl, sym, ◌∙◌, ap, ◌++◌}
 use Rattle.std.specs.Prelude.{slice_get}
 use Rattle.dh_base.specs.declared.places.Place.{Place}
 use Rattle.dh_base.specs.declared.rules.Rule.TheVariants.{Reducer}
 use Rattle.dh_tree.specs.declared.breaches.Breach.{Breach}
+use Rattle.dh_tree.specs.declared.trees.expressions.Ref.{Ref}
 use Rattle.dh_tree.specs.declared.trees.programs.Entity.{Entity}
 use Rattle.dh_tree.specs.declared.trees.programs.Sort.{Sort}
 use Rattle.dh_tree.specs.declared.trees.programs.Sort.TheVariants as sort
-use Rattle.dh_tree.specs.Forms.{unbuilt, form_holds, has_dashes, unbuilt_action, unbuilt_form, unbuilt_other, unbuilt_groups, unbuilt_part}
-use Rattle.dh_tree.specs.Kinds.{when, place_of}
+use Rattle.dh_tree.specs.Forms.{unbuilt, form_holds, unbuilt_action, unbuilt_form, unbuilt_other, unbuilt_groups, unbuilt_part}
+use Rattle.dh_tree.specs.Kinds.{when}
 use Rattle.dh_tree.specs.LeastBreach.{breach}
-use Rattle.dh_tree.specs.Placements.{is_iterator, entity_iterates, names_iterator, is_folded_into}
-use Rattle.dh_tree.specs.PlainTrees.{Term, term, number, truth_value, named, accessed, in_bank, applied, converted, Action, action, ActionForm, lets, lets_memory, views, assigns, stores, reduces, calls, blocks, decides, repeats, counts, MaybeAction, no_action, one_action, Actions, no_actions, action_then, Groups, no_groups, group_then}
+use Rattle.dh_tree.specs.Placements.{Context, nothing_round, branched, in_body, in_combine, is_iterator, entity_iterates, names_iterator, is_plain_variable, entity_varies, names_variable, is_from_outside, is_folded_into, is_folded, is_one_part, folded_breaches, reducer_breaches, joined_breaches, combine_breaches, action_placement_breaches, form_placement_breaches, other_placement_breaches, actions_placement_breaches, groups_placement_breaches, decls_placement_breaches, placement_breaches}
+use Rattle.dh_tree.specs.PlainTrees.{Term, term, number, truth_value, named, accessed, in_bank, applied, converted, Action, action, ActionForm, lets, lets_memory, views, assigns, stores, reduces, calls, blocks, decides, repeats, counts, MaybeAction, no_action, one_action, Actions, no_actions, action_then, Groups, no_groups, group_then, Program}
+use Rattle.dh_tree.specs.Scopes.{entity_number}
 use Rattle.dh_tree.proofs.EmptyLists.{first_none, second_none, not_none}
-use Rattle.dh_meaning.specs.CoreOf.{entity_number}
 use Rattle.dh_sound.specs.IteratorsKept.{FoldsElsewhere, FormFoldsElsewhere, OtherFoldsElsewhere, GroupsFoldElsewhere, PartFoldsElsewhere}
-use Rattle.dh_sound.specs.Joins.{is_plain_variable, entity_varies, names_variable, is_joined, joined_breaches, joined_part_breaches, joined_groups_breaches, join_form_breaches, join_breaches, fold_breaches, fold_form_breaches, fold_other_breaches, fold_part_breaches, fold_groups_breaches}
-use Rattle.dh_sound.specs.OuterWrites.{is_from_outside}
 use Rattle.dh_sound.specs.SimpleForms.{IsVariable, FormFoldsOnly, GroupsFoldOnly, PartFoldsOnly, JoinsFolds, FoldsInJoins, FormFoldsInJoins, OtherFoldsInJoins, GroupsFoldInJoins, PartFoldsInJoins}
 
 when_not : (b : Bool) (x : Breach) → when (not b) (x ∷ []) ≡ [] → b ≡ true
@@ -45,137 +45,171 @@ module _ (es : List Entity) where
   variable_no_iterator None e = refl
   variable_no_iterator (Some n) e = varies_none (slice_get es n) e
 
-  -- Blocks that join copies.
+  -- Reducers of a block that joins the copies of a loop.
 
-  joined_value : (iterator : ℕ) (t : Term) → is_joined es iterator t ≡ true → IsVariable t
-  joined_value iterator (term place k (named r)) e = tt
-  joined_value iterator (term place k (number negative x)) e = absurd cc
-  joined_value iterator (term place k (truth_value x)) e = absurd cc
-  joined_value iterator (term place k (accessed r ts)) e = absurd cc
-  joined_value iterator (term place k (in_bank r bank at t)) e = absurd cc
-  joined_value iterator (term place k (applied o left right)) e = absurd cc
-  joined_value iterator (term place k (converted t to)) e = absurd cc
+  value_told : (iterator : ℕ) (t : Term) → folded_breaches es iterator t ≡ [] → IsVariable t
+  value_told iterator (term place k (named r)) e = tt
+  value_told iterator (term place k (number negative x)) e = not_none _ _ e
+  value_told iterator (term place k (truth_value x)) e = not_none _ _ e
+  value_told iterator (term place k (accessed r ts)) e = not_none _ _ e
+  value_told iterator (term place k (in_bank r bank at t)) e = not_none _ _ e
+  value_told iterator (term place k (applied o left right)) e = not_none _ _ e
+  value_told iterator (term place k (converted t to)) e = not_none _ _ e
 
-  joined_form : (iterator : ℕ) (place : Place) (f : ActionForm) → joined_breaches es iterator place f ≡ [] → FormFoldsOnly f × FormFoldsElsewhere es f
-  joined_form iterator place (reduces target o value) e =
-      let left = when_not (is_folded_into es iterator target.entity) (breach Reducer target.place) (first_none (when (not (is_folded_into es iterator target.entity)) (breach Reducer target.place ∷ [])) _ e) in
-      let right = when_not (is_joined es iterator value) (breach Reducer (place_of value)) (second_none (when (not (is_folded_into es iterator target.entity)) (breach Reducer target.place ∷ [])) _ e) in
-      (joined_value iterator value right, variable_no_iterator target.entity (left_true (names_variable es target.entity) (is_from_outside iterator target.entity) left))
-  joined_form iterator place (lets name declared value) e = not_none _ _ e
-  joined_form iterator place (lets_memory name shape shape_places value) e = not_none _ _ e
-  joined_form iterator place (views name parent form) e = not_none _ _ e
-  joined_form iterator place (assigns target value) e = not_none _ _ e
-  joined_form iterator place (stores target value) e = not_none _ _ e
-  joined_form iterator place (calls function arguments) e = not_none _ _ e
-  joined_form iterator place (blocks body) e = not_none _ _ e
-  joined_form iterator place (decides test chosen other) e = not_none _ _ e
-  joined_form iterator place (repeats test body) e = not_none _ _ e
-  joined_form iterator place (counts i declared low high factor body combine combine_place) e = not_none _ _ e
+  reducer_told : (iterator : ℕ) (target : Ref) (value : Term) → reducer_breaches es (Some iterator) target value ≡ [] → IsVariable value × (names_iterator es target.entity ≡ false)
+  reducer_told iterator target value e =
+      let first : List Breach = when (not (is_folded_into es iterator target.entity)) (breach Reducer target.place ∷ []) in
+      let into = when_not (is_folded_into es iterator target.entity) (breach Reducer target.place) (first_none first _ e) in
+      (value_told iterator value (second_none first _ e), variable_no_iterator target.entity (left_true (names_variable es target.entity) (is_from_outside iterator target.entity) into))
 
-  joined_part : (iterator : ℕ) (part : Actions) → joined_part_breaches es iterator part ≡ [] → PartFoldsOnly part × PartFoldsElsewhere es part
-  joined_part iterator no_actions e = (tt, tt)
-  joined_part iterator (action_then (action id place form) rest) e =
-      let x = joined_form iterator place form (first_none (joined_breaches es iterator place form) _ e) in
-      let y = joined_part iterator rest (second_none (joined_breaches es iterator place form) _ e) in
-      ((x.0, y.0), (x.1, y.1))
+  -- a command of such a block
+  module _ (c : Context) (iterator : ℕ) (joins : c.joins ≡ Some iterator) where
+    joined_form : (f : ActionForm) (id : ℕ) (place : Place) → form_placement_breaches es c place f ≡ [] → joined_breaches (Some iterator) (action id place f) ≡ [] → FormFoldsOnly f × FormFoldsElsewhere es f
+    joined_form (reduces target o value) id place p e = reducer_told iterator target value (ap (λ j. reducer_breaches es j target value) (sym joins) ∙ p)
+    joined_form (lets name declared value) id place p e = not_none _ _ e
+    joined_form (lets_memory name shape shape_places value) id place p e = not_none _ _ e
+    joined_form (views name parent form) id place p e = not_none _ _ e
+    joined_form (assigns target value) id place p e = not_none _ _ e
+    joined_form (stores target value) id place p e = not_none _ _ e
+    joined_form (calls function arguments) id place p e = not_none _ _ e
+    joined_form (blocks body) id place p e = not_none _ _ e
+    joined_form (decides test chosen other) id place p e = not_none _ _ e
+    joined_form (repeats test body) id place p e = not_none _ _ e
+    joined_form (counts i declared low high factor body combine combine_place) id place p e = not_none _ _ e
 
-  joined_groups : (iterator : ℕ) (gs : Groups) → joined_groups_breaches es iterator gs ≡ [] → GroupsFoldOnly gs × GroupsFoldElsewhere es gs
-  joined_groups iterator no_groups e = (tt, tt)
-  joined_groups iterator (group_then part rest) e =
-      let x = joined_part iterator part (first_none (joined_part_breaches es iterator part) _ e) in
-      let y = joined_groups iterator rest (second_none (joined_part_breaches es iterator part) _ e) in
-      ((x.0, y.0), (x.1, y.1))
+    joined_part : (part : Actions) → actions_placement_breaches es c part ≡ [] → PartFoldsOnly part × PartFoldsElsewhere es part
+    joined_part no_actions p = (tt, tt)
+    joined_part (action_then (action id place form) rest) p =
+        let behind = second_none (form_placement_breaches es c place form) _ p in
+        let x = joined_form form id place (first_none (form_placement_breaches es c place form) _ p)
+        (ap (λ j. joined_breaches j (action id place form)) (sym joins) ∙ first_none (joined_breaches c.joins (action id place form)) _ behind) in
+        let y = joined_part rest (second_none (joined_breaches c.joins (action id place form)) _ behind) in
+        ((x.0, y.0), (x.1, y.1))
 
-  join_form : (iterator : ℕ) (word place : Place) (f : ActionForm) → join_form_breaches es iterator word place f ≡ [] → FormFoldsOnly f × FormFoldsElsewhere es f
-  join_form iterator word place (blocks body) e = joined_groups iterator body (second_none (when (has_dashes body) (breach Reducer word ∷ [])) _ e)
-  join_form iterator word place (reduces target o value) e = joined_form iterator place (reduces target o value) e
-  join_form iterator word place (lets name declared value) e = not_none _ _ e
-  join_form iterator word place (lets_memory name shape shape_places value) e = not_none _ _ e
-  join_form iterator word place (views name parent form) e = not_none _ _ e
-  join_form iterator word place (assigns target value) e = not_none _ _ e
-  join_form iterator word place (stores target value) e = not_none _ _ e
-  join_form iterator word place (calls function arguments) e = not_none _ _ e
-  join_form iterator word place (decides test chosen other) e = not_none _ _ e
-  join_form iterator word place (repeats test body) e = not_none _ _ e
-  join_form iterator word place (counts i declared low high factor body combine combine_place) e = not_none _ _ e
+    joined_groups : (gs : Groups) → groups_placement_breaches es c gs ≡ [] → GroupsFoldOnly gs × GroupsFoldElsewhere es gs
+    joined_groups no_groups p = (tt, tt)
+    joined_groups (group_then part rest) p =
+        let x = joined_part part (first_none (actions_placement_breaches es c part) _ p) in
+        let y = joined_groups rest (second_none (actions_placement_breaches es c part) _ p) in
+        ((x.0, y.0), (x.1, y.1))
 
-  join_told : (iterator : ℕ) (word : Place) (m : MaybeAction) → join_breaches es iterator word m ≡ [] → JoinsFolds m × OtherFoldsElsewhere es m
-  join_told iterator word no_action e = (tt, tt)
-  join_told iterator word (one_action (action id place form)) e = join_form iterator word place form e
+    -- the block itself, behind the word `combine`
+    join_form : (f : ActionForm) (word place : Place) → form_placement_breaches es c place f ≡ [] → when (not (is_one_part f)) (breach Reducer word ∷ []) ≡ [] → FormFoldsOnly f × FormFoldsElsewhere es f
+    join_form (blocks body) word place p e = joined_groups body p
+    join_form (reduces target o value) word place p e = not_none _ _ e
+    join_form (lets name declared value) word place p e = not_none _ _ e
+    join_form (lets_memory name shape shape_places value) word place p e = not_none _ _ e
+    join_form (views name parent form) word place p e = not_none _ _ e
+    join_form (assigns target value) word place p e = not_none _ _ e
+    join_form (stores target value) word place p e = not_none _ _ e
+    join_form (calls function arguments) word place p e = not_none _ _ e
+    join_form (decides test chosen other) word place p e = not_none _ _ e
+    join_form (repeats test body) word place p e = not_none _ _ e
+    join_form (counts i declared low high factor body combine combine_place) word place p e = not_none _ _ e
 
-  -- Commands: no reducer puts anything into an iterator.
+    join_told : (m : MaybeAction) (word : Place) → other_placement_breaches es c m ≡ [] → combine_breaches m word ≡ [] → JoinsFolds m × OtherFoldsElsewhere es m
+    join_told no_action word p e = (tt, tt)
+    join_told (one_action (action id place form)) word p e = join_form form word place p e
+
+  -- that of a loop
+  combine_told : (c : Context) (iterator : Ref) (combine : MaybeAction) (word : Place)
+      → other_placement_breaches es (in_combine c iterator.entity) combine ++ combine_breaches combine word ≡ [] → JoinsFolds combine × OtherFoldsElsewhere es combine
+  combine_told c iterator combine word e =
+      join_told (in_combine c iterator.entity) (entity_number iterator.entity) refl combine word
+      (first_none (other_placement_breaches es (in_combine c iterator.entity) combine) _ e) (second_none (other_placement_breaches es (in_combine c iterator.entity) combine) _ e)
+
+  -- Commands outside of such blocks: no reducer puts anything into an iterator.
   mutual
-    pub folds_kept : (a : Action) → fold_breaches es a ≡ [] → FoldsElsewhere es a
-    folds_kept (action id place form) e = form_folds_kept form e
+    elsewhere : (a : Action) (c : Context) → c.joins ≡ None → action_placement_breaches es c a ≡ [] → FoldsElsewhere es a
+    elsewhere (action id place form) c out p = form_elsewhere form c place out p
 
-    form_folds_kept : (f : ActionForm) → fold_form_breaches es f ≡ [] → FormFoldsElsewhere es f
-    form_folds_kept (lets name declared value) e = tt
-    form_folds_kept (lets_memory name shape shape_places value) e = tt
-    form_folds_kept (views name parent form) e = tt
-    form_folds_kept (assigns target value) e = tt
-    form_folds_kept (stores target value) e = tt
-    form_folds_kept (reduces target o value) e = not_none _ _ e
-    form_folds_kept (calls function arguments) e = tt
-    form_folds_kept (blocks body) e = groups_folds_kept body e
-    form_folds_kept (decides test chosen other) e =
-        (folds_kept chosen (first_none (fold_breaches es chosen) _ e), other_folds_kept other (second_none (fold_breaches es chosen) _ e))
-    form_folds_kept (repeats test body) e = folds_kept body e
-    form_folds_kept (counts iterator declared low high factor body combine combine_place) e =
-        (folds_kept body (first_none (fold_breaches es body) _ e), (join_told (entity_number iterator.entity) combine_place combine (second_none (fold_breaches es body) _ e)).1)
+    form_elsewhere : (f : ActionForm) (c : Context) (place : Place) → c.joins ≡ None → form_placement_breaches es c place f ≡ [] → FormFoldsElsewhere es f
+    form_elsewhere (lets name declared value) c place out p = tt
+    form_elsewhere (lets_memory name shape shape_places value) c place out p = tt
+    form_elsewhere (views name parent form) c place out p = tt
+    form_elsewhere (assigns target value) c place out p = tt
+    form_elsewhere (stores target value) c place out p = tt
+    form_elsewhere (reduces target o value) c place out p = not_none _ _ (ap (λ j. reducer_breaches es j target value) (sym out) ∙ p)
+    form_elsewhere (calls function arguments) c place out p = tt
+    form_elsewhere (blocks body) c place out p = groups_elsewhere body c out p
+    form_elsewhere (decides test chosen other) c place out p =
+        let behind = second_none (action_placement_breaches es (branched c) chosen) _ p in (
+          elsewhere chosen (branched c) out (first_none (action_placement_breaches es (branched c) chosen) _ p),
+          other_elsewhere other (branched c) out (first_none (other_placement_breaches es (branched c) other) _ behind),
+        )
+    form_elsewhere (repeats test body) c place out p = elsewhere body (branched c) out (first_none (action_placement_breaches es (branched c) body) _ p)
+    form_elsewhere (counts iterator declared low high factor body combine combine_place) c place out p =
+        let c_body : Context = in_body c factor.value iterator.entity in (
+          elsewhere body c_body out (first_none (action_placement_breaches es c_body body) _ p),
+          (combine_told c iterator combine combine_place (second_none (action_placement_breaches es c_body body) _ p)).1,
+        )
 
-    other_folds_kept : (m : MaybeAction) → fold_other_breaches es m ≡ [] → OtherFoldsElsewhere es m
-    other_folds_kept no_action e = tt
-    other_folds_kept (one_action a) e = folds_kept a e
+    other_elsewhere : (m : MaybeAction) (c : Context) → c.joins ≡ None → other_placement_breaches es c m ≡ [] → OtherFoldsElsewhere es m
+    other_elsewhere no_action c out p = tt
+    other_elsewhere (one_action a) c out p = elsewhere a c out p
 
-    groups_folds_kept : (gs : Groups) → fold_groups_breaches es gs ≡ [] → GroupsFoldElsewhere es gs
-    groups_folds_kept no_groups e = tt
-    groups_folds_kept (group_then part rest) e =
-        (part_folds_kept part (first_none (fold_part_breaches es part) _ e), groups_folds_kept rest (second_none (fold_part_breaches es part) _ e))
+    groups_elsewhere : (gs : Groups) (c : Context) → c.joins ≡ None → groups_placement_breaches es c gs ≡ [] → GroupsFoldElsewhere es gs
+    groups_elsewhere no_groups c out p = tt
+    groups_elsewhere (group_then part rest) c out p =
+        (part_elsewhere part c out (first_none (actions_placement_breaches es c part) _ p), groups_elsewhere rest c out (second_none (actions_placement_breaches es c part) _ p))
 
-    part_folds_kept : (part : Actions) → fold_part_breaches es part ≡ [] → PartFoldsElsewhere es part
-    part_folds_kept no_actions e = tt
-    part_folds_kept (action_then a rest) e = (folds_kept a (first_none (fold_breaches es a) _ e), part_folds_kept rest (second_none (fold_breaches es a) _ e))
+    part_elsewhere : (part : Actions) (c : Context) → c.joins ≡ None → actions_placement_breaches es c part ≡ [] → PartFoldsElsewhere es part
+    part_elsewhere no_actions c out p = tt
+    part_elsewhere (action_then a rest) c out p = (
+      elsewhere a c out (first_none (action_placement_breaches es c a) _ p),
+      part_elsewhere rest c out (second_none (joined_breaches c.joins a) _ (second_none (action_placement_breaches es c a) _ p)),
+    )
 
   -- Their reducers join copies.
   mutual
-    pub joins_kept : (a : Action) → unbuilt_action a ≡ [] → fold_breaches es a ≡ [] → FoldsInJoins a
-    joins_kept (action id place form) c e = form_joins_kept form place c e
+    in_joins : (a : Action) (c : Context) → c.joins ≡ None → unbuilt_action a ≡ [] → action_placement_breaches es c a ≡ [] → FoldsInJoins a
+    in_joins (action id place form) c out u p = form_in_joins form c place out u p
 
-    form_joins_kept : (f : ActionForm) (place : Place) → unbuilt_form place f ≡ [] → fold_form_breaches es f ≡ [] → FormFoldsInJoins f
-    form_joins_kept (lets name declared value) place c e = tt
-    form_joins_kept (lets_memory name shape shape_places value) place c e = tt
-    form_joins_kept (views name parent form) place c e = tt
-    form_joins_kept (assigns target value) place c e = tt
-    form_joins_kept (stores target value) place c e = tt
-    form_joins_kept (reduces target o value) place c e = not_none _ _ e
-    form_joins_kept (calls function arguments) place c e = not_none _ _ c
-    form_joins_kept (blocks body) place c e = groups_joins_kept body c e
-    form_joins_kept (decides test chosen other) place c e = (
-      joins_kept chosen (first_none (unbuilt_action chosen) _ c) (first_none (fold_breaches es chosen) _ e),
-      other_joins_kept other (second_none (unbuilt_action chosen) _ c) (second_none (fold_breaches es chosen) _ e),
-    )
-    form_joins_kept (repeats test body) place c e = joins_kept body c e
-    form_joins_kept (counts iterator declared low high factor body combine combine_place) place c e = (
-      joins_kept body (first_none (unbuilt_action body) _ c) (first_none (fold_breaches es body) _ e),
-      (join_told (entity_number iterator.entity) combine_place combine (second_none (fold_breaches es body) _ e)).0,
-    )
-
-    other_joins_kept : (m : MaybeAction) → unbuilt_other m ≡ [] → fold_other_breaches es m ≡ [] → OtherFoldsInJoins m
-    other_joins_kept no_action c e = tt
-    other_joins_kept (one_action a) c e = joins_kept a c e
-
-    groups_joins_kept : (gs : Groups) → unbuilt_groups gs ≡ [] → fold_groups_breaches es gs ≡ [] → GroupsFoldInJoins gs
-    groups_joins_kept no_groups c e = tt
-    groups_joins_kept (group_then part rest) c e = (
-      part_joins_kept part false (first_none (unbuilt_part false part) _ c) (first_none (fold_part_breaches es part) _ e),
-      groups_joins_kept rest (second_none (unbuilt_part false part) _ c) (second_none (fold_part_breaches es part) _ e),
-    )
-
-    part_joins_kept : (part : Actions) (stepped : Bool) → unbuilt_part stepped part ≡ [] → fold_part_breaches es part ≡ [] → PartFoldsInJoins part
-    part_joins_kept no_actions stepped c e = tt
-    part_joins_kept (action_then (action id place form) rest) stepped c e =
-        let after = second_none (unbuilt_form place form) _ c in
-        let again : List Breach = (if stepped && form_holds form then unbuilt place else []) in (
-          form_joins_kept form place (first_none (unbuilt_form place form) _ c) (first_none (fold_form_breaches es form) _ e),
-          part_joins_kept rest (stepped || form_holds form) (second_none again _ after) (second_none (fold_form_breaches es form) _ e),
+    form_in_joins : (f : ActionForm) (c : Context) (place : Place) → c.joins ≡ None → unbuilt_form place f ≡ [] → form_placement_breaches es c place f ≡ [] → FormFoldsInJoins f
+    form_in_joins (lets name declared value) c place out u p = tt
+    form_in_joins (lets_memory name shape shape_places value) c place out u p = tt
+    form_in_joins (views name parent form) c place out u p = tt
+    form_in_joins (assigns target value) c place out u p = tt
+    form_in_joins (stores target value) c place out u p = tt
+    form_in_joins (reduces target o value) c place out u p = not_none _ _ (ap (λ j. reducer_breaches es j target value) (sym out) ∙ p)
+    form_in_joins (calls function arguments) c place out u p = not_none _ _ u
+    form_in_joins (blocks body) c place out u p = groups_in_joins body c out u p
+    form_in_joins (decides test chosen other) c place out u p =
+        let behind = second_none (action_placement_breaches es (branched c) chosen) _ p in (
+          in_joins chosen (branched c) out (first_none (unbuilt_action chosen) _ u) (first_none (action_placement_breaches es (branched c) chosen) _ p),
+          other_in_joins other (branched c) out (second_none (unbuilt_action chosen) _ u) (first_none (other_placement_breaches es (branched c) other) _ behind),
         )
+    form_in_joins (repeats test body) c place out u p = in_joins body (branched c) out u (first_none (action_placement_breaches es (branched c) body) _ p)
+    form_in_joins (counts iterator declared low high factor body combine combine_place) c place out u p =
+        let c_body : Context = in_body c factor.value iterator.entity in (
+          in_joins body c_body out (first_none (unbuilt_action body) _ u) (first_none (action_placement_breaches es c_body body) _ p),
+          (combine_told c iterator combine combine_place (second_none (action_placement_breaches es c_body body) _ p)).0,
+        )
+
+    other_in_joins : (m : MaybeAction) (c : Context) → c.joins ≡ None → unbuilt_other m ≡ [] → other_placement_breaches es c m ≡ [] → OtherFoldsInJoins m
+    other_in_joins no_action c out u p = tt
+    other_in_joins (one_action a) c out u p = in_joins a c out u p
+
+    groups_in_joins : (gs : Groups) (c : Context) → c.joins ≡ None → unbuilt_groups gs ≡ [] → groups_placement_breaches es c gs ≡ [] → GroupsFoldInJoins gs
+    groups_in_joins no_groups c out u p = tt
+    groups_in_joins (group_then part rest) c out u p = (
+      part_in_joins part false c out (first_none (unbuilt_part false part) _ u) (first_none (actions_placement_breaches es c part) _ p),
+      groups_in_joins rest c out (second_none (unbuilt_part false part) _ u) (second_none (actions_placement_breaches es c part) _ p),
+    )
+
+    part_in_joins : (part : Actions) (stepped : Bool) (c : Context) → c.joins ≡ None → unbuilt_part stepped part ≡ [] → actions_placement_breaches es c part ≡ [] → PartFoldsInJoins part
+    part_in_joins no_actions stepped c out u p = tt
+    part_in_joins (action_then (action id place form) rest) stepped c out u p =
+        let after = second_none (unbuilt_form place form) _ u in
+        let again : List Breach = (if stepped && form_holds form then unbuilt place else []) in
+        let behind = second_none (form_placement_breaches es c place form) _ p in (
+          form_in_joins form c place out (first_none (unbuilt_form place form) _ u) (first_none (form_placement_breaches es c place form) _ p),
+          part_in_joins rest (stepped || form_holds form) c out (second_none again _ after) (second_none (joined_breaches c.joins (action id place form)) _ behind),
+        )
+
+-- of a program
+pub folds_kept : (p : Program) → placement_breaches p ≡ [] → FoldsElsewhere p.entities p.body
+folds_kept p e = elsewhere p.entities p.body nothing_round refl (second_none (decls_placement_breaches p.decls) _ e)
+
+pub joins_kept : (p : Program) → unbuilt_action p.body ≡ [] → placement_breaches p ≡ [] → FoldsInJoins p.body
+joins_kept p u e = in_joins p.entities p.body nothing_round refl u (second_none (decls_placement_breaches p.decls) _ e)

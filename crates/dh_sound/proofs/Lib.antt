@@ -54,7 +54,6 @@ pub mod OneElement
 pub mod OneArm
 pub mod BlocksOfPhases
 pub mod NamedPrograms
-pub mod PlacementsSplit
 pub mod StraightKinds
 pub mod DistinctPaths
 pub mod ArmsOnce
@@ -62,6 +61,7 @@ pub mod PortsOfBlocks
 pub mod PortsKept
 pub mod LoopsMatch
 pub mod TurnsOfIndices
+pub mod OuterSpared
 pub mod NamesScoped
 pub mod NamesOfEvents
 pub mod NamesInScope

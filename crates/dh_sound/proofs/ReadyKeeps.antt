@@ -13,7 +13,6 @@ use Rattle.dh_sound.proofs.DepthsNamed.{depths_kept}
 use Rattle.dh_sound.proofs.JoinsKept.{folds_kept}
 use Rattle.dh_sound.proofs.NeverStuck.{blocks_never_stuck}
 use Rattle.dh_sound.proofs.PhasesKept.{iterators_kept}
-use Rattle.dh_sound.proofs.PlacementsSplit.{folds_none}
 use Rattle.dh_sound.proofs.IteratorsNamed.{names_keep}
 
 -- a program that is ready keeps its iterators where it is run
@@ -22,7 +21,7 @@ ready_keeps p r = iterators_kept p (names_keep p (record {
   names = r.names;
   entities = r.entities;
   placements = r.placements;
-  folds = folds_kept p.entities p.body (folds_none p r.placements);
+  folds = folds_kept p r.placements;
 }))
 
 -- and their depths

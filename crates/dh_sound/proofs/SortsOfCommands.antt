@@ -25,7 +25,8 @@ use Rattle.dh_meaning.specs.Sites.{Around, in_arm, in_loop, loop_of}
 use Rattle.dh_meets.specs.SourceEvents.{Site, SourceEvent, site_of, source_term_events, maybe_events, events, command_events, other_events, groups_events, part_events}
 use Rattle.dh_sound.specs.AssignsInside.{KeepsInside, AssignsInside, FormAssignsInside, OtherAssignsInside, GroupsAssignInside, PartAssignsInside}
 use Rattle.dh_sound.specs.BlockTold.{IsOfMemory}
-use Rattle.dh_sound.specs.OuterWrites.{first_inside, outer_breaches, outer_form_breaches, outer_other_breaches, outer_part_breaches, outer_groups_breaches}
+use Rattle.dh_tree.specs.Placements.{first_inside}
+use Rattle.dh_sound.specs.OuterWrites.{SparesOuter, FormSparesOuter, OtherSparesOuter, PartSparesOuter, GroupsSpareOuter}
 use Rattle.dh_sound.specs.SimpleForms.{IsVariable, FoldsOnly, FormFoldsOnly, GroupsFoldOnly, PartFoldsOnly, JoinsFolds, FoldsInJoins, FormFoldsInJoins, OtherFoldsInJoins, GroupsFoldInJoins, PartFoldsInJoins}
 use Rattle.dh_sound.specs.Trails.{EachAccess}
 use Rattle.dh_sound.proofs.DepthsNamed.{size, Deep, FormDeep, OtherDeep, GroupsDeep, PartDeep}
@@ -112,14 +113,14 @@ module _ (p : Program) (ready : IsReady p) where
 
   mutual
     pub told : (a : Action) (facts : Facts) (s : Scope) (r : Around) (first d : ℕ) → InStep s facts → AreSorted p facts first d s.visible
-        → resolved_action s a ≡ a → breaches s a ≡ [] → action_kind_breaches facts a ≡ [] → FoldsInJoins a → outer_breaches first a ≡ [] → Deep (all_bindings_of p) d a → ((m : Memory) → Has m (locals a) → Has m (memories_of p))
+        → resolved_action s a ≡ a → breaches s a ≡ [] → action_kind_breaches facts a ≡ [] → FoldsInJoins a → SparesOuter first a → Deep (all_bindings_of p) d a → ((m : Memory) → Has m (locals a) → Has m (memories_of p))
         → ((y : ViewSite) → Has y (standings d a) → Has y (standings 0 p.body)) → CommandTold p (facts_after facts a) first d (at_end s a) (events r a) (AssignsInside (known_of p) d a)
     told (action id place form) facts s r first d l k e v b x o q w z =
         let same : resolved_form s form ≡ form = cc in
         form_told form facts s r id first d l k same v b x o q w z
 
     form_told : (f : ActionForm) (facts : Facts) (s : Scope) (r : Around) (id first d : ℕ) → InStep s facts → AreSorted p facts first d s.visible
-        → resolved_form s f ≡ f → form_breaches s f ≡ [] → action_form_kind_breaches facts f ≡ [] → FormFoldsInJoins f → outer_form_breaches first f ≡ [] → FormDeep (all_bindings_of p) d f → ((m : Memory) → Has m (form_locals f) → Has m (memories_of p))
+        → resolved_form s f ≡ f → form_breaches s f ≡ [] → action_form_kind_breaches facts f ≡ [] → FormFoldsInJoins f → FormSparesOuter first f → FormDeep (all_bindings_of p) d f → ((m : Memory) → Has m (form_locals f) → Has m (memories_of p))
         → ((y : ViewSite) → Has y (form_standings d f) → Has y (standings 0 p.body)) → CommandTold p (facts_after_form facts f) first d (form_at_end s f) (command_events r (site_of r id) f) (FormAssignsInside (known_of p) d f)
     form_told (lets name declared value) facts s r id first d l k e v b x o q w z =
         let own : Some (size s) ≡ name.entity = cc in
@@ -194,10 +195,10 @@ module _ (p : Program) (ready : IsReady p) where
         let seen = second_none (term_breaches s.visible test) _ v in
         let kinds = second_none (condition_breaches facts test) _ b in
         let one = told chosen facts s (in_arm r id true) first d l k first_same (first_none (breaches s chosen) _ seen) (first_none (action_kind_breaches facts chosen) _ kinds) x.0
-        (first_none (outer_breaches first chosen) _ o) q.0 (λ m h. w m (has_left m (locals chosen) (other_locals other) h)) (λ y h. z y (has_left y (standings d chosen) (other_standings d other) h)) in
+        o.0 q.0 (λ m h. w m (has_left m (locals chosen) (other_locals other) h)) (λ y h. z y (has_left y (standings d chosen) (other_standings d other) h)) in
         let two = other_told other (facts_after facts chosen) inner (in_arm r id false) first d (in_step s facts chosen l) (all_later p facts (facts_after facts chosen) first d s.visible (grows facts chosen) k)
         second_same (second_none (breaches s chosen) _ seen) (second_none (action_kind_breaches facts chosen) _ kinds) x.1
-        (second_none (outer_breaches first chosen) _ o) q.1 (λ m h. w m (has_right m (locals chosen) (other_locals other) h)) (λ y h. z y (has_right y (standings d chosen) (other_standings d other) h)) in
+        o.1 q.1 (λ m h. w m (has_right m (locals chosen) (other_locals other) h)) (λ y h. z y (has_right y (standings d chosen) (other_standings d other) h)) in
         record {
           names = all_later p facts (facts_after_other (facts_after facts chosen) other) first d s.visible (form_grows facts (decides test chosen other)) k;
           events = each_both _ (source_term_events (site_of r id) test) _
@@ -232,7 +233,7 @@ module _ (p : Program) (ready : IsReady p) where
         subst (λ (i : Option ℕ). AreSorted p (facts ++ of_iterator (iterator_kind declared) ∷ []) (first_inside first factor.value i) (depth_inside d factor.value) (declare s iterator sort.Iterator).visible) own
         (enters facts s first d factor.value (iterator_kind declared) iterator.name l k deep) in
         let one = told body (facts ++ of_iterator (iterator_kind declared) ∷ []) (declare s iterator sort.Iterator) (in_loop r (loop_of iterator low high factor)) (first_inside first factor.value iterator.entity) (depth_inside d factor.value)
-        (next_in_step s facts iterator sort.Iterator (of_iterator (iterator_kind declared)) l) sorted same (first_none (breaches inner body) _ seen) (first_none (action_kind_breaches more body) _ kinds) x.0 (first_none (outer_breaches (first_inside first factor.value iterator.entity) body) _ o) q.1.0
+        (next_in_step s facts iterator sort.Iterator (of_iterator (iterator_kind declared)) l) sorted same (first_none (breaches inner body) _ seen) (first_none (action_kind_breaches more body) _ kinds) x.0 o.0 q.1.0
         (λ m h. w m (has_left m (locals body) (other_locals combine) h))
         (λ y h. z y (has_left y (standings (depth_inside d factor.value) body) (other_standings (depth_inside d factor.value) combine) h)) in
         record {
@@ -242,13 +243,13 @@ module _ (p : Program) (ready : IsReady p) where
         }
 
     other_told : (m : MaybeAction) (facts : Facts) (s : Scope) (r : Around) (first d : ℕ) → InStep s facts → AreSorted p facts first d s.visible
-        → resolved_other s m ≡ m → other_breaches s m ≡ [] → other_kind_breaches facts m ≡ [] → OtherFoldsInJoins m → outer_other_breaches first m ≡ [] → OtherDeep (all_bindings_of p) d m → ((x : Memory) → Has x (other_locals m) → Has x (memories_of p))
+        → resolved_other s m ≡ m → other_breaches s m ≡ [] → other_kind_breaches facts m ≡ [] → OtherFoldsInJoins m → OtherSparesOuter first m → OtherDeep (all_bindings_of p) d m → ((x : Memory) → Has x (other_locals m) → Has x (memories_of p))
         → ((y : ViewSite) → Has y (other_standings d m) → Has y (standings 0 p.body)) → CommandTold p (facts_after_other facts m) first d (other_at_end s m) (other_events r m) (OtherAssignsInside (known_of p) d m)
     other_told no_action facts s r first d l k e v b x o q w z = record { names = k; events = tt; inside = tt }
     other_told (one_action a) facts s r first d l k e v b x o q w z = let same : resolved_action s a ≡ a = cc in told a facts s r first d l k same v b x o q w z
 
     part_told : (part : Actions) (facts : Facts) (s : Scope) (r : Around) (first d : ℕ) → InStep s facts → AreSorted p facts first d s.visible
-        → resolved_actions s part ≡ part → actions_breaches s part ≡ [] → actions_kind_breaches facts part ≡ [] → PartFoldsInJoins part → outer_part_breaches first part ≡ [] → PartDeep (all_bindings_of p) d part
+        → resolved_actions s part ≡ part → actions_breaches s part ≡ [] → actions_kind_breaches facts part ≡ [] → PartFoldsInJoins part → PartSparesOuter first part → PartDeep (all_bindings_of p) d part
         → ((m : Memory) → Has m (part_locals part) → Has m (memories_of p))
         → ((y : ViewSite) → Has y (part_standings d part) → Has y (standings 0 p.body)) → CommandTold p (facts_after_actions facts part) first d (actions_at_end s part) (part_events r part) (PartAssignsInside (known_of p) d part)
     part_told no_actions facts s r first d l k e v b x o q w z = record { names = k; events = tt; inside = tt }
@@ -256,25 +257,25 @@ module _ (p : Program) (ready : IsReady p) where
         let after : Scope = past s a (at_end s a) in
         let first_same : resolved_action s a ≡ a = cc in
         let second_same : resolved_actions after rest ≡ rest = cc in
-        let one = told a facts s r first d l k first_same (first_none (breaches s a) _ v) (first_none (action_kind_breaches facts a) _ b) x.0 (first_none (outer_breaches first a) _ o) q.0
+        let one = told a facts s r first d l k first_same (first_none (breaches s a) _ v) (first_none (action_kind_breaches facts a) _ b) x.0 o.0 q.0
         (λ m h. w m (has_left m (locals a) (part_locals rest) h)) (λ y h. z y (has_left y (standings d a) (part_standings d rest) h)) in
         let two = part_told rest (facts_after facts a) (past s a (at_end s a)) r first d (past_in_step s (at_end s a) (facts_after facts a) a (in_step s facts a l))
         (past_sorted p (facts_after facts a) first d s a (all_later p facts (facts_after facts a) first d s.visible (grows facts a) k) one.names)
-        second_same (second_none (breaches s a) _ v) (second_none (action_kind_breaches facts a) _ b) x.1 (second_none (outer_breaches first a) _ o) q.1
+        second_same (second_none (breaches s a) _ v) (second_none (action_kind_breaches facts a) _ b) x.1 o.1 q.1
         (λ m h. w m (has_right m (locals a) (part_locals rest) h)) (λ y h. z y (has_right y (standings d a) (part_standings d rest) h)) in
         record { names = two.names; events = each_both _ (events r a) _ one.events two.events; inside = (one.inside, two.inside) }
 
     groups_told : (gs : Groups) (facts : Facts) (s : Scope) (r : Around) (first d : ℕ) → InStep s facts → AreSorted p facts first d s.visible
-        → resolved_groups s gs ≡ gs → groups_breaches s gs ≡ [] → groups_kind_breaches facts gs ≡ [] → GroupsFoldInJoins gs → outer_groups_breaches first gs ≡ [] → GroupsDeep (all_bindings_of p) d gs
+        → resolved_groups s gs ≡ gs → groups_breaches s gs ≡ [] → groups_kind_breaches facts gs ≡ [] → GroupsFoldInJoins gs → GroupsSpareOuter first gs → GroupsDeep (all_bindings_of p) d gs
         → ((m : Memory) → Has m (groups_locals gs) → Has m (memories_of p))
         → ((y : ViewSite) → Has y (groups_standings d gs) → Has y (standings 0 p.body)) → CommandTold p (facts_after_groups facts gs) first d (groups_at_end s gs) (groups_events r gs) (GroupsAssignInside (known_of p) d gs)
     groups_told no_groups facts s r first d l k e v b x o q w z = record { names = k; events = tt; inside = tt }
     groups_told (group_then part rest) facts s r first d l k e v b x o q w z =
         let first_same : resolved_actions s part ≡ part = cc in
         let second_same : resolved_groups (actions_at_end s part) rest ≡ rest = cc in
-        let one = part_told part facts s r first d l k first_same (first_none (actions_breaches s part) _ v) (first_none (actions_kind_breaches facts part) _ b) x.0 (first_none (outer_part_breaches first part) _ o) q.0
+        let one = part_told part facts s r first d l k first_same (first_none (actions_breaches s part) _ v) (first_none (actions_kind_breaches facts part) _ b) x.0 o.0 q.0
         (λ m h. w m (has_left m (part_locals part) (groups_locals rest) h)) (λ y h. z y (has_left y (part_standings d part) (groups_standings d rest) h)) in
         let two = groups_told rest (facts_after_actions facts part) (actions_at_end s part) r first d (part_in_step s facts part l) one.names
-        second_same (second_none (actions_breaches s part) _ v) (second_none (actions_kind_breaches facts part) _ b) x.1 (second_none (outer_part_breaches first part) _ o) q.1
+        second_same (second_none (actions_breaches s part) _ v) (second_none (actions_kind_breaches facts part) _ b) x.1 o.1 q.1
         (λ m h. w m (has_right m (part_locals part) (groups_locals rest) h)) (λ y h. z y (has_right y (part_standings d part) (groups_standings d rest) h)) in
         record { names = two.names; events = each_both _ (part_events r part) _ one.events two.events; inside = (one.inside, two.inside) }

@@ -9,7 +9,6 @@ use Rattle.std.specs.Option.{option_map}
 use Rattle.std.proofs.lemmas.Option.{slice_get_within}
 use Rattle.std.proofs.lemmas.Bool.Decides.{nat_tests}
 use Rattle.dh_base.specs.declared.places.Place.{Place}
-use Rattle.dh_base.specs.declared.rules.Rule.TheVariants.{OuterWrite}
 use Rattle.dh_value.specs.declared.kinds.Kind.{Kind}
 use Rattle.dh_value.specs.declared.kinds.Kind.TheVariants as kind
 use Rattle.dh_tree.specs.declared.trees.expressions.Ref.{Ref}
@@ -17,7 +16,6 @@ use Rattle.dh_tree.specs.declared.trees.programs.Sort.{Sort}
 use Rattle.dh_tree.specs.Breaches.{unknown, term_breaches, terms_breaches, maybe_value_breaches}
 use Rattle.dh_tree.specs.KindBreaches.{term_kind_breaches, indices_kind_breaches, assigned_breaches, maybe_breaches, target_breaches}
 use Rattle.dh_tree.specs.Kinds.{Fact, of_variable, of_iterator, of_memory, of_function, Facts, fact_at, fact_of, found, place_of, when, index_breaches, access_breaches, bank_breaches, applied_breaches, cast_breaches, variable_fact}
-use Rattle.dh_tree.specs.LeastBreach.{breach}
 use Rattle.dh_tree.specs.Memories.{Memory, same_entity, memory_in, memories_of}
 use Rattle.dh_tree.specs.PlainTrees.{Term, term, number, truth_value, named, accessed, in_bank, applied, converted, Terms, no_terms, term_then, Action, action, lets, lets_memory, views, assigns, stores, reduces, calls, blocks, decides, repeats, counts, Program}
 use Rattle.dh_tree.specs.Resolved.{resolved_term, resolved_terms}
@@ -27,11 +25,10 @@ use Rattle.dh_meaning.specs.Bindings.{binding_in, depth_bound}
 use Rattle.dh_meaning.specs.CoreOf.{known_of, entity_number, depth_of}
 use Rattle.dh_meets.specs.SourceEvents.{with_indices, in_row, Site, one_access, source_term_events, source_terms_events, maybe_events, write_events}
 use Rattle.dh_sound.specs.BlockTold.{IsOfMemory}
-use Rattle.dh_sound.specs.OuterWrites.{is_from_outside}
+use Rattle.dh_tree.specs.Placements.{is_from_outside}
 use Rattle.dh_sound.specs.Trails.{EachAccess}
 use Rattle.dh_sound.proofs.DepthsNamed.{size}
 use Rattle.dh_sound.proofs.FactsGrow.{Extends, appended, added_last, InStep}
-use Rattle.dh_sound.proofs.IteratorsNamed.{none_when}
 use Rattle.dh_sound.proofs.KindsOfCommands.{added_found}
 use Rattle.dh_sound.proofs.NamedPrograms.{used_stands}
 use Rattle.dh_carried.proofs.Pigeons.{Has}
@@ -212,8 +209,8 @@ module _ (p : Program) (leads : (entity : Option ℕ) (w : Way) → way_to p ent
   parent_of r n place is (function_is ks at) e = not_none _ _ (ap (λ o. bank_breaches o place) (fact_there r n (of_function ks) is at) ∙ e)
 
   -- what is assigned to is declared inside, unless it leads out of the body of several copies
-  inside_first : (r : Ref) (n : ℕ) → r.entity ≡ Some n → when (is_from_outside first r.entity) (breach OuterWrite r.place ∷ []) ≡ [] → first ≤ n
-  inside_first r n is e = at_least (ap (is_from_outside first) (sym is) ∙ none_when (is_from_outside first r.entity) (breach OuterWrite r.place) e)
+  inside_first : (r : Ref) (n : ℕ) → r.entity ≡ Some n → is_from_outside first r.entity ≡ false → first ≤ n
+  inside_first r n is e = at_least (ap (is_from_outside first) (sym is) ∙ e)
     where
       at_least : nat_lt n first ≡ false → first ≤ n
       at_least f = grind (arith, nat_tests)
@@ -221,7 +218,7 @@ module _ (p : Program) (leads : (entity : Option ℕ) (w : Way) → way_to p ent
   deep_name : (r : Ref) (n : ℕ) → r.entity ≡ Some n → depth ≤ depth_bound (binding_in (all_bindings_of p) n) → depth ≤ depth_of (known_of p) r
   deep_name r n is l = subst (λ (o : Option ℕ). depth ≤ depth_bound (binding_in (all_bindings_of p) (entity_number o))) (sym is) l
 
-  pub target_inside : (r : Ref) (n : ℕ) → r.entity ≡ Some n → IsSorted p facts first depth n → target_breaches (fact_of facts r) r.place ≡ [] → when (is_from_outside first r.entity) (breach OuterWrite r.place ∷ []) ≡ []
+  pub target_inside : (r : Ref) (n : ℕ) → r.entity ≡ Some n → IsSorted p facts first depth n → target_breaches (fact_of facts r) r.place ≡ [] → is_from_outside first r.entity ≡ false
       → depth ≤ depth_of (known_of p) r
   target_inside r n is (memory_is k dims at m) e o = not_none _ _ (ap (λ x. target_breaches x r.place) (fact_there r n (of_memory k dims) is at) ∙ e)
   target_inside r n is (view_is k dims at m) e o = not_none _ _ (ap (λ x. target_breaches x r.place) (fact_there r n (of_memory k dims) is at) ∙ e)

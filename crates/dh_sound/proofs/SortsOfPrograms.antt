@@ -27,7 +27,7 @@ use Rattle.dh_sound.proofs.FactsGrow.{appended}
 use Rattle.dh_sound.proofs.JoinsKept.{joins_kept}
 use Rattle.dh_sound.proofs.KindsOfPrograms.{functions_grow, body_in_step, mapped_at, behind_at, map_long, resolved_body, next_number}
 use Rattle.dh_carried.proofs.Pigeons.{Has, has_right, has_left, has_mapped}
-use Rattle.dh_sound.proofs.PlacementsSplit.{folds_none, outer_none}
+use Rattle.dh_sound.proofs.OuterSpared.{outer_spared}
 use Rattle.dh_sound.proofs.SortsOfCommands.{CommandTold, told}
 use Rattle.dh_sound.proofs.SortsOfNames.{memory_found, IsSorted, memory_is, function_is, AreSorted, all_later, bind_sorted}
 use Rattle.dh_meaning.specs.Ways.{all_bindings_of, view_bindings}
@@ -133,7 +133,7 @@ module _ (p : Program) (ready : IsReady p) (typed : IsTypedProgram p) where
       told p ready p.body (body_facts p) (body_scope p) nothing_around 0 0 (body_in_step p) (body_sorted p typed) (resolved_body p typed)
       (second_none (functions_breaches (length p.decls) (first_scope p) p.functions) _ (second_none (items_breaches [] (items_of p)) _ ready.names))
       (second_none (functions_kind_breaches (first_facts p) p.functions) _ ready.suits)
-      (joins_kept p.entities p.body (second_none (unbuilt_functions p.functions) _ ready.built) (folds_none p ready.placements)) (outer_none p ready.placements)
+      (joins_kept p (second_none (unbuilt_functions p.functions) _ ready.built) ready.placements) (outer_spared p ready.placements)
       (deep (all_bindings_of p) p.body (body_scope p) 0 [] (view_bindings p) (resolved_body p typed) refl tt)
       (λ m h. has_right m (map outside_memory p.decls) (locals p.body) h) (λ y h. h)
 

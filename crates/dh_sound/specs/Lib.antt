@@ -25,7 +25,6 @@ pub mod AssignsInside
 pub mod Accepted
 pub mod BlocksCovered
 pub mod StepsCovered
-pub mod Joins
 pub mod StraightKinds
 pub mod BehindViews
 pub mod ViewTrails

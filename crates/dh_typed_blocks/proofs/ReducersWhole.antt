@@ -29,7 +29,7 @@ use Rattle.dh_meaning.specs.Ways.{ViewSite, all_bindings_of, form_standings, gro
 use Rattle.dh_meaning.specs.CoreOf.{Known, known_of, depth_of, entity_number}
 use Rattle.dh_meaning.specs.Sites.{nothing_around}
 use Rattle.dh_sound.specs.IndexValues.{IsTypedProgram}
-use Rattle.dh_sound.specs.OuterWrites.{outer_breaches, outer_form_breaches, outer_other_breaches, outer_part_breaches, outer_groups_breaches}
+use Rattle.dh_sound.specs.OuterWrites.{SparesOuter, FormSparesOuter, OtherSparesOuter, PartSparesOuter, GroupsSpareOuter}
 use Rattle.dh_sound.specs.SimpleForms.{FoldsOnly, FormFoldsOnly, GroupsFoldOnly, PartFoldsOnly, FoldsInJoins, FormFoldsInJoins, OtherFoldsInJoins, GroupsFoldInJoins, PartFoldsInJoins, JoinsFolds}
 use Rattle.dh_sound.proofs.DepthsNamed.{size, Deep, FormDeep, OtherDeep, GroupsDeep, PartDeep, deep}
 use Rattle.dh_sound.proofs.FactsGrow.{appended, grows, part_grows, InStep, next_in_step, past_in_step, in_step, part_in_step}
@@ -38,7 +38,7 @@ use Rattle.dh_sound.proofs.JoinsKept.{joins_kept}
 use Rattle.dh_sound.proofs.KindsOfPrograms.{body_in_step, resolved_body}
 use Rattle.dh_sound.proofs.NamedPrograms.{used_stands}
 use Rattle.dh_carried.proofs.Pigeons.{Has, has_left, has_right}
-use Rattle.dh_sound.proofs.PlacementsSplit.{folds_none, outer_none}
+use Rattle.dh_sound.proofs.OuterSpared.{outer_spared}
 use Rattle.dh_sound.proofs.SortsOfCommands.{told}
 use Rattle.dh_sound.proofs.SortsOfNames.{IsDeepFrom, IsSorted, memory_is, variable_is, view_is, iterator_is, function_is, AreSorted, later_sorted, all_later, inner_sorted, bind_sorted, next_fact, past_sorted}
 use Rattle.dh_code.specs.Declarations.{placing_of}
@@ -280,11 +280,11 @@ enters p facts s first d factor k name l h q =
 
 module _ (p : Program) (ready : IsReady p) (all : AllSorted p.entities (known_of p).bindings) where
   mutual
-    whole : (a : Action) (facts : Facts) (s : Scope) (c : Context) (d : ℕ) → Sorted p facts s c.first d → resolved_action s a ≡ a → breaches s a ≡ [] → action_kind_breaches facts a ≡ [] → FoldsInJoins a → outer_breaches c.first a ≡ [] → Deep (all_bindings_of p) d a → ((m : Memory) → Has m (locals a) → Has m (memories_of p))
+    whole : (a : Action) (facts : Facts) (s : Scope) (c : Context) (d : ℕ) → Sorted p facts s c.first d → resolved_action s a ≡ a → breaches s a ≡ [] → action_kind_breaches facts a ≡ [] → FoldsInJoins a → SparesOuter c.first a → Deep (all_bindings_of p) d a → ((m : Memory) → Has m (locals a) → Has m (memories_of p))
         → ((y : ViewSite) → Has y (standings d a) → Has y (standings 0 p.body)) → action_placement_breaches p.entities c a ≡ [] → JoinsWhole (known_of p) d a
     whole (action id place form) facts s c d k e v b x o q w z t = let same : resolved_form s form ≡ form = cc in form_joins form facts s c place d k same v b x o q w z t
 
-    form_joins : (f : ActionForm) (facts : Facts) (s : Scope) (c : Context) (place : Place) (d : ℕ) → Sorted p facts s c.first d → resolved_form s f ≡ f → form_breaches s f ≡ [] → action_form_kind_breaches facts f ≡ [] → FormFoldsInJoins f → outer_form_breaches c.first f ≡ [] → FormDeep (all_bindings_of p) d f
+    form_joins : (f : ActionForm) (facts : Facts) (s : Scope) (c : Context) (place : Place) (d : ℕ) → Sorted p facts s c.first d → resolved_form s f ≡ f → form_breaches s f ≡ [] → action_form_kind_breaches facts f ≡ [] → FormFoldsInJoins f → FormSparesOuter c.first f → FormDeep (all_bindings_of p) d f
         → ((m : Memory) → Has m (form_locals f) → Has m (memories_of p)) → ((y : ViewSite) → Has y (form_standings d f) → Has y (standings 0 p.body)) → form_placement_breaches p.entities c place f ≡ [] → FormJoinsWhole (known_of p) d f
     form_joins (lets name declared value) facts s c place d k e v b x o q w z t = tt
     form_joins (lets_memory name shape shape_places value) facts s c place d k e v b x o q w z t = tt
@@ -306,9 +306,9 @@ module _ (p : Program) (ready : IsReady p) (all : AllSorted p.entities (known_of
           names = all_later p facts (facts_after facts chosen) c.first d s.visible (grows facts chosen) k.names;
           before = less c.first (size s) (size (at_end s chosen)) k.before (on_long _ _ (goes_on chosen s));
         } in (
-          whole chosen facts s (branched c) d k first_same (first_none (breaches s chosen) _ seen) (first_none (action_kind_breaches facts chosen) _ kinds) x.0 (first_none (outer_breaches c.first chosen) _ o) q.0
+          whole chosen facts s (branched c) d k first_same (first_none (breaches s chosen) _ seen) (first_none (action_kind_breaches facts chosen) _ kinds) x.0 o.0 q.0
               (λ m h. w m (has_left m (locals chosen) (other_locals other) h)) (λ y h. z y (has_left y (standings d chosen) (other_standings d other) h)) (first_none (action_placement_breaches p.entities (branched c) chosen) _ t),
-          other_joins other (facts_after facts chosen) inner (branched c) d inside second_same (second_none (breaches s chosen) _ seen) (second_none (action_kind_breaches facts chosen) _ kinds) x.1 (second_none (outer_breaches c.first chosen) _ o) q.1
+          other_joins other (facts_after facts chosen) inner (branched c) d inside second_same (second_none (breaches s chosen) _ seen) (second_none (action_kind_breaches facts chosen) _ kinds) x.1 o.1 q.1
               (λ m h. w m (has_right m (locals chosen) (other_locals other) h)) (λ y h. z y (has_right y (standings d chosen) (other_standings d other) h)) (first_none (other_placement_breaches p.entities (branched c) other) _ below),
         )
     form_joins (repeats test body) facts s c place d k e v b x o q w z t =
@@ -338,7 +338,7 @@ module _ (p : Program) (ready : IsReady p) (all : AllSorted p.entities (known_of
         } in
         let body_seen = first_none (breaches inner body) _ seen in
         let body_kinds = first_none (action_kind_breaches more body) _ kinds in
-        let body_outer = first_none (outer_breaches (first_inside c.first factor.value iterator.entity) body) _ o in
+        let body_outer = o.0 in
         let body_memories : (m : Memory) → Has m (locals body) → Has m (memories_of p) = λ m h. w m (has_left m (locals body) (other_locals combine) h) in
         let body_views : (y : ViewSite) → Has y (standings (depth_inside d factor.value) body) → Has y (standings 0 p.body) =
         λ y h. z y (has_left y (standings (depth_inside d factor.value) body) (other_standings (depth_inside d factor.value) combine) h) in
@@ -351,12 +351,12 @@ module _ (p : Program) (ready : IsReady p) (all : AllSorted p.entities (known_of
               (second_none (breaches inner body) _ seen) (second_none (action_kind_breaches more body) _ kinds) x.1 (first_none (other_placement_breaches p.entities (in_combine c iterator.entity) combine) _ below),
         )
 
-    other_joins : (m : MaybeAction) (facts : Facts) (s : Scope) (c : Context) (d : ℕ) → Sorted p facts s c.first d → resolved_other s m ≡ m → other_breaches s m ≡ [] → other_kind_breaches facts m ≡ [] → OtherFoldsInJoins m → outer_other_breaches c.first m ≡ [] → OtherDeep (all_bindings_of p) d m
+    other_joins : (m : MaybeAction) (facts : Facts) (s : Scope) (c : Context) (d : ℕ) → Sorted p facts s c.first d → resolved_other s m ≡ m → other_breaches s m ≡ [] → other_kind_breaches facts m ≡ [] → OtherFoldsInJoins m → OtherSparesOuter c.first m → OtherDeep (all_bindings_of p) d m
         → ((y : Memory) → Has y (other_locals m) → Has y (memories_of p)) → ((y : ViewSite) → Has y (other_standings d m) → Has y (standings 0 p.body)) → other_placement_breaches p.entities c m ≡ [] → OtherJoinsWhole (known_of p) d m
     other_joins no_action facts s c d k e v b x o q w z t = tt
     other_joins (one_action a) facts s c d k e v b x o q w z t = let same : resolved_action s a ≡ a = cc in whole a facts s c d k same v b x o q w z t
 
-    part_joins : (part : Actions) (facts : Facts) (s : Scope) (c : Context) (d : ℕ) → Sorted p facts s c.first d → resolved_actions s part ≡ part → actions_breaches s part ≡ [] → actions_kind_breaches facts part ≡ [] → PartFoldsInJoins part → outer_part_breaches c.first part ≡ [] → PartDeep (all_bindings_of p) d part
+    part_joins : (part : Actions) (facts : Facts) (s : Scope) (c : Context) (d : ℕ) → Sorted p facts s c.first d → resolved_actions s part ≡ part → actions_breaches s part ≡ [] → actions_kind_breaches facts part ≡ [] → PartFoldsInJoins part → PartSparesOuter c.first part → PartDeep (all_bindings_of p) d part
         → ((m : Memory) → Has m (part_locals part) → Has m (memories_of p)) → ((y : ViewSite) → Has y (part_standings d part) → Has y (standings 0 p.body)) → actions_placement_breaches p.entities c part ≡ []
         → PartJoinsWhole (known_of p) d part × AreSorted p (facts_after_actions facts part) c.first d (actions_at_end s part).visible
     part_joins no_actions facts s c d k e v b x o q w z t = (tt, k.names)
@@ -365,7 +365,7 @@ module _ (p : Program) (ready : IsReady p) (all : AllSorted p.entities (known_of
         let second_same : resolved_actions (past s a (at_end s a)) rest ≡ rest = cc in
         let memories : (m : Memory) → Has m (locals a) → Has m (memories_of p) = λ m h. w m (has_left m (locals a) (part_locals rest) h) in
         let views_here : (y : ViewSite) → Has y (standings d a) → Has y (standings 0 p.body) = λ y h. z y (has_left y (standings d a) (part_standings d rest) h) in
-        let one = told p ready a facts s nothing_around c.first d k.step k.names first_same (first_none (breaches s a) _ v) (first_none (action_kind_breaches facts a) _ b) x.0 (first_none (outer_breaches c.first a) _ o) q.0 memories views_here in
+        let one = told p ready a facts s nothing_around c.first d k.step k.names first_same (first_none (breaches s a) _ v) (first_none (action_kind_breaches facts a) _ b) x.0 o.0 q.0 memories views_here in
         let same_size = ap length (past_on s (at_end s a) a) in
         let longer = on_long _ _ (goes_on a s) in
         let bound = k.before in
@@ -374,30 +374,30 @@ module _ (p : Program) (ready : IsReady p) (all : AllSorted p.entities (known_of
           names = past_sorted p (facts_after facts a) c.first d s a (all_later p facts (facts_after facts a) c.first d s.visible (grows facts a) k.names) one.names;
           before = omega (arith, bound, same_size, longer);
         } in
-        let two = part_joins rest (facts_after facts a) (past s a (at_end s a)) c d after second_same (second_none (breaches s a) _ v) (second_none (action_kind_breaches facts a) _ b) x.1 (second_none (outer_breaches c.first a) _ o) q.1
+        let two = part_joins rest (facts_after facts a) (past s a (at_end s a)) c d after second_same (second_none (breaches s a) _ v) (second_none (action_kind_breaches facts a) _ b) x.1 o.1 q.1
         (λ m h. w m (has_right m (locals a) (part_locals rest) h)) (λ y h. z y (has_right y (standings d a) (part_standings d rest) h)) (second_none (joined_breaches c.joins a) _ (second_none (action_placement_breaches p.entities c a) _ t)) in (
           (
-            whole a facts s c d k first_same (first_none (breaches s a) _ v) (first_none (action_kind_breaches facts a) _ b) x.0 (first_none (outer_breaches c.first a) _ o) q.0 memories views_here (first_none (action_placement_breaches p.entities c a) _ t),
+            whole a facts s c d k first_same (first_none (breaches s a) _ v) (first_none (action_kind_breaches facts a) _ b) x.0 o.0 q.0 memories views_here (first_none (action_placement_breaches p.entities c a) _ t),
             two.0,
           ),
           two.1,
         )
 
-    groups_join : (gs : Groups) (facts : Facts) (s : Scope) (c : Context) (d : ℕ) → Sorted p facts s c.first d → resolved_groups s gs ≡ gs → groups_breaches s gs ≡ [] → groups_kind_breaches facts gs ≡ [] → GroupsFoldInJoins gs → outer_groups_breaches c.first gs ≡ [] → GroupsDeep (all_bindings_of p) d gs
+    groups_join : (gs : Groups) (facts : Facts) (s : Scope) (c : Context) (d : ℕ) → Sorted p facts s c.first d → resolved_groups s gs ≡ gs → groups_breaches s gs ≡ [] → groups_kind_breaches facts gs ≡ [] → GroupsFoldInJoins gs → GroupsSpareOuter c.first gs → GroupsDeep (all_bindings_of p) d gs
         → ((m : Memory) → Has m (groups_locals gs) → Has m (memories_of p)) → ((y : ViewSite) → Has y (groups_standings d gs) → Has y (standings 0 p.body)) → groups_placement_breaches p.entities c gs ≡ [] → GroupsJoinWhole (known_of p) d gs
     groups_join no_groups facts s c d k e v b x o q w z t = tt
     groups_join (group_then part rest) facts s c d k e v b x o q w z t =
         let first_same : resolved_actions s part ≡ part = cc in
         let second_same : resolved_groups (actions_at_end s part) rest ≡ rest = cc in
         let memories : (m : Memory) → Has m (part_locals part) → Has m (memories_of p) = λ m h. w m (has_left m (part_locals part) (groups_locals rest) h) in
-        let one = part_joins part facts s c d k first_same (first_none (actions_breaches s part) _ v) (first_none (actions_kind_breaches facts part) _ b) x.0 (first_none (outer_part_breaches c.first part) _ o) q.0 memories (λ y h. z y (has_left y (part_standings d part) (groups_standings d rest) h)) (first_none (actions_placement_breaches p.entities c part) _ t) in
+        let one = part_joins part facts s c d k first_same (first_none (actions_breaches s part) _ v) (first_none (actions_kind_breaches facts part) _ b) x.0 o.0 q.0 memories (λ y h. z y (has_left y (part_standings d part) (groups_standings d rest) h)) (first_none (actions_placement_breaches p.entities c part) _ t) in
         let after : Sorted p (facts_after_actions facts part) (actions_at_end s part) c.first d = record {
           step = part_in_step s facts part k.step;
           names = one.1;
           before = less c.first (size s) (size (actions_at_end s part)) k.before (on_long _ _ (part_on part s));
         } in (
           one.0,
-          groups_join rest (facts_after_actions facts part) (actions_at_end s part) c d after second_same (second_none (actions_breaches s part) _ v) (second_none (actions_kind_breaches facts part) _ b) x.1 (second_none (outer_part_breaches c.first part) _ o) q.1
+          groups_join rest (facts_after_actions facts part) (actions_at_end s part) c d after second_same (second_none (actions_breaches s part) _ v) (second_none (actions_kind_breaches facts part) _ b) x.1 o.1 q.1
               (λ m h. w m (has_right m (part_locals part) (groups_locals rest) h)) (λ y h. z y (has_right y (part_standings d part) (groups_standings d rest) h)) (second_none (actions_placement_breaches p.entities c part) _ t),
         )
 
@@ -419,7 +419,7 @@ ready_whole p ready =
     whole p ready (ready_sorted p ready) p.body (body_facts p) (body_scope p) nothing_round 0 (record { step = body_in_step p; names = body_sorted p ready; before = omega arith }) (resolved_body p typed)
     (second_none (functions_breaches (length p.decls) (first_scope p) p.functions) _ (second_none (items_breaches [] (items_of p)) _ ready.names))
     (second_none (functions_kind_breaches (first_facts p) p.functions) _ ready.suits)
-    (joins_kept p.entities p.body (second_none (unbuilt_functions p.functions) _ ready.built) (folds_none p ready.placements)) (outer_none p ready.placements)
+    (joins_kept p (second_none (unbuilt_functions p.functions) _ ready.built) ready.placements) (outer_spared p ready.placements)
     (deep (all_bindings_of p) p.body (body_scope p) 0 [] (view_bindings p) (resolved_body p typed) refl tt)
     (λ m h. has_right m (map outside_memory p.decls) (locals p.body) h) (λ y h. h)
     (second_none (decls_placement_breaches p.decls) _ ready.placements)

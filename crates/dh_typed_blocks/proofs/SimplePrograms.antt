@@ -7,13 +7,12 @@ use Rattle.dh_tree.proofs.EmptyLists.{second_none}
 use Rattle.dh_sound.specs.BlocksOfPhases.{OfTest}
 use Rattle.dh_sound.specs.SimpleForms.{FoldsInJoins}
 use Rattle.dh_sound.proofs.JoinsKept.{joins_kept}
-use Rattle.dh_sound.proofs.PlacementsSplit.{folds_none}
 use Rattle.dh_typed_blocks.specs.SimpleBlocks.{StraightSimple, BlocksAreSimple}
 use Rattle.dh_typed_blocks.proofs.BlocksHolding.{StraightHolds, TestHolds, block_holds}
 use Rattle.dh_typed_blocks.proofs.SimpleParts.{Simple, Joins, groups_simple, other_simple, joins_folds, is_fold, all_simple}
 
 pub body_simple : (p : Program) → IsReady p → FoldsInJoins p.body
-body_simple p ready = joins_kept p.entities p.body (second_none (unbuilt_functions p.functions) _ ready.built) (folds_none p ready.placements)
+body_simple p ready = joins_kept p (second_none (unbuilt_functions p.functions) _ ready.built) ready.placements
 
 pub blocks_simple : (p : Program) → IsReady p → BlocksAreSimple p
 blocks_simple p ready loops block s =
