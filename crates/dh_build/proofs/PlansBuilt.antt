@@ -16,11 +16,10 @@ use Rattle.dh_lower.proofs.NetSimulates.{net_plays}
 use Rattle.dh_control.specs.ThreadHolds.{holds_thread}
 use Rattle.dh_control.specs.WayMoves.{way_of_decision}
 use Rattle.dh_control.specs.WiredNets.{IsStraight}
-use Rattle.dh_swept.specs.SweptLaws.{IsSweptOf}
 use Rattle.dh_build.specs.declared.building.Sizes.{Sizes}
 use Rattle.dh_build.specs.BuiltNets.{IsBuilt, making_of}
 use Rattle.dh_build.specs.BuiltParts.{CanMake}
-use Rattle.dh_build.specs.BuiltPlans.{AreSizesOf, CanBuild, IsBuiltNet, timing_of}
+use Rattle.dh_build.specs.BuiltPlans.{AreSizesOf, CanBuild, timing_of}
 use Rattle.dh_build.proofs.NetValid.{net_valid}
 use Rattle.dh_build.proofs.OneGroup.{one_group}
 use Rattle.dh_build.proofs.ThreadsBuilt.{net_of_thread}
@@ -87,19 +86,3 @@ module _ (plan : PlainPlan) (g : Graph) (t : Timing) (u : Uses) (can : CanBuild 
 
 pub built_shifts : (plan : PlainPlan) (u : Uses) (states : List State) (first : Decision) (s : Sizes) (net : Net) → IsBuilt plan u states first s net → HasNarrowShifts net.cells
 built_shifts plan u states first s net built = subst (λ (l : List Cell). HasNarrowShifts l) (sym built.cells_are) built.shifts
-
--- Without the cells and registers that nothing needs the net plays it, too.
-pub built_swept : (plan : PlainPlan) (lengths : List ℕ) (whole net : Net) → PlaysPlan plan lengths whole → HasNarrowShifts whole.cells → IsSweptOf whole net
-    → IsBuiltNet plan lengths net
-built_swept plan lengths whole net h narrow swept = record {
-  plays = record {
-    valid = swept.same.valid;
-    table = swept.same.table ∙ h.table;
-    faults = swept.same.faults ∙ h.faults;
-    plays = λ start fits. swept.same.plays (plan_run plan lengths start) start (h.plays start fits);
-    writes = λ start fits. swept.same.writes (plan_run plan lengths start) start (h.writes start fits);
-  };
-  zero_reads = swept.same.zero_reads;
-  shifts = swept.same.shifts narrow;
-  needed = swept.needed;
-}

@@ -3,7 +3,6 @@ use Rattle.std.specs.Prelude.{◌≡◌, ℕ, ◌<◌, ◌^◌, List, length}
 use Rattle.std.specs.List.{AllByRecursion}
 use Rattle.dh_value.specs.Words.{IsKind}
 use Rattle.dh_net.specs.declared.nets.Net.{Net}
-use Rattle.dh_net.specs.Valid.{HasReadsZero}
 use Rattle.dh_plan.specs.declared.graphs.Graph.{Graph}
 use Rattle.dh_plan.specs.declared.schedules.Limits.{Limits}
 use Rattle.dh_plan.specs.BoundPorts.{Uses}
@@ -12,7 +11,6 @@ use Rattle.dh_plan.specs.Passes.{MayBuild}
 use Rattle.dh_plan.specs.PlainPlans.{PlainPlan}
 use Rattle.dh_plan.specs.PlayedPlans.{PlaysPlan}
 use Rattle.dh_cells.specs.NarrowShifts.{HasNarrowShifts}
-use Rattle.dh_swept.specs.NeededCells.{NeedsAll}
 use Rattle.dh_build.specs.declared.building.Sizes.{Sizes}
 use Rattle.dh_build.specs.BuiltParts.{AreSizes}
 
@@ -41,10 +39,7 @@ pub record CanBuild (plan : PlainPlan) (g : Graph) (t : Timing) (u : Uses) : Typ
   -- the program's own group is the only one
   pub alone : length g.groups.items ≡ 1
 
--- What is promised of the net: it plays the plan, its reads have data 0, no cell shifts by a constant of at least its
--- width, and each cell and each register is needed.
+-- What is promised of the net: it plays the plan, and no cell shifts by a constant of at least its width.
 pub record IsBuiltNet (plan : PlainPlan) (lengths : List ℕ) (net : Net) : Type 0 where
   pub plays : PlaysPlan plan lengths net
-  pub zero_reads : HasReadsZero net
   pub shifts : HasNarrowShifts net.cells
-  pub needed : NeedsAll net

@@ -2,9 +2,7 @@
 
 ghost use Rattle.std.specs.Prelude.{IfOk};
 ghost use Rattle.dh_plan.specs.Passes.{uses_seen};
-ghost use Rattle.dh_plan.specs.PlayedPlans.{PlaysPlan};
 ghost use Rattle.dh_plan.specs.SeenPlans.{plan_seen};
-ghost use Rattle.dh_cells.specs.NarrowShifts.{HasNarrowShifts};
 ghost use Rattle.dh_build.specs.BuiltPlans.{CanBuild, IsBuiltNet, timing_of};
 
 use crate::joining::build_thread;
@@ -12,32 +10,11 @@ use crate::sizing::size_up;
 use dh_base::NoMemory;
 use dh_net::Net;
 use dh_plan::{Binding, Graph, Plan};
-use dh_swept::sweep;
 use std::alloc::Global;
 
-/// The net of a plan of one thread, with a cell for whatever may be asked of its values.
-fn whole_net(
-    alloc: Global,
-    plan: &Plan,
-    graph: &Graph,
-    binding: &Binding,
-    clocks: &[u64],
-    lengths: &[u64],
-) -> Result<Net, NoMemory>
-    requires { CanBuild (plan_seen plan.now) graph.now (timing_of clocks.now lengths.now)
-        (uses_seen binding.now) }
-    ensures plays { IfOk result (λ net. PlaysPlan (plan_seen plan.now) lengths.now net) }
-    ensures shifts { IfOk result (λ net. HasNarrowShifts net.cells) }
-{
-    let states = graph.states.as_slice();
-    let first = &graph.groups.as_slice()[0].first;
-    let sizes = size_up(alloc, plan, states.len() as u64, clocks, lengths)?;
-    build_thread(alloc, plan, binding, states, first, &sizes)
-}
-
 /// Makes the net of a plan of one thread by what the passes before make of it: its graph, the ports of its operations,
-/// and its schedule, a clock for each operation and a length for each block. It has no cell and no
-/// register that nothing needs.
+/// and its schedule, a clock for each operation and a length for each block. It has a cell for whatever may be asked of
+/// its values; `sweep` of `dh_swept` leaves out those that nothing needs.
 ///
 /// # Errors
 ///
@@ -54,8 +31,8 @@ pub fn build(
         (uses_seen binding.now) }
     ensures { IfOk result (λ net. IsBuiltNet (plan_seen plan.now) lengths.now net) }
 {
-    match whole_net(alloc, plan, graph, binding, clocks, lengths) {
-        Ok(net) => sweep(alloc, net),
-        Err(fault) => Err(fault),
-    }
+    let states = graph.states.as_slice();
+    let first = &graph.groups.as_slice()[0].first;
+    let sizes = size_up(alloc, plan, states.len() as u64, clocks, lengths)?;
+    build_thread(alloc, plan, binding, states, first, &sizes)
 }

@@ -19,12 +19,12 @@ use Rattle.dh_cells.proofs.NarrowCells.{shifts_later}
 use Rattle.dh_plan.specs.PlainPlans.{PlainPlan}
 use Rattle.dh_plan.specs.PlayedPlans.{plan_run, WritesLast, PlaysPlan}
 use Rattle.dh_build.specs.BuiltPlans.{IsBuiltNet}
-use Rattle.dh_build.proofs.PlansBuilt.{built_swept}
 use Rattle.dh_join.specs.AddedCells.{IsChoice}
 use Rattle.dh_join.specs.JoinedNets.{IsJoined}
 use Rattle.dh_join.specs.JoinedPorts.{any_write}
 use Rattle.dh_join.proofs.SameRuns.{never_clashed, joined_plays}
-use Rattle.dh_compile.specs.JoinedSwept.{IsJoinedSwept}
+use Rattle.dh_swept.specs.SweptLaws.{IsSweptOf}
+use Rattle.dh_compile.specs.JoinedSwept.{IsJoinedSwept, IsPlanNet}
 
 -- an active driver that writes is among them
 record Writes (ws : List ℕ) (ds : List Driver) : Type 0 where
@@ -110,8 +110,24 @@ narrow_joined old new valid j narrow i c at =
       | inr added ↦ choice_shifts_none new.cells c.width c.form added
     ]
 
--- A net that is built of a plan still is one when its drivers are joined and what is not needed then is left out.
-pub joined_built : (plan : PlainPlan) (lengths : List ℕ) (whole net : Net) → IsBuiltNet plan lengths whole → IsJoinedSwept whole net → IsBuiltNet plan lengths net
+-- Without the cells and registers that nothing needs the net plays it, too.
+plan_swept : (plan : PlainPlan) (lengths : List ℕ) (whole net : Net) → PlaysPlan plan lengths whole → HasNarrowShifts whole.cells → IsSweptOf whole net
+    → IsPlanNet plan lengths net
+plan_swept plan lengths whole net h narrow swept = record {
+  plays = record {
+    valid = swept.same.valid;
+    table = swept.same.table ∙ h.table;
+    faults = swept.same.faults ∙ h.faults;
+    plays = λ start fits. swept.same.plays (plan_run plan lengths start) start (h.plays start fits);
+    writes = λ start fits. swept.same.writes (plan_run plan lengths start) start (h.writes start fits);
+  };
+  zero_reads = swept.same.zero_reads;
+  shifts = swept.same.shifts narrow;
+  needed = swept.needed;
+}
+
+-- A net that is built of a plan is one of the plan when its drivers are joined and what is not needed then is left out.
+pub joined_built : (plan : PlainPlan) (lengths : List ℕ) (whole net : Net) → IsBuiltNet plan lengths whole → IsJoinedSwept whole net → IsPlanNet plan lengths net
 joined_built plan lengths whole net h s =
-    built_swept plan lengths s.between net (plays_joined plan lengths whole s.between h.plays s.joined)
+    plan_swept plan lengths s.between net (plays_joined plan lengths whole s.between h.plays s.joined)
     (narrow_joined whole s.between h.plays.valid s.joined h.shifts) s.swept

@@ -27,7 +27,8 @@ use Rattle.dh_backend.specs.SuitedPlans.{IsCompiled}
 use Rattle.dh_backend.specs.declared.parts.NetParts.{NetParts}
 use Rattle.dh_backend.proofs.Unstuck.{accepted_never_stuck}
 use Rattle.dh_backend.proofs.PartsPlay.{parts_play_programs}
-use Rattle.dh_build.specs.BuiltPlans.{CanBuild, IsBuiltNet}
+use Rattle.dh_build.specs.BuiltPlans.{CanBuild}
+use Rattle.dh_compile.specs.JoinedSwept.{IsPlanNet}
 use Rattle.dh_unroll.specs.Unrolled.{IsUnrolled}
 use Rattle.dh_compile.specs.Compiled.{IsNetOfProgram}
 
@@ -48,7 +49,7 @@ writes_last p u q t net asked plan a schedule plays start fits =
     runs_same p u plan.slots t.lengths plan.table plan.sound.formed.counters.wide plan.sound.formed.counters_kept plan.phases times (accepted_never_stuck p asked.ready asked.ports) start in
     subst (λ (r : Run). WritesLast net r start) same ((plays_before u q t.lengths net a plays).writes start (subst (λ (l : List MemEntry). Fits l start) (sym plan.table) fits))
 
-pub net_of_program : (p : Program) (plan : PlainPlan) (parts : NetParts) (net : Net) → IsToCompile p → IsPlanOf p plan → ArePartsOf plan parts → IsBuiltNet (plan_seen parts.plan) parts.passed.times.lengths net
+pub net_of_program : (p : Program) (plan : PlainPlan) (parts : NetParts) (net : Net) → IsToCompile p → IsPlanOf p plan → ArePartsOf plan parts → IsPlanNet (plan_seen parts.plan) parts.passed.times.lengths net
     → IsNetOfProgram p net
 net_of_program p plan parts net asked of h built = record {
   small = asked.small;

@@ -11,7 +11,7 @@ ghost use Rattle.dh_backend.specs.NetParts.{ArePartsOf, times_seen};
 ghost use Rattle.dh_backend.specs.SuitedPlans.{IsCompiled};
 ghost use Rattle.dh_build.specs.BuiltPlans.{CanBuild, IsBuiltNet};
 ghost use Rattle.dh_compile.specs.Compiled.{Compiles, IsNetOfProgram};
-ghost use Rattle.dh_compile.specs.JoinedSwept.{IsJoinedSwept};
+ghost use Rattle.dh_compile.specs.JoinedSwept.{IsJoinedSwept, IsPlanNet};
 
 use dh_backend::{NetParts, parts_of};
 use dh_base::{Limit, NoMemory};
@@ -73,7 +73,7 @@ fn joined_net(alloc: Global, net: Net) -> Result<Net, NoMemory>
 fn net_of_parts(alloc: Global, parts: NetParts) -> Result<Net, NoMemory>
     requires { CanBuild (plan_seen parts.plan) parts.passed.graph
         (times_seen parts.passed.times) (uses_seen parts.passed.binding) }
-    ensures { IfOk result (λ net. IsBuiltNet (plan_seen parts.plan)
+    ensures { IfOk result (λ net. IsPlanNet (plan_seen parts.plan)
         parts.passed.times.lengths net) }
 {
     match whole_net(alloc, parts) {

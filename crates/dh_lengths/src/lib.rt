@@ -18,4 +18,4 @@ mod undoing;
 mod views;
 
 pub use lengths::phase_lengths;
-pub use sharing::shared_reads;
+pub use sharing::{find_shares, shared_reads};

@@ -146,8 +146,13 @@ fn shares_met(alloc: Global, classes: usize, met: &[Met]) -> Result<Vec<Option<u
     Ok(shares)
 }
 
-/// Of each access among events, in order, the earlier read that it shares, if it shares one.
-fn find_shares(alloc: Global, events: &[Event<'_>]) -> Result<Vec<Option<usize>>, NoMemory>
+/// Of each access among the events of a program's body, in order, the earlier read that it shares, if it shares one: what
+/// `shared_reads` answers, where the events are noted already.
+///
+/// # Errors
+///
+/// `NoMemory` where an allocation was refused.
+pub fn find_shares(alloc: Global, events: &[Event<'_>]) -> Result<Vec<Option<usize>>, NoMemory>
     ensures { IfOk result (λ shares. FindsShares events.now shares.items) }
 {
     let mut classes = Classes::by_phase(alloc);

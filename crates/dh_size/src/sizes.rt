@@ -19,7 +19,7 @@ use crate::commands::with_command;
 use crate::through::Views;
 use dh_base::NoMemory;
 use dh_events::{Event, Notes, loops_round, note_body, note_rounds, note_stages};
-use dh_lengths::shared_reads;
+use dh_lengths::find_shares;
 use dh_ports::carriers_of;
 use dh_sound::ready_accesses_are_told;
 use dh_tree::{Counter, Typed, kept_programs_have_tables};
@@ -97,7 +97,6 @@ pub fn plan_size(alloc: Global, program: &Typed) -> Result<u64, NoMemory>
         ways: &ways,
         carriers: each,
     };
-    let shares = shared_reads(alloc, body)?;
     let mut rounds = Vec::new(alloc);
     note_rounds(alloc, &mut rounds, &[], body)?;
     let mut stages = Vec::new(alloc);
@@ -105,6 +104,7 @@ pub fn plan_size(alloc: Global, program: &Typed) -> Result<u64, NoMemory>
     let mut notes = Notes::for_commands(alloc, stages.len())?;
     note_body(&mut notes, stages.as_slice(), body)?;
     let events = notes.events.as_slice();
+    let shares = find_shares(alloc, events)?;
     let accesses = access_sizes(
         alloc,
         program,

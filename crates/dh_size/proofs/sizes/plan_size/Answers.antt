@@ -12,7 +12,9 @@ use Rattle.dh_lengths.specs.SharedReads.{TellsShares}
 use Rattle.dh_runnable.proofs.ProgramsRun.{ready_few}
 use Rattle.dh_ports.specs.declared.carrying.Carrier.{Carrier}
 use Rattle.dh_ports.specs.Carriers.{AreEach}
-use Rattle.dh_ports.proofs.FirstTold.{events_seen}
+use Rattle.dh_ports.proofs.FirstTold.{are_events, events_seen}
+use Rattle.dh_ports.proofs.SitesTold.{tells_phases}
+use Rattle.dh_lengths.proofs.SharedTold.{shared_told}
 use Rattle.dh_ports.proofs.LayoutFacts.{follow_all, rounds_noted}
 use Rattle.dh_ports.proofs.SpentTold.{leads_at, ways_follow}
 use Rattle.dh_size.specs.Sizes.{sizes_from}
@@ -62,7 +64,10 @@ returns c =
     let seen = events_seen p (program_seen c.tree.result.now) same c.new-stages.result.items c.note_stages.new.stages.items c.as_slice.result.now c.in_ok-notes.notes.events.items c.note_body.new.notes.events.items c.as_slice-events.result.now
     c.new-stages.ensures.items c.in_ok-note_stages.ensures.noted c.as_slice.ensures.value c.in_ok-notes.ensures.empty c.in_ok-note_body.ensures.adds c.as_slice-events.ensures.value in
     let table = c.kept_programs_have_tables.ensures p 1048577 h.of_text h.names h.built h.indices h.limits h.placements in
-    let shares : TellsShares p c.as_slice-3.result.now = subst (λ (ss : List (Option _)). TellsShares p ss) (sym c.as_slice-3.ensures.value) (c.in_ok-shares.ensures p h.of_text.first body h.of_text.numbered) in
+    let events = c.as_slice-events.result.now in
+    let are = are_events p c.note_body.new.notes events c.as_slice-events.ensures.value seen c.drop-2.inside.known.keys c.drop-2.view_is c.drop-2.invariant (c.in_ok-note_body.ensures.noted.noted c.in_ok-notes.ensures.noted) in
+    let shares : TellsShares p c.as_slice-3.result.now = subst (λ (ss : List (Option _)). TellsShares p ss) (sym c.as_slice-3.ensures.value)
+    (shared_told h.of_text.first p events c.in_ok-shares.shares.items h.of_text.numbered (tells_phases h.of_text.first p h.of_text.numbered) are c.in_ok-shares.ensures) in
     size_done p (sizes_from p (loops_listed c.as_slice-2.result.now) c.as_slice-3.result.now 0 (all_seen c.as_slice-events.result.now)) c.in_ok-accesses.accesses c.with_command.result c.min.result c.in_ok-accesses.ensures
     (events_sized p h.of_text.first h.of_text.numbered c.as_slice-2.result.now noted c.as_slice-events.result.now seen c.as_slice-3.result.now (λ k a e w u. leads_at p h.views table k a e w u) shares)
     (c.with_command.ensures ∙ ap (λ a. summed c.in_ok-accesses.accesses (unit_size a)) (sym body)) c.min.ensures
