@@ -3,7 +3,7 @@
 -- text.
 use Rattle.std.specs.Prelude.{◌≡◌, ℕ, List, [], ◌∷◌, Option, Some, None}
 use Rattle.dh_tree.specs.declared.trees.expressions.Ref.{Ref}
-use Rattle.dh_tree.specs.PlainTrees.{Term, term, TermForm, number, truth_value, named, accessed, in_bank, applied, converted, Terms, no_terms, term_then, Action, action, ActionForm, lets, lets_memory, views, assigns, stores, reduces, calls, blocks, decides, repeats, counts, MaybeAction, no_action, one_action, Actions, no_actions, action_then, Groups, no_groups, group_then}
+use Rattle.dh_tree.specs.PlainTrees.{Term, term, TermForm, number, truth_value, named, accessed, in_bank, applied, converted, Terms, no_terms, term_then, ViewPlan, Action, action, ActionForm, lets, lets_memory, views, assigns, stores, reduces, calls, blocks, decides, repeats, counts, MaybeAction, no_action, one_action, Actions, no_actions, action_then, Groups, no_groups, group_then}
 use Rattle.dh_tree.specs.Seen.{terms}
 use Rattle.dh_tree.specs.ViewOffsets.{offsets_of}
 use Rattle.dh_meaning.specs.CoreOf.{Known, way_of}
@@ -44,66 +44,78 @@ IsTarget (term place k (named r)) = ⊥
 IsTarget (term place k (applied o l r)) = ⊥
 IsTarget (term place k (converted t to)) = ⊥
 
-abbrev mutual
-  pub IsNamedAction : Action → Type 0
-  IsNamedAction (action id place f) = IsNamedForm f
-
-  pub IsNamedForm : ActionForm → Type 0
-  IsNamedForm (lets name declared value) = StandsForSome name × MaybeNamed value
-  IsNamedForm (lets_memory name shape shape_places value) = Unit {0}
-  IsNamedForm (views name parent form) = AreNamedTerms (terms (offsets_of form))
-  IsNamedForm (assigns target value) = StandsForSome target × IsNamedTerm value
-  IsNamedForm (stores target value) = IsTarget target × IsNamedTerm value
-  IsNamedForm (reduces target op value) = StandsForSome target × IsNamedTerm value
-  IsNamedForm (calls function arguments) = Unit {0}
-  IsNamedForm (blocks body) = AreNamedGroups body
-  IsNamedForm (decides test chosen other) = IsNamedTerm test × (IsNamedAction chosen × IsNamedOther other)
-  IsNamedForm (repeats test body) = IsNamedTerm test × IsNamedAction body
-  IsNamedForm (counts iterator declared low high factor body combine combine_place) = StandsForSome iterator × (IsNamedAction body × IsNamedOther combine)
-
-  pub IsNamedOther : MaybeAction → Type 0
-  IsNamedOther no_action = Unit {0}
-  IsNamedOther (one_action a) = IsNamedAction a
-
-  pub AreNamedGroups : Groups → Type 0
-  AreNamedGroups no_groups = Unit {0}
-  AreNamedGroups (group_then part rest) = AreNamedActions part × AreNamedGroups rest
-
-  pub AreNamedActions : Actions → Type 0
-  AreNamedActions no_actions = Unit {0}
-  AreNamedActions (action_then a rest) = IsNamedAction a × AreNamedActions rest
+-- the names of a view's offsets
+abbrev pub NamesOffsets : Ref → ViewPlan → Type 0
+NamesOffsets name form = AreNamedTerms (terms (offsets_of form))
 
 -- these variables keep offsets where there are any
 abbrev pub KeepsAny : List Hidden → List Term → Type 0
 KeepsAny [] os = os ≡ []
 KeepsAny (h ∷ hs) os = Unit {0}
 
--- And a view whose way keeps nothing has no offsets.
-abbrev mutual
-  pub IsKeptAction : Known → Action → Type 0
-  IsKeptAction known (action id place f) = IsKeptForm known f
+-- these, where a view whose way keeps nothing has no offsets
+abbrev pub KeepsOffsets : Known → Ref → ViewPlan → Type 0
+KeepsOffsets known name form = NamesOffsets name form × KeepsAny (hidden_in (way_of known name)) (offsets_of form)
 
-  pub IsKeptForm : Known → ActionForm → Type 0
-  IsKeptForm known (lets name declared value) = StandsForSome name × MaybeNamed value
-  IsKeptForm known (lets_memory name shape shape_places value) = Unit {0}
-  IsKeptForm known (views name parent form) = AreNamedTerms (terms (offsets_of form)) × KeepsAny (hidden_in (way_of known name)) (offsets_of form)
-  IsKeptForm known (assigns target value) = StandsForSome target × IsNamedTerm value
-  IsKeptForm known (stores target value) = IsTarget target × IsNamedTerm value
-  IsKeptForm known (reduces target op value) = StandsForSome target × IsNamedTerm value
-  IsKeptForm known (calls function arguments) = Unit {0}
-  IsKeptForm known (blocks body) = AreKeptGroups known body
-  IsKeptForm known (decides test chosen other) = IsNamedTerm test × (IsKeptAction known chosen × IsKeptOther known other)
-  IsKeptForm known (repeats test body) = IsNamedTerm test × IsKeptAction known body
-  IsKeptForm known (counts iterator declared low high factor body combine combine_place) = StandsForSome iterator × (IsKeptAction known body × IsKeptOther known combine)
+-- What is asked of a command and of those inside it, where this is asked of each view among them.
+module _ (OfView : Ref → ViewPlan → Type 0) where
+  abbrev mutual
+    pub ActionNames : Action → Type 0
+    ActionNames (action id place f) = FormNames f
 
-  pub IsKeptOther : Known → MaybeAction → Type 0
-  IsKeptOther known no_action = Unit {0}
-  IsKeptOther known (one_action a) = IsKeptAction known a
+    pub FormNames : ActionForm → Type 0
+    FormNames (lets name declared value) = StandsForSome name × MaybeNamed value
+    FormNames (lets_memory name shape shape_places value) = Unit {0}
+    FormNames (views name parent form) = OfView name form
+    FormNames (assigns target value) = StandsForSome target × IsNamedTerm value
+    FormNames (stores target value) = IsTarget target × IsNamedTerm value
+    FormNames (reduces target op value) = StandsForSome target × IsNamedTerm value
+    FormNames (calls function arguments) = Unit {0}
+    FormNames (blocks body) = GroupsName body
+    FormNames (decides test chosen other) = IsNamedTerm test × (ActionNames chosen × OtherNames other)
+    FormNames (repeats test body) = IsNamedTerm test × ActionNames body
+    FormNames (counts iterator declared low high factor body combine combine_place) = StandsForSome iterator × (ActionNames body × OtherNames combine)
 
-  pub AreKeptGroups : Known → Groups → Type 0
-  AreKeptGroups known no_groups = Unit {0}
-  AreKeptGroups known (group_then part rest) = AreKeptActions known part × AreKeptGroups known rest
+    pub OtherNames : MaybeAction → Type 0
+    OtherNames no_action = Unit {0}
+    OtherNames (one_action a) = ActionNames a
 
-  pub AreKeptActions : Known → Actions → Type 0
-  AreKeptActions known no_actions = Unit {0}
-  AreKeptActions known (action_then a rest) = IsKeptAction known a × AreKeptActions known rest
+    pub GroupsName : Groups → Type 0
+    GroupsName no_groups = Unit {0}
+    GroupsName (group_then part rest) = ActionsName part × GroupsName rest
+
+    pub ActionsName : Actions → Type 0
+    ActionsName no_actions = Unit {0}
+    ActionsName (action_then a rest) = ActionNames a × ActionsName rest
+
+-- its names stand for something
+abbrev pub IsNamedAction : Action → Type 0
+IsNamedAction a = ActionNames NamesOffsets a
+
+abbrev pub IsNamedForm : ActionForm → Type 0
+IsNamedForm f = FormNames NamesOffsets f
+
+abbrev pub IsNamedOther : MaybeAction → Type 0
+IsNamedOther other = OtherNames NamesOffsets other
+
+abbrev pub AreNamedGroups : Groups → Type 0
+AreNamedGroups gs = GroupsName NamesOffsets gs
+
+abbrev pub AreNamedActions : Actions → Type 0
+AreNamedActions part = ActionsName NamesOffsets part
+
+-- and a view whose way keeps nothing has no offsets
+abbrev pub IsKeptAction : Known → Action → Type 0
+IsKeptAction known a = ActionNames (KeepsOffsets known) a
+
+abbrev pub IsKeptForm : Known → ActionForm → Type 0
+IsKeptForm known f = FormNames (KeepsOffsets known) f
+
+abbrev pub IsKeptOther : Known → MaybeAction → Type 0
+IsKeptOther known other = OtherNames (KeepsOffsets known) other
+
+abbrev pub AreKeptGroups : Known → Groups → Type 0
+AreKeptGroups known gs = GroupsName (KeepsOffsets known) gs
+
+abbrev pub AreKeptActions : Known → Actions → Type 0
+AreKeptActions known part = ActionsName (KeepsOffsets known) part
