@@ -1,15 +1,11 @@
 //! The program: the words it is called with, the system's files, the standard output and the engine
-//! of nets, put round the top call of `dh_app`, whose contract says what the program does. The files and
-//! the output are those of `dh_system`. docs/ARCHITECTURE.md has the map.
+//! of nets, put round the top call of `dh_app`, whose contract says what the program does. The files, the
+//! output and the exit code are those of `dh_system`. docs/ARCHITECTURE.md has the map.
 #![tactic(auto)]
-
-ghost use Rattle.std.specs.Prelude.{◌≡◌};
-ghost use Rattle.std.specs.Process.{exit_status};
-ghost use Rattle.dh_base.specs.Statuses.{code_of};
 
 use dh_app::{NetEngine, run};
 use dh_base::{NoMemory, Status};
-use dh_system::{RealFiles, StdSink};
+use dh_system::{RealFiles, StdSink, exit_code};
 use std::alloc::Global;
 use std::io::ErrorKind;
 use std::process::ExitCode;
@@ -59,11 +55,4 @@ fn words_after_name<R: Env + AllocGlobal>(rt: &R) -> Result<Vec<String>, NoMemor
     };
     words.next();
     Ok(words.collect(rt.alloc())?)
-}
-
-/// The exit code of the process that ends so.
-fn exit_code(status: Status) -> ExitCode
-    ensures { exit_status result ≡ code_of status }
-{
-    ExitCode::from(status.code())
 }
