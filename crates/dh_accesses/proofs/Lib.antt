@@ -1,3 +1,2 @@
-pub mod CountedParts
 pub mod SameTrees
 pub mod MetParts

@@ -15,10 +15,10 @@ use Rattle.dh_tree.specs.Meets.{Meets, nothing, access, all, one}
 use Rattle.dh_tree.specs.PlainTrees.{Action, ActionForm, MaybeAction, Actions, no_actions, action_then, Groups, no_groups, group_then}
 use Rattle.dh_tree.specs.Seen.{action_seen, actions, part_seen, groups, all_parts_seen}
 use Rattle.dh_tree.specs.declared.trees.commands.Command.{Command}
-use Rattle.dh_accesses.specs.Counted.{behind}
+use Rattle.dh_phases.specs.Counted.{behind}
 use Rattle.dh_accesses.specs.Met.{SameMeets, MeetsRow, MeetsAll, MeetsCommand, MeetsOther, MeetsParts}
 use Rattle.dh_accesses.specs.declared.meeting.Met.{Met}
-use Rattle.dh_accesses.proofs.CountedParts.{behind_twice, behind_few, behind_none, behind_small}
+use Rattle.dh_phases.proofs.CountedParts.{behind_twice, behind_few, behind_none, behind_small}
 use Rattle.dh_accesses.proofs.SameTrees.{same_refl, same_is, same_trans, all_same, one_same, pair_all, pair_one, alls_onto, ones_onto, alls_end, ones_end, alls_more, ones_more}
 
 -- Lists of two.

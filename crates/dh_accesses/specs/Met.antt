@@ -6,7 +6,7 @@ use Rattle.dh_plan.specs.declared.plans.Meets.{Meets as Tree}
 use Rattle.dh_plan.specs.SeenPlans.{meets_seen}
 use Rattle.dh_tree.specs.Meets.{Meets, In, Distinct, Apart, Before}
 use Rattle.dh_tree.specs.PlainTrees.{Action, MaybeAction, Groups}
-use Rattle.dh_accesses.specs.Counted.{behind}
+use Rattle.dh_phases.specs.Counted.{behind}
 use Rattle.dh_accesses.specs.declared.meeting.Met.{Met}
 
 -- the same accesses, of which the same may meet, in the same order

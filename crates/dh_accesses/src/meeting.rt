@@ -8,8 +8,8 @@ ghost use Rattle.dh_tree.specs.Meets.{all, one};
 ghost use Rattle.dh_tree.specs.Seen.{action_seen, maybe_block_seen, all_parts_seen};
 ghost use Rattle.dh_accesses.specs.Met.{SameMeets, MeetsRow, MeetsCommand, MeetsOther, MeetsParts, MeetsBody};
 
-use crate::counting::{behind_command, behind_term};
 use dh_base::NoMemory;
+use dh_phases::{behind_command, behind_term};
 use dh_plan::Meets;
 use dh_tree::{Command, CommandForm};
 use std::alloc::Global;

@@ -10,7 +10,7 @@ use Rattle.dh_tree.specs.Seen.{action_form_seen, action_seen, actions, all_parts
 use Rattle.dh_tree.specs.ViewOffsets.{offsets_of}
 use Rattle.dh_meaning.specs.AccessNumbers.{accesses_of, inner_accesses, own_accesses, plan_accesses}
 use Rattle.dh_meaning.specs.Ways.{Hidden}
-use Rattle.dh_accesses.specs.Counted.{behind}
+use Rattle.dh_phases.specs.Counted.{behind}
 use Rattle.dh_expressions.specs.declared.scenes.Around.{Around}
 use Rattle.dh_expressions.specs.declared.scenes.Scene.{Scene}
 use Rattle.dh_commands.specs.declared.buildings.Building.{Building}

@@ -14,8 +14,8 @@ use Rattle.dh_meaning.specs.Core.{no_commands}
 use Rattle.dh_meaning.specs.CoreOf.{core_action, way_of}
 use Rattle.dh_meaning.specs.Ways.{hidden_in}
 use Rattle.dh_meaning.specs.Paths.{Path}
-use Rattle.dh_accesses.specs.Counted.{behind}
-use Rattle.dh_accesses.proofs.CountedParts.{behind_few}
+use Rattle.dh_phases.specs.Counted.{behind}
+use Rattle.dh_phases.proofs.CountedParts.{behind_few}
 use Rattle.dh_plan.specs.Blocks.{is_on}
 use Rattle.dh_expressions.specs.declared.scenes.Around.{Around}
 use Rattle.dh_expressions.specs.declared.scenes.Scene.{Scene}

@@ -25,8 +25,8 @@ use Rattle.dh_expressions.specs.Evaluated.{AimsByIndices, AimsByRow, AimsThrough
 use Rattle.dh_expressions.specs.Reaching.{AimsAt, HasTarget, RowIs, StoresAt, Tells, reach_at}
 use Rattle.dh_expressions.specs.Shown.{held_shown}
 use Rattle.dh_expressions.proofs.Evaluating.{SeesNamed, aimed_events, has_target, named_aims, named_all}
-use Rattle.dh_accesses.specs.Counted.{behind}
-use Rattle.dh_accesses.proofs.CountedParts.{behind_few}
+use Rattle.dh_phases.specs.Counted.{behind}
+use Rattle.dh_phases.proofs.CountedParts.{behind_few}
 use Rattle.dh_commands.specs.declared.assignments.Values.{Values}
 use Rattle.dh_commands.specs.declared.buildings.Building.{Building}
 use Rattle.dh_commands.specs.LanesRun.{is_on_at, path_in, run_if}

@@ -21,7 +21,7 @@ use Rattle.dh_tree.specs.Kinds.{same_kind}
 use Rattle.dh_code.specs.declared.places.Held.{Held}
 use Rattle.dh_code.specs.Slots.{held_at}
 use Rattle.dh_plan.specs.declared.operations.OperationForm.TheVariants.{Compute, Constant, Select}
-use Rattle.dh_accesses.specs.Counted.{behind}
+use Rattle.dh_phases.specs.Counted.{behind}
 use Rattle.dh_expressions.specs.declared.accesses.Accesses.{Accesses}
 use Rattle.dh_expressions.specs.declared.drafts.Draft.{Draft}
 use Rattle.dh_expressions.specs.declared.elements.Aim.{Aim}

@@ -13,9 +13,9 @@ use crate::guarding::guards_of;
 use crate::keeping::keep_view;
 use crate::storing::store_all;
 use crate::testing::test_all;
-use dh_accesses::behind_command;
 use dh_base::NoMemory;
 use dh_expressions::{Around, Scene};
+use dh_phases::behind_command;
 use dh_tree::{Command, CommandForm};
 use std::alloc::Global;
 

@@ -10,12 +10,12 @@ ghost use Rattle.dh_commands.specs.LanesRun.{paths_counted};
 ghost use Rattle.dh_commands.specs.MadeCommands.{MadeAim, MadeStored, StoredTo};
 
 use crate::buildings::Building;
-use dh_accesses::behind_term;
 use dh_base::NoMemory;
 use dh_expressions::{
     Accesses, Aim, Around, Draft, Lane, Scene, memory_of, push_aim, push_held, push_row, push_term,
     push_write,
 };
+use dh_phases::behind_term;
 use dh_tree::{Expr, ExprForm, Kind};
 
 /// Adds the indices of a store's target, with what stands behind them, or its row; None of what is no access, which stores nothing.

@@ -4,6 +4,7 @@ ghost use Rattle.std.specs.Prelude.{IfOk};
 ghost use Rattle.dh_tree.specs.PlainTrees.{Program};
 ghost use Rattle.dh_tree.specs.Seen.{program_seen};
 ghost use Rattle.dh_net.specs.Valid.{IsValid};
+ghost use Rattle.dh_lengths.specs.SharedReads.{TellsShares};
 ghost use Rattle.dh_plan.specs.DoneProgram.{IsPlanOf};
 ghost use Rattle.dh_plan.specs.Passes.{IsToCompile, uses_seen};
 ghost use Rattle.dh_plan.specs.SeenPlans.{plan_seen};
@@ -21,7 +22,7 @@ use dh_join::join_drivers;
 use dh_net::Net;
 use dh_plan::Plan;
 use dh_ports::Accepted;
-use dh_size::plan_size;
+use dh_size::{PlanSize, plan_size};
 use dh_swept::sweep;
 use dh_tree::Typed;
 use dh_unroll::unroll;
@@ -93,21 +94,23 @@ fn net_of_plan(alloc: Global, plan: Plan) -> Result<Net, NoMemory>
 }
 
 /// The net of a flat program that is to be compiled.
-fn net_of_flat(alloc: Global, flat: &Flat) -> Result<Net, NoMemory>
-    requires { IsToCompile (program_seen flat.now.program.now) }
+fn net_of_flat(alloc: Global, flat: &Flat, shared: &[Option<usize>]) -> Result<Net, NoMemory>
+    requires asked { IsToCompile (program_seen flat.now.program.now) }
+    requires shared { TellsShares (program_seen flat.now.program.now) shared.now }
     ensures { IfOk result (IsNetOfProgram (program_seen flat.now.program.now)) }
 {
-    let plan = unroll(alloc, flat)?;
+    let plan = unroll(alloc, flat, shared)?;
     net_of_plan(alloc, plan)
 }
 
-/// The net of a program that is to be compiled.
-fn net_of(alloc: Global, program: &Typed) -> Result<Net, NoMemory>
-    requires { IsToCompile (program_seen program.now) }
+/// The net of a program that is to be compiled, of whose accesses it is known which earlier read each shares.
+fn net_of(alloc: Global, program: &Typed, shared: &[Option<usize>]) -> Result<Net, NoMemory>
+    requires asked { IsToCompile (program_seen program.now) }
+    requires shared { TellsShares (program_seen program.now) shared.now }
     ensures { IfOk result (IsNetOfProgram (program_seen program.now)) }
 {
     let flat = inline(program);
-    net_of_flat(alloc, &flat)
+    net_of_flat(alloc, &flat, shared)
 }
 
 /// Compiles an accepted program. The net is valid, its table is the program's, and from all fitting memories it plays
@@ -124,13 +127,13 @@ pub fn compile(alloc: Global, accepted: &Accepted) -> Result<Net, CompileFault>
     ensures { Compiles (program_seen accepted.now) result }
 {
     let program = accepted.typed();
-    let Ok(size) = plan_size(alloc, program) else {
+    let Ok(PlanSize { size, shares }) = plan_size(alloc, program) else {
         return Err(CompileFault::NoMemory);
     };
     if size > Limit::Plan.greatest() {
         return Err(CompileFault::TooLarge { size });
     }
-    match net_of(alloc, program) {
+    match net_of(alloc, program, shares.as_slice()) {
         Ok(net) => Ok(net),
         Err(NoMemory) => Err(CompileFault::NoMemory),
     }

@@ -4,8 +4,8 @@
 //! docs/LANGUAGE.md tells the rules.
 //!
 //! `note_stages` counts the phases of commands, and `note_body` notes the events of a body with
-//! them, in one walk. `note_rounds` and `scopes_of` tell which loops stand round what, and where
-//! variables are declared; `note_nests` counts phases and tells both in one walk.
+//! them, in one walk. `scopes_of` tells where variables are declared; `note_nests` counts phases and tells
+//! besides which loops stand round what, and where the variables of the body are declared, in one walk.
 #![tactic(auto)]
 
 mod classes;
@@ -26,7 +26,7 @@ pub use events::{Event, Notes, Site};
 pub use known::Known;
 pub use nests::{Nests, note_nests};
 pub use noting::{Around, Open, note_body};
-pub use rounds::{loops_round, note_rounds};
+pub use rounds::loops_round;
 pub use stages::note_stages;
 pub use structures::{Form, Sort, Structure, Structures};
 pub use tables::{get_at, get_number, set_at, set_number};

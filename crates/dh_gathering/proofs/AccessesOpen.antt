@@ -1,8 +1,9 @@
 -- Accesses without operations stay so while operations are made of others.
-use Rattle.std.proofs.Common.{◌⊎◌, inl, inr, ℕ, ◌+◌, ◌<◌, ◌≤◌, List, [], ◌∷◌, ◌++◌, refl, sym, ◌∙◌, subst, arith}
+use Rattle.std.proofs.Common.{◌⊎◌, inl, inr, ℕ, ◌+◌, ◌<◌, ◌≤◌, List, [], ◌∷◌, refl, sym, ◌∙◌, subst, arith}
 use Rattle.dh_meaning.specs.AccessNumbers.{accesses_of}
+use Rattle.dh_phases.specs.GatheredPhases.{Numbered}
 use Rattle.dh_expressions.specs.declared.accesses.Accesses.{Accesses}
-use Rattle.dh_gathering.specs.OpenAccesses.{AreOpen, AreUntouched, Numbered, TouchesWithin}
+use Rattle.dh_gathering.specs.OpenAccesses.{AreOpen, AreUntouched, TouchesWithin}
 
 pub within_none : (a : Accesses) (first last : ℕ) → TouchesWithin a a first last
 within_none a first last = record { long = refl; only = λ number out. refl }
@@ -40,36 +41,6 @@ open_within a first last (c ∷ cs) h = least first c.first (accesses_of c.comma
   where
     least : (n m k l : ℕ) → n ≤ m → m + k ≤ l → n ≤ l
     least n m k l e f = omega (arith, e, f)
-
-pub open_lower : (a : Accesses) (f first last : ℕ) (cs : List Numbered) → f ≤ first → AreOpen a first last cs → AreOpen a f last cs
-open_lower a f first last [] low h = omega (arith, low, h)
-open_lower a f first last (c ∷ cs) low h = (least h.0, h.1)
-  where
-    least : first ≤ c.first → f ≤ c.first
-    least e = omega (arith, low, e)
-
-pub open_upper : (a : Accesses) (first last l : ℕ) (cs : List Numbered) → last ≤ l → AreOpen a first last cs → AreOpen a first l cs
-open_upper a first last l [] high h = omega (arith, high, h)
-open_upper a first last l (c ∷ cs) high h = (h.0, (h.1.0, open_upper a (c.first + accesses_of c.command) last l cs high h.1.1))
-
-pub open_append : (a : Accesses) (first middle last : ℕ) (xs ys : List Numbered) → AreOpen a first middle xs → AreOpen a middle last ys → AreOpen a first last (xs ++ ys)
-open_append a first middle last [] ys h k = open_lower a first middle last ys h k
-open_append a first middle last (c ∷ cs) ys h k = (h.0, (h.1.0, open_append a (c.first + accesses_of c.command) middle last cs ys h.1.1 k))
-
--- where the first of them end
-pub record OpenParts (a : Accesses) (first last : ℕ) (xs ys : List Numbered) : Type 0 where
-  pub middle : ℕ
-  pub front : AreOpen a first middle xs
-  pub back : AreOpen a middle last ys
-
-pub open_split : (a : Accesses) (first last : ℕ) (xs ys : List Numbered) → AreOpen a first last (xs ++ ys) → OpenParts a first last xs ys
-open_split a first last [] ys h = record { middle = first; front = same first; back = h }
-  where
-    same : (n : ℕ) → n ≤ n
-    same n = omega arith
-open_split a first last (c ∷ cs) ys h =
-    let r = open_split a (c.first + accesses_of c.command) last cs ys h.1.1 in
-    record { middle = r.middle; front = (h.0, (h.1.0, r.front)); back = r.back }
 
 pub open_later : (a b : Accesses) (f l first last : ℕ) (cs : List Numbered) → AreOpen a f l cs → TouchesWithin a b first last → AreApart f l first last → AreOpen b f l cs
 open_later a b f l first last [] h t apart = h

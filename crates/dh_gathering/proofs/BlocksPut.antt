@@ -1,10 +1,12 @@
 -- The loops that put a block down: commands one after the other, and the flag of a test.
-use Rattle.std.proofs.Common.{◌≡◌, ℕ, ◌+◌, ◌<◌, Bool, true, false, if◌then◌else◌, List, [], length, drop, get_or, None, refl, ap, sym, ◌∙◌, subst}
+use Rattle.std.proofs.Common.{◌≡◌, ℕ, ◌+◌, ◌<◌, Bool, true, false, if◌then◌else◌, List, length, map, drop, get_or, None, refl, ap, sym, ◌∙◌, subst}
 use Rattle.dh_base.proofs.ListItems.{at_item}
 use Rattle.dh_value.specs.declared.operators.Op.TheVariants.{Both}
 use Rattle.dh_value.specs.Operations.{binary_of}
 use Rattle.dh_tree.specs.PlainTrees as tree
 use Rattle.dh_tree.specs.Seen.{action_seen}
+use Rattle.dh_phases.specs.declared.gathering.NumberedCommand.{NumberedCommand}
+use Rattle.dh_phases.specs.GatheredPhases.{numbered_seen}
 use Rattle.dh_plan.specs.declared.operations.OperationForm.TheVariants.{Compute, Set}
 use Rattle.dh_expressions.specs.declared.drafts.Draft.{Draft}
 use Rattle.dh_expressions.specs.declared.scenes.Around.{Around}
@@ -15,22 +17,18 @@ use Rattle.dh_expressions.proofs.Pushing.{extends_self}
 use Rattle.dh_commands.specs.declared.buildings.Building.{Building}
 use Rattle.dh_commands.specs.Done.{DoesCommand}
 use Rattle.dh_commands.specs.MadeCommands.{MadeCommand}
-use Rattle.dh_gathering.specs.declared.joining.Located.{Located}
 use Rattle.dh_gathering.specs.MadeBlocks.{AddsFlag, PutsFlag, SetsFlag}
-use Rattle.dh_gathering.specs.Gathered.{DoesNumbered, all_numbered}
+use Rattle.dh_gathering.specs.Gathered.{DoesNumbered}
 
 module _ (scene : Scene) (around : Around) where
   -- whatever the commands do that are left, all do from the begin
-  abbrev pub CommandsLead : (all left : List Located) → (old here : Building) → Type 0
-  CommandsLead all left old here = (new : Building) → DoesNumbered scene around (all_numbered left) here new → DoesNumbered scene around (all_numbered all) old new
+  abbrev pub CommandsLead : (all left : List NumberedCommand) → (old here : Building) → Type 0
+  CommandsLead all left old here = (new : Building) → DoesNumbered scene around (map numbered_seen left) here new → DoesNumbered scene around (map numbered_seen all) old new
 
-  pub commands_turn : (all : List Located) (i next : ℕ) (old here mid : Building) (l : Located) → i < length all → l ≡ get_or all i l
-      → DoesCommand scene around (action_seen l.command.now) l.first next here mid × MadeCommand scene (action_seen l.command.now) around here mid l.first next → CommandsLead all (drop i all) old here → CommandsLead all (drop (i + 1) all) old mid
-  commands_turn all i next old here mid l within is does h new rest =
-      h new (subst (λ (ls : List Located). DoesNumbered scene around (all_numbered ls) here new) (sym (at_item all i l within is)) (mid, (next, (does, rest))))
-
-  pub commands_end : (all left : List Located) (old new : Building) → left ≡ [] → CommandsLead all left old new → DoesNumbered scene around (all_numbered all) old new
-  commands_end all left old new none h = h new (subst (λ (ls : List Located). DoesNumbered scene around (all_numbered ls) new new) (sym none) refl)
+  pub commands_turn : (all : List NumberedCommand) (i next : ℕ) (old here mid : Building) (c : NumberedCommand) → i < length all → c ≡ get_or all i c
+      → DoesCommand scene around (action_seen c.command.now) c.first next here mid × MadeCommand scene (action_seen c.command.now) around here mid c.first next → CommandsLead all (drop i all) old here → CommandsLead all (drop (i + 1) all) old mid
+  commands_turn all i next old here mid c within is does h new rest =
+      h new (subst (λ (cs : List NumberedCommand). DoesNumbered scene around (map numbered_seen cs) here new) (sym (at_item all i c within is)) (mid, (next, (does, rest))))
 
 -- the flag of a test that is a read
 pub flag_of_read : (old mid new : Draft) (t : tree.Term) (value made number flag : ℕ) → is_read_term t ≡ true → Computes old mid made (λ x. binary_of Both (word_shown x value) (word_shown x value)) → Pushes mid new number None (Set flag made) → SetsFlag old new t value flag

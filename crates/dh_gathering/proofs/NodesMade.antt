@@ -1,184 +1,316 @@
--- Nodes of phases that were kept, in order: each straight one has its block as its node is made.
-use Rattle.std.proofs.Common.{inl, inr, ◌≡◌, ℕ, ◌≤◌, arith, List, [], ◌∷◌, ◌++◌, reverse, refl, ap, sym, ◌∙◌, subst, append_assoc, append-nil}
-use Rattle.std.proofs.lemmas.List.{reverse-append, reverse-reverse}
+-- Nodes from gathered phases: a straight phase has its block, and a test or the turns of a loop are a node over those of
+-- the parts; and of a list, one node after the other. And of a program's body.
+use Rattle.std.proofs.Common.{◌≡◌, inl, inr, ℕ, suc, ◌+◌, ◌-◌, ◌^◌, ◌<◌, ◌≤◌, List, [], ◌∷◌, ◌++◌, length, drop, get_or, Some, None, refl, ap, sym, ◌∙◌, subst, append_assoc, append-nil, zero-add, arith}
+use Rattle.std.proofs.Math.Nat.{min-eq_left}
+use Rattle.dh_base.proofs.ListItems.{at_item}
+use Rattle.dh_tree.specs.PlainTrees as tree
+use Rattle.dh_tree.specs.PlainTrees.{Action, ActionForm, lets, lets_memory, views, assigns, stores, reduces, calls, blocks, decides, repeats, counts, Program}
 use Rattle.dh_tree.specs.Seen.{program_seen}
-use Rattle.dh_meaning.specs.CoreOf.{core_phase, core_phases}
-use Rattle.dh_meaning.specs.Phases as source
-use Rattle.dh_meaning.specs.Phases.{straight, turns, repeated, decided, of_list}
+use Rattle.dh_meaning.specs.AccessNumbers.{accesses_of, maybe_accesses, own_accesses, term_accesses}
+use Rattle.dh_meaning.specs.Core.{Turning}
+use Rattle.dh_meaning.specs.CoreOf.{Known, action_form_of, core_phases, core_test, entity_number, test_of, turning_of}
+use Rattle.dh_meaning.specs.Phases.{Located, straight, turns, repeated, decided, no_phases, phase, of_list, phases, phases_of}
+use Rattle.dh_meaning.specs.Sites.{nothing_around}
 use Rattle.dh_plan.specs.declared.plans.Node as declared
 use Rattle.dh_plan.specs.Correspondence.{Round}
-use Rattle.dh_plan.specs.PlainPlans.{Node, block_node}
-use Rattle.dh_plan.specs.PlanPhases.{Tie, AreNodesOf, IsNodeOf}
+use Rattle.dh_plan.specs.PlainPlans.{Node, block_node, turns_node, loop_node, choice_node, Nodes, no_nodes, node_then}
 use Rattle.dh_plan.specs.SeenPlans.{node_seen, nodes_seen}
+use Rattle.dh_code.specs.Slots.{held_at}
+use Rattle.dh_phases.specs.declared.gathering.Phase.{Phase}
+use Rattle.dh_phases.specs.GatheredPhases.{AllGathered, Gathered, Header, Numbered, all_gathered, choice_phase, code_number, gathered_list, gathered_then, loop_phase, none_gathered, phase_seen, phases_seen, straight_phase, turns_phase}
+use Rattle.dh_phases.specs.MatchedPhases.{MatchCommands, MatchesCommand}
+use Rattle.dh_phases.proofs.PhasesMatched.{list_matches}
+use Rattle.dh_expressions.specs.declared.accesses.Accesses.{Accesses}
 use Rattle.dh_expressions.specs.declared.paths.Paths.{Paths}
 use Rattle.dh_expressions.specs.declared.scenes.Scene.{Scene}
 use Rattle.dh_expressions.specs.Evaluated.{known_in}
+use Rattle.dh_expressions.specs.Levels.{levels_inside}
 use Rattle.dh_gathering.specs.declared.blocks.Made.{Made}
-use Rattle.dh_gathering.specs.declared.joining.Loose.{Loose}
-use Rattle.dh_gathering.specs.declared.joining.Loose.TheVariants as loose
-use Rattle.dh_gathering.specs.KeptPhases.{Kept, another, commands_kept, done_at_once}
 use Rattle.dh_gathering.specs.Growing.{Grows, IsAtRest}
-use Rattle.dh_gathering.specs.OpenAccesses.{AreOpen, Numbered, TouchesWithin}
+use Rattle.dh_gathering.specs.OpenAccesses.{AreOpen, AreUntouched, TouchesWithin}
+use Rattle.dh_gathering.specs.PhasesInLoops.{TestOf}
 use Rattle.dh_gathering.specs.PlacedPhases.{ArePlaced, loops_round}
-use Rattle.dh_gathering.specs.MadeBlocks.{AreInside, made_tie}
-use Rattle.dh_gathering.specs.Gathered.{AreKept, AreMadeAs, IsLocated, IsMadeAs, MakesNodeIn, MakesNodes, MakesNodesIn, MakesStraightIn, all_kept, kept_of}
-use Rattle.dh_gathering.proofs.AccessesOpen.{OpenParts, open_later, open_split, open_within, within_more, within_none, within_then}
-use Rattle.dh_gathering.proofs.KeptCommands.{commands_append}
-use Rattle.dh_gathering.proofs.PhasesPlaced.{placed_behind, placed_first}
-use Rattle.dh_gathering.proofs.KeptLists.{are_weaker}
+use Rattle.dh_gathering.specs.RisingPhases.{CommandsRise, PhasesRise, behind_command, behind_test}
+use Rattle.dh_gathering.specs.MadeBlocks.{IsTestBlock, count_inside}
+use Rattle.dh_gathering.specs.Gathered.{AreLocated, CanMake, MakesBody, MakesNodeIn, MakesNodes, MakesNodesIn, MakesStraightIn, MakesTestIn}
+use Rattle.dh_gathering.proofs.AccessesOpen.{untouched_later, untouched_part, within_more, within_none, within_then}
 use Rattle.dh_gathering.proofs.MadeGrows.{grows_none, grows_then}
-use Rattle.dh_gathering.proofs.SeenNodes.{step_is}
+use Rattle.dh_gathering.proofs.NodesFormed.{has_nodes}
+use Rattle.dh_gathering.proofs.PhasesPlaced.{all_placed, placed_chosen, placed_first, placed_loop, placed_other, placed_rest, placed_turns}
+use Rattle.dh_gathering.proofs.PhasesRise.{commands_within, phase_within, phases_rise, phases_within}
+use Rattle.dh_gathering.proofs.RoundsInside.{IsLoopOf, loop_of_header, loops_more, paths_inside}
 use Rattle.dh_gathering.proofs.StraightMade.{few_numbered, reach_numbered}
 
--- what is kept stays what it is while more is made
-pub kept_later : (scene : Scene) (rounds : List Round) (a b : Made) (ks : List (Kept Numbered Node)) (qs : List source.Phase) → Grows a b → AreKept scene a rounds ks qs → AreKept scene b rounds ks qs
-kept_later scene rounds a b ks qs h are = are_weaker IsLocated (IsMadeAs scene a rounds) (IsMadeAs scene b rounds) (λ node q made final more. made final (grows_then a b final h more)) ks qs are
+same : (n : ℕ) → n ≤ n
+same n = omega arith
 
--- a straight phase
-pub straight_node : (scene : Scene) (paths : Paths) (old new : Made) (items : List Numbered) (block : ℕ) → MakesStraightIn scene paths old new items block → MakesNodeIn scene paths old new (done_at_once items) (block_node block)
-straight_node scene paths old new items block h rounds (turns loop count body) first last inside placed rest are bare = absurd are.0
-straight_node scene paths old new items block h rounds (repeated loop body) first last inside placed rest are bare = absurd are.0
-straight_node scene paths old new items block h rounds (decided choice chosen other) first last inside placed rest are bare = absurd are.0
-straight_node scene paths old new items block h rounds (straight ls) first last inside placed rest are bare =
-    let stands = placed.straights (loops_round rounds) ls (inl (refl, refl)) in
-    let made = h rounds first last inside rest (few_numbered items ls are.0) (reach_numbered items ls are.0 (inside.told.stores (loops_round rounds) ls stands))
-    (subst (λ (cs : List Numbered). AreOpen old.building.accesses first last cs) (append-nil items) bare) in
-    record { grows = made.grows; rest = made.rest; touches = made.touches; made = λ final more. record { located = ls; are = refl; placed = stands; made = made.made ls are.0 final more } }
+more : (n k : ℕ) → n ≤ n + k
+more n k = omega arith
 
--- another phase has its node
-pub other_node : (scene : Scene) (paths : Paths) (m : Made) (node : Node) → MakesNodeIn scene paths m m (another node) node
-other_node scene paths m node rounds (straight ls) first last inside placed rest are bare = absurd are.0
-other_node scene paths m node rounds (turns loop count body) first last inside placed rest are bare = record { grows = grows_none m; rest = rest; touches = within_none m.building.accesses first last; made = are.0 }
-other_node scene paths m node rounds (repeated loop body) first last inside placed rest are bare = record { grows = grows_none m; rest = rest; touches = within_none m.building.accesses first last; made = are.0 }
-other_node scene paths m node rounds (decided choice chosen other) first last inside placed rest are bare = record { grows = grows_none m; rest = rest; touches = within_none m.building.accesses first last; made = are.0 }
+further : (n m k : ℕ) → n ≤ m → n ≤ m + k
+further n m k h = omega (arith, h)
 
--- as the code has them
-pub straight_as : (scene : Scene) (paths : Paths) (old new : Made) (form : Loose) (commands : _) (block : ℕ) → form ≡ loose.Straight commands
-    → MakesNodeIn scene paths old new (kept_of (loose.Straight commands)) (block_node block) → MakesNodeIn scene paths old new (kept_of form) (node_seen (declared.TheVariants.Step block))
-straight_as scene paths old new form commands block is h =
-    subst (λ (n : Node). MakesNodeIn scene paths old new (kept_of form) n) (sym (step_is block)) (subst (λ (l : Loose). MakesNodeIn scene paths old new (kept_of l) (block_node block)) (sym is) h)
+less : (n last most : ℕ) → n ≤ last → last < most → n < most
+less n last most h l = omega (arith, h, l)
 
-pub other_as : (scene : Scene) (paths : Paths) (m : Made) (form : Loose) (node : declared.Node) → form ≡ loose.Other node → MakesNodeIn scene paths m m (kept_of form) (node_seen node)
-other_as scene paths m form node is = subst (λ (l : Loose). MakesNodeIn scene paths m m (kept_of l) (node_seen node)) (sym is) (other_node scene paths m (node_seen node))
+-- a number that is small enough is not cut
+number_kept : (n last : ℕ) → n ≤ last → last < 2 ^ 32 → code_number n ≡ n
+number_kept n last low few = min-eq_left (below (2 ^ 32 - 1) few)
+  where
+    below : (most : ℕ) → last < suc most → n ≤ most
+    below most l = omega (arith, low, l)
 
--- One node more.
+-- Commands.
 
-nodes_more : (scene : Scene) (tie : Tie) (rounds : List Round) (front : List source.Phase) (ns : List declared.Node) (q : source.Phase) (n : declared.Node)
-    → AreNodesOf tie rounds (core_phases (known_in scene) (of_list front)) (nodes_seen ns) → IsNodeOf tie rounds (core_phase (known_in scene) q) (node_seen n)
-    → AreNodesOf tie rounds (core_phases (known_in scene) (of_list (front ++ q ∷ []))) (nodes_seen (ns ++ n ∷ []))
-nodes_more scene tie rounds [] [] q n h k = (k, tt)
-nodes_more scene tie rounds [] (m ∷ ns) q n h k = absurd h
-nodes_more scene tie rounds (p ∷ front) [] q n h k = absurd h
-nodes_more scene tie rounds (p ∷ front) (m ∷ ns) q n h k = (h.0, nodes_more scene tie rounds front ns q n h.1 k)
+commands_located : (first last : ℕ) (cs : List Numbered) (ls : List Located) → last < 2 ^ 32 → MatchCommands cs ls → CommandsRise first last ls → AreLocated cs ls
+commands_located first last [] [] few are rise = tt
+commands_located first last [] (l ∷ ls) few are rise = absurd are
+commands_located first last (c ∷ cs) [] few are rise = absurd are
+commands_located first last (c ∷ cs) (l ∷ ls) few (is, are) rise =
+    let high : behind_command l ≤ last = commands_within (behind_command l) last ls rise.1 in (
+      record { command = is.command; first = is.first ∙ number_kept l.first last (lower l.first (accesses_of l.command) high) few; few = less (behind_command l) last (2 ^ 32) high few },
+      commands_located (behind_command l) last cs ls few are rise.1,
+    )
+  where
+    lower : (n k : ℕ) → n + k ≤ last → n ≤ last
+    lower n k h = omega (arith, h)
 
--- nodes so far, and what is left
-pub record NodesRest (scene : Scene) (rounds : List Round) (old now : Made) (first last : ℕ) (left : List (Kept Numbered Node)) (nodes : List declared.Node) (qs : List source.Phase) : Type 0 where
-  pub front : List source.Phase
-  pub back : List source.Phase
-  pub is : qs ≡ front ++ back
-  pub grows : Grows old now
-  pub rest : IsAtRest now
-  pub made : AreMadeAs scene now rounds (nodes_seen nodes) front
-  pub are : AreKept scene now rounds left back
-  -- accesses of commands that are left have no operations
-  pub middle : ℕ
-  pub low : first ≤ middle
-  pub touches : TouchesWithin old.building.accesses now.building.accesses first middle
-  pub bare : AreOpen now.building.accesses middle last (commands_kept left)
+-- a command with its first access, in front of others
+abbrev OpenFrom : Accesses → (first last : ℕ) → List Numbered → ℕ → Action → Type 0
+OpenFrom a first last cs n x = (first ≤ n) × (AreUntouched a n (n + accesses_of x) × AreOpen a (n + accesses_of x) last cs)
 
-module _ (scene : Scene) (paths : Paths) where
-  abbrev pub NodesSoFar : (old now : Made) → (all left : List (Kept Numbered Node)) → (nodes : List declared.Node) → Type 0
-  NodesSoFar old now all left nodes =
-      (rounds : List Round) (qs : List source.Phase) (first last : ℕ) → AreInside scene rounds paths → ArePlaced (known_in scene) (program_seen scene.program.now) (loops_round rounds) qs → IsAtRest old → AreKept scene old rounds all qs
-      → AreOpen old.building.accesses first last (commands_kept all) → NodesRest scene rounds old now first last left nodes qs
+commands_open : (a : Accesses) (first last : ℕ) (cs : List Numbered) (ls : List Located) → AreLocated cs ls → CommandsRise first last ls → AreUntouched a first last → AreOpen a first last cs
+commands_open a first last [] [] are rise bare = rise
+commands_open a first last [] (l ∷ ls) are rise bare = absurd are
+commands_open a first last (c ∷ cs) [] are rise bare = absurd are
+commands_open a first last (c ∷ cs) (l ∷ ls) (is, are) rise bare =
+    subst (λ (n : ℕ). OpenFrom a first last cs n c.command) (sym is.first) (subst (λ (x : Action). OpenFrom a first last cs l.first x) (sym is.command) (
+      rise.0,
+      (
+        untouched_part a l.first (behind_command l) first last bare rise.0 (commands_within (behind_command l) last ls rise.1),
+        commands_open a (behind_command l) last cs ls are rise.1 (untouched_part a (behind_command l) last first last bare (further first l.first (accesses_of l.command) rise.0) (same last)),
+      ),
+    ))
 
-  pub nodes_begin : (m : Made) (all : List (Kept Numbered Node)) → NodesSoFar m m all all []
-  nodes_begin m all rounds qs first last inside placed rest are bare = record {
-    front = [];
-    back = qs;
-    is = refl;
-    grows = grows_none m;
+-- What can be made of a part, and of what stands behind it.
+
+module _ (scene : Scene) (rounds : List Round) (paths : Paths) where
+  can_front : (m : Made) (first middle last : ℕ) → middle ≤ last → CanMake scene rounds paths m first last → CanMake scene rounds paths m first middle
+  can_front m first middle last high h = record { inside = h.inside; rest = h.rest; few = less middle last (2 ^ 32) high h.few; bare = untouched_part m.building.accesses first middle first last h.bare (same first) high }
+
+  can_back : (old new : Made) (first middle last : ℕ) → first ≤ middle → CanMake scene rounds paths old first last → IsAtRest new → TouchesWithin old.building.accesses new.building.accesses first middle
+      → CanMake scene rounds paths new middle last
+  can_back old new first middle last low h rest touches = record {
+    inside = h.inside;
     rest = rest;
-    made = λ final more. tt;
-    are = are;
-    middle = first;
-    low = same first;
-    touches = within_none m.building.accesses first first;
-    bare = bare;
+    few = h.few;
+    bare = untouched_later old.building.accesses new.building.accesses middle last first middle (untouched_part old.building.accesses middle last first last h.bare low (same last)) touches (inr (same middle));
   }
+
+-- what two parts touched, one behind the other
+touches_both : (a b c : Accesses) (first middle last : ℕ) → first ≤ middle → middle ≤ last → TouchesWithin a b first middle → TouchesWithin b c middle last → TouchesWithin a c first last
+touches_both a b c first middle last low high h k =
+    within_then a b c first last (within_more a b first middle first last h (same first) high) (within_more b c middle last first last k low (same last))
+
+-- Tests.
+
+never : {A : Type 0} {x : A} → Some x ≡ None → ⊥
+never e = cc
+
+-- a command with a test makes the accesses of its test itself
+own_of_test : (form : ActionForm) (t : tree.Term) → Some t ≡ test_of form → own_accesses form ≡ term_accesses t
+own_of_test (decides test chosen other) t e = ap maybe_accesses (sym e)
+own_of_test (repeats test body) t e = ap maybe_accesses (sym e)
+own_of_test (lets name declared value) t e = absurd (never e)
+own_of_test (lets_memory name shape shape_places value) t e = absurd (never e)
+own_of_test (views name parent form) t e = absurd (never e)
+own_of_test (assigns target value) t e = absurd (never e)
+own_of_test (stores target value) t e = absurd (never e)
+own_of_test (reduces target op value) t e = absurd (never e)
+own_of_test (calls function arguments) t e = absurd (never e)
+own_of_test (blocks body) t e = absurd (never e)
+own_of_test (counts iterator declared low high factor body combine combine_place) t e = absurd (never e)
+
+-- the test of a command has its block, and the rest can be made behind it
+record IsTested (scene : Scene) (rounds : List Round) (paths : Paths) (old tested : Made) (l : Located) (flag block first last : ℕ) : Type 0 where
+  grows : Grows old tested
+  touches : TouchesWithin old.building.accesses tested.building.accesses first (behind_test l)
+  made : (final : Made) → Grows tested final → IsTestBlock scene final rounds (core_test (known_in scene) l) flag block
+  left : CanMake scene rounds paths tested (behind_test l) last
+
+module _ (scene : Scene) (rounds : List Round) (paths : Paths) (old tested : Made) (c : Numbered) (l : Located) (t : tree.Term) (flag block first last : ℕ) (can : CanMake scene rounds paths old first last)
+    (placed : TestOf (known_in scene) [] (phases_of (program_seen scene.program.now)) (loops_round rounds) l) (is : MatchesCommand c l) (test_is : Some t ≡ test_of (action_form_of l.command)) (low : first ≤ l.first) (high : behind_test l ≤ last)
+    (makes : MakesTestIn scene paths old tested c.first t flag block) where
+  behind_is : behind_test l ≡ l.first + term_accesses t
+  behind_is = ap (λ (n : ℕ). l.first + n) (own_of_test (action_form_of l.command) t test_is)
+
+  below : l.first + term_accesses t ≤ last
+  below = subst (λ (n : ℕ). n ≤ last) behind_is high
+
+  first_is : c.first ≡ l.first
+  first_is = is.first ∙ number_kept l.first last (lower l.first (term_accesses t) below) can.few
     where
-      same : (n : ℕ) → n ≤ n
-      same n = omega arith
+      lower : (n k : ℕ) → n + k ≤ last → n ≤ last
+      lower n k h = omega (arith, h)
 
-  pub nodes_turn : (old now new : Made) (all left : List (Kept Numbered Node)) (kept : Kept Numbered Node) (nodes : List declared.Node) (node : declared.Node) → MakesNodeIn scene paths now new kept (node_seen node)
-      → NodesSoFar old now all (kept ∷ left) nodes → NodesSoFar old new all left (nodes ++ node ∷ [])
-  nodes_turn old now new all left kept nodes node makes h rounds qs first last inside placed rest are bare = by r.back r.is r.are
+  test_tested : IsTested scene rounds paths old tested l flag block first last
+  test_tested =
+      let test = subst (λ (n : ℕ). MakesTestIn scene paths old tested n t flag block) first_is makes in
+      let made = test rounds can.inside can.rest (less (l.first + term_accesses t) last (2 ^ 32) below can.few) (untouched_part old.building.accesses l.first (l.first + term_accesses t) first last can.bare low below) in
+      let touches : TouchesWithin old.building.accesses tested.building.accesses first (behind_test l) =
+      subst (λ (n : ℕ). TouchesWithin old.building.accesses tested.building.accesses first n) (sym behind_is)
+      (within_more old.building.accesses tested.building.accesses l.first (l.first + term_accesses t) first (l.first + term_accesses t) made.touches low (same (l.first + term_accesses t))) in
+      record {
+        grows = made.grows;
+        touches = touches;
+        made = λ final after. record { tested = l; term = t; is = refl; placed = placed; term_is = sym test_is; made = made.made final after };
+        left = can_back scene rounds paths old tested first (behind_test l) last (further first l.first (own_accesses (action_form_of l.command)) low) can made.rest touches;
+      }
+
+-- Nodes of phases.
+
+module _ (scene : Scene) where
+  abbrev known_here : Known
+  known_here = known_in scene
+
+  abbrev program_here : Program
+  program_here = program_seen scene.program.now
+
+  -- a straight phase
+  pub straight_node : (paths : Paths) (old new : Made) (items : List Numbered) (block : ℕ) → MakesStraightIn scene paths old new items block → MakesNodeIn scene paths old new (straight_phase items) (block_node block)
+  straight_node paths old new items block h rounds (turns loop count body) first last can placed are rise = absurd are
+  straight_node paths old new items block h rounds (repeated loop body) first last can placed are rise = absurd are
+  straight_node paths old new items block h rounds (decided choice chosen other) first last can placed are rise = absurd are
+  straight_node paths old new items block h rounds (straight ls) first last can placed are rise =
+      let found = commands_located first last items ls can.few are rise in
+      let stands = placed.straights (loops_round rounds) ls (refl, refl) in
+      let made = h rounds first last can.inside can.rest (few_numbered items ls found) (reach_numbered items ls found (can.inside.told.stores (loops_round rounds) ls stands)) (commands_open old.building.accesses first last items ls found rise can.bare) in
+      record { grows = made.grows; rest = made.rest; touches = made.touches; made = λ final after. record { located = ls; are = refl; placed = stands; made = made.made ls found final after } }
+
+  -- the turns of a loop, whose phases are made inside it
+  pub turns_made : (paths within : Paths) (old new : Made) (c : Numbered) (h : Header) (count counter : ℕ) (body : AllGathered) (nodes : Nodes) → within.levels.items ≡ levels_inside paths.levels.items (Some (entity_number h.iterator.entity)) h.factor → within.count ≡ count_inside paths.count h.factor
+      → counter ≡ (held_at scene.held.now (entity_number h.iterator.entity)).first → MakesNodesIn scene within old new body nodes → MakesNodeIn scene paths old new (turns_phase c (Some h) count body) (turns_node counter count nodes)
+  turns_made paths within old new c h count counter body nodes levels counted is makes rounds (straight ls) first last can placed are rise = absurd are
+  turns_made paths within old new c h count counter body nodes levels counted is makes rounds (repeated loop qs) first last can placed are rise = absurd are
+  turns_made paths within old new c h count counter body nodes levels counted is makes rounds (decided choice ps qs) first last can placed are rise = absurd are
+  turns_made paths within old new c h count counter body nodes levels counted is makes rounds (turns loop n qs) first last can placed (found, (header_is, (count_is, are))) (copies, rise) =
+      record { grows = inner.grows; rest = inner.rest; touches = inner.touches; made = λ final after. (count_is ∙ sym l.count, (is ∙ ap (λ (e : ℕ). (held_at scene.held.now e).first) (sym l.iterator), inner.made final after)) }
     where
-      r : NodesRest scene rounds old now first last (kept ∷ left) nodes qs
-      r = h rounds qs first last inside placed rest are bare
+      l : IsLoopOf h n (turning_of known_here n (action_form_of loop.command))
+      l = loop_of_header known_here n (action_form_of loop.command) h (sym header_is)
 
-      parts : OpenParts now.building.accesses r.middle last (commands_kept (kept ∷ [])) (commands_kept left)
-      parts = open_split now.building.accesses r.middle last (commands_kept (kept ∷ [])) (commands_kept left)
-          (subst (λ (cs : List Numbered). AreOpen now.building.accesses r.middle last cs) (commands_append (kept ∷ []) left) r.bare)
+      inner : MakesNodes scene (rounds ++ record { loop = turning_of known_here n (action_form_of loop.command); counter = counter } ∷ []) old new first last nodes qs
+      inner =
+          let r : Round = record { loop = turning_of known_here n (action_form_of loop.command); counter = counter } in
+          makes (rounds ++ r ∷ []) qs first last
+          (record {
+            inside = record {
+              told = can.inside.told;
+              inside = paths_inside rounds paths within r (Some (entity_number h.iterator.entity)) (ap (λ (e : ℕ). Some e) (sym l.iterator)) (subst (λ (f : ℕ). 0 < f) (sym l.factor) (copies h (sym header_is)))
+                  (levels ∙ ap (λ (f : ℕ). levels_inside paths.levels.items (Some (entity_number h.iterator.entity)) f) (sym l.factor)) (counted ∙ ap (λ (f : ℕ). count_inside paths.count f) (sym l.factor)) can.inside.inside;
+            };
+            rest = can.rest;
+            few = can.few;
+            bare = can.bare;
+          })
+          (subst (λ (ls : List Turning). ArePlaced known_here program_here ls qs) (sym (loops_more rounds r)) (placed_turns known_here program_here (loops_round rounds) loop n qs placed)) are rise
 
-      within : r.middle ≤ parts.middle
-      within = open_within now.building.accesses r.middle parts.middle (commands_kept (kept ∷ [])) parts.front
+  -- a `while`
+  pub loop_made : (paths : Paths) (old tested new : Made) (c : Numbered) (t : tree.Term) (flag block : ℕ) (body : AllGathered) (nodes : Nodes) → MakesTestIn scene paths old tested c.first t flag block → MakesNodesIn scene paths tested new body nodes
+      → MakesNodeIn scene paths old new (loop_phase c (Some t) body) (loop_node block flag nodes)
+  loop_made paths old tested new c t flag block body nodes test makes rounds (straight ls) first last can placed are rise = absurd are
+  loop_made paths old tested new c t flag block body nodes test makes rounds (turns loop n qs) first last can placed are rise = absurd are
+  loop_made paths old tested new c t flag block body nodes test makes rounds (decided choice ps qs) first last can placed are rise = absurd are
+  loop_made paths old tested new c t flag block body nodes test makes rounds (repeated loop qs) first last can placed (found, (test_is, are)) (low, rise) =
+      let high = phases_within (behind_test loop) last qs rise in
+      let begun = test_tested scene rounds paths old tested c loop t flag block first last can (placed.tests (loops_round rounds) loop (inl (refl, refl))) found test_is low high test in
+      let inner = makes rounds qs (behind_test loop) last begun.left (placed_loop known_here program_here (loops_round rounds) loop qs placed) are rise in
+      record {
+        grows = grows_then old tested new begun.grows inner.grows;
+        rest = inner.rest;
+        touches = touches_both old.building.accesses tested.building.accesses new.building.accesses first (behind_test loop) last (further first loop.first (own_accesses (action_form_of loop.command)) low) high begun.touches inner.touches;
+        made = λ final after. (begun.made final (grows_then tested new final inner.grows after), inner.made final after);
+      }
 
-      least : (n m k : ℕ) → n ≤ m → m ≤ k → n ≤ k
-      least n m k e f = omega (arith, e, f)
-
-      same : (n : ℕ) → n ≤ n
-      same n = omega arith
-
-      by : (back : List source.Phase) → qs ≡ r.front ++ back → AreKept scene now rounds (kept ∷ left) back → NodesRest scene rounds old new first last left (nodes ++ node ∷ []) qs
-      by [] is k = absurd k
-      by (q ∷ back) is k =
-          let made = makes rounds q r.middle parts.middle inside (placed_first (known_in scene) (program_seen scene.program.now) (loops_round rounds) q back
-          (placed_behind (known_in scene) (program_seen scene.program.now) (loops_round rounds) r.front (q ∷ back) (subst (λ (l : List source.Phase). ArePlaced (known_in scene) (program_seen scene.program.now) (loops_round rounds) l) is placed))) r.rest (k.0, tt) parts.front in
-          record {
-            front = r.front ++ q ∷ [];
-            back = back;
-            is = is ∙ sym (append_assoc r.front (q ∷ []) back);
-            grows = grows_then old now new r.grows made.grows;
-            rest = made.rest;
-            made = λ final more. nodes_more scene (made_tie scene final) rounds r.front nodes q node (r.made final (grows_then now new final made.grows more)) (made.made final more);
-            are = kept_later scene rounds now new left back made.grows k.1;
-            middle = parts.middle;
-            low = least first r.middle parts.middle r.low within;
-            touches = within_then old.building.accesses now.building.accesses new.building.accesses first parts.middle
-                (within_more old.building.accesses now.building.accesses first r.middle first parts.middle r.touches (same first) within)
-                (within_more now.building.accesses new.building.accesses r.middle parts.middle first parts.middle made.touches r.low (same parts.middle));
-            bare = open_later now.building.accesses new.building.accesses parts.middle last r.middle parts.middle (commands_kept left) parts.back made.touches (inr (same parts.middle));
-          }
-
-  pub nodes_end : (old new : Made) (all : List (Kept Numbered Node)) (nodes : List declared.Node) → NodesSoFar old new all [] nodes → MakesNodesIn scene paths old new all (nodes_seen nodes)
-  nodes_end old new all nodes h rounds qs first last inside placed rest are bare = by r.back r.is r.are
+  -- an `if` whose arms are not straight
+  pub choice_made : (paths : Paths) (old tested mid new : Made) (c : Numbered) (t : tree.Term) (flag block : ℕ) (chosen other : AllGathered) (one two : Nodes) → MakesTestIn scene paths old tested c.first t flag block → MakesNodesIn scene paths tested mid chosen one
+      → MakesNodesIn scene paths mid new other two → MakesNodeIn scene paths old new (choice_phase c (Some t) chosen other) (choice_node block flag one two)
+  choice_made paths old tested mid new c t flag block chosen other one two test makes also rounds (straight ls) first last can placed are rise = absurd are
+  choice_made paths old tested mid new c t flag block chosen other one two test makes also rounds (turns loop n qs) first last can placed are rise = absurd are
+  choice_made paths old tested mid new c t flag block chosen other one two test makes also rounds (repeated loop qs) first last can placed are rise = absurd are
+  choice_made paths old tested mid new c t flag block chosen other one two test makes also rounds (decided choice ps qs) first last can placed (found, (test_is, (are, others))) (middle, (low, (rise, after_rise))) =
+      let inner_high = phases_within (behind_test choice) middle ps rise in
+      let middle_high = phases_within middle last qs after_rise in
+      let high = through (behind_test choice) middle last inner_high middle_high in
+      let begun = test_tested scene rounds paths old tested c choice t flag block first last can (placed.tests (loops_round rounds) choice (inl (refl, refl))) found test_is low high test in
+      let first_arm = makes rounds ps (behind_test choice) middle (can_front scene rounds paths tested (behind_test choice) middle last middle_high begun.left) (placed_chosen known_here program_here (loops_round rounds) choice ps qs placed) are rise in
+      let second_arm = also rounds qs middle last (can_back scene rounds paths tested mid (behind_test choice) middle last inner_high begun.left first_arm.rest first_arm.touches) (placed_other known_here program_here (loops_round rounds) choice ps qs placed) others after_rise in
+      record {
+        grows = grows_then old tested new begun.grows (grows_then tested mid new first_arm.grows second_arm.grows);
+        rest = second_arm.rest;
+        touches = touches_both old.building.accesses tested.building.accesses new.building.accesses first (behind_test choice) last (further first choice.first (own_accesses (action_form_of choice.command)) low) high begun.touches
+            (touches_both tested.building.accesses mid.building.accesses new.building.accesses (behind_test choice) middle last inner_high middle_high first_arm.touches second_arm.touches);
+        made = λ final after. (
+          begun.made final (grows_then tested new final (grows_then tested mid new first_arm.grows second_arm.grows) after),
+          (first_arm.made final (grows_then mid new final second_arm.grows after), second_arm.made final after),
+        );
+      }
     where
-      r : NodesRest scene rounds old new first last [] nodes qs
-      r = h rounds qs first last inside placed rest are bare
+      through : (n m k : ℕ) → n ≤ m → m ≤ k → n ≤ k
+      through n m k h l = omega (arith, h, l)
 
-      same : (n : ℕ) → n ≤ n
-      same n = omega arith
+  -- as the code has them
+  pub node_as : (paths : Paths) (old new : Made) (seen p : Gathered) (shown node : Node) → seen ≡ p → shown ≡ node → MakesNodeIn scene paths old new p node → MakesNodeIn scene paths old new seen shown
+  node_as paths old new seen p shown node is are h = subst (λ (n : Node). MakesNodeIn scene paths old new seen n) (sym are) (subst (λ (g : Gathered). MakesNodeIn scene paths old new g node) (sym is) h)
 
-      by : (back : List source.Phase) → qs ≡ r.front ++ back → AreKept scene new rounds [] back → MakesNodes scene rounds old new first last (nodes_seen nodes) qs
-      by (q ∷ back) is k = absurd k
-      by [] is k =
-          subst (λ (ps : List source.Phase). MakesNodes scene rounds old new first last (nodes_seen nodes) ps) (sym (is ∙ append-nil r.front))
-          (record { grows = r.grows; rest = r.rest; touches = within_more old.building.accesses new.building.accesses first r.middle first last r.touches (same first) r.bare; made = r.made })
+  -- One behind the other.
 
-  -- Forms are taken from the end of their reversed list.
+  none_made : (paths : Paths) (m : Made) → MakesNodesIn scene paths m m none_gathered no_nodes
+  none_made paths m rounds no_phases first last can placed are rise = record { grows = grows_none m; rest = can.rest; touches = within_none m.building.accesses first last; made = λ final after. tt }
+  none_made paths m rounds (phase q qs) first last can placed are rise = absurd are
 
-  pub reversed_begin : (m : Made) (forms reversed : List Loose) (nodes : List declared.Node) → reversed ≡ reverse forms → nodes ≡ [] → NodesSoFar m m (all_kept forms) (all_kept (reverse reversed)) nodes
-  reversed_begin m forms reversed nodes is none =
-      subst (λ (ns : List declared.Node). NodesSoFar m m (all_kept forms) (all_kept (reverse reversed)) ns) (sym none)
-      (subst (λ (l : List Loose). NodesSoFar m m (all_kept forms) (all_kept l) []) (sym (ap (λ (l : List Loose). reverse l) is ∙ reverse-reverse forms)) (nodes_begin m (all_kept forms)))
+  nodes_then : (paths : Paths) (old mid new : Made) (p : Gathered) (ps : AllGathered) (node : Node) (nodes : Nodes) → MakesNodeIn scene paths old mid p node → MakesNodesIn scene paths mid new ps nodes
+      → MakesNodesIn scene paths old new (gathered_then p ps) (node_then node nodes)
+  nodes_then paths old mid new p ps node nodes one rest rounds no_phases first last can placed are rise = absurd are
+  nodes_then paths old mid new p ps node nodes one rest rounds (phase q qs) first last can placed (is, are) (middle, (rises, rise)) =
+      let low = phase_within first middle q rises in
+      let high = phases_within middle last qs rise in
+      let made = one rounds q first middle (can_front scene rounds paths old first middle last high can) (placed_first known_here program_here (loops_round rounds) q qs placed) is rises in
+      let others = rest rounds qs middle last (can_back scene rounds paths old mid first middle last low can made.rest made.touches) (placed_rest known_here program_here (loops_round rounds) q qs placed) are rise in
+      record {
+        grows = grows_then old mid new made.grows others.grows;
+        rest = others.rest;
+        touches = touches_both old.building.accesses mid.building.accesses new.building.accesses first middle last low high made.touches others.touches;
+        made = λ final after. (made.made final (grows_then mid new final others.grows after), others.made final after);
+      }
 
-  pub reversed_turn : (old now new : Made) (all : List (Kept Numbered Node)) (forms popped : List Loose) (form : Loose) (nodes more : List declared.Node) (node : declared.Node) → forms ≡ popped ++ form ∷ [] → more ≡ nodes ++ node ∷ []
-      → MakesNodeIn scene paths now new (kept_of form) (node_seen node) → NodesSoFar old now all (all_kept (reverse forms)) nodes → NodesSoFar old new all (all_kept (reverse popped)) more
-  reversed_turn old now new all forms popped form nodes more node taken pushed makes h =
-      subst (λ (ns : List declared.Node). NodesSoFar old new all (all_kept (reverse popped)) ns) (sym pushed)
-      (nodes_turn old now new all (all_kept (reverse popped)) (kept_of form) nodes node makes
-      (subst (λ (l : List Loose). NodesSoFar old now all (all_kept l) nodes) (ap (λ (l : List Loose). reverse l) taken ∙ reverse-append popped (form ∷ [])) h))
+  -- whatever is made of the phases that are left, all is made from the begin
+  abbrev pub NodesLead : Paths → (all left : List Phase) → (nodes : List declared.Node) → (old now : Made) → Type 0
+  NodesLead paths all left nodes old now = (new : Made) (more : List declared.Node) → MakesNodesIn scene paths now new (all_gathered (phases_seen left)) (nodes_seen more) → MakesNodesIn scene paths old new (all_gathered (phases_seen all)) (nodes_seen (nodes ++ more))
 
-  pub reversed_end : (old new : Made) (all : List (Kept Numbered Node)) (forms : List Loose) (nodes : List declared.Node) → forms ≡ [] → NodesSoFar old new all (all_kept (reverse forms)) nodes → MakesNodesIn scene paths old new all (nodes_seen nodes)
-  reversed_end old new all forms nodes none h = nodes_end old new all nodes (subst (λ (l : List Loose). NodesSoFar old new all (all_kept (reverse l)) nodes) none h)
+  pub nodes_begin : (paths : Paths) (m : Made) (all : List Phase) (nodes : List declared.Node) → nodes ≡ [] → NodesLead paths all all nodes m m
+  nodes_begin paths m all nodes none new more h = subst (λ (ns : List declared.Node). MakesNodesIn scene paths m new (all_gathered (phases_seen all)) (nodes_seen (ns ++ more))) (sym none) h
+
+  pub nodes_turn : (paths : Paths) (old now mid : Made) (all : List Phase) (i : ℕ) (p : Phase) (nodes pushed : List declared.Node) (node : declared.Node) → i < length all → p ≡ get_or all i p → pushed ≡ nodes ++ node ∷ []
+      → MakesNodeIn scene paths now mid (phase_seen p) (node_seen node) → NodesLead paths all (drop i all) nodes old now → NodesLead paths all (drop (i + 1) all) pushed old mid
+  nodes_turn paths old now mid all i p nodes pushed node within is pushed_is one h new more rest =
+      subst (λ (ns : List declared.Node). MakesNodesIn scene paths old new (all_gathered (phases_seen all)) (nodes_seen ns)) (sym (ap (λ (ns : List declared.Node). ns ++ more) pushed_is ∙ append_assoc nodes (node ∷ []) more))
+      (h new (node ∷ more) (subst (λ (ps : List Phase). MakesNodesIn scene paths now new (all_gathered (phases_seen ps)) (nodes_seen (node ∷ more))) (sym (at_item all i p within is))
+      (nodes_then paths now mid new (phase_seen p) (all_gathered (phases_seen (drop (i + 1) all))) (node_seen node) (nodes_seen more) one rest)))
+
+  pub nodes_end : (paths : Paths) (old new : Made) (all left : List Phase) (nodes : List declared.Node) → left ≡ [] → NodesLead paths all left nodes old new → MakesNodesIn scene paths old new (all_gathered (phases_seen all)) (nodes_seen nodes)
+  nodes_end paths old new all left nodes none h =
+      subst (λ (ns : List declared.Node). MakesNodesIn scene paths old new (all_gathered (phases_seen all)) (nodes_seen ns)) (append-nil nodes)
+      (h new [] (subst (λ (ps : List Phase). MakesNodesIn scene paths new new (all_gathered (phases_seen ps)) no_nodes) (sym none) (none_made paths new)))
+
+  -- a program's body
+  pub body_made : (paths : Paths) (old new : Made) (ps : List Gathered) (body : Action) (nodes : Nodes) → ps ≡ gathered_list (phases nothing_around 0 body) → MakesNodesIn scene paths old new (all_gathered ps) nodes → MakesBody scene paths old new body nodes
+  body_made paths old new ps body nodes are makes told levels count few body_is rest bare = (made, has_nodes scene new [] (core_phases known_here (of_list (phases nothing_around 0 body))) nodes (made.made new (grows_none new)))
+    where
+      made : MakesNodes scene [] old new 0 (accesses_of body) nodes (of_list (phases nothing_around 0 body))
+      made =
+          makes [] (of_list (phases nothing_around 0 body)) 0 (accesses_of body)
+          (record { inside = record { told = told; inside = record { within = (levels, count); some = subst (λ (n : ℕ). 0 < n) (sym count) (omega arith) } }; rest = rest; few = few; bare = bare })
+          (subst (λ (b : Action). ArePlaced known_here program_here [] (of_list (phases nothing_around 0 b))) (sym body_is) (all_placed known_here program_here))
+          (list_matches ps (phases nothing_around 0 body) are)
+          (subst (λ (n : ℕ). PhasesRise 0 n (of_list (phases nothing_around 0 body))) (zero-add (accesses_of body)) (phases_rise nothing_around 0 body))

@@ -9,7 +9,7 @@ use Rattle.dh_value.specs.declared.kinds.Kind.TheVariants as kind
 use Rattle.dh_tree.specs.PlainTrees.{Action}
 use Rattle.dh_tree.specs.Seen.{program_seen}
 use Rattle.dh_meaning.specs.AccessNumbers.{accesses_of}
-use Rattle.dh_meaning.specs.Phases.{phases}
+use Rattle.dh_meaning.specs.Phases.{of_list, phases}
 use Rattle.dh_meaning.specs.Sites.{nothing_around}
 use Rattle.dh_plan.specs.declared.operations.Operation.{Operation}
 use Rattle.dh_plan.specs.declared.operations.PlanBlock.{PlanBlock}
@@ -101,7 +101,7 @@ all_few p f g l m n e z h k = omega (arith, e, z, h, k)
 
 -- what is made in the end, by what the code takes of it
 pub makes_phased : (scene : Scene) (count : ℕ) (body : Action) (begun final : Made) (variables : List Kind) (paths : Paths) (blocks : List PlanBlock) (p : Phased) → AreRegisters (program_seen scene.program.now) scene.held.now count variables → Begins variables (length scene.shares.now) begun
-    → paths.levels.items ≡ [] → paths.count ≡ 1 → MakesBody scene paths begun final body (nodes_seen p.nodes.items) → NamesOnce begun final [] (blocks_of (nodes_seen p.nodes.items)) → IsCut final.building.draft.operations.items final.starts.items blocks
+    → paths.levels.items ≡ [] → paths.count ≡ 1 → MakesBody scene paths begun final body (nodes_seen p.nodes.items) → NamesOnce begun final (blocks_of (nodes_seen p.nodes.items)) → IsCut final.building.draft.operations.items final.starts.items blocks
     → p.blocks ≡ blocks → p.registers ≡ final.registers → p.faults ≡ final.building.draft.faults → MakesPhased scene count body p
 makes_phased scene count body begun final variables paths blocks p registers begins levels one makes each cuts blocks_are registers_are faults_are told known few body_is successive = record {
   final = final;
@@ -124,7 +124,7 @@ makes_phased scene count body begun final variables paths blocks p registers beg
       (k.0, (ap (λ (l : List Kind). slice_get l register) registers_are ∙ made.0.grows.registers register k.0 (ap (λ (l : List Kind). slice_get l register) begins.registers_are ∙ k.1.0), k.1.1));
 }
   where
-    made : MakesNodes scene [] begun final 0 (accesses_of body) (nodes_seen p.nodes.items) (phases nothing_around 0 body) × HasNodes final (nodes_seen p.nodes.items)
+    made : MakesNodes scene [] begun final 0 (accesses_of body) (nodes_seen p.nodes.items) (of_list (phases nothing_around 0 body)) × HasNodes final (nodes_seen p.nodes.items)
     made = makes told levels one few body_is begins.rest (untouched_part begun.building.accesses 0 (accesses_of body) 0 (length scene.shares.now) begins.untouched (omega arith) known)
 
     kinds : HaveKinds (program_seen scene.program.now) scene.held.now count (length scene.held.now) variables

@@ -11,6 +11,7 @@ use Rattle.dh_meaning.specs.AccessNumbers.{accesses_of}
 use Rattle.dh_meaning.specs.Phases as source
 use Rattle.dh_meaning.specs.Phases.{located}
 use Rattle.dh_meaning.specs.Sites.{nothing_around}
+use Rattle.dh_phases.specs.GatheredPhases.{Numbered}
 use Rattle.dh_plan.specs.declared.operations.Operation.{Operation}
 use Rattle.dh_plan.specs.Correspondence.{Round}
 use Rattle.dh_expressions.specs.declared.accesses.Accesses.{Accesses}
@@ -39,12 +40,11 @@ use Rattle.dh_laid.proofs.AccessesLaid.{commands_lay, each_lays, lays_again, lay
 use Rattle.dh_laid.proofs.CommandsNumbered.{reaching_number}
 use Rattle.dh_laid.proofs.FaultsOwn.{faults_grow}
 use Rattle.dh_gathering.specs.declared.blocks.Made.{Made}
-use Rattle.dh_gathering.specs.KeptPhases.{AreBeside}
 use Rattle.dh_gathering.specs.Growing.{AreAllLaid, AreOwned, IsAtRest, IsClear, NamesFew}
 use Rattle.dh_gathering.specs.MadeBlocks.{AreFew, AreInside, ArePathsOf, DoesCommands, SetsGiven, BlockStandsAt}
-use Rattle.dh_gathering.specs.OpenAccesses.{AreOpen, AreUntouched, Numbered, TouchesWithin}
+use Rattle.dh_gathering.specs.OpenAccesses.{AreOpen, AreUntouched, TouchesWithin}
 use Rattle.dh_gathering.specs.PushedSets.{SetsLogged, settings}
-use Rattle.dh_gathering.specs.Gathered.{DoesNumbered, IsLocated, MakesStraight, MakesStraightIn}
+use Rattle.dh_gathering.specs.Gathered.{AreLocated, DoesNumbered, MakesStraight, MakesStraightIn}
 use Rattle.dh_gathering.proofs.AccessesOpen.{open_later, open_within, within_more, within_none, within_then}
 use Rattle.dh_gathering.proofs.LoggedSets.{cleared_all, cleared_long, sets_logged}
 use Rattle.dh_gathering.proofs.MadeGrows.{AddsBlock, block_grows, block_rests, block_stands}
@@ -110,7 +110,7 @@ module _ (scene : Scene) (around : Around) where
       leaves_then old mid new (leaves_one c.command c.first next old mid some few.0 one.0) (leaves_all cs mid new some few.1 rest)
 
   -- of commands of the definition
-  pub does_located : (items : List Numbered) (ls : List source.Located) (old new : Building) → AreBeside IsLocated items ls → DoesNumbered scene around items old new → DoesCommands scene around ls old new
+  pub does_located : (items : List Numbered) (ls : List source.Located) (old new : Building) → AreLocated items ls → DoesNumbered scene around items old new → DoesCommands scene around ls old new
   does_located [] [] old new beside does = does
   does_located [] (l ∷ ls) old new beside does = absurd beside
   does_located (c ∷ cs) [] old new beside does = absurd beside
@@ -126,7 +126,7 @@ module _ (scene : Scene) (around : Around) where
   )
 
   -- and just that was put down for them
-  pub made_located : (items : List Numbered) (ls : List source.Located) (old new : Building) → AreBeside IsLocated items ls → DoesNumbered scene around items old new → MadeEach scene around ls old new
+  pub made_located : (items : List Numbered) (ls : List source.Located) (old new : Building) → AreLocated items ls → DoesNumbered scene around items old new → MadeEach scene around ls old new
   made_located [] [] old new beside does = does
   made_located [] (l ∷ ls) old new beside does = absurd beside
   made_located (c ∷ cs) [] old new beside does = absurd beside
@@ -172,7 +172,7 @@ module _ (scene : Scene) (around : Around) where
 located_alone : List Numbered → List source.Located
 located_alone items = map (λ (c : Numbered). located nothing_around c.first c.command) items
 
-beside_alone : (items : List Numbered) → AllByRecursion (λ c. c.first + accesses_of c.command < 2 ^ 32) items → AreBeside IsLocated items (located_alone items)
+beside_alone : (items : List Numbered) → AllByRecursion (λ c. c.first + accesses_of c.command < 2 ^ 32) items → AreLocated items (located_alone items)
 unfolding located_alone
 beside_alone [] few = tt
 beside_alone (c ∷ cs) few = (record { command = refl; first = refl; few = few.0 }, beside_alone cs few.1)
@@ -182,7 +182,7 @@ beside_alone (c ∷ cs) few = (record { command = refl; first = refl; few = few.
 pub bare_from : (a : Accesses) (first count : ℕ) → AreUntouched a first (first + count) → IsBareFrom a first count
 bare_from a first count h i within = h (first + i) (omega arith) (omega (arith, within))
 
-pub bare_located : (a : Accesses) (first last : ℕ) (items : List Numbered) (ls : List source.Located) → AreBeside IsLocated items ls → AreOpen a first last items → AllByRecursion (IsBare a) ls
+pub bare_located : (a : Accesses) (first last : ℕ) (items : List Numbered) (ls : List source.Located) → AreLocated items ls → AreOpen a first last items → AllByRecursion (IsBare a) ls
 bare_located a first last [] [] beside bare = tt
 bare_located a first last [] (l ∷ ls) beside bare = absurd beside
 bare_located a first last (c ∷ cs) [] beside bare = absurd beside
@@ -191,7 +191,7 @@ bare_located a first last (c ∷ cs) (l ∷ ls) (is, beside) bare = (
   bare_located a (c.first + accesses_of c.command) last cs ls beside bare.1.1,
 )
 
-pub rising_located : (a : Accesses) (first last : ℕ) (items : List Numbered) (ls : List source.Located) → AreBeside IsLocated items ls → AreOpen a first last items → AreRising first ls
+pub rising_located : (a : Accesses) (first last : ℕ) (items : List Numbered) (ls : List source.Located) → AreLocated items ls → AreOpen a first last items → AreRising first ls
 rising_located a first last [] [] beside bare = tt
 rising_located a first last [] (l ∷ ls) beside bare = absurd beside
 rising_located a first last (c ∷ cs) [] beside bare = absurd beside
@@ -210,7 +210,7 @@ rising_lower first from (l ∷ ls) low h = (least h.0, h.1)
     least : from ≤ l.first → first ≤ l.first
     least k = omega (arith, low, k)
 
-pub reach_numbered : (items : List Numbered) (ls : List source.Located) → AreBeside IsLocated items ls → AllByRecursion (λ l. StoresReach l.command) ls → AllByRecursion (λ c. StoresReach c.command) items
+pub reach_numbered : (items : List Numbered) (ls : List source.Located) → AreLocated items ls → AllByRecursion (λ l. StoresReach l.command) ls → AllByRecursion (λ c. StoresReach c.command) items
 reach_numbered [] [] beside h = tt
 reach_numbered [] (l ∷ ls) beside h = absurd beside
 reach_numbered (c ∷ cs) [] beside h = absurd beside
@@ -232,13 +232,13 @@ settings_faultless : (ss : List (ℕ × ℕ)) → AllByRecursion (λ (o : Operat
 settings_faultless [] = tt
 settings_faultless (s ∷ ss) = (tt, settings_faultless ss)
 
-pub few_located : (items : List Numbered) (ls : List source.Located) → AreBeside IsLocated items ls → AllByRecursion AreFew ls
+pub few_located : (items : List Numbered) (ls : List source.Located) → AreLocated items ls → AllByRecursion AreFew ls
 few_located [] [] beside = tt
 few_located [] (l ∷ ls) beside = absurd beside
 few_located (c ∷ cs) [] beside = absurd beside
 few_located (c ∷ cs) (l ∷ ls) (is, beside) = (is.few, few_located cs ls beside)
 
-pub few_numbered : (items : List Numbered) (ls : List source.Located) → AreBeside IsLocated items ls → AllByRecursion (λ c. c.first + accesses_of c.command < 2 ^ 32) items
+pub few_numbered : (items : List Numbered) (ls : List source.Located) → AreLocated items ls → AllByRecursion (λ c. c.first + accesses_of c.command < 2 ^ 32) items
 few_numbered [] [] beside = tt
 few_numbered [] (l ∷ ls) beside = absurd beside
 few_numbered (c ∷ cs) [] beside = absurd beside

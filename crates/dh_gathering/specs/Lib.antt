@@ -1,9 +1,9 @@
-pub mod KeptPhases
 pub mod Growing
 pub mod PushedSets
 pub mod PhasesInLoops
 pub mod PlacedPhases
 pub mod OpenAccesses
+pub mod RisingPhases
 pub mod MadeBlocks
 pub mod Gathered
 pub mod NamedOnce

@@ -1,17 +1,9 @@
 -- Accesses that have no operations yet, by their numbers: those of what is still to be made.
 use Rattle.std.specs.Prelude.{◌≡◌, ◌⊎◌, ℕ, ◌+◌, ◌<◌, ◌≤◌, List, [], ◌∷◌, length, None}
-use Rattle.dh_tree.specs.PlainTrees.{Action}
 use Rattle.dh_meaning.specs.AccessNumbers.{accesses_of}
+use Rattle.dh_phases.specs.GatheredPhases.{Numbered}
 use Rattle.dh_expressions.specs.declared.accesses.Accesses.{Accesses}
 use Rattle.dh_expressions.specs.Noted.{touched_in}
-
--- a command, and the number of its first access
-pub record Numbered : Type 0 where
-  pub command : Action
-  pub first : ℕ
-
-abbrev pub numbered : Action → (first : ℕ) → Numbered
-numbered a first = record { command = a; first = first }
 
 -- those of these numbers, from the first one on and before the last, have none
 abbrev pub AreUntouched : Accesses → (first last : ℕ) → Type 0

@@ -1,17 +1,18 @@
 //! The blocks of straight commands and of tests. A block is made whole before the next one begins, so that the
 //! operations of a block have numbers that follow one another.
 
-ghost use Rattle.std.specs.Prelude.{◌≡◌, ◌≤◌, ◌++◌, ◌∷◌, [], None, IfOk, OnOk, replicate};
+ghost use Rattle.std.specs.Prelude.{◌≡◌, ◌∷◌, [], None, IfOk, OnOk, map, replicate};
 ghost use Rattle.dh_tree.specs.Seen.{term_seen};
+ghost use Rattle.dh_phases.specs.GatheredPhases.{numbered_seen};
 ghost use Rattle.dh_gathering.specs.MadeBlocks.{PutsFlag};
 ghost use Rattle.dh_gathering.specs.NamedOnce.{NamesOnce};
 ghost use Rattle.dh_gathering.specs.PushedSets.{SetsLogged, SetsRegister};
-ghost use Rattle.dh_gathering.specs.Gathered.{DoesNumbered, EndsBlock, MakesStraightIn, MakesTestIn, SetsFirst, all_numbered};
+ghost use Rattle.dh_gathering.specs.Gathered.{DoesNumbered, EndsBlock, MakesStraightIn, MakesTestIn, SetsFirst};
 
-use crate::joining::Located;
 use dh_base::{Items, NoMemory};
 use dh_commands::{Building, push_command, test_all};
 use dh_expressions::{Around, Draft, Paths, Scene, is_read, push_compute, push_set};
+use dh_phases::NumberedCommand;
 use dh_tree::{Expr, Kind};
 use dh_value::Op;
 use std::alloc::Global;
@@ -80,13 +81,13 @@ fn push_commands(
     scene: &Scene<'_>,
     around: Around<'_>,
     building: &mut Building,
-    commands: &[Located<'_>],
+    commands: &[NumberedCommand<'_>],
 ) -> Result<(), NoMemory>
-    ensures { OnOk result (DoesNumbered scene.now around.entry (all_numbered commands.now)
+    ensures { OnOk result (DoesNumbered scene.now around.entry (map numbered_seen commands.now)
         building.old building.new) }
 {
-    for located in commands {
-        push_command(scene, around, building, located.first, located.command)?;
+    for numbered in commands {
+        push_command(scene, around, building, numbered.first, numbered.command)?;
     }
     Ok(())
 }
@@ -96,11 +97,11 @@ pub fn straight_block(
     scene: &Scene<'_>,
     made: &mut Made,
     paths: &Paths,
-    commands: &[Located<'_>],
+    commands: &[NumberedCommand<'_>],
 ) -> Result<u64, NoMemory>
     ensures made { IfOk result (λ block. MakesStraightIn scene.now paths.now made.old made.new
-        (all_numbered commands.now) block) }
-    ensures once { IfOk result (λ block. NamesOnce made.old made.new [] (block ∷ [])) }
+        (map numbered_seen commands.now) block) }
+    ensures once { IfOk result (λ block. NamesOnce made.old made.new (block ∷ [])) }
 {
     let start = made.building.draft.operations.len();
     let guards = no_guards(scene.alloc, paths.count)?;
@@ -155,7 +156,7 @@ pub fn test_block(
 ) -> Result<Tested, NoMemory>
     ensures made { IfOk result (λ t. MakesTestIn scene.now paths.now made.old made.new first
         (term_seen test.now) t.flag t.block) }
-    ensures once { IfOk result (λ t. NamesOnce made.old made.new [] (t.block ∷ [])) }
+    ensures once { IfOk result (λ t. NamesOnce made.old made.new (t.block ∷ [])) }
 {
     let start = made.building.draft.operations.len();
     let guards = no_guards(scene.alloc, paths.count)?;

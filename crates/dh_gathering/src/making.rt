@@ -6,7 +6,7 @@ ghost use Rattle.dh_gathering.specs.ProgramMade.{Begins, MakesPhased};
 
 use crate::blocks::Made;
 use crate::cutting::cut;
-use crate::gathering::nodes_in;
+use crate::nodes::nodes_in;
 use crate::registers::registers_of;
 use dh_base::{FaultKind, Items, NoMemory, Place};
 use dh_commands::{Building, no_values};

@@ -12,8 +12,8 @@ use Rattle.dh_tree.specs.ViewOffsets.{offsets_of}
 use Rattle.dh_meaning.specs.AccessNumbers.{accesses_of, form_accesses, groups_accesses, other_accesses, part_accesses, plan_accesses, term_accesses, terms_accesses}
 use Rattle.dh_meaning.specs.CoreOf.{entity_number, way_of}
 use Rattle.dh_meaning.specs.Ways.{Hidden, hidden_in}
-use Rattle.dh_accesses.specs.Counted.{behind}
-use Rattle.dh_accesses.proofs.CountedParts.{behind_few}
+use Rattle.dh_phases.specs.Counted.{behind}
+use Rattle.dh_phases.proofs.CountedParts.{behind_few}
 use Rattle.dh_expressions.specs.declared.accesses.Accesses.{Accesses}
 use Rattle.dh_expressions.specs.declared.drafts.Draft.{Draft}
 use Rattle.dh_expressions.specs.declared.elements.Aim.{Aim}

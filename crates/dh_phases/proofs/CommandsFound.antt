@@ -7,8 +7,7 @@ use Rattle.dh_tree.specs.declared.trees.programs.Tree.{Tree}
 use Rattle.dh_tree.specs.Seen.{action_seen, program_seen}
 use Rattle.dh_tree.specs.PlainTrees.{Action, action, ActionForm, lets, lets_memory, views, assigns, stores, reduces, calls, blocks, decides, repeats, counts, MaybeAction, no_action, one_action, Actions, no_actions, action_then, Groups, no_groups, group_then}
 use Rattle.dh_tree.specs.Numbers.{commands_in, commands_inside, commands_in_other, commands_in_groups, commands_in_part, IsNumbered, IsNumberedInside, IsNumberedOther, AreNumberedGroups, AreNumbered}
-use Rattle.dh_phases.specs.NumberedPhases.{HasCommand, Holds, HoldsInside, HoldsOther, HoldInGroups, HoldInPart}
-use Rattle.dh_phases.specs.Phasing.{found_or, first_of, first_inside, first_in_other, first_in_groups, first_in_part}
+use Rattle.dh_phases.specs.FoundCommands.{HasCommand, Holds, HoldsInside, HoldsOther, HoldInGroups, HoldInPart, found_or, first_of, first_inside, first_in_other, first_in_groups, first_in_part}
 
 -- the number of a command that is held lies in the numbers of the commands
 module _ (n : ℕ) (a : Action) where

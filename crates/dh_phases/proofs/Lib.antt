@@ -1,4 +1,6 @@
+pub mod CountedParts
 pub mod SeenPhases
-pub mod PhasesNumbered
+pub mod PhasesMatched
+pub mod PhasesAnywhere
 pub mod PhasesRead
 pub mod CommandsFound

@@ -1,2 +1,5 @@
-pub mod NumberedPhases
-pub mod Phasing
+pub mod Counted
+pub mod GatheredPhases
+pub mod Gathering
+pub mod FoundCommands
+pub mod MatchedPhases

@@ -33,3 +33,4 @@ pub use carrying::{Carrier, carries};
 pub use checking::check_ports;
 pub use laws::port_breaches_are_one;
 pub use leading::carriers_of;
+pub use nesting::nests_of;

@@ -23,8 +23,8 @@ use Rattle.dh_code.specs.Flattening.{IsPlacingOf, known_by_names}
 use Rattle.dh_code.specs.Placed.{AreFewHidden, hidden_as, most_entities}
 use Rattle.dh_code.proofs.HiddenPlaced.{entities_so, hidden_placed, kinds_all}
 use Rattle.dh_code.proofs.KindsHeld.{length_held}
-use Rattle.dh_sem.specs.declared.gathering.Made.{Made}
-use Rattle.dh_sem.specs.Gathered.{CanRunList, HoldsAll, HoldsProgram, IsSoundMade, course_made}
+use Rattle.dh_sem.specs.declared.holding.Made.{Made}
+use Rattle.dh_sem.specs.Held.{HoldsAll, HoldsProgram, IsSoundMade, course_made}
 use Rattle.dh_sem.specs.Lanes.{AreFirstLanes}
 use Rattle.dh_sem.specs.Phased.{ArePhases}
 use Rattle.dh_sem.specs.Runnable.{CanRunAll, IsRunnable}
@@ -79,7 +79,7 @@ module _ (names : Names) (old new : Made) (body : Command) (first : Option ℕ) 
   pub made_first : names.places.now ≡ (placing_of p).held → map led_seen names.ways.now ≡ ways_of p → action_seen body ≡ p.body → IsProgramTable (table_of p) → IsRunnable p → AreFirstLanes old.lanes.items → IsSoundMade (table_of p) old
       → HoldsProgram p new first
   made_first is led seen table runnable lanes sound =
-      let all = holds (placing_of p) (placing_is runnable is) (subst (λ (a : Action). CanRunList (table_of p) (known_by_names names) (placing_of p) [] (phases nothing_around 0 a)) (sym seen)
+      let all = holds (placing_of p) (placing_is runnable is) (subst (λ (a : Action). CanRunAll (table_of p) (placing_of p) [] (core_phases (known_by_names names) (source.of_list (phases nothing_around 0 a)))) (sym seen)
       (subst (λ (k : Known). CanRunAll (table_of p) (placing_of p) [] (core_phases k (source.of_list (source.phases_of p)))) (sym (known_is led)) runnable.phases)) table.entries lanes.lead sound in (
         all.0,
         (

@@ -32,11 +32,11 @@ use Rattle.dh_sem.specs.declared.lanes.Lanes.{Lanes}
 use Rattle.dh_sem.specs.declared.phases.Frame.{Frame}
 use Rattle.dh_sem.specs.declared.phases.Frame.TheVariants.{List as Rest}
 use Rattle.dh_sem.specs.declared.phases.Phase.{Phase}
-use Rattle.dh_sem.specs.declared.gathering.Made.{Made}
+use Rattle.dh_sem.specs.declared.holding.Made.{Made}
 use Rattle.dh_sem.specs.declared.stepping.Course as code
 use Rattle.dh_sem.specs.Frames.{AreToCome}
 use Rattle.dh_sem.specs.declared.starting.Begun as starting
-use Rattle.dh_sem.specs.Gathered.{HoldsProgram, IsSoundMade, course_made}
+use Rattle.dh_sem.specs.Held.{HoldsProgram, IsSoundMade, course_made}
 use Rattle.dh_sem.specs.Phased.{AreLinked, ArePhases, Course, IsSoundFrame}
 use Rattle.dh_sem.specs.Runs.{IsSteady, StandsAt, place_outcome}
 use Rattle.dh_sem.specs.Starts.{IsBegun, IsUnused, StandsFirst, run_begun}

@@ -4,13 +4,9 @@ pub mod Going
 pub mod Following
 pub mod LinksFollowed
 pub mod PhasesKept
-pub mod KeptLists
-pub mod GatheredCommands
-pub mod ArmsCanRun
-pub mod GatheredLists
+pub mod PhasesTurned
+pub mod FormsHeld
 pub mod ListsHeld
-pub mod CanRunLists
-pub mod GatheredLoops
 pub mod BlocksDone
 pub mod StepsDone
 pub mod SmallMemories

@@ -5,16 +5,14 @@ use Rattle.std.specs.Prelude.{Option, slice_get}
 use Rattle.std.proofs.lemmas.List.{length-append}
 use Rattle.dh_tree.specs.declared.tables.MemEntry.{MemEntry}
 use Rattle.dh_meaning.specs.Core.{CorePhase, straightly, turning, looping, choosing, CorePhases, no_core_phases, phase_and}
-use Rattle.dh_meaning.specs.CoreOf.{Known, core_phase}
-use Rattle.dh_meaning.specs.Phases as source
 use Rattle.dh_code.specs.Declarations.{factors_inside}
 use Rattle.dh_code.specs.Slots.{Placing}
 use Rattle.dh_code.proofs.CommandsCoded.{coded_stays, extends_none, extends_then, flat_stays, get_before, held_stays}
-use Rattle.dh_sem.specs.declared.gathering.Made.{Made}
+use Rattle.dh_sem.specs.declared.holding.Made.{Made}
 use Rattle.dh_sem.specs.declared.lanes.Lanes.{Lanes}
 use Rattle.dh_sem.specs.declared.phases.Form.{Form}
 use Rattle.dh_sem.specs.declared.phases.Form.TheVariants.{Straight, Turns, Loop, Choice}
-use Rattle.dh_sem.specs.Gathered.{CanBeHeld, IsHeldAs, MoreMade, course_made}
+use Rattle.dh_sem.specs.Held.{MoreMade, course_made}
 use Rattle.dh_sem.specs.Lanes.{LeadsInto, MoreLanes}
 use Rattle.dh_sem.specs.Phased.{ArePhases, IsLinked, IsPhase, IsTested}
 use Rattle.dh_code.specs.Scenes.{IsEarlier}
@@ -51,6 +49,13 @@ earlier_still m n (Some k) h e = within_more k m n e h
 
 pub leads_still : (a b : List Lanes) (number : ℕ) (factors : List ℕ) → MoreLanes a b → LeadsInto a number factors → LeadsInto b number factors
 leads_still a b number factors h l = record { found = l.found; there = ap (λ x. slice_get x number) h.are ∙ get_before a h.more number l.found l.there; are = l.are }
+
+-- what is there in what was made is there in what is made later
+pub there_later : (paths : ℕ) (a b : Made) → MoreMade a b → paths < length a.lanes.items → paths < length b.lanes.items
+there_later paths a b h there = within_more paths (length a.lanes.items) (length b.lanes.items) there (longer a.lanes.items b.lanes.items h.lanes.more h.lanes.are)
+
+pub earlier_later : (a b : Made) (o : Option ℕ) → MoreMade a b → IsEarlier (length a.phases.items) o → IsEarlier (length b.phases.items) o
+earlier_later a b o h e = earlier_still (length a.phases.items) (length b.phases.items) o (longer a.phases.items b.phases.items h.phases h.are) e
 
 module _ (table : List MemEntry) (p : Placing) (a b : Made) (h : MoreMade a b) where
   mutual
@@ -98,9 +103,6 @@ module _ (table : List MemEntry) (p : Placing) (a b : Made) (h : MoreMade a b) w
     phase_stays factors at to (Choice f one two) (choosing test chosen other) le (flat, (can, ((early, soon), (are, others)))) =
         (flat_stays p.held table a.code b.code h.code test f flat, (can, ((earlier_still at to one le early, earlier_still at to two le soon), (phases_stay factors one chosen are, phases_stay factors two other others))))
 
-  pub held_as_still : (known : Known) (factors : List ℕ) (form : Form) (q : source.Phase) → IsHeldAs table known p a factors form q → IsHeldAs table known p b factors form q
-  held_as_still known factors form q e = phase_stays factors (length a.phases.items) (length b.phases.items) form (core_phase known q) (longer a.phases.items b.phases.items h.phases h.are) e
-
 -- what can be gone through stays so, wherever it is held
 module _ (a b : Made) (h : MoreMade a b) where
   lanes_longer : length a.lanes.items ≤ length b.lanes.items
@@ -124,6 +126,3 @@ module _ (a b : Made) (h : MoreMade a b) where
   tested_still (Turns t) e = tt
   tested_still (Loop f list) e = held_stays a.code b.code f h.code e
   tested_still (Choice f one two) e = held_stays a.code b.code f h.code e
-
-  pub can_be_held_still : (form : Form) → CanBeHeld a form → CanBeHeld b form
-  can_be_held_still form e = record { linked = linked_still (length a.phases.items) (length b.phases.items) form (longer a.phases.items b.phases.items h.phases h.are) e.linked; tested = tested_still form e.tested }

@@ -3,6 +3,6 @@ pub mod Phased
 pub mod Frames
 pub mod Steps
 pub mod Runnable
-pub mod Gathered
+pub mod Held
 pub mod Runs
 pub mod Starts

@@ -10,12 +10,12 @@ use Rattle.dh_code.specs.declared.places.Places.{Places}
 use Rattle.dh_code.specs.declared.running.State.{State}
 use Rattle.dh_code.specs.Declarations.{placing_of, slots_of}
 use Rattle.dh_code.specs.Spent.{AreUsedBy}
-use Rattle.dh_sem.specs.declared.gathering.Made.{Made}
+use Rattle.dh_sem.specs.declared.holding.Made.{Made}
 use Rattle.dh_sem.specs.declared.phases.Frame.{Frame}
 use Rattle.dh_sem.specs.declared.phases.Frame.TheVariants.{List as Rest}
 use Rattle.dh_sem.specs.declared.starting.Begun.{Begun}
 use Rattle.dh_sem.specs.declared.stepping.Course as code
-use Rattle.dh_sem.specs.Gathered.{HoldsProgram, IsSoundMade, course_made}
+use Rattle.dh_sem.specs.Held.{HoldsProgram, IsSoundMade, course_made}
 use Rattle.dh_sem.specs.Lanes.{AreFirstLanes}
 use Rattle.dh_sem.specs.Phased.{IsSoundFrame}
 use Rattle.dh_code.specs.Scenes.{IsEarlier}

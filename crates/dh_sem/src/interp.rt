@@ -9,7 +9,7 @@ ghost use Rattle.dh_sem.specs.Runnable.{IsRunnable};
 ghost use Rattle.dh_sem.specs.Runs.{StandsAt, StepsOn, place_outcome};
 ghost use Rattle.dh_sem.specs.Steps.{stop_outcome};
 
-use crate::gathering::Made;
+use crate::holding::Made;
 use crate::phases::Frame;
 use crate::starting::begin;
 use crate::stepping::{Course, advance, make_writes};

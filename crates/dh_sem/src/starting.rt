@@ -10,14 +10,14 @@ ghost use Rattle.dh_meaning.specs.Ways.{ways_of};
 ghost use Rattle.dh_ways.specs.Seen.{led_seen};
 ghost use Rattle.dh_code.specs.Banks.{AreFirsts, all_banks};
 ghost use Rattle.dh_code.specs.Declarations.{placing_of, slots_of};
-ghost use Rattle.dh_sem.specs.Gathered.{HoldsProgram, IsSoundMade};
+ghost use Rattle.dh_sem.specs.Held.{HoldsProgram, IsSoundMade};
 ghost use Rattle.dh_sem.specs.Lanes.{AreFirstLanes};
 ghost use Rattle.dh_sem.specs.Phased.{AreLinked};
 ghost use Rattle.dh_code.specs.Scenes.{IsEarlier};
 ghost use Rattle.dh_sem.specs.Runnable.{IsRunnable};
 ghost use Rattle.dh_sem.specs.Starts.{ArePlacesOf, HoldsFirst, IsBegun, IsNothingMade, IsUnused, StandsFirst};
 
-use crate::gathering::{Made, hold_all};
+use crate::holding::{Made, hold_all};
 use crate::lanes::first_lanes;
 use crate::phases::Frame;
 use crate::stepping::{Course, go_on};

@@ -13,4 +13,4 @@ mod paths;
 mod sizes;
 mod through;
 
-pub use sizes::plan_size;
+pub use sizes::{PlanSize, plan_size};

@@ -8,7 +8,7 @@ ghost use Rattle.dh_tree.specs.Seen.{program_seen};
 ghost use Rattle.dh_tree.specs.Shapes.{IsProgramTable};
 ghost use Rattle.dh_events.specs.Accesses.{loops_listed};
 ghost use Rattle.dh_events.specs.Noted.{all_seen};
-ghost use Rattle.dh_lengths.specs.SharedReads.{told};
+ghost use Rattle.dh_lengths.specs.SharedReads.{told, TellsShares};
 ghost use Rattle.dh_plan.specs.PlanSizes.{size_reported};
 ghost use Rattle.dh_size.specs.Led.{AreViews};
 ghost use Rattle.dh_size.specs.Sizes.{event_sizes, AreFew};
@@ -18,9 +18,9 @@ use crate::banks::access_size;
 use crate::commands::with_command;
 use crate::through::Views;
 use dh_base::NoMemory;
-use dh_events::{Event, Notes, loops_round, note_body, note_rounds, note_stages};
+use dh_events::{Event, Notes, loops_round, note_body};
 use dh_lengths::find_shares;
-use dh_ports::carriers_of;
+use dh_ports::{carriers_of, nests_of};
 use dh_sound::ready_accesses_are_told;
 use dh_tree::{Counter, Typed, kept_programs_have_tables};
 use dh_ways::ways_in;
@@ -77,15 +77,28 @@ fn access_sizes(
     Ok(sum)
 }
 
+/// The size of a program's plan, and what was found of its accesses on the way.
+#[derive(Drop)]
+pub struct PlanSize {
+    /// The size, at most 1,000,000,000.
+    pub size: u64,
+    /// Of each access, by its number in order of evaluation, the number of the earlier read that it shares, if it shares
+    /// one: the answer of `shared_reads`, for who makes the plan.
+    pub shares: Vec<Option<usize>>,
+}
+
 /// The size of the plan of a program that is ready; 1,000,000,000 where it is greater. A program is compiled where its
 /// size is at most 200,000.
 ///
 /// # Errors
 ///
 /// `NoMemory` where an allocation was refused.
-pub fn plan_size(alloc: Global, program: &Typed) -> Result<u64, NoMemory>
+pub fn plan_size(alloc: Global, program: &Typed) -> Result<PlanSize, NoMemory>
     requires ready { IsReady (program_seen program.now) }
-    ensures { IfOk result (λ size. size ≡ size_reported (program_seen program.now)) }
+    ensures size { IfOk result (λ counted. counted.size ≡ size_reported (program_seen
+        program.now)) }
+    ensures shares { IfOk result (λ counted. TellsShares (program_seen program.now)
+        counted.shares.items) }
 {
     ready_accesses_are_told();
     kept_programs_have_tables();
@@ -97,21 +110,19 @@ pub fn plan_size(alloc: Global, program: &Typed) -> Result<u64, NoMemory>
         ways: &ways,
         carriers: each,
     };
-    let mut rounds = Vec::new(alloc);
-    note_rounds(alloc, &mut rounds, &[], body)?;
-    let mut stages = Vec::new(alloc);
-    note_stages(&mut stages, body)?;
-    let mut notes = Notes::for_commands(alloc, stages.len())?;
-    note_body(&mut notes, stages.as_slice(), body)?;
+    let nests = nests_of(alloc, program)?;
+    let mut notes = Notes::for_commands(alloc, nests.stages.len())?;
+    note_body(&mut notes, nests.stages.as_slice(), body)?;
     let events = notes.events.as_slice();
     let shares = find_shares(alloc, events)?;
     let accesses = access_sizes(
         alloc,
         program,
         views,
-        rounds.as_slice(),
+        nests.rounds.as_slice(),
         shares.as_slice(),
         events,
     )?;
-    Ok(with_command(accesses, body).min(GREATEST_SIZE))
+    let size = with_command(accesses, body).min(GREATEST_SIZE);
+    Ok(PlanSize { size, shares })
 }

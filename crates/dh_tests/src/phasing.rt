@@ -3,25 +3,95 @@
 use crate::comparing::{each_makes, same_number};
 use crate::texts::{LONGEST, stores};
 use dh_check::check_without_ports;
-use dh_phases::{Phase, phases};
-use std::alloc::Global;
+use dh_phases::{NumberedCommand, Phase, phases};
+use std::alloc::{AllocError, Global};
+use std::fmt::Write;
 use std::test::Fail;
 
-/// The phases of a whole program.
-fn phases_of(alloc: Global, text: &str) -> Result<Vec<Phase>, Fail> {
+/// Writes commands by their numbers.
+fn write_commands(out: &mut String, commands: &[NumberedCommand<'_>]) -> Result<(), AllocError> {
+    for (i, numbered) in commands.iter().enumerate() {
+        if i > 0 {
+            out.push_str(", ")?;
+        }
+        write!(out, "{}", numbered.command.id)?;
+    }
+    Ok(())
+}
+
+/// Writes a phase, its commands by their numbers.
+#[cycle(writing)]
+fn write_phase(out: &mut String, phase: &Phase<'_>) -> Result<(), AllocError> {
+    match phase {
+        Phase::Straight { commands } => {
+            out.push_str("Straight { commands: [")?;
+            write_commands(out, commands.as_slice())?;
+            out.push_str("]")?;
+        }
+        Phase::Turns {
+            command,
+            count,
+            body,
+            ..
+        } => {
+            write!(
+                out,
+                "Turns {{ command: {}, count: {count}",
+                command.command.id
+            )?;
+            out.push_str(", body: ")?;
+            write_phases(out, body.as_slice())?;
+        }
+        Phase::Loop { command, body, .. } => {
+            write!(out, "Loop {{ command: {}, body: ", command.command.id)?;
+            write_phases(out, body.as_slice())?;
+        }
+        Phase::Choice {
+            command,
+            then,
+            other,
+            ..
+        } => {
+            write!(out, "Choice {{ command: {}, then: ", command.command.id)?;
+            write_phases(out, then.as_slice())?;
+            out.push_str(", other: ")?;
+            write_phases(out, other.as_slice())?;
+        }
+    }
+    out.push_str(" }")
+}
+
+/// Writes phases in order.
+#[cycle(writing)]
+fn write_phases(out: &mut String, phases: &[Phase<'_>]) -> Result<(), AllocError> {
+    out.push_str("[")?;
+    for (i, phase) in phases.iter().enumerate() {
+        if i > 0 {
+            out.push_str(", ")?;
+        }
+        write_phase(out, phase)?;
+    }
+    out.push_str("]")
+}
+
+/// The phases of a whole program, as a text, and how many they are.
+fn told(alloc: Global, text: &str) -> Result<(String, u64), Fail> {
     let bytes = text.as_bytes();
     if bytes.len() > LONGEST {
         return Err("too long")?;
     }
     let typed = check_without_ports(alloc, bytes)?;
     let whole = typed.tree().body.id;
-    Ok(phases(alloc, &typed, whole)?)
+    let phases = phases(alloc, &typed, whole, &[])?;
+    let mut out = String::new(alloc);
+    write_phases(&mut out, phases.as_slice())?;
+    Ok((out, phases.len() as u64))
 }
 
 /// The phases of a whole program, as a text.
 fn shown(alloc: Global, text: &str) -> Result<String, Fail> {
-    let phases = phases_of(alloc, text)?;
-    Ok(format!(in alloc; "{phases:?}")?)
+    let (shown, _) = told(alloc, text)?;
+    Ok(shown)
 }
 
 /// The commands are numbered in text order: the program is 0, and blocks have numbers too.
@@ -125,7 +195,7 @@ fn local_memories_have_no_phase(rt: HostRuntime) -> Result<(), Fail> {
 fn a_long_program_has_a_phase_for_each_part(rt: HostRuntime) -> Result<(), Fail> {
     let alloc = rt.alloc();
     let text = stores(alloc, 40_000)?;
-    let phases = phases_of(alloc, text.as_str())?;
-    same_number(&rt, phases.len() as u64, 40_000, "phases");
+    let (_, count) = told(alloc, text.as_str())?;
+    same_number(&rt, count, 40_000, "phases");
     Ok(())
 }

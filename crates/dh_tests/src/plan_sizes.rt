@@ -15,7 +15,7 @@ fn size_of(alloc: Global, text: &str) -> Result<u64, Fail> {
         return Err("too long")?;
     }
     let typed = check_without_ports(alloc, bytes)?;
-    Ok(plan_size(alloc, &typed)?)
+    Ok(plan_size(alloc, &typed)?.size)
 }
 
 /// The size of the plan of a whole program, as a text.

@@ -3,7 +3,6 @@ use Rattle.std.proofs.Common.{◌≡◌, ℕ, ◌+◌, List, [], ◌++◌, lengt
 use Rattle.std.specs.Prelude.{IfOk, Result, Ok, Err}
 use Rattle.dh_tree.specs.declared.trees.programs.Tree.{Tree}
 use Rattle.dh_tree.specs.PlainTrees.{Program}
-use Rattle.dh_tree.specs.Numbers.{IsNumbered}
 use Rattle.dh_tree.specs.Seen.{action_seen, program_seen}
 use Rattle.dh_meaning.specs.Bindings.{bindings}
 use Rattle.dh_meaning.specs.Ways.{all_bindings_of, all_entities_of, hidden_binding, led_binding, ways_of}
@@ -68,7 +67,7 @@ module _ (scene : Scene) where
     Told t =
         n ≡ length t.entities.items → ArePlaces t.body kept (n + length kept) places count → scene.held.now ≡ places
         → AreScopes (bindings 0 (action_seen t.body) ++ (map led_binding (map led_seen led) ++ map hidden_binding (map hidden_seen kept))) scene.scopes.now
-        → ((q : Program) (first : ℕ) → q.body ≡ action_seen t.body → IsNumbered first q.body → TellsShares q shares) → scene.shares.now ≡ narrow_shares shares
+        → TellsShares (program_seen t) shares → scene.shares.now ≡ narrow_shares shares
         → IfOk r (λ phased. MakesPhased scene count (action_seen t.body) phased) → IfOk r (λ phased. MakesPhases scene.program.now through phased)
 
     here : Told scene.program.now
@@ -78,7 +77,7 @@ module _ (scene : Scene) where
         (bindings_found p led hidden kept (ap (λ (ls : List KeptLed). map led_seen ls) are_led ∙ ways) found are_kept) scene.scopes.now own in
         let are : (scene.held.now ≡ (placing_of p).held) × (count ≡ slots_of p) =
         places_are scene.program.now n kept long (are_kept ∙ found) (action_seen scene.program.now.body) count scene.held.now places held refl placed in
-        let made = scene_made count shares asked are.0 are.1 ways scopes (shared p asked.ready.of_text.first refl asked.ready.of_text.numbered) narrow in
+        let made = scene_made count shares asked are.0 are.1 ways scopes shared narrow in
         ok_then r (λ phased. MakesPhased scene count p.body phased) (λ phased. MakesPhases scene.program.now through phased)
         (λ phased h. phases_made count through phased asked taken made (ready_scenes_are_told scene asked.ready scopes) h) makes
 

@@ -3,6 +3,7 @@
 ghost use Rattle.std.specs.Prelude.{◌≡◌, IfOk, map};
 ghost use Rattle.dh_tree.specs.Seen.{program_seen};
 ghost use Rattle.dh_meaning.specs.Ways.{ways_of};
+ghost use Rattle.dh_lengths.specs.SharedReads.{TellsShares};
 ghost use Rattle.dh_plan.specs.Passes.{IsToCompile};
 ghost use Rattle.dh_plan.specs.SeenPlans.{plan_seen};
 ghost use Rattle.dh_told.specs.MadePlans.{MakesPhases};
@@ -18,7 +19,6 @@ use dh_events::scopes_of;
 use dh_expressions::{Scene, Through};
 use dh_gathering::{Phased, phases_made};
 use dh_inline::Flat;
-use dh_lengths::shared_reads;
 use dh_plan::Plan;
 use dh_tree::{Typed, copy_table};
 use dh_ways::{WayTable, hidden_in, ways_in};
@@ -30,8 +30,10 @@ fn phases_of(
     program: &Typed,
     ways: &WayTable,
     through: &[Through],
+    shared: &[Option<usize>],
 ) -> Result<Phased, NoMemory>
     requires asked { IsToCompile (program_seen program.now) }
+    requires shared { TellsShares (program_seen program.now) shared.now }
     requires ways { map led_seen ways.now ≡ ways_of (program_seen program.now) }
     ensures { IfOk result (λ phased. MakesPhases program.now through.now phased) }
 {
@@ -40,8 +42,7 @@ fn phases_of(
     let kept = hidden.as_slice();
     let places = place_all(alloc, &tree.body, kept, tree.entities.len())?;
     let scopes = scopes_of(alloc, &tree.body, ways, kept)?;
-    let shared = shared_reads(alloc, &tree.body)?;
-    let shares = narrow_shares(alloc, shared.as_slice())?;
+    let shares = narrow_shares(alloc, shared)?;
     let scene = Scene {
         alloc,
         program,
@@ -54,14 +55,15 @@ fn phases_of(
     phases_made(&scene, places.count, &tree.body)
 }
 
-/// The plan of a program that is to be compiled. It has the program's views in text order, and each register
-/// has from 1 to 64 bits.
+/// The plan of a program that is to be compiled, of whose accesses it is known which earlier read each shares. It has the
+/// program's views in text order, and each register has from 1 to 64 bits.
 ///
 /// # Errors
 ///
 /// `NoMemory` where an allocation was refused.
-pub fn unroll(alloc: Global, flat: &Flat) -> Result<Plan, NoMemory>
-    requires { IsToCompile (program_seen flat.now.program.now) }
+pub fn unroll(alloc: Global, flat: &Flat, shared: &[Option<usize>]) -> Result<Plan, NoMemory>
+    requires asked { IsToCompile (program_seen flat.now.program.now) }
+    requires shared { TellsShares (program_seen flat.now.program.now) shared.now }
     ensures { IfOk result (λ plan. IsUnrolled (program_seen flat.now.program.now)
         (plan_seen plan)) }
 {
@@ -74,7 +76,7 @@ pub fn unroll(alloc: Global, flat: &Flat) -> Result<Plan, NoMemory>
         blocks,
         registers,
         faults,
-    } = phases_of(alloc, program, &ways, taken)?;
+    } = phases_of(alloc, program, &ways, taken, shared)?;
     Ok(Plan {
         table: copy_table(alloc, program.memories().as_slice())?,
         views,

@@ -1,6 +1,6 @@
 use Rattle.std.proofs.Common.{Some, ap, sym, ◌∙◌}
 use Rattle.dh_tree.specs.Seen.{action_seen, action_form_seen}
-use Rattle.dh_phases.specs.Phasing.{first_of, first_inside}
+use Rattle.dh_phases.specs.FoundCommands.{first_of, first_inside}
 use Rattle.dh_tree.proofs.SeenActions.{while_is}
 use Rattle.dh_phases.proofs.CommandsFound.{skipped}
 use Rattle.dh_phases.proofs.phasing.+seeking.Goals as goal

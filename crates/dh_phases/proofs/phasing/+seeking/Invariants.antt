@@ -1,7 +1,7 @@
 -- What is found in the rest is what is found in all.
 use Rattle.std.proofs.Common.{◌≡◌, map, drop}
 use Rattle.dh_tree.specs.Seen.{action_seen, actions, part_seen, groups}
-use Rattle.dh_phases.specs.Phasing.{first_in_part, first_in_groups}
+use Rattle.dh_phases.specs.FoundCommands.{first_in_part, first_in_groups}
 use Rattle.dh_phases.proofs.phasing.+seeking.Given as goal
 
 abbrev pub invariant-find_in_parts-loop-part : goal.invariant-find_in_parts-loop-part

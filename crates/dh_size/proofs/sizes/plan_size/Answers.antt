@@ -1,13 +1,14 @@
-use Rattle.std.proofs.Common.{List, ap, sym, ◌∙◌, subst}
+use Rattle.std.proofs.Common.{List, [], refl, ap, sym, ◌∙◌, subst}
 use Rattle.std.specs.Prelude.{Option}
 use Rattle.dh_tree.specs.Memories.{memories_of}
-use Rattle.dh_tree.specs.Seen.{action_seen, program_seen}
+use Rattle.dh_tree.specs.Seen.{program_seen}
 use Rattle.dh_meaning.specs.Ways.{ways_of}
-use Rattle.dh_tree.specs.declared.trees.programs.Tree.{Tree}
 use Rattle.dh_tree.specs.PlainTrees.{Program}
 use Rattle.dh_events.specs.Accesses.{loops_listed}
 use Rattle.dh_events.specs.Noted.{all_seen}
 use Rattle.dh_events.specs.Rounds.{rounds_of}
+use Rattle.dh_events.specs.Stages.{stages_in}
+use Rattle.dh_events.specs.Tables.{table_at}
 use Rattle.dh_lengths.specs.SharedReads.{TellsShares}
 use Rattle.dh_runnable.proofs.ProgramsRun.{ready_few}
 use Rattle.dh_ports.specs.declared.carrying.Carrier.{Carrier}
@@ -15,7 +16,7 @@ use Rattle.dh_ports.specs.Carriers.{AreEach}
 use Rattle.dh_ports.proofs.FirstTold.{are_events, events_seen}
 use Rattle.dh_ports.proofs.SitesTold.{tells_phases}
 use Rattle.dh_lengths.proofs.SharedTold.{shared_told}
-use Rattle.dh_ports.proofs.LayoutFacts.{follow_all, rounds_noted}
+use Rattle.dh_ports.proofs.LayoutFacts.{follow_all}
 use Rattle.dh_ports.proofs.SpentTold.{leads_at, ways_follow}
 use Rattle.dh_size.specs.Sizes.{sizes_from}
 use Rattle.dh_size.specs.Summed.{summed, unit_size}
@@ -49,25 +50,37 @@ access_sizes-requires-clause-few c =
     let h = c.requires.ready in
     let p = program_seen c.args.program.now in
     let same = ap program_seen c.tree.ensures.tree in
-    let noted = ap rounds_of c.as_slice-2.ensures.value ∙ rounds_noted p (action_seen c.tree.result.now.body) (ap (λ (t : Tree). action_seen t.body) c.tree.ensures.tree) c.new-rounds.result c.note_rounds.new.rounds c.new-rounds.ensures.items c.in_ok-note_rounds.ensures in
-    let seen = events_seen p (program_seen c.tree.result.now) same c.new-stages.result.items c.note_stages.new.stages.items c.as_slice.result.now c.in_ok-notes.notes.events.items c.note_body.new.notes.events.items c.as_slice-events.result.now
-    c.new-stages.ensures.items c.in_ok-note_stages.ensures.noted c.as_slice.ensures.value c.in_ok-notes.ensures.empty c.in_ok-note_body.ensures.adds c.as_slice-events.ensures.value in
+    let noted = ap rounds_of c.as_slice-2.ensures.value ∙ c.in_ok-nests.ensures.rounds in
+    let seen = events_seen p (program_seen c.tree.result.now) same [] c.in_ok-nests.nests.stages.items c.as_slice.result.now c.in_ok-notes.notes.events.items c.note_body.new.notes.events.items c.as_slice-events.result.now
+    refl (c.in_ok-nests.ensures.stages ∙ ap (λ (q : Program). stages_in q.body (table_at [])) (sym same)) c.as_slice.ensures.value c.in_ok-notes.ensures.empty c.in_ok-note_body.ensures.adds c.as_slice-events.ensures.value in
     events_few p h.of_text.first h.of_text.numbered c.as_slice-2.result.now noted c.as_slice-events.result.now seen (c.ready_accesses_are_told.ensures.copies p h.indices h.limits)
 
-pub returns : goal.returns
-returns c =
+pub returns-clause-shares : goal.returns-clause-shares
+returns-clause-shares c =
     let h = c.requires.ready in
     let p = program_seen c.args.program.now in
     let same = ap program_seen c.tree.ensures.tree in
-    let body = ap (λ (q : Program). q.body) (sym same) in
-    let noted = ap rounds_of c.as_slice-2.ensures.value ∙ rounds_noted p (action_seen c.tree.result.now.body) (ap (λ (t : Tree). action_seen t.body) c.tree.ensures.tree) c.new-rounds.result c.note_rounds.new.rounds c.new-rounds.ensures.items c.in_ok-note_rounds.ensures in
-    let seen = events_seen p (program_seen c.tree.result.now) same c.new-stages.result.items c.note_stages.new.stages.items c.as_slice.result.now c.in_ok-notes.notes.events.items c.note_body.new.notes.events.items c.as_slice-events.result.now
-    c.new-stages.ensures.items c.in_ok-note_stages.ensures.noted c.as_slice.ensures.value c.in_ok-notes.ensures.empty c.in_ok-note_body.ensures.adds c.as_slice-events.ensures.value in
-    let table = c.kept_programs_have_tables.ensures p 1048577 h.of_text h.names h.built h.indices h.limits h.placements in
+    let seen = events_seen p (program_seen c.tree.result.now) same [] c.in_ok-nests.nests.stages.items c.as_slice.result.now c.in_ok-notes.notes.events.items c.note_body.new.notes.events.items c.as_slice-events.result.now
+    refl (c.in_ok-nests.ensures.stages ∙ ap (λ (q : Program). stages_in q.body (table_at [])) (sym same)) c.as_slice.ensures.value c.in_ok-notes.ensures.empty c.in_ok-note_body.ensures.adds c.as_slice-events.ensures.value in
     let events = c.as_slice-events.result.now in
     let are = are_events p c.note_body.new.notes events c.as_slice-events.ensures.value seen c.drop-2.inside.known.keys c.drop-2.view_is c.drop-2.invariant (c.in_ok-note_body.ensures.noted.noted c.in_ok-notes.ensures.noted) in
-    let shares : TellsShares p c.as_slice-3.result.now = subst (λ (ss : List (Option _)). TellsShares p ss) (sym c.as_slice-3.ensures.value)
-    (shared_told h.of_text.first p events c.in_ok-shares.shares.items h.of_text.numbered (tells_phases h.of_text.first p h.of_text.numbered) are c.in_ok-shares.ensures) in
-    size_done p (sizes_from p (loops_listed c.as_slice-2.result.now) c.as_slice-3.result.now 0 (all_seen c.as_slice-events.result.now)) c.in_ok-accesses.accesses c.with_command.result c.min.result c.in_ok-accesses.ensures
-    (events_sized p h.of_text.first h.of_text.numbered c.as_slice-2.result.now noted c.as_slice-events.result.now seen c.as_slice-3.result.now (λ k a e w u. leads_at p h.views table k a e w u) shares)
-    (c.with_command.ensures ∙ ap (λ a. summed c.in_ok-accesses.accesses (unit_size a)) (sym body)) c.min.ensures
+    let shares : TellsShares p c.in_ok-shares.shares.items = shared_told h.of_text.first p events c.in_ok-shares.shares.items h.of_text.numbered (tells_phases h.of_text.first p h.of_text.numbered) are c.in_ok-shares.ensures in
+    shares
+
+pub returns-clause-size : goal.returns-clause-size
+returns-clause-size c =
+    let h = c.requires.ready in
+    let p = program_seen c.args.program.now in
+    let same = ap program_seen c.tree.ensures.tree in
+    let seen = events_seen p (program_seen c.tree.result.now) same [] c.in_ok-nests.nests.stages.items c.as_slice.result.now c.in_ok-notes.notes.events.items c.note_body.new.notes.events.items c.as_slice-events.result.now
+    refl (c.in_ok-nests.ensures.stages ∙ ap (λ (q : Program). stages_in q.body (table_at [])) (sym same)) c.as_slice.ensures.value c.in_ok-notes.ensures.empty c.in_ok-note_body.ensures.adds c.as_slice-events.ensures.value in
+    let events = c.as_slice-events.result.now in
+    let are = are_events p c.note_body.new.notes events c.as_slice-events.ensures.value seen c.drop-2.inside.known.keys c.drop-2.view_is c.drop-2.invariant (c.in_ok-note_body.ensures.noted.noted c.in_ok-notes.ensures.noted) in
+    let shares : TellsShares p c.in_ok-shares.shares.items = shared_told h.of_text.first p events c.in_ok-shares.shares.items h.of_text.numbered (tells_phases h.of_text.first p h.of_text.numbered) are c.in_ok-shares.ensures in
+    let body = ap (λ (q : Program). q.body) (sym same) in
+    let noted = ap rounds_of c.as_slice-2.ensures.value ∙ c.in_ok-nests.ensures.rounds in
+    let table = c.kept_programs_have_tables.ensures p 1048577 h.of_text h.names h.built h.indices h.limits h.placements in
+    let listed : TellsShares p c.as_slice-3.result.now = subst (λ (ss : List (Option _)). TellsShares p ss) (sym c.as_slice-3.ensures.value) shares in
+    size_done p (sizes_from p (loops_listed c.as_slice-2.result.now) c.as_slice-3.result.now 0 (all_seen c.as_slice-events.result.now)) c.in_ok-accesses.accesses c.with_command.result c.min-size.result c.in_ok-accesses.ensures
+    (events_sized p h.of_text.first h.of_text.numbered c.as_slice-2.result.now noted c.as_slice-events.result.now seen c.as_slice-3.result.now (λ k a e w u. leads_at p h.views table k a e w u) listed)
+    (c.with_command.ensures ∙ ap (λ a. summed c.in_ok-accesses.accesses (unit_size a)) (sym body)) c.min-size.ensures

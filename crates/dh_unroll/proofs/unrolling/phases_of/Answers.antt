@@ -9,7 +9,7 @@ use Rattle.dh_sem.proofs.FirstMade.{few_entities, few_hidden}
 use Rattle.dh_events.specs.declared.dependence.Scope.{Scope}
 use Rattle.dh_events.specs.Scopes.{AreScopes}
 use Rattle.dh_runnable.proofs.ProgramsRun.{ready_runs}
-use Rattle.dh_unroll.specs.Shares.{narrow_shares}
+use Rattle.dh_lengths.specs.SharedReads.{TellsShares}
 use Rattle.dh_unroll.proofs.ScenesMade.{places_few, told}
 use Rattle.dh_unroll.proofs.unrolling.phases_of.Goals as goal
 
@@ -31,9 +31,9 @@ place_all-requires-clause-entities c =
 
 pub returns : goal.returns
 returns c =
-    told (record { alloc = c.args.alloc; program = c.args.program; ways = c.args.ways; through = c.args.through; held = c.as_slice-2.result; scopes = c.as_slice-3.result; shares = c.as_slice-4.result })
-    c.len.result c.in_ok-places.places.count c.in_ok-hidden.hidden c.as_slice-kept.result.now c.args.ways.now c.in_ok-places.places.held.items c.args.through.now c.in_ok-shared.shared.items c.phases_made.result
+    told (record { alloc = c.args.alloc; program = c.args.program; ways = c.args.ways; through = c.args.through; held = c.as_slice.result; scopes = c.as_slice-2.result; shares = c.as_slice-3.result })
+    c.len.result c.in_ok-places.places.count c.in_ok-hidden.hidden c.as_slice-kept.result.now c.args.ways.now c.in_ok-places.places.held.items c.args.through.now c.args.shared.now c.phases_made.result
     c.requires.asked c.requires.ways refl refl c.in_ok-hidden.ensures c.as_slice-kept.ensures c.tree-tree.result.now c.tree-tree.ensures.tree
-    (c.len.ensures ∙ c.tree-tree.result.now.entities.ok.0) c.in_ok-places.ensures c.as_slice-2.ensures.value
-    (subst (λ (l : List (Option Scope)). AreScopes (bindings 0 (action_seen c.tree-tree.result.now.body) ++ (map led_binding (map led_seen c.args.ways.now) ++ map hidden_binding (map hidden_seen c.as_slice-kept.result.now))) l) (sym c.as_slice-3.ensures.value) c.in_ok-scopes.ensures)
-    c.in_ok-shared.ensures (c.as_slice-4.ensures.value ∙ (c.in_ok-shares.ensures ∙ ap narrow_shares c.as_slice.ensures.value)) c.phases_made.ensures
+    (c.len.ensures ∙ c.tree-tree.result.now.entities.ok.0) c.in_ok-places.ensures c.as_slice.ensures.value
+    (subst (λ (l : List (Option Scope)). AreScopes (bindings 0 (action_seen c.tree-tree.result.now.body) ++ (map led_binding (map led_seen c.args.ways.now) ++ map hidden_binding (map hidden_seen c.as_slice-kept.result.now))) l) (sym c.as_slice-2.ensures.value) c.in_ok-scopes.ensures)
+    (subst (λ (t : Tree). TellsShares (program_seen t) c.args.shared.now) (sym c.tree-tree.ensures.tree) c.requires.shared) (c.as_slice-3.ensures.value ∙ c.in_ok-shares.ensures) c.phases_made.ensures
