@@ -24,14 +24,14 @@ use Rattle.dh_expressions.specs.declared.accesses.Accesses.{Accesses}
 use Rattle.dh_expressions.specs.declared.paths.Paths.{Paths}
 use Rattle.dh_expressions.specs.declared.scenes.Scene.{Scene}
 use Rattle.dh_expressions.specs.Evaluated.{known_in}
-use Rattle.dh_expressions.specs.Levels.{levels_inside}
+use Rattle.dh_expressions.specs.Levels.{count_inside, levels_inside}
 use Rattle.dh_gathering.specs.declared.blocks.Made.{Made}
 use Rattle.dh_gathering.specs.Growing.{Grows, IsAtRest}
 use Rattle.dh_gathering.specs.OpenAccesses.{AreOpen, AreUntouched, TouchesWithin}
 use Rattle.dh_gathering.specs.PhasesInLoops.{TestOf}
 use Rattle.dh_gathering.specs.PlacedPhases.{ArePlaced, loops_round}
 use Rattle.dh_gathering.specs.RisingPhases.{CommandsRise, PhasesRise, behind_command, behind_test}
-use Rattle.dh_gathering.specs.MadeBlocks.{IsTestBlock, count_inside}
+use Rattle.dh_gathering.specs.MadeBlocks.{IsTestBlock}
 use Rattle.dh_gathering.specs.Gathered.{AreLocated, CanMake, MakesBody, MakesNodeIn, MakesNodes, MakesNodesIn, MakesStraightIn, MakesTestIn}
 use Rattle.dh_gathering.proofs.AccessesOpen.{untouched_later, untouched_part, within_more, within_none, within_then}
 use Rattle.dh_gathering.proofs.MadeGrows.{grows_none, grows_then}

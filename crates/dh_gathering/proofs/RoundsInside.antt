@@ -8,9 +8,9 @@ use Rattle.dh_plan.specs.Correspondence.{Round}
 use Rattle.dh_phases.specs.GatheredPhases.{Header, header_of}
 use Rattle.dh_expressions.specs.declared.paths.Level.{Level}
 use Rattle.dh_expressions.specs.declared.paths.Paths.{Paths}
-use Rattle.dh_expressions.specs.Levels.{levels_inside}
+use Rattle.dh_expressions.specs.Levels.{count_inside, levels_inside}
 use Rattle.dh_gathering.specs.PlacedPhases.{loops_round}
-use Rattle.dh_gathering.specs.MadeBlocks.{ArePathsOf, AreWithin, count_inside}
+use Rattle.dh_gathering.specs.MadeBlocks.{ArePathsOf, AreWithin}
 
 rounds_more : (levels : List Level) (count : ℕ) (rounds : List Round) (inner : List Level) (paths : ℕ) (r : Round) (entity : Option ℕ) → entity ≡ Some r.loop.iterator → AreWithin levels count rounds inner paths
     → AreWithin levels count (rounds ++ r ∷ []) (levels_inside inner entity r.loop.factor) (count_inside paths r.loop.factor)

@@ -1,6 +1,6 @@
 -- The blocks of a plan as they stand in its one list of operations: which commands each is made of, inside which
 -- loops, and where it begins and ends. This ties nodes to phases.
-use Rattle.std.specs.Prelude.{◌≡◌, ℕ, suc, ◌+◌, ◌*◌, ◌-◌, ◌<◌, ◌≤◌, ◌^◌, nat_le, Bool as Truth, true, false, if◌then◌else◌, min, List, [], ◌∷◌, ◌++◌, length, replicate, slice_get, Option, Some, None}
+use Rattle.std.specs.Prelude.{◌≡◌, ℕ, suc, ◌+◌, ◌<◌, ◌≤◌, ◌^◌, Bool as Truth, true, false, if◌then◌else◌, List, [], ◌∷◌, ◌++◌, length, replicate, slice_get, Option, Some, None}
 use Rattle.std.specs.List.{AllByRecursion}
 use Rattle.dh_value.specs.declared.kinds.Kind.TheVariants as kind
 use Rattle.dh_value.specs.declared.operators.Op.TheVariants.{Both}
@@ -24,7 +24,7 @@ use Rattle.dh_expressions.specs.Copying.{AreNone, HasScopes}
 use Rattle.dh_expressions.specs.Drafted.{Extends, Gives, Pushes, word_shown}
 use Rattle.dh_expressions.specs.Evaluated.{known_in}
 use Rattle.dh_expressions.specs.declared.paths.Paths.{Paths}
-use Rattle.dh_expressions.specs.Levels.{levels_inside}
+use Rattle.dh_expressions.specs.Levels.{count_inside, levels_inside}
 use Rattle.dh_expressions.specs.Shown.{is_read_term}
 use Rattle.dh_commands.specs.declared.buildings.Building.{Building}
 use Rattle.dh_commands.specs.Done.{DoesCommand}
@@ -44,10 +44,6 @@ use Rattle.dh_gathering.specs.PlacedPhases.{loops_round}
 use Rattle.dh_gathering.specs.PushedSets.{SetsLogged, settings}
 
 -- Paths.
-
--- how many paths there are inside a loop of so many copies
-abbrev pub count_inside : (count factor : ℕ) → ℕ
-count_inside count factor = if nat_le factor 1 then count else min (count * factor) (2 ^ 64 - 1)
 
 -- These levels and so many paths are those inside loops that stand one in the other, from these levels on.
 abbrev pub AreWithin : List Level → (count : ℕ) → List Round → List Level → ℕ → Type 0

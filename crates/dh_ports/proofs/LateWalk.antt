@@ -10,6 +10,7 @@ use Rattle.dh_base.specs.declared.rules.Rule.TheVariants as rule
 use Rattle.dh_tree.specs.declared.breaches.Breach.{Breach}
 use Rattle.dh_tree.specs.declared.trees.counters.Counter.{Counter}
 use Rattle.dh_tree.specs.LeastBreach.{breach}
+use Rattle.dh_tree.specs.Kinds.{place_of as term_place}
 use Rattle.dh_tree.specs.PlainTrees.{Term, term, Program}
 use Rattle.dh_events.specs.declared.classes.Key.{Key}
 use Rattle.dh_events.specs.declared.events.Event.{Event}
@@ -20,14 +21,14 @@ use Rattle.dh_ports.specs.declared.levels.Step.TheVariants as step
 use Rattle.dh_ports.specs.declared.moves.Move.{Move}
 use Rattle.dh_ports.specs.declared.moves.Move.TheVariants as move
 use Rattle.dh_ports.specs.Claims.{access_of, claims_of, moves_from}
-use Rattle.dh_events.specs.Classes.{KeysAreDistinct}
+use Rattle.dh_events.specs.Classes.{KeysAreDistinct, is_same}
 use Rattle.dh_ports.specs.Courses.{less, before_at}
 use Rattle.dh_ports.specs.Expanded.{level_behind, all_taken, AreTaking}
 use Rattle.dh_events.specs.Incidents.{PortEvent, touches, assigned, arm_begins, arm_ends, begins, next, ends}
 use Rattle.dh_ports.specs.Levels.{Level, level, taken, begun, kept_back, settled, lefts_of}
 use Rattle.dh_events.specs.Noted.{event_seen, all_seen}
-use Rattle.dh_ports.specs.Orders.{key_test, order_of, order_step, slot_in, step_in}
-use Rattle.dh_ports.specs.Scanned.{bank_key, take_of, StepsAt, ClaimOrdersAt, IsOrdering, AreOrdering, late_at, place_in, place_found, term_place, all_late}
+use Rattle.dh_ports.specs.Orders.{order_of, order_step, slot_in, step_in}
+use Rattle.dh_ports.specs.Scanned.{bank_key, take_of, StepsAt, ClaimOrdersAt, IsOrdering, AreOrdering, late_at, place_in, place_found, all_late}
 use Rattle.dh_ports.specs.Wholes.{Touched, touched}
 use Rattle.dh_ports.proofs.ExpandedTies.{steps_taken}
 use Rattle.dh_events.proofs.KeyFacts.{same_key, own_key}
@@ -45,19 +46,19 @@ some_same x y e = cc
 
 pub slot_found : (known : List Key) (k : Key) (s : ℕ) → slot_in known k ≡ Some s → slice_get known s ≡ Some k
 slot_found [] k s e = cc
-slot_found (x ∷ xs) k s e = by_test (cases_Bool (key_test x k)) e (slot_found xs k)
+slot_found (x ∷ xs) k s e = by_test (cases_Bool (is_same x k)) e (slot_found xs k)
   where
     of_rest : (o : Option ℕ) → ((n : ℕ) → o ≡ Some n → slice_get xs n ≡ Some k) → option_map suc o ≡ Some s → slice_get (x ∷ xs) s ≡ Some k
     of_rest None rest e = cc
     of_rest (Some n) rest e = ap (slice_get (x ∷ xs)) (sym (some_same (suc n) s e)) ∙ rest n refl
 
-    by_test : (key_test x k ≡ true) ⊎ (key_test x k ≡ false) → (if key_test x k then Some 0 else option_map suc (slot_in xs k)) ≡ Some s → ((n : ℕ) → slot_in xs k ≡ Some n → slice_get xs n ≡ Some k) → slice_get (x ∷ xs) s ≡ Some k
+    by_test : (is_same x k ≡ true) ⊎ (is_same x k ≡ false) → (if is_same x k then Some 0 else option_map suc (slot_in xs k)) ≡ Some s → ((n : ℕ) → slot_in xs k ≡ Some n → slice_get xs n ≡ Some k) → slice_get (x ∷ xs) s ≡ Some k
     by_test (inl f) e rest = ap (slice_get (x ∷ xs)) (sym (some_same 0 s (sym (ap (λ b. if b then Some 0 else option_map suc (slot_in xs k)) f) ∙ e))) ∙ ap (λ y. Some y) (same_key x k f)
     by_test (inr f) e rest = of_rest (slot_in xs k) rest (sym (ap (λ b. if b then Some 0 else option_map suc (slot_in xs k)) f) ∙ e)
 
 pub slot_none : (known : List Key) (k : Key) → slot_in known k ≡ None → (n : ℕ) → slice_get known n ≡ Some k → ⊥
 slot_none [] k e n f = cc
-slot_none (x ∷ xs) k e n f = by_test (cases_Bool (key_test x k)) n f (slot_none xs k)
+slot_none (x ∷ xs) k e n f = by_test (cases_Bool (is_same x k)) n f (slot_none xs k)
   where
     clash : (b : Bool) → b ≡ true → b ≡ false → ⊥
     clash b e f = cc
@@ -69,9 +70,9 @@ slot_none (x ∷ xs) k e n f = by_test (cases_Bool (key_test x k)) n f (slot_non
     none_of None e = refl
     none_of (Some n) e = cc
 
-    by_test : (key_test x k ≡ true) ⊎ (key_test x k ≡ false) → (n : ℕ) → slice_get (x ∷ xs) n ≡ Some k → (slot_in xs k ≡ None → (n : ℕ) → slice_get xs n ≡ Some k → ⊥) → ⊥
+    by_test : (is_same x k ≡ true) ⊎ (is_same x k ≡ false) → (n : ℕ) → slice_get (x ∷ xs) n ≡ Some k → (slot_in xs k ≡ None → (n : ℕ) → slice_get xs n ≡ Some k → ⊥) → ⊥
     by_test (inl g) n f rest = some_none (sym (ap (λ b. if b then Some 0 else option_map suc (slot_in xs k)) g) ∙ e)
-    by_test (inr g) zero f rest = clash (key_test x k) (subst (λ (y : Key). key_test x y ≡ true) (some_same x k f) (own_key x)) g
+    by_test (inr g) zero f rest = clash (is_same x k) (subst (λ (y : Key). is_same x y ≡ true) (some_same x k f) (own_key x)) g
     by_test (inr g) (suc n) f rest = rest (none_of (slot_in xs k) (sym (ap (λ b. if b then Some 0 else option_map suc (slot_in xs k)) g) ∙ e)) n f
 
 module _ (known : List Key) (distinct : KeysAreDistinct known) where

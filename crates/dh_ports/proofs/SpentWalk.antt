@@ -7,6 +7,7 @@ use Rattle.std.proofs.lemmas.Bool.{cases_Bool, eqb-true, eq-eqb, cases_lt}
 use Rattle.std.proofs.lemmas.Bool.Decides.{nat_tests}
 use Rattle.dh_base.specs.declared.places.Place.{Place}
 use Rattle.dh_tree.specs.declared.trees.counters.Counter.{Counter}
+use Rattle.dh_tree.specs.Kinds.{place_of as term_place}
 use Rattle.dh_tree.specs.PlainTrees.{Term, term, Program}
 use Rattle.dh_events.specs.declared.events.Site.{Site}
 use Rattle.dh_ports.specs.declared.levels.Step.{Step}
@@ -17,7 +18,7 @@ use Rattle.dh_ports.specs.Courses.{count, less, before_at}
 use Rattle.dh_ports.specs.Expanded.{level_behind, all_taken, AreTaking}
 use Rattle.dh_events.specs.Incidents.{PortEvent, touches, assigned, arm_begins, arm_ends, begins, next, ends}
 use Rattle.dh_ports.specs.Levels.{Level, level, taken, begun, kept_back, settled, lefts_of}
-use Rattle.dh_ports.specs.Scanned.{flag_at, spending_step, place_found, term_place, first_beyond}
+use Rattle.dh_ports.specs.Scanned.{flag_at, spending_step, place_found, first_beyond}
 use Rattle.dh_ports.specs.Wholes.{Touched, touched}
 use Rattle.dh_ports.proofs.ExpandedTies.{steps_taken}
 use Rattle.dh_ports.proofs.ClaimedBanks.{IsClaimOf, all_claims}

@@ -1,6 +1,7 @@
 -- The step that a move is for the order of writes and reads, as a function: the keys that are known have one place each.
-use Rattle.std.specs.Prelude.{◌≡◌, ◌⊎◌, ℕ, suc, ◌==◌, ◌&&◌, Bool, false, true, if◌then◌else◌, List, [], ◌∷◌, Option, Some, None, option_map, slice_get, slice_index}
+use Rattle.std.specs.Prelude.{◌≡◌, ◌⊎◌, ℕ, suc, ◌==◌, Bool, false, true, if◌then◌else◌, List, [], ◌∷◌, Option, Some, None, option_map, slice_get, slice_index}
 use Rattle.dh_events.specs.declared.classes.Key.{Key}
+use Rattle.dh_events.specs.Classes.{is_same}
 use Rattle.dh_events.specs.declared.events.Event.{Event}
 use Rattle.dh_events.specs.declared.events.Event.TheVariants as event
 use Rattle.dh_ports.specs.declared.levels.Step.{Step}
@@ -10,13 +11,10 @@ use Rattle.dh_ports.specs.declared.moves.Move.TheVariants as move
 use Rattle.dh_events.specs.Tables.{table_at, with_number}
 use Rattle.dh_ports.specs.Scanned.{bank_key, take_of, HasRead}
 
-abbrev pub key_test : Key → Key → Bool
-key_test a b = (a.phase == b.phase) && ((a.entity == b.entity) && ((a.element == b.element) && (a.newest == b.newest)))
-
 -- the number of a key, where it has one
 abbrev pub slot_in : List Key → Key → Option ℕ
 slot_in [] k = None
-slot_in (x ∷ xs) k = if key_test x k then Some 0 else option_map suc (slot_in xs k)
+slot_in (x ∷ xs) k = if is_same x k then Some 0 else option_map suc (slot_in xs k)
 
 abbrev pub step_in : Option ℕ → (takes : ℕ) → Step
 step_in None takes = step.Other

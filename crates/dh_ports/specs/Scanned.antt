@@ -6,7 +6,7 @@ use Rattle.dh_base.specs.declared.rules.Rule.TheVariants as rule
 use Rattle.dh_tree.specs.declared.breaches.Breach.{Breach}
 use Rattle.dh_tree.specs.LeastBreach.{breach, least_of}
 use Rattle.dh_tree.specs.declared.tables.MemEntry.{MemEntry}
-use Rattle.dh_tree.specs.PlainTrees.{Term, term}
+use Rattle.dh_tree.specs.Kinds.{place_of as term_place}
 use Rattle.dh_tree.specs.Seen.{form_seen}
 use Rattle.dh_events.specs.declared.classes.Key.{Key}
 use Rattle.dh_events.specs.declared.events.Event.{Event}
@@ -60,9 +60,6 @@ is_beyond step.End left = false
 is_beyond step.Back left = false
 
 -- Places.
-
-abbrev pub term_place : Term → Place
-term_place (term place kind form) = place
 
 -- the place of an incident that is an access
 abbrev pub place_of : PortEvent → Option Place

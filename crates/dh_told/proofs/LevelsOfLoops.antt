@@ -8,8 +8,8 @@ use Rattle.dh_meaning.specs.CoreOf.{Known}
 use Rattle.dh_plan.specs.Correspondence.{Round}
 use Rattle.dh_sound.specs.LoopsMatch.{EachMatches, LoopMatches, unrolled_loops}
 use Rattle.dh_expressions.specs.declared.paths.Level.{Level}
-use Rattle.dh_expressions.specs.Levels.{levels_inside, spread_level}
-use Rattle.dh_gathering.specs.MadeBlocks.{AreWithin, count_inside}
+use Rattle.dh_expressions.specs.Levels.{count_inside, levels_inside, spread_level}
+use Rattle.dh_gathering.specs.MadeBlocks.{AreWithin}
 use Rattle.dh_gathering.specs.PlacedPhases.{loops_round}
 use Rattle.dh_charged.specs.ChargedUses.{AreLevelsOf}
 

@@ -10,10 +10,10 @@ use Rattle.dh_plan.specs.Correspondence.{Round}
 use Rattle.dh_code.specs.Slots.{held_at}
 use Rattle.dh_expressions.specs.declared.paths.Level.{Level}
 use Rattle.dh_expressions.specs.declared.scenes.Scene.{Scene}
-use Rattle.dh_expressions.specs.Levels.{levels_inside, spread_level}
+use Rattle.dh_expressions.specs.Levels.{count_inside, levels_inside, spread_level}
 use Rattle.dh_expressions.specs.ReachedBanks.{level_with}
 use Rattle.dh_expressions.proofs.ListPlaces.{some_same}
-use Rattle.dh_gathering.specs.MadeBlocks.{AreWithin, count_inside}
+use Rattle.dh_gathering.specs.MadeBlocks.{AreWithin}
 use Rattle.dh_gathering.specs.PlacedPhases.{loops_round}
 use Rattle.dh_typed_blocks.specs.ScenesTold.{AreRoundsTold}
 

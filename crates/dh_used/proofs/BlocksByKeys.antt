@@ -47,10 +47,11 @@ use Rattle.dh_laid.proofs.BlocksUsed.{blocks_probe, blocks_use, tests_probe, tes
 use Rattle.dh_laid.proofs.CommandsProbe.{append_probes}
 use Rattle.dh_laid.proofs.UsesAdded.{used_nowhere}
 use Rattle.dh_laid.proofs.SitesLaid.{along_reach}
+use Rattle.dh_charged.specs.ChargedBlocks.{IsCutFrom}
 use Rattle.dh_charged.specs.LeadersCounted.{leads_below}
 use Rattle.dh_charged.proofs.KeysLed.{all_leaders_are_keys}
 use Rattle.dh_used.specs.SourceSites.{AllStand, AreSited, IsSiteOf}
-use Rattle.dh_used.specs.UsedBlocks.{EndsQuietly, IsInLoops, IsOwn, StraightsUseAsMade, TestsUseAsMade, UsesAsMade}
+use Rattle.dh_used.specs.UsedBlocks.{EndsQuietly, IsInLoops, StraightsUseAsMade, TestsUseAsMade, UsesAsMade}
 use Rattle.dh_used.proofs.SharesOfProgram.{any_below, as_many, shares_inside, test_below, writes_alone}
 use Rattle.dh_used.proofs.SitesOfSource.{blocks_are_sited, tests_are_sited}
 
@@ -144,7 +145,7 @@ module _ (scene : Scene) (around : Around) (spread : AreSpread around.levels.now
 
     -- of a block, whose operations are these and quiet ones behind
     block_as_made : (plan : PlainPlan) (block : ℕ) (old new end : Draft) → AddsUses old new (used_to scene sites (paths_counted around)) → AddsProbes old new (λ number. probed_by (sites number) (paths_counted around))
-        → IsOwn plan block old end → EndsQuietly new end → UsesAsMade p plan block makes
+        → IsCutFrom plan block old end → EndsQuietly new end → UsesAsMade p plan block makes
     block_as_made plan block old new end uses probes cut ends = record {
       uses = λ number a at. ap (λ (os : List Operation). operations_using number os) (are uses.more uses.adds)
           ∙ (uses_append number uses.more ends.more ∙ (plus_none _ _ (ends.no_use number) ∙ (uses.uses_are number ∙ used_as_made number a at)));

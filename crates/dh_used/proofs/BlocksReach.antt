@@ -39,9 +39,10 @@ use Rattle.dh_laid.specs.LaidNumbers.{StoresReach}
 use Rattle.dh_laid.specs.LaidUses.{AddsLedUses, AreAlong, AreSitesReaches, HaveNoOperations, IsSitesReach}
 use Rattle.dh_laid.proofs.BlocksUsed.{blocks_lead, tests_lead}
 use Rattle.dh_laid.proofs.SitesLaid.{along_reach}
+use Rattle.dh_charged.specs.ChargedBlocks.{IsCutFrom}
 use Rattle.dh_used.specs.SourceReaches.{IsOfSource, ReachSource}
 use Rattle.dh_used.specs.SourceSites.{AllStand, AreSited}
-use Rattle.dh_used.specs.UsedBlocks.{EndsQuietly, IsInLoops, IsOwn}
+use Rattle.dh_used.specs.UsedBlocks.{EndsQuietly, IsInLoops}
 use Rattle.dh_used.proofs.BlocksByKeys.{each_of, paths_lead, some_paths}
 use Rattle.dh_used.proofs.SharesOfProgram.{any_below, shares_inside, test_below, writes_alone}
 use Rattle.dh_used.proofs.SitesOfSource.{blocks_are_sited, tests_are_sited}
@@ -76,7 +77,7 @@ module _ (scene : Scene) (around : Around) (makes : ℕ → Truth) (sites : ℕ 
       never r e = cc
 
   -- what was put down, and what ends the block
-  pub own_reach : (plan : PlainPlan) (block : ℕ) (old new end : Draft) (uses : ℕ → ℕ) → AddsLedUses scene sites old new uses → IsOwn plan block old end → EndsQuietly new end → ReachSource p (operations_in plan block)
+  pub own_reach : (plan : PlainPlan) (block : ℕ) (old new end : Draft) (uses : ℕ → ℕ) → AddsLedUses scene sites old new uses → IsCutFrom plan block old end → EndsQuietly new end → ReachSource p (operations_in plan block)
   own_reach plan block old new end uses led own ends =
       subst (λ (os : List Operation). ReachSource p os) (sym are)
       (all_append (λ (o : Operation). (r : Reach) → access_in o.form ≡ Some r → IsOfSource p r) led.more ends.more (each_of_site led.more led.reaches) (quiet_reach ends.more ends.reach_none))
@@ -89,7 +90,7 @@ module _ (scene : Scene) (around : Around) (makes : ℕ → Truth) (sites : ℕ 
 
 pub straights_reach : (scene : Scene) (plan : PlainPlan) (block : ℕ) (around : Around) (cs : List Located) (old new : Building) (end : Draft) (m : MadeEach scene around cs old new)
     → IsInLoops scene around (λ number. any_makes number cs) → AreAlong 0 cs → AllByRecursion (λ (c : Located). IsKeptAction (known_in scene) c.command) cs → HasStraight (phases_of (program_seen scene.program.now)) cs → TellsShares (program_seen scene.program.now) scene.shares.now → TellsWays scene
-    → HaveNoOperations (block_sites scene around cs old new m) old.accesses → IsOwn plan block old.draft end → EndsQuietly new.draft end → ReachSource (program_seen scene.program.now) (operations_in plan block)
+    → HaveNoOperations (block_sites scene around cs old new m) old.accesses → IsCutFrom plan block old.draft end → EndsQuietly new.draft end → ReachSource (program_seen scene.program.now) (operations_in plan block)
 straights_reach scene plan block around cs old new end m here along named has tells ways bare own ends =
     own_reach scene around (λ number. any_makes number cs) (block_sites scene around cs old new m) sited (λ k e. any_below (trace (program_seen scene.program.now)) cs k stand e) ways plan block old.draft new.draft end _
     (blocks_lead scene around cs old new m here.stands (paths_lead scene around (λ number. any_makes number cs) here) (some_paths scene around (λ number. any_makes number cs) here) along (writes_alone scene tells cs reach stand)
@@ -111,7 +112,7 @@ straights_reach scene plan block around cs old new end m here along named has te
 pub tests_reach : (scene : Scene) (plan : PlainPlan) (block : ℕ) (around : Around) (tested : Located) (t : Term) (old new : Building) (end : Draft) (next : ℕ) (tests : List ℕ)
     → MadeTests scene around tested.first t (paths_counted around) old new next tests → test_of (action_form_of tested.command) ≡ Some t
     → IsInLoops scene around (λ number. test_makes number tested) → tested.first + term_accesses t < 2 ^ 32 → HasTest (phases_of (program_seen scene.program.now)) tested → TellsShares (program_seen scene.program.now) scene.shares.now → TellsWays scene
-    → HaveNoOperations (test_sites scene around tested.first t) old.accesses → IsOwn plan block old.draft end → EndsQuietly new.draft end → ReachSource (program_seen scene.program.now) (operations_in plan block)
+    → HaveNoOperations (test_sites scene around tested.first t) old.accesses → IsCutFrom plan block old.draft end → EndsQuietly new.draft end → ReachSource (program_seen scene.program.now) (operations_in plan block)
 tests_reach scene plan block around tested t old new end next tests m is here few has tells ways bare own ends =
     own_reach scene around (λ number. test_makes number tested) (test_sites scene around tested.first t) sited (λ k e. test_below (trace (program_seen scene.program.now)) tested k stand e) ways plan block old.draft new.draft end _
     (tests_lead scene around tested.first t old new next tests m here.stands few

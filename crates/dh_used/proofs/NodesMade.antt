@@ -50,8 +50,9 @@ use Rattle.dh_gathering.specs.PlacedPhases.{loops_round}
 use Rattle.dh_gathering.specs.PushedSets.{settings}
 use Rattle.dh_gathering.proofs.BlocksPlanned.{operations_are}
 use Rattle.dh_phased.proofs.RoundsTop.{rounds_are_top}
+use Rattle.dh_charged.specs.ChargedBlocks.{IsCutFrom}
 use Rattle.dh_used.specs.MadePlans.{IsMadeOf, MadeNodesUse, MadePlansUse}
-use Rattle.dh_used.specs.UsedBlocks.{EndsQuietly, IsInLoops, IsOwn}
+use Rattle.dh_used.specs.UsedBlocks.{EndsQuietly, IsInLoops}
 use Rattle.dh_used.specs.UsedPlans.{UsesStraight, UsesTest, used_tie}
 use Rattle.dh_used.proofs.BlocksByKeys.{straights_use_as_made, tests_use_as_made}
 use Rattle.dh_used.proofs.NamedStores.{named_reaches}
@@ -284,7 +285,7 @@ module _ (scene : Scene) (final : Made) (plan : PlainPlan) (is : IsMadeOf scene 
       bare = λ number s at. (bare_made b.made.before.accesses b.located number b.made.bare (blocks_placed scene b.made.around b.located b.made.before b.made.between b.made.made (all_named (known_in scene) b.located straight_held) number s at)).1;
     }
 
-    pub straight_own : IsOwn plan block b.made.before.draft b.made.after.draft
+    pub straight_own : IsCutFrom plan block b.made.before.draft b.made.after.draft
     straight_own = operations_are final plan.blocks is.blocks block b.made.before b.made.after b.made.stands
 
     pub straight_quiet : EndsQuietly b.made.between.draft b.made.after.draft
@@ -321,7 +322,7 @@ module _ (scene : Scene) (final : Made) (plan : PlainPlan) (is : IsMadeOf scene 
       bare = λ number s at. let w = test_placed_all scene b.made.around b.tested.first b.term number s at in (bare_at b.made.before.accesses b.tested.first (term_accesses b.term) number b.made.bare w.0 w.1).1;
     }
 
-    pub test_own : IsOwn plan block b.made.before.draft b.made.after.draft
+    pub test_own : IsCutFrom plan block b.made.before.draft b.made.after.draft
     test_own = operations_are final plan.blocks is.blocks block b.made.before b.made.after b.made.stands
 
     pub test_quiet : EndsQuietly b.made.between.draft b.made.after.draft

@@ -21,8 +21,9 @@ use Rattle.dh_expressions.proofs.Pushing.{in_front}
 use Rattle.dh_commands.specs.LanesRun.{paths_counted}
 use Rattle.dh_laid.proofs.FaultsOwn.{each_place, in_either}
 use Rattle.dh_gathering.specs.MadeBlocks.{IsStraightBlock, IsTestBlock, made_tie}
+use Rattle.dh_charged.specs.ChargedBlocks.{IsCutFrom}
 use Rattle.dh_used.specs.SourceAims.{IsAimed, MadePlansAim}
-use Rattle.dh_used.specs.UsedBlocks.{EndsQuietly, IsOwn}
+use Rattle.dh_used.specs.UsedBlocks.{EndsQuietly}
 use Rattle.dh_used.proofs.AimsAdded.{AddsAims, aimed_stays}
 use Rattle.dh_used.proofs.BlocksByKeys.{some_paths}
 use Rattle.dh_used.proofs.CommandsAim.{blocks_aim, straights_among, test_aims, test_among}
@@ -34,7 +35,7 @@ abbrev BlockAims : Scene → List Operation → PlainPlan → (block : ℕ) → 
 BlockAims scene os plan block = (i : ℕ) (o : Operation) (r : Reach) → slice_get (operations_in plan block) i ≡ Some o → access_in o.form ≡ Some r → IsAimed scene os r
 
 -- what was put down, and what ends the block
-own_aims : (scene : Scene) (plan : PlainPlan) (block : ℕ) (old new end final : Draft) → AddsAims scene old new → IsOwn plan block old end → EndsQuietly new end → Extends end final → BlockAims scene final.operations.items plan block
+own_aims : (scene : Scene) (plan : PlainPlan) (block : ℕ) (old new end final : Draft) → AddsAims scene old new → IsCutFrom plan block old end → EndsQuietly new end → Extends end final → BlockAims scene final.operations.items plan block
 own_aims scene plan block old new end final aims own ends kept i o r at is = by (in_either aims.more ends.more i o (sym (ap (λ (os : List Operation). slice_get os i) are) ∙ at))
   where
     are : operations_in plan block ≡ aims.more ++ ends.more

@@ -1,6 +1,6 @@
 -- How often a block of a plan reads, writes and probes each access of the program: with each of its keys once and at
 -- each of its paths, where the block makes it; not at all, where it does not.
-use Rattle.std.specs.Prelude.{◌≡◌, ℕ, ◌+◌, ◌<◌, ◌^◌, Bool, true, if◌then◌else◌, List, ◌++◌, drop, length, Some, None}
+use Rattle.std.specs.Prelude.{◌≡◌, ℕ, ◌+◌, ◌<◌, ◌^◌, Bool, true, if◌then◌else◌, List, ◌++◌, length, Some, None}
 use Rattle.std.specs.List.{AllByRecursion}
 use Rattle.dh_tree.specs.PlainTrees.{Program, Term}
 use Rattle.dh_tree.specs.Seen.{program_seen}
@@ -19,6 +19,7 @@ use Rattle.dh_plan.specs.SoundPlans.{access_in}
 use Rattle.dh_sound.specs.PhaseFacts.{HasStraight, HasTest}
 use Rattle.dh_sound.specs.Straight.{IsKeptAction}
 use Rattle.dh_sound.specs.ToldEvents.{access_at}
+use Rattle.dh_charged.specs.ChargedBlocks.{IsCutFrom}
 use Rattle.dh_lengths.specs.SharedReads.{TellsShares}
 use Rattle.dh_expressions.specs.declared.drafts.Draft.{Draft}
 use Rattle.dh_expressions.specs.declared.scenes.Around.{Around}
@@ -53,16 +54,12 @@ pub record EndsQuietly (d e : Draft) : Type 0 where
   pub no_probe : (number : ℕ) → probes_among number more ≡ 0
   pub reach_none : AllByRecursion (λ (o : Operation). access_in o.form ≡ None) more
 
--- the operations of a block are those that were added to a draft
-abbrev pub IsOwn : PlainPlan → (block : ℕ) → (old end : Draft) → Type 0
-IsOwn plan block old end = operations_in plan block ≡ drop (length old.operations.items) end.operations.items
-
 -- the block of straight commands of a phase, whose operations end so
 abbrev pub StraightsUseAsMade : Type 0
 StraightsUseAsMade =
     (scene : Scene) (plan : PlainPlan) (block : ℕ) (around : Around) (cs : List Located) (old new : Building) (end : Draft) (m : MadeEach scene around cs old new)
     → IsInLoops scene around (λ number. any_makes number cs) → AreAlong 0 cs → AllByRecursion (λ (c : Located). IsKeptAction (known_in scene) c.command) cs → HasStraight (phases_of (program_seen scene.program.now)) cs → TellsShares (program_seen scene.program.now) scene.shares.now
-    → HaveNoOperations (block_sites scene around cs old new m) old.accesses → IsOwn plan block old.draft end → EndsQuietly new.draft end
+    → HaveNoOperations (block_sites scene around cs old new m) old.accesses → IsCutFrom plan block old.draft end → EndsQuietly new.draft end
     → UsesAsMade (program_seen scene.program.now) plan block (λ number. any_makes number cs)
 
 -- the block of the test of a command
@@ -71,5 +68,5 @@ TestsUseAsMade =
     (scene : Scene) (plan : PlainPlan) (block : ℕ) (around : Around) (tested : Located) (t : Term) (old new : Building) (end : Draft) (next : ℕ) (tests : List ℕ)
     → MadeTests scene around tested.first t (paths_counted around) old new next tests → test_of (action_form_of tested.command) ≡ Some t
     → IsInLoops scene around (λ number. test_makes number tested) → tested.first + term_accesses t < 2 ^ 32 → HasTest (phases_of (program_seen scene.program.now)) tested → TellsShares (program_seen scene.program.now) scene.shares.now
-    → HaveNoOperations (test_sites scene around tested.first t) old.accesses → IsOwn plan block old.draft end → EndsQuietly new.draft end
+    → HaveNoOperations (test_sites scene around tested.first t) old.accesses → IsCutFrom plan block old.draft end → EndsQuietly new.draft end
     → UsesAsMade (program_seen scene.program.now) plan block (λ number. test_makes number tested)
