@@ -15,12 +15,13 @@ use Rattle.dh_plan.specs.declared.operations.Reach.{Reach}
 use Rattle.dh_plan.specs.Passes.{MayBind}
 use Rattle.dh_plan.specs.PlainPlans.{PlainPlan}
 use Rattle.dh_plan.specs.SoundPlans.{use_in, HasUse, IsListed, IsFormed, KeepsItsPorts, place_charge, use_charge, operations_charge, blocks_charge, plan_charge}
-use Rattle.dh_bind.specs.Drafts.{all_operations, rows_of, cell_of, flattened, AllUses}
+use Rattle.dh_bind.specs.Drafts.{all_operations, rows_of, width_of, cell_of, flattened, AllUses}
 use Rattle.dh_bind.specs.Costs.{Costs, AreCosts, memory_at, cost_on, cost, raw_use, raw_charge, use_memory, last_memory, Noted, costs_in, FitsRows}
 use Rattle.dh_bind.proofs.Begun.{ends_within}
 use Rattle.dh_bind.proofs.Charged.{use_access, place_charged, load_fits}
-use Rattle.dh_bind.proofs.Driven.{banks_fit, suits}
+use Rattle.dh_bind.proofs.Driven.{suits}
 use Rattle.dh_bind.proofs.Flat.{use_in_all, use_has_row, uses_of_blocks}
+use Rattle.dh_bind.proofs.Widths.{banks_fit}
 
 -- no memory has more than 8 ports
 pub few_ports : (table : List MemEntry) (memory : ℕ) → AllByRecursion IsMemory table → ports_at table memory ≤ 8
@@ -44,10 +45,10 @@ places_few plan formed keeps b i r bank place h listed =
     let few = few_ports plan.table r.memory formed.table.entries in
     omega (arith, below, within, loaded, few)
 
-pub fit_rows : (plan : PlainPlan) → IsFormed plan → KeepsItsPorts plan → AllUses (FitsRows (rows_of (all_operations plan.blocks))) (all_operations plan.blocks)
-fit_rows plan formed keeps = uses_of_blocks plan (FitsRows (rows_of (all_operations plan.blocks))) (λ b i r h. record {
+pub fit_rows : (plan : PlainPlan) → IsFormed plan → KeepsItsPorts plan → AllUses (FitsRows (rows_of (all_operations plan.blocks)) (width_of (all_operations plan.blocks))) (all_operations plan.blocks)
+fit_rows plan formed keeps = uses_of_blocks plan (FitsRows (rows_of (all_operations plan.blocks)) (width_of (all_operations plan.blocks))) (λ b i r h. record {
   access = use_has_row plan b i r h;
-  banks = all_both (λ x. x.0 < 64) (λ x. x.1 < 8) r.banks (banks_fit plan formed b i r h) (all_listed (λ x. x.1 < 8) r.banks (λ bank place listed. places_few plan formed keeps b i r bank place h listed));
+  banks = all_both (λ x. x.0 < width_of (all_operations plan.blocks)) (λ x. x.1 < 8) r.banks (banks_fit plan b i r h) (all_listed (λ x. x.1 < 8) r.banks (λ bank place listed. places_few plan formed keeps b i r bank place h listed));
 })
 
 -- the last memory, where all are one
@@ -145,9 +146,10 @@ all_tied access memory bank n (o ∷ os) all =
     ∙ cost_max n memory (raw_use access bank (use_in o.form)) (raw_charge access bank os))
 
 -- all of it, of tables that held nothing at first
-module _ (plan : PlainPlan) (formed : IsFormed plan) (old new : Costs) (noted : Noted (all_operations plan.blocks) old new)
+module _ (plan : PlainPlan) (formed : IsFormed plan) (old new : Costs) (noted : Noted new.wide (all_operations plan.blocks) old new)
     (none : (access : ℕ) → memory_at old.memories access ≡ None) (zeros : (cell : ℕ) → slice_index old.counts cell ≡ 0)
-    (rows : length old.memories ≡ rows_of (all_operations plan.blocks)) (cells : length old.counts ≡ length old.memories * 64) where
+    (rows : length old.memories ≡ rows_of (all_operations plan.blocks)) (cells : length old.counts ≡ length old.memories * new.wide)
+    (wide : new.wide ≡ width_of (all_operations plan.blocks)) where
   memory_is : (access : ℕ) → access < length old.memories → memory_at new.memories access ≡ last_memory access (all_operations plan.blocks) None
   memory_is access h = noted.memories access h ∙ ap (λ (m : Option ℕ). last_memory access (all_operations plan.blocks) m) (none access)
 
@@ -169,17 +171,17 @@ module _ (plan : PlainPlan) (formed : IsFormed plan) (old new : Costs) (noted : 
   past : (access : ℕ) → length old.memories ≤ access → memory_at new.memories access ≡ None
   past access h = ap flattened (slice_get_past new.memories access (let r = noted.rows in omega (arith, r, h)))
 
-  count_is : (access bank : ℕ) → access < length old.memories → bank < 64 → slice_index new.counts (cell_of access bank) ≡ raw_charge access bank (all_operations plan.blocks)
+  count_is : (access bank : ℕ) → access < length old.memories → bank < new.wide → slice_index new.counts (cell_of new.wide access bank) ≡ raw_charge access bank (all_operations plan.blocks)
   count_is access bank h below =
-      noted.counts access bank h below ∙ (ap (λ (n : ℕ). max n (raw_charge access bank (all_operations plan.blocks))) (zeros (cell_of access bank)) ∙ sym (none_most (raw_charge access bank (all_operations plan.blocks))))
+      noted.counts access bank h below ∙ (ap (λ (n : ℕ). max n (raw_charge access bank (all_operations plan.blocks))) (zeros (cell_of new.wide access bank)) ∙ sym (none_most (raw_charge access bank (all_operations plan.blocks))))
 
   charge_flat : (memory bank access : ℕ) → plan_charge plan memory bank access ≡ cost_on (memory_at new.memories access) memory (raw_charge access bank (all_operations plan.blocks))
   charge_flat memory bank access = charges_flat access memory bank plan.blocks ∙ all_tied access memory bank (memory_at new.memories access) (all_operations plan.blocks) (tied access)
 
-  pub charges_known : (memory bank access : ℕ) → bank < 64 → cost new memory bank access ≡ plan_charge plan memory bank access
+  pub charges_known : (memory bank access : ℕ) → bank < new.wide → cost new memory bank access ≡ plan_charge plan memory bank access
   charges_known memory bank access below = elim (cases_lt access (length old.memories)) [
     | inl h ↦ ap (λ (n : ℕ). cost_on (memory_at new.memories access) memory n) (count_is access bank h below) ∙ sym (charge_flat memory bank access)
-    | inr h ↦ ap (λ (m : Option ℕ). cost_on m memory (slice_index new.counts (cell_of access bank))) (past access h)
+    | inr h ↦ ap (λ (m : Option ℕ). cost_on m memory (slice_index new.counts (cell_of new.wide access bank))) (past access h)
         ∙ sym (charge_flat memory bank access ∙ ap (λ (m : Option ℕ). cost_on m memory (raw_charge access bank (all_operations plan.blocks))) (past access h))
   ]
 
@@ -193,10 +195,11 @@ module _ (plan : PlainPlan) (formed : IsFormed plan) (old new : Costs) (noted : 
   pub are_costs : AreCosts plan new
   are_costs = record {
     memories = memories_known;
+    wide = wide;
     charges = charges_known;
     inside = memories_inside;
     rows = noted.rows ∙ rows;
-    cells = noted.cells ∙ (cells ∙ ap (λ (n : ℕ). n * 64) (sym noted.rows));
+    cells = noted.cells ∙ (cells ∙ ap (λ (n : ℕ). n * new.wide) (sym noted.rows));
   }
 
 -- so of tables that begin with nothing
@@ -210,15 +213,17 @@ zero_at zero cell = refl
 zero_at (suc n) zero = refl
 zero_at (suc n) (suc cell) = zero_at n cell
 
-pub fit_rows_of : (plan : PlainPlan) → MayBind plan → (bs : List PlanBlock) → bs ≡ plan.blocks → (n : ℕ) → n ≡ rows_of (all_operations bs) → AllUses (FitsRows n) (all_operations bs)
-fit_rows_of plan may bs e n f =
-    subst (λ (k : ℕ). AllUses (FitsRows k) (all_operations bs)) (sym f)
-    (subst (λ (l : List PlanBlock). AllUses (FitsRows (rows_of (all_operations l))) (all_operations l)) (sym e) (fit_rows plan may.sound.formed may.ports))
+pub fit_rows_of : (plan : PlainPlan) → MayBind plan → (bs : List PlanBlock) → bs ≡ plan.blocks → (n : ℕ) → n ≡ rows_of (all_operations bs) → (w : ℕ) → w ≡ width_of (all_operations bs) → AllUses (FitsRows n w) (all_operations bs)
+fit_rows_of plan may bs e n f w g =
+    subst (λ (k : ℕ). AllUses (FitsRows k w) (all_operations bs)) (sym f)
+    (subst (λ (k : ℕ). AllUses (FitsRows (rows_of (all_operations bs)) k) (all_operations bs)) (sym g)
+    (subst (λ (l : List PlanBlock). AllUses (FitsRows (rows_of (all_operations l)) (width_of (all_operations l))) (all_operations l)) (sym e) (fit_rows plan may.sound.formed may.ports)))
 
-pub costs_begun : (plan : PlainPlan) → MayBind plan → (bs : List PlanBlock) → bs ≡ plan.blocks → (n : ℕ) → n ≡ rows_of (all_operations bs) → (m k : List (Option ℕ)) (c d : List ℕ) → m ≡ replicate n None → c ≡ replicate (n * 64) 0
-    → Noted (all_operations bs) (costs_in m c) (costs_in k d) → AreCosts plan (costs_in k d)
-costs_begun plan may bs e n f m k c d g h noted =
-    are_costs plan may.sound.formed (costs_in m c) (costs_in k d) (subst (λ (l : List PlanBlock). Noted (all_operations l) (costs_in m c) (costs_in k d)) e noted)
-    (λ access. ap (λ (l : List (Option ℕ)). memory_at l access) g ∙ none_at n access) (λ cell. ap (λ (l : List ℕ). slice_index l cell) h ∙ zero_at (n * 64) cell)
-    (ap (λ (l : List (Option ℕ)). length l) g ∙ (length-replicate n None ∙ (f ∙ ap (λ (l : List PlanBlock). rows_of (all_operations l)) e)))
-    (ap (λ (l : List ℕ). length l) h ∙ (length-replicate (n * 64) 0 ∙ sym (ap (λ (l : List (Option ℕ)). length l * 64) g ∙ ap (λ (x : ℕ). x * 64) (length-replicate n None))))
+pub costs_begun : (plan : PlainPlan) → MayBind plan → (bs : List PlanBlock) → bs ≡ plan.blocks → (n : ℕ) → n ≡ rows_of (all_operations bs) → (w : ℕ) → w ≡ width_of (all_operations bs) → (m k : List (Option ℕ)) (c d : List ℕ) → m ≡ replicate n None → (p : ℕ) → p ≡ n * w → c ≡ replicate p 0
+    → Noted w (all_operations bs) (costs_in w m c) (costs_in w k d) → AreCosts plan (costs_in w k d)
+costs_begun plan may bs e n f w g m k c d h p q z noted =
+    are_costs plan may.sound.formed (costs_in w m c) (costs_in w k d) (subst (λ (l : List PlanBlock). Noted w (all_operations l) (costs_in w m c) (costs_in w k d)) e noted)
+    (λ access. ap (λ (l : List (Option ℕ)). memory_at l access) h ∙ none_at n access) (λ cell. ap (λ (l : List ℕ). slice_index l cell) z ∙ zero_at p cell)
+    (ap (λ (l : List (Option ℕ)). length l) h ∙ (length-replicate n None ∙ (f ∙ ap (λ (l : List PlanBlock). rows_of (all_operations l)) e)))
+    (ap (λ (l : List ℕ). length l) z ∙ (length-replicate p 0 ∙ (q ∙ sym (ap (λ (l : List (Option ℕ)). length l * w) h ∙ ap (λ (x : ℕ). x * w) (length-replicate n None)))))
+    (g ∙ ap (λ (l : List PlanBlock). width_of (all_operations l)) e)

@@ -104,6 +104,9 @@ used_by P f (Some r) e all = all r e
 pub used_at : (P : Reach → Type 0) (os : List Operation) (k : ℕ) (o : Operation) → slice_get os k ≡ Some o → AllUses P os → UsedBy P (use_in o.form)
 used_at P os k o e all = used_by P (use_in o.form) (use_in o.form) refl (λ r h. all k o r e h)
 
+pub used_has : (P : Reach → Type 0) (u : Option Reach) (r : Reach) → Some r ≡ u → UsedBy P u → P r
+used_has P u r e h = subst (λ (x : Option Reach). UsedBy P x) (sym e) h
+
 -- an element of a list of which a loop has come so far
 pub got : {A : Type 0} (xs : List A) (i : ℕ) (x : A) → i < length xs → x ≡ get_or xs i x → slice_get xs i ≡ Some x
 got xs i x h e = slice_get_read xs (length xs) i x refl h e

@@ -2,6 +2,8 @@ pub mod Begun
 pub mod Charged
 pub mod Grants
 pub mod Flat
+pub mod Widths
+pub mod Cells
 pub mod Driven
 pub mod Paired
 pub mod Noting

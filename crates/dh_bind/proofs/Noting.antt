@@ -4,7 +4,7 @@
 use Rattle.std.proofs.Common.{◌≡◌, ℕ, suc, zero, ◌+◌, ◌*◌, ◌≤◌, ◌<◌, true, false, Bool, if◌then◌else◌, ◌⊎◌, inl, inr, max, refl, ap, sym, ◌∙◌, subst, arith, List, [], ◌∷◌, ◌++◌, length, take, get_or, Option, Some, None}
 use Rattle.std.specs.Prelude.{◌==◌, slice_index, slice_set}
 use Rattle.std.specs.List.{AllByRecursion}
-use Rattle.std.proofs.lemmas.Bool.{eq-eqb, cases_eq, cases_lt}
+use Rattle.std.proofs.lemmas.Bool.{eq-eqb, cases_eq}
 use Rattle.std.proofs.lemmas.List.{take_more, length-set, get_or-set_same, get_or-set_other}
 use Rattle.dh_plan.specs.declared.operations.Operation.{Operation}
 use Rattle.dh_plan.specs.declared.operations.PlanBlock.{PlanBlock}
@@ -12,6 +12,7 @@ use Rattle.dh_plan.specs.declared.operations.Reach.{Reach}
 use Rattle.dh_plan.specs.SoundPlans.{use_in, place_charge}
 use Rattle.dh_bind.specs.Drafts.{all_operations, cell_of, flattened, AllUses}
 use Rattle.dh_bind.specs.Costs.{Costs, memory_at, raw_use, raw_charge, use_memory, last_memory, Noted, costs_in, Raised, FitsListed, FitsRows}
+use Rattle.dh_bind.proofs.Cells.{away}
 use Rattle.dh_bind.proofs.Driven.{get_set_same, get_set_other, is_not}
 use Rattle.dh_bind.proofs.Flat.{got, uses_in_block}
 
@@ -56,9 +57,9 @@ raise_same n o p q x e f = grind (arith, e, f)
 raise_none : (n o p q : ℕ) → n ≡ max o p → q ≡ 0 → n ≡ max o (max p q)
 raise_none n o p q e f = grind (arith, e, f)
 
-pub raise_more : (row : ℕ) (bs : List (ℕ × ℕ)) (b : ℕ × ℕ) (old mid : List ℕ) → row + 64 ≤ length old → b.0 < 64 → Raised row bs old mid
-    → Raised row (bs ++ b ∷ []) old (slice_set mid (row + b.0) (max (slice_index mid (row + b.0)) (b.1 + 1)))
-raise_more row bs b old mid long few so = record {
+pub raise_more : (row wide : ℕ) (bs : List (ℕ × ℕ)) (b : ℕ × ℕ) (old mid : List ℕ) → row + wide ≤ length old → b.0 < wide → Raised row wide bs old mid
+    → Raised row wide (bs ++ b ∷ []) old (slice_set mid (row + b.0) (max (slice_index mid (row + b.0)) (b.1 + 1)))
+raise_more row wide bs b old mid long few so = record {
   own = λ bank below. elim (cases_eq bank b.0) [
     | inl e ↦ (let s : slice_index (slice_set mid (row + b.0) (max (slice_index mid (row + b.0)) (b.1 + 1))) (row + bank) ≡ max (max (slice_index old (row + bank)) (place_charge bank bs)) (b.1 + 1) =
         ap (λ (k : ℕ). slice_index (slice_set mid (row + b.0) (max (slice_index mid (row + b.0)) (b.1 + 1))) (row + k)) e
@@ -72,16 +73,16 @@ raise_more row bs b old mid long few so = record {
         raise_none _ (slice_index old (row + bank)) (place_charge bank bs) (place_charge bank (b ∷ [])) s (alone_other bank b (λ f. differs (sym f)))
         ∙ ap (λ (n : ℕ). max (slice_index old (row + bank)) n) (sym (places_joined bank bs (b ∷ []))))
   ];
-  other = λ cell away. get_or-set_other mid (row + b.0) cell (max (slice_index mid (row + b.0)) (b.1 + 1)) 0 (outside row b.0 cell few away) ∙ so.other cell away;
+  other = λ cell away. get_or-set_other mid (row + b.0) cell (max (slice_index mid (row + b.0)) (b.1 + 1)) 0 (outside wide row b.0 cell few away) ∙ so.other cell away;
   cells = length-set mid (row + b.0) (max (slice_index mid (row + b.0)) (b.1 + 1)) ∙ so.cells;
 }
   where
-    outside : (r k cell : ℕ) → k < 64 → (cell < r) ⊎ (r + 64 ≤ cell) → cell ≡ r + k → ⊥
-    outside r k cell few (inl h) e = omega (arith, few, h, e)
-    outside r k cell few (inr h) e = omega (arith, few, h, e)
+    outside : (w r k cell : ℕ) → k < w → (cell < r) ⊎ (r + w ≤ cell) → cell ≡ r + k → ⊥
+    outside w r k cell few (inl h) e = omega (arith, few, h, e)
+    outside w r k cell few (inr h) e = omega (arith, few, h, e)
 
-pub raise_none_yet : (row : ℕ) (old : List ℕ) → Raised row [] old old
-raise_none_yet row old = record { own = λ bank below. max_none (slice_index old (row + bank)); other = λ cell away. refl; cells = refl }
+pub raise_none_yet : (row wide : ℕ) (old : List ℕ) → Raised row wide [] old old
+raise_none_yet row wide old = record { own = λ bank below. max_none (slice_index old (row + bank)); other = λ cell away. refl; cells = refl }
 
 -- operations one after the other
 pub memory_joined : (access : ℕ) (xs ys : List Operation) (m : Option ℕ) → last_memory access (xs ++ ys) m ≡ last_memory access ys (last_memory access xs m)
@@ -97,24 +98,24 @@ raw_joined access bank (o ∷ xs) ys =
     ap (λ (n : ℕ). max (raw_use access bank (use_in o.form)) n) (raw_joined access bank xs ys)
     ∙ max_regroup (raw_use access bank (use_in o.form)) (raw_charge access bank xs) (raw_charge access bank ys)
 
-pub noted_more : (xs ys : List Operation) (a b c : Costs) → Noted xs a b → Noted ys b c → Noted (xs ++ ys) a c
-noted_more xs ys a b c x y = record {
+pub noted_more : (wide : ℕ) (xs ys : List Operation) (a b c : Costs) → Noted wide xs a b → Noted wide ys b c → Noted wide (xs ++ ys) a c
+noted_more wide xs ys a b c x y = record {
   memories = λ access h. y.memories access (let r = x.rows in omega (arith, r, h)) ∙ (ap (λ (m : Option ℕ). last_memory access ys m) (x.memories access h) ∙ sym (memory_joined access xs ys (memory_at a.memories access)));
   counts = λ access bank h below.
       y.counts access bank (let r = x.rows in omega (arith, r, h)) below
       ∙ (ap (λ (n : ℕ). max n (raw_charge access bank ys)) (x.counts access bank h below)
-      ∙ (sym (max_regroup (slice_index a.counts (cell_of access bank)) (raw_charge access bank xs) (raw_charge access bank ys))
-      ∙ ap (λ (n : ℕ). max (slice_index a.counts (cell_of access bank)) n) (sym (raw_joined access bank xs ys))));
+      ∙ (sym (max_regroup (slice_index a.counts (cell_of wide access bank)) (raw_charge access bank xs) (raw_charge access bank ys))
+      ∙ ap (λ (n : ℕ). max (slice_index a.counts (cell_of wide access bank)) n) (sym (raw_joined access bank xs ys))));
   rows = y.rows ∙ x.rows;
   cells = y.cells ∙ x.cells;
 }
 
-pub noted_none : (a : Costs) → Noted [] a a
-noted_none a = record { memories = λ access h. refl; counts = λ access bank h below. max_none (slice_index a.counts (cell_of access bank)); rows = refl; cells = refl }
+pub noted_none : (wide : ℕ) (a : Costs) → Noted wide [] a a
+noted_none wide a = record { memories = λ access h. refl; counts = λ access bank h below. max_none (slice_index a.counts (cell_of wide access bank)); rows = refl; cells = refl }
 
-pub noted_turn : (os : List Operation) (i : ℕ) (o : Operation) (a b c : Costs) → i < length os → o ≡ get_or os i o → Noted (take i os) a b → Noted (o ∷ []) b c → Noted (take (i + 1) os) a c
-noted_turn os i o a b c h e x y =
-    subst (λ (l : List Operation). Noted l a c) (sym (take_more os i o h ∙ ap (λ (p : Operation). take i os ++ p ∷ []) (sym e))) (noted_more (take i os) (o ∷ []) a b c x y)
+pub noted_turn : (wide : ℕ) (os : List Operation) (i : ℕ) (o : Operation) (a b c : Costs) → i < length os → o ≡ get_or os i o → Noted wide (take i os) a b → Noted wide (o ∷ []) b c → Noted wide (take (i + 1) os) a c
+noted_turn wide os i o a b c h e x y =
+    subst (λ (l : List Operation). Noted wide l a c) (sym (take_more os i o h ∙ ap (λ (p : Operation). take i os ++ p ∷ []) (sym e))) (noted_more wide (take i os) (o ∷ []) a b c x y)
 
 all_operations_joined : (xs ys : List PlanBlock) → all_operations (xs ++ ys) ≡ all_operations xs ++ all_operations ys
 all_operations_joined [] ys = refl
@@ -128,19 +129,19 @@ nothing_behind : (l : List Operation) → l ++ [] ≡ l
 nothing_behind [] = refl
 nothing_behind (x ∷ l) = ap (λ (m : List Operation). x ∷ m) (nothing_behind l)
 
-pub noted_block : (bs : List PlanBlock) (i : ℕ) (p : PlanBlock) (os : List Operation) (a b c : Costs) → i < length bs → p ≡ get_or bs i p → os ≡ p.operations
-    → Noted (all_operations (take i bs)) a b → Noted os b c → Noted (all_operations (take (i + 1) bs)) a c
-noted_block bs i p os a b c h e f x y =
+pub noted_block : (wide : ℕ) (bs : List PlanBlock) (i : ℕ) (p : PlanBlock) (os : List Operation) (a b c : Costs) → i < length bs → p ≡ get_or bs i p → os ≡ p.operations
+    → Noted wide (all_operations (take i bs)) a b → Noted wide os b c → Noted wide (all_operations (take (i + 1) bs)) a c
+noted_block wide bs i p os a b c h e f x y =
     let more : all_operations (take (i + 1) bs) ≡ all_operations (take i bs) ++ os =
     ap (λ (l : List PlanBlock). all_operations l) (take_more bs i p h ∙ ap (λ (q : PlanBlock). take i bs ++ q ∷ []) (sym e))
     ∙ (all_operations_joined (take i bs) (p ∷ []) ∙ ap (λ (l : List Operation). all_operations (take i bs) ++ l) (nothing_behind p.operations ∙ sym f)) in
-    subst (λ (l : List Operation). Noted l a c) (sym more) (noted_more (all_operations (take i bs)) os a b c x y)
+    subst (λ (l : List Operation). Noted wide l a c) (sym more) (noted_more wide (all_operations (take i bs)) os a b c x y)
 
 -- one operation
-pub noted_unused : (o : Operation) (a : Costs) → None ≡ use_in o.form → Noted (o ∷ []) a a
-noted_unused o a e = record {
+pub noted_unused : (wide : ℕ) (o : Operation) (a : Costs) → None ≡ use_in o.form → Noted wide (o ∷ []) a a
+noted_unused wide o a e = record {
   memories = λ access h. ap (λ (u : Option Reach). use_memory access u (memory_at a.memories access)) e;
-  counts = λ access bank h below. max_none (slice_index a.counts (cell_of access bank)) ∙ ap (λ (n : ℕ). max (slice_index a.counts (cell_of access bank)) n) (max_none 0 ∙ ap (λ (u : Option Reach). max (raw_use access bank u) 0) e);
+  counts = λ access bank h below. max_none (slice_index a.counts (cell_of wide access bank)) ∙ ap (λ (n : ℕ). max (slice_index a.counts (cell_of wide access bank)) n) (max_none 0 ∙ ap (λ (u : Option Reach). max (raw_use access bank u) 0) e);
   rows = refl;
   cells = refl;
 }
@@ -153,15 +154,6 @@ memory_of_use r memories access inside = elim (cases_eq access r.access) [
       ∙ sym (ap (λ (t : Bool). if t then Some r.memory else memory_at memories access) (is_not r.access access (λ f. differs (sym f))))
 ]
 
-away : (a k b : ℕ) → b < 64 → (k ≡ a → ⊥) → (k * 64 + b < a * 64) ⊎ (a * 64 + 64 ≤ k * 64 + b)
-away a k b few differs = elim (cases_lt k a) [
-  | inl less ↦ inl (omega (arith, few, less))
-  | inr more ↦ inr (let strict : a < k = above a k more differs in omega (arith, few, strict))
-]
-  where
-    above : (m n : ℕ) → m ≤ n → (n ≡ m → ⊥) → m < n
-    above m n more none = elim (cases_eq n m) [ inl e ↦ absurd (none e) | inr f ↦ grind (arith, more, f) ]
-
 own_one : (t : Bool) (n : ℕ) → t ≡ true → n ≡ max (if t then n else 0) 0
 own_one true n f = max_none n
 own_one false n f = absurd (let g : false ≡ true = f in cc)
@@ -170,23 +162,23 @@ other_one : (t : Bool) (n : ℕ) → t ≡ false → 0 ≡ max (if t then n else
 other_one true n f = absurd (let g : true ≡ false = f in cc)
 other_one false n f = max_none 0
 
-count_of_use : (r : Reach) (counts next : List ℕ) → Raised (r.access * 64) r.banks counts next → (access bank : ℕ) → bank < 64
-    → slice_index next (cell_of access bank) ≡ max (slice_index counts (cell_of access bank)) (max (raw_use access bank (Some r)) 0)
-count_of_use r counts next so access bank below = elim (cases_eq access r.access) [
-  | inl e ↦ ap (λ (k : ℕ). slice_index next (cell_of k bank)) e
+count_of_use : (wide : ℕ) (r : Reach) (counts next : List ℕ) → Raised (r.access * wide) wide r.banks counts next → (access bank : ℕ) → bank < wide
+    → slice_index next (cell_of wide access bank) ≡ max (slice_index counts (cell_of wide access bank)) (max (raw_use access bank (Some r)) 0)
+count_of_use wide r counts next so access bank below = elim (cases_eq access r.access) [
+  | inl e ↦ ap (λ (k : ℕ). slice_index next (cell_of wide k bank)) e
       ∙ (so.own bank below
-      ∙ (ap (λ (n : ℕ). max (slice_index counts (r.access * 64 + bank)) n) (own_one (r.access == access) (place_charge bank r.banks) (eq-eqb r.access access (sym e)))
-      ∙ ap (λ (k : ℕ). max (slice_index counts (cell_of k bank)) (max (raw_use access bank (Some r)) 0)) (sym e)))
-  | inr differs ↦ so.other (cell_of access bank) (away r.access access bank below differs)
-      ∙ (max_none (slice_index counts (cell_of access bank))
-      ∙ ap (λ (n : ℕ). max (slice_index counts (cell_of access bank)) n) (other_one (r.access == access) (place_charge bank r.banks) (is_not r.access access (λ f. differs (sym f)))))
+      ∙ (ap (λ (n : ℕ). max (slice_index counts (r.access * wide + bank)) n) (own_one (r.access == access) (place_charge bank r.banks) (eq-eqb r.access access (sym e)))
+      ∙ ap (λ (k : ℕ). max (slice_index counts (cell_of wide k bank)) (max (raw_use access bank (Some r)) 0)) (sym e)))
+  | inr differs ↦ so.other (cell_of wide access bank) (away wide r.access access bank below differs)
+      ∙ (max_none (slice_index counts (cell_of wide access bank))
+      ∙ ap (λ (n : ℕ). max (slice_index counts (cell_of wide access bank)) n) (other_one (r.access == access) (place_charge bank r.banks) (is_not r.access access (λ f. differs (sym f)))))
 ]
 
-pub noted_used : (o : Operation) (r : Reach) (memories : List (Option ℕ)) (counts next : List ℕ) → Some r ≡ use_in o.form → r.access < length memories → Raised (r.access * 64) r.banks counts next
-    → Noted (o ∷ []) (costs_in memories counts) (costs_in (slice_set memories r.access (Some r.memory)) next)
-noted_used o r memories counts next e inside so = record {
+pub noted_used : (wide : ℕ) (o : Operation) (r : Reach) (memories : List (Option ℕ)) (counts next : List ℕ) → Some r ≡ use_in o.form → r.access < length memories → Raised (r.access * wide) wide r.banks counts next
+    → Noted wide (o ∷ []) (costs_in wide memories counts) (costs_in wide (slice_set memories r.access (Some r.memory)) next)
+noted_used wide o r memories counts next e inside so = record {
   memories = λ access h. memory_of_use r memories access inside ∙ ap (λ (u : Option Reach). use_memory access u (memory_at memories access)) e;
-  counts = λ access bank h below. count_of_use r counts next so access bank below ∙ ap (λ (u : Option Reach). max (slice_index counts (cell_of access bank)) (max (raw_use access bank u) 0)) e;
+  counts = λ access bank h below. count_of_use wide r counts next so access bank below ∙ ap (λ (u : Option Reach). max (slice_index counts (cell_of wide access bank)) (max (raw_use access bank u) 0)) e;
   rows = length-set memories r.access (Some r.memory);
   cells = so.cells;
 }
@@ -197,16 +189,27 @@ all_get P [] i d all h = absurd (let k = h in omega (arith, k))
 all_get P (x ∷ xs) zero d all h = all.0
 all_get P (x ∷ xs) (suc i) d all h = all_get P xs i d all.1 (let k = h in omega (arith, k))
 
-pub raise_turn : (row : ℕ) (bs : List (ℕ × ℕ)) (i : ℕ) (old mid : List ℕ) (n : ℕ) → i < length bs → row + 64 ≤ length old → AllByRecursion FitsListed bs → Raised row (take i bs) old mid
+raise_one : (row wide : ℕ) (bs : List (ℕ × ℕ)) (i : ℕ) (old mid : List ℕ) (n : ℕ) → i < length bs → row + wide ≤ length old → AllByRecursion (FitsListed wide) bs → Raised row wide (take i bs) old mid
     → n ≡ max (slice_index mid (row + (get_or bs i (0, 0)).0)) ((get_or bs i (0, 0)).1 + 1)
-    → Raised row (take (i + 1) bs) old (slice_set mid (row + (get_or bs i (0, 0)).0) n)
-raise_turn row bs i old mid n h long fit so e =
-    let next = raise_more row (take i bs) (get_or bs i (0, 0)) old mid long (all_get FitsListed bs i (0, 0) fit h).0 so in
-    subst (λ (k : ℕ). Raised row (take (i + 1) bs) old (slice_set mid (row + (get_or bs i (0, 0)).0) k)) (sym e)
-    (subst (λ (l : List (ℕ × ℕ)). Raised row l old (slice_set mid (row + (get_or bs i (0, 0)).0) (max (slice_index mid (row + (get_or bs i (0, 0)).0)) ((get_or bs i (0, 0)).1 + 1)))) (sym (take_more bs i (0, 0) h)) next)
+    → Raised row wide (take (i + 1) bs) old (slice_set mid (row + (get_or bs i (0, 0)).0) n)
+raise_one row wide bs i old mid n h long fit so e =
+    let next = raise_more row wide (take i bs) (get_or bs i (0, 0)) old mid long (all_get (FitsListed wide) bs i (0, 0) fit h).0 so in
+    subst (λ (k : ℕ). Raised row wide (take (i + 1) bs) old (slice_set mid (row + (get_or bs i (0, 0)).0) k)) (sym e)
+    (subst (λ (l : List (ℕ × ℕ)). Raised row wide l old (slice_set mid (row + (get_or bs i (0, 0)).0) (max (slice_index mid (row + (get_or bs i (0, 0)).0)) ((get_or bs i (0, 0)).1 + 1)))) (sym (take_more bs i (0, 0) h)) next)
+
+-- where the banks are read from a slice, and the row's place was computed
+pub raise_turn : (row wide place : ℕ) (bs ls : List (ℕ × ℕ)) (i : ℕ) (old mid : List ℕ) (n : ℕ) → ls ≡ bs → place ≡ row → i < length ls → row + wide ≤ length old → AllByRecursion (FitsListed wide) bs → Raised row wide (take i bs) old mid
+    → n ≡ max (slice_index mid (place + (get_or ls i (0, 0)).0)) ((get_or ls i (0, 0)).1 + 1)
+    → Raised row wide (take (i + 1) bs) old (slice_set mid (place + (get_or ls i (0, 0)).0) n)
+raise_turn row wide place bs ls i old mid n same at h long fit so e =
+    subst (λ (k : ℕ). Raised row wide (take (i + 1) bs) old (slice_set mid (k + (get_or ls i (0, 0)).0) n)) (sym at)
+    (subst (λ (l : List (ℕ × ℕ)). Raised row wide (take (i + 1) bs) old (slice_set mid (row + (get_or l i (0, 0)).0) n)) (sym same)
+    (raise_one row wide bs i old mid n (subst (λ (l : List (ℕ × ℕ)). i < length l) same h) long fit so
+    (e ∙ (ap (λ (k : ℕ). max (slice_index mid (k + (get_or ls i (0, 0)).0)) ((get_or ls i (0, 0)).1 + 1)) at
+    ∙ ap (λ (l : List (ℕ × ℕ)). max (slice_index mid (row + (get_or l i (0, 0)).0)) ((get_or l i (0, 0)).1 + 1)) same))))
 
 -- what one turn over blocks needs
-pub fits_block : (m n : ℕ) → n ≡ m → (bs : List PlanBlock) → AllUses (FitsRows m) (all_operations bs) → (i : ℕ) (p : PlanBlock) → i < length bs → p ≡ get_or bs i p → (os : List Operation) → os ≡ p.operations
-    → AllUses (FitsRows n) os
-fits_block m n e bs all i p h f os g =
-    subst (λ (k : ℕ). AllUses (FitsRows k) os) (sym e) (subst (λ (l : List Operation). AllUses (FitsRows m) l) (sym g) (uses_in_block (FitsRows m) bs i p (got bs i p h f) all))
+pub fits_block : (m n wide : ℕ) → n ≡ m → (bs : List PlanBlock) → AllUses (FitsRows m wide) (all_operations bs) → (i : ℕ) (p : PlanBlock) → i < length bs → p ≡ get_or bs i p → (os : List Operation) → os ≡ p.operations
+    → AllUses (FitsRows n wide) os
+fits_block m n wide e bs all i p h f os g =
+    subst (λ (k : ℕ). AllUses (FitsRows k wide) os) (sym e) (subst (λ (l : List Operation). AllUses (FitsRows m wide) l) (sym g) (uses_in_block (FitsRows m wide) bs i p (got bs i p h f) all))

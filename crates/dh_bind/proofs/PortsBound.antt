@@ -1,7 +1,7 @@
 -- The ports of a whole plan. A walk that began with nothing spent grants each access, on each bank that it charges,
 -- ports from where it begins; the charges of the walk's tables are those of the plan. No walk finds a bank full, since
 -- no bank is loaded beyond its ports.
-use Rattle.std.proofs.Common.{◌≡◌, ℕ, suc, zero, ◌+◌, ◌*◌, ◌<◌, inl, inr, refl, ap, sym, ◌∙◌, subst, arith, List, [], ◌∷◌, length, map, replicate, Option, Some, None, Err}
+use Rattle.std.proofs.Common.{◌≡◌, ℕ, suc, zero, ◌+◌, ◌*◌, ◌≤◌, ◌<◌, refl, ap, sym, ◌∙◌, subst, arith, List, [], ◌∷◌, length, map, replicate, Option, Some, None, Err}
 use Rattle.std.specs.Prelude.{slice_index}
 use Rattle.std.specs.List.{AllByRecursion}
 use Rattle.std.proofs.lemmas.List.{length-replicate, length-map}
@@ -19,7 +19,7 @@ use Rattle.dh_plan.specs.SeenPlans.{plan_seen, meets_seen}
 use Rattle.dh_plan.specs.SoundPlans.{HasUse, IsListed, plan_charge}
 use Rattle.dh_bind.specs.Begins.{begin}
 use Rattle.dh_bind.specs.Costs.{Costs, AreCosts, cost, last_memory}
-use Rattle.dh_bind.specs.Drafts.{Draft, all_operations, first_at, uses_of, all_pairs, AllUses, PortsFit, FitsPair, rows_of, accesses_of}
+use Rattle.dh_bind.specs.Drafts.{Draft, all_operations, first_at, uses_of, all_pairs, AllUses, PortsFit, FitsPair, rows_of, accesses_of, width_of, width_in}
 use Rattle.dh_bind.specs.Fresh.{fresh}
 use Rattle.dh_bind.specs.Ledgers.{spent_at, ports_in, banks_in, AreMarks}
 use Rattle.dh_bind.specs.Standings.{Standing, Walked, Overdrawn, Walks, IsStanding, IsBegun, ArePlaced}
@@ -28,15 +28,10 @@ use Rattle.dh_bind.specs.declared.walker.Stop.{Stop}
 use Rattle.dh_bind.specs.declared.walker.Stop.TheVariants as stop
 use Rattle.dh_bind.proofs.Charged.{use_access, place_charged, load_fits}
 use Rattle.dh_bind.proofs.CostsKnown.{few_ports, all_listed, last_finds}
-use Rattle.dh_bind.proofs.Driven.{banks_fit, port_at}
+use Rattle.dh_bind.proofs.Driven.{listed_fits, port_at}
 use Rattle.dh_bind.proofs.Flat.{use_in_all, uses_of_blocks, long_all}
+use Rattle.dh_bind.proofs.Widths.{banks_fit}
 use Rattle.dh_bind.proofs.Grants.{ends_fit, are_granted, are_ports, first_port}
-
--- a listed bank is one that all listed are
-listed_few : (bank place : ℕ) (bs : List (ℕ × ℕ)) → AllByRecursion (λ x. x.0 < 64) bs → IsListed bank place bs → bank < 64
-listed_few bank place [] every h = absurd h
-listed_few bank place (b ∷ bs) every (inl h) = subst (λ (n : ℕ). n < 64) h.0 every.0
-listed_few bank place (b ∷ bs) every (inr h) = listed_few bank place bs every.1 h
 
 -- all uses of an access are of one memory
 abbrev pub number_of : Option ℕ → ℕ
@@ -52,7 +47,7 @@ memory_in_is plan may b i r h =
     (uses_of_blocks plan (λ q. q.access ≡ r.access → q.memory ≡ r.memory) (λ c j q k e. may.sound.formed.one_memory c b j i q r (use_access plan c j q k) (use_access plan b i r h) e)))
 
 module _ (plan : Plan) (may : MayBind (plan_seen plan)) (start end : Standing) (begun : IsBegun plan start) where
-  costs_are : (memory bank : ℕ) → bank < 64 → cost start.costs memory bank ≡ plan_charge (plan_seen plan) memory bank
+  costs_are : (memory bank : ℕ) → bank < start.costs.wide → cost start.costs memory bank ≡ plan_charge (plan_seen plan) memory bank
   costs_are memory bank few = λ i access. begun.costs.charges memory bank access few i
 
   -- no bank is full
@@ -66,18 +61,23 @@ module _ (plan : Plan) (may : MayBind (plan_seen plan)) (start end : Standing) (
       omega (arith, beyond, ports, none, e, fits)
 
   module _ (walked : Walked start.costs (meets_seen plan.meets) start end) where
+    wide_is : start.costs.wide ≡ width_of (all_operations plan.blocks)
+    wide_is = begun.costs.wide
+
     -- the first port of an access
     pub first_of : (b i : ℕ) (r : Reach) (bank place : ℕ) → HasUse (plan_seen plan) b i r → IsListed bank place r.banks
-        → first_at end.draft.firsts r.access bank ≡ Some (begin (plan_charge (plan_seen plan) r.memory bank) r.access (meets_seen plan.meets))
+        → first_at (width_of (all_operations plan.blocks)) end.draft.firsts r.access bank ≡ Some (begin (plan_charge (plan_seen plan) r.memory bank) r.access (meets_seen plan.meets))
     first_of b i r bank place h listed =
-        let few = listed_few bank place r.banks (banks_fit (plan_seen plan) may.sound.formed b i r h) listed in
+        let few : bank < start.costs.wide =
+        subst (λ (n : ℕ). bank < n) (sym wide_is) (listed_fits (width_of (all_operations plan.blocks)) bank place r.banks (banks_fit (plan_seen plan) b i r h) listed) in
         let charged : 0 < cost start.costs r.memory bank r.access =
         (let e = begun.costs.charges r.memory bank r.access few in let k = place_charged (plan_seen plan) b i r bank place h listed in omega (arith, e, k)) in
         let none = begun.spent r.memory bank in
         let e : begin (cost start.costs r.memory bank) r.access (meets_seen plan.meets) ≡ begin (plan_charge (plan_seen plan) r.memory bank) r.access (meets_seen plan.meets) = ap (λ (f : ℕ → ℕ). begin f r.access (meets_seen plan.meets)) (costs_are r.memory bank few) in
         let k : spent_at start.ledgers r.memory bank + begin (cost start.costs r.memory bank) r.access (meets_seen plan.meets) ≡ begin (plan_charge (plan_seen plan) r.memory bank) r.access (meets_seen plan.meets) = omega (arith, none, e) in
-        walked.granted.own may.sound.formed.distinct r.access bank r.memory few (may.sound.formed.met b i r (use_access (plan_seen plan) b i r h)) (begun.costs.memories b i r h) charged
-        ∙ ap (λ (n : ℕ). Some n) k
+        ap (λ (n : ℕ). first_at n end.draft.firsts r.access bank) (sym wide_is)
+        ∙ (walked.granted.own may.sound.formed.distinct r.access bank r.memory few (may.sound.formed.met b i r (use_access (plan_seen plan) b i r h)) (begun.costs.memories b i r h) charged
+        ∙ ap (λ (n : ℕ). Some n) k)
 
     plan_is : end.draft.plan ≡ plan
     plan_is = walked.keeps.plan ∙ begun.plan_is
@@ -85,9 +85,9 @@ module _ (plan : Plan) (may : MayBind (plan_seen plan)) (start end : Standing) (
     some_is : (a b : ℕ) → Some a ≡ Some b → a ≡ b
     some_is a b e = cc
 
-    pair_fits : (b i : ℕ) (r : Reach) (bank place : ℕ) → HasUse (plan_seen plan) b i r → IsListed bank place r.banks → FitsPair end.draft.firsts r.access (bank, place)
+    pair_fits : (b i : ℕ) (r : Reach) (bank place : ℕ) → HasUse (plan_seen plan) b i r → IsListed bank place r.banks → FitsPair (width_of (all_operations plan.blocks)) end.draft.firsts r.access (bank, place)
     pair_fits b i r bank place h listed = record {
-      bank = listed_few bank place r.banks (banks_fit (plan_seen plan) may.sound.formed b i r h) listed;
+      bank = listed_fits (width_of (all_operations plan.blocks)) bank place r.banks (banks_fit (plan_seen plan) b i r h) listed;
       port = λ first e.
           (let f = some_is _ _ (sym (first_of b i r bank place h listed) ∙ e) in
           let g = ends_fit (plan_seen plan) may.sound.formed may.ports (memory_in (plan_seen plan)) (memory_in_is (plan_seen plan) may) b i r bank h in
@@ -98,24 +98,24 @@ module _ (plan : Plan) (may : MayBind (plan_seen plan)) (start end : Standing) (
           omega (arith, f, g, j, k, l));
     }
 
-    fit_here : (p : Plan) → p ≡ plan → AllUses (λ r. AllByRecursion (FitsPair end.draft.firsts r.access) r.banks) (all_operations p.blocks)
-    fit_here p e = subst (λ (q : Plan). AllUses (λ r. AllByRecursion (FitsPair end.draft.firsts r.access) r.banks) (all_operations q.blocks)) (sym e)
-        (uses_of_blocks (plan_seen plan) (λ r. AllByRecursion (FitsPair end.draft.firsts r.access) r.banks)
-        (λ b i r h. all_listed (FitsPair end.draft.firsts r.access) r.banks (λ bank place listed. pair_fits b i r bank place h listed)))
+    fit_here : (p : Plan) → p ≡ plan → AllUses (λ r. AllByRecursion (FitsPair (width_of (all_operations p.blocks)) end.draft.firsts r.access) r.banks) (all_operations p.blocks)
+    fit_here p e = subst (λ (q : Plan). AllUses (λ r. AllByRecursion (FitsPair (width_of (all_operations q.blocks)) end.draft.firsts r.access) r.banks) (all_operations q.blocks)) (sym e)
+        (uses_of_blocks (plan_seen plan) (λ r. AllByRecursion (FitsPair (width_of (all_operations plan.blocks)) end.draft.firsts r.access) r.banks)
+        (λ b i r h. all_listed (FitsPair (width_of (all_operations plan.blocks)) end.draft.firsts r.access) r.banks (λ bank place listed. pair_fits b i r bank place h listed)))
 
     pub ports_fit : PortsFit end.draft
     ports_fit = fit_here end.draft.plan plan_is
 
-    long_pairs : (f : List (Option ℕ)) (os : List Operation) → length (all_pairs f os) ≡ length os
-    long_pairs f [] = refl
-    long_pairs f (o ∷ os) = let e = long_pairs f os in omega (arith, e)
+    long_pairs : (wide : ℕ) (f : List (Option ℕ)) (os : List Operation) → length (all_pairs wide f os) ≡ length os
+    long_pairs wide f [] = refl
+    long_pairs wide f (o ∷ os) = let e = long_pairs wide f os in omega (arith, e)
 
     abbrev drafted : Draft
     drafted = record { plan = plan; firsts = end.draft.firsts }
 
-    placed_here : (p : Plan) → p ≡ plan → ArePlaced (plan_seen plan) (all_pairs end.draft.firsts (all_operations p.blocks))
-    placed_here p e = subst (λ (q : Plan). ArePlaced (plan_seen plan) (all_pairs end.draft.firsts (all_operations q.blocks))) (sym e) (record {
-      long = long_pairs end.draft.firsts (all_operations plan.blocks) ∙ long_all plan.blocks;
+    placed_here : (p : Plan) → p ≡ plan → ArePlaced (plan_seen plan) (all_pairs (width_of (all_operations p.blocks)) end.draft.firsts (all_operations p.blocks))
+    placed_here p e = subst (λ (q : Plan). ArePlaced (plan_seen plan) (all_pairs (width_of (all_operations q.blocks)) end.draft.firsts (all_operations q.blocks))) (sym e) (record {
+      long = long_pairs (width_of (all_operations plan.blocks)) end.draft.firsts (all_operations plan.blocks) ∙ long_all plan.blocks;
       placed = λ b i r bank place h listed.
           port_at drafted may.sound.formed b i bank place (begin (plan_charge (plan_seen plan) r.memory bank) r.access (meets_seen plan.meets)) r h listed (first_of b i r bank place h listed);
     })
@@ -159,16 +159,20 @@ module _ (plan : PlainPlan) (may : MayBind plan) (u : Uses) (placed : ArePlaced 
   all_ports = are_ports plan may.sound.formed may.ports (memory_in plan) (memory_in_is plan may) u used_at
 
 -- a walk of which nothing is done yet
-pub new_stands : (plan : Plan) (c : Costs) → AreCosts (plan_seen plan) c → (d : Draft) → d.plan ≡ plan → d.firsts ≡ replicate (accesses_of d * 64) None → (ledgers : List Spending) (table : List MemEntry) → ledgers ≡ map fresh table → table ≡ plan.table
+pub new_stands : (plan : Plan) → width_of (all_operations plan.blocks) ≤ 64 → (c : Costs) → AreCosts (plan_seen plan) c → (d : Draft) → d.plan ≡ plan → d.firsts ≡ replicate (accesses_of d * width_in d) None → (ledgers : List Spending) (table : List MemEntry) → ledgers ≡ map fresh table → table ≡ plan.table
     → (log : List Mark) → log ≡ [] → IsStanding (record { costs = c; ledgers = ledgers; log = log; draft = d })
-new_stands plan c costs d of none ledgers table e f log g =
+new_stands plan few c costs d of none ledgers table e f log g =
     let all_ledgers : ledgers ≡ map fresh plan.table = e ∙ ap (λ (t : List MemEntry). map fresh t) f in
     let long : length ledgers ≡ length plan.table = ap (λ (l : List Spending). length l) all_ledgers ∙ length-map plan.table fresh in
     let rows : length c.memories ≡ accesses_of d = costs.rows ∙ ap (λ (p : Plan). rows_of (all_operations p.blocks)) (sym of) in
+    let wide : c.wide ≡ width_in d = costs.wide ∙ ap (λ (p : Plan). width_of (all_operations p.blocks)) (sym of) in
     record {
+      wide = wide;
+      few = subst (λ (n : ℕ). n ≤ 64) (sym costs.wide) few;
       cells = costs.cells;
       rows = rows;
-      firsts = ap (λ (l : List (Option ℕ)). length l) none ∙ (length-replicate {A = Option ℕ} (accesses_of d * 64) None ∙ ap (λ (n : ℕ). n * 64) (sym rows));
+      firsts = ap (λ (l : List (Option ℕ)). length l) none ∙ (length-replicate {A = Option ℕ} (accesses_of d * width_in d) None
+          ∙ (ap (λ (n : ℕ). n * width_in d) (sym rows) ∙ ap (λ (n : ℕ). length c.memories * n) (sym wide)));
       inside = λ access memory h. (let k = costs.inside access memory h in omega (arith, k, long));
       banks = λ memory h. ap (λ (l : List Spending). banks_in l memory) all_ledgers ∙ fresh_banks plan.table memory (let k = h in omega (arith, k, long));
       marks = subst (λ (l : List Mark). AreMarks ledgers l) (sym g) tt;

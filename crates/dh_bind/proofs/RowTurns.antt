@@ -79,14 +79,17 @@ below_same b n k differs = elim (cases_lt b n) [
     above : (m l : ℕ) → l ≤ m → (m ≡ l → ⊥) → l + 1 ≤ m
     above m l more none = grind (arith, more, none)
 
-module _ (a memory n : ℕ) (start now next : Standing) (of_memory : memory_at start.costs.memories a ≡ Some memory) (few : n < 64) (so : RowCharged a memory n start now) (turn : BankCharged a memory n now next) where
+module _ (a memory n : ℕ) (start now next : Standing) (of_memory : memory_at start.costs.memories a ≡ Some memory) (few : n < start.costs.wide) (so : RowCharged a memory n start now) (charged : BankCharged now.costs.wide a memory n now next) where
+  turn : BankCharged start.costs.wide a memory n now next
+  turn = subst (λ (c : Costs). BankCharged c.wide a memory n now next) so.keeps.costs charged
+
   same_count : (b : ℕ) → count_at now a b ≡ count_at start a b
-  same_count b = ap (λ (c : Costs). slice_index c.counts (cell_of a b)) so.keeps.costs
+  same_count b = ap (λ (c : Costs). slice_index c.counts (cell_of c.wide a b)) so.keeps.costs
 
   not_yet : (m : ℕ) → spent_at now.ledgers m n ≡ spent_at start.ledgers m n
   not_yet m = so.spent m n few ∙ (ap (λ (k : ℕ). spent_at start.ledgers m n + k) (not_chosen (nat_lt n n) (cost start.costs m n a) (not_below n n (let e : n ≤ n = omega arith in e))) ∙ (let e : spent_at start.ledgers m n + 0 ≡ spent_at start.ledgers m n = omega arith in e))
 
-  spent_turn : (m b : ℕ) → b < 64 → spent_at next.ledgers m b ≡ spent_at start.ledgers m b + (if nat_lt b (n + 1) then cost start.costs m b a else 0)
+  spent_turn : (m b : ℕ) → b < start.costs.wide → spent_at next.ledgers m b ≡ spent_at start.ledgers m b + (if nat_lt b (n + 1) then cost start.costs m b a else 0)
   spent_turn m b below = elim (cases_eq b n) [
     | inl e ↦ elim (cases_eq m memory) [
       | inl f ↦ step_same _ (spent_at now.ledgers m b) (spent_at start.ledgers m b) _ _ _ (turn.spent.spent m b) (so.spent m b below)
@@ -102,9 +105,9 @@ module _ (a memory n : ℕ) (start now next : Standing) (of_memory : memory_at s
         (second_false (m == memory) (b == n) (count_at now a n) (is_not b n e)) (below_same b n (cost start.costs m b a) e)
   ]
 
-  own_turn : (b : ℕ) → b < n + 1 → 0 < count_at start a b → first_at next.draft.firsts a b ≡ Some (spent_at start.ledgers memory b)
+  own_turn : (b : ℕ) → b < n + 1 → 0 < count_at start a b → first_at start.costs.wide next.draft.firsts a b ≡ Some (spent_at start.ledgers memory b)
   own_turn b below some = elim (cases_eq b n) [
-    | inl e ↦ ap (λ (k : ℕ). first_at next.draft.firsts a k) e
+    | inl e ↦ ap (λ (k : ℕ). first_at start.costs.wide next.draft.firsts a k) e
         ∙ (turn.own (subst (λ (k : ℕ). 0 < k) (sym (same_count n ∙ ap (λ (k : ℕ). count_at start a k) (sym e))) some)
         ∙ (ap (λ (k : ℕ). Some k) (not_yet memory) ∙ ap (λ (k : ℕ). Some (spent_at start.ledgers memory k)) (sym e)))
     | inr e ↦ turn.others a b (let h = few in omega (arith, h, below)) (λ p. e p.1) ∙ so.own b (less b n below e) some
@@ -123,13 +126,13 @@ module _ (a memory n : ℕ) (start now next : Standing) (of_memory : memory_at s
     own = own_turn;
   }
 
-pub row_full : (a memory n : ℕ) (start now : Standing) → memory_at start.costs.memories a ≡ Some memory → n < 64 → RowCharged a memory n start now → ports_in now.ledgers memory < spent_at now.ledgers memory n + count_at now a n → FullAt a memory start
+pub row_full : (a memory n : ℕ) (start now : Standing) → memory_at start.costs.memories a ≡ Some memory → n < start.costs.wide → RowCharged a memory n start now → ports_in now.ledgers memory < spent_at now.ledgers memory n + count_at now a n → FullAt a memory start
 row_full a memory n start now of_memory few so beyond = record {
   bank = n;
   few = few;
   beyond = (let p = so.keeps.alike.ports memory in
       let s : spent_at now.ledgers memory n ≡ spent_at start.ledgers memory n = so.spent memory n few ∙ (ap (λ (k : ℕ). spent_at start.ledgers memory n + k) (not_chosen (nat_lt n n) (cost start.costs memory n a) (not_below n n (let e : n ≤ n = omega arith in e))) ∙ (let e : spent_at start.ledgers memory n + 0 ≡ spent_at start.ledgers memory n = omega arith in e)) in
-      let c : count_at now a n ≡ count_at start a n = ap (λ (x : Costs). slice_index x.counts (cell_of a n)) so.keeps.costs in
+      let c : count_at now a n ≡ count_at start a n = ap (λ (x : Costs). slice_index x.counts (cell_of x.wide a n)) so.keeps.costs in
       omega (arith, beyond, p, s, c));
 }
 
@@ -163,10 +166,10 @@ unused_walked a s e = record {
     nothing_behind (x ∷ l) = ap (λ (m : List _). x ∷ m) (nothing_behind l)
 
 -- an access whose row is charged
-pub row_walked : (a memory : ℕ) (start next : Standing) → memory_at start.costs.memories a ≡ Some memory → memory < length start.ledgers → RowCharged a memory 64 (log_marked start memory) next → Walked start.costs (access a) start next
+pub row_walked : (a memory : ℕ) (start next : Standing) → memory_at start.costs.memories a ≡ Some memory → memory < length start.ledgers → RowCharged a memory start.costs.wide (log_marked start memory) next → Walked start.costs (access a) start next
 row_walked a memory start next of_memory inside so = record {
   keeps = record { costs = so.keeps.costs; plan = so.keeps.plan; alike = so.keeps.alike };
-  spent = λ m b few. so.spent m b few ∙ ap (λ (k : ℕ). spent_at start.ledgers m b + k) (chosen (nat_lt b 64) (cost start.costs m b a) (is_below b 64 few));
+  spent = λ m b few. so.spent m b few ∙ ap (λ (k : ℕ). spent_at start.ledgers m b + k) (chosen (nat_lt b start.costs.wide) (cost start.costs m b a) (is_below b start.costs.wide few));
   more = mark_of start.ledgers memory ∷ [];
   log = so.log;
   back = so.back (state_or (slice_get start.ledgers memory) (record { ports = 0; spent = [] }))
@@ -178,7 +181,7 @@ row_walked a memory start next of_memory inside so = record {
         (let g : memory_at start.costs.memories a ≡ Some m = subst (λ (k : ℕ). memory_at start.costs.memories k ≡ Some m) i f in
         let e : memory ≡ m = (let h : Some memory ≡ Some m = sym of_memory ∙ g in cc) in
         let charged : 0 < count_at start a b = subst (λ (k : ℕ). 0 < k) (ap (λ (k : ℕ). cost start.costs m b k) i ∙ cost_same start a memory m b of_memory (sym e)) some in
-        ap (λ (k : ℕ). first_at next.draft.firsts k b) i ∙ (so.own b few charged
+        ap (λ (k : ℕ). first_at start.costs.wide next.draft.firsts k b) i ∙ (so.own b few charged
         ∙ (ap (λ (k : ℕ). Some (spent_at start.ledgers k b)) e ∙ (let h : spent_at start.ledgers m b ≡ spent_at start.ledgers m b + 0 = omega arith in ap (λ (k : ℕ). Some k) h))));
   };
 }
@@ -195,7 +198,7 @@ row_overdrawn a memory start of_memory full = record {
 pub charge_ends : (a memory : ℕ) (start mid next : Standing) (r : Result (Unit {0}) Stop) → memory_at start.costs.memories a ≡ Some memory → memory < length start.ledgers → mid ≡ log_marked start memory
     → ChargesRow a memory mid next r → Walks (access a) start next r
 charge_ends a memory start mid next (Ok done) of_memory inside e charges =
-    row_walked a memory start next of_memory inside (subst (λ (s : Standing). RowCharged a memory 64 s next) e charges)
+    row_walked a memory start next of_memory inside (subst (λ (s : Standing). RowCharged a memory s.costs.wide s next) e charges)
 charge_ends a memory start mid next (Err stop.NoMemory) of_memory inside e charges = tt
 charge_ends a memory start mid next (Err stop.Full) of_memory inside e charges =
     row_overdrawn a memory start of_memory (subst (λ (s : Standing). FullAt a memory s) e charges)

@@ -1,18 +1,19 @@
 -- Where a walk stands, from what its fields hold: each call keeps what always holds, and does what its contract says.
-use Rattle.std.proofs.Common.{◌≡◌, ℕ, suc, zero, ◌+◌, ◌≤◌, ◌<◌, refl, ap, sym, ◌∙◌, subst, arith, List, [], ◌∷◌, ◌++◌, length, take, drop, get_or, Option, Some, None}
+use Rattle.std.proofs.Common.{◌≡◌, ℕ, suc, zero, ◌+◌, ◌*◌, ◌≤◌, ◌<◌, refl, ap, sym, ◌∙◌, subst, arith, List, [], ◌∷◌, ◌++◌, length, take, drop, get_or, Option, Some, None}
 use Rattle.std.specs.Prelude.{slice_get}
 use Rattle.std.specs.List.{AllByRecursion}
-use Rattle.std.proofs.lemmas.List.{length-set, get_or_default}
+use Rattle.std.proofs.lemmas.List.{get_or_default}
 use Rattle.std.proofs.lemmas.Option.{slice_get_past, slice_get-get_or}
 use Rattle.dh_ledger.specs.Granted.{Granted}
 use Rattle.dh_ledger.specs.Spending.{Spending}
 use Rattle.dh_plan.specs.declared.plans.Plan.{Plan}
 use Rattle.dh_bind.specs.declared.ledgers.Mark.{Mark}
 use Rattle.dh_bind.specs.Costs.{memory_at}
-use Rattle.dh_bind.specs.Drafts.{Draft, flattened, first_at, cell_of, granted_at, rows_of, all_operations}
+use Rattle.dh_bind.specs.Drafts.{Draft, flattened, first_at, put_first, cell_of, granted_at, rows_of, width_of, all_operations}
 use Rattle.dh_bind.specs.Ledgers.{Alike, SpentMore, IsMark, AreMarks, spent_at, ports_in, state_or, ports_of, banks_of, undone, ends_now}
 use Rattle.dh_bind.specs.Standings.{Standing, IsStanding, mark_of, log_marked, count_at, BankCharged, TakenBack}
-use Rattle.dh_bind.proofs.Driven.{first_set, first_kept}
+use Rattle.dh_bind.proofs.Cells.{cell_inside}
+use Rattle.dh_bind.proofs.Driven.{first_set, first_kept, put_long}
 use Rattle.dh_bind.proofs.Flat.{got}
 use Rattle.dh_bind.proofs.LedgerFacts.{marks_alike, all_joined, spent_nothing, alike_self}
 
@@ -23,11 +24,13 @@ read_memory memories a x h e = ap flattened (got memories a x h e)
 pub memory_read : (ms memories : List (Option ℕ)) → ms ≡ memories → (a : ℕ) → a < length ms → memory_at memories a ≡ get_or ms a None
 memory_read ms memories e a h = ap (λ (l : List (Option ℕ)). memory_at l a) (sym e) ∙ ap flattened (slice_get-get_or ms a None h)
 
-pub count_read : (fields s : Standing) → fields ≡ s → IsStanding fields → (access bank : ℕ) → access < length s.costs.memories → bank < 64 → (x : ℕ) → x ≡ get_or fields.costs.counts (cell_of access bank) x → x ≡ count_at fields access bank
-count_read fields s same is access bank row few x e =
+pub count_read : (fields s : Standing) → fields ≡ s → IsStanding fields → (access bank : ℕ) → access < length s.costs.memories → bank < s.costs.wide → (p : ℕ) → p ≡ access * fields.costs.wide → (x : ℕ) → x ≡ get_or fields.costs.counts (p + bank) x → x ≡ count_at fields access bank
+count_read fields s same is access bank row few p q x e =
     let r : access < length fields.costs.memories = subst (λ (y : Standing). access < length y.costs.memories) (sym same) row in
-    let cells = is.cells in
-    e ∙ get_or_default fields.costs.counts (cell_of access bank) x 0 (omega (arith, r, cells, few))
+    let b : bank < fields.costs.wide = subst (λ (y : Standing). bank < y.costs.wide) (sym same) few in
+    let inside : cell_of fields.costs.wide access bank < length fields.costs.counts =
+    subst (λ (n : ℕ). cell_of fields.costs.wide access bank < n) (sym is.cells) (cell_inside (length fields.costs.memories) fields.costs.wide access bank r b) in
+    e ∙ (ap (λ (n : ℕ). get_or fields.costs.counts (n + bank) x) q ∙ get_or_default fields.costs.counts (cell_of fields.costs.wide access bank) x 0 inside)
 
 pub past_memory : (memories : List (Option ℕ)) (a : ℕ) → length memories ≤ a → memory_at memories a ≡ None
 past_memory memories a h = ap flattened (slice_get_past memories a h)
@@ -68,6 +71,8 @@ pub logged_stands : (fields s : Standing) → fields ≡ s → IsStanding fields
 logged_stands fields s same is memory state log h e f =
     let inside : memory < length fields.ledgers = subst (λ (x : Standing). memory < length x.ledgers) (sym same) h in
     record {
+      wide = is.wide;
+      few = is.few;
       cells = is.cells;
       rows = is.rows;
       firsts = is.firsts;
@@ -81,6 +86,8 @@ logged_stands fields s same is memory state log h e f =
 pub stands_then : (fields : Standing) → IsStanding fields → (ledgers : List Spending) (log : List Mark) (draft : Draft) → Alike fields.ledgers ledgers → AreMarks fields.ledgers log → draft.plan ≡ fields.draft.plan → length draft.firsts ≡ length fields.draft.firsts
     → IsStanding (record { costs = fields.costs; ledgers = ledgers; log = log; draft = draft })
 stands_then fields is ledgers log draft alike marks plan long = record {
+  wide = is.wide ∙ ap (λ (p : Plan). width_of (all_operations p.blocks)) (sym plan);
+  few = is.few;
   cells = is.cells;
   rows = is.rows ∙ ap (λ (p : Plan). rows_of (all_operations p.blocks)) (sym plan);
   firsts = long ∙ is.firsts;
@@ -90,7 +97,7 @@ stands_then fields is ledgers log draft alike marks plan long = record {
 }
 
 -- one bank is charged
-pub bank_unchanged : (s : Standing) (access memory bank : ℕ) → count_at s access bank ≡ 0 → BankCharged access memory bank s s
+pub bank_unchanged : (s : Standing) (access memory bank : ℕ) → count_at s access bank ≡ 0 → BankCharged s.costs.wide access memory bank s s
 bank_unchanged s access memory bank e = record {
   keeps = record { costs = refl; plan = refl; alike = alike_self s.ledgers };
   log = refl;
@@ -99,30 +106,37 @@ bank_unchanged s access memory bank e = record {
   own = λ some. absurd (omega (arith, e, some));
 }
 
-module _ (fields s : Standing) (same : fields ≡ s) (is : IsStanding fields) (access memory bank count : ℕ) (row : access < length s.costs.memories) (few : bank < 64)
+module _ (fields s : Standing) (same : fields ≡ s) (is : IsStanding fields) (access memory bank count : ℕ) (row : access < length s.costs.memories) (few : bank < s.costs.wide)
     (ledgers : List Spending) (draft : Draft) (token : Granted) (token_is : token ≡ record { memory = memory; bank = bank; first = spent_at fields.ledgers memory bank; count = count })
     (more : SpentMore fields.ledgers ledgers memory bank count) (driven : draft ≡ granted_at fields.draft access token.bank token.first) where
   draft_is : draft ≡ granted_at fields.draft access bank (spent_at fields.ledgers memory bank)
   draft_is = driven ∙ ap (λ (t : Granted). granted_at fields.draft access t.bank t.first) token_is
 
-  cell_inside : cell_of access bank < length fields.draft.firsts
-  cell_inside = let long = is.firsts in let r : access < length fields.costs.memories = subst (λ (x : Standing). access < length x.costs.memories) (sym same) row in omega (arith, long, r, few)
+  firsts_are : draft.firsts ≡ put_first fields.costs.wide fields.draft.firsts access bank (spent_at fields.ledgers memory bank)
+  firsts_are = ap (λ (d : Draft). d.firsts) draft_is ∙ ap (λ (n : ℕ). put_first n fields.draft.firsts access bank (spent_at fields.ledgers memory bank)) (sym is.wide)
+
+  below_width : bank < fields.costs.wide
+  below_width = subst (λ (x : Standing). bank < x.costs.wide) (sym same) few
+
+  place_inside : cell_of fields.costs.wide access bank < length fields.draft.firsts
+  place_inside = subst (λ (n : ℕ). cell_of fields.costs.wide access bank < n) (sym is.firsts)
+      (cell_inside (length fields.costs.memories) fields.costs.wide access bank (subst (λ (x : Standing). access < length x.costs.memories) (sym same) row) below_width)
 
   pub charged_stands : IsStanding (record { costs = fields.costs; ledgers = ledgers; log = fields.log; draft = draft })
   charged_stands = stands_then fields is ledgers fields.log draft more.alike is.marks (ap (λ (d : Draft). d.plan) draft_is)
-      (ap (λ (d : Draft). length d.firsts) draft_is ∙ length-set fields.draft.firsts (cell_of access bank) (Some (spent_at fields.ledgers memory bank)))
+      (ap (λ (l : List (Option ℕ)). length l) firsts_are ∙ put_long fields.costs.wide fields.draft.firsts access bank (spent_at fields.ledgers memory bank))
 
-  charged_fields : count ≡ count_at fields access bank → BankCharged access memory bank fields (record { costs = fields.costs; ledgers = ledgers; log = fields.log; draft = draft })
+  charged_fields : count ≡ count_at fields access bank → BankCharged fields.costs.wide access memory bank fields (record { costs = fields.costs; ledgers = ledgers; log = fields.log; draft = draft })
   charged_fields e = record {
     keeps = record { costs = refl; plan = ap (λ (d : Draft). d.plan) draft_is; alike = more.alike };
     log = refl;
     spent = subst (λ (n : ℕ). SpentMore fields.ledgers ledgers memory bank n) e more;
-    others = λ a b below differs. ap (λ (d : Draft). first_at d.firsts a b) draft_is ∙ first_kept fields.draft.firsts access bank (spent_at fields.ledgers memory bank) a b few below differs;
-    own = λ some. ap (λ (d : Draft). first_at d.firsts access bank) draft_is ∙ first_set fields.draft.firsts access bank (spent_at fields.ledgers memory bank) cell_inside;
+    others = λ a b below differs. ap (λ (l : List (Option ℕ)). first_at fields.costs.wide l a b) firsts_are ∙ first_kept fields.costs.wide fields.draft.firsts access bank (spent_at fields.ledgers memory bank) a b below differs;
+    own = λ some. ap (λ (l : List (Option ℕ)). first_at fields.costs.wide l access bank) firsts_are ∙ first_set fields.costs.wide fields.draft.firsts access bank (spent_at fields.ledgers memory bank) below_width place_inside;
   }
 
-  pub charged : count ≡ count_at fields access bank → BankCharged access memory bank s (record { costs = fields.costs; ledgers = ledgers; log = fields.log; draft = draft })
-  charged e = subst (λ (x : Standing). BankCharged access memory bank x (record { costs = fields.costs; ledgers = ledgers; log = fields.log; draft = draft })) same (charged_fields e)
+  pub charged : count ≡ count_at fields access bank → BankCharged s.costs.wide access memory bank s (record { costs = fields.costs; ledgers = ledgers; log = fields.log; draft = draft })
+  charged e = subst (λ (x : Standing). BankCharged x.costs.wide access memory bank x (record { costs = fields.costs; ledgers = ledgers; log = fields.log; draft = draft })) same (charged_fields e)
 
 -- a refused grant changes nothing
 pub refused_stands : (fields : Standing) → IsStanding fields → (ledgers : List Spending) → ledgers ≡ fields.ledgers → IsStanding (record { costs = fields.costs; ledgers = ledgers; log = fields.log; draft = fields.draft })

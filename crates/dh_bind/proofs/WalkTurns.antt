@@ -24,7 +24,7 @@ use Rattle.dh_bind.proofs.RowTurns.{keeps_self, keeps_then}
 pub granted_none : (c : Costs) (ledgers : List Spending) (f : List (Option ℕ)) → GrantedIn c ledgers nothing f f
 granted_none c ledgers f = record { others = λ a b few none. refl; own = λ d a b m few i e some. absurd i }
 
-pub granted_all : (c : Costs) (ledgers mid : List Spending) (l r : Meets) (f g h : List (Option ℕ)) → ((m b : ℕ) → b < 64 → spent_at mid m b ≡ spent_at ledgers m b + load (cost c m b) l)
+pub granted_all : (c : Costs) (ledgers mid : List Spending) (l r : Meets) (f g h : List (Option ℕ)) → ((m b : ℕ) → b < c.wide → spent_at mid m b ≡ spent_at ledgers m b + load (cost c m b) l)
     → GrantedIn c ledgers l f g → GrantedIn c mid r g h → GrantedIn c ledgers (all l r) f h
 granted_all c ledgers mid l r f g h loads x y = record {
   others = λ a b few none. y.others a b few (λ i. none (inr i)) ∙ x.others a b few (λ i. none (inl i));
@@ -223,10 +223,10 @@ module _ (whole part rest : Meets) (start now mid next : Standing) (ends then_en
   mid_alike : Alike mid.ledgers start.ledgers
   mid_alike = alike_back start.ledgers mid.ledgers (subst (λ (l : List Spending). Alike l mid.ledgers) so.ledgers here.keeps.alike)
 
-  mid_spent : (m b : ℕ) → b < 64 → spent_at mid.ledgers m b ≡ spent_at start.ledgers m b + load (cost start.costs m b) part
+  mid_spent : (m b : ℕ) → b < start.costs.wide → spent_at mid.ledgers m b ≡ spent_at start.ledgers m b + load (cost start.costs m b) part
   mid_spent m b few = here.spent m b few ∙ ap (λ (l : List Spending). spent_at l m b + load (cost start.costs m b) part) so.ledgers
 
-  part_top : (m b : ℕ) → b < 64 → max (spent_at start.ledgers m b) (top (ends_now mid.ledgers (drop begun mid.log)) m b) ≡ spent_at start.ledgers m b + load (cost start.costs m b) part
+  part_top : (m b : ℕ) → b < start.costs.wide → max (spent_at start.ledgers m b) (top (ends_now mid.ledgers (drop begun mid.log)) m b) ≡ spent_at start.ledgers m b + load (cost start.costs m b) part
   part_top m b few = elim (topped mid.ledgers (drop begun mid.log) m b taken.marks) [
     | inl e ↦ part_touched _ _ (spent_at mid.ledgers m b) _ e (mid_spent m b few)
     | inr e ↦ part_untouched (spent_at start.ledgers m b) _ (spent_at mid.ledgers m b) _ e.0

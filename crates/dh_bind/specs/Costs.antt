@@ -3,12 +3,15 @@
 use Rattle.std.specs.Prelude.{◌≡◌, ◌⊎◌, ℕ, ◌+◌, ◌*◌, ◌<◌, ◌≤◌, ◌==◌, max, if◌then◌else◌, List, [], ◌∷◌, length, slice_get, slice_index, Option, Some, None}
 use Rattle.std.specs.List.{AllByRecursion}
 use Rattle.dh_plan.specs.declared.operations.Operation.{Operation}
+use Rattle.dh_plan.specs.declared.operations.PlanBlock.{PlanBlock}
 use Rattle.dh_plan.specs.declared.operations.Reach.{Reach}
 use Rattle.dh_plan.specs.PlainPlans.{PlainPlan}
 use Rattle.dh_plan.specs.SoundPlans.{use_in, HasUse, place_charge, plan_charge}
-use Rattle.dh_bind.specs.Drafts.{all_operations, rows_of, cell_of, flattened}
+use Rattle.dh_bind.specs.Drafts.{all_operations, rows_of, width_of, cell_of, flattened}
 
 pub record Costs : Type 0 where
+  -- how wide a row of counts is
+  pub wide : ℕ
   pub memories : List (Option ℕ)
   pub counts : List ℕ
 
@@ -21,15 +24,16 @@ cost_on (Some m) memory count = if m == memory then count else 0
 
 -- what an access charges on a bank of a memory
 abbrev pub cost : Costs → (memory bank access : ℕ) → ℕ
-cost c memory bank access = cost_on (memory_at c.memories access) memory (slice_index c.counts (cell_of access bank))
+cost c memory bank access = cost_on (memory_at c.memories access) memory (slice_index c.counts (cell_of c.wide access bank))
 
 -- the tables are those of a plan
 pub record AreCosts (plan : PlainPlan) (c : Costs) : Type 0 where
   pub memories : (b i : ℕ) (r : Reach) → HasUse plan b i r → memory_at c.memories r.access ≡ Some r.memory
-  pub charges : (memory bank access : ℕ) → bank < 64 → cost c memory bank access ≡ plan_charge plan memory bank access
+  pub wide : c.wide ≡ width_of (all_operations plan.blocks)
+  pub charges : (memory bank access : ℕ) → bank < c.wide → cost c memory bank access ≡ plan_charge plan memory bank access
   pub inside : (access memory : ℕ) → memory_at c.memories access ≡ Some memory → memory < length plan.table
   pub rows : length c.memories ≡ rows_of (all_operations plan.blocks)
-  pub cells : length c.counts ≡ length c.memories * 64
+  pub cells : length c.counts ≡ length c.memories * c.wide
 
 -- How the tables come about.
 
@@ -51,27 +55,34 @@ abbrev pub last_memory : (access : ℕ) → List Operation → Option ℕ → Op
 last_memory access [] before = before
 last_memory access (o ∷ os) before = last_memory access os (use_memory access (use_in o.form) before)
 
--- these operations were noted
-pub record Noted (os : List Operation) (old new : Costs) : Type 0 where
+-- these operations were noted, in rows so wide
+pub record Noted (wide : ℕ) (os : List Operation) (old new : Costs) : Type 0 where
   pub memories : (access : ℕ) → access < length old.memories → memory_at new.memories access ≡ last_memory access os (memory_at old.memories access)
-  pub counts : (access bank : ℕ) → access < length old.memories → bank < 64
-      → slice_index new.counts (cell_of access bank) ≡ max (slice_index old.counts (cell_of access bank)) (raw_charge access bank os)
+  pub counts : (access bank : ℕ) → access < length old.memories → bank < wide
+      → slice_index new.counts (cell_of wide access bank) ≡ max (slice_index old.counts (cell_of wide access bank)) (raw_charge access bank os)
   pub rows : length new.memories ≡ length old.memories
   pub cells : length new.counts ≡ length old.counts
 
-abbrev pub costs_in : (memories : List (Option ℕ)) → (counts : List ℕ) → Costs
-costs_in memories counts = record { memories = memories; counts = counts }
+abbrev pub costs_in : (wide : ℕ) → (memories : List (Option ℕ)) → (counts : List ℕ) → Costs
+costs_in wide memories counts = record { wide = wide; memories = memories; counts = counts }
+
+-- the same of the parts of tables, before and after, and of the operations of blocks
+abbrev pub NotesIn : (wide : ℕ) → List Operation → List (Option ℕ) → List ℕ → List (Option ℕ) → List ℕ → Type 0
+NotesIn wide os memories counts then_memories then_counts = Noted wide os (costs_in wide memories counts) (costs_in wide then_memories then_counts)
+
+abbrev pub NotesBlocks : (wide : ℕ) → List PlanBlock → List (Option ℕ) → List ℕ → List (Option ℕ) → List ℕ → Type 0
+NotesBlocks wide bs memories counts then_memories then_counts = NotesIn wide (all_operations bs) memories counts then_memories then_counts
 
 -- a bank that is listed has a place in a row, and its place is no port beyond the greatest
-abbrev pub FitsListed : ℕ × ℕ → Type 0
-FitsListed b = (b.0 < 64) × (b.1 < 8)
+abbrev pub FitsListed : (wide : ℕ) → ℕ × ℕ → Type 0
+FitsListed wide b = (b.0 < wide) × (b.1 < 8)
 
-pub record FitsRows (rows : ℕ) (r : Reach) : Type 0 where
+pub record FitsRows (rows wide : ℕ) (r : Reach) : Type 0 where
   pub access : r.access < rows
-  pub banks : AllByRecursion FitsListed r.banks
+  pub banks : AllByRecursion (FitsListed wide) r.banks
 
 -- the counts of a row are at least those of these banks
-pub record Raised (row : ℕ) (banks : List (ℕ × ℕ)) (old new : List ℕ) : Type 0 where
-  pub own : (bank : ℕ) → bank < 64 → slice_index new (row + bank) ≡ max (slice_index old (row + bank)) (place_charge bank banks)
-  pub other : (cell : ℕ) → (cell < row) ⊎ (row + 64 ≤ cell) → slice_index new cell ≡ slice_index old cell
+pub record Raised (row wide : ℕ) (banks : List (ℕ × ℕ)) (old new : List ℕ) : Type 0 where
+  pub own : (bank : ℕ) → bank < wide → slice_index new (row + bank) ≡ max (slice_index old (row + bank)) (place_charge bank banks)
+  pub other : (cell : ℕ) → (cell < row) ⊎ (row + wide ≤ cell) → slice_index new cell ≡ slice_index old cell
   pub cells : length new ≡ length old

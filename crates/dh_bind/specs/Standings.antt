@@ -14,7 +14,7 @@ use Rattle.dh_plan.specs.BoundPorts.{port_among}
 use Rattle.dh_plan.specs.PlainPlans.{PlainPlan, first_in, operation_count}
 use Rattle.dh_plan.specs.SoundPlans.{HasUse, IsListed, plan_charge}
 use Rattle.dh_bind.specs.Costs.{Costs, AreCosts, cost, memory_at}
-use Rattle.dh_bind.specs.Drafts.{Draft, first_at, accesses_of, cell_of}
+use Rattle.dh_bind.specs.Drafts.{Draft, first_at, accesses_of, width_in, cell_of}
 use Rattle.dh_bind.specs.Ledgers.{Alike, SpentMore, AreMarks, spent_at, ports_in, banks_in, ends_now, undone, state_or, top}
 
 pub record Standing : Type 0 where
@@ -25,9 +25,11 @@ pub record Standing : Type 0 where
 
 -- what always holds of it
 pub record IsStanding (s : Standing) : Type 0 where
-  pub cells : length s.costs.counts ≡ length s.costs.memories * 64
+  pub wide : s.costs.wide ≡ width_in s.draft
+  pub few : s.costs.wide ≤ 64
+  pub cells : length s.costs.counts ≡ length s.costs.memories * s.costs.wide
   pub rows : length s.costs.memories ≡ accesses_of s.draft
-  pub firsts : length s.draft.firsts ≡ length s.costs.memories * 64
+  pub firsts : length s.draft.firsts ≡ length s.costs.memories * s.costs.wide
   pub inside : (access memory : ℕ) → memory_at s.costs.memories access ≡ Some memory → memory < length s.ledgers
   pub banks : (memory : ℕ) → memory < length s.ledgers → banks_in s.ledgers memory ≡ 64
   pub marks : AreMarks s.ledgers s.log
@@ -49,17 +51,17 @@ log_marked s memory = record { costs = s.costs; ledgers = s.ledgers; log = s.log
 -- One bank.
 
 abbrev pub count_at : Standing → (access bank : ℕ) → ℕ
-count_at s access bank = slice_index s.costs.counts (cell_of access bank)
+count_at s access bank = slice_index s.costs.counts (cell_of s.costs.wide access bank)
 
-pub record BankCharged (access memory bank : ℕ) (old new : Standing) : Type 0 where
+pub record BankCharged (wide access memory bank : ℕ) (old new : Standing) : Type 0 where
   pub keeps : Keeps old new
   pub log : new.log ≡ old.log
   pub spent : SpentMore old.ledgers new.ledgers memory bank (count_at old access bank)
-  pub others : (a b : ℕ) → b < 64 → ((a ≡ access) × (b ≡ bank) → ⊥) → first_at new.draft.firsts a b ≡ first_at old.draft.firsts a b
-  pub own : 0 < count_at old access bank → first_at new.draft.firsts access bank ≡ Some (spent_at old.ledgers memory bank)
+  pub others : (a b : ℕ) → b < wide → ((a ≡ access) × (b ≡ bank) → ⊥) → first_at wide new.draft.firsts a b ≡ first_at wide old.draft.firsts a b
+  pub own : 0 < count_at old access bank → first_at wide new.draft.firsts access bank ≡ Some (spent_at old.ledgers memory bank)
 
 abbrev pub ChargesBank : (access memory bank : ℕ) → (old new : Standing) → Result (Unit {0}) Stop → Type 0
-ChargesBank access memory bank old new (Ok done) = BankCharged access memory bank old new
+ChargesBank access memory bank old new (Ok done) = BankCharged old.costs.wide access memory bank old new
 ChargesBank access memory bank old new (Err stop.NoMemory) = Unit {0}
 ChargesBank access memory bank old new (Err stop.Full) = ports_in old.ledgers memory < spent_at old.ledgers memory bank + count_at old access bank
 
@@ -67,19 +69,19 @@ ChargesBank access memory bank old new (Err stop.Full) = ports_in old.ledgers me
 pub record RowCharged (access memory upto : ℕ) (old new : Standing) : Type 0 where
   pub keeps : Keeps old new
   pub log : new.log ≡ old.log
-  pub spent : (m b : ℕ) → b < 64 → spent_at new.ledgers m b ≡ spent_at old.ledgers m b + (if nat_lt b upto then cost old.costs m b access else 0)
+  pub spent : (m b : ℕ) → b < old.costs.wide → spent_at new.ledgers m b ≡ spent_at old.ledgers m b + (if nat_lt b upto then cost old.costs m b access else 0)
   pub back : (s : Spending) → slice_set new.ledgers memory s ≡ slice_set old.ledgers memory s
-  pub others : (a b : ℕ) → b < 64 → (a ≡ access → ⊥) → first_at new.draft.firsts a b ≡ first_at old.draft.firsts a b
-  pub own : (b : ℕ) → b < upto → 0 < count_at old access b → first_at new.draft.firsts access b ≡ Some (spent_at old.ledgers memory b)
+  pub others : (a b : ℕ) → b < old.costs.wide → (a ≡ access → ⊥) → first_at old.costs.wide new.draft.firsts a b ≡ first_at old.costs.wide old.draft.firsts a b
+  pub own : (b : ℕ) → b < upto → 0 < count_at old access b → first_at old.costs.wide new.draft.firsts access b ≡ Some (spent_at old.ledgers memory b)
 
 -- a bank has too few ports left for the access
 pub record FullAt (access memory : ℕ) (old : Standing) : Type 0 where
   pub bank : ℕ
-  pub few : bank < 64
+  pub few : bank < old.costs.wide
   pub beyond : ports_in old.ledgers memory < spent_at old.ledgers memory bank + count_at old access bank
 
 abbrev pub ChargesRow : (access memory : ℕ) → (old new : Standing) → Result (Unit {0}) Stop → Type 0
-ChargesRow access memory old new (Ok done) = RowCharged access memory 64 old new
+ChargesRow access memory old new (Ok done) = RowCharged access memory old.costs.wide old new
 ChargesRow access memory old new (Err stop.NoMemory) = Unit {0}
 ChargesRow access memory old new (Err stop.Full) = FullAt access memory old
 
@@ -87,14 +89,14 @@ ChargesRow access memory old new (Err stop.Full) = FullAt access memory old
 
 -- the first ports that accesses of a part were granted, which began with these ledgers
 pub record GrantedIn (c : Costs) (ledgers : List Spending) (t : Meets) (old new : List (Option ℕ)) : Type 0 where
-  pub others : (a b : ℕ) → b < 64 → (In a t → ⊥) → first_at new a b ≡ first_at old a b
-  pub own : Distinct t → (a b m : ℕ) → b < 64 → In a t → memory_at c.memories a ≡ Some m → 0 < cost c m b a
-      → first_at new a b ≡ Some (spent_at ledgers m b + begin (cost c m b) a t)
+  pub others : (a b : ℕ) → b < c.wide → (In a t → ⊥) → first_at c.wide new a b ≡ first_at c.wide old a b
+  pub own : Distinct t → (a b m : ℕ) → b < c.wide → In a t → memory_at c.memories a ≡ Some m → 0 < cost c m b a
+      → first_at c.wide new a b ≡ Some (spent_at ledgers m b + begin (cost c m b) a t)
 
 pub record Walked (c : Costs) (t : Meets) (old new : Standing) : Type 0 where
   pub keeps : Keeps old new
   -- each bank is loaded with the part's load
-  pub spent : (m b : ℕ) → b < 64 → spent_at new.ledgers m b ≡ spent_at old.ledgers m b + load (cost c m b) t
+  pub spent : (m b : ℕ) → b < c.wide → spent_at new.ledgers m b ≡ spent_at old.ledgers m b + load (cost c m b) t
   -- the log says how to come back
   pub more : List Mark
   pub log : new.log ≡ old.log ++ more
@@ -105,7 +107,7 @@ pub record Walked (c : Costs) (t : Meets) (old new : Standing) : Type 0 where
 pub record Overdrawn (c : Costs) (t : Meets) (old : Standing) : Type 0 where
   pub memory : ℕ
   pub bank : ℕ
-  pub few : bank < 64
+  pub few : bank < c.wide
   pub beyond : ports_in old.ledgers memory < spent_at old.ledgers memory bank + load (cost c memory bank) t
 
 abbrev pub Walks : Meets → (old new : Standing) → Result (Unit {0}) Stop → Type 0
@@ -117,7 +119,7 @@ Walks t old new (Err stop.Full) = Overdrawn old.costs t old
 pub record InAll (whole rest : Meets) (start now : Standing) : Type 0 where
   pub keeps : Keeps start now
   pub so : (end : Standing) → Walked start.costs rest now end → Walked start.costs whole start end
-  pub loads : (m b : ℕ) → b < 64 → spent_at now.ledgers m b + load (cost start.costs m b) rest ≡ spent_at start.ledgers m b + load (cost start.costs m b) whole
+  pub loads : (m b : ℕ) → b < start.costs.wide → spent_at now.ledgers m b + load (cost start.costs m b) rest ≡ spent_at start.ledgers m b + load (cost start.costs m b) whole
 
 -- Parts of which no two meet.
 
@@ -137,7 +139,7 @@ pub record InOne (whole rest : Meets) (start now : Standing) (ends : List Mark) 
   pub ledgers : now.ledgers ≡ start.ledgers
   pub log : now.log ≡ start.log
   pub marks : AreMarks start.ledgers ends
-  pub tops : (m b : ℕ) → b < 64
+  pub tops : (m b : ℕ) → b < start.costs.wide
       → max (max (spent_at start.ledgers m b) (top ends m b)) (spent_at start.ledgers m b + load (cost start.costs m b) rest) ≡ spent_at start.ledgers m b + load (cost start.costs m b) whole
   pub loads : (m b : ℕ) → load (cost start.costs m b) rest ≤ load (cost start.costs m b) whole
   pub so : (firsts : List (Option ℕ)) → GrantedIn start.costs start.ledgers rest now.draft.firsts firsts → GrantedIn start.costs start.ledgers whole start.draft.firsts firsts

@@ -1,27 +1,27 @@
 //! The binder: it takes the tokens of ports that accesses were granted, and gives operations their ports.
 
-ghost use Rattle.std.specs.Prelude.{◌≡◌, ◌<◌, IfOk, length, replicate, slice_set, ◌*◌};
+ghost use Rattle.std.specs.Prelude.{◌≡◌, ◌+◌, ◌<◌, ◌≤◌, ◌*◌, ◌^◌, IfOk, length, replicate};
 ghost use Rattle.dh_plan.specs.Passes.{Drives};
 ghost use Rattle.dh_plan.specs.SeenPlans.{plan_seen};
 ghost use Rattle.dh_plan.specs.SoundPlans.{IsFormed};
+ghost use Rattle.dh_bind.specs.Drafts.{put_first};
 
-use crate::operations::rows_needed;
+use crate::operations::{rows_needed, width_needed};
 use crate::pairs::push_pairs;
-use crate::tables::nothing;
+use crate::tables::{nothing, places};
 use dh_base::{Items, NoMemory};
 use dh_ledger::Token;
 use dh_plan::Plan;
 use std::alloc::Global;
 use std::marker::Model;
 
-/// The banks for which an access has a place. No memory has more.
-pub(crate) const BANKS: usize = 64;
-
 /// Ports of the operations of a plan, under construction.
 #[derive(Drop)]
 pub struct Binder<'a> {
     plan: &'a Plan,
-    // of each access a row of banks, each with the first port that it was granted there
+    // one more than the greatest bank that an operation lists
+    wide: usize,
+    // of each access a row of so many banks, each with the first port that it was granted there
     firsts: Vec<Option<u32>>,
 }
 
@@ -29,7 +29,7 @@ impl<'a> Model for Binder<'a> {
     ghost use Rattle.std.specs.Coded.{codes};
     ghost use Rattle.dh_plan.specs.contracts.plans.Node as node;
     ghost use Rattle.dh_plan.specs.contracts.plans.Meets as meets;
-    ghost use Rattle.dh_bind.specs.Drafts.{Draft, IsDraft};
+    ghost use Rattle.dh_bind.specs.Drafts.{Draft, IsKept};
 
     ghost Value = { Draft };
 
@@ -37,22 +37,23 @@ impl<'a> Model for Binder<'a> {
 
     ghost view = { λ b. record { plan = b.plan.now; firsts = b.firsts.items } };
 
-    ghost invariant = { λ b. IsDraft (record { plan = b.plan.now; firsts = b.firsts.items }) };
+    ghost invariant = { λ b. IsKept b.wide (record { plan = b.plan.now; firsts = b.firsts.items }) };
 }
 
 impl<'a> Binder<'a> {
     ghost use Rattle.std.specs.Prelude.{[], None};
-    ghost use Rattle.dh_bind.specs.Drafts.{uses_of, accesses_of, granted_at, all_operations, rows_of, first_at, PortsFit};
+    ghost use Rattle.dh_bind.specs.Drafts.{uses_of, accesses_of, granted_at, all_operations, rows_of, width_in, first_at, PortsFit};
 
     /// A binder of a plan, in which no operation has a port.
     pub fn new(alloc: Global, plan: &'a Plan) -> Result<Binder<'a>, NoMemory>
         requires { IsFormed (plan_seen plan.now) }
         ensures of { IfOk result (λ b. b.plan ≡ plan.now) }
-        ensures none { IfOk result (λ b. b.firsts ≡ replicate (accesses_of b * 64) None) }
+        ensures none { IfOk result (λ b. b.firsts ≡ replicate (accesses_of b * width_in b) None) }
     {
-        let rows = rows_needed(plan.blocks.as_slice());
-        let firsts = nothing(alloc, rows * BANKS)?;
-        Ok(Binder { plan, firsts })
+        let blocks = plan.blocks.as_slice();
+        let wide = width_needed(blocks);
+        let firsts = nothing(alloc, places(rows_needed(blocks), wide))?;
+        Ok(Binder { plan, wide, firsts })
     }
 
     /// Gives each operation of the access that can reach the token's bank the port that its place there says, from
@@ -65,8 +66,7 @@ impl<'a> Binder<'a> {
         ensures granted { self.new ≡ granted_at self.old access token.bank token.first }
     {
         let (_memory, bank, first, _count) = token.end();
-        let at = access as usize * BANKS + bank as usize;
-        set_first(&mut self.firsts, at, first);
+        set_first(&mut self.firsts, self.wide, access, bank, first);
     }
 
     /// The bank and port pairs of each operation of the plan.
@@ -74,11 +74,12 @@ impl<'a> Binder<'a> {
         requires { PortsFit self }
         ensures { IfOk result (λ all. all ≡ (uses_of self.entry).ports) }
     {
-        let Binder { plan, firsts } = self;
-        let mut all = Items::new(alloc);
+        let Binder { plan, wide, firsts } = self;
+        let mut all = Items::with_room(alloc, plan.operation_count())?;
         for block in plan.blocks.as_slice() {
             push_pairs(
                 alloc,
+                wide,
                 firsts.as_slice(),
                 block.operations.as_slice(),
                 &mut all,
@@ -88,10 +89,13 @@ impl<'a> Binder<'a> {
     }
 }
 
-/// Notes a first port.
-fn set_first(firsts: &mut Vec<Option<u32>>, at: usize, first: u32)
-    requires { at < length firsts.old.items }
-    ensures { firsts.new.items ≡ slice_set firsts.old.items at (Some first) }
+/// Notes a first port, where the bank has a place in a row.
+fn set_first(firsts: &mut Vec<Option<u32>>, wide: usize, access: u32, bank: u32, first: u32)
+    requires wide { wide ≤ 64 }
+    requires row { access * wide + wide ≤ length firsts.old.items }
+    ensures { firsts.new.items ≡ put_first wide firsts.old.items access bank first }
 {
-    firsts[at] = Some(first);
+    if (bank as usize) < wide {
+        firsts[places(access as usize, wide) + bank as usize] = Some(first);
+    }
 }

@@ -2,7 +2,7 @@
 
 ghost use Rattle.std.specs.Prelude.{◌≡◌, ◌≤◌, ◌^◌, option_copied};
 ghost use Rattle.dh_plan.specs.SoundPlans.{use_in};
-ghost use Rattle.dh_bind.specs.Drafts.{all_operations, rows_of, use_rows};
+ghost use Rattle.dh_bind.specs.Drafts.{all_operations, banks_width, rows_of, use_rows, use_width, width_of};
 
 use dh_plan::{Operation, OperationForm, PlanBlock, Reach};
 
@@ -71,4 +71,47 @@ pub fn rows_needed(blocks: &[PlanBlock]) -> usize
         rows = rows.max(rows_in(block.operations.as_slice()));
     }
     rows
+}
+
+/// One more than the greatest bank that is listed; 0 where none is.
+fn width_listed(banks: &[(u32, u32)]) -> usize
+    ensures { result ≡ banks_width banks.now }
+{
+    let mut wide = 0usize;
+    for listed in banks {
+        wide = wide.max(listed.0 as usize + 1);
+    }
+    wide
+}
+
+/// The same of the banks of an operation.
+fn width_at(operation: &Operation) -> usize
+    ensures { result ≡ use_width (use_in operation.now.form) }
+{
+    match use_of(operation) {
+        Some(reach) => width_listed(reach.banks.as_slice()),
+        None => 0,
+    }
+}
+
+/// The same of operations.
+fn width_among(operations: &[Operation]) -> usize
+    ensures { result ≡ width_of operations.now }
+{
+    let mut wide = 0usize;
+    for operation in operations {
+        wide = wide.max(width_at(operation));
+    }
+    wide
+}
+
+/// The same of the operations of blocks.
+pub fn width_needed(blocks: &[PlanBlock]) -> usize
+    ensures { result ≡ width_of (all_operations blocks.now) }
+{
+    let mut wide = 0usize;
+    for block in blocks {
+        wide = wide.max(width_among(block.operations.as_slice()));
+    }
+    wide
 }

@@ -1,9 +1,19 @@
-//! Tables in which nothing stands yet.
+//! Tables in which nothing stands yet, and how many places they have.
 
-ghost use Rattle.std.specs.Prelude.{◌≡◌, None, IfOk, replicate};
+ghost use Rattle.std.specs.Prelude.{◌≡◌, ◌*◌, ◌≤◌, ◌^◌, None, IfOk, replicate};
 
 use dh_base::NoMemory;
 use std::alloc::Global;
+
+/// How many places so many rows have, each of so many banks.
+pub fn places(rows: usize, wide: usize) -> usize
+    requires rows { rows ≤ 2 ^ 32 }
+    requires wide { wide ≤ 64 }
+    ensures number { result ≡ rows * wide }
+    ensures fits { result ≤ 2 ^ 38 }
+{
+    rows * wide
+}
 
 /// So many times None.
 pub fn nothing(alloc: Global, count: usize) -> Result<Vec<Option<u32>>, NoMemory>

@@ -7,9 +7,10 @@ ghost use Rattle.dh_plan.specs.Passes.{MayBind};
 ghost use Rattle.dh_plan.specs.SeenPlans.{plan_seen};
 ghost use Rattle.dh_bind.specs.Ledgers.{AreMarks, Rises};
 
-use crate::binder::{BANKS, Binder};
+use crate::binder::Binder;
 use crate::costs::{CostTables, costs_of};
 use crate::ledgers::{Mark, back_to, grant_in, ledgers_of, note_ends, rise_in};
+use crate::tables::places;
 use dh_base::{Items, NoMemory};
 use dh_ledger::{CountLedger, Ledger};
 use dh_plan::Plan;
@@ -29,6 +30,7 @@ pub enum Stop {
 #[derive(Drop)]
 pub struct Walker<'a> {
     binder: Binder<'a>,
+    wide: usize,
     memories: Vec<Option<u32>>,
     counts: Vec<u32>,
     ledgers: Vec<CountLedger>,
@@ -47,14 +49,14 @@ impl<'a> Model for Walker<'a> {
     ghost coded = { Prim.hlevel (codes, node.the_row.coded, meets.the_row.coded) };
 
     ghost view = { λ w. record {
-      costs = costs_in w.memories.items w.counts.items;
+      costs = costs_in w.wide w.memories.items w.counts.items;
       ledgers = w.ledgers.items;
       log = w.log.items;
       draft = w.binder;
     } };
 
     ghost invariant = { λ w. IsStanding (record {
-      costs = costs_in w.memories.items w.counts.items;
+      costs = costs_in w.wide w.memories.items w.counts.items;
       ledgers = w.ledgers.items;
       log = w.log.items;
       draft = w.binder;
@@ -71,11 +73,16 @@ impl<'a> Walker<'a> {
         requires { MayBind (plan_seen plan.now) }
         ensures { IfOk result (λ w. IsBegun plan.now w) }
     {
-        let CostTables { memories, counts } = costs_of(alloc, plan)?;
+        let CostTables {
+            wide,
+            memories,
+            counts,
+        } = costs_of(alloc, plan)?;
         let binder = Binder::new(alloc, plan)?;
         let ledgers = ledgers_of(alloc, plan.table.as_slice())?;
         Ok(Walker {
             binder,
+            wide,
             memories,
             counts,
             ledgers,
@@ -90,6 +97,7 @@ impl<'a> Walker<'a> {
     {
         let Walker {
             binder,
+            wide: _,
             memories: _,
             counts: _,
             ledgers: _,
@@ -114,6 +122,13 @@ impl<'a> Walker<'a> {
         }
     }
 
+    /// One more than the greatest bank that an operation lists; no access charges a bank from this one on.
+    pub(crate) fn width(&self) -> u32
+        ensures { result ≡ self.now.costs.wide }
+    {
+        self.wide as u32
+    }
+
     /// Logs where a memory's ledger stands.
     pub(crate) fn note(&mut self, memory: u32) -> Result<(), NoMemory>
         requires { memory < length self.old.ledgers }
@@ -128,10 +143,10 @@ impl<'a> Walker<'a> {
     pub(crate) fn charge_bank(&mut self, access: u32, memory: u32, bank: u32) -> Result<(), Stop>
         requires row { access < length self.old.costs.memories }
         requires memory { memory < length self.old.ledgers }
-        requires bank { bank < 64 }
+        requires bank { bank < self.old.costs.wide }
         ensures { ChargesBank access memory bank self.old self.new result }
     {
-        let count = self.counts[access as usize * BANKS + bank as usize];
+        let count = self.counts[places(access as usize, self.wide) + bank as usize];
         if count == 0 {
             return Ok(());
         }

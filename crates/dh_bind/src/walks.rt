@@ -11,14 +11,14 @@ use crate::walker::{Stop, Walker};
 use dh_plan::Meets;
 use std::alloc::Global;
 
-/// Grants an access the ports that it charges on the banks of its memory.
+/// Grants an access the ports that it charges on the banks that are listed.
 fn charge_row(walker: &mut Walker, access: u32, memory: u32) -> Result<(), Stop>
     requires row { access < length walker.old.costs.memories }
     requires inside { memory < length walker.old.ledgers }
     requires memory { memory_at walker.old.costs.memories access ≡ Some memory }
     ensures { ChargesRow access memory walker.old walker.new result }
 {
-    for bank in 0..64u32 {
+    for bank in 0..walker.width() {
         walker.charge_bank(access, memory, bank)?;
     }
     Ok(())

@@ -57,9 +57,9 @@ pub fn push_blocks(
         (uses_seen binding.now) offset wires) }
 {
     let registers = push_registers(alloc, circuit, plan.registers.as_slice(), offset)?;
-    let mut kinds = Items::new(alloc);
-    let mut values = Items::new(alloc);
     let mut rest = binding.ports.as_slice();
+    let mut kinds = Items::with_room(alloc, rest.len())?;
+    let mut values = Items::with_room(alloc, rest.len())?;
     for block in plan.blocks.as_slice() {
         let operations = block.operations.as_slice();
         let parts = rest.split_at(operations.len());

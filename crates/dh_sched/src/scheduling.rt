@@ -160,8 +160,8 @@ pub fn schedule(alloc: Global, plan: &Plan, limits: Limits) -> Result<Schedule, 
     ensures { IfOk result (λ s. IsLeastSchedule (plan_seen plan.now) limits (timing_seen s)) }
 {
     let blocks = plan.blocks.as_slice();
-    let mut clocks = Vec::new(alloc);
-    let mut lengths = Vec::new(alloc);
+    let mut clocks = Vec::with_capacity(alloc, plan.operation_count())?;
+    let mut lengths = Vec::with_capacity(alloc, blocks.len())?;
     for block in blocks {
         let operations = block.operations.as_slice();
         let own = block_clocks(alloc, limits, clocks.len() as u64, operations)?;

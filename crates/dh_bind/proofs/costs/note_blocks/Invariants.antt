@@ -4,4 +4,4 @@ use Rattle.dh_bind.specs.Drafts.{all_operations}
 use Rattle.dh_bind.proofs.costs.note_blocks.Given as goal
 
 abbrev pub invariant-loop-block : goal.invariant-loop-block
-invariant-loop-block l = Noted (all_operations (take l.block-index l.blocks)) (costs_in l.initial.memories l.initial.counts) (costs_in l.memories l.counts)
+invariant-loop-block l = Noted l.wide (all_operations (take l.block-index l.blocks)) (costs_in l.wide l.initial.memories l.initial.counts) (costs_in l.wide l.memories l.counts)

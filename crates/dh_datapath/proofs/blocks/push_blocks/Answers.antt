@@ -13,8 +13,8 @@ use Rattle.dh_datapath.proofs.blocks.push_blocks.Goals as goal
 pub loop-block-init : goal.loop-block-init
 loop-block-init c = record {
   rest = c.as_slice-rest.ensures ∙ ap (λ (k : ℕ). drop k c.args.binding.now.ports) (sym (before_first (plan_seen c.args.plan.now)));
-  so_far = blocks_begin c.args.circuit.now c.push_registers.new.circuit (plan_seen c.args.plan.now) (uses_seen c.args.binding.now) c.in_ok-registers.registers c.new-kinds.result c.new-values.result
-      c.new-kinds.ensures c.new-values.ensures c.in_ok-registers.ensures.grows
+  so_far = blocks_begin c.args.circuit.now c.push_registers.new.circuit (plan_seen c.args.plan.now) (uses_seen c.args.binding.now) c.in_ok-registers.registers c.in_ok-kinds.kinds c.in_ok-values.values
+      c.in_ok-kinds.ensures c.in_ok-values.ensures c.in_ok-registers.ensures.grows
       (subst (λ (ks : List Kind). ShowRegisters c.push_registers.new.circuit ks c.in_ok-registers.registers) c.as_slice.ensures c.in_ok-registers.ensures.show);
 }
 

@@ -9,8 +9,8 @@ use Rattle.dh_sched.proofs.scheduling.schedule.Goals as goal
 pub loop-block-init : goal.loop-block-init
 loop-block-init c =
     let bs = c.as_slice-blocks.result.now in
-    subst (λ (xs : List ℕ). AreDone c.args.limits bs xs c.new-lengths.result.items 0) (sym c.new-clocks.ensures.items)
-    (subst (λ (ys : List ℕ). AreDone c.args.limits bs [] ys 0) (sym c.new-lengths.ensures.items) (start_done c.args.limits bs))
+    subst (λ (xs : List ℕ). AreDone c.args.limits bs xs c.in_ok-lengths.lengths.items 0) (sym c.in_ok-clocks.ensures.items)
+    (subst (λ (ys : List ℕ). AreDone c.args.limits bs [] ys 0) (sym c.in_ok-lengths.ensures.items) (start_done c.args.limits bs))
 
 pub block_clocks-requires : goal.block_clocks-requires
 block_clocks-requires c =
